@@ -1,5 +1,5 @@
 -- Addresses are read as they are printed.
-use Rattle.std.proofs.Common.{◌≡◌, ◌⊎◌, inl, inr, not, ◌==◌, ◌&&◌, ℕ, zero, suc, nat_le, nat_lt, ◌<◌, ◌≤◌, ◌^◌, true, false, cond, List, [], ◌∷◌, ◌++◌, length, get_or, decimal, Option, Some, None, Result, Ok, Err, refl, ap, sym, ◌∙◌, arith, rules, length-append}
+use Rattle.std.proofs.Common.{◌≡◌, ◌⊎◌, inl, inr, not, ◌==◌, ◌&&◌, ℕ, zero, suc, nat_le, nat_lt, ◌<◌, ◌≤◌, ◌^◌, true, false, cond, Bool, List, [], ◌∷◌, ◌++◌, length, get_or, decimal, Option, Some, None, is_some, Result, Ok, Err, refl, ap, sym, ◌∙◌, arith, rules, length-append, append-nil, append_assoc, ne_eqb, lit≤, true≢false}
 use Rattle.std.specs.List.{list_all, position_or_len}
 use Rattle.std.proofs.Math.Seq.{take-append_seam, drop-append-add}
 use Rattle.std.proofs.lemmas.List.Sums.{split_at_first, passes_at_first}
@@ -7,13 +7,23 @@ use Rattle.std.proofs.lemmas.List.Folds.{list_all-append}
 use Rattle.std.proofs.lemmas.Option.{cond_some, none-some, same_Some}
 use Rattle.std.proofs.lemmas.Fmt.{decimal_digit, digits_decimal, digits_value-decimal, decimal-digits_value, decimal_nonempty, first_decimal, length-decimal-le}
 use Rattle.std.specs.Result.{OkIff}
-use Rattle.std.specs.Char.{is_ascii_digit}
-use Rattle.std.specs.Str.Parse.{digits_value, ParsesUnsigned}
+use Rattle.std.specs.Char.{is_ascii_digit, is_ascii_graphic, digit_value}
+use Rattle.std.specs.Str.Parse.{digits_value, AllDigits, ParsesUnsigned}
 use Rattle.std.proofs.lemmas.Str.Parse.{IsNumeralModel, numerals_by_value, parse_digits}
 use Rattle.std.proofs.lemmas.Bool.Decides.{nat_tests}
+use Rattle.std.specs.Net.Addr.{ipv6_segments}
+use Rattle.std.specs.Net.Grammar.{IsDotted, IsGroupsAfter, IsColonHex, IsIpv6Text, Parses}
+use Rattle.std.specs.Net.Reader.{read_ipv6, whole_value}
+use Rattle.std.specs.Net.Text.{ipv6_text}
+use Rattle.std.specs.Option.{option_map, option_map_or}
+use Rattle.std.specs.declared.net.ipv6_addr.Ipv6Addr.{Ipv6Addr}
+use Rattle.std.proofs.NetLemmas.Ipv6.{read_ipv6_sound, read_ipv6_complete, EndsGroups-nil, IsDotted-not_colon_hex}
+use Rattle.std.proofs.NetLemmas.Texts.{IsColonHex-ipv6_text}
 use Rattle.dist_types.specs.declared.addr.Addr.{Addr}
 use Rattle.dist_types.specs.declared.addr.Addr.TheVariants.{V4, V6}
-use Rattle.dist_types.specs.Addr.{◌>>=◌, is_digits, is_plain, octet_in, port_in, cut_at, v4_in, addr_in, v4_text, addr_text, IsV4, IsPortText, IsAddrText}
+use Rattle.dist_types.specs.declared.addr.Ip.{Ip}
+use Rattle.dist_types.specs.declared.addr.Ip.TheVariants as Ips
+use Rattle.dist_types.specs.Addr.{◌>>=◌, is_digits, is_plain, octet_in, port_in, cut_at, v4_in, v6_in, ip_in, behind, dotted_in, grouped_in, scoped_in, is_scoped, addr_in, v4_text, addr_text, IsV4, IsPortText, IsAddrText, IsV6, IsAddr, IsScoped, IsIpText}
 
 -- the texts of digits, as `parse` reads them
 pub digits : IsNumeralModel (λ ds. list_all is_ascii_digit ds ≡ true) (digits_value 10)
@@ -83,6 +93,20 @@ cut_is c text p e =
     let test = passes_at_first (λ b. b == c) text 0 inside in
     let there : get_or text (position_or_len (λ b. b == c) text) 0 ≡ c = grind (arith, nat_tests) in
     split ∙ (λ i. (found.1 i).0 ++ there i ∷ (found.1 i).1)
+
+-- what stands behind a byte at the front is what stands behind its first place
+pub behind_first : (c : ℕ) (text : List ℕ) → 0 < c → (get_or text 0 0 == c) ≡ true → option_map (λ p. p.1) (cut_at c text) ≡ behind c text
+unfolding behind
+behind_first c [] some e = absurd (grind (arith, nat_tests))
+behind_first c (b ∷ rest) some e =
+    let same : b ≡ c = grind (arith, nat_tests) in
+    let found = cut_found c [] rest refl in
+    rw e (rw (same, found) refl)
+
+pub behind_other : (c : ℕ) (text : List ℕ) → (get_or text 0 0 == c) ≡ false → behind c text ≡ None
+unfolding behind
+behind_other c [] e = refl
+behind_other c (b ∷ rest) e = rw e refl
 
 -- ---- numbers
 
@@ -206,12 +230,115 @@ port_is text port e =
     let low : digits_value 10 text < 65536 = grind (arith, nat_tests) in
     record { digits = all; short = short; value = found.1; fits = omega (arith, low, found.1) }
 
-pub addr_of : (text : List ℕ) (addr : Addr) → IsAddrText text addr → addr_in text ≡ Some addr
-unfolding addr_in
-addr_of text (V6 groups port) is = absurd is
-addr_of text (V4 octets port) (four, digits, is_port, e) = rw e (by_octets octets four)
+-- ---- eight groups
+
+v6_unique : (o : Option (List ℕ × List ℕ)) (groups : List ℕ) → whole_value o ≡ Some groups → o ≡ Some (groups, [])
+v6_unique None groups e = absurd (none-some groups e)
+v6_unique (Some (found, [])) groups e = ap (λ g. Some (g, [])) (same_Some found groups e)
+v6_unique (Some (found, b ∷ rest)) groups e = absurd (none-some groups (rw (ne_eqb (length (b ∷ rest)) 0 (omega arith)) at e))
+
+pub v6_is : (text groups : List ℕ) → v6_in text ≡ Some groups → IsColonHex text groups
+unfolding v6_in
+v6_is text groups e =
+    let (front, split, is) = read_ipv6_sound text groups [] (v6_unique (read_ipv6 text) groups e) in
+    rw (split, append-nil) is
+
+pub v6_of : (text groups : List ℕ) → IsColonHex text groups → v6_in text ≡ Some groups
+unfolding v6_in
+v6_of text groups is =
+    let read = read_ipv6_complete text groups [] is EndsGroups-nil in
+    rw (rw append-nil at read) refl
+
+pub v6_read : {E : Type 0} (text : List ℕ) (r : Result Ipv6Addr E) → Parses IsIpv6Text text r
+    → option_map ipv6_segments (given r) ≡ v6_in text
+v6_read text (Ok ip) is = sym (v6_of text (ipv6_segments ip) is)
+v6_read text (Err e) none = by_cases (v6_in text) refl
   where
-    by_octets : (o : List ℕ) → IsV4 o → addr_in (v4_text o ++ (58 ∷ digits)) ≡ Some (V4 o port)
+    by_cases : (o : Option (List ℕ)) → v6_in text ≡ o → None ≡ v6_in text
+    by_cases None e = sym e
+    by_cases (Some groups) e = absurd (none (record { segments = groups }) (v6_is text groups e))
+
+pub behind_is : (c : ℕ) (text rest : List ℕ) → behind c text ≡ Some rest → text ≡ c ∷ rest
+unfolding behind
+behind_is c [] rest e = absurd (none-some rest e)
+behind_is c (b ∷ more) rest e =
+    let found = cond_some (b == c) more rest e in
+    let same : b ≡ c = grind (arith, nat_tests) in
+    (λ i. same i ∷ found.1 i)
+
+pub behind_cons : (c : ℕ) (rest : List ℕ) → behind c (c ∷ rest) ≡ Some rest
+unfolding behind
+behind_cons c rest = let same : (c == c) ≡ true = grind (arith, nat_tests) in rw same refl
+
+pub behind_not : (c b : ℕ) (rest : List ℕ) → (b == c) ≡ false → behind c (b ∷ rest) ≡ None
+unfolding behind
+behind_not c b rest other = rw other refl
+
+-- ---- the bytes of a text of eight groups
+
+-- a test that passes hex digits, colons and dots passes each byte
+module _ (p : ℕ → Bool) (hex : (b : ℕ) → digit_value b < 16 → p b ≡ true) (colon : p 58 ≡ true) (dot : p 46 ≡ true) where
+  digits_pass : (ds : List ℕ) → AllDigits 16 ds → list_all p ds ≡ true
+  digits_pass [] all = refl
+  digits_pass (d ∷ ds) all = rw (hex d all.0, digits_pass ds all.1) refl
+
+  decimals_pass : (ds : List ℕ) → list_all is_ascii_digit ds ≡ true → list_all p ds ≡ true
+  decimals_pass [] h = refl
+  decimals_pass (d ∷ ds) h =
+      let later : list_all is_ascii_digit ds ≡ true = grind (arith, nat_tests) in
+      let this : is_ascii_digit d ≡ true = grind (arith, nat_tests) in
+      let small : digit_value d < 16 = grind (arith, nat_tests) in
+      rw (hex d small, decimals_pass ds later) refl
+
+  number_passes : (n : ℕ) → n < 256 → list_all p (decimal n) ≡ true
+  number_passes n low = decimals_pass (decimal n) (digits_decimal digits n (omega arith))
+
+  dotted_passes : (text octets : List ℕ) → IsDotted text octets → list_all p text ≡ true
+  dotted_passes text octets h =
+      let a = number_passes h.a h.fit.0 in
+      let b = number_passes h.b h.fit.1 in
+      let c = number_passes h.c h.fit.2 in
+      let d = number_passes h.d h.fit.3 in
+      rw h.spelled (simp (list_all-append, a, b, c, d, dot))
+
+  groups_pass : (ipv4 : Bool) (segments lead text : List ℕ) → list_all p lead ≡ true → IsGroupsAfter ipv4 lead text segments → list_all p text ≡ true
+  groups_pass ipv4 [] lead text led h = rw h refl
+  groups_pass ipv4 (s ∷ segments) lead text led (inl h) =
+      let (group, rest, split, is_group, more) = h in
+      let one = digits_pass group is_group.0.0.1 in
+      let later = groups_pass ipv4 segments (58 ∷ []) rest (rw colon refl) more in
+      rw split (simp (list_all-append, led, one, later))
+  groups_pass ipv4 (s ∷ segments) lead text led (inr h) =
+      let (last, octets, allowed, split, dotted, value) = h in
+      let all = dotted_passes last octets dotted in
+      rw split (simp (list_all-append, led, all))
+
+  pub colon_hex_passes : (text groups : List ℕ) → IsColonHex text groups → list_all p text ≡ true
+  colon_hex_passes text groups (inl h) = groups_pass true groups [] text refl h.0
+  colon_hex_passes text groups (inr h) =
+      let head = groups_pass false h.head [] h.head_text refl h.head_groups in
+      let tail = groups_pass true h.tail [] h.tail_text refl h.tail_groups in
+      rw h.spelled (simp (list_all-append, head, tail, colon))
+
+-- a byte that is no hex digit, colon or dot is none of its bytes
+pub lacks : (c : ℕ) → 16 ≤ digit_value c → (58 == c) ≡ false → (46 == c) ≡ false → (text groups : List ℕ) → IsColonHex text groups
+    → list_all (λ b. not (b == c)) text ≡ true
+lacks c other colon dot text groups is = colon_hex_passes (λ b. not (b == c)) hex (rw colon refl) (rw dot refl) text groups is
+  where
+    hex : (b : ℕ) → digit_value b < 16 → not (b == c) ≡ true
+    hex b small = differs (b == c) refl
+      where
+        differs : (t : Bool) → (b == c) ≡ t → not t ≡ true
+        differs true e = let same : b ≡ c = grind (arith, nat_tests) in let less = rw same at small in absurd (omega arith)
+        differs false e = refl
+
+-- ---- addresses
+
+pub dotted_of : (text : List ℕ) (octets : List ℕ) (port : ℕ) → IsAddrText text (V4 octets port) → dotted_in text ≡ Some (V4 octets port)
+unfolding dotted_in
+dotted_of text octets port (four, digits, is_port, e) = rw e (by_octets octets four)
+  where
+    by_octets : (o : List ℕ) → IsV4 o → dotted_in (v4_text o ++ (58 ∷ digits)) ≡ Some (V4 o port)
     by_octets (a ∷ b ∷ c ∷ d ∷ []) four =
         rw (
           cut_found 58 (v4_text (a ∷ b ∷ c ∷ d ∷ [])) digits (no_colon a b c d four.1 four.2 four.3 four.4),
@@ -224,9 +351,9 @@ addr_of text (V4 octets port) (four, digits, is_port, e) = rw e (by_octets octet
     by_octets (a ∷ b ∷ c ∷ []) four = absurd (omega (arith, four.0))
     by_octets (a ∷ b ∷ c ∷ d ∷ e ∷ o) four = absurd (omega (arith, four.0))
 
-pub addr_is : (text : List ℕ) (addr : Addr) → addr_in text ≡ Some addr → IsAddrText text addr
-unfolding addr_in
-addr_is text addr e =
+pub dotted_is : (text : List ℕ) (addr : Addr) → dotted_in text ≡ Some addr → IsAddrText text addr
+unfolding dotted_in
+dotted_is text addr e =
     let parts = bind_some (cut_at 58 text) _ addr e in
     let octets = bind_some (v4_in parts.0.0) _ addr parts.2 in
     let port = bind_some (port_in parts.0.1) _ addr octets.2 in
@@ -239,19 +366,251 @@ addr_is text addr e =
       cut_is 58 text parts.0 parts.1 ∙ (λ i. host.1 i ++ 58 ∷ parts.0.1),
     )
 
-pub read_back : (octets : List ℕ) (port : ℕ) → IsV4 octets → port < 65536 → addr_in (addr_text (V4 octets port)) ≡ Some (V4 octets port)
-read_back octets port four low =
+pub grouped_of : (ip digits groups : List ℕ) (port : ℕ) → IsColonHex ip groups → IsPortText digits port
+    → grouped_in (ip ++ (93 ∷ 58 ∷ digits)) ≡ Some (V6 groups port)
+unfolding grouped_in
+grouped_of ip digits groups port is is_port =
+    rw (
+      cut_found 93 ip (58 ∷ digits) (lacks 93 (lit≤ tt) refl refl ip groups is),
+      v6_of ip groups is,
+      behind_cons 58 digits,
+      port_of digits port is_port,
+    ) refl
+
+pub grouped_is : (text : List ℕ) (addr : Addr) → grouped_in text ≡ Some addr → IsAddrText (91 ∷ text) addr
+unfolding grouped_in
+grouped_is text addr e =
+    let parts = bind_some (cut_at 93 text) _ addr e in
+    let groups = bind_some (v6_in parts.0.0) _ addr parts.2 in
+    let digits = bind_some (behind 58 parts.0.1) _ addr groups.2 in
+    let port = bind_some (port_in digits.0) _ addr digits.2 in
+    let is = same_Some (V6 groups.0 port.0) addr port.2 in
+    let split = cut_is 93 text parts.0 parts.1 in
+    let rest = behind_is 58 parts.0.1 digits.0 digits.1 in
+    rw (← is) (
+      parts.0.0,
+      digits.0,
+      v6_is parts.0.0 groups.0 groups.1,
+      port_is digits.0 port.0 port.1,
+      ap (λ t. 91 ∷ t) (split ∙ ap (λ t. parts.0.0 ++ 93 ∷ t) rest),
+    )
+
+-- the text of four octets begins with a digit
+first_is_digit : (n : ℕ) (rest : List ℕ) → n < 256 → behind 91 (decimal n ++ rest) ≡ None
+first_is_digit n rest low = by_text (decimal n) (digits_decimal digits n (omega arith)) (decimal_nonempty n (omega arith))
+  where
+    by_text : (ds : List ℕ) → list_all is_ascii_digit ds ≡ true → 0 < length ds → behind 91 (ds ++ rest) ≡ None
+    by_text [] all some = absurd (omega (arith, some))
+    by_text (d ∷ ds) all some = behind_not 91 d (ds ++ rest) (grind (arith, nat_tests))
+
+pub addr_of : (text : List ℕ) (addr : Addr) → IsAddrText text addr → addr_in text ≡ Some addr
+unfolding addr_in
+addr_of text (V6 groups port) (ip, digits, is, is_port, e) =
+    rw (e, behind_cons 91 (ip ++ (93 ∷ 58 ∷ digits))) (grouped_of ip digits groups port is is_port)
+addr_of text (V4 octets port) is =
+    let none : behind 91 text ≡ None = rw is.3 (rw append_assoc (first_is_digit (get_or octets 0 0) _ is.0.1)) in
+    rw none (dotted_of text octets port is)
+
+pub addr_is : (text : List ℕ) (addr : Addr) → addr_in text ≡ Some addr → IsAddrText text addr
+unfolding addr_in
+addr_is text addr e = by_first (behind 91 text) refl e
+  where
+    by_first : (o : Option (List ℕ)) → behind 91 text ≡ o → option_map_or grouped_in o (dotted_in text) ≡ Some addr → IsAddrText text addr
+    by_first None first e = dotted_is text addr e
+    by_first (Some rest) first e = rw (behind_is 91 text rest first) (grouped_is rest addr e)
+
+port_is_read : (port : ℕ) → port < 65536 → IsPortText (decimal port) port
+port_is_read port low =
     let fits : port < 2 ^ 64 = omega arith in
     let all = digits_decimal digits port fits in
     let some = decimal_nonempty port fits in
-    addr_of (addr_text (V4 octets port)) (V4 octets port) (
-      four,
-      decimal port,
-      record {
-        digits = grind (arith, nat_tests);
-        short = length-decimal-le 5 port (omega arith) (omega arith) fits;
-        value = digits_value-decimal digits port fits;
-        fits = low;
-      },
-      refl,
-    )
+    record {
+      digits = grind (arith, nat_tests);
+      short = length-decimal-le 5 port (omega arith) (omega arith) fits;
+      value = digits_value-decimal digits port fits;
+      fits = low;
+    }
+
+-- the text of an address is one of its texts
+pub text_is : (addr : Addr) → IsAddr addr → IsAddrText (addr_text addr) addr
+text_is (V4 octets port) is = (is.0, decimal port, port_is_read port is.1, refl)
+text_is (V6 groups port) is =
+    (ipv6_text groups, decimal port, IsColonHex-ipv6_text groups is.0.0 is.0.1, port_is_read port is.1, simp append_assoc)
+
+pub printed_back : (addr : Addr) → IsAddr addr → addr_in (addr_text addr) ≡ Some addr
+printed_back addr is = addr_of (addr_text addr) addr (text_is addr is)
+
+pub read_back : (octets : List ℕ) (port : ℕ) → IsV4 octets → port < 65536 → addr_in (addr_text (V4 octets port)) ≡ Some (V4 octets port)
+read_back octets port four low = printed_back (V4 octets port) (four, low)
+
+-- ---- addresses without a port
+
+dotted_is_v4 : (o : List ℕ) → IsV4 o → IsDotted (v4_text o) o
+dotted_is_v4 (a ∷ b ∷ c ∷ d ∷ []) four =
+    record { a = a; b = b; c = c; d = d; fit = (four.1, four.2, four.3, four.4); value = refl; spelled = simp append_assoc }
+dotted_is_v4 [] four = absurd (omega (arith, four.0))
+dotted_is_v4 (a ∷ []) four = absurd (omega (arith, four.0))
+dotted_is_v4 (a ∷ b ∷ []) four = absurd (omega (arith, four.0))
+dotted_is_v4 (a ∷ b ∷ c ∷ []) four = absurd (omega (arith, four.0))
+dotted_is_v4 (a ∷ b ∷ c ∷ d ∷ e ∷ o) four = absurd (omega (arith, four.0))
+
+v4_of_text : (o : List ℕ) → IsV4 o → v4_in (v4_text o) ≡ Some o
+v4_of_text (a ∷ b ∷ c ∷ d ∷ []) four = v4_of a b c d four.1 four.2 four.3 four.4
+v4_of_text [] four = absurd (omega (arith, four.0))
+v4_of_text (a ∷ []) four = absurd (omega (arith, four.0))
+v4_of_text (a ∷ b ∷ []) four = absurd (omega (arith, four.0))
+v4_of_text (a ∷ b ∷ c ∷ []) four = absurd (omega (arith, four.0))
+v4_of_text (a ∷ b ∷ c ∷ d ∷ e ∷ o) four = absurd (omega (arith, four.0))
+
+-- a text of groups is no text of octets
+no_v4 : (text groups : List ℕ) → IsColonHex text groups → v4_in text ≡ None
+no_v4 text groups is = by_cases (v4_in text) refl
+  where
+    by_cases : (o : Option (List ℕ)) → v4_in text ≡ o → v4_in text ≡ None
+    by_cases None e = e
+    by_cases (Some octets) e =
+        let (four, split) = v4_is text octets e in
+        absurd (IsDotted-not_colon_hex text octets groups (rw split (dotted_is_v4 octets four)) is)
+
+pub ip_of_text : (text : List ℕ) (ip : Ip) → IsIpText text ip → ip_in text ≡ Some ip
+unfolding ip_in
+ip_of_text text (Ips.V4 octets) (four, split) = rw (split, v4_of_text octets four) refl
+ip_of_text text (Ips.V6 groups) is = rw (no_v4 text groups is, v6_of text groups is) refl
+
+pub ip_is : (text : List ℕ) (ip : Ip) → ip_in text ≡ Some ip → IsIpText text ip
+unfolding ip_in
+ip_is text ip e = by_v4 (v4_in text) refl e
+  where
+    by_v6 : (o : Option (List ℕ)) → v6_in text ≡ o → option_map Ips.V6 o ≡ Some ip → IsIpText text ip
+    by_v6 None six e = absurd (none-some ip e)
+    by_v6 (Some groups) six e = rw (← same_Some (Ips.V6 groups) ip e) (v6_is text groups six)
+
+    by_v4 : (o : Option (List ℕ)) → v4_in text ≡ o → option_map_or (λ octets. Some (Ips.V4 octets)) o (option_map Ips.V6 (v6_in text)) ≡ Some ip → IsIpText text ip
+    by_v4 None four e = by_v6 (v6_in text) refl e
+    by_v4 (Some octets) four e = rw (← same_Some (Ips.V4 octets) ip e) (v4_is text octets four)
+
+-- ---- scoped addresses
+
+if_some : (b : Bool) (n : ℕ) → is_some (cond b (Some n) None) ≡ true → b ≡ true
+if_some true n e = refl
+if_some false n e = e
+
+digit_all : (ds : List ℕ) → is_digits ds ≡ true → list_all is_ascii_digit ds ≡ true
+digit_all ds h = grind (arith, nat_tests)
+
+-- a scoped address is cut at its `]`
+scoped_cut : {text : List ℕ} (h : IsScoped text)
+    → cut_at 93 (h.ip ++ (37 ∷ (h.scope ++ (93 ∷ 58 ∷ h.digits)))) ≡ Some (h.ip ++ (37 ∷ h.scope), 58 ∷ h.digits)
+scoped_cut h =
+    let inner : h.ip ++ (37 ∷ (h.scope ++ (93 ∷ 58 ∷ h.digits))) ≡ (h.ip ++ (37 ∷ h.scope)) ++ (93 ∷ 58 ∷ h.digits) = simp append_assoc in
+    let none : list_all (λ b. not (b == 93)) (h.ip ++ (37 ∷ h.scope)) ≡ true =
+    simp (
+      list_all-append,
+      lacks 93 (lit≤ tt) refl refl h.ip h.groups h.is_ip,
+      digits_are_not 93 h.scope (inr (lit≤ tt)) (digit_all h.scope h.is_scope),
+    ) in
+    ap (cut_at 93) inner ∙ cut_found 93 (h.ip ++ (37 ∷ h.scope)) (58 ∷ h.digits) none
+
+pub scoped_of : (text : List ℕ) → IsScoped text → is_scoped text ≡ true
+unfolding is_scoped scoped_in
+scoped_of text h =
+    rw (
+      h.spelled,
+      behind_cons 91 (h.ip ++ (37 ∷ (h.scope ++ (93 ∷ 58 ∷ h.digits)))),
+      scoped_cut h,
+      cut_found 37 h.ip h.scope (lacks 37 (lit≤ tt) refl refl h.ip h.groups h.is_ip),
+      v6_of h.ip h.groups h.is_ip,
+      behind_cons 58 h.digits,
+      port_of h.digits h.port h.is_port,
+      h.is_scope,
+    ) refl
+
+some_of : {A : Type 0} (o : Option A) → is_some o ≡ true → (x : A) × (o ≡ Some x)
+some_of (Some x) e = (x, refl)
+some_of None e = cc
+
+scoped_parts : (text : List ℕ) (n : ℕ) → scoped_in text ≡ Some n → IsScoped (91 ∷ text)
+unfolding scoped_in
+scoped_parts text n e =
+    let parts = bind_some (cut_at 93 text) _ n e in
+    let host = bind_some (cut_at 37 parts.0.0) _ n parts.2 in
+    let groups = bind_some (v6_in host.0.0) _ n host.2 in
+    let digits = bind_some (behind 58 parts.0.1) _ n groups.2 in
+    let port = bind_some (port_in digits.0) _ n digits.2 in
+    let test = cond_some (is_digits host.0.1) port.0 n port.2 in
+    let split = cut_is 93 text parts.0 parts.1 in
+    let rest = behind_is 58 parts.0.1 digits.0 digits.1 in
+    let front = cut_is 37 parts.0.0 host.0 host.1 in
+    record {
+      ip = host.0.0;
+      groups = groups.0;
+      scope = host.0.1;
+      digits = digits.0;
+      port = port.0;
+      is_ip = v6_is host.0.0 groups.0 groups.1;
+      is_scope = test.0;
+      is_port = port_is digits.0 port.0 port.1;
+      spelled = ap (λ t. 91 ∷ t) (split ∙ (λ i. front i ++ 93 ∷ rest i) ∙ simp append_assoc);
+    }
+
+pub scoped_is : (text : List ℕ) → is_scoped text ≡ true → IsScoped text
+unfolding is_scoped
+scoped_is text e =
+    let some = some_of (behind 91 text >>= scoped_in) e in
+    let inner = bind_some (behind 91 text) scoped_in some.0 some.1 in
+    rw (behind_is 91 text inner.0 inner.1) (scoped_parts inner.0 some.0 inner.2)
+
+no_such : (p : ℕ → Bool) (front rest : List ℕ) (b : ℕ) → p b ≡ false → list_all p (front ++ b ∷ rest) ≡ true → ⊥
+no_such p [] rest b other h = absurd (true≢false (sym h ∙ rw other refl))
+no_such p (x ∷ front) rest b other h =
+    let later : list_all p (front ++ b ∷ rest) ≡ true = grind (arith, nat_tests) in
+    no_such p front rest b other later
+
+-- no text of groups has a `%`
+no_scope : (ip scope : List ℕ) → v6_in (ip ++ 37 ∷ scope) ≡ None
+no_scope ip scope = by_cases (v6_in (ip ++ 37 ∷ scope)) refl
+  where
+    by_cases : (o : Option (List ℕ)) → v6_in (ip ++ 37 ∷ scope) ≡ o → v6_in (ip ++ 37 ∷ scope) ≡ None
+    by_cases None e = e
+    by_cases (Some groups) e =
+        absurd (no_such (λ b. not (b == 37)) ip scope 37 refl (lacks 37 (lit≤ tt) refl refl (ip ++ 37 ∷ scope) groups (v6_is (ip ++ 37 ∷ scope) groups e)))
+
+pub scoped_none : (text : List ℕ) → IsScoped text → addr_in text ≡ None
+unfolding addr_in grouped_in
+scoped_none text h =
+    rw (
+      h.spelled,
+      behind_cons 91 (h.ip ++ (37 ∷ (h.scope ++ (93 ∷ 58 ∷ h.digits)))),
+      scoped_cut h,
+      no_scope h.ip h.scope,
+    ) refl
+
+-- ---- the bytes of an address
+
+graphic : (b : ℕ) → digit_value b < 16 → is_ascii_graphic b ≡ true
+graphic b small = grind (arith, nat_tests)
+
+digits_graphic : (ds : List ℕ) → list_all is_ascii_digit ds ≡ true → list_all is_ascii_graphic ds ≡ true
+digits_graphic [] h = refl
+digits_graphic (d ∷ ds) h =
+    let later : list_all is_ascii_digit ds ≡ true = grind (arith, nat_tests) in
+    let this : is_ascii_graphic d ≡ true = grind (arith, nat_tests) in
+    rw (this, digits_graphic ds later) refl
+
+port_graphic : (text : List ℕ) (port : ℕ) → IsPortText text port → list_all is_ascii_graphic text ≡ true
+port_graphic text port h = let all : list_all is_ascii_digit text ≡ true = (digit_parts text h.digits).1 in digits_graphic text all
+
+pub all_graphic : (text : List ℕ) (addr : Addr) → IsAddrText text addr → list_all is_ascii_graphic text ≡ true
+all_graphic text (V4 octets port) (four, ds, is_port, e) =
+    let front = dotted_passes is_ascii_graphic graphic refl refl (v4_text octets) octets (dotted_is_v4 octets four) in
+    ap (list_all is_ascii_graphic) e
+    ∙ list_all-append is_ascii_graphic (v4_text octets) (58 ∷ ds)
+    ∙ rw (front, port_graphic ds port is_port) refl
+all_graphic text (V6 groups port) (ip, ds, is, is_port, e) =
+    let front = colon_hex_passes is_ascii_graphic graphic refl refl ip groups is in
+    ap (list_all is_ascii_graphic) e
+    ∙ list_all-append is_ascii_graphic ip (93 ∷ 58 ∷ ds)
+    ∙ rw (front, port_graphic ds port is_port) refl
+
+pub printed_graphic : (addr : Addr) → IsAddr addr → list_all is_ascii_graphic (addr_text addr) ≡ true
+printed_graphic addr is = all_graphic (addr_text addr) addr (text_is addr is)
