@@ -24,11 +24,7 @@ fn is_silent(row: &ServerRow, now: u64) -> bool
 }
 
 /// The numbers of the registrations whose last sign is too long ago. Refused for want of memory alone.
-pub fn pruned_numbers(
-    alloc: Global,
-    rows: &[ServerRow],
-    now: u64,
-) -> Result<Vec<u64>, AllocError>
+pub fn pruned_numbers(alloc: Global, rows: &[ServerRow], now: u64) -> Result<Vec<u64>, AllocError>
     ensures { IfOk result (λ v. v.items ≡ prune now rows.now) }
 {
     rows.iter()

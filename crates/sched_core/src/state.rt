@@ -121,7 +121,15 @@ impl<A: JobAuthorizer> SchedState<A> {
         if cpus == 0 || cpus > MOST_CPUS {
             return Err(SchedError::BadCpus(cpus));
         }
-        let entry = standing::beat_entry(self.alloc, &self.rows, now, server, nonce, cpus, key.key())?;
+        let entry = standing::beat_entry(
+            self.alloc,
+            &self.rows,
+            now,
+            server,
+            nonce,
+            cpus,
+            key.key(),
+        )?;
         let is_new = entry.is_new_beat();
         make_room(&mut self.rows, &mut self.keys, &mut self.log)?;
         let key = keys::key_made(is_new, self.log.len() as u64, key);
