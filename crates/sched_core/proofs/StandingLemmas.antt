@@ -77,11 +77,11 @@ and_true false = refl
 -- one more entry is the last sign of a registration that stands where it renews it, or serves one of its jobs
 pub last_sign-grown : (log : List CoreEntry) (e : CoreEntry) (g : Registered) → g.earlier ++ g.later ≡ log → stands g ≡ true → last_sign (grown e g) ≡ cond (renews_by e.kind g.server || serves log e.kind g.reg) e.now (last_sign g)
 last_sign-grown log e g whole up =
-    ap (λ cs. latest g.now (map moment_of cs)) (ap (filter (is_sign g)) (cuts_behind-push [] g.later e)
-    ∙ filter-append (is_sign g) (map (followed e) (cuts g.later)) (end_cut g.later e ∷ [])
-    ∙ ap (λ cs. cs ++ filter (is_sign g) (end_cut g.later e ∷ [])) (filter-map (is_sign g) (followed e) (cuts g.later)))
-    ∙ latest-append g.now (map (followed e) (filter (is_sign g) (cuts g.later))) _ (end_cut g.later e)
-    ∙ ap (λ t. cond ((renews_by e.kind g.server && stands g) || serves (g.earlier ++ g.later) e.kind g.reg) e.now t) (latest-followed e g.now (filter (is_sign g) (cuts g.later)))
+    ap (λ cs. latest g.now (map moment_of cs)) (ap (filter (is_sign g.server g.reg g.earlier)) (cuts_behind-push [] g.later e)
+    ∙ filter-append (is_sign g.server g.reg g.earlier) (map (followed e) (cuts g.later)) (end_cut g.later e ∷ [])
+    ∙ ap (λ cs. cs ++ filter (is_sign g.server g.reg g.earlier) (end_cut g.later e ∷ [])) (filter-map (is_sign g.server g.reg g.earlier) (followed e) (cuts g.later)))
+    ∙ latest-append g.now (map (followed e) (filter (is_sign g.server g.reg g.earlier) (cuts g.later))) _ (end_cut g.later e)
+    ∙ ap (λ t. cond ((renews_by e.kind g.server && stands g) || serves (g.earlier ++ g.later) e.kind g.reg) e.now t) (latest-followed e g.now (filter (is_sign g.server g.reg g.earlier) (cuts g.later)))
     ∙ ap (λ b. cond ((renews_by e.kind g.server && b) || serves (g.earlier ++ g.later) e.kind g.reg) e.now (last_sign g)) up
     ∙ ap (λ b. cond (b || serves (g.earlier ++ g.later) e.kind g.reg) e.now (last_sign g)) (and_true (renews_by e.kind g.server))
     ∙ ap (λ l. cond (renews_by e.kind g.server || serves l e.kind g.reg) e.now (last_sign g)) whole

@@ -23,8 +23,12 @@ abbrev pub forgives_by : CoreKind → ℕ → Bool
 forgives_by (Reserve (Job job other forgiven)) reg = names forgiven reg
 forgives_by other reg = false
 
+abbrev pub noted_by : CoreKind → ℕ → ℕ → List CoreEntry → Option Noted
+noted_by kind reg now later = if notes_by kind reg then Some (record { now = now; later = later }) else None
+
+-- the error that the entry at the cut noted, if it did
 abbrev pub noted_at : ℕ → Cut CoreEntry → Option Noted
-noted_at reg c = if notes_by c.at.kind reg then Some (record { now = c.at.now; later = c.after }) else None
+noted_at reg c = noted_by c.at.kind reg c.at.now c.after
 
 abbrev pub is_remembered : ℕ → Noted → Bool
 is_remembered reg n = not (list_any (λ e. forgives_by e.kind reg) n.later)

@@ -1,5 +1,5 @@
 -- Which jobs are committed and open, and in which state, asked of the whole log.
-use Rattle.std.specs.Prelude.{ℕ, List, ◌∷◌, map, filter, length, Bool, false, not, ◌&&◌, ◌||◌, Option, Some, None, if◌then◌else◌}
+use Rattle.std.specs.Prelude.{ℕ, List, ◌∷◌, map, Bool, false, not, ◌&&◌, ◌||◌, Option, Some, None, if◌then◌else◌}
 use Rattle.std.specs.List.{filter_map, list_any}
 use Rattle.dist_types.specs.Cuts.{Cut, cuts, lasting}
 use Rattle.dist_types.specs.declared.ids.JobId.{JobId}
@@ -55,7 +55,7 @@ state_now c = latest c.state (moves_of c)
 
 -- the state of a job among some entries, if one of them commits it
 abbrev pub state_of : JobId → List CoreEntry → Option JobState
-state_of job entries = newest None (map state_now (filter (λ c. same_job c.job job) (commits entries)))
+state_of job entries = newest None (map state_now (lasting committed_at (λ c. same_job c.job job) entries))
 
 -- whether an entry names the registration, if there is one, as pruned or replaced
 abbrev pub ends_place_by : CoreKind → Option ℕ → Bool

@@ -11,3 +11,4 @@ pub mod Advance
 pub mod Rule
 pub mod Laws
 pub mod Books
+pub mod Plain

@@ -50,3 +50,8 @@ latest first (x ∷ xs) = latest x xs
 abbrev pub newest : {X : Type 0} → Option X → List X → Option X
 newest before [] = before
 newest before (x ∷ xs) = newest (Some x) xs
+
+-- the newer of two, if there is one
+abbrev pub newer : {X : Type 0} → Option X → Option X → Option X
+newer None old = old
+newer (Some x) old = Some x

@@ -1,7 +1,8 @@
 -- The core rule: the one entry that a call makes over the log before it, and what the call answers.
-use Rattle.std.specs.Prelude.{◌≡◌, ℕ, ◌+◌, ◌-◌, ◌%◌, ◌^◌, ◌≤◌, ◌⊎◌, List, [], length, map, filter, find, sum_by, min, Bool, true, false, not, ◌==◌, ◌&&◌, Option, Some, None, if◌then◌else◌, option_and_then, option_to_list}
+use Rattle.std.specs.Prelude.{◌≡◌, ℕ, ◌+◌, ◌-◌, ◌%◌, ◌^◌, ◌≤◌, ◌⊎◌, List, [], length, map, filter, sum_by, min, Bool, true, false, not, ◌==◌, ◌&&◌, Option, Some, None, if◌then◌else◌, option_and_then, option_to_list}
 use Rattle.std.specs.List.{list_any}
 use Rattle.std.specs.Option.{option_map}
+use Rattle.dist_types.specs.Cuts.{lasting}
 use Rattle.dist_types.specs.declared.addr.Addr.{Addr}
 use Rattle.dist_types.specs.declared.ids.JobId.{JobId}
 use Rattle.dist_types.specs.declared.results.JobState.{JobState}
@@ -16,9 +17,9 @@ use Rattle.sched_core.specs.declared.rows.HeldRow.{HeldRow}
 use Rattle.sched_core.specs.declared.rows.OpenRow.{OpenRow}
 use Rattle.sched_core.specs.declared.call.Call.{Call}
 use Rattle.sched_core.specs.declared.call.Call.TheVariants as call
-use Rattle.sched_core.specs.Log.{Core, same_job, names}
+use Rattle.sched_core.specs.Log.{Core, same_job, names, newest}
 use Rattle.sched_core.specs.Standing.{address_of}
-use Rattle.sched_core.specs.Reservation.{Booking, bookings, unspent, unended}
+use Rattle.sched_core.specs.Reservation.{Booking, booked_at, bookings, unspent, unended}
 use Rattle.sched_core.specs.Rows.{servers_of, held_rows, open_rows}
 use Rattle.sched_core.specs.Pick.{pick, forgiven}
 use Rattle.sched_core.specs.Prune.{prune, left, at_address}
@@ -49,7 +50,7 @@ commit_by kept now job state = record { now = now; kind = Commit job state kept 
 
 -- the registration of the reservation of that number
 abbrev pub place_at : List CoreEntry → ℕ → Option ℕ
-place_at log number = option_map (λ b. b.reg) (find (λ b. b.number == number) (bookings log))
+place_at log number = newest None (map (λ b. b.reg) (lasting booked_at (λ b. b.number == number) log))
 
 -- the registration that stands at an address, if there is one
 abbrev pub noted_over : List ServerRow → Option Addr → Option ℕ

@@ -1,7 +1,6 @@
 -- Which registrations stand, and when each was last heard of, asked of the whole log.
-use Rattle.std.specs.Prelude.{ℕ, List, [], ◌∷◌, ◌++◌, length, map, filter, Bool, true, false, not, ◌&&◌, ◌||◌, ◌==◌, Option, Some, None, if◌then◌else◌, find}
+use Rattle.std.specs.Prelude.{ℕ, List, [], ◌∷◌, ◌++◌, length, map, filter, Bool, true, false, not, ◌&&◌, ◌||◌, ◌==◌, Option, Some, None, if◌then◌else◌}
 use Rattle.std.specs.List.{list_any, filter_map}
-use Rattle.std.specs.Option.{option_map}
 use Rattle.dist_types.specs.declared.addr.Addr.{Addr}
 use Rattle.dist_types.specs.declared.ids.JobId.{JobId}
 use Rattle.dist_types.specs.Cuts.{Cut, cuts, lasting}
@@ -11,7 +10,7 @@ use Rattle.sched_core.specs.declared.entry.CoreKind.TheVariants.{Beat, Reserve, 
 use Rattle.sched_core.specs.declared.entry.Reserved.TheVariants.{Job}
 use Rattle.sched_core.specs.declared.entry.UpdateAnswer.{UpdateAnswer}
 use Rattle.sched_core.specs.declared.entry.UpdateAnswer.TheVariants.{Accepted, Transition}
-use Rattle.sched_core.specs.Log.{same_addr, same_job, names, is_this, latest}
+use Rattle.sched_core.specs.Log.{same_addr, same_job, names, is_this, latest, newest}
 
 -- a registration: the number of a heartbeat that says new, what it says, the entries up to it and those after it
 pub record Registered : Type 0 where
@@ -75,14 +74,14 @@ abbrev pub serves : List CoreEntry → CoreKind → ℕ → Bool
 serves log (Update server job state answer) reg = is_heard answer && list_any (λ d. reserves_by d.kind job reg) log
 serves log kind reg = false
 
--- a sign of a registration, among the entries after it: a heartbeat at its address that says old while it stands, or such an update
-abbrev pub is_sign : Registered → Cut CoreEntry → Bool
-is_sign g c = (renews_by c.at.kind g.server && not (ended c.before g.reg)) || serves (g.earlier ++ c.before) c.at.kind g.reg
+-- a sign of a registration with those entries up to it, among the entries after it: a heartbeat at its address that says old while it stands, or such an update
+abbrev pub is_sign : Addr → ℕ → List CoreEntry → Cut CoreEntry → Bool
+is_sign server reg earlier c = (renews_by c.at.kind server && not (ended c.before reg)) || serves (earlier ++ c.before) c.at.kind reg
 
 -- the moment of its last sign, or of its own heartbeat where there is none
 abbrev pub last_sign : Registered → ℕ
-last_sign g = latest g.now (map (λ c. c.at.now) (filter (is_sign g) (cuts g.later)))
+last_sign g = latest g.now (map (λ c. c.at.now) (filter (is_sign g.server g.reg g.earlier) (cuts g.later)))
 
 -- the address of the registration of that number, if one was ever made
 abbrev pub address_of : List CoreEntry → ℕ → Option Addr
-address_of log reg = option_map (λ g. g.server) (find (λ g. g.reg == reg) (registrations log))
+address_of log reg = newest None (map (λ g. g.server) (lasting registered_at (λ g. g.reg == reg) log))

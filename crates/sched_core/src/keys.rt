@@ -3,7 +3,7 @@ ghost use Rattle.std.specs.Prelude.{◌≡◌, ◌<◌, filter, Some, None, if�
 ghost use Rattle.sched_core.specs.Books.{key_stays};
 
 use crate::entry::CoreEntry;
-use crate::standing::ends;
+use crate::kind::ends;
 use dist_types::roles::JobAuthorizer;
 use std::marker::Model;
 

@@ -12,6 +12,8 @@ pub mod call;
 pub mod entry;
 pub mod error;
 mod keys;
+mod kind;
+pub mod plain;
 pub mod rows;
 mod standing;
 pub mod state;

@@ -1,12 +1,11 @@
 //! What a heartbeat and a status do to the rows of the registrations that stand.
 ghost use Rattle.std.specs.Prelude.{◌≡◌, ◌<◌, ◌++◌, ◌∷◌, [], ◌-◌, ◌^◌, IfOk, IsSome, map, filter, length, min, sum_by, option_to_list, vec_len, vec_capacity};
-ghost use Rattle.sched_core.specs.Log.{names, is_this};
-ghost use Rattle.sched_core.specs.Standing.{ends_by, renews_by};
 ghost use Rattle.sched_core.specs.Prune.{is_expired, prune, left, at_address};
 ghost use Rattle.sched_core.specs.Rule.{replaced_by, says_new, beat_over, counts_over, status_by};
 ghost use Rattle.sched_core.specs.Books.{row_by, row_after, row_stays};
 
 use crate::entry::{CoreEntry, CoreKind};
+use crate::kind::{ends, renews};
 use crate::rows::ServerRow;
 use dist_types::ids::{ServerId, ServerNonce};
 use dist_types::results::SchedulerStatusResult;
@@ -43,54 +42,12 @@ fn survivor(rows: &[ServerRow], now: u64, server: ServerId) -> Option<ServerRow>
         .find(|row| row.server == server)
 }
 
-/// Whether there is a number, and it is this one.
-fn is_number(there: Option<u64>, number: u64) -> bool
-    ensures { result ≡ is_this there number }
-{
-    match there {
-        Some(n) => n == number,
-        None => false,
-    }
-}
-
-/// Whether an entry of this kind names the registration as pruned or replaced.
-pub fn ends(kind: &CoreKind, reg: u64) -> bool
-    ensures { result ≡ ends_by kind.now reg }
-{
-    match kind {
-        CoreKind::Reserve(_) => false,
-        CoreKind::Commit { .. } => false,
-        CoreKind::Undo { .. } => false,
-        CoreKind::Beat {
-            pruned,
-            replaced,
-            ..
-        } => pruned.get().contains(&reg) || is_number(*replaced, reg),
-        CoreKind::Update { .. } => false,
-        CoreKind::Status { pruned, .. } => pruned.get().contains(&reg),
-    }
-}
-
 /// Takes out the registrations that an entry ends.
 pub fn end_rows(rows: &mut Vec<ServerRow>, step: &CoreEntry)
     ensures items { rows.new.items ≡ filter (row_stays step.entry.now) rows.old.items }
     ensures room { vec_len rows.old < vec_capacity rows.old → vec_len rows.new < vec_capacity rows.new }
 {
     rows.retain(|row| !ends(&step.kind, row.reg));
-}
-
-/// Whether an entry of this kind is a heartbeat at the address that says old.
-fn renews(kind: &CoreKind, at: ServerId) -> bool
-    ensures { result ≡ renews_by kind.now at }
-{
-    match kind {
-        CoreKind::Reserve(_) => false,
-        CoreKind::Commit { .. } => false,
-        CoreKind::Undo { .. } => false,
-        CoreKind::Beat { server, is_new, .. } => !*is_new && at == *server,
-        CoreKind::Update { .. } => false,
-        CoreKind::Status { .. } => false,
-    }
 }
 
 /// The row after an entry.
