@@ -1,0 +1,4 @@
+pub mod LegalLemmas
+pub mod PlainLemmas
+pub mod QuietLemmas
+pub mod StandingLemmas
