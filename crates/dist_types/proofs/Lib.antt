@@ -1,0 +1,4 @@
+pub mod AddrLemmas
+pub mod Contents
+pub mod InLog
+pub mod Lists

@@ -1,0 +1,17 @@
+//! What every layer shares: lists that contracts see as such, addresses, ids and results, and the
+//! outside, which is what is read and written, each with its count of faults.
+//!
+//! The contract: a text says an address exactly where the grammar of addresses says so; a call to the
+//! outside tells what it took or added, and fails only where its count of faults rose.
+//! The layers above use the types, the texts both ways, and the meanings of the traits.
+#![tactic(auto)]
+
+pub mod addr;
+pub mod fault;
+pub mod ids;
+pub mod results;
+pub mod roles;
+pub mod sink;
+pub mod source;
+pub mod text;
+pub mod type_error;
