@@ -8,7 +8,7 @@ use Rattle.dist_http.specs.declared.message.HeartbeatServerHttpRequest.{Heartbea
 use Rattle.dist_http.specs.declared.message.HeartbeatPart.{HeartbeatPart}
 
 -- a number is eight bytes, the lowest first
-abbrev pub number_text : ℕ → List ℕ
+unfoldable pub number_text : ℕ → List ℕ
 number_text n = to_le_bytes w64 n
 
 -- bytes are their length and themselves

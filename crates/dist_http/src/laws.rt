@@ -1,12 +1,14 @@
 //! Laws over all bytes: each is a function with no body, whose contract is the law.
-ghost use Rattle.std.specs.Prelude.{◌≡◌, ◌≤◌, ℕ, List, length};
+ghost use Rattle.std.specs.Prelude.{◌≡◌, ◌↔◌, ◌≤◌, ℕ, List, length, Some};
 ghost use Rattle.dist_types.specs.declared.addr.Addr.{Addr};
+ghost use Rattle.dist_http.specs.declared.message.HeartbeatServerHttpRequest.{HeartbeatServerHttpRequest};
 ghost use Rattle.dist_http.specs.declared.reply.Response.{Response};
 ghost use Rattle.dist_http.specs.declared.reply.Reply.{Reply};
 ghost use Rattle.dist_http.specs.declared.request.Request.{Request};
 ghost use Rattle.dist_http.specs.declared.route.SchedRouted.{SchedRouted};
 ghost use Rattle.dist_http.specs.Asked.{IsAsked};
 ghost use Rattle.dist_http.specs.Head.{IsRequest, IsReply};
+ghost use Rattle.dist_http.specs.Message.{IsBytes, BeginsWith, heartbeat_in};
 ghost use Rattle.dist_http.specs.ReadBack.{seen};
 ghost use Rattle.dist_http.specs.Reply.{body_of, reply_text};
 
@@ -29,4 +31,10 @@ pub fn replies_read_back()
 pub fn one_question()
     ensures { (bytes : List ℕ) (peer : Addr) (token : List ℕ) (a b : SchedRouted)
         → IsAsked bytes peer token a → IsAsked bytes peer token b → a ≡ b }
+{}
+
+/// A heartbeat is read from bytes exactly where its spelling begins them.
+pub fn heartbeats_are_spelled()
+    ensures { (bytes : List ℕ) (m : HeartbeatServerHttpRequest) → IsBytes bytes
+        → (heartbeat_in bytes ≡ Some m) ↔ BeginsWith bytes m }
 {}

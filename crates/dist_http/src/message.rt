@@ -96,6 +96,7 @@ pub(crate) fn heartbeat_answer_bytes(
 }
 
 /// A status as it is spelled. Refused for want of memory alone.
+#[tactic(auto, unfolding(crate::specs::Message::number_text))]
 pub(crate) fn status_bytes(
     alloc: Global,
     status: &SchedulerStatusResult,

@@ -3,15 +3,15 @@
 //! Until messages and refusals are built, each refusal is answered by 404, and so are a request for
 //! JSON and a heartbeat with a number of processors that is not allowed. A heartbeat has no header
 //! X-Real-IP for now.
-ghost use Rattle.std.specs.Prelude.{◌≡◌, IfOk, IfErr, IsTrue, option_copied, option_map};
-ghost use Rattle.dist_types.specs.Addr.{addr_in, cut_at};
+ghost use Rattle.std.specs.Prelude.{◌≡◌, IfOk, IfErr, IsTrue, option_copied};
+ghost use Rattle.dist_types.specs.Addr.{addr_in};
 ghost use Rattle.dist_http.specs.Route.{is_at, token_in, server_in, same_ip, server_of, is_binary, heartbeat_of, wants_json, has_cpus, part_view, beat_of, asked_of, answered, beat_seen, reply_of, HasProcessors};
 
 use crate::error::HttpError;
 use crate::message::{HeartbeatPart, HeartbeatServerHttpRequest, heartbeat_in};
 use crate::reply::{Response, Word};
 use crate::request::Request;
-use dist_types::addr::Addr;
+use dist_types::addr::{Addr, cut_at};
 use dist_types::ids::ServerId;
 use dist_types::text::Text;
 use std::alloc::Global;
@@ -50,20 +50,12 @@ fn wants_json(request: &Request) -> bool
     }
 }
 
-/// The parts before and after the first space.
-#[tactic(auto, unfolding(dist_types::specs::Addr::cut_at))]
-fn at_space(text: &str) -> Option<(&str, &str)>
-    ensures { option_map (λ p. (p.0.now, p.1.now)) result ≡ cut_at 32 text.now }
-{
-    text.split_once(' ')
-}
-
 /// The token of an Authorization.
 #[tactic(auto, unfolding(crate::specs::Route::token_in))]
 fn token_in(text: Option<&str>) -> Option<&str>
     ensures { option_copied result ≡ token_in (option_copied text.entry) }
 {
-    let (scheme, token) = at_space(text?)?;
+    let (scheme, token) = cut_at(text?, ' ')?;
     if scheme == "Bearer" {
         Some(token)
     } else {
@@ -85,7 +77,7 @@ fn addr_in(text: &str) -> Option<Addr>
 fn server_in(expected: &str, text: &str) -> Option<Addr>
     ensures { result ≡ server_in expected.now text.now }
 {
-    let (addr, token) = at_space(text)?;
+    let (addr, token) = cut_at(text, ' ')?;
     if token == expected {
         addr_in(addr)
     } else {
