@@ -3,7 +3,6 @@ use Rattle.std.specs.Prelude.{ℕ, ◌<◌, ◌≤◌, Bool, false, ◌&&◌, Li
 use Rattle.std.specs.List.{starts_with}
 use Rattle.dist_types.specs.declared.addr.Addr.{Addr}
 use Rattle.dist_types.specs.declared.addr.Addr.TheVariants.{V4, V6}
-use Rattle.dist_types.specs.Addr.{cut_at, addr_in}
 use Rattle.dist_http.specs.declared.error.HttpError.{HttpError}
 use Rattle.dist_http.specs.declared.error.HttpError.TheVariants.{BadHead, WrongContentType, ParseError, BadRealIp, NoRoute, Unauthorised}
 use Rattle.dist_http.specs.declared.message.HeartbeatPart.{HeartbeatPart}
@@ -14,6 +13,7 @@ use Rattle.dist_http.specs.declared.reply.Word.TheVariants.{NoBearerAuth, Invali
 use Rattle.dist_http.specs.declared.request.Request.{Request}
 use Rattle.dist_http.specs.declared.route.SchedRouted.{SchedRouted}
 use Rattle.dist_http.specs.declared.route.SchedRouted.TheVariants.{Beat, Status, Done}
+use Rattle.dist_http.specs.Bearer.{token_in, server_in}
 use Rattle.dist_http.specs.Fields.{header, path_of}
 use Rattle.dist_http.specs.Message.{heartbeat_in, beat_view}
 
@@ -48,23 +48,6 @@ is_text text (Some given) = bytes_eq given text
 -- whether the request asks for a reply in JSON
 unfoldable pub wants_json : Request → Bool
 wants_json r = is_text (codes "application/json") (header (codes "accept") r.headers)
-
--- the token, where the text is `Bearer`, a space and the token
-unfoldable pub token_in : Option (List ℕ) → Option (List ℕ)
-token_in None = None
-token_in (Some text) = by_parts (cut_at 32 text)
-  where
-    by_parts : Option (List ℕ × List ℕ) → Option (List ℕ)
-    by_parts None = None
-    by_parts (Some p) = if bytes_eq p.0 (codes "Bearer") then Some p.1 else None
-
--- the server of a token that is its address, a space and the expected text
-unfoldable pub server_in : List ℕ → List ℕ → Option Addr
-server_in expected text = by_parts (cut_at 32 text)
-  where
-    by_parts : Option (List ℕ × List ℕ) → Option Addr
-    by_parts None = None
-    by_parts (Some p) = if bytes_eq p.1 expected then addr_in p.0 else None
 
 -- whether two addresses have one IP
 abbrev pub same_ip : Addr → Addr → Bool

@@ -10,10 +10,10 @@ use httparse::Header;
 use std::str;
 
 /// How many bytes a body has at most.
-const MAX_BODY: u64 = 1_073_741_824;
+const MAX_BODY_BYTES: u64 = 1_073_741_824;
 
 /// How many digits the number of its bytes has at most.
-const MAX_DIGITS: usize = 19;
+const MAX_LENGTH_DIGITS: usize = 19;
 
 /// Whether two names of fields are one, without regard to ASCII case.
 pub(crate) fn is_same_name(a: &str, b: &str) -> bool
@@ -34,7 +34,7 @@ fn is_number(text: &[u8]) -> bool
     if text.is_empty() {
         return false;
     }
-    if text.len() > MAX_DIGITS {
+    if text.len() > MAX_LENGTH_DIGITS {
         return false;
     }
     is_all_digits(text)
@@ -55,7 +55,7 @@ fn read_length(text: &[u8]) -> Option<usize>
         return None;
     }
     let n = number(text);
-    if n <= MAX_BODY {
+    if n <= MAX_BODY_BYTES {
         Some(n as usize)
     } else {
         None
@@ -116,7 +116,7 @@ fn is_length(text: &[u8], len: usize) -> bool
         return false;
     }
     let n = number(text);
-    if n > MAX_BODY {
+    if n > MAX_BODY_BYTES {
         return false;
     }
     n as usize == len

@@ -15,12 +15,12 @@ use std::alloc::{AllocError, Global};
 pub const MAX_HEADERS: usize = 100;
 
 /// How many bytes a head has at most.
-pub const MAX_HEAD: usize = 65536;
+pub const MAX_HEAD_BYTES: usize = 65536;
 
 fn copy_headers(alloc: Global, headers: &[Header<'_>]) -> Result<Items<(Text, Bytes)>, AllocError>
     ensures { IfOk result (λ h. h ≡ map header_parts headers.now) }
 {
-    let mut copies = Vec::new(alloc);
+    let mut copies = Vec::with_capacity(alloc, headers.len())?;
     for h in headers {
         let name = Text::of(alloc, h.name)?;
         let value = Bytes::from_slice(alloc, h.value)?;
@@ -53,7 +53,9 @@ fn after(bytes: &[u8], len: usize) -> &[u8]
     &bytes[len..]
 }
 
-/// The request that the bytes are.
+/// The request that the bytes are: a head, and exactly as many bytes after it as its one
+/// Content-Length says, or none. BadHead exactly where they are no request; else refused for want of
+/// memory alone.
 pub fn read_head(alloc: Global, bytes: &[u8]) -> Result<Request, HttpError>
     ensures ok { IfOk result (IsRequest bytes.now) }
     ensures err { IfErr result (Refuses bytes.now) }
@@ -69,7 +71,7 @@ pub fn read_head(alloc: Global, bytes: &[u8]) -> Result<Request, HttpError>
     if headers.len() > MAX_HEADERS {
         return Err(HttpError::BadHead);
     }
-    if len > MAX_HEAD {
+    if len > MAX_HEAD_BYTES {
         return Err(HttpError::BadHead);
     }
     let body = after(bytes, len);
@@ -95,7 +97,8 @@ fn copy_reply(
     })
 }
 
-/// The reply that the bytes are.
+/// The reply that the bytes are: a head, and all bytes after it, which a Content-Length counts if
+/// there is one. ParseError exactly where they are no reply; else refused for want of memory alone.
 pub fn read_reply_head(alloc: Global, bytes: &[u8]) -> Result<Reply, HttpError>
     ensures ok { IfOk result (IsReply bytes.now) }
     ensures err { IfErr result (RefusesReply bytes.now) }
@@ -110,7 +113,7 @@ pub fn read_reply_head(alloc: Global, bytes: &[u8]) -> Result<Reply, HttpError>
     if headers.len() > MAX_HEADERS {
         return Err(HttpError::ParseError);
     }
-    if len > MAX_HEAD {
+    if len > MAX_HEAD_BYTES {
         return Err(HttpError::ParseError);
     }
     let body = after(bytes, len);

@@ -1,5 +1,5 @@
 //! Laws over all bytes: each is a function with no body, whose contract is the law.
-ghost use Rattle.std.specs.Prelude.{◌≡◌, ◌↔◌, ◌≤◌, ℕ, List, length, Some};
+ghost use Rattle.std.specs.Prelude.{◌≡◌, ◌↔◌, ◌⊎◌, ◌≤◌, ℕ, List, length, Some};
 ghost use Rattle.dist_types.specs.declared.addr.Addr.{Addr};
 ghost use Rattle.dist_http.specs.declared.message.HeartbeatServerHttpRequest.{HeartbeatServerHttpRequest};
 ghost use Rattle.dist_http.specs.declared.reply.Response.{Response};
@@ -7,10 +7,15 @@ ghost use Rattle.dist_http.specs.declared.reply.Reply.{Reply};
 ghost use Rattle.dist_http.specs.declared.request.Request.{Request};
 ghost use Rattle.dist_http.specs.declared.route.SchedRouted.{SchedRouted};
 ghost use Rattle.dist_http.specs.Asked.{IsAsked};
-ghost use Rattle.dist_http.specs.Head.{IsRequest, IsReply};
+ghost use Rattle.dist_http.specs.declared.error.HttpError.TheVariants.{BadHead};
+ghost use Rattle.dist_http.specs.declared.reply.Response.TheVariants.{NotFound};
+ghost use Rattle.dist_http.specs.declared.route.SchedRouted.TheVariants.{Beat, Status, Done};
+ghost use Rattle.dist_http.specs.Head.{IsRequest, IsNoRequest, IsReply};
+ghost use Rattle.dist_http.specs.InOrder.{IsHeartbeat, IsStatus};
 ghost use Rattle.dist_http.specs.Message.{IsBytes, BeginsWith, heartbeat_in};
 ghost use Rattle.dist_http.specs.ReadBack.{seen};
 ghost use Rattle.dist_http.specs.Reply.{body_of, reply_text};
+ghost use Rattle.dist_http.specs.Route.{reply_of};
 
 /// Bytes are one request at most.
 pub fn one_request()
@@ -37,4 +42,24 @@ pub fn one_question()
 pub fn heartbeats_are_spelled()
     ensures { (bytes : List ℕ) (m : HeartbeatServerHttpRequest) → IsBytes bytes
         → (heartbeat_in bytes ≡ Some m) ↔ BeginsWith bytes m }
+{}
+
+/// Bytes ask for a heartbeat to be noted exactly where they are a request that is that heartbeat of
+/// that server, in order.
+pub fn heartbeats_asked()
+    ensures { (bytes : List ℕ) (peer : Addr) (token : List ℕ) (server : Addr) (m : HeartbeatServerHttpRequest) → IsBytes bytes
+        → IsAsked bytes peer token (Beat server m) ↔ ((r : Request) × IsRequest bytes r × IsHeartbeat r peer token server m) }
+{}
+
+/// Bytes ask for the status exactly where they are a request for it.
+pub fn statuses_asked()
+    ensures { (bytes : List ℕ) (peer : Addr) (token : List ℕ)
+        → IsAsked bytes peer token Status ↔ ((r : Request) × IsRequest bytes r × IsStatus r) }
+{}
+
+/// A reply is known at once only to a bad head, which gets the reply 400, and to another request,
+/// which gets the reply 404.
+pub fn replies_at_once()
+    ensures { (bytes : List ℕ) (peer : Addr) (token : List ℕ) (reply : Response) → IsAsked bytes peer token (Done reply)
+        → (((r : Request) × IsRequest bytes r) × (reply ≡ NotFound)) ⊎ (IsNoRequest bytes × (reply ≡ reply_of BadHead)) }
 {}

@@ -11,6 +11,7 @@
 #![tactic(auto)]
 
 pub mod asked;
+mod bearer;
 pub mod error;
 mod fields;
 pub mod head;
@@ -19,3 +20,5 @@ pub mod message;
 pub mod reply;
 pub mod request;
 pub mod route;
+#[cfg(test)]
+mod tests;

@@ -104,7 +104,7 @@ pub(crate) fn status_bytes(
     ensures ok { IfOk result (λ bytes. bytes ≡ status_text status.now) }
     ensures err { IfErr result (λ e. e ≡ HttpError.Memory) }
 {
-    let mut bytes = Vec::new(alloc);
+    let mut bytes = Vec::with_capacity(alloc, 24)?;
     bytes.extend_from_slice(&status.num_servers.to_le_bytes())?;
     bytes.extend_from_slice(&status.num_cpus.to_le_bytes())?;
     bytes.extend_from_slice(&status.in_progress.to_le_bytes())?;

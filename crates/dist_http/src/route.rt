@@ -4,14 +4,14 @@
 //! JSON and a heartbeat with a number of processors that is not allowed. A heartbeat has no header
 //! X-Real-IP for now.
 ghost use Rattle.std.specs.Prelude.{◌≡◌, IfOk, IfErr, IsTrue, option_copied};
-ghost use Rattle.dist_types.specs.Addr.{addr_in};
-ghost use Rattle.dist_http.specs.Route.{is_at, token_in, server_in, same_ip, server_of, is_binary, heartbeat_of, wants_json, has_cpus, part_view, beat_of, asked_of, answered, beat_seen, reply_of, HasProcessors};
+ghost use Rattle.dist_http.specs.Route.{is_at, same_ip, server_of, is_binary, heartbeat_of, wants_json, has_cpus, part_view, beat_of, asked_of, answered, beat_seen, reply_of, HasProcessors};
 
+use crate::bearer::{server_in, token_in};
 use crate::error::HttpError;
 use crate::message::{HeartbeatPart, HeartbeatServerHttpRequest, heartbeat_in};
 use crate::reply::{Response, Word};
 use crate::request::Request;
-use dist_types::addr::{Addr, cut_at};
+use dist_types::addr::Addr;
 use dist_types::ids::ServerId;
 use dist_types::text::Text;
 use std::alloc::Global;
@@ -47,41 +47,6 @@ fn wants_json(request: &Request) -> bool
     match request.header("accept") {
         Some(text) => text == "application/json",
         None => false,
-    }
-}
-
-/// The token of an Authorization.
-#[tactic(auto, unfolding(crate::specs::Route::token_in))]
-fn token_in(text: Option<&str>) -> Option<&str>
-    ensures { option_copied result ≡ token_in (option_copied text.entry) }
-{
-    let (scheme, token) = cut_at(text?, ' ')?;
-    if scheme == "Bearer" {
-        Some(token)
-    } else {
-        None
-    }
-}
-
-fn addr_in(text: &str) -> Option<Addr>
-    ensures { result ≡ addr_in text.now }
-{
-    match text.parse() {
-        Ok(addr) => Some(addr),
-        Err(_) => None,
-    }
-}
-
-/// The server of a token.
-#[tactic(auto, unfolding(crate::specs::Route::server_in))]
-fn server_in(expected: &str, text: &str) -> Option<Addr>
-    ensures { result ≡ server_in expected.now text.now }
-{
-    let (addr, token) = cut_at(text, ' ')?;
-    if token == expected {
-        addr_in(addr)
-    } else {
-        None
     }
 }
 
@@ -186,7 +151,7 @@ pub(crate) fn reply_of(alloc: Global, refusal: HttpError) -> Result<Response, Ht
         HttpError::BadRealIp => Ok(Response::NotFound),
         HttpError::NoRoute => Ok(Response::NotFound),
         HttpError::Unauthorised(_) => Ok(Response::NotFound),
-        HttpError::Memory => Ok(Response::NotFound),
+        HttpError::Memory => Err(HttpError::Memory),
     }
 }
 
