@@ -1,6 +1,6 @@
 -- A heartbeat is read from bytes exactly where its spelling begins them.
-use Rattle.std.proofs.Common.{◌≡◌, ◌↔◌, ℕ, ◌+◌, ◌^◌, ◌<◌, ◌≤◌, Bool, true, false, cond, ltb, List, [], ◌∷◌, ◌++◌, length, get_or, take, drop, Option, Some, None, refl, sym, ap, subst, ◌∙◌, append_assoc, arith, inl, inr}
-use Rattle.std.specs.Int.{w64, from_le_bytes, to_le_bytes}
+use Rattle.std.proofs.Common.{◌≡◌, ◌↔◌, ℕ, ◌+◌, ◌^◌, ◌<◌, ◌≤◌, Bool, true, false, cond, ltb, List, ◌++◌, length, take, drop, Option, Some, None, refl, sym, ap, subst, ◌∙◌, append_assoc, arith, inl, inr}
+use Rattle.std.specs.Int.{w64, from_le_bytes}
 use Rattle.std.proofs.lemmas.Bool.{cases_lt, ltb-false, le-ltb}
 use Rattle.std.proofs.lemmas.List.{take_at, drop_at, take-append-drop, length-append, length-take, get_or-drop, get_or-take, get_or_past}
 use Rattle.std.proofs.lemmas.Nat.{le_bytes_8, from_le_bytes-to_le_bytes_8}
@@ -97,6 +97,14 @@ bytes_again text rest lt =
 
 -- ---- heartbeats
 
+-- a heartbeat of these parts begins the bytes, and so does the one that was read
+read_begins : (bytes key : List ℕ) (cpus nonce : ℕ) (m : HeartbeatServerHttpRequest) → Some (record { jwt_key = key; num_cpus = cpus; server_nonce = nonce }) ≡ Some m
+    → BeginsWith bytes (record { jwt_key = key; num_cpus = cpus; server_nonce = nonce }) → BeginsWith bytes m
+read_begins bytes key cpus nonce m e begins = subst (BeginsWith bytes) (same e) begins
+  where
+    same : Some (record { jwt_key = key; num_cpus = cpus; server_nonce = nonce }) ≡ Some m → record { jwt_key = key; num_cpus = cpus; server_nonce = nonce } ≡ m
+    same h = cc
+
 heartbeat_takes : (bytes : List ℕ) (m : HeartbeatServerHttpRequest) → IsBytes bytes → heartbeat_in bytes ≡ Some m → BeginsWith bytes m
 unfolding heartbeat_in
 heartbeat_takes bytes m fits e =
@@ -108,10 +116,7 @@ heartbeat_takes bytes m fits e =
     let nonce = number_takes b.0.1 c.0.0 c.0.1 cpus.0.rest_fits c.1 in
     let front = Takes-then bytes (bytes_text a.0.0) a.0.1 (number_text b.0.0) b.0.1 key.0 cpus.0 in
     let whole = Takes-then bytes (bytes_text a.0.0 ++ number_text b.0.0) b.0.1 (number_text c.0.0) c.0.1 front nonce.0 in
-    subst (BeginsWith bytes) (same_some c.2) (record { key = key.1; cpus = cpus.1; nonce = nonce.1 }, c.0.1, whole.parts)
-  where
-    same_some : {A : Type 0} {x y : A} → Some x ≡ Some y → x ≡ y
-    same_some e = cc
+    read_begins bytes a.0.0 b.0.0 c.0.0 m c.2 (record { key = key.1; cpus = cpus.1; nonce = nonce.1 }, c.0.1, whole.parts)
 
 heartbeat_again : (m : HeartbeatServerHttpRequest) (rest : List ℕ) → HasSpelling m → heartbeat_in (heartbeat_text m ++ rest) ≡ Some m
 unfolding heartbeat_in

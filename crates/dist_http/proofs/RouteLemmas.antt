@@ -1,17 +1,11 @@
 -- What a request asks, in the words of its parts.
-use Rattle.std.proofs.Common.{◌≡◌, ◌≢◌, ◌↔◌, ◌⊎◌, inl, inr, ℕ, not, ◌==◌, ◌&&◌, ◌<◌, ◌≤◌, ◌+◌, get_or, nat_lt, nat_le, Bool, true, false, cond, List, [], ◌∷◌, ◌++◌, length, take, drop, Option, Some, None, Result, Ok, Err, refl, sym, ap, subst, ◌∙◌, arith}
+use Rattle.std.proofs.Common.{◌≡◌, ◌≢◌, ◌↔◌, ◌⊎◌, inl, inr, ℕ, ◌&&◌, ◌<◌, ◌≤◌, ◌+◌, get_or, Bool, true, false, cond, List, length, drop, Option, Some, None, Result, Ok, Err, refl, sym, ap, subst, ◌∙◌, arith}
 use Rattle.std.specs.Prelude.{codes, bytes_eq, is_some, nat_eq}
-use Rattle.std.specs.List.{list_all, take_while, starts_with}
+use Rattle.std.specs.List.{starts_with}
 use Rattle.std.proofs.lemmas.Bool.Decides.{nat_tests}
-use Rattle.std.proofs.lemmas.List.{take-append-drop, get_or-append-add}
-use Rattle.std.proofs.lemmas.List.Sums.{take_while-cons}
-use Rattle.std.proofs.lemmas.Option.{cond_some}
-use Rattle.std.proofs.lemmas.Slice.Eq.{bytes_eq-Decides}
+use Rattle.std.proofs.lemmas.List.{get_or-append-add}
 use Rattle.dist_types.specs.declared.addr.Addr.{Addr}
-use Rattle.dist_types.specs.Addr as addr
-use Rattle.dist_types.specs.Addr.{cut_at, addr_in}
 use Rattle.httparse.specs.Grammar.{print_request}
-use Rattle.dist_types.proofs.AddrLemmas.{cut_found, cut_is}
 use Rattle.dist_http.specs.declared.error.HttpError.{HttpError}
 use Rattle.dist_http.specs.declared.error.HttpError.TheVariants.{BadHead, WrongContentType, ParseError, BadRealIp, NoRoute, Unauthorised}
 use Rattle.dist_http.specs.declared.message.HeartbeatServerHttpRequest.{HeartbeatServerHttpRequest}
@@ -26,8 +20,9 @@ use Rattle.dist_http.specs.Fields.{header, path_of}
 use Rattle.dist_http.specs.Asked.{IsAsked}
 use Rattle.dist_http.specs.Head.{IsRequest, IsNoRequest}
 use Rattle.dist_http.specs.InOrder.{IsAt, IsFrom, HasHeartbeat, IsHeartbeat, IsStatus}
-use Rattle.dist_http.specs.Message.{IsBytes, BeginsWith, heartbeat_in}
+use Rattle.dist_http.specs.Message.{IsBytes, heartbeat_in}
 use Rattle.dist_http.specs.Route.{◌>>=◌, unless_none, unless_false, unless_true, is_at, is_text, wants_json, same_ip, server_of, is_binary, heartbeat_of, has_cpus, beat_of, asked_of, answered, reply_of}
+use Rattle.dist_http.proofs.BearerLemmas.{equal_texts, same_text, begins, token_shown, shown_token, server_shown, shown_server}
 use Rattle.dist_http.proofs.MessageLemmas.{heartbeats_are_spelled}
 
 -- ---- steps
@@ -35,10 +30,6 @@ use Rattle.dist_http.proofs.MessageLemmas.{heartbeats_are_spelled}
 ok_step : {A B : Type 0} (x : Result A HttpError) (f : A → Result B HttpError) (y : B) → (x >>= f) ≡ Ok y → (a : A) × (x ≡ Ok a) × (f a ≡ Ok y)
 ok_step (Ok a) f y e = (a, refl, e)
 ok_step (Err d) f y e = absurd cc
-
-some_step : {A B : Type 0} (x : Option A) (f : A → Option B) (y : B) → addr.◌>>=◌ x f ≡ Some y → (a : A) × (x ≡ Some a) × (f a ≡ Some y)
-some_step (Some a) f y e = (a, refl, e)
-some_step None f y e = absurd cc
 
 from_none : {A : Type 0} (d : HttpError) (o : Option A) (x : A) → unless_none d o ≡ Ok x → o ≡ Some x
 from_none d (Some a) x e = cc
@@ -52,76 +43,9 @@ from_true : {A : Type 0} (d : HttpError) (b : Bool) (x y : A) → unless_true d 
 from_true d false x y e = (refl, cc)
 from_true d true x y e = absurd cc
 
+-- a step that went well
 abbrev ok : {A : Type 0} → A → Result A HttpError
 ok x = Ok x
-
--- ---- texts
-
-equal_texts : (a b : List ℕ) → bytes_eq a b ≡ true → a ≡ b
-equal_texts a b = (bytes_eq-Decides a b).0
-
-same_text : (a : List ℕ) → bytes_eq a a ≡ true
-same_text a = (bytes_eq-Decides a a).1 refl
-
-taken_pass : (p : ℕ → Bool) (xs : List ℕ) → list_all p (take_while p xs) ≡ true
-taken_pass p [] = refl
-taken_pass p (x ∷ xs) =
-    subst (λ (t : List ℕ). list_all p t ≡ true) (sym (take_while-cons p x xs)) (by_test (p x) refl (take_while p xs) (taken_pass p xs))
-  where
-    by_test : (b : Bool) → p x ≡ b → (t : List ℕ) → list_all p t ≡ true → list_all p (cond b (x ∷ t) []) ≡ true
-    by_test true e t h = rw (e, h) refl
-    by_test false e t h = refl
-
--- what stands before the place where a text is cut has no such byte
-cut_before : (c : ℕ) (text : List ℕ) (p : List ℕ × List ℕ) → cut_at c text ≡ Some p → list_all (λ b. not (b == c)) p.0 ≡ true
-unfolding cut_at
-cut_before c text p e =
-    let found = cond_some _ _ _ e in
-    subst (λ (q : List ℕ × List ℕ). list_all (λ b. not (b == c)) q.0 ≡ true) found.1 (taken_pass (λ b. not (b == c)) text)
-
-begins : (text front : List ℕ) → starts_with nat_eq text front ≡ true → text ≡ front ++ drop (length front) text
-begins text front h =
-    let same = equal_texts front (take (length front) text) h in
-    sym (take-append-drop (length front) text) ∙ ap (λ (t : List ℕ). t ++ drop (length front) text) (sym same)
-
--- ---- tokens
-
-token_shown : (o : Option (List ℕ)) (token : List ℕ) → token_in o ≡ Some token → o ≡ Some (codes "Bearer " ++ token)
-unfolding token_in
-token_shown None token e = absurd cc
-token_shown (Some text) token e =
-    let s = some_step (cut_at 32 text) (λ p. cond (bytes_eq p.0 (codes "Bearer")) (Some p.1) None) token e in
-    let p = s.0 in
-    let found = cond_some (bytes_eq p.0 (codes "Bearer")) p.1 token s.2 in
-    let scheme = equal_texts p.0 (codes "Bearer") found.0 in
-    ap Some (cut_is 32 text p s.1 ∙ (λ i. scheme i ++ 32 ∷ found.1 i))
-
-shown_token : (token : List ℕ) → token_in (Some (codes "Bearer " ++ token)) ≡ Some token
-unfolding token_in
-shown_token token = rw (cut_found 32 (codes "Bearer") token refl) refl
-
-server_shown : (expected text : List ℕ) (server : Addr) → server_in expected text ≡ Some server → IsServerToken text server expected
-unfolding server_in
-server_shown expected text server e =
-    let s = some_step (cut_at 32 text) (λ p. cond (bytes_eq p.1 expected) (addr_in p.0) None) server e in
-    let p = s.0 in
-    let t = by_test (bytes_eq p.1 expected) (addr_in p.0) s.2 in
-    record {
-      addr = p.0;
-      no_space = cut_before 32 text p s.1;
-      says = t.1;
-      parts = cut_is 32 text p s.1 ∙ (λ i. p.0 ++ 32 ∷ equal_texts p.1 expected t.0 i);
-    }
-  where
-    by_test : (b : Bool) (o : Option Addr) → cond b o None ≡ Some server → (b ≡ true) × (o ≡ Some server)
-    by_test true o h = (refl, h)
-    by_test false o h = absurd cc
-
-shown_server : (expected text : List ℕ) (server : Addr) → IsServerToken text server expected → server_in expected text ≡ Some server
-unfolding server_in
-shown_server expected text server t =
-    let cut = cut_found 32 t.addr expected t.no_space in
-    rw (t.parts, cut, same_text expected, t.says) refl
 
 -- ---- the sender
 

@@ -1,5 +1,5 @@
 -- The requests that ask something of the scheduler, in the words of their parts.
-use Rattle.std.specs.Prelude.{◌≡◌, ◌≢◌, ℕ, ◌<◌, ◌≤◌, true, List, ◌++◌, Option, Some, None, codes}
+use Rattle.std.specs.Prelude.{◌≡◌, ◌≢◌, ℕ, ◌<◌, ◌≤◌, true, List, ◌++◌, Some, None, codes}
 use Rattle.dist_types.specs.declared.addr.Addr.{Addr}
 use Rattle.dist_http.specs.declared.message.HeartbeatServerHttpRequest.{HeartbeatServerHttpRequest}
 use Rattle.dist_http.specs.declared.request.Request.{Request}

@@ -11,6 +11,8 @@ use Rattle.dist_http.specs.declared.reply.Response.{Response}
 use Rattle.dist_http.specs.declared.reply.Response.TheVariants.{BadRequest, NotFound}
 use Rattle.dist_http.specs.declared.reply.Word.TheVariants.{NoBearerAuth, InvalidBearerToken, MismatchedAddress}
 use Rattle.dist_http.specs.declared.request.Request.{Request}
+use Rattle.dist_http.specs.declared.route.Question.{Question}
+use Rattle.dist_http.specs.declared.route.Question.TheVariants as question
 use Rattle.dist_http.specs.declared.route.SchedRouted.{SchedRouted}
 use Rattle.dist_http.specs.declared.route.SchedRouted.TheVariants.{Beat, Status, Done}
 use Rattle.dist_http.specs.Bearer.{token_in, server_in}
@@ -118,3 +120,13 @@ part_view (Err e) = Err e
 abbrev pub beat_seen : Result (Addr × HeartbeatPart) HttpError → Result SchedRouted HttpError
 beat_seen (Ok p) = Ok (Beat p.0 (beat_view p.1))
 beat_seen (Err e) = Err e
+
+-- a question, without where it stands
+abbrev pub asked_by : Question → SchedRouted
+asked_by (question.Beat server part) = Beat server (beat_view part)
+asked_by question.Status = Status
+
+-- a question, or a refusal, without where it stands
+abbrev pub question_seen : Result Question HttpError → Result SchedRouted HttpError
+question_seen (Ok question) = Ok (asked_by question)
+question_seen (Err e) = Err e

@@ -4,7 +4,7 @@
 //! JSON and a heartbeat with a number of processors that is not allowed. A heartbeat has no header
 //! X-Real-IP for now.
 ghost use Rattle.std.specs.Prelude.{◌≡◌, IfOk, IfErr, IsTrue, option_copied};
-ghost use Rattle.dist_http.specs.Route.{is_at, same_ip, server_of, is_binary, heartbeat_of, wants_json, has_cpus, part_view, beat_of, asked_of, answered, beat_seen, reply_of, HasProcessors};
+ghost use Rattle.dist_http.specs.Route.{is_at, same_ip, server_of, is_binary, heartbeat_of, wants_json, has_cpus, part_view, beat_of, asked_of, answered, beat_seen, asked_by, question_seen, reply_of, HasProcessors};
 
 use crate::bearer::{server_in, token_in};
 use crate::error::HttpError;
@@ -28,6 +28,13 @@ pub enum SchedRouted {
     Status,
     /// Nothing more: the reply is known.
     Done(Response),
+}
+
+/// What a request asks, where it stands in the request's bytes.
+#[derive(Clone, Copy, Debug)]
+enum Question<'a> {
+    Beat(Addr, HeartbeatPart<'a>),
+    Status,
 }
 
 #[tactic(auto, unfolding(crate::specs::Route::is_at))]
@@ -120,17 +127,36 @@ fn beat_of<'a>(
     request: &'a Request,
     peer: Addr,
     expected: &str,
-) -> Result<(ServerId, HeartbeatPart<'a>), HttpError>
+) -> Result<(Addr, HeartbeatPart<'a>), HttpError>
     ensures seen { beat_seen result ≡ beat_of request.now peer expected.now }
     ensures processors { IfOk result (λ p. IsTrue (has_cpus p.1.num_cpus)) }
 {
     let server = server_of(request, peer, expected)?;
     let beat = heartbeat_of(request)?;
     if has_cpus(beat.num_cpus) {
-        Ok((ServerId::new(server), beat))
+        Ok((server, beat))
     } else {
         Err(HttpError::NoRoute)
     }
+}
+
+/// What a request asks, or why it is refused.
+#[tactic(auto, unfolding(crate::specs::Route::asked_of))]
+fn asked_of<'a>(request: &'a Request, peer: Addr, expected: &str) -> Result<Question<'a>, HttpError>
+    ensures seen { question_seen result ≡ asked_of request.now peer expected.now }
+    ensures processors { IfOk result (λ question. HasProcessors (asked_by question)) }
+{
+    if wants_json(request) {
+        return Err(HttpError::NoRoute);
+    }
+    if is_at(request, "POST", "/api/v1/scheduler/heartbeat_server") {
+        let (server, beat) = beat_of(request, peer, expected)?;
+        return Ok(Question::Beat(server, beat));
+    }
+    if is_at(request, "GET", "/api/v1/scheduler/status") {
+        return Ok(Question::Status);
+    }
+    Err(HttpError::NoRoute)
 }
 
 /// The reply to a refusal. Refused for want of memory alone.
@@ -157,7 +183,6 @@ pub(crate) fn reply_of(alloc: Global, refusal: HttpError) -> Result<Response, Ht
 
 /// What a request of that peer asks of the scheduler. A client token is asked for by requests for
 /// a job, which are not built yet. Refused for want of memory alone.
-#[tactic(auto, unfolding(crate::specs::Route::asked_of))]
 pub fn scheduler_route(
     alloc: Global,
     request: &Request,
@@ -169,23 +194,15 @@ pub fn scheduler_route(
     ensures processors { IfOk result HasProcessors }
     ensures err { IfErr result (λ e. e ≡ HttpError.Memory) }
 {
-    if wants_json(request) {
-        return Ok(SchedRouted::Done(Response::NotFound));
+    match asked_of(request, peer, server_token) {
+        Ok(Question::Beat(server, beat)) => {
+            let beat = beat.copy(alloc)?;
+            Ok(SchedRouted::Beat(ServerId::new(server), beat))
+        }
+        Ok(Question::Status) => Ok(SchedRouted::Status),
+        Err(refusal) => {
+            let reply = reply_of(alloc, refusal)?;
+            Ok(SchedRouted::Done(reply))
+        }
     }
-    if is_at(request, "POST", "/api/v1/scheduler/heartbeat_server") {
-        return match beat_of(request, peer, server_token) {
-            Ok((server, beat)) => {
-                let beat = beat.copy(alloc)?;
-                Ok(SchedRouted::Beat(server, beat))
-            }
-            Err(refusal) => {
-                let reply = reply_of(alloc, refusal)?;
-                Ok(SchedRouted::Done(reply))
-            }
-        };
-    }
-    if is_at(request, "GET", "/api/v1/scheduler/status") {
-        return Ok(SchedRouted::Status);
-    }
-    Ok(SchedRouted::Done(Response::NotFound))
 }
