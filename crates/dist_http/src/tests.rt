@@ -11,7 +11,7 @@ use std::process::Abort;
 use std::test::Fail;
 
 /// What the bytes show, the bytes, and of a request how many fields and bytes of body it has.
-const HEADS: [(&str, &[u8], Option<(usize, usize)>); 40] = [
+const HEADS: &[(&str, &[u8], Option<(usize, usize)>)] = &[
     ("no field", b"GET / HTTP/1.1\r\n\r\n", Some((0, 0))),
     ("the older version", b"GET / HTTP/1.0\r\n\r\n", Some((0, 0))),
     (
@@ -178,18 +178,28 @@ const HEADS: [(&str, &[u8], Option<(usize, usize)>); 40] = [
     ),
 ];
 
+fn check_head(
+    rt: &impl Abort,
+    alloc: Global,
+    name: &str,
+    bytes: &[u8],
+    want: Option<(usize, usize)>,
+) {
+    match read_head(alloc, bytes) {
+        Ok(request) => {
+            let fields = request.headers.get().len();
+            let body = request.body.get().len();
+            assert_eq!(rt; Some((fields, body)), want, "{name}");
+        }
+        Err(HttpError::BadHead) => assert!(rt; want.is_none(), "{name}"),
+        Err(_) => panic!(rt; "{name}"),
+    }
+}
+
 #[test]
 fn heads_are_read_by_their_rule(rt: HostRuntime) {
     for (name, bytes, want) in HEADS {
-        match read_head(rt.alloc(), bytes) {
-            Ok(request) => {
-                let fields = request.headers.get().len();
-                let body = request.body.get().len();
-                assert_eq!(rt; Some((fields, body)), want, "{name}");
-            }
-            Err(HttpError::BadHead) => assert!(rt; want.is_none(), "{name}"),
-            Err(_) => panic!(rt; "{name}"),
-        }
+        check_head(&rt, rt.alloc(), name, bytes, *want);
     }
 }
 
@@ -228,231 +238,163 @@ fn heads_have_limits(rt: HostRuntime) -> Result<(), Fail> {
     Ok(())
 }
 
-const AUTH: &[u8] = b"Authorization: Bearer 127.0.0.1:10501 s1\r\n";
-
-const TYPE: &[u8] = b"Content-Type: application/octet-stream\r\n";
-
 const BEAT: &[u8] = b"\x03\0\0\0\0\0\0\0\x01\x02\x03\x08\0\0\0\0\0\0\0\x07\0\0\0\0\0\0\0";
 
 const LOCAL: Addr = Addr::V4([127, 0, 0, 1], 40000);
 
-/// What is sent, its fields, its body, the peer, and whether it is a heartbeat in order.
-const BEATS: [(&str, [&[u8]; 3], &[u8], Addr, bool); 31] = [
-    ("in order", [AUTH, TYPE, b""], BEAT, LOCAL, true),
+const SENDER: &[u8] =
+    b"Authorization: Bearer 127.0.0.1:10501 s1\r\nContent-Type: application/octet-stream\r\n";
+
+/// The fields of a heartbeat, and whether it is noted: what they show, the fields, whether it is.
+const SENDERS: &[(&str, &[u8], bool)] = &[
     (
-        "the peer's port is another",
-        [AUTH, TYPE, b""],
-        BEAT,
-        Addr::V4([127, 0, 0, 1], 5),
+        "in order",
+        b"Authorization: Bearer 127.0.0.1:10501 s1\r\nContent-Type: application/octet-stream\r\n",
         true,
-    ),
-    (
-        "the peer's IP is another",
-        [AUTH, TYPE, b""],
-        BEAT,
-        Addr::V4([10, 0, 0, 1], 5),
-        false,
-    ),
-    (
-        "the peer's IP is mapped",
-        [AUTH, TYPE, b""],
-        BEAT,
-        Addr::V6([0, 0, 0, 0, 0, 0xffff, 0x7f00, 1], 5),
-        false,
     ),
     (
         "fields in small letters",
-        [
-            b"authorization: Bearer 127.0.0.1:10501 s1\r\n",
-            b"content-type: application/octet-stream\r\n",
-            b"",
-        ],
-        BEAT,
-        LOCAL,
+        b"authorization: Bearer 127.0.0.1:10501 s1\r\ncontent-type: application/octet-stream\r\n",
         true,
     ),
-    ("no Authorization", [b"", TYPE, b""], BEAT, LOCAL, false),
+    (
+        "no Authorization",
+        b"Content-Type: application/octet-stream\r\n",
+        false,
+    ),
     (
         "another scheme",
-        [b"Authorization: Basic 127.0.0.1:10501 s1\r\n", TYPE, b""],
-        BEAT,
-        LOCAL,
+        b"Authorization: Basic 127.0.0.1:10501 s1\r\nContent-Type: application/octet-stream\r\n",
         false,
     ),
     (
         "the scheme in small letters",
-        [b"Authorization: bearer 127.0.0.1:10501 s1\r\n", TYPE, b""],
-        BEAT,
-        LOCAL,
+        b"Authorization: bearer 127.0.0.1:10501 s1\r\nContent-Type: application/octet-stream\r\n",
         false,
     ),
     (
         "two spaces after the scheme",
-        [b"Authorization: Bearer  127.0.0.1:10501 s1\r\n", TYPE, b""],
-        BEAT,
-        LOCAL,
+        b"Authorization: Bearer  127.0.0.1:10501 s1\r\nContent-Type: application/octet-stream\r\n",
         false,
     ),
     (
         "no token after the address",
-        [b"Authorization: Bearer 127.0.0.1:10501\r\n", TYPE, b""],
-        BEAT,
-        LOCAL,
+        b"Authorization: Bearer 127.0.0.1:10501\r\nContent-Type: application/octet-stream\r\n",
         false,
     ),
     (
         "another token",
-        [b"Authorization: Bearer 127.0.0.1:10501 s2\r\n", TYPE, b""],
-        BEAT,
-        LOCAL,
+        b"Authorization: Bearer 127.0.0.1:10501 s2\r\nContent-Type: application/octet-stream\r\n",
         false,
     ),
     (
         "a longer token",
-        [
-            b"Authorization: Bearer 127.0.0.1:10501 s1 s1\r\n",
-            TYPE,
-            b"",
-        ],
-        BEAT,
-        LOCAL,
+        b"Authorization: Bearer 127.0.0.1:10501 s1 s1\r\nContent-Type: application/octet-stream\r\n",
         false,
     ),
     (
         "no address",
-        [b"Authorization: Bearer x s1\r\n", TYPE, b""],
-        BEAT,
-        LOCAL,
+        b"Authorization: Bearer x s1\r\nContent-Type: application/octet-stream\r\n",
         false,
     ),
     (
         "the first Authorization counts",
-        [b"Authorization: Bearer x\r\n", AUTH, TYPE],
-        BEAT,
-        LOCAL,
+        b"Authorization: Bearer x\r\nAuthorization: Bearer 127.0.0.1:10501 s1\r\nContent-Type: application/octet-stream\r\n",
         false,
     ),
     (
         "an X-Real-IP",
-        [AUTH, TYPE, b"X-Real-IP: 127.0.0.1\r\n"],
-        BEAT,
-        LOCAL,
+        b"Authorization: Bearer 127.0.0.1:10501 s1\r\nContent-Type: application/octet-stream\r\nX-Real-IP: 127.0.0.1\r\n",
         false,
     ),
     (
         "an X-Real-IP that is not UTF-8",
-        [AUTH, TYPE, b"X-Real-IP: \xff\r\n"],
-        BEAT,
-        LOCAL,
+        b"Authorization: Bearer 127.0.0.1:10501 s1\r\nContent-Type: application/octet-stream\r\nX-Real-IP: \xff\r\n",
         true,
     ),
-    ("no content type", [AUTH, b"", b""], BEAT, LOCAL, false),
+    (
+        "no content type",
+        b"Authorization: Bearer 127.0.0.1:10501 s1\r\n",
+        false,
+    ),
     (
         "another content type",
-        [AUTH, b"Content-Type: application/json\r\n", b""],
-        BEAT,
-        LOCAL,
+        b"Authorization: Bearer 127.0.0.1:10501 s1\r\nContent-Type: application/json\r\n",
         false,
     ),
     (
         "a longer content type",
-        [
-            AUTH,
-            b"Content-Type: application/octet-stream; a=b\r\n",
-            b"",
-        ],
-        BEAT,
-        LOCAL,
+        b"Authorization: Bearer 127.0.0.1:10501 s1\r\nContent-Type: application/octet-stream; a=b\r\n",
         true,
     ),
     (
         "asked in JSON",
-        [AUTH, TYPE, b"Accept: application/json\r\n"],
-        BEAT,
-        LOCAL,
+        b"Authorization: Bearer 127.0.0.1:10501 s1\r\nContent-Type: application/octet-stream\r\nAccept: application/json\r\n",
         false,
     ),
     (
         "asked in anything",
-        [AUTH, TYPE, b"Accept: */*\r\n"],
-        BEAT,
-        LOCAL,
+        b"Authorization: Bearer 127.0.0.1:10501 s1\r\nContent-Type: application/octet-stream\r\nAccept: */*\r\n",
         true,
     ),
     (
         "asked in JSON or text",
-        [AUTH, TYPE, b"Accept: application/json, text/plain\r\n"],
-        BEAT,
-        LOCAL,
+        b"Authorization: Bearer 127.0.0.1:10501 s1\r\nContent-Type: application/octet-stream\r\nAccept: application/json, text/plain\r\n",
         true,
     ),
-    ("no body", [AUTH, TYPE, b""], b"", LOCAL, false),
+];
+
+/// Bodies of heartbeats in order, and whether they are noted.
+const BODIES: &[(&str, &[u8], bool)] = &[
+    ("no body", b"", false),
     (
-        "a message one byte short",
-        [AUTH, TYPE, b""],
+        "one byte short",
         b"\x03\0\0\0\0\0\0\0\x01\x02\x03\x08\0\0\0\0\0\0\0\x07\0\0\0\0\0\0",
-        LOCAL,
         false,
     ),
     (
-        "a byte after the message",
-        [AUTH, TYPE, b""],
+        "a byte after it",
         b"\x03\0\0\0\0\0\0\0\x01\x02\x03\x08\0\0\0\0\0\0\0\x07\0\0\0\0\0\0\0\xff",
-        LOCAL,
         true,
     ),
     (
         "a key longer than the body",
-        [AUTH, TYPE, b""],
         b"\xff\xff\xff\xff\xff\xff\xff\xff\x01\x02\x03\x08\0\0\0\0\0\0\0\x07\0\0\0\0\0\0\0",
-        LOCAL,
         false,
     ),
     (
         "an empty key",
-        [AUTH, TYPE, b""],
         b"\0\0\0\0\0\0\0\0\x08\0\0\0\0\0\0\0\x07\0\0\0\0\0\0\0",
-        LOCAL,
         true,
     ),
     (
         "no processors",
-        [AUTH, TYPE, b""],
         b"\0\0\0\0\0\0\0\0\0\0\0\0\0\0\0\0\x07\0\0\0\0\0\0\0",
-        LOCAL,
         false,
     ),
     (
         "one processor",
-        [AUTH, TYPE, b""],
         b"\0\0\0\0\0\0\0\0\x01\0\0\0\0\0\0\0\x07\0\0\0\0\0\0\0",
-        LOCAL,
         true,
     ),
     (
         "4294967295 processors",
-        [AUTH, TYPE, b""],
         b"\0\0\0\0\0\0\0\0\xff\xff\xff\xff\0\0\0\0\x07\0\0\0\0\0\0\0",
-        LOCAL,
         true,
     ),
     (
         "4294967296 processors",
-        [AUTH, TYPE, b""],
         b"\0\0\0\0\0\0\0\0\0\0\0\0\x01\0\0\0\x07\0\0\0\0\0\0\0",
-        LOCAL,
         false,
     ),
 ];
 
-fn beat_of(alloc: Global, fields: &[&[u8]; 3], body: &[u8]) -> Result<Vec<u8>, AllocError> {
+fn beat_of(alloc: Global, fields: &[u8], body: &[u8]) -> Result<Vec<u8>, AllocError> {
     let mut bytes = Vec::from_slice(
         alloc,
         b"POST /api/v1/scheduler/heartbeat_server HTTP/1.1\r\n",
     )?;
-    for field in fields {
-        bytes.extend_from_slice(field)?;
-    }
+    bytes.extend_from_slice(fields)?;
     let len = body.len();
     let length = format!(in alloc; "Content-Length: {len}\r\n\r\n")?;
     bytes.extend_from_slice(length.as_bytes())?;
@@ -460,27 +402,56 @@ fn beat_of(alloc: Global, fields: &[&[u8]; 3], body: &[u8]) -> Result<Vec<u8>, A
     Ok(bytes)
 }
 
-#[test]
-fn heartbeats_are_noted_in_order_alone(rt: HostRuntime) -> Result<(), Fail> {
-    for (name, fields, body, peer, good) in BEATS {
-        let bytes = beat_of(rt.alloc(), &fields, body)?;
-        match asked(rt.alloc(), &bytes, peer, "c1", "s1")? {
-            SchedRouted::Beat(server, beat) => {
-                assert!(rt; good, "{name}");
-                assert_eq!(rt; server.addr(), Addr::V4([127, 0, 0, 1], 10501), "{name}");
-                assert_eq!(rt; beat.server_nonce.get(), 7, "{name}");
-            }
-            SchedRouted::Done(Response::NotFound) => assert!(rt; !good, "{name}"),
-            SchedRouted::Done(_) => panic!(rt; "{name}"),
-            SchedRouted::Status => panic!(rt; "{name}"),
+fn check_beat(
+    rt: &impl Abort,
+    alloc: Global,
+    name: &str,
+    bytes: &[u8],
+    peer: Addr,
+    good: bool,
+) -> Result<(), Fail> {
+    let routed = asked(alloc, bytes, peer, "c1", "s1")?;
+    match &routed {
+        SchedRouted::Beat(server, beat) => {
+            assert!(rt; good, "{name}");
+            assert_eq!(rt; server.addr(), Addr::V4([127, 0, 0, 1], 10501), "{name}");
+            assert_eq!(rt; beat.server_nonce.get(), 7, "{name}");
         }
+        SchedRouted::Done(Response::NotFound) => assert!(rt; !good, "{name}"),
+        SchedRouted::Done(_) => panic!(rt; "{name}"),
+        SchedRouted::Status => panic!(rt; "{name}"),
+    }
+    Ok(())
+}
+
+#[test]
+fn senders_show_a_token_from_their_own_ip(rt: HostRuntime) -> Result<(), Fail> {
+    for (name, fields, good) in SENDERS {
+        let bytes = beat_of(rt.alloc(), fields, BEAT)?;
+        check_beat(&rt, rt.alloc(), name, &bytes, LOCAL, *good)?;
+    }
+    let bytes = beat_of(rt.alloc(), SENDER, BEAT)?;
+    let other_port = Addr::V4([127, 0, 0, 1], 5);
+    check_beat(&rt, rt.alloc(), "another port", &bytes, other_port, true)?;
+    let elsewhere = Addr::V4([10, 0, 0, 1], 40000);
+    check_beat(&rt, rt.alloc(), "another IP", &bytes, elsewhere, false)?;
+    let mapped = Addr::V6([0, 0, 0, 0, 0, 0xffff, 0x7f00, 1], 40000);
+    check_beat(&rt, rt.alloc(), "a mapped IP", &bytes, mapped, false)?;
+    Ok(())
+}
+
+#[test]
+fn bodies_begin_with_a_heartbeat(rt: HostRuntime) -> Result<(), Fail> {
+    for (name, body, good) in BODIES {
+        let bytes = beat_of(rt.alloc(), SENDER, body)?;
+        check_beat(&rt, rt.alloc(), name, &bytes, LOCAL, *good)?;
     }
     Ok(())
 }
 
 #[test]
 fn a_heartbeat_is_taken_whole(rt: HostRuntime) -> Result<(), Fail> {
-    let bytes = beat_of(rt.alloc(), &[AUTH, TYPE, b""], BEAT)?;
+    let bytes = beat_of(rt.alloc(), SENDER, BEAT)?;
     let SchedRouted::Beat(_, beat) = asked(rt.alloc(), &bytes, LOCAL, "c1", "s1")? else {
         panic!(rt; "no heartbeat");
     };
@@ -490,7 +461,7 @@ fn a_heartbeat_is_taken_whole(rt: HostRuntime) -> Result<(), Fail> {
 }
 
 /// What is asked: the status, the reply 404 or the reply 400.
-const TARGETS: [(&[u8], &str); 12] = [
+const TARGETS: &[(&[u8], &str)] = &[
     (b"GET /api/v1/scheduler/status HTTP/1.1\r\n\r\n", "status"),
     (
         b"GET /api/v1/scheduler/status?a=b HTTP/1.1\r\n\r\n",
@@ -517,17 +488,22 @@ const TARGETS: [(&[u8], &str); 12] = [
     (b"GET", "400"),
 ];
 
+fn answer_to(alloc: Global, bytes: &[u8]) -> Result<&'static str, HttpError> {
+    let routed = asked(alloc, bytes, LOCAL, "c1", "s1")?;
+    Ok(match &routed {
+        SchedRouted::Beat(_, _) => "heartbeat",
+        SchedRouted::Status => "status",
+        SchedRouted::Done(Response::NotFound) => "404",
+        SchedRouted::Done(Response::BadRequest(_)) => "400",
+        SchedRouted::Done(_) => "another reply",
+    })
+}
+
 #[test]
 fn other_targets_are_answered_at_once(rt: HostRuntime) -> Result<(), Fail> {
     for (bytes, want) in TARGETS {
-        let got = match asked(rt.alloc(), bytes, LOCAL, "c1", "s1")? {
-            SchedRouted::Beat(_, _) => "heartbeat",
-            SchedRouted::Status => "status",
-            SchedRouted::Done(Response::NotFound) => "404",
-            SchedRouted::Done(Response::BadRequest(_)) => "400",
-            SchedRouted::Done(_) => "another reply",
-        };
-        assert_eq!(rt; got, want);
+        let got = answer_to(rt.alloc(), bytes)?;
+        assert_eq!(rt; got, *want);
     }
     Ok(())
 }
