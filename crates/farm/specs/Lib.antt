@@ -1,0 +1,9 @@
+pub mod Fields
+pub mod FirstFaulty
+pub mod Grammar
+pub mod Lines
+pub mod Pieces
+pub mod Reading
+pub mod Script
+pub mod Texts
+pub mod Words
