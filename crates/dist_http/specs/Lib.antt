@@ -1,0 +1,7 @@
+pub mod Fields
+pub mod Head
+pub mod Reply
+pub mod ReadBack
+pub mod Message
+pub mod Route
+pub mod Asked
