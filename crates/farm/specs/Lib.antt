@@ -1,7 +1,9 @@
 pub mod Fields
+pub mod Farm
 pub mod FirstFaulty
 pub mod Grammar
 pub mod Lines
+pub mod Next
 pub mod Pieces
 pub mod Reading
 pub mod Script

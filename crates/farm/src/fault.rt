@@ -3,6 +3,8 @@ ghost use Rattle.std.specs.Prelude.{◌≡◌};
 ghost use Rattle.farm.specs.declared.fault.LineFault.TheVariants as line_faults;
 ghost use Rattle.farm.specs.declared.fault.FarmFault.TheVariants as farm_faults;
 
+use dist_http::error::HttpError;
+use sched_core::error::SchedError;
 use std::alloc::{AllocError, AllocFailed};
 
 /// Why a command did not do its work.
@@ -58,5 +60,23 @@ impl<T: Drop> From<AllocFailed<T>> for LineFault {
 
     fn from(_: AllocFailed<T>) -> Self {
         LineFault::Memory
+    }
+}
+
+/// Of what the scheduler refuses, a run meets want of memory alone.
+impl From<SchedError> for FarmFault {
+    ghost from_gives = { λ _ e. e ≡ farm_faults.Memory };
+
+    fn from(_: SchedError) -> Self {
+        FarmFault::Memory
+    }
+}
+
+/// Of what the routes refuse, a run meets want of memory alone.
+impl From<HttpError> for FarmFault {
+    ghost from_gives = { λ _ e. e ≡ farm_faults.Memory };
+
+    fn from(_: HttpError) -> Self {
+        FarmFault::Memory
     }
 }

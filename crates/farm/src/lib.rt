@@ -1,12 +1,15 @@
 //! Scripts, the farms that they set up, and the command that runs and prints them.
 #![tactic(auto)]
 
+pub mod entry;
 pub mod event;
 pub mod fault;
 mod fields;
+mod holder;
 pub mod laws;
 pub mod lines;
 pub mod pieces;
+pub mod run;
 pub mod script;
 pub mod setup;
 mod words;
