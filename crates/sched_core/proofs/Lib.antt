@@ -1,0 +1,3 @@
+pub mod LegalLemmas
+pub mod QuietLemmas
+pub mod StandingLemmas
