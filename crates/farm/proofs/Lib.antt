@@ -4,6 +4,7 @@ pub mod FirstFaultyLemmas
 pub mod LimitLemmas
 pub mod LineLemmas
 pub mod PieceLemmas
+pub mod RunLemmas
 pub mod ScriptLemmas
 pub mod VisibleLemmas
 pub mod WordLemmas

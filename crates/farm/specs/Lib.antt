@@ -5,6 +5,7 @@ pub mod Grammar
 pub mod Lines
 pub mod Next
 pub mod Pieces
+pub mod Printed
 pub mod Reading
 pub mod Script
 pub mod Texts
