@@ -1,6 +1,7 @@
 pub mod DigitLemmas
 pub mod FieldLemmas
 pub mod FirstFaultyLemmas
+pub mod HexDigitLemmas
 pub mod LimitLemmas
 pub mod LineLemmas
 pub mod PieceLemmas

@@ -1,7 +1,8 @@
 -- The printed run: the text of a farm and its log.
-use Rattle.std.specs.Prelude.{ℕ, ◌+◌, ◌/◌, ◌%◌, List, [], ◌∷◌, ◌++◌, length, slice_index, Option, Some, None, Bool, true, false, codes}
+use Rattle.std.specs.Prelude.{ℕ, ◌+◌, List, [], ◌∷◌, ◌++◌, length, Option, Some, None, Bool, true, false, codes}
 use Rattle.std.specs.List.{flat_map}
 use Rattle.std.specs.Fmt.{decimal}
+use Rattle.hex.specs.Hex.{encode_lower}
 use Rattle.dist_types.specs.Addr.{addr_text}
 use Rattle.dist_types.specs.Ids.{state_text}
 use Rattle.dist_types.specs.declared.ids.JobId.{JobId}
@@ -43,14 +44,10 @@ abbrev pub number_text : Option ℕ → List ℕ
 number_text None = codes "-"
 number_text (Some n) = decimal n
 
--- a byte as two hex digits in lower case
-abbrev pub byte_text : ℕ → List ℕ
-byte_text b = slice_index (codes "0123456789abcdef") (b / 16) ∷ slice_index (codes "0123456789abcdef") (b % 16) ∷ []
-
--- bytes in hex, or a dash for none
+-- bytes in hex of lower case, or a dash for none
 abbrev pub hex_text : List ℕ → List ℕ
 hex_text [] = codes "-"
-hex_text (b ∷ bs) = flat_map byte_text (b ∷ bs)
+hex_text (b ∷ bs) = encode_lower (b ∷ bs)
 
 -- ---- the line of an event, as scripts have it
 

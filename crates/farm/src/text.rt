@@ -1,6 +1,7 @@
 //! The texts of a printed run, piece by piece.
-ghost use Rattle.std.specs.Prelude.{◌≡◌, Some};
-ghost use Rattle.farm.specs.Printed.{numbers_text, jobs_text, number_text, byte_text, hex_text, kind_text, age_text, kept_text, ended_text, reserved_text, advance_text, core_text, core_line, call_line, reply_line, word_line, row_text};
+ghost use Rattle.std.specs.Prelude.{◌≡◌, ◌<◌, ◌∷◌, [], Some, slice_index, encode_utf8};
+ghost use Rattle.hex.specs.Hex.{lower_digits, encode_lower};
+ghost use Rattle.farm.specs.Printed.{numbers_text, jobs_text, number_text, hex_text, kind_text, age_text, kept_text, ended_text, reserved_text, advance_text, core_text, core_line, call_line, reply_line, word_line, row_text};
 
 use crate::entry::{EntryWord, OutCall, Reply};
 use crate::event::EventKind;
@@ -66,21 +67,29 @@ impl fmt::Display for Maybe {
     }
 }
 
+/// The digits of hex.
+const DIGITS: &[u8; 16] = b"0123456789abcdef";
+
+/// The digit of a number.
+#[tactic(auto, using(crate::proofs::HexDigitLemmas::encode_digit))]
+fn digit(n: u8) -> char
+    requires { n < 16 }
+    ensures { encode_utf8 result ≡ slice_index lower_digits n ∷ [] }
+{
+    char::from(DIGITS[n as usize])
+}
+
 /// A byte as two hex digits in lower case.
 #[derive(Drop)]
 struct Byte(u8);
 
-/// The digits of hex.
-const DIGITS: [char; 16] = [
-    '0', '1', '2', '3', '4', '5', '6', '7', '8', '9', 'a', 'b', 'c', 'd', 'e', 'f',
-];
-
+#[tactic(auto, unfolding(hex::specs::Hex::encode_with))]
 impl fmt::Display for Byte {
-    ghost output = { λ x. Some (byte_text x.0) };
+    ghost output = { λ x. Some (encode_lower (x.0 ∷ [])) };
 
     fn fmt<W: fmt::Write>(&self, f: &mut fmt::Formatter<W>) -> fmt::Result {
-        let high = DIGITS[(self.0 / 16) as usize];
-        let low = DIGITS[(self.0 % 16) as usize];
+        let high = digit(self.0 / 16);
+        let low = digit(self.0 % 16);
         write!(f, "{high}{low}")
     }
 }
