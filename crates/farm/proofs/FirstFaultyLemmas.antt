@@ -123,15 +123,15 @@ none_faulty r front p number room x n-is room-is e =
     ]
 
 -- what a line that is read has
-record IsRead (r s : Read) (p : List ℕ) (number room : ℕ) : Type 0 where
-  number_fits : number ≤ 1000000
-  room_fits : length p ≤ room
-  text_fits : length (text_of p) ≤ 2097152
-  line : Line
-  says : IsLine (text_of p) line
-  next : onto r line ≡ Some s
+pub record IsRead (r s : Read) (p : List ℕ) (number room : ℕ) : Type 0 where
+  pub number_fits : number ≤ 1000000
+  pub room_fits : length p ≤ room
+  pub text_fits : length (text_of p) ≤ 2097152
+  pub line : Line
+  pub says : IsLine (text_of p) line
+  pub next : onto r line ≡ Some s
 
-read_is : (r s : Read) (p : List ℕ) (number room : ℕ) → take_line number room r p ≡ Some s → IsRead r s p number room
+pub read_is : (r s : Read) (p : List ℕ) (number room : ℕ) → take_line number room r p ≡ Some s → IsRead r s p number room
 read_is r s p number room e =
     let a = nat_le number 1000000 in
     let b = nat_le (length p) room in

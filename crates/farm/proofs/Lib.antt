@@ -1,9 +1,11 @@
+pub mod BuiltLemmas
 pub mod DigitLemmas
 pub mod FieldLemmas
 pub mod FirstFaultyLemmas
 pub mod HexDigitLemmas
 pub mod LimitLemmas
 pub mod LineLemmas
+pub mod OneLemmas
 pub mod PieceLemmas
 pub mod RunLemmas
 pub mod ScriptLemmas

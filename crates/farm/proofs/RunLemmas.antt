@@ -14,6 +14,10 @@ use Rattle.farm.specs.declared.event.EventKind.TheVariants.{Request}
 use Rattle.farm.specs.declared.entry.Entry.{Entry}
 use Rattle.farm.specs.declared.fault.FarmFault.{FarmFault}
 use Rattle.farm.specs.Next.{core_log, core_of, token_of, answer, IsMade, IsNext, EachNext}
+use Rattle.farm.specs.declared.setup.Setup.{Setup}
+use Rattle.farm.specs.Script.{script}
+use Rattle.farm.specs.Printed.{run_text}
+use Rattle.farm.specs.Command.{IsRunText}
 use Rattle.farm.specs.Farm.{Farmed, with_entries, with_core, Runs}
 
 -- what was asked of the scheduler was answered
@@ -62,3 +66,20 @@ pub Runs-entries : (old : Farmed) (events : List Event) (mid : Farmed) (entries 
     → Runs old events mid → entries ≡ mid.entries → Runs old events (record { scheduler = old.scheduler; entries = entries })
 Runs-entries old events mid entries run same =
     (run.0, run.1, ap (λ (es : List Entry). record { scheduler = old.scheduler; entries = es }) (same ∙ ap (λ (m : Farmed). m.entries) run.2))
+
+-- the text of a farm that ran a script's events is that of the script's run
+pub run_text_is : {X : Type 0} (view : X → List ℕ) (r : Result X FarmFault) (bytes : List ℕ) (setup : Setup) (events run_events : List Event) (start farm : Farmed)
+    → script bytes ≡ Ok (setup, events) → start ≡ record { scheduler = setup.scheduler; entries = [] } → run_events ≡ events → Runs start run_events farm
+    → IfOk r (λ t. view t ≡ run_text farm.scheduler farm.entries) → IfOk r (λ t. IsRunText bytes (view t))
+run_text_is view (Err f) bytes setup events run_events start farm read start-is events-is run h = tt
+run_text_is view (Ok t) bytes setup events run_events start farm read start-is events-is run h =
+    let begun : Farmed = record { scheduler = setup.scheduler; entries = [] } in
+    let whole : Runs begun events farm = subst (λ (es : List Event). Runs begun es farm) events-is (subst (λ (s : Farmed). Runs s run_events farm) start-is run) in
+    record {
+      setup = setup;
+      events = events;
+      entries = whole.0;
+      read = read;
+      each = whole.1;
+      is = h ∙ ap (λ (f : Farmed). run_text f.scheduler f.entries) whole.2;
+    }

@@ -1,3 +1,4 @@
+pub mod Command
 pub mod Fields
 pub mod Farm
 pub mod FirstFaulty

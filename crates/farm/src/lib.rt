@@ -1,6 +1,7 @@
 //! Scripts, the farms that they set up, and the command that runs and prints them.
 #![tactic(auto)]
 
+pub mod command;
 pub mod entry;
 pub mod event;
 pub mod fault;

@@ -1,5 +1,6 @@
 //! Scripts, read line by line.
-ghost use Rattle.std.specs.Prelude.{◌≡◌, ◌≤◌, length, OnOk, IsTrue};
+ghost use Rattle.std.specs.Prelude.{◌≡◌, ◌≤◌, length, IfOk, OnOk, IsTrue};
+ghost use Rattle.farm.specs.Farm.{IsBuilt};
 ghost use Rattle.farm.specs.Reading.{Gives};
 ghost use Rattle.farm.specs.Script.{onto, fits, take_line, read_of, finished, script, GivesScript};
 
@@ -11,13 +12,13 @@ use crate::setup::Setup;
 use std::alloc::Global;
 
 /// The most lines of a script.
-const MAX_LINES: u64 = 1_000_000;
+pub const MAX_LINES: u64 = 1_000_000;
 
 /// The most bytes of a line, without its end.
-const MAX_LINE_BYTES: usize = 2_097_152;
+pub const MAX_LINE_BYTES: usize = 2_097_152;
 
 /// The most bytes of a script.
-const MAX_SCRIPT_BYTES: usize = 67_108_864;
+pub const MAX_SCRIPT_BYTES: usize = 67_108_864;
 
 /// What was read so far.
 #[derive(Debug, Drop)]
@@ -89,6 +90,7 @@ fn finish(number: u64, reading: Reading) -> Result<(Setup, Vec<Event>), FarmFaul
 /// from 1. Memory comes for want of memory alone.
 pub fn read_script(alloc: Global, bytes: &[u8]) -> Result<(Setup, Vec<Event>), FarmFault>
     ensures exact { GivesScript (λ x. (x.0, x.1.items)) result (script bytes.now) }
+    ensures built { IfOk result (λ x. IsBuilt x.0) }
 {
     let mut reading = Reading {
         setup: None,
