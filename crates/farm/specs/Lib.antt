@@ -1,0 +1,13 @@
+pub mod Command
+pub mod Fields
+pub mod Farm
+pub mod FirstFaulty
+pub mod Grammar
+pub mod Lines
+pub mod Next
+pub mod Pieces
+pub mod Printed
+pub mod Reading
+pub mod Script
+pub mod Texts
+pub mod Words
