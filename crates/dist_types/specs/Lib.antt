@@ -1,4 +1,5 @@
 pub mod Addr
+pub mod Answers
 pub mod Cause
 pub mod Content
 pub mod Cuts

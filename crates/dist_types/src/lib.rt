@@ -14,4 +14,5 @@ pub mod roles;
 pub mod sink;
 pub mod source;
 pub mod text;
+pub mod token_error;
 pub mod type_error;

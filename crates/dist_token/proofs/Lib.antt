@@ -1,0 +1,10 @@
+pub mod Bits
+pub mod DotCuts
+pub mod Json
+pub mod Members
+pub mod Dotless
+pub mod Bytes
+pub mod Claims
+pub mod MadeTokens
+pub mod Inversions
+pub mod Exact
