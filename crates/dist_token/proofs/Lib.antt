@@ -8,3 +8,4 @@ pub mod Claims
 pub mod MadeTokens
 pub mod Inversions
 pub mod Exact
+pub mod ServerTokens

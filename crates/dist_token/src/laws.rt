@@ -3,8 +3,10 @@
 ghost use Rattle.std.specs.Prelude.{◌≡◌, ◌<◌, ◌^◌, ◌↔◌, ℕ, List, Ok, Some, true};
 ghost use Rattle.base64.specs.GeneralPurpose.{IsBytes};
 ghost use Rattle.dist_token.specs.Accepted.{IsTokenFor};
-ghost use Rattle.dist_token.specs.Token.{token_text, job_claims_text};
-ghost use Rattle.dist_token.specs.Verdict.{job_verdict};
+ghost use Rattle.dist_token.specs.Token.{token_text, job_claims_text, server_claims_text, plain_text};
+ghost use Rattle.dist_token.specs.Verdict.{job_verdict, server_verdict, plain_server};
+ghost use Rattle.dist_types.specs.Addr.{addr_text, IsAddr};
+ghost use Rattle.dist_types.specs.declared.addr.Addr.{Addr};
 
 /// The token for a job is accepted for it under the same key.
 pub fn tokens_are_accepted()
@@ -19,4 +21,14 @@ pub fn accepted_exactly()
 /// No text is a token for two jobs.
 pub fn one_job_each()
     ensures { (key : List ℕ) (first second : ℕ) (token : List ℕ) → job_verdict key first token ≡ Ok tt → job_verdict key second token ≡ Ok tt → first ≡ second }
+{}
+
+/// The signed token for a server is accepted for it under the same key.
+pub fn server_tokens_are_accepted()
+    ensures { (key : List ℕ) (server : Addr) → IsAddr server → server_verdict key (token_text key (server_claims_text (addr_text server))) ≡ Ok server }
+{}
+
+/// The plain token for a server is accepted for it where the shared token is the same.
+pub fn plain_tokens_are_accepted()
+    ensures { (server : Addr) (shared : List ℕ) → IsAddr server → plain_server shared (plain_text (addr_text server) shared) ≡ Some server }
 {}

@@ -1,8 +1,8 @@
 //! The tokens of build servers, plain ones and signed ones.
-ghost use Rattle.std.specs.Prelude.{◌≡◌, IfOk, string_bytes};
+ghost use Rattle.std.specs.Prelude.{◌≡◌, IfOk, Ok, OnOk, Some, string_bytes};
 ghost use Rattle.std.specs.Result.{result_ok};
 ghost use Rattle.serde_json.specs.View.{view};
-ghost use Rattle.dist_types.specs.Addr.{addr_text};
+ghost use Rattle.dist_types.specs.Addr.{addr_text, IsAddr};
 ghost use Rattle.dist_types.specs.Answers.{Gives};
 ghost use Rattle.dist_token.specs.Token.{token_text, server_claims_text, plain_text};
 ghost use Rattle.dist_token.specs.Verdict.{address_in, server_test, server_verdict, extracted, plain_server};
@@ -98,26 +98,45 @@ fn server_claims(alloc: Global, server_id: ServerId) -> Result<String, Memory>
     Ok(format!(in alloc; "{{\"exp\":0,\"server_id\":\"{address}\"}}")?)
 }
 
-/// The HS256 token for a server, under a key.
+/// The signed token for a server, under a key, which is accepted for it. `Memory` alone is refused.
 pub fn create_jwt_server_token(
     alloc: Global,
     server_id: ServerId,
     key: &[u8],
 ) -> Result<String, Memory>
-    ensures { IfOk result (λ token. string_bytes token ≡ token_text key.now (server_claims_text (addr_text server_id))) }
+    ensures text { IfOk result (λ token. string_bytes token ≡ token_text key.now (server_claims_text (addr_text server_id))) }
+    ensures accepted { OnOk result (server_verdict key.now (token_text key.now (server_claims_text (addr_text server_id))) ≡ Ok server_id) }
 {
+    fits(server_id.addr());
     let claims = server_claims(alloc, server_id)?;
     token_under(alloc, key, claims.as_bytes())
 }
 
-/// The plain token for a server: its address and the shared token.
+/// The plain token for a server: its address, a space and the shared token. It is accepted for that
+/// server. `Memory` alone is refused.
 pub fn create_server_token(
     alloc: Global,
     server_id: ServerId,
     auth_token: &str,
 ) -> Result<String, Memory>
-    ensures { IfOk result (λ token. string_bytes token ≡ plain_text (addr_text server_id) auth_token.now) }
+    ensures text { IfOk result (λ token. string_bytes token ≡ plain_text (addr_text server_id) auth_token.now) }
+    ensures accepted { OnOk result (plain_server auth_token.now (plain_text (addr_text server_id) auth_token.now) ≡ Some server_id) }
 {
+    fits(server_id.addr());
     let address = server_id.addr();
     Ok(format!(in alloc; "{address} {auth_token}")?)
+}
+
+// Each number of an address fits its type. It does nothing when it runs.
+fn fits(address: Addr)
+    ensures { IsAddr address }
+{
+    match address {
+        Addr::V4(octets, _) => {
+            let [_a, _b, _c, _d] = octets;
+        }
+        Addr::V6(groups, _) => {
+            let _groups = groups;
+        }
+    }
 }
