@@ -10,12 +10,20 @@ pub mod checks;
 pub mod job_token;
 pub mod laws;
 pub mod mac;
+pub mod proxy;
 pub mod server_token;
 
+mod kept;
 mod parts;
 mod rounds;
 mod token;
 mod verdict;
 
+#[cfg(test)]
+mod proxy_tests;
 
+#[cfg(test)]
+mod tests;
 
+#[cfg(test)]
+mod vectors;

@@ -7,6 +7,7 @@
 #![tactic(auto)]
 
 pub mod addr;
+pub mod dialer;
 pub mod fault;
 pub mod ids;
 pub mod results;
