@@ -1,5 +1,5 @@
--- A token is accepted exactly where it says an object of no expiry and the job.
-use Rattle.std.proofs.Common.{◌≡◌, ℕ, suc, ◌==◌, ◌&&◌, List, [], ◌∷◌, ◌++◌, true, Option, Some, None, Ok, Err, ok_or, refl, ap, ap₂, sym, ◌∙◌, subst, eq-eqb, append_assoc}
+-- A token is accepted exactly where it says an object of no expiry and the job, or of the server.
+use Rattle.std.proofs.Common.{◌≡◌, ℕ, suc, ◌==◌, ◌&&◌, List, [], ◌∷◌, ◌++◌, true, Option, Some, None, Ok, Err, ok_or, refl, ap, ap₂, sym, ◌∙◌, subst, eq-eqb, append_assoc, option_map}
 use Rattle.std.specs.Prelude.{⊤, Result}
 use Rattle.std.specs.List.{join_with_byte}
 use Rattle.std.specs.Result.{result_ok}
@@ -17,8 +17,9 @@ use Rattle.dist_types.specs.declared.token_error.Part.TheVariants.{Shape, Mac, H
 use Rattle.dist_token.specs.Mac.{hmac_of}
 use Rattle.dist_token.specs.Dots.{dot_parts}
 use Rattle.dist_token.specs.Token.{encoded, signed_text}
-use Rattle.dist_token.specs.Verdict.{Parts, three, parts_of, bytes_of, value_of, json_of, is_header, is_hs256, and_then, mac_test, header_test, said, shape_test, tested, job_claims, match_test, job_verdict}
-use Rattle.dist_token.specs.Accepted.{Says, IsTokenFor}
+use Rattle.dist_token.specs.Verdict.{Parts, three, parts_of, bytes_of, value_of, json_of, is_header, is_hs256, and_then, mac_test, header_test, said, shape_test, tested, job_claims, match_test, job_verdict, server_claims, server_test, server_verdict}
+use Rattle.dist_types.specs.declared.addr.Addr.{Addr}
+use Rattle.dist_token.specs.Accepted.{Says, IsTokenFor, IsServerTokenFor}
 use Rattle.dist_token.proofs.Inversions.{and_then-ok, ok_or-ok, option_and_then-some, passes_if, tested-ok, three-some}
 use Rattle.dist_token.proofs.Dotless.{parts_of_last, parts_of_more}
 use Rattle.dist_token.proofs.Bytes.{bytes_of-encoded, hmac_bytes}
@@ -146,3 +147,18 @@ one_job key first second token h k =
     let a = job_of key first token h in
     let b = job_of key second token k in
     second_of a.0 b.0 first second job_claims (ok_same (tested key token) a.0 b.0 a.1 b.1) a.2 b.2
+
+-- ---- the token for a server
+
+expiry_of : (o : Option (ℕ × Addr)) (server : Addr) → option_map (λ claims. claims.1) o ≡ Some server → (expiry : ℕ) × (o ≡ Some (expiry, server))
+expiry_of None server h = absurd (cc)
+expiry_of (Some c) server h = let same : c.1 ≡ server = cc in (c.0, ap (λ s. Some (c.0, s)) same)
+
+pub verdict-to_server : (key : List ℕ) (server : Addr) (token : List ℕ) → IsBytes token → server_verdict key token ≡ Ok server → IsServerTokenFor key server token
+verdict-to_server key server token bytes h =
+    let a = and_then-ok (tested key token) server_test server h in
+    let c = expiry_of (server_claims a.0) server (ok_or-ok (option_map (λ claims. claims.1) (server_claims a.0)) (BadToken Claims) server a.2) in
+    record { value = a.0; is_signed = tested-to_says key token a.0 bytes a.1; expiry = c.0; claims = c.1 }
+
+pub server-to_verdict : (key : List ℕ) (server : Addr) (token : List ℕ) → IsBytes token → IsServerTokenFor key server token → server_verdict key token ≡ Ok server
+server-to_verdict key server token bytes t = rw (says-to_tested key token t.value bytes t.is_signed) (rw t.claims refl)

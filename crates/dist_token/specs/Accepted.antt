@@ -3,7 +3,8 @@ use Rattle.std.specs.Prelude.{◌≡◌, ℕ, List, ◌∷◌, ◌++◌, true, S
 use Rattle.serde_json.specs.Data.{Data}
 use Rattle.dist_token.specs.Mac.{hmac_of}
 use Rattle.dist_token.specs.Token.{encoded, signed_text}
-use Rattle.dist_token.specs.Verdict.{value_of, is_hs256, job_claims}
+use Rattle.dist_types.specs.declared.addr.Addr.{Addr}
+use Rattle.dist_token.specs.Verdict.{value_of, is_hs256, job_claims, server_claims}
 
 -- the token is a header that says HS256, claims that say the value, and the MAC of the two under
 -- the key, joined by dots
@@ -21,3 +22,10 @@ pub record IsTokenFor (key : List ℕ) (id : ℕ) (token : List ℕ) : Type 0 wh
   pub value : Data
   pub is_signed : Says key token value
   pub claims : job_claims value ≡ Some (0, id)
+
+-- and the value is an object of any expiry and this server alone
+pub record IsServerTokenFor (key : List ℕ) (server : Addr) (token : List ℕ) : Type 0 where
+  pub value : Data
+  pub is_signed : Says key token value
+  pub expiry : ℕ
+  pub claims : server_claims value ≡ Some (expiry, server)

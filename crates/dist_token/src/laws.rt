@@ -1,12 +1,15 @@
 //! What holds of every token.
 
-ghost use Rattle.std.specs.Prelude.{◌≡◌, ◌<◌, ◌^◌, ◌↔◌, ℕ, List, Ok, Some, true};
+ghost use Rattle.std.specs.Prelude.{◌≡◌, ◌<◌, ◌^◌, ◌↔◌, ℕ, List, Ok, Some, codes};
 ghost use Rattle.base64.specs.GeneralPurpose.{IsBytes};
-ghost use Rattle.dist_token.specs.Accepted.{IsTokenFor};
+ghost use Rattle.dist_token.specs.Accepted.{IsTokenFor, IsServerTokenFor};
+ghost use Rattle.dist_token.specs.Forwarded.{HasStatus};
 ghost use Rattle.dist_token.specs.Token.{token_text, job_claims_text, server_claims_text, plain_text};
 ghost use Rattle.dist_token.specs.Verdict.{job_verdict, server_verdict, plain_server};
 ghost use Rattle.dist_types.specs.Addr.{addr_text, IsAddr};
 ghost use Rattle.dist_types.specs.declared.addr.Addr.{Addr};
+
+use crate::server_token::{INSECURE_DIST_CLIENT_TOKEN, INSECURE_DIST_SERVER_TOKEN};
 
 /// The token for a job is accepted for it under the same key.
 pub fn tokens_are_accepted()
@@ -31,4 +34,20 @@ pub fn server_tokens_are_accepted()
 /// The plain token for a server is accepted for it where the shared token is the same.
 pub fn plain_tokens_are_accepted()
     ensures { (server : Addr) (shared : List ℕ) → IsAddr server → plain_server shared (plain_text (addr_text server) shared) ≡ Some server }
+{}
+
+/// A text is accepted for a server exactly where it is a signed token for it: bytes, as every text is.
+pub fn servers_accepted_exactly()
+    ensures { (key : List ℕ) (server : Addr) (token : List ℕ) → IsBytes token → (server_verdict key token ≡ Ok server) ↔ IsServerTokenFor key server token }
+{}
+
+/// A reply has one status.
+pub fn one_status()
+    ensures { (reply : List ℕ) (first second : ℕ) → HasStatus reply first → HasStatus reply second → first ≡ second }
+{}
+
+/// The texts that stand where no token is configured.
+pub fn insecure_tokens()
+    ensures server { INSECURE_DIST_SERVER_TOKEN.now ≡ codes "dangerously_insecure_server" }
+    ensures client { INSECURE_DIST_CLIENT_TOKEN.now ≡ codes "dangerously_insecure_client" }
 {}
