@@ -1,3 +1,4 @@
+pub mod Answering
 pub mod Bits
 pub mod DotCuts
 pub mod Json

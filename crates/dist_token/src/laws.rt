@@ -1,9 +1,12 @@
 //! What holds of every token.
 
-ghost use Rattle.std.specs.Prelude.{◌≡◌, ◌<◌, ◌^◌, ◌↔◌, ℕ, List, Ok, Some, codes};
+ghost use Rattle.std.specs.Prelude.{◌≡◌, ◌<◌, ◌^◌, ◌↔◌, ℕ, List, Ok, Err, Result, Some, ⊤, codes};
 ghost use Rattle.base64.specs.GeneralPurpose.{IsBytes};
 ghost use Rattle.dist_token.specs.Accepted.{IsTokenFor, IsServerTokenFor};
-ghost use Rattle.dist_token.specs.Forwarded.{HasStatus};
+ghost use Rattle.dist_types.specs.declared.dialer.Asked.{Asked};
+ghost use Rattle.dist_types.specs.declared.token_error.TokenError.{TokenError as Refusal};
+ghost use Rattle.dist_types.specs.declared.token_error.TokenError.TheVariants.{Memory as OutOfMemory};
+ghost use Rattle.dist_token.specs.Forwarded.{Forwarding, HasStatus, MayAnswer};
 ghost use Rattle.dist_token.specs.Token.{token_text, job_claims_text, server_claims_text, plain_text};
 ghost use Rattle.dist_token.specs.Verdict.{job_verdict, server_verdict, plain_server};
 ghost use Rattle.dist_types.specs.Addr.{addr_text, IsAddr};
@@ -44,6 +47,14 @@ pub fn servers_accepted_exactly()
 /// A reply has one status.
 pub fn one_status()
     ensures { (reply : List ℕ) (first second : ℕ) → HasStatus reply first → HasStatus reply second → first ≡ second }
+{}
+
+/// Where the dialer tells its record, a forwarded token gets one answer, unless memory runs out: the new
+/// row says it, or the moment that is kept of the token.
+pub fn one_answer()
+    ensures { (old new : Forwarding) (now : ℕ) (token : List ℕ) (first second : Result ⊤ Refusal) (rows : List Asked)
+        → old.asked ≡ Some rows → MayAnswer old now token first new → MayAnswer old now token second new
+        → ¬ (first ≡ Err OutOfMemory) → ¬ (second ≡ Err OutOfMemory) → first ≡ second }
 {}
 
 /// The texts that stand where no token is configured.
