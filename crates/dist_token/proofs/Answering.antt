@@ -59,8 +59,8 @@ one_answer old new now token a b rows told x y a_told b_told =
     decided_once (is_fresh old.cache_secs now (old.moment_of token)) x.decided y.decided
     (λ p q. p.0 ∙ sym q.0)
     (λ p q.
-      let m = left_by old now token a new p a_told in
-      let n = left_by old now token b new q b_told in
-      let row = one_row rows (question old.url token m.0) (question old.url token n.0) old.asked new.asked told m.1 n.1 in
-      let same : m.0 ≡ n.0 = ap (λ (asked : Asked). asked.answer) row in
-      same_meaning n.0 a b (subst (λ r. Means r a) same m.2) n.2)
+    let m = left_by old now token a new p a_told in
+    let n = left_by old now token b new q b_told in
+    let row = one_row rows (question old.url token m.0) (question old.url token n.0) old.asked new.asked told m.1 n.1 in
+    let same : m.0 ≡ n.0 = ap (λ (asked : Asked). asked.answer) row in
+    same_meaning n.0 a b (subst (λ r. Means r a) same m.2) n.2)

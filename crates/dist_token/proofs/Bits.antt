@@ -45,7 +45,7 @@ pub one_more : (d : ℕ) (xs ys : List ℕ) (i : ℕ) → i < length xs → i < 
     → (bit_or d (bit_xor (get_or xs i 0) (get_or ys i 0)) ≡ 0) ↔ (take (i + 1) xs ≡ take (i + 1) ys)
 one_more d xs ys i in_xs in_ys so_far = (
   (λ e. let none = or_none d (bit_xor (get_or xs i 0) (get_or ys i 0)) e in
-    take_more xs i 0 in_xs ∙ ap₂ (λ front last. front ++ last ∷ []) (so_far.0 none.0) (xor_none (get_or xs i 0) (get_or ys i 0) none.1) ∙ sym (take_more ys i 0 in_ys)),
+      take_more xs i 0 in_xs ∙ ap₂ (λ front last. front ++ last ∷ []) (so_far.0 none.0) (xor_none (get_or xs i 0) (get_or ys i 0) none.1) ∙ sym (take_more ys i 0 in_ys)),
   (λ e. let same = ends (take i xs) (take i ys) (get_or xs i 0) (get_or ys i 0) (length-take-le i xs (omega (arith, in_xs)) ∙ sym (length-take-le i ys (omega (arith, in_ys)))) (sym (take_more xs i 0 in_xs) ∙ e ∙ take_more ys i 0 in_ys) in
-    ap₂ bit_or (so_far.1 same.0) (ap (λ a. bit_xor a (get_or ys i 0)) same.1 ∙ xor_same (get_or ys i 0))),
+      ap₂ bit_or (so_far.1 same.0) (ap (λ a. bit_xor a (get_or ys i 0)) same.1 ∙ xor_same (get_or ys i 0))),
 )

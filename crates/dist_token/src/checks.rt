@@ -17,6 +17,7 @@ pub trait ServerAuthCheck {
     /// The one server that a token is accepted for, or none.
     ghost server_of: { Self → List ℕ → Option Address };
 
+    /// The one server that a token is accepted for, or none. `Memory` alone is refused.
     fn check(&self, token: &str) -> Result<Option<ServerId>, Memory>
         ensures { IfOk result (λ server. server ≡ server_of self.now token.now) };
 }
@@ -38,6 +39,7 @@ impl Model for PlainServerCheck {
 impl PlainServerCheck {
     ghost use Rattle.std.specs.Prelude.{string_bytes};
 
+    /// The check of this shared token. It takes no memory.
     pub fn new(token: String) -> Self
         ensures { result ≡ string_bytes token }
     {
@@ -71,6 +73,7 @@ impl Model for JwtServerCheck {
 }
 
 impl JwtServerCheck {
+    /// The check of tokens under this key. It takes no memory.
     pub fn new(key: Vec<u8>) -> Self
         ensures { result ≡ key.items }
     {
@@ -103,12 +106,14 @@ impl Model for ClientVisibleMsg {
 impl ClientVisibleMsg {
     ghost use Rattle.std.specs.Prelude.{string_bytes};
 
+    /// A message that tells nothing secret. It takes no memory.
     pub fn from_nonsensitive(text: String) -> Self
         ensures { result ≡ string_bytes text }
     {
         ClientVisibleMsg { text }
     }
 
+    /// Its text.
     pub fn text(&self) -> &str
         ensures { result.now ≡ self.now }
     {
@@ -124,14 +129,16 @@ pub trait ClientAuthCheck: Send {
     /// The one text that is shown.
     ghost shown: { Self → Refusal → List ℕ };
 
+    /// Accepts a token at a moment, in milliseconds, or says why not.
     fn check(&mut self, now: u64, token: &str) -> Result<(), TokenError>
         ensures { may_answer self.old now token.now result self.new };
 
+    /// What a refused client may see. `Memory` alone is refused.
     fn visible(&self, e: &TokenError) -> Result<ClientVisibleMsg, Memory>
         ensures { IfOk result (λ msg. msg ≡ shown self.now e.now) };
 }
 
-/// Accepts one token.
+/// Accepts one token, and refuses any other as `FixedMismatch`.
 #[derive(Drop)]
 pub struct EqCheck {
     text: String,
@@ -148,6 +155,7 @@ impl Model for EqCheck {
 impl EqCheck {
     ghost use Rattle.std.specs.Prelude.{string_bytes};
 
+    /// The check of this token. It takes no memory.
     pub fn new(text: String) -> Self
         ensures { result ≡ string_bytes text }
     {

@@ -30,6 +30,7 @@ impl Model for JWTJobAuthorizer {
 }
 
 impl JWTJobAuthorizer {
+    /// The authorizer of a key of any length. It takes no memory.
     pub fn new(server_key: Vec<u8>) -> Self
         ensures { result ≡ server_key.items }
     {

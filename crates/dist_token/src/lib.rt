@@ -8,22 +8,18 @@
 
 pub mod checks;
 pub mod job_token;
+mod kept;
 pub mod laws;
 pub mod mac;
-pub mod proxy;
-pub mod server_token;
-
-mod kept;
 mod parts;
-mod rounds;
-mod token;
-mod verdict;
-
+pub mod proxy;
 #[cfg(test)]
 mod proxy_tests;
-
+mod rounds;
+pub mod server_token;
 #[cfg(test)]
 mod tests;
-
+mod token;
 #[cfg(test)]
 mod vectors;
+mod verdict;

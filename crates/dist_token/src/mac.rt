@@ -13,6 +13,7 @@ pub const MAC_LEN: usize = 32;
 
 /// The pads of RFC 2104, section 2: `ipad` and `opad`.
 const INNER_PAD: u8 = 0x36;
+
 const OUTER_PAD: u8 = 0x5c;
 
 // The key as one block.

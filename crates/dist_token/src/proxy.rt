@@ -54,7 +54,9 @@ fn request_for(alloc: Global, url: &Url, token: &str) -> Result<String, Memory>
     let target = target_of(alloc, url)?;
     let host = host_of(url);
     let port = port_of(url);
-    Ok(format!(in alloc; "GET {target} HTTP/1.1\r\nHost: {host}:{port}\r\nAuthorization: Bearer {token}\r\nConnection: close\r\n\r\n")?)
+    Ok(format!(in alloc;
+        "GET {target} HTTP/1.1\r\nHost: {host}:{port}\r\nAuthorization: Bearer {token}\r\nConnection: close\r\n\r\n"
+    )?)
 }
 
 // The status of the reply's head, where it begins with one.

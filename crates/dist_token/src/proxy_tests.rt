@@ -32,6 +32,7 @@ fn asking(
 }
 
 const YES: &str = "HTTP/1.1 200 OK\r\nContent-Length: 0\r\n\r\n";
+
 const NO: &str = "HTTP/1.1 403 Forbidden\r\n\r\n";
 
 // A token is asked about at 0, not at 59999, and again at 60000.
@@ -39,12 +40,22 @@ const NO: &str = "HTTP/1.1 403 Forbidden\r\n\r\n";
 fn kept_for_sixty_seconds(rt: HostRuntime) -> Result<(), Fail> {
     let alloc = rt.alloc();
     let replies = [YES, YES, NO, YES];
-    let mut check = asking(&rt, alloc, "http://proxy/auth?x=1", Some(60), &replies, Vec::new(alloc))?;
+    let mut check = asking(
+        &rt,
+        alloc,
+        "http://proxy/auth?x=1",
+        Some(60),
+        &replies,
+        Vec::new(alloc),
+    )?;
     for (now, rows) in [(0, 1), (59999, 1), (60000, 2), (59000, 2)] {
         assert_eq!(rt; check.check(now, "t"), Ok(()), "at {now}");
         assert_eq!(rt; check.dialer().asked().len(), rows, "at {now}");
     }
-    assert_eq!(rt; check.check(120000, "t"), Err(TokenError::ForwardRefused(403)));
+    assert_eq!(rt;
+        check.check(120000, "t"),
+        Err(TokenError::ForwardRefused(403))
+    );
     assert_eq!(rt; check.check(120001, "t"), Ok(()));
     assert_eq!(rt; check.dialer().asked().len(), 4);
     let row = &check.dialer().asked()[0];
@@ -78,7 +89,10 @@ fn refused_or_not_kept(rt: HostRuntime) -> Result<(), Fail> {
     fails.push(9)?;
     let mut check = asking(&rt, alloc, "http://[::1]:8080/", None, &replies, fails)?;
     for status in [403, 199, 300, 500, 0, 0, 0] {
-        assert_eq!(rt; check.check(0, "t"), Err(TokenError::ForwardRefused(status)));
+        assert_eq!(rt;
+            check.check(0, "t"),
+            Err(TokenError::ForwardRefused(status))
+        );
     }
     assert_eq!(rt; check.check(0, "t"), Ok(()));
     assert_eq!(rt; check.check(0, "t"), Ok(()));

@@ -52,7 +52,8 @@ fn server_under(alloc: Global, key: &[u8], token: &str) -> Result<ServerId, Toke
     server_test(&claims)
 }
 
-/// The server that a token is accepted for under a key, or none.
+/// The server that a signed token is accepted for under a key, or none, whatever its expiry. `Memory`
+/// alone is refused.
 pub fn check_jwt_server_token(
     alloc: Global,
     server_token: &str,
@@ -67,7 +68,8 @@ pub fn check_jwt_server_token(
     }
 }
 
-/// The server that a token names, whose MAC is not looked at.
+/// The server that a signed token names, whose MAC is not looked at: anybody can make such a token. Refused
+/// by the first test that fails: its three parts, its header, its claims.
 pub fn dangerous_insecure_extract_jwt_server_token(
     alloc: Global,
     server_token: &str,
@@ -78,7 +80,8 @@ pub fn dangerous_insecure_extract_jwt_server_token(
     server_test(&claims)
 }
 
-/// The server that a plain token names, where it carries the shared token.
+/// The server that a plain token names before its first space, where the rest is the shared token. It takes
+/// no memory.
 pub fn check_server_token(server_token: &str, auth_token: &str) -> Option<ServerId>
     ensures { result ≡ plain_server auth_token.now server_token.now }
 {

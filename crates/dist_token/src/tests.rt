@@ -1,6 +1,4 @@
-use crate::checks::{
-    ClientAuthCheck, EqCheck, JwtServerCheck, PlainServerCheck, ServerAuthCheck,
-};
+use crate::checks::{ClientAuthCheck, EqCheck, JwtServerCheck, PlainServerCheck, ServerAuthCheck};
 use crate::job_token::JWTJobAuthorizer;
 use crate::mac::hmac_sha256;
 use crate::rounds::made_and_verified;
@@ -26,12 +24,18 @@ const JWT: &str = "{\"typ\":\"JWT\",\"alg\":\"HS256\"}";
 fn digests(rt: HostRuntime) -> Result<(), Fail> {
     let alloc = rt.alloc();
     let short = hex::encode(alloc, Sha256::digest(b"abc"))?;
-    assert_eq!(rt; short.as_str(), "ba7816bf8f01cfea414140de5dae2223b00361a396177a9cb410ff61f20015ad");
+    assert_eq!(rt;
+        short.as_str(),
+        "ba7816bf8f01cfea414140de5dae2223b00361a396177a9cb410ff61f20015ad"
+    );
     let long = hex::encode(
         alloc,
         Sha256::digest(b"abcdbcdecdefdefgefghfghighijhijkijkljklmklmnlmnomnopnopq"),
     )?;
-    assert_eq!(rt; long.as_str(), "248d6a61d20638b8e5c026930c3e6039a33ce45964ff2167f6ecedd419db06c1");
+    assert_eq!(rt;
+        long.as_str(),
+        "248d6a61d20638b8e5c026930c3e6039a33ce45964ff2167f6ecedd419db06c1"
+    );
     Ok(())
 }
 
@@ -144,7 +148,10 @@ fn assert_vector(
     );
     bytes.push(1)?;
     let other = authorizer(alloc, bytes.as_slice())?;
-    assert_eq!(rt; other.verify_token(JobId(job), token), Err(TokenError::BadMac));
+    assert_eq!(rt;
+        other.verify_token(JobId(job), token),
+        Err(TokenError::BadMac)
+    );
     Ok(())
 }
 
@@ -292,8 +299,14 @@ fn assert_server(
 ) -> Result<(), Fail> {
     let made = create_jwt_server_token(alloc, server, &[1, 2, 2])?;
     assert_eq!(rt; made.as_str(), token);
-    assert_eq!(rt; dangerous_insecure_extract_jwt_server_token(alloc, token), Ok(server));
-    assert_eq!(rt; check_jwt_server_token(alloc, token, &[1, 2, 2])?, Some(server));
+    assert_eq!(rt;
+        dangerous_insecure_extract_jwt_server_token(alloc, token),
+        Ok(server)
+    );
+    assert_eq!(rt;
+        check_jwt_server_token(alloc, token, &[1, 2, 2])?,
+        Some(server)
+    );
     assert_eq!(rt; check_jwt_server_token(alloc, token, &[1, 2, 3])?, None);
     Ok(())
 }

@@ -36,4 +36,3 @@ pub fn token_under(alloc: Global, key: &[u8], claims: &[u8]) -> Result<String, M
     push_part(&mut token, &mac)?;
     Ok(token)
 }
-

@@ -103,4 +103,3 @@ pub fn are_two(claims: &Value) -> bool
         None => false,
     }
 }
-
