@@ -1,3 +1,4 @@
+pub mod AllLemmas
 pub mod LegalLemmas
 pub mod PlainLemmas
 pub mod QuietLemmas

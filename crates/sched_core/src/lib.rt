@@ -15,5 +15,6 @@ mod keys;
 mod kind;
 pub mod plain;
 pub mod rows;
+pub mod rules;
 mod standing;
 pub mod state;
