@@ -1,5 +1,9 @@
 pub mod AllLemmas
+pub mod FactLemmas
+pub mod HeldLemmas
 pub mod LegalLemmas
 pub mod PlainLemmas
 pub mod QuietLemmas
+pub mod SoundLemmas
 pub mod StandingLemmas
+pub mod StepLemmas

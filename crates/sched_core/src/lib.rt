@@ -13,6 +13,7 @@ pub mod entry;
 pub mod error;
 mod keys;
 mod kind;
+pub mod laws;
 pub mod plain;
 pub mod rows;
 pub mod rules;
