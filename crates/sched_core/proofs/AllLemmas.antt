@@ -214,3 +214,50 @@ names-filter p (x ∷ xs) r e h =
       ]
     ] in
     split (x == r) refl e
+
+-- among distinct jobs, whose own job is among those that pass passes
+pub each_own : {X : Type 0} (job : X → JobId) (q : X → Bool) (xs : List X) → AreDistinct (map job xs) → AllByRecursion (λ b. list_any (λ y. same_job (job y) (job b)) (filter q xs) ≡ true → q b ≡ true) xs
+each_own job q [] apart = tt
+each_own {X} job q (x ∷ xs) apart =
+    let others : AllByRecursion (λ y. same_job (job y) (job x) ≡ false) xs = all-unmap (λ k. same_job k (job x) ≡ false) job xs apart.0 in
+    let first : (b : Bool) → q x ≡ b → list_any (λ y. same_job (job y) (job x)) (cond b (x ∷ filter q xs) (filter q xs)) ≡ true → q x ≡ true =
+    λ b. elim b as (λ b. q x ≡ b → list_any (λ y. same_job (job y) (job x)) (cond b (x ∷ filter q xs) (filter q xs)) ≡ true → q x ≡ true) [
+      | true ↦ λ is some. is
+      | false ↦ λ is some.
+          let there : (y : X) × (same_job (job y) (job x) ≡ false) × (same_job (job y) (job x) ≡ true) = found (λ y. same_job (job y) (job x) ≡ false) (λ y. same_job (job y) (job x)) (filter q xs) (all-filter (λ y. same_job (job y) (job x) ≡ false) (λ y. same_job (job y) (job x) ≡ false) q (λ y h e. h) xs others) some in
+          absurd (true_false (same_job (job there.0) (job x)) there.2 there.1)
+    ] in
+    let later : (b : X) → same_job (job b) (job x) ≡ false → (list_any (λ y. same_job (job y) (job b)) (filter q xs) ≡ true → q b ≡ true) → list_any (λ y. same_job (job y) (job b)) (filter q (x ∷ xs)) ≡ true → q b ≡ true =
+    λ b other h some.
+    let split : (c : Bool) → list_any (λ y. same_job (job y) (job b)) (cond c (x ∷ filter q xs) (filter q xs)) ≡ true → list_any (λ y. same_job (job y) (job b)) (filter q xs) ≡ true =
+    λ c. elim c as (λ c. list_any (λ y. same_job (job y) (job b)) (cond c (x ∷ filter q xs) (filter q xs)) ≡ true → list_any (λ y. same_job (job y) (job b)) (filter q xs) ≡ true) [
+      | true ↦ λ s. sym (ap (λ t. t || list_any (λ y. same_job (job y) (job b)) (filter q xs)) (other_job-sym (job b) (job x) other)) ∙ s
+      | false ↦ λ s. s
+    ] in
+    h (split (q x) some)
+    in
+    (first (q x) refl, all-both (λ b. same_job (job b) (job x) ≡ false) (λ b. list_any (λ y. same_job (job y) (job b)) (filter q xs) ≡ true → q b ≡ true) (λ b. list_any (λ y. same_job (job y) (job b)) (filter q (x ∷ xs)) ≡ true → q b ≡ true) later xs others (each_own job q xs apart.1))
+
+-- where a test passes one of those kept, it passes one of all
+pub any-all : {X : Type 0} (t p : X → Bool) (xs : List X) → list_any t (filter p xs) ≡ true → list_any t xs ≡ true
+any-all t p [] e = e
+any-all {X} t p (x ∷ xs) e =
+    let split : (b : Bool) → list_any t (cond b (x ∷ filter p xs) (filter p xs)) ≡ true → (t x || list_any t xs) ≡ true =
+    λ b. elim b as (λ b. list_any t (cond b (x ∷ filter p xs) (filter p xs)) ≡ true → (t x || list_any t xs) ≡ true) [
+      | true ↦ λ s.
+          let at : (c : Bool) → (c || list_any t (filter p xs)) ≡ true → (c || list_any t xs) ≡ true =
+          λ c. elim c as (λ c. (c || list_any t (filter p xs)) ≡ true → (c || list_any t xs) ≡ true) [ true ↦ λ s. refl | false ↦ λ s. any-all t p xs s ] in
+          at (t x) s
+      | false ↦ λ s. or_true (t x) (list_any t xs) (any-all t p xs s)
+    ] in
+    split (p x) e
+
+pub any-weaker : {X : Type 0} (t u : X → Bool) → ((x : X) → t x ≡ true → u x ≡ true) → (xs : List X) → list_any t xs ≡ true → list_any u xs ≡ true
+any-weaker t u h [] e = absurd (false≢true e)
+any-weaker t u h (x ∷ xs) e =
+    let split : (b : Bool) → t x ≡ b → (b || list_any t xs) ≡ true → (u x || list_any u xs) ≡ true =
+    λ b. elim b as (λ b. t x ≡ b → (b || list_any t xs) ≡ true → (u x || list_any u xs) ≡ true) [
+      | true ↦ λ is some. ap (λ b. b || list_any u xs) (h x is)
+      | false ↦ λ is some. or_true (u x) (list_any u xs) (any-weaker t u h xs some)
+    ] in
+    split (t x) refl e

@@ -19,7 +19,7 @@ use Rattle.sched_core.specs.Rule.{is_among}
 use Rattle.sched_core.specs.Laws.{IsRule, IsLegal, AreDistinct, IsHeldOnce}
 use Rattle.sched_core.proofs.LegalLemmas.{core_of, legal_has}
 use Rattle.sched_core.proofs.PlainLemmas.{list_any-map}
-use Rattle.sched_core.proofs.AllLemmas.{and_left, and_right, both, or_left, or_right, neither, not_true, not_false, true_false, is_false, same_job-refl, same_job-sym, same_job-trans, same_job-eq, other_job-sym, all-weaker, all-both, all-append, all-filter, all-unmap, all-step, any-append, any-kept, any-end, none-kept, none-left, none-append, found, distinct-filter, only, names-filter}
+use Rattle.sched_core.proofs.AllLemmas.{and_left, and_right, both, or_left, or_right, neither, not_true, not_false, true_false, is_false, same_job-refl, same_job-sym, same_job-trans, same_job-eq, other_job-sym, all-weaker, all-both, all-append, all-filter, all-unmap, all-step, any-append, any-weaker, any-kept, any-end, none-kept, none-left, none-append, found, distinct-filter, only, names-filter}
 use Rattle.sched_core.proofs.StepLemmas.{bare, bare_commit, held, free, kept, begun, regs, booked, committed, held_stays, free_stays, begun_stays, held-push, free-push, kept-push, begun-push, place_of-push, regs-push}
 use Rattle.sched_core.proofs.FactLemmas.{Facts, JobFacts, SpendFacts, facts, pick_there}
 use Rattle.sched_core.proofs.SoundLemmas.{HasIds, jobs, jobs-push, ids-step, fresh_job, no_ids}
@@ -46,22 +46,12 @@ pub record Sound (base count : ℕ) (log : List CoreEntry) : Type 0 where
   pub begun_past : AllByRecursion (λ c. IsPast log c.job) (begun log)
   pub begun_held : AllByRecursion (IsHeldAt log) (begun log)
 
-any-weaker : {X : Type 0} (t u : X → Bool) → ((x : X) → t x ≡ true → u x ≡ true) → (xs : List X) → list_any t xs ≡ true → list_any u xs ≡ true
-any-weaker t u h [] e = absurd (false≢true e)
-any-weaker t u h (x ∷ xs) e =
-    let split : (b : Bool) → t x ≡ b → (b || list_any t xs) ≡ true → (u x || list_any u xs) ≡ true =
-    λ b. elim b as (λ b. t x ≡ b → (b || list_any t xs) ≡ true → (u x || list_any u xs) ≡ true) [
-      | true ↦ λ is some. ap (λ b. b || list_any u xs) (h x is)
-      | false ↦ λ is some. elim (u x) as (λ b. (b || list_any u xs) ≡ true) [ true ↦ refl | false ↦ any-weaker t u h xs some ]
-    ] in
-    split (t x) refl e
-
 is_this-eq : (o : Option ℕ) (n : ℕ) → is_this o n ≡ true → o ≡ Some n
 is_this-eq None n e = absurd (false≢true e)
 is_this-eq (Some m) n e = ap (λ x. Some x) (eqb-true m n e)
 
 -- a known job stays known
-known-on : (log : List CoreEntry) (e : CoreEntry) (j : JobId) → IsKnown log j → IsKnown (log ++ e ∷ []) j
+pub known-on : (log : List CoreEntry) (e : CoreEntry) (j : JobId) → IsKnown log j → IsKnown (log ++ e ∷ []) j
 known-on log e j is = subst (λ js. list_any (λ k. same_job k j) js ≡ true) (sym (jobs-push log e)) (any-append (λ k. same_job k j) (jobs log) (option_to_list (option_map (λ b. b.job) (booked log e))) is)
 
 known_end : (js : List JobId) (o : Option Booking) → AllByRecursion (λ b. list_any (λ k. same_job k b.job) (js ++ option_to_list (option_map (λ b. b.job) o)) ≡ true) (option_to_list o)
@@ -72,7 +62,7 @@ new_known : (log : List CoreEntry) (e : CoreEntry) → AllByRecursion (λ b. IsK
 new_known log e = subst (λ js. AllByRecursion (λ b. list_any (λ k. same_job k b.job) js ≡ true) (option_to_list (booked log e))) (sym (jobs-push log e)) (known_end (jobs log) (booked log e))
 
 -- a new job is no known one
-new_other : (base count : ℕ) (log : List CoreEntry) (k : CoreKind) (number now : ℕ) → HasIds base count (jobs log) → Facts (core_of base count log) k → (x : JobId) → IsKnown log x → AllByRecursion (λ b. same_job b.job x ≡ false) (option_to_list (booked_by k number now []))
+pub new_other : (base count : ℕ) (log : List CoreEntry) (k : CoreKind) (number now : ℕ) → HasIds base count (jobs log) → Facts (core_of base count log) k → (x : JobId) → IsKnown log x → AllByRecursion (λ b. same_job b.job x ≡ false) (option_to_list (booked_by k number now []))
 new_other base count log (Reserve (Job job reg forgiven)) number now ids is x known =
     let old : (k : JobId) × (same_job k job ≡ false) × (same_job k x ≡ true) = found (λ k. same_job k job ≡ false) (λ k. same_job k x) (jobs log) (fresh_job base count log job reg ids is) known in
     (is_false (same_job job x) (λ t. true_false (same_job old.0 job) (same_job-trans old.0 x job old.2 (same_job-sym job x t)) old.1), tt)
@@ -232,8 +222,11 @@ sound-step base count log e sound rule_is =
           (all-filter (IsHeldAt next) (IsHeldAt next) (λ c. not (is_complete c.state)) (λ c h t. h) (option_to_list (committed log e)) (new_held base count log e.now e.kind is sound.held_placed)));
     }
 
+pub no_sound : (base count : ℕ) → count < 2 ^ 64 → Sound base count []
+no_sound base count fits = record { ids = no_ids base count fits; held_known = tt; free_known = tt; held_placed = tt; held_stands = tt; kept_past = tt; begun_past = tt; begun_held = tt }
+
 pub legal_sound : (base count : ℕ) (log : List CoreEntry) → count < 2 ^ 64 → IsLegal base count log → Sound base count log
-legal_sound base count log fits legal = legal_has base count (Sound base count) (record { ids = no_ids base count fits; held_known = tt; free_known = tt; held_placed = tt; held_stands = tt; kept_past = tt; begun_past = tt; begun_held = tt }) (sound-step base count) log legal
+legal_sound base count log fits legal = legal_has base count (Sound base count) (no_sound base count fits) (sound-step base count) log legal
 
 -- an open job has exactly one unended reservation, and its registration stands
 once : (base count : ℕ) (log : List CoreEntry) → Sound base count log → (c : Committed) → IsHeldAt log c → IsHeldOnce log c.job

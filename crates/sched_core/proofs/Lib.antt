@@ -2,6 +2,7 @@ pub mod AllLemmas
 pub mod FactLemmas
 pub mod HeldLemmas
 pub mod LegalLemmas
+pub mod OnceLemmas
 pub mod PlainLemmas
 pub mod QuietLemmas
 pub mod SoundLemmas

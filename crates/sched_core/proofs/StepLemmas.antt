@@ -54,7 +54,7 @@ booked log e = booked_by e.kind (length log) e.now []
 abbrev pub committed : List CoreEntry → CoreEntry → Option Committed
 committed log e = committed_by e.kind log []
 
-abbrev grown : CoreEntry → Booking → Booking
+abbrev pub grown : CoreEntry → Booking → Booking
 grown e b = record b { later = b.later ++ e ∷ [] }
 
 booked-grown : (k : CoreKind) (number now : ℕ) (later : List CoreEntry) (e : CoreEntry) → booked_by k number now (later ++ e ∷ []) ≡ option_map (grown e) (booked_by k number now later)
