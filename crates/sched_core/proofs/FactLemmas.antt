@@ -84,7 +84,7 @@ best_has : {X : Type 0} (P : X → Type 0) (beats : X → X → Bool) (first : X
 best_has P beats first [] p all = p
 best_has P beats first (x ∷ xs) p all = best_has P beats (cond (beats x first) x first) xs (elim (beats x first) as (λ b. P (cond b x first)) [ true ↦ all.0 | false ↦ p ]) all.1
 
-first_has : (P : ServerRow → Type 0) (beats : ServerRow → ServerRow → Bool) (rows : List ServerRow) (row : ServerRow) → AllByRecursion P rows → first_best beats rows ≡ Some row → P row
+pub first_has : (P : ServerRow → Type 0) (beats : ServerRow → ServerRow → Bool) (rows : List ServerRow) (row : ServerRow) → AllByRecursion P rows → first_best beats rows ≡ Some row → P row
 first_has P beats [] row all e = cc
 first_has P beats (r ∷ rows) row all e = let same : best_of beats r rows ≡ row = cc in subst P same (best_has P beats r rows all.0 all.1)
 
@@ -102,7 +102,7 @@ pick_has P rows row all e = split (first_best is_lighter (filter is_faultless (r
         first_has P is_lighter (filter is_faultless (roomy rows)) row (all-filter P P is_faultless (λ x h t. h) (roomy rows) all) (f ∙ ap (λ x. Some x) same)
 
 -- each row is among the rows
-all_there : (front rows : List ServerRow) → AllByRecursion (λ r. list_any (λ q. q.reg == r.reg) rows ≡ true) rows
+pub all_there : (front rows : List ServerRow) → AllByRecursion (λ r. list_any (λ q. q.reg == r.reg) rows ≡ true) rows
 all_there front [] = tt
 all_there front (r ∷ rows) = (ap (λ b. b || list_any (λ q. q.reg == r.reg) rows) (eq-eqb r.reg r.reg refl), all-weaker (λ x. list_any (λ q. q.reg == x.reg) rows ≡ true) (λ x. list_any (λ q. q.reg == x.reg) (r ∷ rows) ≡ true) (λ x h. or_true (r.reg == x.reg) (list_any (λ q. q.reg == x.reg) rows) h) rows (all_there front rows))
 

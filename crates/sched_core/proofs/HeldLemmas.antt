@@ -140,10 +140,14 @@ undone base count log (Status pruned servers cpus n) is x t = absurd (false≢tr
 new_past : (base count : ℕ) (log : List CoreEntry) (now : ℕ) (k : CoreKind) → Facts (core_of base count log) k → AllByRecursion (λ b. IsKnown log b.job) (free log) → AllByRecursion (λ c. IsPast (log ++ record { now = now; kind = k } ∷ []) c.job) (option_to_list (committed_by k log []))
 new_past base count log now (Commit job state true) is free_known =
     let e : CoreEntry = record { now = now; kind = Commit job state true } in
-    let there : (b : Booking) × IsKnown log b.job × (same_job b.job job ≡ true) = found (λ b. IsKnown log b.job) (λ b. same_job b.job job) (free log) free_known (spent_free (core_of base count log) job true is.0) in
-    ((known-on log e job (subst (IsKnown log) (same_job-eq there.0.job job there.2) there.1),
+    let there : (b : Booking) × IsKnown log b.job × (same_job b.job job ≡ true) = found (λ b. IsKnown log b.job) (λ b. same_job b.job job) (free log) free_known (spent_free (core_of base count log) job true is.0) in (
+      (
+        known-on log e job (subst (IsKnown log) (same_job-eq there.0.job job there.2) there.1),
         subst (λ bs. list_any (λ b. same_job b.job job) bs ≡ false) (sym (free-push log e))
-            (none-append (λ b. same_job b.job job) (filter (free_stays e) (free log)) None (none-left (λ b. same_job b.job job) (free_stays e) (λ b h. other_job-sym job b.job (not_true (same_job job b.job) h)) (free log)) tt)), tt)
+            (none-append (λ b. same_job b.job job) (filter (free_stays e) (free log)) None (none-left (λ b. same_job b.job job) (free_stays e) (λ b h. other_job-sym job b.job (not_true (same_job job b.job) h)) (free log)) tt),
+      ),
+      tt,
+    )
 new_past base count log now (Commit job state false) is free_known = tt
 new_past base count log now (Reserve r) is free_known = tt
 new_past base count log now (Undo job noted was_ended) is free_known = tt
@@ -159,8 +163,11 @@ new_held base count log now (Commit job state true) is placed =
     let u : Booking → Bool = λ b. same_job b.job job && is_this (place_of job log) b.reg in
     let here : list_any t (held log) ≡ true = list_any-map t bare (unended log) ∙ sym is.0.says_held in
     let kept_here : list_any u (filter (held_stays e) (held log)) ≡ true = any-kept (λ b. place_of b.job log ≡ Some b.reg) t u (held_stays e)
-    (λ b at h. (both (same_job b.job job) (is_this (place_of job log) b.reg) (and_right (b.number == is.0.number) (same_job b.job job) h)
-        (ap (λ o. is_this o b.reg) (ap (λ j. place_of j log) (sym (same_job-eq b.job job (and_right (b.number == is.0.number) (same_job b.job job) h))) ∙ at) ∙ eq-eqb b.reg b.reg refl), refl)) (held log) placed here in
+    (λ b at h. (
+      both (same_job b.job job) (is_this (place_of job log) b.reg) (and_right (b.number == is.0.number) (same_job b.job job) h)
+          (ap (λ o. is_this o b.reg) (ap (λ j. place_of j log) (sym (same_job-eq b.job job (and_right (b.number == is.0.number) (same_job b.job job) h))) ∙ at) ∙ eq-eqb b.reg b.reg refl),
+      refl,
+    )) (held log) placed here in
     (subst (λ bs. list_any u bs ≡ true) (sym (held-push log e)) (any-append u (filter (held_stays e) (held log)) [] kept_here), tt)
 new_held base count log now (Commit job state false) is placed = tt
 new_held base count log now (Reserve r) is placed = tt
@@ -175,16 +182,19 @@ held-on base count log e is c past here stays =
     let t : Booking → Bool = λ b. same_job b.job c.job && is_this c.reg b.reg in
     let closed : closes_by e.kind c.job c.reg ≡ false = not_true (closes_by e.kind c.job c.reg) stays in
     let kept_here : list_any t (filter (held_stays e) (held log)) ≡ true = any-kept (λ b. Unit {0}) t t (held_stays e)
-    (λ b u h. (h, not_false (frees_by e.kind b.job b.reg) (is_false (frees_by e.kind b.job b.reg) (λ f. true_false (frees_by e.kind b.job b.reg) f
-        (let job : b.job ≡ c.job = same_job-eq b.job c.job (and_left (same_job b.job c.job) (is_this c.reg b.reg) h) in
-        let place : c.reg ≡ Some b.reg = is_this-eq c.reg b.reg (and_right (same_job b.job c.job) (is_this c.reg b.reg) h) in
-        let not_undone : undoes_by e.kind c.job ≡ false = is_false (undoes_by e.kind c.job) (λ d. true_false (list_any (λ b. same_job b.job c.job) (free log)) (undone base count log e.kind is c.job d) past.1) in
-        let not_by_job : (completes_by e.kind c.job || reaps_by e.kind c.job) ≡ false = or_left (completes_by e.kind c.job || reaps_by e.kind c.job) (ends_place_by e.kind c.reg) closed in
-        let not_completed : completes_by e.kind c.job ≡ false = or_left (completes_by e.kind c.job) (reaps_by e.kind c.job) not_by_job in
-        let not_reaped : reaps_by e.kind c.job ≡ false = or_right (completes_by e.kind c.job) (reaps_by e.kind c.job) not_by_job in
-        let not_ended : ends_by e.kind b.reg ≡ false = ap (ends_place_by e.kind) (sym place) ∙ or_right (completes_by e.kind c.job || reaps_by e.kind c.job) (ends_place_by e.kind c.reg) closed in
-        ap (λ j. frees_by e.kind j b.reg) job
-        ∙ neither (ends_job_by e.kind c.job) (ends_by e.kind b.reg) (neither (undoes_by e.kind c.job || reaps_by e.kind c.job) (completes_by e.kind c.job) (neither (undoes_by e.kind c.job) (reaps_by e.kind c.job) not_undone not_reaped) not_completed) not_ended)))))
+    (λ b u h. (
+      h,
+      not_false (frees_by e.kind b.job b.reg) (is_false (frees_by e.kind b.job b.reg) (λ f. true_false (frees_by e.kind b.job b.reg) f
+          (let job : b.job ≡ c.job = same_job-eq b.job c.job (and_left (same_job b.job c.job) (is_this c.reg b.reg) h) in
+          let place : c.reg ≡ Some b.reg = is_this-eq c.reg b.reg (and_right (same_job b.job c.job) (is_this c.reg b.reg) h) in
+          let not_undone : undoes_by e.kind c.job ≡ false = is_false (undoes_by e.kind c.job) (λ d. true_false (list_any (λ b. same_job b.job c.job) (free log)) (undone base count log e.kind is c.job d) past.1) in
+          let not_by_job : (completes_by e.kind c.job || reaps_by e.kind c.job) ≡ false = or_left (completes_by e.kind c.job || reaps_by e.kind c.job) (ends_place_by e.kind c.reg) closed in
+          let not_completed : completes_by e.kind c.job ≡ false = or_left (completes_by e.kind c.job) (reaps_by e.kind c.job) not_by_job in
+          let not_reaped : reaps_by e.kind c.job ≡ false = or_right (completes_by e.kind c.job) (reaps_by e.kind c.job) not_by_job in
+          let not_ended : ends_by e.kind b.reg ≡ false = ap (ends_place_by e.kind) (sym place) ∙ or_right (completes_by e.kind c.job || reaps_by e.kind c.job) (ends_place_by e.kind c.reg) closed in
+          ap (λ j. frees_by e.kind j b.reg) job
+          ∙ neither (ends_job_by e.kind c.job) (ends_by e.kind b.reg) (neither (undoes_by e.kind c.job || reaps_by e.kind c.job) (completes_by e.kind c.job) (neither (undoes_by e.kind c.job) (reaps_by e.kind c.job) not_undone not_reaped) not_completed) not_ended))),
+    ))
     (held log) (all_known (held log)) here in
     subst (λ bs. list_any t bs ≡ true) (sym (held-push log e)) (any-append t (filter (held_stays e) (held log)) (option_to_list (booked log e)) kept_here)
   where

@@ -5,6 +5,7 @@ pub mod LegalLemmas
 pub mod OnceLemmas
 pub mod PlainLemmas
 pub mod QuietLemmas
+pub mod RoomLemmas
 pub mod SoundLemmas
 pub mod StandingLemmas
 pub mod StepLemmas

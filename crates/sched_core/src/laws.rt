@@ -5,7 +5,9 @@ ghost use Rattle.std.specs.List.{AllByRecursion};
 ghost use Rattle.sched_core.specs.declared.entry.CoreEntry.{CoreEntry};
 ghost use Rattle.sched_core.specs.Reservation.{bookings};
 ghost use Rattle.sched_core.specs.Job.{commits, open_jobs};
-ghost use Rattle.sched_core.specs.Laws.{IsLegal, AreDistinct, IsHeldOnce, IsSpentOnce, IsEndedOnce, HasOrder};
+ghost use Rattle.sched_core.specs.Laws.{IsLegal, AreDistinct, IsHeldOnce, IsSpentOnce, IsEndedOnce, HasOrder, IsBounded, IsFairEntry};
+ghost use Rattle.sched_core.specs.Standing.{standing};
+ghost use Rattle.dist_types.specs.Cuts.{cuts};
 
 /// The ids of different reservations differ, until the ids are spent.
 pub fn ids_differ()
@@ -38,4 +40,15 @@ pub fn jobs_are_committed_once()
 /// commit.
 pub fn states_are_in_order()
     ensures { (base count : ℕ) (log : List CoreEntry) → count < 2 ^ 64 → IsLegal base count log → AllByRecursion HasOrder (commits log) }
+{}
+
+/// The load of a registration that stands is at most c + 1 + c/8, c being its processors.
+pub fn loads_are_bounded()
+    ensures { (base count : ℕ) (log : List CoreEntry) → count < 2 ^ 64 → IsLegal base count log → AllByRecursion (IsBounded log) (standing log) }
+{}
+
+/// A job is reserved at a registration that stands and has room; and against each with room and no
+/// remembered error it has none itself and no greater load for each processor.
+pub fn reserves_are_fair()
+    ensures { (base count : ℕ) (log : List CoreEntry) → count < 2 ^ 64 → IsLegal base count log → AllByRecursion (λ c. IsFairEntry c.before c.at.kind) (cuts log) }
 {}
