@@ -141,3 +141,7 @@ booked_from front (x ∷ xs) = sum_by-cons (λ e. cond (is_booked e.kind) 1 0) x
 
 pub bookings-count : (log : List CoreEntry) → count_by (λ e. is_booked e.kind) log ≡ length (bookings log)
 bookings-count log = booked_from [] log
+
+pub list_any-map : {X Y : Type 0} (p : Y → Bool) (f : X → Y) (xs : List X) → list_any p (map f xs) ≡ list_any (λ x. p (f x)) xs
+list_any-map p f [] = refl
+list_any-map p f (x ∷ xs) = ap (λ b. p (f x) || b) (list_any-map p f xs)

@@ -1,10 +1,22 @@
--- Logs whose entries are each the core rule's over those before them.
-use Rattle.std.specs.Prelude.{◌≡◌, ℕ, List, []}
-use Rattle.std.specs.List.{AllByRecursion}
-use Rattle.dist_types.specs.Cuts.{cuts_behind}
+-- Logs whose entries are each the core rule's over those before them, and what every such log has.
+use Rattle.std.specs.Prelude.{◌≡◌, ◌≤◌, ℕ, ◌+◌, ◌/◌, List, [], ◌∷◌, ◌++◌, map, filter, Bool, true, false, ◌==◌, ◌&&◌, count_by, Option, Some, option_to_list}
+use Rattle.std.specs.List.{AllByRecursion, list_any, filter_map}
+use Rattle.dist_types.specs.Cuts.{Cut, cuts, cuts_behind}
+use Rattle.dist_types.specs.declared.ids.JobId.{JobId}
+use Rattle.dist_types.specs.declared.results.JobState.{JobState}
 use Rattle.sched_core.specs.declared.entry.CoreEntry.{CoreEntry}
+use Rattle.sched_core.specs.declared.entry.CoreKind.{CoreKind}
+use Rattle.sched_core.specs.declared.entry.CoreKind.TheVariants.{Reserve}
+use Rattle.sched_core.specs.declared.entry.Reserved.TheVariants.{Job}
+use Rattle.sched_core.specs.declared.rows.ServerRow.{ServerRow}
 use Rattle.sched_core.specs.declared.call.Call.{Call}
-use Rattle.sched_core.specs.Log.{Core}
+use Rattle.sched_core.specs.Log.{Core, same_job}
+use Rattle.sched_core.specs.Standing.{Registered, standing}
+use Rattle.sched_core.specs.Reservation.{Booking, spends_by, ends_job_by, frees_by, unended, load_of}
+use Rattle.sched_core.specs.Job.{Committed, moves_of}
+use Rattle.sched_core.specs.Pick.{has_room, is_faultless, is_lighter}
+use Rattle.sched_core.specs.Rows.{servers_of}
+use Rattle.sched_core.specs.Advance.{follows}
 use Rattle.sched_core.specs.Rule.{rule, IsCall}
 
 -- the entry is the rule's for some call
@@ -17,3 +29,41 @@ IsLegalBehind base count front log = AllByRecursion (λ c. IsRule (record { base
 -- each entry is the rule's over the entries before it
 abbrev pub IsLegal : ℕ → ℕ → List CoreEntry → Type 0
 IsLegal base count log = IsLegalBehind base count [] log
+
+-- no job stands twice among those
+abbrev pub AreDistinct : List JobId → Type 0
+AreDistinct [] = Unit {0}
+AreDistinct (j ∷ js) = AllByRecursion (λ k. same_job k j ≡ false) js × AreDistinct js
+
+-- the reservation was spent at most once: at most one later entry is a commit or an undo of its job
+abbrev pub IsSpentOnce : Booking → Type 0
+IsSpentOnce b = count_by (λ e. spends_by e.kind b.job) b.later ≤ 1
+
+-- the reservation ended at most once: no entry ends it by its job after one that ended it
+abbrev pub IsEndedOnce : Booking → Type 0
+IsEndedOnce b = AllByRecursion (λ c. list_any (λ e. frees_by e.kind b.job b.reg) c.before ≡ true → ends_job_by c.at.kind b.job ≡ false) (cuts b.later)
+
+-- each state follows the one before it
+abbrev pub IsChain : JobState → List JobState → Type 0
+IsChain from [] = Unit {0}
+IsChain from (to ∷ states) = (follows from to ≡ true) × IsChain to states
+
+-- the states of a committed job, from that of its commit on, leave none out
+abbrev pub HasOrder : Committed → Type 0
+HasOrder c = IsChain c.state (moves_of c)
+
+-- the job has exactly one unended reservation, and its registration stands
+abbrev pub IsHeldOnce : List CoreEntry → JobId → Type 0
+IsHeldOnce log job = (b : Booking) × (filter (λ d. same_job d.job job) (unended log) ≡ b ∷ []) × (list_any (λ g. g.reg == b.reg) (standing log) ≡ true)
+
+-- the load is at most c + 1 + c/8
+abbrev pub IsBounded : List CoreEntry → Registered → Type 0
+IsBounded log g = load_of log g.reg ≤ g.cpus + 1 + g.cpus / 8
+
+-- a reserve goes to a registration that stands and has room; and none with room and no error has less load for each processor, or it goes to none where one has no error
+abbrev pub IsFairly : List ServerRow → ℕ → Type 0
+IsFairly rows reg = (row : ServerRow) × (row.reg ≡ reg) × (has_room row ≡ true) × (list_any (λ r. r.reg == reg) rows ≡ true) × AllByRecursion (λ r. has_room r ≡ true → is_faultless r ≡ true → (is_faultless row ≡ true) × (is_lighter r row ≡ false)) rows
+
+abbrev pub IsFairEntry : List CoreEntry → CoreKind → Type 0
+IsFairEntry before (Reserve (Job job reg forgiven)) = IsFairly (servers_of before) reg
+IsFairEntry before other = Unit {0}

@@ -4,40 +4,23 @@ ghost use Rattle.std.specs.Prelude.{◌≡◌, drop, ◌==◌, ◌&&◌, ◌+◌
 ghost use Rattle.std.specs.List.{list_any, filter_map};
 ghost use Rattle.dist_types.specs.Cuts.{cuts};
 ghost use Rattle.sched_core.specs.declared.entry.CoreEntry.{CoreEntry};
-ghost use Rattle.sched_core.specs.declared.call.Call.TheVariants as call;
 ghost use Rattle.sched_core.specs.Log.{same_job, latest, newest, newer};
 ghost use Rattle.sched_core.specs.Standing.{registered_by, ended, stands, reserves_by, serves, is_sign, address_of};
 ghost use Rattle.sched_core.specs.Reservation.{booked_by, bookings, unended, is_unended, claims_by, frees_by};
 ghost use Rattle.sched_core.specs.Fault.{noted_by, is_remembered, forgives_by, error_of};
 ghost use Rattle.sched_core.specs.Job.{place_of, committed_by, moves_by, state_now, state_of, is_open, closes_by};
 ghost use Rattle.sched_core.specs.Rows.{row_of, servers_of, held_of, held_rows, open_of, open_rows};
-ghost use Rattle.sched_core.specs.Pick.{has_room, roomy, is_faultless, is_lighter, is_older, first_best, or_else, pick, is_stale, forgiven};
-ghost use Rattle.sched_core.specs.Prune.{is_expired, prune, left, at_address};
-ghost use Rattle.sched_core.specs.Reap.{is_overdue, is_reaped, reap};
-ghost use Rattle.sched_core.specs.Advance.{follows, is_at, advance_by, advance};
-ghost use Rattle.sched_core.specs.Rule.{rule, is_among, place_at, noted_over, reserve_at, reaped_by, replaced_by, says_new, is_left, counts_over};
+ghost use Rattle.sched_core.specs.Rule.{place_at};
 ghost use Rattle.sched_core.specs.Plain.{seen, is_booked};
 
-use crate::call::Call;
-use crate::entry::{CoreEntry, CoreKind, Reserved, UpdateAnswer};
+use crate::entry::{CoreEntry, CoreKind, Reserved};
 use crate::kind::{
     claims, closes, complete, ends, forgives, frees, heard, moves, notes, places, renews, reserves,
 };
 use crate::rows::{HeldRow, OpenRow, ServerRow};
-use crate::standing;
-use dist_types::ids::{JobId, ServerId, ServerNonce};
-use dist_types::results::{JobState, SchedulerStatusResult};
-use dist_types::text::Items;
+use dist_types::ids::{JobId, ServerId};
+use dist_types::results::JobState;
 use std::alloc::{AllocError, Global};
-
-/// An unclaimed reservation that is younger is never reaped, in milliseconds.
-const UNCLAIMED_READY_TIMEOUT: u64 = 60000;
-
-/// A pending job is reaped where its reservation is older, in milliseconds.
-const UNCLAIMED_PENDING_TIMEOUT: u64 = 300000;
-
-/// A remembered error is forgotten where it is older, in milliseconds.
-const ERROR_TIMEOUT: u64 = 300000;
 
 // The parts of the walks.
 
@@ -362,7 +345,7 @@ pub fn state(entries: &[CoreEntry], job: JobId) -> Option<JobState>
 }
 
 /// The address of the registration, if there is one.
-fn address_if(log: &[CoreEntry], reg: Option<u64>) -> Option<ServerId>
+pub fn address_if(log: &[CoreEntry], reg: Option<u64>) -> Option<ServerId>
     ensures { result ≡ option_and_then (address_of log.now) reg }
 {
     match reg {
@@ -527,7 +510,7 @@ fn place_in(before: &[CoreEntry], at: &CoreEntry, wanted: u64) -> Option<u64>
 }
 
 /// The registration of the reservation of that number.
-fn reservation_place(log: &[CoreEntry], number: u64) -> Option<u64>
+pub fn reservation_place(log: &[CoreEntry], number: u64) -> Option<u64>
     ensures { result ≡ place_at log.now number }
 {
     let mut found = None;
@@ -538,7 +521,7 @@ fn reservation_place(log: &[CoreEntry], number: u64) -> Option<u64>
 }
 
 /// Whether the reservation is among those.
-fn is_held(held: &[HeldRow], number: u64, job: JobId) -> bool
+pub fn is_held(held: &[HeldRow], number: u64, job: JobId) -> bool
     ensures { result ≡ list_any (λ h. (h.number == number) && same_job h.job job) held.now }
 {
     held.iter().any(|h| h.number == number && h.job.0 == job.0)
@@ -568,7 +551,7 @@ fn count_reservations(log: &[CoreEntry]) -> u64
 }
 
 /// How many reservations were made.
-fn reservation_count(log: &[CoreEntry]) -> u64
+pub fn reservation_count(log: &[CoreEntry]) -> u64
     ensures { result ≡ length (bookings log.now) }
 {
     count_reservations(log)

@@ -33,13 +33,20 @@ pub fn pruned_numbers(alloc: Global, rows: &[ServerRow], now: u64) -> Result<Vec
 }
 
 /// The registration at an address, among those that are not pruned.
-fn survivor(rows: &[ServerRow], now: u64, server: ServerId) -> Option<ServerRow>
+pub fn survivor(rows: &[ServerRow], now: u64, server: ServerId) -> Option<ServerRow>
     ensures { result ≡ at_address server (left now rows.now) }
 {
     rows.iter()
         .copied()
         .filter(|row| !is_silent(row, now))
         .find(|row| row.server == server)
+}
+
+/// The registration at an address.
+pub fn row_at(rows: &[ServerRow], server: ServerId) -> Option<ServerRow>
+    ensures { result ≡ at_address server rows.now }
+{
+    rows.iter().copied().find(|row| row.server == server)
 }
 
 /// Takes out the registrations that an entry ends.
@@ -108,7 +115,7 @@ pub fn row_made(step: &CoreEntry, number: u64) -> Option<ServerRow>
 }
 
 /// The registration that another nonce replaces.
-fn replaced(there: &Option<ServerRow>, nonce: ServerNonce) -> Option<u64>
+pub fn replaced(there: &Option<ServerRow>, nonce: ServerNonce) -> Option<u64>
     ensures { result ≡ replaced_by nonce there.now }
 {
     match there {
@@ -124,7 +131,7 @@ fn replaced(there: &Option<ServerRow>, nonce: ServerNonce) -> Option<u64>
 }
 
 /// Whether a heartbeat with this nonce makes a registration.
-fn is_new(there: &Option<ServerRow>, nonce: ServerNonce) -> bool
+pub fn is_new(there: &Option<ServerRow>, nonce: ServerNonce) -> bool
     ensures { result ≡ says_new nonce there.now }
 {
     match there {
