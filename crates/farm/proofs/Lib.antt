@@ -1,5 +1,6 @@
 pub mod BuiltLemmas
 pub mod DigitLemmas
+pub mod ExactLemmas
 pub mod FieldLemmas
 pub mod FirstFaultyLemmas
 pub mod HexDigitLemmas

@@ -45,6 +45,7 @@ fn read_input<S: Source>(alloc: Global, input: &mut S) -> Result<Vec<u8>, FarmFa
         Ok(bytes) => Ok(bytes),
         Err(ReadError::Memory) => Err(FarmFault::Memory),
         Err(ReadError::Failed) => Err(FarmFault::ReadFault),
+        Err(ReadError::TooLong) => unreachable!(),
     }
 }
 
@@ -106,9 +107,8 @@ fn run_words<S: Source, K: Sink>(
     }
 }
 
-/// The command: does what the words say, tells a fault on errs, and answers the status.
-/// `words[0]` is the program's name.
-pub fn dist_main<S: Source, K: Sink, E: Sink>(
+/// Does what the words say, tells a fault on errs, and answers the status.
+fn run_and_tell<S: Source, K: Sink, E: Sink>(
     alloc: Global,
     words: &[String],
     input: &mut S,
@@ -170,4 +170,47 @@ pub fn dist_main<S: Source, K: Sink, E: Sink>(
             Err(_) => 5,
         },
     }
+}
+
+/// The command: does what the words say, tells a fault on errs, and answers the status. `words[0]` is the
+/// program's name; the one command is `farm`, which reads a script from input and writes its printed run
+/// to out. The words are judged first, then input is read to its end, or to one byte past the limit of
+/// scripts, before any line is judged; nothing is written before every line was.
+pub fn dist_main<S: Source, K: Sink, E: Sink>(
+    alloc: Global,
+    words: &[String],
+    input: &mut S,
+    out: &mut K,
+    errs: &mut E,
+) -> u8
+    // 0: the text of the script's run was written, and no fault is told.
+    ensures printed { result ≡ 0 → IfSome (S.left input.old) (λ bytes. (text : List ℕ) × IsRunText bytes text
+        × Added text (K.held out.old) (K.held out.new)) × (E.held errs.new ≡ E.held errs.old) }
+    // 1: a line is faulty; errs names the first such line, and nothing is written.
+    ensures bad_line { result ≡ 1 → IfSome (S.left input.old) (λ bytes. (n : ℕ) × IsFirstFaulty bytes n
+        × Added (fault_text (fault.BadLine n)) (E.held errs.old) (E.held errs.new)) × (K.held out.new ≡ K.held out.old) }
+    // 2: the words name no command; input is not read.
+    ensures usage { result ≡ 2 → (names_farm (map string_bytes words.now) ≡ false) × (S.left input.new ≡ S.left input.old)
+        × Added (fault_text fault.Usage) (E.held errs.old) (E.held errs.new) × (K.held out.new ≡ K.held out.old) }
+    // 3: memory ran out.
+    ensures memory { result ≡ 3 → (names_farm (map string_bytes words.now) ≡ true)
+        × Added (fault_text fault.Memory) (E.held errs.old) (E.held errs.new) × (K.held out.new ≡ K.held out.old) }
+    // 4: input failed in this call.
+    ensures read_fault { result ≡ 4 → (names_farm (map string_bytes words.now) ≡ true) × Rose (S.faults input.old) (S.faults input.new)
+        × Added (fault_text fault.ReadFault) (E.held errs.old) (E.held errs.new) × (K.held out.new ≡ K.held out.old) }
+    // 5: out or errs failed in this call; out has a front of the text.
+    ensures write_fault { result ≡ 5 → (Rose (K.faults out.old) (K.faults out.new) ⊎ Rose (E.faults errs.old) (E.faults errs.new))
+        × IfSome (S.left input.old) (λ bytes. WroteFront bytes (K.held out.old) (K.held out.new)) }
+    // There is no other status. Where a line is faulty it is 1, and where none is it is 0, without want of memory and faults.
+    ensures statuses { result ≤ 5 }
+    ensures faulty { names_farm (map string_bytes words.now) ≡ true → IfSome (S.left input.old) (λ bytes.
+        (n : ℕ) → IsFirstFaulty bytes n → (result ≡ 1) ⊎ (result ≡ 3) ⊎ (result ≡ 4) ⊎ (result ≡ 5)) }
+    ensures faultless { names_farm (map string_bytes words.now) ≡ true → IfSome (S.left input.old) (λ bytes.
+        ((n : ℕ) → IsFirstFaulty bytes n → ⊥) → (result ≡ 0) ⊎ (result ≡ 3) ⊎ (result ≡ 4) ⊎ (result ≡ 5)) }
+    // A fault of input comes before what its bytes say.
+    ensures order { result ≤ 2 → S.faults input.new ≡ S.faults input.old }
+    // Without the words of a command it is 2, or 5 where errs failed.
+    ensures no_command { names_farm (map string_bytes words.now) ≡ false → (result ≡ 2) ⊎ (result ≡ 5) }
+{
+    run_and_tell(alloc, words, input, out, errs)
 }

@@ -5,7 +5,8 @@ ghost use Rattle.farm.specs.Next.{worded, replied};
 use crate::event::Event;
 use dist_types::addr::Addr;
 use dist_types::ids::JobId;
-use dist_types::text::Bytes;
+use dist_types::text::{Bytes, Items};
+use dist_types::toolchain::Toolchain;
 use sched_core::entry::CoreEntry;
 
 /// How a heartbeat's call was settled.
@@ -19,19 +20,27 @@ pub enum HeardAs {
     Lost,
 }
 
-/// What a build server did.
-#[derive(Clone, Copy, Debug)]
+/// What a build server did. What became of a submit and of a run comes with the build servers.
+#[derive(Debug, Drop)]
 pub enum StepKind {
     /// Its heartbeat was settled.
     Heard(HeardAs),
+    /// A job was assigned; ready where the archive of its toolchain is there.
+    Assigned {
+        job: JobId,
+        tc: Toolchain,
+        ready: bool,
+    },
     /// A build was reported as complete.
     Finished { job: JobId },
     /// A report on a job was not accepted.
     Unreported { job: JobId },
+    /// It opened its cache, with these archives and their sizes in bytes, least recent first.
+    Opened(Items<(Toolchain, u64)>),
 }
 
 /// A step of a build server.
-#[derive(Clone, Copy, Debug)]
+#[derive(Debug, Drop)]
 pub struct Step {
     pub server: Addr,
     pub kind: StepKind,
