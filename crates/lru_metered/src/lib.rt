@@ -1,0 +1,10 @@
+//! A cache that evicts by recency, whose size is measured by a meter.
+#![tactic(auto)]
+
+mod cache;
+mod fault;
+mod meter;
+
+pub use cache::{DefaultHasher, LruCache};
+pub use fault::{InsertFault, Memory};
+pub use meter::{Count, CountableMeter, CountableMeterWithMeasure, Meter};
