@@ -1,1 +1,3 @@
+pub mod Inserts
+pub mod Lookups
 pub mod Trims

@@ -1,1 +1,4 @@
+pub mod Extended
+pub mod Fault
+pub mod Lends
 pub mod Metered

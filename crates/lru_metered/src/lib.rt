@@ -3,8 +3,10 @@
 
 mod cache;
 mod fault;
+mod iter;
 mod meter;
 
 pub use cache::{DefaultHasher, LruCache};
 pub use fault::{InsertFault, Memory};
+pub use iter::{IntoIter, Iter};
 pub use meter::{Count, CountableMeter, CountableMeterWithMeasure, Meter};

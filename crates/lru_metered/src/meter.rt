@@ -66,8 +66,11 @@ pub trait CountableMeterWithMeasure<K, V, M: Default> {
     ghost meter_default_is_zero: { (m : Self) (x : M) → M.is_default x → meter_number m x ≡ 0 };
 }
 
-impl<K, V, T: Meter<K, V> + CountableMeterWithMeasure<K, V, <T as Meter<K, V>>::Measure>> CountableMeter<K, V>
-    for T {
+impl<
+    K,
+    V,
+    T: Meter<K, V> + CountableMeterWithMeasure<K, V, <T as Meter<K, V>>::Measure>,
+> CountableMeter<K, V> for T {
     ghost number = { T.meter_number };
 
     ghost gives_size = { T.meter_gives_size };
