@@ -6,14 +6,10 @@ use Rattle.std.specs.declared.default.Default as default
 use Rattle.std.specs.declared.hash.Hasher as hasher
 use Rattle.std.specs.declared.hash.BuildHasher as builder
 use mathlib.Core.Option.{none}
-use Rattle.lru_metered.specs.Metered.{Metered, promoted, promoted_with, with_pairs}
+use Rattle.lru_metered.specs.Metered.{Metered, MeterMembers, promoted, promoted_with, with_pairs}
 use Rattle.lru_metered.specs.declared.meter.Count.{Count}
 use Rattle.lru_metered.specs.contracts.meter.Count as count
 use Rattle.lru_metered.specs.contracts.cache.LruCache.{the_row}
-
--- what the bounds on a meter M of pairs of K and V say of its measures X
-abbrev pub MeterMembers : Type 0 → Type 0 → Type 0 → Type 0 → Type 0
-MeterMembers M K V X = record { measured : M → K → V → X; number : M → X → ℕ; gives_size : M → Bool }
 
 module _ (K V S M H X : RattleType) (key : HashMembers K.Denot) (build : builder.Ghosts S.Denot H.Denot) (hash : hasher.Ghosts H.Denot)
     (counts : MeterMembers M.Denot K.Denot V.Denot X.Denot) (zero : default.Ghosts X.Denot) where

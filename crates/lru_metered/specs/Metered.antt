@@ -22,10 +22,14 @@ pub record Gauge (K V : Type 0) : Type 0 where
   pub number : K × V → ℕ
   pub gives_size : Bool
 
+-- what the trait says of a meter M of pairs of K and V, whose measures are X
+abbrev pub MeterMembers : Type 0 → Type 0 → Type 0 → Type 0 → Type 0
+MeterMembers M K V X = record { measured : M → K → V → X; number : M → X → ℕ; gives_size : M → Bool }
+
 -- the gauge of a meter, by what its trait says of it
-abbrev pub gauge : {K V M X : Type 0} → (M → K → V → X) → (M → X → ℕ) → (M → Bool) → M → Gauge K V
-gauge measured number gives_size meter =
-    record { number = λ p. number meter (measured meter p.0 p.1); gives_size = gives_size meter }
+abbrev pub gauge : {M K V X : Type 0} → MeterMembers M K V X → M → Gauge K V
+gauge says meter =
+    record { number = λ p. says.number meter (says.measured meter p.0 p.1); gives_size = says.gives_size meter }
 
 module _ {K V : Type 0} (g : Gauge K V) where
   -- the sum of the numbers of the pairs

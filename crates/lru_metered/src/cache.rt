@@ -28,8 +28,8 @@ fn size_of_map<K: Eq + Hash, V, S: BuildHasher, M: CountableMeter<K, V>>(
     meter: &M,
     current: M::Measure,
 ) -> u64
-    requires { M.number meter.now current ≡ total (gauge M.measured M.number M.gives_size meter.now) map.now.entries }
-    ensures { result ≡ size_of (gauge M.measured M.number M.gives_size meter.now) map.now.entries }
+    requires { M.number meter.now current ≡ total (gauge M.CountableMeter meter.now) map.now.entries }
+    ensures { result ≡ size_of (gauge M.CountableMeter meter.now) map.now.entries }
 {
     match meter.size(current) {
         Some(size) => size,
@@ -44,10 +44,10 @@ fn trim_map<K: Eq + Hash + Drop, V: Drop, S: BuildHasher, M: CountableMeter<K, V
     measure: M::Measure,
     capacity: u64,
 ) -> M::Measure
-    requires { M.number meter.now measure ≡ total (gauge M.measured M.number M.gives_size meter.now) map.old.entries }
-    ensures pairs { map.new.entries ≡ trim (gauge M.measured M.number M.gives_size meter.now) capacity map.old.entries }
-    ensures measure { M.number meter.now result ≡ total (gauge M.measured M.number M.gives_size meter.now) map.new.entries }
-    ensures within { size_of (gauge M.measured M.number M.gives_size meter.now) map.new.entries ≤ capacity }
+    requires { M.number meter.now measure ≡ total (gauge M.CountableMeter meter.now) map.old.entries }
+    ensures pairs { map.new.entries ≡ trim (gauge M.CountableMeter meter.now) capacity map.old.entries }
+    ensures measure { M.number meter.now result ≡ total (gauge M.CountableMeter meter.now) map.new.entries }
+    ensures within { size_of (gauge M.CountableMeter meter.now) map.new.entries ≤ capacity }
 {
     let mut current = measure;
     while size_of_map(map, meter, current) > capacity {
@@ -77,8 +77,8 @@ fn measure_of_others<K: Eq + Hash, V, S: BuildHasher, M: CountableMeter<K, V>>(
     current: M::Measure,
     key: &K,
 ) -> M::Measure
-    requires { M.number meter.now current ≡ total (gauge M.measured M.number M.gives_size meter.now) map.now.entries }
-    ensures { M.number meter.now result ≡ total (gauge M.measured M.number M.gives_size meter.now) (remove_entry (K.eq key.now) map.now.entries) }
+    requires { M.number meter.now current ≡ total (gauge M.CountableMeter meter.now) map.now.entries }
+    ensures { M.number meter.now result ≡ total (gauge M.CountableMeter meter.now) (remove_entry (K.eq key.now) map.now.entries) }
 {
     match map.get_key_value(key) {
         Some((stored, value)) => meter.sub(current, meter.measure(stored, value)),
@@ -151,14 +151,14 @@ pub struct LruCache<
 
 impl<K: Eq + Hash, V, S: BuildHasher, M: CountableMeter<K, V>> Model for LruCache<K, V, S, M> {
     ghost use Rattle.std.specs.Prelude.{◌≡◌, ◌≤◌};
-    ghost use Rattle.lru_metered.specs.Metered.{Metered, gauge, total, size_of};
+    ghost use Rattle.lru_metered.specs.Metered.{Metered, metered, gauge, total, size_of};
 
     ghost Value = { Metered K V M };
 
-    ghost view = { λ c. record { pairs = c.map.entries; capacity = c.capacity; meter = c.meter } };
+    ghost view = { λ c. metered c.map.entries c.capacity c.meter };
 
-    ghost invariant = { λ c. (M.number c.meter c.current ≡ total (gauge M.measured M.number M.gives_size c.meter) c.map.entries)
-        × (size_of (gauge M.measured M.number M.gives_size c.meter) c.map.entries ≤ c.capacity) };
+    ghost invariant = { λ c. let g = gauge (record { measured = M.measured; number = M.number; gives_size = M.gives_size }) c.meter in
+        (M.number c.meter c.current ≡ total g c.map.entries) × (size_of g c.map.entries ≤ c.capacity) };
 }
 
 impl<K: Eq + Hash, V> LruCache<K, V> {
@@ -251,8 +251,8 @@ impl<K: Eq + Hash, V, S: BuildHasher, M: CountableMeter<K, V>> LruCache<K, V, S,
         V: Drop,
         I::IntoIter: Drop,
         requires { (it : I.IntoIter) → I.into_iter_gives iter it → I.IntoIter.can_next it × IsFinite (I.IntoIter.remaining it) }
-        ensures ran { Extends I.into_iter_gives I.IntoIter.next_gives (gauge M.measured M.number M.gives_size self.old.meter) K.eq iter self.old self.new result }
-        ensures within { size_of (gauge M.measured M.number M.gives_size self.new.meter) self.new.pairs ≤ self.new.capacity }
+        ensures ran { Extends I.into_iter_gives I.IntoIter.next_gives (gauge M.CountableMeter self.old.meter) K.eq iter self.old self.new result }
+        ensures within { size_of (gauge M.CountableMeter self.new.meter) self.new.pairs ≤ self.new.capacity }
     {
         for (k, v) in iter {
             self.insert(k, v)?;
@@ -305,14 +305,14 @@ impl<K: Eq + Hash, V, S: BuildHasher, M: CountableMeter<K, V>> LruCache<K, V, S,
     /// The number of pairs.
     pub fn len(&self) -> usize
         ensures len { result ≡ length self.now.pairs }
-        ensures valid { IsCache K.eq (gauge M.measured M.number M.gives_size self.now.meter) self.now }
+        ensures valid { IsCache K.eq (gauge M.CountableMeter self.now.meter) self.now }
     {
         self.map.len()
     }
 
     /// What the pairs measure, or their number where the meter gives no size.
     pub fn size(&self) -> u64
-        ensures size { result ≡ size_of (gauge M.measured M.number M.gives_size self.now.meter) self.now.pairs }
+        ensures size { result ≡ size_of (gauge M.CountableMeter self.now.meter) self.now.pairs }
         ensures within { result ≤ self.now.capacity }
     {
         size_of_map(&self.map, &self.meter, self.current)
@@ -336,7 +336,7 @@ impl<K: Eq + Hash, V, S: BuildHasher, M: CountableMeter<K, V>> LruCache<K, V, S,
     pub fn get(&mut self, k: &K) -> Option<&V>
         ensures* promotes { sem 𝓛 (ends_promoted K.row V.row S.row M.row S.Hasher.row M.Measure.row K.Hash S.BuildHasher S.Hasher.Hasher M.CountableMeter M.Measure.Default self.entry (K.eq k.now)) }
         ensures value { option_copied result ≡ lookup (K.eq k.now) self.old.pairs }
-        ensures within { size_of (gauge M.measured M.number M.gives_size self.old.meter) (promoted (K.eq k.now) self.old.pairs) ≤ self.old.capacity }
+        ensures within { size_of (gauge M.CountableMeter self.old.meter) (promoted (K.eq k.now) self.old.pairs) ≤ self.old.capacity }
     {
         let last = promote(&mut self.map, k)?;
         Some(&self.map[last])
@@ -352,11 +352,11 @@ impl<K: Eq + Hash, V, S: BuildHasher, M: CountableMeter<K, V>> LruCache<K, V, S,
         K: Drop,
         V: Drop,
         ensures old { IfOk result (λ old. old ≡ lookup (K.eq k) self.old.pairs) }
-        ensures pairs { OnOk result (self.new ≡ with_pairs self.old (inserted (gauge M.measured M.number M.gives_size self.old.meter) K.eq self.old.capacity self.old.pairs k v)) }
-        ensures overflow { (result ≡ Err (InsertFault.Overflow k v)) ↔ Overflows (gauge M.measured M.number M.gives_size self.old.meter) K.eq self.old.pairs k v }
+        ensures pairs { OnOk result (self.new ≡ with_pairs self.old (inserted (gauge M.CountableMeter self.old.meter) K.eq self.old.capacity self.old.pairs k v)) }
+        ensures overflow { (result ≡ Err (InsertFault.Overflow k v)) ↔ Overflows (gauge M.CountableMeter self.old.meter) K.eq self.old.pairs k v }
         ensures handed_back { IfErr result (λ e. refused_pair e ≡ (k, v)) }
         ensures err { OnErr result (self.new ≡ self.old) }
-        ensures within { size_of (gauge M.measured M.number M.gives_size self.new.meter) self.new.pairs ≤ self.new.capacity }
+        ensures within { size_of (gauge M.CountableMeter self.new.meter) self.new.pairs ≤ self.new.capacity }
     {
         let others = measure_of_others(&self.map, &self.meter, self.current, &k);
         let Some(sum) = self.meter.add(others, self.meter.measure(&k, &v)) else {
@@ -376,7 +376,7 @@ impl<K: Eq + Hash, V, S: BuildHasher, M: CountableMeter<K, V>> LruCache<K, V, S,
         K: Drop,
         ensures value { result ≡ lookup (K.eq k.now) self.old.pairs }
         ensures others { self.new ≡ with_pairs self.old (remove_entry (K.eq k.now) self.old.pairs) }
-        ensures within { size_of (gauge M.measured M.number M.gives_size self.new.meter) self.new.pairs ≤ self.new.capacity }
+        ensures within { size_of (gauge M.CountableMeter self.new.meter) self.new.pairs ≤ self.new.capacity }
     {
         let (key, value) = self.map.shift_remove_entry(k)?;
         self.current = self
@@ -389,7 +389,7 @@ impl<K: Eq + Hash, V, S: BuildHasher, M: CountableMeter<K, V>> LruCache<K, V, S,
     pub fn remove_lru(&mut self) -> Option<(K, V)>
         ensures pair { result ≡ slice_get self.old.pairs 0 }
         ensures rest { self.new ≡ with_pairs self.old (drop 1 self.old.pairs) }
-        ensures within { size_of (gauge M.measured M.number M.gives_size self.new.meter) self.new.pairs ≤ self.new.capacity }
+        ensures within { size_of (gauge M.CountableMeter self.new.meter) self.new.pairs ≤ self.new.capacity }
     {
         let (key, value) = self.map.shift_remove_index(0)?;
         self.current = self
@@ -403,8 +403,8 @@ impl<K: Eq + Hash, V, S: BuildHasher, M: CountableMeter<K, V>> LruCache<K, V, S,
     where
         K: Drop,
         V: Drop,
-        ensures trimmed { self.new ≡ metered (trim (gauge M.measured M.number M.gives_size self.old.meter) capacity self.old.pairs) capacity self.old.meter }
-        ensures within { size_of (gauge M.measured M.number M.gives_size self.new.meter) self.new.pairs ≤ self.new.capacity }
+        ensures trimmed { self.new ≡ metered (trim (gauge M.CountableMeter self.old.meter) capacity self.old.pairs) capacity self.old.meter }
+        ensures within { size_of (gauge M.CountableMeter self.new.meter) self.new.pairs ≤ self.new.capacity }
     {
         self.current = trim_map(&mut self.map, &self.meter, self.current, capacity);
         self.capacity = capacity;
@@ -416,7 +416,7 @@ impl<K: Eq + Hash, V, S: BuildHasher, M: CountableMeter<K, V>> LruCache<K, V, S,
         K: Drop,
         V: Drop,
         ensures emptied { self.new ≡ with_pairs self.old [] }
-        ensures within { size_of (gauge M.measured M.number M.gives_size self.new.meter) self.new.pairs ≤ self.new.capacity }
+        ensures within { size_of (gauge M.CountableMeter self.new.meter) self.new.pairs ≤ self.new.capacity }
     {
         self.map.clear();
         self.current = M::Measure::default();

@@ -5,17 +5,17 @@ use Rattle.lru_metered.proofs.cache.LruCache.get.Goals as goal
 
 pub invariant_of-self : goal.invariant_of-self
 invariant_of-self g c =
-    let scale = gauge g.M.Meter.measured g.M.CountableMeter.number g.M.CountableMeter.gives_size c.self.inside.meter in
+    let scale = gauge (record { measured = g.M.Meter.measured; number = g.M.CountableMeter.number; gives_size = g.M.CountableMeter.gives_size }) c.self.inside.meter in
     promoted-fits (g.K.PartialEq.eq c.args.k.now) scale c.self.inside.map.entries c.promote.new.map.entries (g.M.CountableMeter.number c.self.inside.meter c.self.inside.current) c.self.inside.capacity c.promote.ensures.pairs c.self.invariant
 
 pub invariant_of-self-2 : goal.invariant_of-self-2
 invariant_of-self-2 g c =
-    let scale = gauge g.M.Meter.measured g.M.CountableMeter.number g.M.CountableMeter.gives_size c.self.inside.meter in
+    let scale = gauge (record { measured = g.M.Meter.measured; number = g.M.CountableMeter.number; gives_size = g.M.CountableMeter.gives_size }) c.self.inside.meter in
     promoted-fits (g.K.PartialEq.eq c.args.k.now) scale c.self.inside.map.entries c.promote.new.map.entries (g.M.CountableMeter.number c.self.inside.meter c.self.inside.current) c.self.inside.capacity c.promote.ensures.pairs c.self.invariant
 
 pub returns-in_err-last : goal.returns-in_err-last
 returns-in_err-last g c =
-    let scale = gauge g.M.Meter.measured g.M.CountableMeter.number g.M.CountableMeter.gives_size c.self.inside.meter in
+    let scale = gauge (record { measured = g.M.Meter.measured; number = g.M.CountableMeter.number; gives_size = g.M.CountableMeter.gives_size }) c.self.inside.meter in
     let test = g.K.PartialEq.eq c.args.k.now in let es = c.self.inside.map.entries in
     let within : size_of scale (promoted test es) ≤ c.self.inside.capacity = omega (arith, c.self.invariant.1, size-promoted test scale es) in
     rw (c.from_residual.ensures, ← c.self.view_is) (
@@ -25,7 +25,7 @@ returns-in_err-last g c =
 
 pub returns : goal.returns
 returns g c =
-    let scale = gauge g.M.Meter.measured g.M.CountableMeter.number g.M.CountableMeter.gives_size c.self.inside.meter in
+    let scale = gauge (record { measured = g.M.Meter.measured; number = g.M.CountableMeter.number; gives_size = g.M.CountableMeter.gives_size }) c.self.inside.meter in
     let test = g.K.PartialEq.eq c.args.k.now in let es = c.self.inside.map.entries in
     let within : size_of scale (promoted test es) ≤ c.self.inside.capacity = omega (arith, c.self.invariant.1, size-promoted test scale es) in
     rw (← c.self.view_is) (
