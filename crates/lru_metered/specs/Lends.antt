@@ -1,5 +1,5 @@
 -- What a cache ends as, once a reference into it has ended.
-use Rattle.std.specs.Prelude.{◌≡◌, ℕ, Bool, false, List, Option, ⊤}
+use Rattle.std.specs.Prelude.{◌≡◌, Bool, false, Option, ⊤}
 use Rattle.std.specs.Borrow.{Fml, RattleType, MutBor, unit, LendsIf, follows_so}
 use Rattle.std.specs.HashMap.Lent.{HashMembers}
 use Rattle.std.specs.declared.default.Default as default
