@@ -6,7 +6,6 @@ pub mod entry;
 pub mod event;
 pub mod fault;
 mod fields;
-mod holder;
 pub mod laws;
 pub mod lines;
 pub mod pieces;

@@ -15,7 +15,7 @@ ghost use Rattle.farm.specs.declared.fault.FarmFault.TheVariants as fault;
 use crate::entry::{Entry, EntryWord, Reply};
 use crate::event::{Event, EventKind};
 use crate::fault::FarmFault;
-use crate::holder::KeyHolder;
+use dist_token::job_token::JWTJobAuthorizer;
 use crate::setup::{Setup, SetupAuth, SetupScheduler};
 use dist_http::asked::asked;
 use dist_http::error::HttpError;
@@ -38,7 +38,7 @@ use std::marker::Model;
 pub struct Farm {
     alloc: Global,
     scheduler: SetupScheduler,
-    state: SchedState<KeyHolder>,
+    state: SchedState<JWTJobAuthorizer>,
     entries: Vec<Entry>,
 }
 
@@ -205,7 +205,7 @@ fn reply(alloc: Global, number: u64, response: &Response) -> Result<Reply, HttpE
 /// Takes a heartbeat: the scheduler's entry, and the reply that says the same.
 fn hear(
     alloc: Global,
-    state: &mut SchedState<KeyHolder>,
+    state: &mut SchedState<JWTJobAuthorizer>,
     now: u64,
     server: ServerId,
     beat: HeartbeatServerHttpRequest,
@@ -223,7 +223,7 @@ fn hear(
         num_cpus,
         server_nonce,
     } = beat;
-    let key = KeyHolder::of_key(jwt_key.into_inner());
+    let key = JWTJobAuthorizer::of_key(jwt_key.into_inner());
     let answer = state.beat(now, server, server_nonce, num_cpus, key)?;
     let entry = last_copy(alloc, state.history())?;
     let response = heartbeat_response(alloc, &answer)?;
@@ -233,7 +233,7 @@ fn hear(
 /// Takes a status request: the scheduler's entry, and the reply that says the same.
 fn count(
     alloc: Global,
-    state: &mut SchedState<KeyHolder>,
+    state: &mut SchedState<JWTJobAuthorizer>,
     now: u64,
 ) -> Result<(CoreEntry, Response), FarmFault>
     ensures made { let made = rule state.old (call.Status now) in
@@ -250,7 +250,7 @@ fn count(
 /// The entry of what is asked of the scheduler.
 fn serve(
     alloc: Global,
-    state: &mut SchedState<KeyHolder>,
+    state: &mut SchedState<JWTJobAuthorizer>,
     number: u64,
     event: Event,
     routed: SchedRouted,
@@ -283,7 +283,7 @@ fn serve(
 fn request(
     alloc: Global,
     scheduler: &SetupScheduler,
-    state: &mut SchedState<KeyHolder>,
+    state: &mut SchedState<JWTJobAuthorizer>,
     number: u64,
     event: Event,
     target: Addr,
@@ -308,7 +308,7 @@ fn request(
 fn entry_of(
     alloc: Global,
     scheduler: &SetupScheduler,
-    state: &mut SchedState<KeyHolder>,
+    state: &mut SchedState<JWTJobAuthorizer>,
     number: u64,
     event: &Event,
 ) -> Result<Entry, FarmFault>
@@ -337,7 +337,7 @@ fn entry_of(
 fn make(
     alloc: Global,
     scheduler: &SetupScheduler,
-    state: &mut SchedState<KeyHolder>,
+    state: &mut SchedState<JWTJobAuthorizer>,
     entries: &mut Vec<Entry>,
     event: &Event,
 ) -> Result<(), FarmFault>
