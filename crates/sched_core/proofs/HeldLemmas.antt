@@ -16,7 +16,7 @@ use Rattle.sched_core.specs.Reservation.{Booking, booked_by, bookings, unspent, 
 use Rattle.sched_core.specs.Job.{Committed, committed_by, places_by, place_of, closes_by, ends_place_by, open_jobs}
 use Rattle.sched_core.specs.Rows.{row_of, servers_of}
 use Rattle.sched_core.specs.Rule.{is_among}
-use Rattle.sched_core.specs.Laws.{IsRule, IsLegal, AreDistinct, IsHeldOnce}
+use Rattle.sched_core.specs.Laws.{IsRule, IsLegal, AreDistinct, IsHeldOnce, HasStanding}
 use Rattle.sched_core.proofs.LegalLemmas.{core_of, legal_has}
 use Rattle.sched_core.proofs.PlainLemmas.{list_any-map}
 use Rattle.sched_core.proofs.AllLemmas.{and_left, and_right, both, or_left, or_right, neither, not_true, not_false, true_false, is_false, same_job-refl, same_job-sym, same_job-trans, same_job-eq, other_job-sym, all-weaker, all-both, all-append, all-filter, all-unmap, all-step, any-append, any-weaker, any-kept, any-end, none-kept, none-left, none-append, found, distinct-filter, only, names-filter}
@@ -251,3 +251,6 @@ pub legal_once : (base count : ℕ) (log : List CoreEntry) → count < 2 ^ 64 �
 legal_once base count log fits legal =
     let sound : Sound base count log = legal_sound base count log fits legal in
     all-weaker (λ c. IsHeldAt log (bare_commit c)) (λ c. IsHeldOnce log c.job) (λ c h. once base count log sound (bare_commit c) h) (open_jobs log) (all-unmap (IsHeldAt log) bare_commit (open_jobs log) sound.begun_held)
+
+pub legal_standing : (base count : ℕ) (log : List CoreEntry) → count < 2 ^ 64 → IsLegal base count log → AllByRecursion (HasStanding log) (unended log)
+legal_standing base count log fits legal = all-weaker (λ b. names (regs log) b.reg ≡ true) (HasStanding log) (λ b up. sym (list_any-map (λ n. n == b.reg) (λ g. g.reg) (standing log)) ∙ up) (unended log) (all-unmap (λ b. names (regs log) b.reg ≡ true) bare (unended log) (legal_sound base count log fits legal).held_stands)

@@ -1,4 +1,5 @@
 pub mod AllLemmas
+pub mod EndLemmas
 pub mod FactLemmas
 pub mod HeldLemmas
 pub mod LegalLemmas

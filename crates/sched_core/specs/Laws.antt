@@ -11,7 +11,7 @@ use Rattle.sched_core.specs.declared.entry.Reserved.TheVariants.{Job}
 use Rattle.sched_core.specs.declared.rows.ServerRow.{ServerRow}
 use Rattle.sched_core.specs.declared.call.Call.{Call}
 use Rattle.sched_core.specs.Log.{Core, same_job}
-use Rattle.sched_core.specs.Standing.{Registered, standing}
+use Rattle.sched_core.specs.Standing.{Registered, standing, ended, ends_by}
 use Rattle.sched_core.specs.Reservation.{Booking, spends_by, ends_job_by, frees_by, unended, load_of}
 use Rattle.sched_core.specs.Job.{Committed, moves_of}
 use Rattle.sched_core.specs.Pick.{has_room, is_faultless, is_lighter}
@@ -42,6 +42,14 @@ IsSpentOnce b = count_by (λ e. spends_by e.kind b.job) b.later ≤ 1
 -- the reservation ended at most once: no entry ends it by its job after one that ended it
 abbrev pub IsEndedOnce : Booking → Type 0
 IsEndedOnce b = AllByRecursion (λ c. list_any (λ e. frees_by e.kind b.job b.reg) c.before ≡ true → ends_job_by c.at.kind b.job ≡ false) (cuts b.later)
+
+-- the registration ended at most once: no entry names it as pruned or replaced after one that did
+abbrev pub EndsOnce : Registered → Type 0
+EndsOnce g = AllByRecursion (λ c. ended c.before g.reg ≡ true → ends_by c.at.kind g.reg ≡ false) (cuts g.later)
+
+-- the reservation's registration stands
+abbrev pub HasStanding : List CoreEntry → Booking → Type 0
+HasStanding log b = list_any (λ g. g.reg == b.reg) (standing log) ≡ true
 
 -- each state follows the one before it
 abbrev pub IsChain : JobState → List JobState → Type 0

@@ -3,10 +3,10 @@
 ghost use Rattle.std.specs.Prelude.{◌≡◌, ◌<◌, ◌^◌, ℕ, List, map};
 ghost use Rattle.std.specs.List.{AllByRecursion};
 ghost use Rattle.sched_core.specs.declared.entry.CoreEntry.{CoreEntry};
-ghost use Rattle.sched_core.specs.Reservation.{bookings};
+ghost use Rattle.sched_core.specs.Reservation.{bookings, unended};
 ghost use Rattle.sched_core.specs.Job.{commits, open_jobs};
-ghost use Rattle.sched_core.specs.Laws.{IsLegal, AreDistinct, IsHeldOnce, IsSpentOnce, IsEndedOnce, HasOrder, IsBounded, IsFairEntry};
-ghost use Rattle.sched_core.specs.Standing.{standing};
+ghost use Rattle.sched_core.specs.Laws.{IsLegal, AreDistinct, IsHeldOnce, IsSpentOnce, IsEndedOnce, HasOrder, IsBounded, IsFairEntry, EndsOnce, HasStanding};
+ghost use Rattle.sched_core.specs.Standing.{registrations, standing};
 ghost use Rattle.dist_types.specs.Cuts.{cuts};
 
 /// The ids of different reservations differ, until the ids are spent.
@@ -51,4 +51,14 @@ pub fn loads_are_bounded()
 /// remembered error it has none itself and no greater load for each processor.
 pub fn reserves_are_fair()
     ensures { (base count : ℕ) (log : List CoreEntry) → count < 2 ^ 64 → IsLegal base count log → AllByRecursion (λ c. IsFairEntry c.before c.at.kind) (cuts log) }
+{}
+
+/// Each unended reservation is at a registration that stands; so one that has ended has no load.
+pub fn reservations_are_at_standing_servers()
+    ensures { (base count : ℕ) (log : List CoreEntry) → count < 2 ^ 64 → IsLegal base count log → AllByRecursion (HasStanding log) (unended log) }
+{}
+
+/// A registration ends at most once: no entry prunes or replaces it after one that did.
+pub fn registrations_end_once()
+    ensures { (base count : ℕ) (log : List CoreEntry) → count < 2 ^ 64 → IsLegal base count log → AllByRecursion EndsOnce (registrations log) }
 {}
