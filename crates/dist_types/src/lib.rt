@@ -22,6 +22,8 @@ pub mod roles;
 pub mod sink;
 pub mod source;
 pub mod tcp;
+#[cfg(test)]
+mod tests;
 pub mod text;
 pub mod token_error;
 pub mod toolchain;

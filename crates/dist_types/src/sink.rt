@@ -3,7 +3,7 @@ ghost use Rattle.std.specs.Prelude.{◌≡◌, ◌≤◌, ◌<◌, [], List, ℕ
 ghost use Rattle.dist_types.specs.Cause.{Rose};
 ghost use Rattle.dist_types.specs.Content.{Added, Began};
 
-use crate::fault::Failed;
+use crate::fault::{Failed, raise};
 use std::alloc::Global;
 use std::io::{ErrorKind, Write};
 
@@ -154,7 +154,7 @@ impl<W: Write> Sink for StdSink<W> {
         match write_some(&mut self.writer, bytes) {
             Ok(n) => Ok(n),
             Err(_) => {
-                self.faults = self.faults.saturating_add(1);
+                raise(&mut self.faults);
                 Err(Failed)
             }
         }

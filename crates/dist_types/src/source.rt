@@ -4,7 +4,7 @@ ghost use Rattle.dist_types.specs.Cause.{Rose};
 ghost use Rattle.dist_types.specs.Content.{Taken, TookFront, IsAtEnd};
 ghost use Rattle.dist_types.specs.declared.source.ReadError.TheVariants.{Failed, Memory};
 
-use crate::fault::Failed;
+use crate::fault::{Failed, raise};
 use std::alloc::{AllocError, Global};
 use std::io::{ErrorKind, Read};
 use thiserror::Error;
@@ -143,7 +143,7 @@ impl<R: Read> Source for StdSource<R> {
         match read_some(&mut self.reader, buf) {
             Ok(n) => Ok(n),
             Err(_) => {
-                self.faults = self.faults.saturating_add(1);
+                raise(&mut self.faults);
                 Err(Failed)
             }
         }

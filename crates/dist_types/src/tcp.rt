@@ -2,7 +2,7 @@
 ghost use Rattle.std.specs.Prelude.{None};
 
 use crate::dialer::{AskFault, Dialer};
-use crate::fault::Failed;
+use crate::fault::{Failed, raise};
 use crate::link::Link;
 use crate::sink::{Sink, write_all, write_some};
 use crate::source::{ReadError, Source, read_some, read_up_to};
@@ -43,7 +43,7 @@ impl<S: Read + Write> Source for TcpLink<S> {
         match read_some(&mut self.stream, buf) {
             Ok(n) => Ok(n),
             Err(_) => {
-                self.read_faults = self.read_faults.saturating_add(1);
+                raise(&mut self.read_faults);
                 Err(Failed)
             }
         }
@@ -61,7 +61,7 @@ impl<S: Read + Write> Sink for TcpLink<S> {
         match write_some(&mut self.stream, bytes) {
             Ok(n) => Ok(n),
             Err(_) => {
-                self.write_faults = self.write_faults.saturating_add(1);
+                raise(&mut self.write_faults);
                 Err(Failed)
             }
         }
@@ -95,6 +95,17 @@ impl<N: Net + Drop> TcpDialer<N> {
     }
 }
 
+/// The host without the brackets that stand round eight groups.
+fn unbracketed(host: &str) -> &str {
+    match host.strip_prefix('[') {
+        Some(rest) => match rest.strip_suffix(']') {
+            Some(groups) => groups,
+            None => host,
+        },
+        None => host,
+    }
+}
+
 /// One request and its reply, over a connection of its own. A reply past 2,147,483,648 bytes is a fault.
 fn fetch<N: Net>(
     alloc: Global,
@@ -103,7 +114,7 @@ fn fetch<N: Net>(
     port: u16,
     request: &[u8],
 ) -> Result<Vec<u8>, AskFault> {
-    let Ok(stream) = TcpStream::connect(net, (host, port)) else {
+    let Ok(stream) = TcpStream::connect(net, (unbracketed(host), port)) else {
         return Err(AskFault::Failed);
     };
     let mut link = TcpLink::new(stream);
@@ -130,7 +141,7 @@ impl<N: Net + Drop> Dialer for TcpDialer<N> {
             Ok(reply) => Ok(reply),
             Err(AskFault::Memory) => Err(AskFault::Memory),
             Err(AskFault::Failed) => {
-                self.faults = self.faults.saturating_add(1);
+                raise(&mut self.faults);
                 Err(AskFault::Failed)
             }
         }
