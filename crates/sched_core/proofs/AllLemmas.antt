@@ -261,3 +261,12 @@ any-weaker t u h (x ∷ xs) e =
       | false ↦ λ is some. or_true (u x) (list_any u xs) (any-weaker t u h xs some)
     ] in
     split (t x) refl e
+
+-- among distinct jobs each is the only one with its own
+pub own_only : {X : Type 0} (job : X → JobId) (xs : List X) → AreDistinct (map job xs) → AllByRecursion (λ x. AllByRecursion (λ y. same_job (job y) (job x) ≡ true → y ≡ x) xs) xs
+own_only job [] apart = tt
+own_only job (x ∷ xs) apart =
+    let others : AllByRecursion (λ y. same_job (job y) (job x) ≡ false) xs = all-unmap (λ k. same_job k (job x) ≡ false) job xs apart.0 in
+    (((λ h. refl), all-weaker (λ y. same_job (job y) (job x) ≡ false) (λ y. same_job (job y) (job x) ≡ true → y ≡ x) (λ y other h. absurd (true_false (same_job (job y) (job x)) h other)) xs others),
+        all-both (λ y. same_job (job y) (job x) ≡ false) (λ z. AllByRecursion (λ y. same_job (job y) (job z) ≡ true → y ≡ z) xs) (λ z. AllByRecursion (λ y. same_job (job y) (job z) ≡ true → y ≡ z) (x ∷ xs))
+        (λ z other all. ((λ h. absurd (true_false (same_job (job x) (job z)) h (other_job-sym (job z) (job x) other))), all)) xs others (own_only job xs apart.1))

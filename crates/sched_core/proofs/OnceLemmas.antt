@@ -162,9 +162,9 @@ chain-option from states None chain step = subst (IsChain from) (sym (append-nil
 chain-option from states (Some to) chain step = chain-push from states to chain (step to refl)
 
 order-grown : (e : CoreEntry) (c : Committed) → HasOrder c → ((to : JobState) → moves_by e.kind c.job ≡ Some to → follows (state_now c) to ≡ true) → HasOrder (grown_commit e c)
-order-grown e c chain step =
+order-grown e c order step = (order.0,
     subst (IsChain c.state) (sym (filter_map-append (λ d. moves_by d.kind c.job) c.later (e ∷ []) ∙ ap (λ ss. moves_of c ++ ss) (cons_nil (moves_by e.kind c.job))))
-    (chain-option c.state (moves_of c) (moves_by e.kind c.job) chain step)
+    (chain-option c.state (moves_of c) (moves_by e.kind c.job) order.1 step))
 
 -- what an entry moves is in a state that it follows
 moved_follows : (base count : ℕ) (log : List CoreEntry) (k : CoreKind) → AreDistinct (map (λ c. c.job) (commits log)) → Facts (core_of base count log) k → AllByRecursion (λ c. (to : JobState) → moves_by k c.job ≡ Some to → follows (state_now c) to ≡ true) (commits log)
@@ -215,14 +215,14 @@ moved_follows base count log (Status pruned servers cpus n) distinct is = unmove
     unmoved [] = tt
     unmoved (c ∷ cs) = ((λ to e. cc), unmoved cs)
 
-new_order : (k : CoreKind) (before : List CoreEntry) → AllByRecursion HasOrder (option_to_list (committed_by k before []))
-new_order (Commit job state true) before = (tt, tt)
-new_order (Commit job state false) before = tt
-new_order (Reserve r) before = tt
-new_order (Undo job noted was_ended) before = tt
-new_order (Beat server nonce cpus key pruned reaped replaced is_new) before = tt
-new_order (Update server job state answer) before = tt
-new_order (Status pruned servers cpus n) before = tt
+new_order : (base count : ℕ) (log : List CoreEntry) (k : CoreKind) (before : List CoreEntry) → Facts (core_of base count log) k → AllByRecursion HasOrder (option_to_list (committed_by k before []))
+new_order base count log (Commit job state true) before is = ((is.1, tt), tt)
+new_order base count log (Commit job state false) before is = tt
+new_order base count log (Reserve r) before is = tt
+new_order base count log (Undo job noted was_ended) before is = tt
+new_order base count log (Beat server nonce cpus key pruned reaped replaced is_new) before is = tt
+new_order base count log (Update server job state answer) before is = tt
+new_order base count log (Status pruned servers cpus n) before is = tt
 
 order-step : (base count : ℕ) (log : List CoreEntry) (e : CoreEntry) → AreDistinct (map (λ c. c.job) (commits log)) → Facts (core_of base count log) e.kind → AllByRecursion HasOrder (commits log) → AllByRecursion HasOrder (commits (log ++ e ∷ []))
 order-step base count log e distinct is old =
@@ -230,7 +230,7 @@ order-step base count log e distinct is old =
     (all-append HasOrder (map (grown_commit e) (commits log)) (option_to_list (committed log e))
     (all-map HasOrder (grown_commit e) (commits log)
     (all-both HasOrder (λ c. (to : JobState) → moves_by e.kind c.job ≡ Some to → follows (state_now c) to ≡ true) (λ c. HasOrder (grown_commit e c)) (order-grown e) (commits log) old (moved_follows base count log e.kind distinct is)))
-    (new_order e.kind log))
+    (new_order base count log e.kind log is))
 
 -- no job is committed twice
 commit_made : (log : List CoreEntry) (k : CoreKind) (before : List CoreEntry) → AreDistinct (map (λ c. c.job) (commits log)) → AllByRecursion (λ c. AllByRecursion (λ d. same_job d.job c.job ≡ false) (commits log)) (option_to_list (committed_by k before [])) → AreDistinct (map (λ c. c.job) (commits log) ++ map (λ c. c.job) (option_to_list (committed_by k before [])))

@@ -21,11 +21,11 @@ use Rattle.sched_core.specs.Standing.{Registered, registered_by, registered_at, 
 use Rattle.sched_core.specs.Reservation.{Booking, booked_by, unended, load_of}
 use Rattle.sched_core.specs.Rows.{row_of, servers_of}
 use Rattle.sched_core.specs.Pick.{pick, first_best, or_else, is_lighter, is_older, is_faultless, roomy, has_room}
-use Rattle.sched_core.specs.Laws.{IsRule, IsLegal, AreDistinct, IsBounded, IsFairly, IsFairEntry}
+use Rattle.sched_core.specs.Laws.{IsRule, IsLegal, AreDistinct, IsBounded, IsFair, IsFairly, IsFairEntry}
 use Rattle.sched_core.proofs.LegalLemmas.{core_of, legal_has}
 use Rattle.sched_core.proofs.PlainLemmas.{list_any-map}
 use Rattle.sched_core.proofs.StandingLemmas.{standing-push}
-use Rattle.sched_core.proofs.AllLemmas.{or_left, or_right, true_false, is_false, not_true, all-weaker, all-both, all-append, all-filter, all-map, all-unmap, all-step, any-append, none-append, none-left, found, distinct-push, distinct-filter, each_same}
+use Rattle.sched_core.proofs.AllLemmas.{or_left, or_right, true_false, is_false, not_true, all-weaker, all-both, all-append, all-filter, all-map, all-unmap, all-step, any-append, none-append, none-left, found, distinct-push, distinct-filter, each_same, own_only}
 use Rattle.sched_core.proofs.StepLemmas.{bare, held, regs, booked, held_stays, held-push, regs-push}
 use Rattle.sched_core.proofs.FactLemmas.{Facts, JobFacts, facts, first_has, pick_has, pick_there, all_there}
 use Rattle.sched_core.proofs.HeldLemmas.{Sound, no_sound, sound-step}
@@ -291,17 +291,24 @@ pick_fair rows row ok e = unfilter (Fair row) is_faultless has_room rows (by_lis
         subst (λ b. AllByRecursion (λ x. (is_faultless row ≡ true) × (is_lighter x b ≡ false)) (r ∷ list)) same
         (all-weaker (λ x. is_lighter x (best_of is_lighter r list) ≡ false) (λ x. (is_faultless row ≡ true) × (is_lighter x (best_of is_lighter r list) ≡ false)) (λ x h. (faultless, h)) (r ∷ list) (least.0, least.1))
 
-fair_entry : (base count : ℕ) (log : List CoreEntry) (k : CoreKind) → AllByRecursion Ok (servers_of log) → Facts (core_of base count log) k → IsFairEntry log k
-fair_entry base count log (Reserve (Job job reg forgiven)) ok is =
-    let there : (list_any (λ r. r.reg == is.row.reg) (servers_of log) ≡ true) × (has_room is.row ≡ true) = pick_there (servers_of log) is.row is.picked in
-    (is.row, sym is.at, there.1, subst (λ n. list_any (λ r. r.reg == n) (servers_of log) ≡ true) (sym is.at) there.0, pick_fair (servers_of log) is.row ok is.picked)
-fair_entry base count log (Reserve (NoRoom n)) ok is = tt
-fair_entry base count log (Reserve Spent) ok is = tt
-fair_entry base count log (Beat server nonce cpus key pruned reaped replaced is_new) ok is = tt
-fair_entry base count log (Commit job state kept) ok is = tt
-fair_entry base count log (Undo job noted was_ended) ok is = tt
-fair_entry base count log (Update server job state answer) ok is = tt
-fair_entry base count log (Status pruned servers cpus n) ok is = tt
+fair_entry : (base count : ℕ) (log : List CoreEntry) (k : CoreKind) → AllByRecursion Ok (servers_of log) → AreDistinct (map (λ r. num r.reg) (servers_of log)) → Facts (core_of base count log) k → IsFairEntry log k
+fair_entry base count log (Reserve (Job job reg forgiven)) ok distinct is =
+    let rows : List ServerRow = servers_of log in
+    let row : ServerRow = is.row in
+    let there : (list_any (λ r. r.reg == row.reg) rows ≡ true) × (has_room row ≡ true) = pick_there rows row is.picked in
+    let only_one : AllByRecursion (λ y. same_job (num y.reg) (num row.reg) ≡ true → y ≡ row) rows = pick_has (λ x. AllByRecursion (λ y. same_job (num y.reg) (num x.reg) ≡ true → y ≡ x) rows) rows row
+    (all-filter (λ x. AllByRecursion (λ y. same_job (num y.reg) (num x.reg) ≡ true → y ≡ x) rows) (λ x. AllByRecursion (λ y. same_job (num y.reg) (num x.reg) ≡ true → y ≡ x) rows) has_room (λ x h t. h) rows (own_only (λ r. num r.reg) rows distinct)) is.picked in
+    let fair : AllByRecursion (IsFair row) rows = pick_fair rows row ok is.picked in
+    subst (IsFairly rows) (sym is.at)
+    (there.0, all-weaker (λ y. same_job (num y.reg) (num row.reg) ≡ true → y ≡ row) (λ y. (y.reg == row.reg) ≡ true → (has_room y ≡ true) × AllByRecursion (IsFair y) rows)
+        (λ y same h. subst (λ z. (has_room z ≡ true) × AllByRecursion (IsFair z) rows) (sym (same h)) (there.1, fair)) rows only_one)
+fair_entry base count log (Reserve (NoRoom n)) ok distinct is = tt
+fair_entry base count log (Reserve Spent) ok distinct is = tt
+fair_entry base count log (Beat server nonce cpus key pruned reaped replaced is_new) ok distinct is = tt
+fair_entry base count log (Commit job state kept) ok distinct is = tt
+fair_entry base count log (Undo job noted was_ended) ok distinct is = tt
+fair_entry base count log (Update server job state answer) ok distinct is = tt
+fair_entry base count log (Status pruned servers cpus n) ok distinct is = tt
 
 rows_positive : (log : List CoreEntry) → AllByRecursion (λ p. 1 ≤ p.1) (pairs log) → AllByRecursion Ok (servers_of log)
 rows_positive log all = all-map Ok (row_of log) (standing log) (all-unmap (λ p. 1 ≤ p.1) view (standing log) all)
@@ -313,7 +320,7 @@ fair-step : (base count : ℕ) (log : List CoreEntry) (e : CoreEntry) → AreFai
 fair-step base count log e fair room is =
     subst (AllByRecursion (λ c. IsFairEntry c.before c.at.kind)) (sym (cuts_behind-push [] log e))
     (all-append (λ c. IsFairEntry c.before c.at.kind) (map (followed e) (cuts log)) (end_cut log e ∷ []) (all-map (λ c. IsFairEntry c.before c.at.kind) (followed e) (cuts log) fair)
-    (fair_entry base count log e.kind (rows_positive log room.positive) (facts (core_of base count log) e is), tt))
+    (fair_entry base count log e.kind (rows_positive log room.positive) (rows_distinct log room.distinct) (facts (core_of base count log) e is), tt))
 
 record FitsFairly (base count : ℕ) (log : List CoreEntry) : Type 0 where
   sound : Sound base count log

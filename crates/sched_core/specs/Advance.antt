@@ -7,7 +7,8 @@ use Rattle.dist_types.specs.declared.results.JobState.TheVariants.{Pending, Read
 use Rattle.sched_core.specs.declared.entry.UpdateAnswer.{UpdateAnswer}
 use Rattle.sched_core.specs.declared.entry.UpdateAnswer.TheVariants.{Accepted, Unknown, Wrong, Transition}
 use Rattle.sched_core.specs.declared.rows.OpenRow.{OpenRow}
-use Rattle.sched_core.specs.Log.{same_addr, same_job}
+use Rattle.dist_types.specs.Addr.{same_addr}
+use Rattle.sched_core.specs.Log.{same_job}
 
 -- a job goes from pending to ready, from ready to started, and from started to complete
 abbrev pub follows : JobState → JobState → Bool

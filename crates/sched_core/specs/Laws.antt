@@ -17,7 +17,7 @@ use Rattle.sched_core.specs.Job.{Committed, moves_of}
 use Rattle.sched_core.specs.Pick.{has_room, is_faultless, is_lighter}
 use Rattle.sched_core.specs.Rows.{servers_of}
 use Rattle.sched_core.specs.Advance.{follows}
-use Rattle.sched_core.specs.Rule.{rule, IsCall}
+use Rattle.sched_core.specs.Rule.{rule, IsCall, begins}
 
 -- the entry is the rule's for some call
 abbrev pub IsRule : Core → CoreEntry → Type 0
@@ -56,9 +56,9 @@ abbrev pub IsChain : JobState → List JobState → Type 0
 IsChain from [] = Unit {0}
 IsChain from (to ∷ states) = (follows from to ≡ true) × IsChain to states
 
--- the states of a committed job, from that of its commit on, leave none out
+-- the states of a committed job begin with pending or ready, and leave none out from there on
 abbrev pub HasOrder : Committed → Type 0
-HasOrder c = IsChain c.state (moves_of c)
+HasOrder c = (begins c.state ≡ true) × IsChain c.state (moves_of c)
 
 -- the job has exactly one unended reservation, and its registration stands
 abbrev pub IsHeldOnce : List CoreEntry → JobId → Type 0
@@ -68,9 +68,13 @@ IsHeldOnce log job = (b : Booking) × (filter (λ d. same_job d.job job) (unende
 abbrev pub IsBounded : List CoreEntry → Registered → Type 0
 IsBounded log g = load_of log g.reg ≤ g.cpus + 1 + g.cpus / 8
 
--- a reserve goes to a registration that stands and has room; and none with room and no error has less load for each processor, or it goes to none where one has no error
+-- against a registration with room and no remembered error, the row has no remembered error and no greater load for each processor
+abbrev pub IsFair : ServerRow → ServerRow → Type 0
+IsFair row other = has_room other ≡ true → is_faultless other ≡ true → (is_faultless row ≡ true) × (is_lighter other row ≡ false)
+
+-- a registration of that number stands; it has room, and is fair against each that stands
 abbrev pub IsFairly : List ServerRow → ℕ → Type 0
-IsFairly rows reg = (row : ServerRow) × (row.reg ≡ reg) × (has_room row ≡ true) × (list_any (λ r. r.reg == reg) rows ≡ true) × AllByRecursion (λ r. has_room r ≡ true → is_faultless r ≡ true → (is_faultless row ≡ true) × (is_lighter r row ≡ false)) rows
+IsFairly rows reg = (list_any (λ r. r.reg == reg) rows ≡ true) × AllByRecursion (λ row. (row.reg == reg) ≡ true → (has_room row ≡ true) × AllByRecursion (IsFair row) rows) rows
 
 abbrev pub IsFairEntry : List CoreEntry → CoreKind → Type 0
 IsFairEntry before (Reserve (Job job reg forgiven)) = IsFairly (servers_of before) reg

@@ -1,9 +1,6 @@
 -- The core log, and the plain tests on ids and numbers that every question to it uses.
-use Rattle.std.specs.Prelude.{ℕ, List, [], ◌∷◌, ◌++◌, Bool, false, ◌&&◌, ◌==◌, nat_eq, Option, Some, None}
+use Rattle.std.specs.Prelude.{ℕ, List, [], ◌∷◌, ◌++◌, Bool, false, ◌==◌, Option, Some, None}
 use Rattle.std.specs.List.{list_any}
-use Rattle.std.specs.Cmp.Lexicographic.{pointwise}
-use Rattle.dist_types.specs.declared.addr.Addr.{Addr}
-use Rattle.dist_types.specs.declared.addr.Addr.TheVariants.{V4, V6}
 use Rattle.dist_types.specs.declared.ids.JobId.{JobId}
 use Rattle.sched_core.specs.declared.entry.CoreEntry.{CoreEntry}
 
@@ -16,13 +13,6 @@ pub record Core : Type 0 where
 -- the scheduler with one more entry
 abbrev pub logged : Core → CoreEntry → Core
 logged s e = record s { log = s.log ++ e ∷ [] }
-
--- whether two addresses are one
-abbrev pub same_addr : Addr → Addr → Bool
-same_addr (V4 a p) (V4 b q) = pointwise nat_eq a b && (p == q)
-same_addr (V4 a p) (V6 b q) = false
-same_addr (V6 a p) (V4 b q) = false
-same_addr (V6 a p) (V6 b q) = pointwise nat_eq a b && (p == q)
 
 -- whether two jobs are one
 abbrev pub same_job : JobId → JobId → Bool

@@ -10,7 +10,8 @@ use Rattle.sched_core.specs.declared.entry.CoreKind.TheVariants.{Beat, Reserve, 
 use Rattle.sched_core.specs.declared.entry.Reserved.TheVariants.{Job}
 use Rattle.sched_core.specs.declared.entry.UpdateAnswer.{UpdateAnswer}
 use Rattle.sched_core.specs.declared.entry.UpdateAnswer.TheVariants.{Accepted, Transition}
-use Rattle.sched_core.specs.Log.{same_addr, same_job, names, is_this, latest, newest}
+use Rattle.dist_types.specs.Addr.{same_addr}
+use Rattle.sched_core.specs.Log.{same_job, names, is_this, latest, newest}
 
 -- a registration: the number of a heartbeat that says new, what it says, the entries up to it and those after it
 pub record Registered : Type 0 where

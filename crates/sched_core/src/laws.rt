@@ -36,8 +36,8 @@ pub fn jobs_are_committed_once()
     ensures { (base count : ℕ) (log : List CoreEntry) → count < 2 ^ 64 → IsLegal base count log → AreDistinct (map (λ c. c.job) (commits log)) }
 {}
 
-/// A job's states follow pending, ready, started and complete, and leave none out after that of its
-/// commit.
+/// A job's states follow pending, ready, started and complete: the first is pending or ready, and none
+/// is left out after it.
 pub fn states_are_in_order()
     ensures { (base count : ℕ) (log : List CoreEntry) → count < 2 ^ 64 → IsLegal base count log → AllByRecursion HasOrder (commits log) }
 {}
