@@ -10,5 +10,6 @@ pub mod OneLemmas
 pub mod PieceLemmas
 pub mod RunLemmas
 pub mod ScriptLemmas
+pub mod SpelledLemmas
 pub mod VisibleLemmas
 pub mod WordLemmas

@@ -1,5 +1,5 @@
 -- An event makes one entry, events make one list of entries, and a script's run has one text.
-use Rattle.std.proofs.Common.{◌≡◌, inl, inr, ℕ, List, [], ◌∷◌, ◌++◌, length, Result, Ok, refl, ap, ◌∙◌, sym, subst}
+use Rattle.std.proofs.Common.{◌≡◌, inl, inr, ℕ, List, [], ◌∷◌, ◌++◌, length, refl, ap, ◌∙◌, sym, subst}
 use Rattle.dist_http.specs.declared.route.SchedRouted.{SchedRouted}
 use Rattle.dist_http.proofs.HeadLemmas.{one_question}
 use Rattle.sched_core.specs.Log.{Core}
@@ -11,8 +11,8 @@ use Rattle.farm.specs.declared.event.EventKind.TheVariants.{Request, Deliver, Fa
 use Rattle.farm.specs.declared.entry.Entry.{Entry}
 use Rattle.farm.specs.Next.{core_of, token_of, answer, IsMade, IsNext, EachNext}
 use Rattle.farm.specs.Printed.{run_text}
-use Rattle.farm.specs.Script.{script}
 use Rattle.farm.specs.Command.{IsRunText}
+use Rattle.farm.proofs.SpelledLemmas.{one_script}
 
 one_made : (farm : SetupScheduler) (core : Core) (number : ℕ) (event : Event) (kind : EventKind) (a b : Entry)
     → IsMade farm core number event kind a → IsMade farm core number event kind b → a ≡ b
@@ -42,15 +42,10 @@ one_run farm log [] [] (y ∷ ys) p q = absurd q
 one_run farm log (v ∷ vs) [] ys p q = absurd p
 one_run farm log (v ∷ vs) (x ∷ xs) [] p q = absurd q
 
-one_value : (x y : Setup × List Event) (r : Result (Setup × List Event) ℕ) → r ≡ Ok x → r ≡ Ok y → x ≡ y
-one_value x y r e f = cc
-
 pub one_text : (bytes a b : List ℕ) → IsRunText bytes a → IsRunText bytes b → a ≡ b
 one_text bytes a b p q =
-    let both = one_value (q.setup, q.events) (p.setup, p.events) (script bytes) q.read p.read in
-    let setups : q.setup ≡ p.setup = ap (λ (x : Setup × List Event). x.0) both in
-    let events : q.events ≡ p.events = ap (λ (x : Setup × List Event). x.1) both in
+    let both = one_script bytes q.setup p.setup q.events p.events q.says p.says in
     let each : EachNext p.setup.scheduler [] p.events q.entries =
-    subst (λ (s : Setup). EachNext s.scheduler [] p.events q.entries) setups (subst (λ (es : List Event). EachNext q.setup.scheduler [] es q.entries) events q.each) in
+    subst (λ (s : Setup). EachNext s.scheduler [] p.events q.entries) both.0 (subst (λ (es : List Event). EachNext q.setup.scheduler [] es q.entries) both.1 q.each) in
     p.is ∙ ap (run_text p.setup.scheduler) (one_run p.setup.scheduler [] p.events p.entries q.entries p.each each)
-    ∙ ap (λ (s : Setup). run_text s.scheduler q.entries) (sym setups) ∙ sym q.is
+    ∙ ap (λ (s : Setup). run_text s.scheduler q.entries) (sym both.0) ∙ sym q.is

@@ -17,7 +17,7 @@ use Rattle.farm.specs.Next.{core_log, core_of, token_of, answer, IsMade, IsNext,
 use Rattle.farm.specs.declared.setup.Setup.{Setup}
 use Rattle.farm.specs.Script.{script}
 use Rattle.farm.specs.Printed.{run_text}
-use Rattle.farm.specs.Command.{IsRunText}
+use Rattle.farm.specs.Command.{IsReadText}
 use Rattle.farm.specs.Farm.{Farmed, with_entries, with_core, Runs}
 
 -- what was asked of the scheduler was answered
@@ -70,7 +70,7 @@ Runs-entries old events mid entries run same =
 -- the text of a farm that ran a script's events is that of the script's run
 pub run_text_is : {X : Type 0} (view : X → List ℕ) (r : Result X FarmFault) (bytes : List ℕ) (setup : Setup) (events run_events : List Event) (start farm : Farmed)
     → script bytes ≡ Ok (setup, events) → start ≡ record { scheduler = setup.scheduler; entries = [] } → run_events ≡ events → Runs start run_events farm
-    → IfOk r (λ t. view t ≡ run_text farm.scheduler farm.entries) → IfOk r (λ t. IsRunText bytes (view t))
+    → IfOk r (λ t. view t ≡ run_text farm.scheduler farm.entries) → IfOk r (λ t. IsReadText bytes (view t))
 run_text_is view (Err f) bytes setup events run_events start farm read start-is events-is run h = tt
 run_text_is view (Ok t) bytes setup events run_events start farm read start-is events-is run h =
     let begun : Farmed = record { scheduler = setup.scheduler; entries = [] } in

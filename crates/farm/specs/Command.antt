@@ -12,6 +12,8 @@ use Rattle.farm.specs.declared.fault.FarmFault.TheVariants.{Usage, BadLine, Read
 use Rattle.farm.specs.Next.{EachNext}
 use Rattle.farm.specs.Printed.{run_text}
 use Rattle.farm.specs.Script.{script}
+use Rattle.farm.specs.FirstFaulty.{IsFirstFaulty}
+use Rattle.farm.specs.Spelled.{Says}
 use Rattle.farm.specs.Texts.{◌⧺◌}
 
 -- the program's name and the word farm
@@ -21,8 +23,19 @@ names_farm (name ∷ []) = false
 names_farm (name ∷ word ∷ []) = pointwise nat_eq word (codes "farm")
 names_farm (name ∷ word ∷ more ∷ others) = false
 
--- The text is that of a script's run: of the farm that the script sets up, and of a list that has one entry for each of its events, each next over those before it.
+-- The text is that of a script's run: no line of the script is faulty, its lines say a setup and events, and the text is that of
+-- the farm that is set up so and of a list that has one entry for each event, each next over those before it.
 pub record IsRunText (bytes text : List ℕ) : Type 0 where
+  pub setup : Setup
+  pub events : List Event
+  pub entries : List Entry
+  pub fine : (n : ℕ) → IsFirstFaulty bytes n → ⊥
+  pub says : Says bytes setup events
+  pub each : EachNext setup.scheduler [] events entries
+  pub is : text ≡ run_text setup.scheduler entries
+
+-- the same, where the script is what reading it gives
+pub record IsReadText (bytes text : List ℕ) : Type 0 where
   pub setup : Setup
   pub events : List Event
   pub entries : List Entry
@@ -44,9 +57,9 @@ HasNoRun (BadLine n) bytes = script bytes ≡ Err n
 HasNoRun Memory bytes = Unit {0}
 HasNoRun other bytes = ⊥
 
--- nothing was written, or a front of the text of the script's run
-abbrev pub WroteFront : List ℕ → Option (List ℕ) → Option (List ℕ) → Type 0
-WroteFront bytes old new = (new ≡ old) ⊎ ((text : List ℕ) × IsRunText bytes text × Began text old new)
+-- nothing was written, or a front of a text that is such
+abbrev pub WroteFront : (List ℕ → Type 0) → Option (List ℕ) → Option (List ℕ) → Type 0
+WroteFront IsText old new = (new ≡ old) ⊎ ((text : List ℕ) × IsText text × Began text old new)
 
 -- the status of a script that is read
 abbrev pub script_status : Result (Setup × List Event) ℕ → ℕ
@@ -75,5 +88,5 @@ IsCause Usage c = (names_farm c.words ≡ false) × (c.left ≡ c.told) × (c.re
 IsCause (BadLine n) c = (names_farm c.words ≡ true) × IfSome c.told (λ bytes. script bytes ≡ Err n) × (c.read_after ≡ c.read_before) × (c.held_after ≡ c.held_before)
 IsCause ReadFault c = (names_farm c.words ≡ true) × Rose c.read_before c.read_after × (c.held_after ≡ c.held_before)
 IsCause WriteFault c = (names_farm c.words ≡ true) × (c.read_after ≡ c.read_before) × Rose c.wrote_before c.wrote_after
-    × IfSome c.told (λ bytes. (text : List ℕ) × IsRunText bytes text × Began text c.held_before c.held_after)
+    × IfSome c.told (λ bytes. (text : List ℕ) × IsReadText bytes text × Began text c.held_before c.held_after)
 IsCause Memory c = (names_farm c.words ≡ true) × (c.held_after ≡ c.held_before)

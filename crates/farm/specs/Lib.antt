@@ -9,5 +9,6 @@ pub mod Pieces
 pub mod Printed
 pub mod Reading
 pub mod Script
+pub mod Spelled
 pub mod Texts
 pub mod Words

@@ -20,6 +20,11 @@ use Rattle.farm.specs.declared.event.Event.{Event}
 use Rattle.farm.specs.declared.event.EventKind.{EventKind}
 use Rattle.farm.specs.declared.event.EventKind.TheVariants as event
 use Rattle.farm.specs.declared.entry.Entry.{Entry}
+use Rattle.farm.specs.declared.entry.HeardAs.{HeardAs}
+use Rattle.farm.specs.declared.entry.HeardAs.TheVariants.{New, Old, Lost}
+use Rattle.farm.specs.declared.entry.StepKind.{StepKind}
+use Rattle.farm.specs.declared.entry.StepKind.TheVariants.{Heard, Assigned, Finished, Unreported, Opened}
+use Rattle.farm.specs.declared.entry.Step.{Step}
 use Rattle.farm.specs.declared.entry.OutCall.{OutCall}
 use Rattle.farm.specs.declared.entry.Reply.{Reply}
 use Rattle.farm.specs.declared.entry.EntryWord.{EntryWord}
@@ -120,11 +125,40 @@ word_line (Some Down) = codes "word down\n"
 word_line (Some Waiting) = codes "word waiting\n"
 word_line (Some Died) = codes "word died\n"
 
--- an entry of that number, whose core entry, if it has one, has that other number; no entry has a step of a build server yet
+abbrev pub heard_text : HeardAs → List ℕ
+heard_text New = codes "new"
+heard_text Old = codes "old"
+heard_text Lost = codes "lost"
+
+abbrev pub ready_text : Bool → List ℕ
+ready_text true = codes "ready"
+ready_text false = codes "pending"
+
+-- an archive's id and its size
+abbrev pub archive_text : List ℕ × ℕ → List ℕ
+archive_text p = p.0 ++ codes ":" ++ decimal p.1
+
+-- archives joined by commas, or a dash
+abbrev pub archives_text : List (List ℕ × ℕ) → List ℕ
+archives_text [] = codes "-"
+archives_text (p ∷ ps) = archive_text p ++ flat_map (λ q. codes "," ++ archive_text q) ps
+
+abbrev pub step_text : StepKind → List ℕ
+step_text (Heard as_what) = codes "heard " ⧺ heard_text as_what
+step_text (Assigned job tc ready) = codes "assigned " ⧺ decimal job.0 ⧺ codes " " ⧺ tc ⧺ codes " " ⧺ ready_text ready
+step_text (Finished job) = codes "finished " ⧺ decimal job.0
+step_text (Unreported job) = codes "unreported " ⧺ decimal job.0
+step_text (Opened archives) = codes "opened " ⧺ archives_text archives
+
+abbrev pub step_line : Option Step → List ℕ
+step_line None = []
+step_line (Some step) = codes "step " ⧺ addr_text step.server ⧺ codes " " ⧺ step_text step.kind ⧺ codes "\n"
+
+-- an entry of that number, whose core entry, if it has one, has that other number
 abbrev pub entry_text : ℕ → ℕ → Entry → List ℕ
 entry_text number core_number e =
     codes "entry " ⧺ decimal number ⧺ codes " " ⧺ decimal e.event.at ⧺ codes " " ⧺ kind_text e.event.kind ⧺ codes "\n"
-    ⧺ core_line core_number e.core ⧺ call_line e.call ⧺ reply_line e.reply ⧺ word_line e.word
+    ⧺ core_line core_number e.core ⧺ step_line e.step ⧺ call_line e.call ⧺ reply_line e.reply ⧺ word_line e.word
 
 -- how many core entries an entry has
 abbrev pub core_count : Option CoreEntry → ℕ

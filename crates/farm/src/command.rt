@@ -4,7 +4,7 @@ ghost use Rattle.dist_types.specs.Cause.{Rose};
 ghost use Rattle.dist_types.specs.Content.{Added};
 ghost use Rattle.farm.specs.Script.{script};
 ghost use Rattle.farm.specs.FirstFaulty.{IsFirstFaulty};
-ghost use Rattle.farm.specs.Command.{names_farm, IsRunText, fault_text, HasNoRun, WroteFront, status_of, IsCause};
+ghost use Rattle.farm.specs.Command.{names_farm, IsRunText, IsReadText, fault_text, HasNoRun, WroteFront, status_of, IsCause};
 ghost use Rattle.farm.specs.declared.fault.FarmFault.TheVariants as fault;
 
 use crate::fault::FarmFault;
@@ -51,7 +51,7 @@ fn read_input<S: Source>(alloc: Global, input: &mut S) -> Result<Vec<u8>, FarmFa
 
 /// The text of the run of a script.
 fn run_of(alloc: Global, bytes: &[u8]) -> Result<String, FarmFault>
-    ensures ok { IfOk result (λ text. IsRunText bytes.now (string_bytes text)) }
+    ensures ok { IfOk result (λ text. IsReadText bytes.now (string_bytes text)) }
     ensures err { IfErr result (λ f. HasNoRun f bytes.now) }
 {
     let (setup, events) = match read_script(alloc, bytes) {
@@ -78,7 +78,7 @@ fn run_words<S: Source, K: Sink>(
     input: &mut S,
     out: &mut K,
 ) -> Result<(), FarmFault>
-    ensures ok { OnOk result (IfSome (S.left input.old) (λ bytes. (text : List ℕ) × IsRunText bytes text
+    ensures ok { OnOk result (IfSome (S.left input.old) (λ bytes. (text : List ℕ) × IsReadText bytes text
         × Added text (K.held out.old) (K.held out.new))) }
     ensures err { IfErr result (λ f. IsCause f (record {
       words = map string_bytes words.now;
@@ -116,7 +116,7 @@ fn run_and_tell<S: Source, K: Sink, E: Sink>(
     errs: &mut E,
 ) -> u8
     // 0: the text of the script's run was written, and no fault is told.
-    ensures printed { result ≡ 0 → IfSome (S.left input.old) (λ bytes. (text : List ℕ) × IsRunText bytes text
+    ensures printed { result ≡ 0 → IfSome (S.left input.old) (λ bytes. (text : List ℕ) × IsReadText bytes text
         × Added text (K.held out.old) (K.held out.new)) × (E.held errs.new ≡ E.held errs.old) }
     // 1: a line is faulty; errs names the first such line, and nothing is written.
     ensures bad_line { result ≡ 1 → IfSome (S.left input.old) (λ bytes. (n : ℕ) × IsFirstFaulty bytes n
@@ -132,7 +132,7 @@ fn run_and_tell<S: Source, K: Sink, E: Sink>(
         × Added (fault_text fault.ReadFault) (E.held errs.old) (E.held errs.new) × (K.held out.new ≡ K.held out.old) }
     // 5: out or errs failed in this call; out has a front of the text.
     ensures write_fault { result ≡ 5 → (Rose (K.faults out.old) (K.faults out.new) ⊎ Rose (E.faults errs.old) (E.faults errs.new))
-        × IfSome (S.left input.old) (λ bytes. WroteFront bytes (K.held out.old) (K.held out.new)) }
+        × IfSome (S.left input.old) (λ bytes. WroteFront (IsReadText bytes) (K.held out.old) (K.held out.new)) }
     // There is no other status, and without want of memory and faults it is the one of the words and the script.
     ensures statuses { result ≤ 5 }
     ensures exact { IfSome (S.left input.old) (λ bytes. (result ≡ status_of (map string_bytes words.now) bytes)
@@ -200,7 +200,7 @@ pub fn dist_main<S: Source, K: Sink, E: Sink>(
         × Added (fault_text fault.ReadFault) (E.held errs.old) (E.held errs.new) × (K.held out.new ≡ K.held out.old) }
     // 5: out or errs failed in this call; out has a front of the text.
     ensures write_fault { result ≡ 5 → (Rose (K.faults out.old) (K.faults out.new) ⊎ Rose (E.faults errs.old) (E.faults errs.new))
-        × IfSome (S.left input.old) (λ bytes. WroteFront bytes (K.held out.old) (K.held out.new)) }
+        × IfSome (S.left input.old) (λ bytes. WroteFront (IsRunText bytes) (K.held out.old) (K.held out.new)) }
     // There is no other status. Where a line is faulty it is 1, and where none is it is 0, without want of memory and faults.
     ensures statuses { result ≤ 5 }
     ensures faulty { names_farm (map string_bytes words.now) ≡ true → IfSome (S.left input.old) (λ bytes.

@@ -6,19 +6,25 @@ ghost use Rattle.farm.specs.declared.fault.FarmFault.TheVariants as farm_faults;
 use dist_http::error::HttpError;
 use sched_core::error::SchedError;
 use std::alloc::{AllocError, AllocFailed};
+use thiserror::Error;
 
 /// Why a command did not do its work.
-#[derive(Clone, Copy, Debug, PartialEq, Eq)]
+#[derive(Clone, Copy, Debug, PartialEq, Eq, Error)]
 pub enum FarmFault {
     /// The words name no command.
+    #[error("these words name no command")]
     Usage,
     /// The first faulty line has this number, counted from 1.
+    #[error("bad line {0}")]
     BadLine(u64),
     /// The input failed.
+    #[error("read fault")]
     ReadFault,
     /// The output failed.
+    #[error("write fault")]
     WriteFault,
     /// Memory ran out.
+    #[error("out of memory")]
     Memory,
 }
 

@@ -6,6 +6,8 @@ ghost use Rattle.farm.specs.Script.{script};
 ghost use Rattle.farm.specs.FirstFaulty.{IsFirstFaulty};
 ghost use Rattle.farm.specs.Next.{IsNext, EachNext};
 ghost use Rattle.farm.specs.Command.{IsRunText};
+ghost use Rattle.farm.specs.Spelled.{Says};
+ghost use Rattle.farm.specs.declared.setup.Setup.{Setup};
 ghost use Rattle.farm.specs.declared.lines.Line.{Line};
 ghost use Rattle.farm.specs.declared.setup.SetupScheduler.{SetupScheduler};
 ghost use Rattle.farm.specs.declared.event.Event.{Event};
@@ -19,6 +21,12 @@ pub fn lines_are_spelled()
 /// A script is refused with a number exactly where that is the number of its first faulty line.
 pub fn first_faulty_lines_are_named()
     ensures { (bytes : List ℕ) (n : ℕ) → (script bytes ≡ Err n) ↔ IsFirstFaulty bytes n }
+{}
+
+/// A script is read as a setup and events exactly where no line of it is faulty and its lines say them.
+pub fn scripts_are_spelled()
+    ensures { (bytes : List ℕ) (setup : Setup) (events : List Event)
+        → (script bytes ≡ Ok (setup, events)) ↔ (((n : ℕ) → IsFirstFaulty bytes n → ⊥) × Says bytes setup events) }
 {}
 
 /// Over the same entries an event makes one entry at most.

@@ -7,7 +7,7 @@ ghost use Rattle.farm.specs.declared.fault.FarmFault.TheVariants as fault;
 use crate::entry::Entry;
 use crate::fault::FarmFault;
 use crate::run::Farm;
-use crate::text::{CallLine, CoreLine, Kind, ReplyLine, RowLine, WordLine};
+use crate::text::{CallLine, CoreLine, Kind, ReplyLine, RowLine, StepLine, WordLine};
 use sched_core::rows::Servers;
 use std::alloc::{AllocError, Global};
 
@@ -26,10 +26,11 @@ fn push_entry(
         number: core_number,
         core: &entry.core,
     };
+    let step = StepLine(&entry.step);
     let call = CallLine(&entry.call);
     let reply = ReplyLine(&entry.reply);
     let word = WordLine(entry.word);
-    write!(out, "entry {number} {at} {kind}\n{core}{call}{reply}{word}")
+    write!(out, "entry {number} {at} {kind}\n{core}{step}{call}{reply}{word}")
 }
 
 /// How many core entries there are after an entry.

@@ -1,11 +1,12 @@
 //! The texts of a printed run, piece by piece.
 ghost use Rattle.std.specs.Prelude.{◌≡◌, ◌<◌, ◌∷◌, [], Some, slice_index, encode_utf8};
 ghost use Rattle.hex.specs.Hex.{lower_digits, encode_lower};
-ghost use Rattle.farm.specs.Printed.{numbers_text, jobs_text, number_text, hex_text, kind_text, age_text, kept_text, ended_text, reserved_text, advance_text, core_text, core_line, call_line, reply_line, word_line, row_text};
+ghost use Rattle.farm.specs.Printed.{numbers_text, jobs_text, number_text, hex_text, kind_text, age_text, kept_text, ended_text, reserved_text, advance_text, core_text, core_line, heard_text, ready_text, archive_text, archives_text, step_text, step_line, call_line, reply_line, word_line, row_text};
 
-use crate::entry::{EntryWord, OutCall, Reply};
+use crate::entry::{EntryWord, HeardAs, OutCall, Reply, Step, StepKind};
 use crate::event::EventKind;
 use dist_types::ids::JobId;
+use dist_types::toolchain::Toolchain;
 use sched_core::entry::{CoreEntry, CoreKind, Reserved, UpdateAnswer};
 use sched_core::rows::ServerRow;
 use std::fmt;
@@ -284,6 +285,106 @@ impl fmt::Display for CoreLine<'_> {
                 let number = self.number;
                 let kind = Core(&core.kind);
                 write!(f, "core {number} {kind}\n")
+            }
+            None => Ok(()),
+        }
+    }
+}
+
+fn heard_word(heard: HeardAs) -> &'static str
+    ensures { result.now ≡ heard_text heard }
+{
+    match heard {
+        HeardAs::New => "new",
+        HeardAs::Old => "old",
+        HeardAs::Lost => "lost",
+    }
+}
+
+fn ready_word(ready: bool) -> &'static str
+    ensures { result.now ≡ ready_text ready }
+{
+    if ready { "ready" } else { "pending" }
+}
+
+/// An archive's id and its size.
+#[derive(Drop)]
+struct Archive<'a>(&'a (Toolchain, u64));
+
+impl fmt::Display for Archive<'_> {
+    ghost output = { λ x. Some (archive_text x.0.now) };
+
+    fn fmt<W: fmt::Write>(&self, f: &mut fmt::Formatter<W>) -> fmt::Result {
+        let (tc, size) = self.0;
+        let id = tc.archive_id();
+        write!(f, "{id}:{size}")
+    }
+}
+
+/// Archives joined by commas, or a dash.
+#[derive(Drop)]
+struct Archives<'a>(&'a [(Toolchain, u64)]);
+
+impl fmt::Display for Archives<'_> {
+    ghost output = { λ x. Some (archives_text x.0.now) };
+
+    fn fmt<W: fmt::Write>(&self, f: &mut fmt::Formatter<W>) -> fmt::Result {
+        match self.0.split_first() {
+            None => write!(f, "-"),
+            Some((first, rest)) => {
+                let first = Archive(first);
+                write!(f, "{first}")?;
+                for pair in rest {
+                    let archive = Archive(pair);
+                    write!(f, ",{archive}")?;
+                }
+                Ok(())
+            }
+        }
+    }
+}
+
+/// What a build server did.
+#[derive(Drop)]
+struct Did<'a>(&'a StepKind);
+
+impl fmt::Display for Did<'_> {
+    ghost output = { λ x. Some (step_text x.0.now) };
+
+    fn fmt<W: fmt::Write>(&self, f: &mut fmt::Formatter<W>) -> fmt::Result {
+        match self.0 {
+            StepKind::Heard(heard) => {
+                let heard = heard_word(*heard);
+                write!(f, "heard {heard}")
+            }
+            StepKind::Assigned { job, tc, ready } => {
+                let id = tc.archive_id();
+                let ready = ready_word(*ready);
+                write!(f, "assigned {job} {id} {ready}")
+            }
+            StepKind::Finished { job } => write!(f, "finished {job}"),
+            StepKind::Unreported { job } => write!(f, "unreported {job}"),
+            StepKind::Opened(archives) => {
+                let archives = Archives(archives.get());
+                write!(f, "opened {archives}")
+            }
+        }
+    }
+}
+
+/// The line of a step, if there is one.
+#[derive(Drop)]
+pub struct StepLine<'a>(pub &'a Option<Step>);
+
+impl fmt::Display for StepLine<'_> {
+    ghost output = { λ x. Some (step_line x.0.now) };
+
+    fn fmt<W: fmt::Write>(&self, f: &mut fmt::Formatter<W>) -> fmt::Result {
+        match self.0 {
+            Some(step) => {
+                let server = step.server;
+                let did = Did(&step.kind);
+                write!(f, "step {server} {did}\n")
             }
             None => Ok(()),
         }
