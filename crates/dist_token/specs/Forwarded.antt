@@ -17,6 +17,7 @@ use Rattle.dist_types.specs.declared.token_error.TokenError.TheVariants.{Forward
 
 -- ---- the question
 
+-- the host of a URL's parts, an address of eight groups in its brackets
 abbrev pub host_of : Parts → List ℕ
 host_of url = unwrap_or (option_map host_text (nonempty_host url)) []
 
@@ -24,6 +25,7 @@ host_of url = unwrap_or (option_map host_text (nonempty_host url)) []
 abbrev pub port_of : Parts → ℕ
 port_of url = unwrap_or (option_or url.port (default_port url.scheme)) 80
 
+-- a question mark and the query, or nothing
 abbrev pub query_text : Option (List ℕ) → List ℕ
 query_text None = []
 query_text (Some query) = 63 ∷ query
@@ -50,9 +52,11 @@ pub record IsHeadOf (reply : List ℕ) (h : ResponseHead) (rest : List ℕ) : Ty
   pub few : length h.fields ≤ 100
   pub short : length (print_response h) ≤ 65536
 
+-- a head with this status begins the reply, within the limits on fields and bytes
 abbrev pub HasHead : List ℕ → ℕ → Type 0
 HasHead reply code = (h : ResponseHead) × (rest : List ℕ) × IsHeadOf reply h rest × (code ≡ status_code h)
 
+-- no status is that of a head that begins the reply
 abbrev pub HasNoHead : List ℕ → Type 0
 HasNoHead reply = (h : ResponseHead) (rest : List ℕ) → ¬ (IsHeadOf reply h rest)
 
@@ -60,6 +64,7 @@ HasNoHead reply = (h : ResponseHead) (rest : List ℕ) → ¬ (IsHeadOf reply h 
 abbrev pub HasStatus : List ℕ → ℕ → Type 0
 HasStatus reply code = HasHead reply code ⊎ (HasNoHead reply × (code ≡ 0))
 
+-- a status from 200 to 299
 abbrev pub is_success : ℕ → Bool
 is_success code = nat_le 200 code && nat_le code 299
 

@@ -10,6 +10,7 @@ use Rattle.dist_token.specs.declared.proxy.ProxyTokenCheck.{ProxyTokenCheck}
 abbrev pub moment_in : Kept → List ℕ → Option ℕ
 moment_in kept token = get_by_text kept.moments token
 
+-- a check as contracts see it, with what its dialer tells
 abbrev pub seen : {D : Type 0} → (D → Option (List Asked)) → (D → ℕ) → ProxyTokenCheck D → Forwarding
 seen asked faults check = record {
   url = check.url;

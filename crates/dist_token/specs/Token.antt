@@ -8,6 +8,7 @@ use Rattle.dist_token.specs.Mac.{hmac_of}
 unfoldable pub encoded : List ℕ → List ℕ
 encoded bytes = encode_of url_safe_no_pad bytes
 
+-- the header that is written
 abbrev pub header_text : List ℕ
 header_text = codes "{\"typ\":\"JWT\",\"alg\":\"HS256\"}"
 

@@ -23,11 +23,13 @@ and_then (Err e) next = Err e
 
 -- ---- the parts
 
+-- the three parts of a token
 pub record Parts : Type 0 where
   pub header : List ℕ
   pub claims : List ℕ
   pub mac : List ℕ
 
+-- three parts, and no more and no fewer
 abbrev pub three : List (List ℕ) → Option Parts
 three [] = None
 three (header ∷ []) = None
@@ -53,6 +55,7 @@ value_of part = option_and_then json_of (bytes_of part)
 
 -- ---- what the values say
 
+-- whether there is a text, and it is this one
 abbrev pub is_text : List ℕ → Option (List ℕ) → Bool
 is_text text None = false
 is_text text (Some other) = bytes_eq other text
@@ -61,13 +64,16 @@ is_text text (Some other) = bytes_eq other text
 abbrev pub is_hs256 : Data → Bool
 is_hs256 header = is_text (codes "HS256") (option_and_then as_str (get (codes "alg") header))
 
+-- the whole number that a value is, if it is one
 abbrev pub u64_of : Data → Option ℕ
 u64_of value = option_and_then as_u64 (as_number value)
 
+-- how many members an object has
 abbrev pub count_of : Members → ℕ
 count_of no_members = 0
 count_of (member key value rest) = suc (count_of rest)
 
+-- whether there is an object, of exactly two members
 abbrev pub are_two : Option Members → Bool
 are_two None = false
 are_two (Some members) = count_of members == 2
@@ -88,10 +94,12 @@ mac_test key p =
     and_then (ok_or (bytes_of p.mac) (BadToken Mac))
     (λ mac. if bytes_eq mac (hmac_of key (signed_text p.header p.claims)) then Ok tt else Err BadMac)
 
+-- whether there is a value, whose alg is HS256
 abbrev pub is_header : Option Data → Bool
 is_header None = false
 is_header (Some header) = is_hs256 header
 
+-- the first part reads as a header
 abbrev pub header_test : Parts → Result ⊤ TokenError
 header_test p = if is_header (value_of p.header) then Ok tt else Err (BadToken Header)
 
@@ -99,6 +107,7 @@ header_test p = if is_header (value_of p.header) then Ok tt else Err (BadToken H
 abbrev pub said : Parts → Result Data TokenError
 said p = and_then (header_test p) (λ _. ok_or (value_of p.claims) (BadToken Claims))
 
+-- the token has three parts
 abbrev pub shape_test : List ℕ → Result Parts TokenError
 shape_test token = ok_or (parts_of token) (BadToken Shape)
 
@@ -110,6 +119,7 @@ tested key token = and_then (shape_test token) (λ p. and_then (mac_test key p) 
 abbrev pub untested : List ℕ → Result Data TokenError
 untested token = and_then (shape_test token) said
 
+-- the expiry and the number of the job that the claims say
 abbrev pub job_claims : Data → Option (ℕ × ℕ)
 job_claims = claims_of (codes "job_id") u64_of
 
@@ -129,6 +139,7 @@ job_verdict key id token =
 abbrev pub address_in : Data → Option Addr
 address_in value = option_and_then addr_in (as_str value)
 
+-- the expiry and the address of the server that the claims say
 abbrev pub server_claims : Data → Option (ℕ × Addr)
 server_claims = claims_of (codes "server_id") address_in
 
@@ -144,6 +155,7 @@ server_verdict key token = and_then (tested key token) server_test
 abbrev pub extracted : List ℕ → Result Addr TokenError
 extracted token = and_then (untested token) server_test
 
+-- a space
 abbrev pub is_space : ℕ → Bool
 is_space byte = byte == 32
 

@@ -6,12 +6,15 @@ use Rattle.farm.specs.declared.setup.Setup.{Setup}
 use Rattle.farm.specs.declared.lines.Line.{Line}
 use Rattle.farm.specs.declared.lines.Line.TheVariants.{Skipped, Scheduler}
 
+-- the line sets up the scheduler
 abbrev pub SaysSetup : List ℕ → Type 0
 SaysSetup p = (s : Setup) × IsLine (text_of p) (Scheduler s)
 
+-- the line says something, and is not skipped
 abbrev pub SaysMore : List ℕ → Type 0
 SaysMore p = (l : Line) × IsLine (text_of p) l × (l ≢ Skipped)
 
+-- it holds of one of the lines
 abbrev pub AnyOf : (List ℕ → Type 0) → List (List ℕ) → Type 0
 AnyOf P [] = ⊥
 AnyOf P (p ∷ ps) = P p ⊎ AnyOf P ps
@@ -32,5 +35,6 @@ abbrev pub FirstFaultyFrom : List (List ℕ) → List (List ℕ) → ℕ → Typ
 FirstFaultyFrom before [] n = (AnyOf SaysSetup before → ⊥) × (n ≡ length before + 1)
 FirstFaultyFrom before (p ∷ ps) n = (IsFaultyAfter before p × (n ≡ length before + 1)) ⊎ ((IsFaultyAfter before p → ⊥) × FirstFaultyFrom (before ++ p ∷ []) ps n)
 
+-- line n is the input's first faulty one
 abbrev pub IsFirstFaulty : List ℕ → ℕ → Type 0
 IsFirstFaulty bytes n = FirstFaultyFrom [] (pieces bytes) n

@@ -39,5 +39,6 @@ abbrev pub said : List ℕ → Option (List ℕ) → Option Line
 said t (Some r) = scheduler_at r >>= λ s. Some (Scheduler s)
 said t None = event_at t >>= λ e. Some (Happens e)
 
+-- the value that the whole line spells, if it spells one
 unfoldable pub line_at : List ℕ → Option Line
 line_at t = if is_skipped t then Some Skipped else said t (strip (codes "scheduler ") t)

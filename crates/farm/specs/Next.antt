@@ -42,6 +42,7 @@ worded event word = record { event = event; core = None; step = None; call = Non
 abbrev pub replied : Event → Option CoreEntry → Reply → Entry
 replied event core reply = record { event = event; core = core; step = None; call = None; reply = Some reply; word = None }
 
+-- the entry's reply: the bytes of the response
 abbrev pub reply_to : ℕ → Response → Reply
 reply_to number response = record { to = number; bytes = reply_text response }
 

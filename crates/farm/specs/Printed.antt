@@ -56,6 +56,7 @@ hex_text (b ∷ bs) = encode_lower (b ∷ bs)
 
 -- ---- the line of an event, as scripts have it
 
+-- what happens, without its moment
 abbrev pub kind_text : EventKind → List ℕ
 kind_text (event.Request target peer bytes) = codes "request " ⧺ addr_text target ⧺ codes " " ⧺ addr_text peer ⧺ codes " " ⧺ hex_text bytes
 kind_text (event.Deliver call) = codes "deliver " ⧺ decimal call
@@ -67,29 +68,35 @@ kind_text (event.Restart server key nonce) = codes "restart " ⧺ addr_text serv
 
 -- ---- the line of a core entry
 
+-- whether a heartbeat made a registration
 abbrev pub age_text : Bool → List ℕ
 age_text true = codes "new"
 age_text false = codes "old"
 
+-- whether a commit kept its job
 abbrev pub kept_text : Bool → List ℕ
 kept_text true = codes "kept"
 kept_text false = codes "dropped"
 
+-- whether an undo ended its reservation
 abbrev pub ended_text : Bool → List ℕ
 ended_text true = codes "yes"
 ended_text false = codes "no"
 
+-- what a reserve gave
 abbrev pub reserved_text : Reserved → List ℕ
 reserved_text (Job job reg forgiven) = codes "job " ⧺ decimal job.0 ⧺ codes " reg " ⧺ decimal reg ⧺ codes " forgiven " ⧺ numbers_text forgiven
 reserved_text (NoRoom standing) = codes "none " ⧺ decimal standing
 reserved_text Spent = codes "spent"
 
+-- what an update was answered
 abbrev pub advance_text : UpdateAnswer → List ℕ
 advance_text Accepted = codes "accepted"
 advance_text Unknown = codes "unknown"
 advance_text Wrong = codes "wrong"
 advance_text (Transition state) = codes "transition " ⧺ state_text state
 
+-- what a core entry says, behind its number
 abbrev pub core_text : CoreKind → List ℕ
 core_text (core.Reserve reserved) = codes "reserve " ⧺ reserved_text reserved
 core_text (core.Commit job state kept) = codes "commit job " ⧺ decimal job.0 ⧺ codes " state " ⧺ state_text state ⧺ codes " " ⧺ kept_text kept
@@ -110,14 +117,17 @@ abbrev pub core_line : ℕ → Option CoreEntry → List ℕ
 core_line number None = []
 core_line number (Some e) = codes "core " ⧺ decimal number ⧺ codes " " ⧺ core_text e.kind ⧺ codes "\n"
 
+-- the target and the bytes of the call, if one was made
 abbrev pub call_line : Option OutCall → List ℕ
 call_line None = []
 call_line (Some call) = codes "call " ⧺ addr_text call.target ⧺ codes " " ⧺ hex_text call.bytes ⧺ codes "\n"
 
+-- which entry is answered, and the bytes, if there is a reply
 abbrev pub reply_line : Option Reply → List ℕ
 reply_line None = []
 reply_line (Some reply) = codes "reply " ⧺ decimal reply.to ⧺ codes " " ⧺ hex_text reply.bytes ⧺ codes "\n"
 
+-- the word, if there is one
 abbrev pub word_line : Option EntryWord → List ℕ
 word_line None = []
 word_line (Some Void) = codes "word void\n"
@@ -125,11 +135,13 @@ word_line (Some Down) = codes "word down\n"
 word_line (Some Waiting) = codes "word waiting\n"
 word_line (Some Died) = codes "word died\n"
 
+-- how a heartbeat was settled
 abbrev pub heard_text : HeardAs → List ℕ
 heard_text New = codes "new"
 heard_text Old = codes "old"
 heard_text Lost = codes "lost"
 
+-- whether the server has the job's archive
 abbrev pub ready_text : Bool → List ℕ
 ready_text true = codes "ready"
 ready_text false = codes "pending"
@@ -143,6 +155,7 @@ abbrev pub archives_text : List (List ℕ × ℕ) → List ℕ
 archives_text [] = codes "-"
 archives_text (p ∷ ps) = archive_text p ++ flat_map (λ q. codes "," ++ archive_text q) ps
 
+-- what a build server did, behind its address
 abbrev pub step_text : StepKind → List ℕ
 step_text (Heard as_what) = codes "heard " ⧺ heard_text as_what
 step_text (Assigned job tc ready) = codes "assigned " ⧺ decimal job.0 ⧺ codes " " ⧺ tc ⧺ codes " " ⧺ ready_text ready
@@ -150,6 +163,7 @@ step_text (Finished job) = codes "finished " ⧺ decimal job.0
 step_text (Unreported job) = codes "unreported " ⧺ decimal job.0
 step_text (Opened archives) = codes "opened " ⧺ archives_text archives
 
+-- the step of a build server, if there is one
 abbrev pub step_line : Option Step → List ℕ
 step_line None = []
 step_line (Some step) = codes "step " ⧺ addr_text step.server ⧺ codes " " ⧺ step_text step.kind ⧺ codes "\n"
@@ -172,6 +186,7 @@ entries_text number core_number (e ∷ es) = entry_text number core_number e ++ 
 
 -- ---- the books
 
+-- the line of a registration that stands
 abbrev pub row_text : ServerRow → List ℕ
 row_text row =
     codes "server " ⧺ addr_text row.server ⧺ codes " reg " ⧺ decimal row.reg ⧺ codes " cpus " ⧺ decimal row.cpus ⧺ codes " nonce " ⧺ decimal row.nonce

@@ -8,11 +8,13 @@ use Rattle.farm.specs.declared.lines.Line.TheVariants.{Skipped, Scheduler, Happe
 use Rattle.farm.specs.Pieces.{pieces, text_of}
 use Rattle.farm.specs.Grammar.{IsLine}
 
+-- the setup that the line says, if it says one
 abbrev pub setup_in : Line → Option Setup
 setup_in Skipped = None
 setup_in (Scheduler s) = Some s
 setup_in (Happens e) = None
 
+-- the event that the line says, if it says one
 abbrev pub event_in : Line → Option Event
 event_in Skipped = None
 event_in (Scheduler s) = None

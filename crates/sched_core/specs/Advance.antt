@@ -22,6 +22,7 @@ abbrev pub is_at : Option Addr → Addr → Bool
 is_at None server = false
 is_at (Some addr) server = same_addr addr server
 
+-- the same, of the open job with that id, if there is one
 abbrev pub advance_by : Option OpenRow → Addr → JobState → UpdateAnswer
 advance_by None server state = Unknown
 advance_by (Some job) server state = if is_at job.server server then (if follows job.state state then Accepted else Transition job.state) else Wrong

@@ -23,6 +23,7 @@ row_after e row = if renews_by e.kind row.server then record row { seen = e.now 
 abbrev pub row_stays : CoreEntry → ServerRow → Bool
 row_stays e row = not (ends_by e.kind row.reg)
 
+-- the number of a registration, and its key
 abbrev pub key_of : Registered → ℕ × List ℕ
 key_of g = (g.reg, g.key)
 
@@ -35,6 +36,7 @@ abbrev pub key_by : CoreKind → ℕ → Option (ℕ × List ℕ)
 key_by (Beat server nonce cpus key pruned reaped replaced is_new) number = if is_new then Some (number, key) else None
 key_by other number = None
 
+-- whether an entry leaves the key's registration standing
 abbrev pub key_stays : CoreEntry → ℕ × List ℕ → Bool
 key_stays e k = not (ends_by e.kind k.0)
 
@@ -44,6 +46,7 @@ is_quiet (Beat server nonce cpus key pruned reaped replaced is_new) = true
 is_quiet (Status pruned servers cpus jobs) = true
 is_quiet other = false
 
+-- heartbeats and statuses alone
 abbrev pub IsQuiet : List CoreEntry → Type 0
 IsQuiet log = AllByRecursion (λ e. is_quiet e.kind ≡ true) log
 

@@ -23,6 +23,7 @@ abbrev pub forgives_by : CoreKind → ℕ → Bool
 forgives_by (Reserve (Job job other forgiven)) reg = names forgiven reg
 forgives_by other reg = false
 
+-- the error that an entry notes at the registration, if it notes one
 abbrev pub noted_by : CoreKind → ℕ → ℕ → List CoreEntry → Option Noted
 noted_by kind reg now later = if notes_by kind reg then Some (record { now = now; later = later }) else None
 
@@ -30,6 +31,7 @@ noted_by kind reg now later = if notes_by kind reg then Some (record { now = now
 abbrev pub noted_at : ℕ → Cut CoreEntry → Option Noted
 noted_at reg c = noted_by c.at.kind reg c.at.now c.after
 
+-- no later reserve forgives it
 abbrev pub is_remembered : ℕ → Noted → Bool
 is_remembered reg n = not (list_any (λ e. forgives_by e.kind reg) n.later)
 

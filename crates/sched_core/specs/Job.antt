@@ -28,6 +28,7 @@ places_by other j = None
 abbrev pub place_of : JobId → List CoreEntry → Option ℕ
 place_of job entries = newest None (filter_map (λ e. places_by e.kind job) entries)
 
+-- the job that an entry commits and keeps, between the entries before and after it
 abbrev pub committed_by : CoreKind → List CoreEntry → List CoreEntry → Option Committed
 committed_by (Commit job state kept) before later = if kept then Some (record { job = job; reg = place_of job before; state = state; later = later }) else None
 committed_by other before later = None
@@ -70,5 +71,6 @@ closes_by kind job reg = completes_by kind job || reaps_by kind job || ends_plac
 abbrev pub is_open : Committed → Bool
 is_open c = not (is_complete c.state) && not (list_any (λ e. closes_by e.kind c.job c.reg) c.later)
 
+-- every open job, in the order of the commits
 abbrev pub open_jobs : List CoreEntry → List Committed
 open_jobs log = lasting committed_at is_open log

@@ -23,6 +23,7 @@ use Rattle.sched_core.specs.Rule.{rule, IsCall, begins}
 abbrev pub IsRule : Core → CoreEntry → Type 0
 IsRule s e = (call : Call) × IsCall s call × (e ≡ rule s call)
 
+-- the same, behind a front of entries
 abbrev pub IsLegalBehind : ℕ → ℕ → List CoreEntry → List CoreEntry → Type 0
 IsLegalBehind base count front log = AllByRecursion (λ c. IsRule (record { base = base; count = count; log = c.before }) c.at) (cuts_behind front log)
 
@@ -76,6 +77,7 @@ IsFair row other = has_room other ≡ true → is_faultless other ≡ true → (
 abbrev pub IsFairly : List ServerRow → ℕ → Type 0
 IsFairly rows reg = (list_any (λ r. r.reg == reg) rows ≡ true) × AllByRecursion (λ row. (row.reg == reg) ≡ true → (has_room row ≡ true) × AllByRecursion (IsFair row) rows) rows
 
+-- where the entry is a reserve that names a job, its registration is a fair pick
 abbrev pub IsFairEntry : List CoreEntry → CoreKind → Type 0
 IsFairEntry before (Reserve (Job job reg forgiven)) = IsFairly (servers_of before) reg
 IsFairEntry before other = Unit {0}

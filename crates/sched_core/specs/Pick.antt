@@ -8,6 +8,7 @@ use Rattle.sched_core.specs.Prune.{age}
 abbrev pub has_room : ServerRow → Bool
 has_room row = nat_lt row.load (row.cpus + 1 + row.cpus / 8)
 
+-- the rows that have room
 abbrev pub roomy : List ServerRow → List ServerRow
 roomy rows = filter has_room rows
 
@@ -28,6 +29,7 @@ abbrev pub first_best : (ServerRow → ServerRow → Bool) → List ServerRow �
 first_best goes_before [] = None
 first_best goes_before (row ∷ rows) = Some (best_of goes_before row rows)
 
+-- the first of two, or else the second
 abbrev pub or_else : Option ServerRow → Option ServerRow → Option ServerRow
 or_else None other = other
 or_else (Some row) other = Some row

@@ -22,6 +22,7 @@ pub record Booking : Type 0 where
   pub reg : ℕ
   pub later : List CoreEntry
 
+-- the reservation that an entry of this number makes, if it makes one
 abbrev pub booked_by : CoreKind → ℕ → ℕ → List CoreEntry → Option Booking
 booked_by (Reserve (Job job reg forgiven)) number now later = Some (record { number = number; now = now; job = job; reg = reg; later = later })
 booked_by other number now later = None
@@ -44,17 +45,21 @@ spends_by other j = false
 abbrev pub is_unspent : Booking → Bool
 is_unspent b = not (list_any (λ e. spends_by e.kind b.job) b.later)
 
+-- every unspent reservation, in order
 abbrev pub unspent : List CoreEntry → List Booking
 unspent log = lasting booked_at is_unspent log
 
+-- whether an update was accepted
 abbrev pub is_accepted : UpdateAnswer → Bool
 is_accepted Accepted = true
 is_accepted answer = false
 
+-- whether a state is started
 abbrev pub is_started : JobState → Bool
 is_started Started = true
 is_started state = false
 
+-- whether a state is complete
 abbrev pub is_complete : JobState → Bool
 is_complete Complete = true
 is_complete state = false
@@ -86,6 +91,7 @@ frees_by kind job reg = ends_job_by kind job || ends_by kind reg
 abbrev pub is_unended : Booking → Bool
 is_unended b = not (list_any (λ e. frees_by e.kind b.job b.reg) b.later)
 
+-- every unended reservation, in order
 abbrev pub unended : List CoreEntry → List Booking
 unended log = lasting booked_at is_unended log
 

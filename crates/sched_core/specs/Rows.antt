@@ -10,6 +10,7 @@ use Rattle.sched_core.specs.Reservation.{Booking, unended, is_claimed, load_of}
 use Rattle.sched_core.specs.Fault.{error_of}
 use Rattle.sched_core.specs.Job.{Committed, open_jobs, state_now, state_of}
 
+-- a registration as a row: its last sign, its load and its remembered error over the log
 abbrev pub row_of : List CoreEntry → Registered → ServerRow
 row_of log g = record { reg = g.reg; server = g.server; cpus = g.cpus; nonce = g.nonce; seen = last_sign g; load = load_of log g.reg; error = error_of log g.reg }
 
@@ -17,6 +18,7 @@ row_of log g = record { reg = g.reg; server = g.server; cpus = g.cpus; nonce = g
 abbrev pub servers_of : List CoreEntry → List ServerRow
 servers_of log = map (row_of log) (standing log)
 
+-- a reservation as a row: the state of its job and whether the build has begun
 abbrev pub held_of : Booking → HeldRow
 held_of b = record { number = b.number; job = b.job; reg = b.reg; reserved_at = b.now; state = state_of b.job b.later; claimed = is_claimed b }
 
@@ -24,6 +26,7 @@ held_of b = record { number = b.number; job = b.job; reg = b.reg; reserved_at = 
 abbrev pub held_rows : List CoreEntry → List HeldRow
 held_rows log = map held_of (unended log)
 
+-- an open job as a row: the registration that it is at, that address, and its state
 abbrev pub open_of : List CoreEntry → Committed → OpenRow
 open_of log c = record { job = c.job; reg = c.reg; server = option_and_then (address_of log) c.reg; state = state_now c }
 

@@ -28,6 +28,7 @@ use Rattle.sched_core.specs.Advance.{advance}
 
 -- reserve: the job with the next id at the pick, or none where nothing has room, or spent where the ids are
 
+-- the entry of a reserve, by its pick
 abbrev pub reserve_at : Option ServerRow → List ServerRow → ℕ → ℕ → ℕ → CoreEntry
 reserve_at None rows now base given = record { now = now; kind = Reserve (NoRoom (length rows)) }
 reserve_at (Some row) rows now base given =
@@ -43,6 +44,7 @@ reserve_over rows now base given = reserve_at (pick rows) rows now base given
 abbrev pub is_among : List Booking → ℕ → JobId → Bool
 is_among list number job = list_any (λ b. (b.number == number) && same_job b.job job) list
 
+-- the entry of a commit, by whether its reservation is unended
 abbrev pub commit_by : Bool → ℕ → JobId → JobState → CoreEntry
 commit_by kept now job state = record { now = now; kind = Commit job state kept }
 
@@ -57,6 +59,7 @@ abbrev pub noted_over : List ServerRow → Option Addr → Option ℕ
 noted_over rows None = None
 noted_over rows (Some server) = option_map (λ r. r.reg) (at_address server rows)
 
+-- the entry of an undo, by the registration that is noted and by whether its reservation is unended
 abbrev pub undo_by : Option ℕ → Bool → ℕ → JobId → CoreEntry
 undo_by noted ended now job = record { now = now; kind = Undo job noted ended }
 
@@ -85,22 +88,27 @@ beat_over rows held now server nonce cpus key =
 
 -- update: what the open jobs answer
 
+-- over the rows of the open jobs
 abbrev pub update_over : List OpenRow → ℕ → Addr → JobId → JobState → CoreEntry
 update_over rows now server job state = record { now = now; kind = Update server job state (advance rows server job state) }
 
 -- status: prunes; then counts the registrations that still stand, their processors up to 2^64 - 1, and the open jobs at none of the pruned
 
+-- whether the registration, if there is one, is none of the pruned
 abbrev pub is_left : List ℕ → Option ℕ → Bool
 is_left pruned None = true
 is_left pruned (Some reg) = not (names pruned reg)
 
+-- over the rows of the registrations that stand and of the open jobs
 abbrev pub counts_over : List ServerRow → List OpenRow → ℕ → SchedulerStatusResult
 counts_over rows jobs now =
     record { num_servers = length (left now rows); num_cpus = min (2 ^ 64 - 1) (sum_by (λ r. r.cpus) (left now rows)); in_progress = length (filter (λ o. is_left (prune now rows) o.reg) jobs) }
 
+-- the entry of a status, by its numbers
 abbrev pub status_by : ℕ → List ℕ → SchedulerStatusResult → CoreEntry
 status_by now pruned counts = record { now = now; kind = Status pruned counts.num_servers counts.num_cpus counts.in_progress }
 
+-- over the same rows
 abbrev pub status_over : List ServerRow → List OpenRow → ℕ → CoreEntry
 status_over rows jobs now = status_by now (prune now rows) (counts_over rows jobs now)
 
@@ -128,6 +136,7 @@ IsCall s other = Unit {0}
 
 -- what the calls answer, read off their entries
 
+-- whether an entry of this kind says new
 abbrev pub says_new_by : CoreKind → Bool
 says_new_by (Beat server nonce cpus key pruned reaped replaced is_new) = is_new
 says_new_by other = false
@@ -136,6 +145,7 @@ says_new_by other = false
 abbrev pub says_new_entry : CoreEntry → Bool
 says_new_entry e = says_new_by e.kind
 
+-- the numbers that an entry of this kind says
 abbrev pub counts_by : CoreKind → SchedulerStatusResult
 counts_by (Status pruned servers cpus jobs) = record { num_servers = servers; num_cpus = cpus; in_progress = jobs }
 counts_by other = record { num_servers = 0; num_cpus = 0; in_progress = 0 }

@@ -24,6 +24,7 @@ pub record Registered : Type 0 where
   pub earlier : List CoreEntry
   pub later : List CoreEntry
 
+-- the registration that an entry makes between the entries before and after it, if it makes one
 abbrev pub registered_by : CoreKind → ℕ → List CoreEntry → CoreEntry → List CoreEntry → Option Registered
 registered_by (Beat server nonce cpus key pruned reaped replaced is_new) now before at later =
     if is_new then Some (record { reg = length before; now = now; server = server; nonce = nonce; cpus = cpus; key = key; earlier = before ++ at ∷ []; later = later }) else None
@@ -51,6 +52,7 @@ ended entries reg = list_any (λ e. ends_by e.kind reg) entries
 abbrev pub stands : Registered → Bool
 stands g = not (ended g.later g.reg)
 
+-- every registration that stands, by rising number
 abbrev pub standing : List CoreEntry → List Registered
 standing log = lasting registered_at stands log
 
