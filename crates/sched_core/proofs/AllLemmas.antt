@@ -1,5 +1,5 @@
 -- What holds of each element, and of which element a test passes.
-use Rattle.std.proofs.Common.{◌≡◌, ℕ, List, [], ◌∷◌, ◌++◌, Bool, true, false, cond, not, ◌&&◌, ◌||◌, map, filter, Option, Some, None, refl, ap, ◌∙◌, sym, subst, eq-eqb, eqb-true}
+use Rattle.std.proofs.Common.{◌≡◌, ℕ, List, [], ◌∷◌, ◌++◌, Bool, true, false, cond, not, ◌&&◌, ◌||◌, map, filter, Option, Some, None, refl, ap, ◌∙◌, sym, eq-eqb, eqb-true}
 use Rattle.std.specs.Prelude.{option_to_list, ◌==◌}
 use Rattle.std.specs.List.{AllByRecursion, list_any}
 use Rattle.std.proofs.lemmas.Bool.{false≢true}
@@ -266,7 +266,8 @@ any-weaker t u h (x ∷ xs) e =
 pub own_only : {X : Type 0} (job : X → JobId) (xs : List X) → AreDistinct (map job xs) → AllByRecursion (λ x. AllByRecursion (λ y. same_job (job y) (job x) ≡ true → y ≡ x) xs) xs
 own_only job [] apart = tt
 own_only job (x ∷ xs) apart =
-    let others : AllByRecursion (λ y. same_job (job y) (job x) ≡ false) xs = all-unmap (λ k. same_job k (job x) ≡ false) job xs apart.0 in
-    (((λ h. refl), all-weaker (λ y. same_job (job y) (job x) ≡ false) (λ y. same_job (job y) (job x) ≡ true → y ≡ x) (λ y other h. absurd (true_false (same_job (job y) (job x)) h other)) xs others),
-        all-both (λ y. same_job (job y) (job x) ≡ false) (λ z. AllByRecursion (λ y. same_job (job y) (job z) ≡ true → y ≡ z) xs) (λ z. AllByRecursion (λ y. same_job (job y) (job z) ≡ true → y ≡ z) (x ∷ xs))
-        (λ z other all. ((λ h. absurd (true_false (same_job (job x) (job z)) h (other_job-sym (job z) (job x) other))), all)) xs others (own_only job xs apart.1))
+    let others : AllByRecursion (λ y. same_job (job y) (job x) ≡ false) xs = all-unmap (λ k. same_job k (job x) ≡ false) job xs apart.0 in (
+      ((λ h. refl), all-weaker (λ y. same_job (job y) (job x) ≡ false) (λ y. same_job (job y) (job x) ≡ true → y ≡ x) (λ y other h. absurd (true_false (same_job (job y) (job x)) h other)) xs others),
+      all-both (λ y. same_job (job y) (job x) ≡ false) (λ z. AllByRecursion (λ y. same_job (job y) (job z) ≡ true → y ≡ z) xs) (λ z. AllByRecursion (λ y. same_job (job y) (job z) ≡ true → y ≡ z) (x ∷ xs))
+          (λ z other all. ((λ h. absurd (true_false (same_job (job x) (job z)) h (other_job-sym (job z) (job x) other))), all)) xs others (own_only job xs apart.1),
+    )

@@ -1,8 +1,7 @@
 -- In each legal log a registration ends at most once.
-use Rattle.std.proofs.Common.{◌≡◌, ℕ, ◌+◌, ◌^◌, ◌<◌, List, [], ◌∷◌, ◌++◌, Bool, true, false, cond, not, ◌&&◌, ◌||◌, map, filter, length, Option, Some, None, refl, ap, ◌∙◌, sym, subst, arith, append-nil, eqb-true, length-append}
+use Rattle.std.proofs.Common.{◌≡◌, ℕ, ◌+◌, ◌^◌, ◌<◌, List, [], ◌∷◌, ◌++◌, Bool, true, false, cond, not, ◌||◌, map, filter, length, Option, Some, None, refl, ap, ◌∙◌, sym, subst, arith, append-nil, eqb-true, length-append}
 use Rattle.std.specs.Prelude.{◌==◌, option_to_list, if◌then◌else◌}
 use Rattle.std.specs.List.{AllByRecursion, list_any, filter_map, find}
-use Rattle.std.specs.Option.{option_map}
 use Rattle.std.proofs.lemmas.Bool.{false≢true}
 use Rattle.std.proofs.lemmas.List.{map-append}
 use Rattle.std.proofs.lemmas.List.Elements.{filter_map-append}
@@ -16,13 +15,13 @@ use Rattle.sched_core.specs.declared.rows.ServerRow.{ServerRow}
 use Rattle.sched_core.specs.Log.{same_job, names, is_this}
 use Rattle.sched_core.specs.Standing.{Registered, registered_by, registered_at, registrations, standing, stands, ends_by, ended}
 use Rattle.sched_core.specs.Rows.{row_of, servers_of}
-use Rattle.sched_core.specs.Prune.{prune, left, at_address, is_expired}
+use Rattle.sched_core.specs.Prune.{prune, left, is_expired}
 use Rattle.sched_core.specs.Rule.{replaced_by}
 use Rattle.sched_core.specs.Laws.{IsRule, IsLegal, AreDistinct, EndsOnce}
 use Rattle.sched_core.proofs.LegalLemmas.{core_of, legal_has}
 use Rattle.sched_core.proofs.PlainLemmas.{list_any-map}
 use Rattle.sched_core.proofs.StandingLemmas.{grown, registered-grown}
-use Rattle.sched_core.proofs.AllLemmas.{or_true, not_true, true_false, is_false, all-weaker, all-both, all-append, all-map, any-weaker, any-all, distinct-push, each_own}
+use Rattle.sched_core.proofs.AllLemmas.{or_true, not_true, true_false, is_false, all-weaker, all-both, all-append, all-map, any-all, distinct-push, each_own}
 use Rattle.sched_core.proofs.FactLemmas.{Facts, facts, all_there}
 
 -- numbers of registrations, as ids

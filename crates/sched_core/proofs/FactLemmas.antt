@@ -1,8 +1,7 @@
 -- What the core rule says of each kind of entry.
-use Rattle.std.proofs.Common.{◌≡◌, ℕ, ◌+◌, ◌-◌, ◌^◌, ◌%◌, ◌≤◌, List, [], ◌∷◌, Bool, true, false, cond, map, filter, length, Option, Some, None, refl, ap, ◌∙◌, sym, subst, eq-eqb}
-use Rattle.std.specs.Prelude.{◌==◌, ◌||◌, ◌&&◌, if◌then◌else◌}
+use Rattle.std.proofs.Common.{◌≡◌, ℕ, ◌+◌, ◌-◌, ◌^◌, ◌%◌, ◌≤◌, List, [], ◌∷◌, Bool, true, false, cond, filter, length, Option, Some, None, refl, ap, ◌∙◌, sym, subst, eq-eqb}
+use Rattle.std.specs.Prelude.{◌==◌, ◌||◌, if◌then◌else◌}
 use Rattle.std.specs.List.{AllByRecursion, list_any, best_of}
-use Rattle.std.proofs.lemmas.Bool.{false≢true}
 use Rattle.dist_types.specs.declared.addr.Addr.{Addr}
 use Rattle.dist_types.specs.declared.ids.JobId.{JobId}
 use Rattle.sched_core.specs.declared.entry.CoreEntry.{CoreEntry}

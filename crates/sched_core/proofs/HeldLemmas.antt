@@ -1,5 +1,5 @@
 -- In each legal log an open job is held at one registration, which stands.
-use Rattle.std.proofs.Common.{◌≡◌, ℕ, ◌^◌, ◌<◌, List, [], ◌∷◌, ◌++◌, Bool, true, false, cond, not, ◌&&◌, ◌||◌, map, filter, length, Option, Some, None, refl, ap, ◌∙◌, sym, subst, eq-eqb, eqb-true, append-nil}
+use Rattle.std.proofs.Common.{◌≡◌, ℕ, ◌^◌, ◌<◌, List, [], ◌∷◌, ◌++◌, Bool, true, false, cond, not, ◌&&◌, ◌||◌, filter, length, Option, Some, None, refl, ap, ◌∙◌, sym, subst, eq-eqb, eqb-true}
 use Rattle.std.specs.Prelude.{◌==◌, option_to_list}
 use Rattle.std.specs.List.{AllByRecursion, list_any}
 use Rattle.std.specs.Option.{option_map}
@@ -12,16 +12,15 @@ use Rattle.sched_core.specs.declared.entry.CoreKind.TheVariants.{Beat, Reserve, 
 use Rattle.sched_core.specs.declared.entry.Reserved.TheVariants.{Job, NoRoom, Spent}
 use Rattle.sched_core.specs.Log.{Core, same_job, names, is_this, newer}
 use Rattle.sched_core.specs.Standing.{registered_at, standing, ends_by}
-use Rattle.sched_core.specs.Reservation.{Booking, booked_by, bookings, unspent, unended, is_unended, spends_by, frees_by, ends_job_by, undoes_by, reaps_by, completes_by, is_complete}
+use Rattle.sched_core.specs.Reservation.{Booking, booked_by, bookings, unspent, unended, is_unended, frees_by, ends_job_by, undoes_by, reaps_by, completes_by, is_complete}
 use Rattle.sched_core.specs.Job.{Committed, committed_by, places_by, place_of, closes_by, ends_place_by, open_jobs}
 use Rattle.sched_core.specs.Rows.{row_of, servers_of}
-use Rattle.sched_core.specs.Rule.{is_among}
-use Rattle.sched_core.specs.Laws.{IsRule, IsLegal, AreDistinct, IsHeldOnce, HasStanding}
+use Rattle.sched_core.specs.Laws.{IsRule, IsLegal, IsHeldOnce, HasStanding}
 use Rattle.sched_core.proofs.LegalLemmas.{core_of, legal_has}
 use Rattle.sched_core.proofs.PlainLemmas.{list_any-map}
 use Rattle.sched_core.proofs.AllLemmas.{and_left, and_right, both, or_left, or_right, neither, not_true, not_false, true_false, is_false, same_job-refl, same_job-sym, same_job-trans, same_job-eq, other_job-sym, all-weaker, all-both, all-append, all-filter, all-unmap, all-step, any-append, any-weaker, any-kept, any-end, none-kept, none-left, none-append, found, distinct-filter, only, names-filter}
 use Rattle.sched_core.proofs.StepLemmas.{bare, bare_commit, held, free, kept, begun, regs, booked, committed, held_stays, free_stays, begun_stays, held-push, free-push, kept-push, begun-push, place_of-push, regs-push}
-use Rattle.sched_core.proofs.FactLemmas.{Facts, JobFacts, SpendFacts, facts, pick_there}
+use Rattle.sched_core.proofs.FactLemmas.{Facts, SpendFacts, facts, pick_there}
 use Rattle.sched_core.proofs.SoundLemmas.{HasIds, jobs, jobs-push, ids-step, fresh_job, no_ids}
 
 -- the job was reserved

@@ -1,8 +1,7 @@
 -- In each legal log a reservation is spent at most once and ends at most once, and a job's states leave none out.
-use Rattle.std.proofs.Common.{◌≡◌, ℕ, ◌+◌, ◌^◌, ◌<◌, ◌≤◌, List, [], ◌∷◌, ◌++◌, Bool, true, false, cond, not, ◌&&◌, ◌||◌, map, filter, length, Option, Some, None, refl, ap, ◌∙◌, sym, subst, arith, append-nil}
+use Rattle.std.proofs.Common.{◌≡◌, ℕ, ◌+◌, ◌^◌, ◌<◌, ◌≤◌, List, [], ◌∷◌, ◌++◌, Bool, true, false, cond, ◌&&◌, ◌||◌, map, filter, length, Option, Some, None, refl, ap, ◌∙◌, sym, subst, arith, append-nil}
 use Rattle.std.specs.Prelude.{◌==◌, option_to_list, count_by, if◌then◌else◌}
-use Rattle.std.specs.List.{AllByRecursion, list_any, filter_map, find}
-use Rattle.std.specs.Option.{option_map}
+use Rattle.std.specs.List.{AllByRecursion, list_any, find}
 use Rattle.std.proofs.lemmas.Bool.{false≢true}
 use Rattle.std.proofs.lemmas.List.{map-append}
 use Rattle.std.proofs.lemmas.List.Sums.{sum_by-cons, sum_by_push}
@@ -18,22 +17,21 @@ use Rattle.sched_core.specs.declared.entry.CoreKind.TheVariants.{Beat, Reserve, 
 use Rattle.sched_core.specs.declared.entry.Reserved.TheVariants.{Job, NoRoom, Spent}
 use Rattle.sched_core.specs.declared.entry.UpdateAnswer.TheVariants.{Accepted, Wrong, Transition}
 use Rattle.sched_core.specs.declared.rows.ServerRow.{ServerRow}
-use Rattle.sched_core.specs.declared.rows.HeldRow.{HeldRow}
 use Rattle.sched_core.specs.declared.rows.OpenRow.{OpenRow}
-use Rattle.sched_core.specs.Log.{Core, same_job, names_job, is_this, latest}
-use Rattle.sched_core.specs.Reservation.{Booking, booked_by, bookings, unspent, unended, is_unended, is_unspent, spends_by, frees_by, ends_job_by, undoes_by, reaps_by, completes_by, is_complete, is_accepted}
+use Rattle.sched_core.specs.Log.{same_job, names_job, is_this, latest}
+use Rattle.sched_core.specs.Reservation.{Booking, booked_by, bookings, unspent, unended, is_unended, is_unspent, spends_by, frees_by, ends_job_by, is_complete, is_accepted}
 use Rattle.sched_core.specs.Job.{Committed, committed_by, commits, moves_by, moves_of, state_now, is_open, open_jobs}
 use Rattle.sched_core.specs.Rows.{held_of, held_rows, open_of, open_rows}
 use Rattle.sched_core.specs.Reap.{reap, is_reaped}
 use Rattle.sched_core.specs.Advance.{follows, is_at, advance_by, advance}
-use Rattle.sched_core.specs.Rule.{is_among, reaped_by}
+use Rattle.sched_core.specs.Rule.{reaped_by}
 use Rattle.sched_core.specs.Laws.{IsRule, IsLegal, AreDistinct, IsSpentOnce, IsEndedOnce, IsChain, HasOrder}
 use Rattle.sched_core.proofs.LegalLemmas.{core_of, legal_has}
 use Rattle.sched_core.proofs.PlainLemmas.{list_any-map}
-use Rattle.sched_core.proofs.AllLemmas.{and_left, and_right, both, or_left, or_right, not_true, true_false, is_false, same_job-refl, same_job-sym, same_job-trans, same_job-eq, other_job-sym, all-weaker, all-both, all-append, all-filter, all-map, all-unmap, any-weaker, any-all, any-kept, found, distinct-push, each_same, each_own}
-use Rattle.sched_core.proofs.StepLemmas.{bare, bare_commit, held, free, kept, begun, booked, committed, grown, grown_commit, bookings-push, commits-push}
-use Rattle.sched_core.proofs.FactLemmas.{Facts, SpendFacts, facts}
-use Rattle.sched_core.proofs.SoundLemmas.{HasIds, jobs, no_ids}
+use Rattle.sched_core.proofs.AllLemmas.{and_left, and_right, both, or_left, or_right, not_true, true_false, is_false, same_job-sym, same_job-trans, all-weaker, all-both, all-append, all-map, all-unmap, any-weaker, any-all, any-kept, found, distinct-push, each_same, each_own}
+use Rattle.sched_core.proofs.StepLemmas.{bare, bare_commit, held, free, begun, booked, committed, grown, grown_commit, bookings-push, commits-push}
+use Rattle.sched_core.proofs.FactLemmas.{Facts, facts}
+use Rattle.sched_core.proofs.SoundLemmas.{jobs}
 use Rattle.sched_core.proofs.HeldLemmas.{Sound, IsPast, IsHeldAt, sound-step, no_sound, spent_free}
 
 -- spent at most once
@@ -162,9 +160,11 @@ chain-option from states None chain step = subst (IsChain from) (sym (append-nil
 chain-option from states (Some to) chain step = chain-push from states to chain (step to refl)
 
 order-grown : (e : CoreEntry) (c : Committed) → HasOrder c → ((to : JobState) → moves_by e.kind c.job ≡ Some to → follows (state_now c) to ≡ true) → HasOrder (grown_commit e c)
-order-grown e c order step = (order.0,
-    subst (IsChain c.state) (sym (filter_map-append (λ d. moves_by d.kind c.job) c.later (e ∷ []) ∙ ap (λ ss. moves_of c ++ ss) (cons_nil (moves_by e.kind c.job))))
-    (chain-option c.state (moves_of c) (moves_by e.kind c.job) order.1 step))
+order-grown e c order step = (
+  order.0,
+  subst (IsChain c.state) (sym (filter_map-append (λ d. moves_by d.kind c.job) c.later (e ∷ []) ∙ ap (λ ss. moves_of c ++ ss) (cons_nil (moves_by e.kind c.job))))
+      (chain-option c.state (moves_of c) (moves_by e.kind c.job) order.1 step),
+)
 
 -- what an entry moves is in a state that it follows
 moved_follows : (base count : ℕ) (log : List CoreEntry) (k : CoreKind) → AreDistinct (map (λ c. c.job) (commits log)) → Facts (core_of base count log) k → AllByRecursion (λ c. (to : JobState) → moves_by k c.job ≡ Some to → follows (state_now c) to ≡ true) (commits log)

@@ -1,12 +1,12 @@
 -- Walks over a list: what the steps so far have made, with one more.
-use Rattle.std.proofs.Common.{◌≡◌, ℕ, ◌+◌, ◌<◌, ◌≤◌, zero, suc, List, [], ◌∷◌, ◌++◌, Bool, true, false, cond, not, ◌||◌, map, filter, length, take, drop, get_or, Option, Some, None, refl, ap, ◌∙◌, sym, subst, arith, append-nil, append_assoc, unwrap_or}
+use Rattle.std.proofs.Common.{◌≡◌, ℕ, ◌+◌, ◌<◌, ◌≤◌, zero, suc, List, [], ◌∷◌, ◌++◌, Bool, true, false, cond, ◌||◌, map, filter, length, take, drop, get_or, Option, Some, None, refl, ap, ◌∙◌, sym, arith, append-nil, append_assoc, unwrap_or}
 use Rattle.std.specs.Prelude.{option_to_list, option_and_then, count_by, if◌then◌else◌}
 use Rattle.std.specs.List.{filter_map, cons_option, list_any}
 use Rattle.std.proofs.lemmas.List.{take_all, take_more, map-append}
 use Rattle.std.proofs.lemmas.List.Elements.{filter-append, filter_map-append}
 use Rattle.std.proofs.lemmas.List.Sums.{sum_by-cons}
 use Rattle.dist_types.specs.Cuts.{Cut, cuts, cuts_behind, lasting}
-use Rattle.dist_types.proofs.Lists.{cons_nil, map-map}
+use Rattle.dist_types.proofs.Lists.{cons_nil}
 use Rattle.sched_core.specs.declared.entry.CoreEntry.{CoreEntry}
 use Rattle.sched_core.specs.declared.entry.CoreKind.{CoreKind}
 use Rattle.sched_core.specs.declared.entry.CoreKind.TheVariants.{Beat, Reserve, Commit, Undo, Update, Status}

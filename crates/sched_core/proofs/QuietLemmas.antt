@@ -1,22 +1,20 @@
 -- Logs of heartbeats and statuses: nothing is reserved, noted or committed, and the rows grow by their own entries.
-use Rattle.std.proofs.Common.{◌≡◌, ℕ, List, [], ◌∷◌, ◌++◌, Bool, true, false, cond, not, ◌||◌, ◌==◌, map, filter, length, Option, Some, None, refl, ap, ◌∙◌, sym}
+use Rattle.std.proofs.Common.{◌≡◌, ℕ, List, [], ◌∷◌, ◌++◌, Bool, true, false, cond, ◌||◌, ◌==◌, map, filter, length, Option, None, refl, ap, ◌∙◌, sym}
 use Rattle.std.specs.Prelude.{option_to_list, count_by}
-use Rattle.std.specs.List.{AllByRecursion, filter_map, cons_option}
+use Rattle.std.specs.List.{filter_map, cons_option}
 use Rattle.std.specs.Option.{option_map}
 use Rattle.std.proofs.lemmas.Bool.{false≢true}
 use Rattle.std.proofs.lemmas.List.{map-append}
-use Rattle.dist_types.specs.Cuts.{Cut, cuts, cuts_behind}
-use Rattle.dist_types.specs.declared.ids.JobId.{JobId}
-use Rattle.dist_types.proofs.Lists.{end_cut}
+use Rattle.dist_types.specs.Cuts.{Cut, cuts_behind}
 use Rattle.sched_core.specs.declared.entry.CoreEntry.{CoreEntry}
 use Rattle.sched_core.specs.declared.entry.CoreKind.{CoreKind}
 use Rattle.sched_core.specs.declared.entry.CoreKind.TheVariants.{Beat, Reserve, Commit, Undo, Update, Status}
 use Rattle.sched_core.specs.declared.rows.ServerRow.{ServerRow}
 use Rattle.sched_core.specs.Log.{newest}
-use Rattle.sched_core.specs.Standing.{Registered, registered_by, registered_at, stands, standing, renews_by, serves, last_sign}
-use Rattle.sched_core.specs.Reservation.{Booking, booked_by, booked_at, bookings, is_unended, unended, load_of}
-use Rattle.sched_core.specs.Fault.{Noted, noted_at, is_remembered, error_of}
-use Rattle.sched_core.specs.Job.{Committed, committed_by, committed_at, is_open, open_jobs}
+use Rattle.sched_core.specs.Standing.{Registered, registered_by, stands, standing, renews_by, serves, last_sign}
+use Rattle.sched_core.specs.Reservation.{booked_by, booked_at, bookings, is_unended, unended, load_of}
+use Rattle.sched_core.specs.Fault.{noted_at, is_remembered, error_of}
+use Rattle.sched_core.specs.Job.{committed_by, committed_at, is_open}
 use Rattle.sched_core.specs.Rows.{row_of, servers_of, held_of, held_rows, open_of, open_rows}
 use Rattle.sched_core.specs.Books.{row_by, row_after, row_stays, is_quiet, IsQuiet, AreBooks}
 use Rattle.dist_types.specs.declared.addr.Addr.{Addr}

@@ -1,14 +1,13 @@
 -- In each legal log no registration has more than its share, and each reserve goes to a registration with room that none is lighter than.
-use Rattle.std.proofs.Common.{◌≡◌, ℕ, ◌+◌, ◌*◌, ◌/◌, ◌^◌, ◌<◌, ◌≤◌, List, [], ◌∷◌, ◌++◌, Bool, true, false, cond, not, ◌&&◌, ◌||◌, map, filter, length, Option, Some, None, refl, ap, ◌∙◌, sym, subst, arith, append-nil, eq-eqb, eqb-true, length-append}
-use Rattle.std.specs.Prelude.{◌==◌, option_to_list, count_by, nat_lt, if◌then◌else◌}
+use Rattle.std.proofs.Common.{◌≡◌, ℕ, ◌+◌, ◌*◌, ◌/◌, ◌^◌, ◌<◌, ◌≤◌, List, [], ◌∷◌, ◌++◌, Bool, true, false, cond, not, ◌||◌, map, filter, length, Option, Some, None, refl, ap, ◌∙◌, sym, subst, arith, append-nil, eq-eqb, eqb-true, length-append}
+use Rattle.std.specs.Prelude.{◌==◌, option_to_list, count_by, nat_lt}
 use Rattle.std.specs.List.{AllByRecursion, list_any, best_of}
 use Rattle.std.specs.Option.{option_map}
 use Rattle.std.proofs.Math.Nat.{mul-lt-mul_of_pos_right, lt_of_mul-lt-mul_right}
 use Rattle.std.proofs.lemmas.Nat.{mul-le}
-use Rattle.std.proofs.lemmas.Bool.{false≢true}
 use Rattle.std.proofs.lemmas.Bool.Decides.{nat_tests}
 use Rattle.std.proofs.lemmas.List.Sums.{sum_by-cons, sum_by-append}
-use Rattle.dist_types.specs.Cuts.{Cut, cuts}
+use Rattle.dist_types.specs.Cuts.{cuts}
 use Rattle.dist_types.specs.declared.ids.JobId.{JobId}
 use Rattle.dist_types.proofs.Lists.{map-map, map-same, followed, cuts_behind-push, end_cut}
 use Rattle.sched_core.specs.declared.entry.CoreEntry.{CoreEntry}
@@ -16,17 +15,16 @@ use Rattle.sched_core.specs.declared.entry.CoreKind.{CoreKind}
 use Rattle.sched_core.specs.declared.entry.CoreKind.TheVariants.{Beat, Reserve, Commit, Undo, Update, Status}
 use Rattle.sched_core.specs.declared.entry.Reserved.TheVariants.{Job, NoRoom, Spent}
 use Rattle.sched_core.specs.declared.rows.ServerRow.{ServerRow}
-use Rattle.sched_core.specs.Log.{Core, same_job, names}
+use Rattle.sched_core.specs.Log.{same_job, names}
 use Rattle.sched_core.specs.Standing.{Registered, registered_by, registered_at, standing, ends_by}
 use Rattle.sched_core.specs.Reservation.{Booking, booked_by, unended, load_of}
 use Rattle.sched_core.specs.Rows.{row_of, servers_of}
 use Rattle.sched_core.specs.Pick.{pick, first_best, or_else, is_lighter, is_older, is_faultless, roomy, has_room}
 use Rattle.sched_core.specs.Laws.{IsRule, IsLegal, AreDistinct, IsBounded, IsFair, IsFairly, IsFairEntry}
 use Rattle.sched_core.proofs.LegalLemmas.{core_of, legal_has}
-use Rattle.sched_core.proofs.PlainLemmas.{list_any-map}
 use Rattle.sched_core.proofs.StandingLemmas.{standing-push}
-use Rattle.sched_core.proofs.AllLemmas.{or_left, or_right, true_false, is_false, not_true, all-weaker, all-both, all-append, all-filter, all-map, all-unmap, all-step, any-append, none-append, none-left, found, distinct-push, distinct-filter, each_same, own_only}
-use Rattle.sched_core.proofs.StepLemmas.{bare, held, regs, booked, held_stays, held-push, regs-push}
+use Rattle.sched_core.proofs.AllLemmas.{or_left, or_right, true_false, is_false, all-weaker, all-both, all-append, all-filter, all-map, all-unmap, all-step, found, distinct-push, distinct-filter, each_same, own_only}
+use Rattle.sched_core.proofs.StepLemmas.{bare, held, regs, booked, held_stays, held-push}
 use Rattle.sched_core.proofs.FactLemmas.{Facts, JobFacts, facts, first_has, pick_has, pick_there, all_there}
 use Rattle.sched_core.proofs.HeldLemmas.{Sound, no_sound, sound-step}
 
@@ -299,9 +297,11 @@ fair_entry base count log (Reserve (Job job reg forgiven)) ok distinct is =
     let only_one : AllByRecursion (λ y. same_job (num y.reg) (num row.reg) ≡ true → y ≡ row) rows = pick_has (λ x. AllByRecursion (λ y. same_job (num y.reg) (num x.reg) ≡ true → y ≡ x) rows) rows row
     (all-filter (λ x. AllByRecursion (λ y. same_job (num y.reg) (num x.reg) ≡ true → y ≡ x) rows) (λ x. AllByRecursion (λ y. same_job (num y.reg) (num x.reg) ≡ true → y ≡ x) rows) has_room (λ x h t. h) rows (own_only (λ r. num r.reg) rows distinct)) is.picked in
     let fair : AllByRecursion (IsFair row) rows = pick_fair rows row ok is.picked in
-    subst (IsFairly rows) (sym is.at)
-    (there.0, all-weaker (λ y. same_job (num y.reg) (num row.reg) ≡ true → y ≡ row) (λ y. (y.reg == row.reg) ≡ true → (has_room y ≡ true) × AllByRecursion (IsFair y) rows)
-        (λ y same h. subst (λ z. (has_room z ≡ true) × AllByRecursion (IsFair z) rows) (sym (same h)) (there.1, fair)) rows only_one)
+    subst (IsFairly rows) (sym is.at) (
+      there.0,
+      all-weaker (λ y. same_job (num y.reg) (num row.reg) ≡ true → y ≡ row) (λ y. (y.reg == row.reg) ≡ true → (has_room y ≡ true) × AllByRecursion (IsFair y) rows)
+          (λ y same h. subst (λ z. (has_room z ≡ true) × AllByRecursion (IsFair z) rows) (sym (same h)) (there.1, fair)) rows only_one,
+    )
 fair_entry base count log (Reserve (NoRoom n)) ok distinct is = tt
 fair_entry base count log (Reserve Spent) ok distinct is = tt
 fair_entry base count log (Beat server nonce cpus key pruned reaped replaced is_new) ok distinct is = tt

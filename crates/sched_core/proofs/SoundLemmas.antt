@@ -1,29 +1,22 @@
 -- What holds of the reservations, the commits and the open jobs of each legal log.
-use Rattle.std.proofs.Common.{◌≡◌, ℕ, ◌+◌, ◌-◌, ◌^◌, ◌%◌, ◌<◌, ◌≤◌, List, [], ◌∷◌, ◌++◌, Bool, true, false, cond, not, ◌&&◌, ◌||◌, map, filter, length, Option, Some, None, refl, ap, ◌∙◌, sym, subst, arith, eq-eqb, eqb-true, append-nil, length-append}
-use Rattle.std.specs.Prelude.{◌==◌, option_to_list, if◌then◌else◌}
-use Rattle.std.specs.List.{AllByRecursion, list_any}
+use Rattle.std.proofs.Common.{◌≡◌, ℕ, ◌+◌, ◌-◌, ◌^◌, ◌%◌, ◌<◌, List, [], ◌∷◌, ◌++◌, false, map, length, refl, ap, ◌∙◌, sym, subst, arith, eq-eqb, eqb-true, append-nil, length-append}
+use Rattle.std.specs.Prelude.{◌==◌, option_to_list}
+use Rattle.std.specs.List.{AllByRecursion}
 use Rattle.std.specs.Option.{option_map}
-use Rattle.std.proofs.lemmas.Bool.{false≢true}
 use Rattle.std.proofs.lemmas.List.{length-map, map-append}
 use Rattle.dist_types.specs.declared.ids.JobId.{JobId}
-use Rattle.dist_types.proofs.Lists.{end_cut, map-map}
+use Rattle.dist_types.proofs.Lists.{map-map}
 use Rattle.sched_core.specs.declared.entry.CoreEntry.{CoreEntry}
 use Rattle.sched_core.specs.declared.entry.CoreKind.{CoreKind}
 use Rattle.sched_core.specs.declared.entry.CoreKind.TheVariants.{Beat, Reserve, Commit, Undo, Update, Status}
 use Rattle.sched_core.specs.declared.entry.Reserved.TheVariants.{Job, NoRoom, Spent}
-use Rattle.sched_core.specs.declared.rows.ServerRow.{ServerRow}
-use Rattle.sched_core.specs.Log.{Core, same_job, names, is_this, newer}
-use Rattle.sched_core.specs.Standing.{registered_at, standing, ends_by}
-use Rattle.sched_core.specs.Reservation.{Booking, booked_by, bookings, unspent, unended, is_unended, spends_by, frees_by, ends_job_by, undoes_by, reaps_by, completes_by, is_complete}
-use Rattle.sched_core.specs.Job.{Committed, committed_by, places_by, place_of, closes_by, ends_place_by, open_jobs}
-use Rattle.sched_core.specs.Rows.{row_of, servers_of}
-use Rattle.sched_core.specs.Rule.{is_among}
-use Rattle.sched_core.specs.Laws.{IsRule, IsLegal, AreDistinct, IsHeldOnce}
+use Rattle.sched_core.specs.Log.{same_job}
+use Rattle.sched_core.specs.Reservation.{booked_by, bookings}
+use Rattle.sched_core.specs.Laws.{IsRule, IsLegal, AreDistinct}
 use Rattle.sched_core.proofs.LegalLemmas.{core_of, legal_has}
-use Rattle.sched_core.proofs.PlainLemmas.{list_any-map}
-use Rattle.sched_core.proofs.AllLemmas.{and_left, and_right, both, or_left, or_right, neither, not_true, not_false, true_false, is_false, same_job-refl, same_job-sym, same_job-trans, same_job-eq, other_job-sym, all-weaker, all-append, all-filter, all-map, all-unmap, all-step, any-append, any-kept, any-end, none-kept, none-left, none-append, found, distinct-push, distinct-filter, only, names-filter}
-use Rattle.sched_core.proofs.StepLemmas.{bare, bare_commit, taken, held, free, kept, begun, regs, booked, committed, held_stays, free_stays, begun_stays, taken-push, held-push, free-push, kept-push, begun-push, place_of-push, regs-push}
-use Rattle.sched_core.proofs.FactLemmas.{Facts, JobFacts, SpendFacts, given, facts, pick_there}
+use Rattle.sched_core.proofs.AllLemmas.{true_false, is_false, all-weaker, all-append, distinct-push}
+use Rattle.sched_core.proofs.StepLemmas.{bare, taken, booked, taken-push}
+use Rattle.sched_core.proofs.FactLemmas.{Facts, JobFacts, facts}
 
 -- ids
 

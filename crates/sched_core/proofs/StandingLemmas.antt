@@ -1,20 +1,19 @@
 -- What one more entry does to the registrations that stand.
-use Rattle.std.proofs.Common.{◌≡◌, ℕ, List, [], ◌∷◌, ◌++◌, Bool, true, false, cond, not, ◌&&◌, ◌||◌, map, filter, length, Option, Some, None, refl, ap, ◌∙◌, sym, subst, append_assoc}
+use Rattle.std.proofs.Common.{◌≡◌, ℕ, List, [], ◌∷◌, ◌++◌, Bool, true, false, cond, not, ◌&&◌, ◌||◌, map, filter, length, Some, refl, ap, ◌∙◌, sym, subst, append_assoc}
 use Rattle.std.specs.Prelude.{option_to_list}
 use Rattle.std.specs.List.{list_any}
 use Rattle.std.specs.Option.{option_map}
 use Rattle.std.proofs.lemmas.List.Elements.{filter-append}
 use Rattle.std.proofs.lemmas.Option.{cond_some}
-use Rattle.dist_types.specs.Cuts.{Cut, cuts, lasting}
-use Rattle.dist_types.proofs.Lists.{filter-map, list_any-push, map-same, followed, cuts_behind-push, end_cut, Grows, lasting-push}
+use Rattle.dist_types.specs.Cuts.{Cut, cuts}
+use Rattle.dist_types.proofs.Lists.{filter-map, list_any-push, map-same, followed, cuts_behind-push, end_cut}
 use Rattle.dist_types.proofs.InLog.{GrowsIn, lasting_in-push}
 use Rattle.sched_core.specs.declared.entry.CoreEntry.{CoreEntry}
 use Rattle.sched_core.specs.declared.entry.CoreKind.{CoreKind}
 use Rattle.sched_core.specs.declared.entry.CoreKind.TheVariants.{Beat, Reserve, Commit, Undo, Update, Status}
-use Rattle.sched_core.specs.declared.rows.ServerRow.{ServerRow}
 use Rattle.sched_core.specs.Log.{latest}
-use Rattle.sched_core.specs.Standing.{Registered, registered_by, registered_at, ends_by, ended, stands, standing, renews_by, serves, is_sign, last_sign}
-use Rattle.sched_core.specs.Books.{row_stays, key_of, keys_of, key_by, key_stays}
+use Rattle.sched_core.specs.Standing.{Registered, registered_by, registered_at, ends_by, stands, standing, renews_by, serves, is_sign, last_sign}
+use Rattle.sched_core.specs.Books.{key_of, keys_of, key_by, key_stays}
 
 -- the registration, with one more entry after it
 abbrev pub grown : CoreEntry → Registered → Registered

@@ -1,13 +1,12 @@
 -- What one more entry does to the lists of reservations, commits and open jobs.
-use Rattle.std.proofs.Common.{◌≡◌, ℕ, List, [], ◌∷◌, ◌++◌, Bool, true, false, cond, not, ◌&&◌, ◌||◌, map, filter, length, Option, Some, None, refl, ap, ◌∙◌, sym, subst}
-use Rattle.std.specs.Prelude.{option_to_list, if◌then◌else◌}
+use Rattle.std.proofs.Common.{◌≡◌, ℕ, List, [], ◌∷◌, ◌++◌, Bool, true, false, cond, not, ◌&&◌, map, filter, length, Option, None, refl, ap, ◌∙◌, sym}
+use Rattle.std.specs.Prelude.{option_to_list}
 use Rattle.std.specs.List.{list_any, filter_map}
 use Rattle.std.specs.Option.{option_map}
 use Rattle.std.proofs.lemmas.List.{map-append}
 use Rattle.std.proofs.lemmas.List.Elements.{filter-append, filter_map-append, filter_agree}
-use Rattle.dist_types.specs.Cuts.{Cut, cuts, lasting}
+use Rattle.dist_types.specs.Cuts.{cuts}
 use Rattle.dist_types.specs.declared.ids.JobId.{JobId}
-use Rattle.dist_types.specs.declared.results.JobState.{JobState}
 use Rattle.dist_types.specs.declared.results.JobState.TheVariants.{Pending, Ready, Started, Complete}
 use Rattle.dist_types.proofs.Lists.{map-map, filter-map, filter-filter, map-same, followed, cuts_behind-push, filter_map-map, cons_nil, map-option, end_cut, Grows, lasting-push}
 use Rattle.sched_core.specs.declared.entry.CoreEntry.{CoreEntry}
@@ -15,7 +14,7 @@ use Rattle.sched_core.specs.declared.entry.CoreKind.{CoreKind}
 use Rattle.sched_core.specs.declared.entry.CoreKind.TheVariants.{Beat, Reserve, Commit, Undo, Update, Status}
 use Rattle.sched_core.specs.declared.entry.Reserved.TheVariants.{Job, NoRoom, Spent}
 use Rattle.sched_core.specs.Log.{newest, newer}
-use Rattle.sched_core.specs.Standing.{Registered, registered_by, registered_at, ends_by, stands, standing}
+use Rattle.sched_core.specs.Standing.{registered_at, ends_by, standing}
 use Rattle.sched_core.specs.Reservation.{Booking, booked_by, booked_at, bookings, is_unspent, is_unended, unspent, unended, spends_by, frees_by, is_complete}
 use Rattle.sched_core.specs.Job.{Committed, committed_by, committed_at, commits, is_open, open_jobs, closes_by, places_by, place_of}
 use Rattle.sched_core.proofs.StandingLemmas.{none-push, standing-push}

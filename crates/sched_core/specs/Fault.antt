@@ -1,7 +1,7 @@
 -- The remembered error of a registration, asked of the whole log.
 use Rattle.std.specs.Prelude.{ℕ, List, map, Bool, false, not, Option, Some, None, if◌then◌else◌}
 use Rattle.std.specs.List.{list_any}
-use Rattle.dist_types.specs.Cuts.{Cut, cuts, lasting}
+use Rattle.dist_types.specs.Cuts.{Cut, lasting}
 use Rattle.sched_core.specs.declared.entry.CoreEntry.{CoreEntry}
 use Rattle.sched_core.specs.declared.entry.CoreKind.{CoreKind}
 use Rattle.sched_core.specs.declared.entry.CoreKind.TheVariants.{Reserve, Undo}

@@ -1,5 +1,5 @@
 -- Which jobs are committed and open, and in which state, asked of the whole log.
-use Rattle.std.specs.Prelude.{ℕ, List, ◌∷◌, map, Bool, false, not, ◌&&◌, ◌||◌, Option, Some, None, if◌then◌else◌}
+use Rattle.std.specs.Prelude.{ℕ, List, map, Bool, false, not, ◌&&◌, ◌||◌, Option, Some, None, if◌then◌else◌}
 use Rattle.std.specs.List.{filter_map, list_any}
 use Rattle.dist_types.specs.Cuts.{Cut, cuts, lasting}
 use Rattle.dist_types.specs.declared.ids.JobId.{JobId}

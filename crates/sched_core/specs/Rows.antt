@@ -1,5 +1,5 @@
 -- What is asked of the log, as rows.
-use Rattle.std.specs.Prelude.{ℕ, List, map}
+use Rattle.std.specs.Prelude.{List, map}
 use Rattle.std.specs.Prelude.{option_and_then}
 use Rattle.sched_core.specs.declared.entry.CoreEntry.{CoreEntry}
 use Rattle.sched_core.specs.declared.rows.ServerRow.{ServerRow}

@@ -1,5 +1,4 @@
-use Rattle.std.proofs.Common.{◌≡◌, ◌++◌, ◌∷◌, [], take, map, filter, None}
-use Rattle.std.specs.List.{filter_map}
+use Rattle.std.proofs.Common.{◌≡◌, ◌++◌, ◌∷◌, [], take, map, filter}
 use Rattle.dist_types.specs.Cuts.{cuts}
 use Rattle.sched_core.specs.Log.{latest}
 use Rattle.sched_core.specs.Standing.{is_sign}

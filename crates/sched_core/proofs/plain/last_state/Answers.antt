@@ -1,4 +1,4 @@
-use Rattle.std.proofs.Common.{◌≡◌, ◌<◌, ◌≤◌, length, ap, ◌∙◌, arith, ◌++◌, ◌==◌, []}
+use Rattle.std.proofs.Common.{◌<◌, length, ap, ◌∙◌, arith}
 use Rattle.std.proofs.Common.{unwrap_or}
 use Rattle.sched_core.specs.Job.{moves_by}
 use Rattle.sched_core.proofs.PlainLemmas.{latest_given-more}

@@ -1,6 +1,5 @@
-use Rattle.std.proofs.Common.{◌≡◌, ◌++◌, ◌∷◌, [], take, map, filter, None}
+use Rattle.std.proofs.Common.{◌≡◌, take}
 use Rattle.std.specs.List.{filter_map}
-use Rattle.dist_types.specs.Cuts.{cuts}
 use Rattle.sched_core.specs.Log.{latest}
 use Rattle.sched_core.specs.Job.{moves_by}
 use Rattle.sched_core.proofs.plain.last_state.Given as goal

@@ -1,4 +1,4 @@
-use Rattle.std.proofs.Common.{◌≡◌, ◌<◌, ◌≤◌, length, ap, ◌∙◌, arith, ◌++◌, ◌==◌, []}
+use Rattle.std.proofs.Common.{◌<◌, length, ap, ◌∙◌, arith}
 use Rattle.sched_core.specs.Log.{newer}
 use Rattle.sched_core.specs.Job.{places_by}
 use Rattle.sched_core.proofs.PlainLemmas.{newest_given-more}

@@ -1,6 +1,5 @@
-use Rattle.std.proofs.Common.{◌≡◌, ◌++◌, ◌∷◌, [], take, map, filter, None}
+use Rattle.std.proofs.Common.{◌≡◌, take, None}
 use Rattle.std.specs.List.{filter_map}
-use Rattle.dist_types.specs.Cuts.{cuts}
 use Rattle.sched_core.specs.Log.{newest}
 use Rattle.sched_core.specs.Job.{places_by}
 use Rattle.sched_core.proofs.plain.place.Given as goal

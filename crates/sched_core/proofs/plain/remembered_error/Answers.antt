@@ -1,7 +1,6 @@
-use Rattle.std.proofs.Common.{◌≡◌, ◌<◌, ◌≤◌, length, ap, ◌∙◌, arith, ◌++◌, ◌==◌, []}
+use Rattle.std.proofs.Common.{◌<◌, ◌≤◌, length, ap, ◌∙◌, arith}
 use Rattle.sched_core.specs.Plain.{seen_at}
 use Rattle.sched_core.specs.Log.{newer}
-use Rattle.std.proofs.Common.{drop, take, ◌+◌}
 use Rattle.sched_core.proofs.PlainLemmas.{newest-more, newest-whole}
 use Rattle.sched_core.specs.Fault.{noted_at, is_remembered}
 use Rattle.sched_core.proofs.plain.remembered_error.Goals as goal

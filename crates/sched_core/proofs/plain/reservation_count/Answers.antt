@@ -1,4 +1,4 @@
-use Rattle.std.proofs.Common.{◌≡◌, ◌<◌, ◌≤◌, length, ap, ◌∙◌, arith, ◌++◌, ◌==◌, []}
+use Rattle.std.proofs.Common.{◌∙◌}
 use Rattle.sched_core.proofs.PlainLemmas.{bookings-count}
 use Rattle.sched_core.proofs.plain.reservation_count.Goals as goal
 

@@ -1,7 +1,7 @@
-use Rattle.std.proofs.Common.{◌≡◌, ◌<◌, ◌≤◌, length, ap, ◌∙◌, arith, ◌++◌, ◌==◌, []}
+use Rattle.std.proofs.Common.{◌<◌, ◌≤◌, length, ap, ◌∙◌, arith, ◌==◌}
 use Rattle.sched_core.specs.Plain.{seen_at}
 use Rattle.sched_core.specs.Log.{newer}
-use Rattle.std.proofs.Common.{drop, take, ◌+◌}
+use Rattle.std.proofs.Common.{drop, ◌+◌}
 use Rattle.sched_core.proofs.PlainLemmas.{newest-more, newest-whole}
 use Rattle.sched_core.specs.Reservation.{booked_at}
 use Rattle.sched_core.proofs.plain.reservation_place.Goals as goal

@@ -1,4 +1,4 @@
-use Rattle.std.proofs.Common.{◌≡◌, ◌<◌, ◌≤◌, length, ap, ◌∙◌, arith, ◌++◌, ◌==◌, []}
+use Rattle.std.proofs.Common.{◌<◌, ◌≤◌, length, ap, ◌∙◌, arith, ◌++◌}
 use Rattle.std.specs.Prelude.{option_to_list}
 use Rattle.sched_core.specs.Plain.{seen_at}
 use Rattle.sched_core.proofs.PlainLemmas.{collect-more, collect-whole}

@@ -1,4 +1,4 @@
-use Rattle.std.proofs.Common.{◌≡◌, ◌==◌, ◌&&◌, ap, ◌∙◌}
+use Rattle.std.proofs.Common.{◌==◌, ◌&&◌, ap, ◌∙◌}
 use Rattle.std.specs.List.{list_any}
 use Rattle.sched_core.specs.Log.{same_job}
 use Rattle.sched_core.specs.Reservation.{unended}

@@ -1,7 +1,6 @@
-use Rattle.std.proofs.Common.{◌≡◌, ◌++◌, ◌∷◌, [], ap, ◌∙◌, refl}
+use Rattle.std.proofs.Common.{◌++◌, ◌∷◌, [], ap, ◌∙◌}
 use Rattle.sched_core.specs.Log.{logged}
-use Rattle.sched_core.specs.Prune.{prune}
-use Rattle.sched_core.specs.Rule.{counts_of, counts_over, status_by}
+use Rattle.sched_core.specs.Rule.{counts_of}
 use Rattle.sched_core.specs.declared.call.Call.TheVariants as call
 use Rattle.sched_core.proofs.LegalLemmas.{legal-after}
 use Rattle.sched_core.proofs.QuietLemmas.{status-is}
