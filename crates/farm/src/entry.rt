@@ -32,9 +32,13 @@ pub enum StepKind {
         ready: bool,
     },
     /// A build was reported as complete.
-    Finished { job: JobId },
+    Finished {
+        job: JobId,
+    },
     /// A report on a job was not accepted.
-    Unreported { job: JobId },
+    Unreported {
+        job: JobId,
+    },
     /// It opened its cache, with these archives and their sizes in bytes, least recent first.
     Opened(Items<(Toolchain, u64)>),
 }

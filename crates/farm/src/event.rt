@@ -1,9 +1,10 @@
 //! What happens to a farm.
+ghost use Rattle.std.specs.Prelude.{◌≡◌, IfOk};
+
 use dist_types::addr::Addr;
 use dist_types::ids::ServerNonce;
 use dist_types::text::Bytes;
 use std::alloc::{AllocError, Global};
-ghost use Rattle.std.specs.Prelude.{◌≡◌, IfOk};
 
 /// What happens. A call is named by the number of the entry that made it, a delivery by its own entry's.
 #[derive(Debug, Drop)]
@@ -15,15 +16,26 @@ pub enum EventKind {
         bytes: Bytes,
     },
     /// The bytes of a call come to its target.
-    Deliver { call: u64 },
+    Deliver {
+        call: u64,
+    },
     /// A call is lost.
-    Fail { call: u64 },
+    Fail {
+        call: u64,
+    },
     /// The reply of a delivery comes back.
-    Return { delivery: u64 },
+    Return {
+        delivery: u64,
+    },
     /// A reply comes from outside the farm.
-    Answer { call: u64, bytes: Bytes },
+    Answer {
+        call: u64,
+        bytes: Bytes,
+    },
     /// A build server of the farm sends its heartbeat.
-    Beat { server: Addr },
+    Beat {
+        server: Addr,
+    },
     /// A build server of the farm starts again.
     Restart {
         server: Addr,

@@ -30,7 +30,10 @@ fn push_entry(
     let call = CallLine(&entry.call);
     let reply = ReplyLine(&entry.reply);
     let word = WordLine(entry.word);
-    write!(out, "entry {number} {at} {kind}\n{core}{step}{call}{reply}{word}")
+    write!(
+        out,
+        "entry {number} {at} {kind}\n{core}{step}{call}{reply}{word}"
+    )
 }
 
 /// How many core entries there are after an entry.

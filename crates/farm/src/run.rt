@@ -15,13 +15,13 @@ ghost use Rattle.farm.specs.declared.fault.FarmFault.TheVariants as fault;
 use crate::entry::{Entry, EntryWord, Reply};
 use crate::event::{Event, EventKind};
 use crate::fault::FarmFault;
-use dist_token::job_token::JWTJobAuthorizer;
 use crate::setup::{Setup, SetupAuth, SetupScheduler};
 use dist_http::asked::asked;
 use dist_http::error::HttpError;
 use dist_http::message::HeartbeatServerHttpRequest;
 use dist_http::reply::{Response, heartbeat_response, status_response};
 use dist_http::route::SchedRouted;
+use dist_token::job_token::JWTJobAuthorizer;
 use dist_types::addr::Addr;
 use dist_types::ids::ServerId;
 use dist_types::roles::JobAuthorizer;
@@ -155,10 +155,7 @@ fn copy_auth(alloc: Global, auth: &SetupAuth) -> Result<SetupAuth, AllocError>
     }
 }
 
-fn copy_scheduler(
-    alloc: Global,
-    scheduler: &SetupScheduler,
-) -> Result<SetupScheduler, AllocError>
+fn copy_scheduler(alloc: Global, scheduler: &SetupScheduler) -> Result<SetupScheduler, AllocError>
     ensures { IfOk result (λ s. s ≡ scheduler.now) }
 {
     let client = scheduler.client.copy(alloc)?;
@@ -323,7 +320,16 @@ fn entry_of(
             target,
             peer,
             bytes,
-        } => request(alloc, scheduler, state, number, copy, *target, *peer, bytes.get()),
+        } => request(
+            alloc,
+            scheduler,
+            state,
+            number,
+            copy,
+            *target,
+            *peer,
+            bytes.get(),
+        ),
         EventKind::Deliver { .. } => Ok(Entry::worded(copy, EntryWord::Void)),
         EventKind::Fail { .. } => Ok(Entry::worded(copy, EntryWord::Void)),
         EventKind::Return { .. } => Ok(Entry::worded(copy, EntryWord::Void)),
