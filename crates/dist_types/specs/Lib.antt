@@ -1,6 +1,15 @@
 pub mod Addr
+pub mod Answers
+pub mod Builder
 pub mod Cause
+pub mod Clock
+pub mod Command
 pub mod Content
 pub mod Cuts
+pub mod Dialer
 pub mod Ids
 pub mod InMemory
+pub mod Link
+pub mod Outgoing
+pub mod Output
+pub mod Toolchain

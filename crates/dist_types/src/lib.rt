@@ -7,11 +7,25 @@
 #![tactic(auto)]
 
 pub mod addr;
+pub mod builder;
+pub mod clock;
+pub mod command;
+pub mod dialer;
 pub mod fault;
 pub mod ids;
+pub mod link;
+pub mod outgoing;
+pub mod output;
+pub mod readers;
 pub mod results;
 pub mod roles;
 pub mod sink;
 pub mod source;
+pub mod tcp;
+#[cfg(test)]
+mod tests;
 pub mod text;
+pub mod token_error;
+pub mod toolchain;
+pub mod try_clone;
 pub mod type_error;

@@ -3,9 +3,9 @@ ghost use Rattle.std.specs.Prelude.{◌≡◌, ◌≤◌, ◌<◌, [], List, ℕ
 ghost use Rattle.dist_types.specs.Cause.{Rose};
 ghost use Rattle.dist_types.specs.Content.{Added, Began};
 
-use crate::fault::Failed;
+use crate::fault::{Failed, raise};
 use std::alloc::Global;
-use std::io::Write;
+use std::io::{ErrorKind, Write};
 
 /// Where bytes are written.
 pub trait Sink {
@@ -15,6 +15,9 @@ pub trait Sink {
     /// How often it failed.
     ghost faults: { Self → ℕ };
 
+    /// What writing leaves as it is, where the object is more than a sink.
+    ghost apart: { Self → Option (List ℕ) × ℕ } = { λ _. (None, 0) };
+
     /// Writes a front of the bytes, at least one byte of a piece that is not empty.
     fn write(&mut self, bytes: &[u8]) -> Result<usize, Failed>
         ensures within { IfOk result (λ n. n ≤ length bytes.now) }
@@ -23,10 +26,11 @@ pub trait Sink {
         ensures same { OnErr result (held self.new ≡ held self.old) }
         ensures steady { OnOk result (faults self.new ≡ faults self.old) }
         ensures later { faults self.old ≤ faults self.new }
-        ensures cause { OnErr result (Rose (faults self.old) (faults self.new)) };
+        ensures cause { OnErr result (Rose (faults self.old) (faults self.new)) }
+        ensures apart { apart self.new ≡ apart self.old };
 }
 
-/// What was written. The calls of these numbers, from 0 on, fail.
+/// What was written. The calls of the listed numbers, from 0 on, fail, and no others but for want of memory.
 #[derive(Debug, Drop)]
 pub struct MemSink {
     bytes: Vec<u8>,
@@ -36,11 +40,14 @@ pub struct MemSink {
 }
 
 impl MemSink {
-    ghost use Rattle.dist_types.specs.InMemory.{sink_held, sink_fails};
+    ghost use Rattle.dist_types.specs.InMemory.{sink_held, sink_fails, sink_calls, sink_faults};
 
+    /// A sink that holds nothing, no call made so far. It takes no memory.
     pub fn new(alloc: Global, fails: Vec<u64>) -> Self
         ensures held { sink_held result ≡ [] }
         ensures fails { sink_fails result ≡ fails.items }
+        ensures calls { sink_calls result ≡ 0 }
+        ensures faults { sink_faults result ≡ 0 }
     {
         MemSink {
             bytes: Vec::new(alloc),
@@ -50,6 +57,7 @@ impl MemSink {
         }
     }
 
+    /// What was written.
     pub fn bytes(&self) -> &[u8]
         ensures { result.now ≡ sink_held self.now }
     {
@@ -58,19 +66,69 @@ impl MemSink {
 }
 
 impl Sink for MemSink {
+    ghost use Rattle.std.specs.Prelude.{◌+◌, ◌⊎◌, IsTrue, is_err, true};
+    ghost use Rattle.dist_types.specs.Cause.{counted};
+    ghost use Rattle.dist_types.specs.InMemory.{is_listed, sink_held, sink_fails, sink_calls, sink_faults, sink_room};
+
     ghost held = { λ s. Some s.bytes.items };
 
     ghost faults = { λ s. s.faults };
 
-    fn write(&mut self, bytes: &[u8]) -> Result<usize, Failed> {
+    /// Fails where this call is listed or memory ran out, and else writes all.
+    fn write(&mut self, bytes: &[u8]) -> Result<usize, Failed>
+        ensures within { IfOk result (λ n. n ≤ length bytes.now) }
+        ensures some { IfOk result (λ n. 0 < length bytes.now → 0 < n) }
+        ensures added { IfOk result (λ n. Added (take n bytes.now) (Some (sink_held self.old)) (Some (sink_held self.new))) }
+        ensures same { OnErr result (sink_held self.new ≡ sink_held self.old) }
+        ensures steady { OnOk result (sink_faults self.new ≡ sink_faults self.old) }
+        ensures later { sink_faults self.old ≤ sink_faults self.new }
+        ensures cause { OnErr result (Rose (sink_faults self.old) (sink_faults self.new)) }
+
+        ensures fails { is_listed (sink_fails self.old) (sink_calls self.old) ≡ true → is_err result ≡ true }
+        ensures no_other { OnErr result ((is_listed (sink_fails self.old) (sink_calls self.old) ≡ true) ⊎ (sink_room self.old < length (sink_held self.old) + length bytes.now)) }
+        ensures amount { IfOk result (λ n. n ≡ length bytes.now) }
+        ensures counted { OnErr result (sink_faults self.new ≡ counted (sink_faults self.old)) }
+        ensures calls { sink_calls self.new ≡ counted (sink_calls self.old) }
+        ensures listed { sink_fails self.new ≡ sink_fails self.old }
+    {
         let number = self.calls;
         self.calls = self.calls.saturating_add(1);
-        if self.fails.contains(&number) || self.bytes.extend_from_slice(bytes).is_err() {
+        if self.fails.contains(&number) {
             self.faults = self.faults.saturating_add(1);
             return Err(Failed);
         }
-        Ok(bytes.len())
+        match self.bytes.extend_from_slice(bytes) {
+            Ok(()) => Ok(bytes.len()),
+            Err(_) => {
+                self.faults = self.faults.saturating_add(1);
+                Err(Failed)
+            }
+        }
     }
+}
+
+/// One write to a writer of std, tried again where a signal interrupted it. A write of nothing fails.
+pub fn write_some<W: Write>(writer: &mut W, bytes: &[u8]) -> Result<usize, Failed>
+    ensures within { IfOk result (λ n. n ≤ length bytes.now) }
+    ensures some { IfOk result (λ n. 0 < length bytes.now → 0 < n) }
+{
+    for _ in 0..u64::MAX {
+        match writer.write(bytes) {
+            Ok(n) => {
+                return if n == 0 && !bytes.is_empty() {
+                    Err(Failed)
+                } else {
+                    Ok(n)
+                };
+            }
+            Err(e) => {
+                if e.kind() != ErrorKind::Interrupted {
+                    return Err(Failed);
+                }
+            }
+        }
+    }
+    Err(Failed)
 }
 
 /// A writer of std.
@@ -81,6 +139,7 @@ pub struct StdSink<W: Write> {
 }
 
 impl<W: Write> StdSink<W> {
+    /// A sink that writes to a writer, no fault so far. It takes no memory.
     pub fn new(writer: W) -> Self {
         StdSink { writer, faults: 0 }
     }
@@ -92,16 +151,10 @@ impl<W: Write> Sink for StdSink<W> {
     ghost faults = { λ s. s.faults };
 
     fn write(&mut self, bytes: &[u8]) -> Result<usize, Failed> {
-        match self.writer.write(bytes) {
-            Ok(n) => {
-                if n == 0 && !bytes.is_empty() {
-                    self.faults = self.faults.saturating_add(1);
-                    return Err(Failed);
-                }
-                Ok(n)
-            }
+        match write_some(&mut self.writer, bytes) {
+            Ok(n) => Ok(n),
             Err(_) => {
-                self.faults = self.faults.saturating_add(1);
+                raise(&mut self.faults);
                 Err(Failed)
             }
         }

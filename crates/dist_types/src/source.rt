@@ -1,12 +1,13 @@
 //! What is read: the trait, the source in memory, the one of the system, and reading to a limit.
-ghost use Rattle.std.specs.Prelude.{◌≡◌, ◌≤◌, ◌<◌, ◌⊎◌, List, ℕ, length, take, drop, IfOk, OnOk, OnErr, Option, Some, None};
+ghost use Rattle.std.specs.Prelude.{◌≡◌, ◌≤◌, ◌<◌, ◌⊎◌, List, ℕ, length, take, drop, IfOk, IfErr, OnOk, OnErr, Option, Some, None};
 ghost use Rattle.dist_types.specs.Cause.{Rose};
-ghost use Rattle.dist_types.specs.Content.{Taken, IsAtEnd};
+ghost use Rattle.dist_types.specs.Content.{Taken, TookFront, IsAtEnd};
 ghost use Rattle.dist_types.specs.declared.source.ReadError.TheVariants.{Failed, Memory};
 
-use crate::fault::Failed;
+use crate::fault::{Failed, raise};
 use std::alloc::{AllocError, Global};
-use std::io::Read;
+use std::io::{ErrorKind, Read};
+use thiserror::Error;
 
 /// Bytes that are read.
 pub trait Source {
@@ -16,6 +17,9 @@ pub trait Source {
     /// How often it failed.
     ghost faults: { Self → ℕ };
 
+    /// What reading leaves as it is, where the object is more than a source.
+    ghost apart: { Self → Option (List ℕ) × ℕ } = { λ _. (None, 0) };
+
     /// Reads some bytes into the front of the buffer. At 0 bytes and a buffer with room, nothing is left.
     fn read(&mut self, buf: &mut [u8]) -> Result<usize, Failed>
         ensures within { IfOk result (λ n. n ≤ length buf.old) }
@@ -24,10 +28,11 @@ pub trait Source {
         ensures same { OnErr result (left self.new ≡ left self.old) }
         ensures steady { OnOk result (faults self.new ≡ faults self.old) }
         ensures later { faults self.old ≤ faults self.new }
-        ensures cause { OnErr result (Rose (faults self.old) (faults self.new)) };
+        ensures cause { OnErr result (Rose (faults self.old) (faults self.new)) }
+        ensures apart { apart self.new ≡ apart self.old };
 }
 
-/// Contents, read from the front. The calls of these numbers, from 0 on, fail.
+/// Contents, read from the front. The calls of the listed numbers, from 0 on, fail, and no others.
 #[derive(Debug, Drop)]
 pub struct MemSource {
     bytes: Vec<u8>,
@@ -38,11 +43,14 @@ pub struct MemSource {
 }
 
 impl MemSource {
-    ghost use Rattle.dist_types.specs.InMemory.{source_left, source_fails};
+    ghost use Rattle.dist_types.specs.InMemory.{source_left, source_fails, source_calls, source_faults};
 
+    /// A source of bytes, no call made so far. It takes no memory.
     pub fn new(bytes: Vec<u8>, fails: Vec<u64>) -> Self
         ensures left { source_left result ≡ bytes.items }
         ensures fails { source_fails result ≡ fails.items }
+        ensures calls { source_calls result ≡ 0 }
+        ensures faults { source_faults result ≡ 0 }
     {
         MemSource {
             bytes,
@@ -55,11 +63,30 @@ impl MemSource {
 }
 
 impl Source for MemSource {
+    ghost use Rattle.std.specs.Prelude.{is_err, min};
+    ghost use Rattle.dist_types.specs.Cause.{counted};
+    ghost use Rattle.dist_types.specs.InMemory.{is_listed, source_left, source_fails, source_calls, source_faults};
+
     ghost left = { λ s. Some (drop s.at s.bytes.items) };
 
     ghost faults = { λ s. s.faults };
 
-    fn read(&mut self, buf: &mut [u8]) -> Result<usize, Failed> {
+    /// Fails exactly where this call is listed, and else reads as many bytes as fit.
+    fn read(&mut self, buf: &mut [u8]) -> Result<usize, Failed>
+        ensures within { IfOk result (λ n. n ≤ length buf.old) }
+        ensures taken { IfOk result (λ n. Taken (take n buf.new) (Some (source_left self.old)) (Some (source_left self.new))) }
+        ensures end { IfOk result (λ n. n ≡ 0 → 0 < length buf.old → IsAtEnd (Some (source_left self.new))) }
+        ensures same { OnErr result (source_left self.new ≡ source_left self.old) }
+        ensures steady { OnOk result (source_faults self.new ≡ source_faults self.old) }
+        ensures later { source_faults self.old ≤ source_faults self.new }
+        ensures cause { OnErr result (Rose (source_faults self.old) (source_faults self.new)) }
+
+        ensures fails { is_err result ≡ is_listed (source_fails self.old) (source_calls self.old) }
+        ensures amount { IfOk result (λ n. n ≡ min (length buf.old) (length (source_left self.old))) }
+        ensures counted { OnErr result (source_faults self.new ≡ counted (source_faults self.old)) }
+        ensures calls { source_calls self.new ≡ counted (source_calls self.old) }
+        ensures listed { source_fails self.new ≡ source_fails self.old }
+    {
         let number = self.calls;
         self.calls = self.calls.saturating_add(1);
         if self.fails.contains(&number) {
@@ -76,6 +103,23 @@ impl Source for MemSource {
     }
 }
 
+/// One read from a reader of std, tried again where a signal interrupted it.
+pub fn read_some<R: Read>(reader: &mut R, buf: &mut [u8]) -> Result<usize, Failed>
+    ensures within { IfOk result (λ n. n ≤ length buf.old) }
+{
+    for _ in 0..u64::MAX {
+        match reader.read(buf) {
+            Ok(n) => return Ok(n),
+            Err(e) => {
+                if e.kind() != ErrorKind::Interrupted {
+                    return Err(Failed);
+                }
+            }
+        }
+    }
+    Err(Failed)
+}
+
 /// A reader of std.
 #[derive(Drop)]
 pub struct StdSource<R: Read> {
@@ -84,6 +128,7 @@ pub struct StdSource<R: Read> {
 }
 
 impl<R: Read> StdSource<R> {
+    /// A source that reads from a reader, no fault so far. It takes no memory.
     pub fn new(reader: R) -> Self {
         StdSource { reader, faults: 0 }
     }
@@ -95,10 +140,10 @@ impl<R: Read> Source for StdSource<R> {
     ghost faults = { λ s. s.faults };
 
     fn read(&mut self, buf: &mut [u8]) -> Result<usize, Failed> {
-        match self.reader.read(buf) {
+        match read_some(&mut self.reader, buf) {
             Ok(n) => Ok(n),
             Err(_) => {
-                self.faults = self.faults.saturating_add(1);
+                raise(&mut self.faults);
                 Err(Failed)
             }
         }
@@ -106,9 +151,16 @@ impl<R: Read> Source for StdSource<R> {
 }
 
 /// Why not all was read.
-#[derive(Clone, Copy, Debug, PartialEq, Eq)]
+#[derive(Clone, Copy, Debug, PartialEq, Eq, Error)]
 pub enum ReadError {
+    /// A read failed, and the source's count of faults rose.
+    #[error("read fault")]
     Failed,
+    /// More came than the limit says.
+    #[error("too long")]
+    TooLong,
+    /// Memory ran out.
+    #[error("out of memory")]
     Memory,
 }
 
@@ -141,6 +193,8 @@ pub fn read_up_to<S: Source>(
     ensures steady { OnOk result (S.faults input.new ≡ S.faults input.old) }
     ensures later { S.faults input.old ≤ S.faults input.new }
     ensures cause { result ≡ Err ReadError.Failed → Rose (S.faults input.old) (S.faults input.new) }
+    ensures front { OnErr result (TookFront (S.left input.old) (S.left input.new)) }
+    ensures never_long { IfErr result (λ e. ¬ (e ≡ ReadError.TooLong)) }
 {
     let mut out = Vec::new(alloc);
     let mut buf = [0u8; 4096];
@@ -150,7 +204,10 @@ pub fn read_up_to<S: Source>(
         if n == 0 {
             return Ok(out);
         }
-        out.extend_from_slice(&buf[..n])?;
+        match out.extend_from_slice(&buf[..n]) {
+            Ok(()) => {}
+            Err(_) => return Err(ReadError::Memory),
+        }
     }
     Ok(out)
 }

@@ -1,0 +1,9 @@
+pub mod Fields
+pub mod Head
+pub mod Reply
+pub mod ReadBack
+pub mod Message
+pub mod Bearer
+pub mod Route
+pub mod Asked
+pub mod InOrder

@@ -1,0 +1,61 @@
+-- The text of a reply.
+use Rattle.std.specs.Prelude.{ℕ, List, [], ◌++◌, length, codes}
+use Rattle.std.specs.Fmt.{decimal}
+use Rattle.dist_types.specs.declared.results.HeartbeatServerResult.{HeartbeatServerResult}
+use Rattle.dist_types.specs.declared.results.SchedulerStatusResult.{SchedulerStatusResult}
+use Rattle.dist_http.specs.Message.{heartbeat_answer_text, status_text}
+use Rattle.dist_http.specs.declared.reply.Word.{Word}
+use Rattle.dist_http.specs.declared.reply.Word.TheVariants.{NoBearerAuth, BearerAuthFailed, InvalidBearerToken, MismatchedAddress, InvalidJwt, LinkFailed}
+use Rattle.dist_http.specs.declared.reply.Response.{Response}
+use Rattle.dist_http.specs.declared.reply.Response.TheVariants.{Binary, Json, BadRequest, ServerError, BadRealIp, Unauthorised, NotFound}
+
+-- ++ nested to the right
+infixr 20 ◌⧺◌
+abbrev pub ◌⧺◌ : List ℕ → List ℕ → List ℕ
+a ⧺ b = a ++ b
+
+-- the word of a refusal
+abbrev pub word_text : Word → List ℕ
+word_text NoBearerAuth = codes "no_bearer_auth"
+word_text BearerAuthFailed = codes "bearer_auth_failed"
+word_text InvalidBearerToken = codes "invalid_bearer_token"
+word_text MismatchedAddress = codes "invalid_bearer_token_mismatched_address"
+word_text InvalidJwt = codes "invalid_jwt"
+word_text LinkFailed = codes "bearer_auth_failed"
+
+-- the status line, and the fields before the length
+abbrev pub opening_text : Response → List ℕ
+opening_text (Binary body) = codes "HTTP/1.1 200 OK\r\nContent-Type: application/octet-stream\r\n"
+opening_text (Json body) = codes "HTTP/1.1 200 OK\r\nContent-Type: application/json\r\n"
+opening_text (BadRequest body) = codes "HTTP/1.1 400 Bad Request\r\nContent-Type: application/json\r\n"
+opening_text (ServerError body) = codes "HTTP/1.1 500 Internal Server Error\r\nContent-Type: application/json\r\n"
+opening_text BadRealIp = codes "HTTP/1.1 400 Bad Request\r\n"
+opening_text (Unauthorised word body) =
+    codes "HTTP/1.1 401 Unauthorized\r\nWWW-Authenticate: Bearer error=\"" ⧺ word_text word ⧺ codes "\"\r\n"
+opening_text NotFound = codes "HTTP/1.1 404 Not Found\r\n"
+
+-- the body
+abbrev pub body_of : Response → List ℕ
+body_of (Binary body) = body
+body_of (Json body) = body
+body_of (BadRequest body) = body
+body_of (ServerError body) = body
+body_of BadRealIp = []
+body_of (Unauthorised word body) = body
+body_of NotFound = []
+
+-- the head, which tells the body's length
+abbrev pub head_text : Response → List ℕ
+head_text r = opening_text r ⧺ codes "Content-Length: " ⧺ decimal (length (body_of r)) ⧺ codes "\r\nConnection: close\r\n\r\n"
+
+-- the bytes of the reply
+unfoldable pub reply_text : Response → List ℕ
+reply_text r = head_text r ++ body_of r
+
+-- the reply to a heartbeat
+abbrev pub heartbeat_response : HeartbeatServerResult → Response
+heartbeat_response answer = Binary (heartbeat_answer_text answer)
+
+-- the reply to a status request
+abbrev pub status_response : SchedulerStatusResult → Response
+status_response status = Binary (status_text status)

@@ -1,0 +1,24 @@
+//! HTTP/1.1 (RFC 9112) between the scheduler, its servers and its clients: heads, routes and replies.
+//!
+//! The contract: bytes are one request at most, and `read_head` answers it exactly where they are one;
+//! `asked` answers what the bytes that a peer sent ask of the scheduler, which is one thing; the bytes
+//! of a reply are its text, and its reader sees the code, the fields and the body that were meant.
+//! Want of memory is the one other answer.
+//!
+//! The layer above uses `asked`, `SchedRouted`, `heartbeat_response`, `status_response`,
+//! `Response::bytes`, and of the definitions `IsAsked`, `heartbeat_response`, `status_response` and
+//! `reply_text`.
+#![tactic(auto)]
+
+pub mod asked;
+mod bearer;
+pub mod error;
+mod fields;
+pub mod head;
+pub mod laws;
+pub mod message;
+pub mod reply;
+pub mod request;
+pub mod route;
+#[cfg(test)]
+mod tests;

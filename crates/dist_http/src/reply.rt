@@ -1,0 +1,171 @@
+//! Replies: the kinds that are written, with their bytes, and a reply as its reader sees it.
+ghost use Rattle.std.specs.Prelude.{◌≡◌, IfOk, IfErr};
+ghost use Rattle.dist_http.specs.Reply.{body_of, reply_text, heartbeat_response, status_response};
+
+use crate::error::HttpError;
+use crate::message::{heartbeat_answer_bytes, status_bytes};
+use dist_types::results::{HeartbeatServerResult, SchedulerStatusResult};
+use dist_types::text::{Bytes, Items, Text};
+use std::alloc::Global;
+use std::fmt;
+
+/// The word of a 401 reply, which says why a request was refused as unauthorised.
+#[derive(Clone, Copy, Debug, PartialEq, Eq)]
+pub enum Word {
+    /// No `Authorization: Bearer TOKEN`.
+    NoBearerAuth,
+    /// Another token than the client's.
+    BearerAuthFailed,
+    /// A token that is no server's.
+    InvalidBearerToken,
+    /// The token of a server with another IP.
+    MismatchedAddress,
+    /// A token that is not the job's.
+    InvalidJwt,
+    /// The token could not be checked. It prints as BearerAuthFailed.
+    LinkFailed,
+}
+
+/// A reply that is written, by its kind.
+#[derive(Debug, Drop)]
+pub enum Response {
+    /// 200 with a message in binary.
+    Binary(Bytes),
+    /// 200 with a message in JSON.
+    Json(Text),
+    /// 400 with a fault of the request in JSON.
+    BadRequest(Text),
+    /// 500 with another fault in JSON.
+    ServerError(Text),
+    /// 400 with no body: the header X-Real-IP is no IP.
+    BadRealIp,
+    /// 401 with its word and a body.
+    Unauthorised(Word, Text),
+    /// 404 with no body.
+    NotFound,
+}
+
+/// A reply as its reader sees it.
+#[derive(Debug, Drop)]
+pub struct Reply {
+    /// The status code, three digits.
+    pub code: u16,
+    /// Each field's name and value, in the order of the head.
+    pub headers: Items<(Text, Bytes)>,
+    /// All bytes after the head.
+    pub body: Bytes,
+}
+
+impl fmt::Display for Word {
+    ghost use Rattle.std.specs.Prelude.{Some};
+    ghost use Rattle.dist_http.specs.Reply.{word_text};
+
+    ghost output = { λ w. Some (word_text w) };
+
+    fn fmt<W: fmt::Write>(&self, f: &mut fmt::Formatter<W>) -> fmt::Result {
+        match self {
+            Word::NoBearerAuth => write!(f, "no_bearer_auth"),
+            Word::BearerAuthFailed => write!(f, "bearer_auth_failed"),
+            Word::InvalidBearerToken => write!(f, "invalid_bearer_token"),
+            Word::MismatchedAddress => write!(f, "invalid_bearer_token_mismatched_address"),
+            Word::InvalidJwt => write!(f, "invalid_jwt"),
+            Word::LinkFailed => write!(f, "bearer_auth_failed"),
+        }
+    }
+}
+
+/// The status line and the fields before the length.
+#[derive(Drop)]
+struct Opening<'a>(&'a Response);
+
+impl fmt::Display for Opening<'_> {
+    ghost use Rattle.std.specs.Prelude.{Some};
+    ghost use Rattle.dist_http.specs.Reply.{opening_text};
+
+    ghost output = { λ o. Some (opening_text o.0.now) };
+
+    fn fmt<W: fmt::Write>(&self, f: &mut fmt::Formatter<W>) -> fmt::Result {
+        match self.0 {
+            Response::Binary(_) => {
+                write!(
+                    f,
+                    "HTTP/1.1 200 OK\r\nContent-Type: application/octet-stream\r\n"
+                )
+            }
+            Response::Json(_) => {
+                write!(f, "HTTP/1.1 200 OK\r\nContent-Type: application/json\r\n")
+            }
+            Response::BadRequest(_) => {
+                write!(
+                    f,
+                    "HTTP/1.1 400 Bad Request\r\nContent-Type: application/json\r\n"
+                )
+            }
+            Response::ServerError(_) => write!(
+                f,
+                "HTTP/1.1 500 Internal Server Error\r\nContent-Type: application/json\r\n"
+            ),
+            Response::BadRealIp => write!(f, "HTTP/1.1 400 Bad Request\r\n"),
+            Response::Unauthorised(word, _) => write!(
+                f,
+                "HTTP/1.1 401 Unauthorized\r\nWWW-Authenticate: Bearer error=\"{word}\"\r\n"
+            ),
+            Response::NotFound => write!(f, "HTTP/1.1 404 Not Found\r\n"),
+        }
+    }
+}
+
+impl Response {
+    /// The bytes of the body.
+    fn body(&self) -> &[u8]
+        ensures { result.now ≡ body_of self.now }
+    {
+        match self {
+            Response::Binary(body) => body.get(),
+            Response::Json(body) => body.get().as_bytes(),
+            Response::BadRequest(body) => body.get().as_bytes(),
+            Response::ServerError(body) => body.get().as_bytes(),
+            Response::BadRealIp => &[],
+            Response::Unauthorised(_, body) => body.get().as_bytes(),
+            Response::NotFound => &[],
+        }
+    }
+
+    /// The bytes of the reply. Refused for want of memory alone.
+    #[tactic(auto, unfolding(crate::specs::Reply::reply_text))]
+    pub fn bytes(&self, alloc: Global) -> Result<Vec<u8>, HttpError>
+        ensures ok { IfOk result (λ bytes. bytes.items ≡ reply_text self.now) }
+        ensures err { IfErr result (λ e. e ≡ HttpError.Memory) }
+    {
+        let body = self.body();
+        let opening = Opening(self);
+        let len = body.len();
+        let head = format!(in alloc;
+            "{opening}Content-Length: {len}\r\nConnection: close\r\n\r\n"
+        )?;
+        let mut bytes = head.into_bytes();
+        bytes.extend_from_slice(body)?;
+        Ok(bytes)
+    }
+}
+
+/// The reply to a heartbeat, in binary. Refused for want of memory alone.
+pub fn heartbeat_response(
+    alloc: Global,
+    answer: &HeartbeatServerResult,
+) -> Result<Response, HttpError>
+    ensures ok { IfOk result (λ response. response ≡ heartbeat_response answer.now) }
+    ensures err { IfErr result (λ e. e ≡ HttpError.Memory) }
+{
+    let bytes = heartbeat_answer_bytes(alloc, answer)?;
+    Ok(Response::Binary(bytes))
+}
+
+/// The reply to a status request, in binary. Refused for want of memory alone.
+pub fn status_response(alloc: Global, status: &SchedulerStatusResult) -> Result<Response, HttpError>
+    ensures ok { IfOk result (λ response. response ≡ status_response status.now) }
+    ensures err { IfErr result (λ e. e ≡ HttpError.Memory) }
+{
+    let bytes = status_bytes(alloc, status)?;
+    Ok(Response::Binary(bytes))
+}

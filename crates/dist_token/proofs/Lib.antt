@@ -1,0 +1,13 @@
+pub mod Answering
+pub mod Bits
+pub mod DotCuts
+pub mod Json
+pub mod Members
+pub mod Dotless
+pub mod Bytes
+pub mod Claims
+pub mod MadeTokens
+pub mod Heads
+pub mod Inversions
+pub mod Exact
+pub mod ServerTokens

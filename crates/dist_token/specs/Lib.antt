@@ -1,0 +1,9 @@
+pub mod Accepted
+pub mod Checks
+pub mod Dots
+pub mod Forwarded
+pub mod Mac
+pub mod ProxyViews
+pub mod Token
+pub mod Verdict
+pub mod Views

@@ -1,0 +1,210 @@
+//! The check that forwards a client's token to a peer, and lets in whom that peer lets in.
+ghost use Rattle.std.specs.Prelude.{◌≡◌, ℕ, IfOk, IfErr, IfSome, IfNone, OnOk, Ok, codes, string_bytes};
+ghost use Rattle.dist_types.specs.Cause.{Rose};
+ghost use Rattle.dist_types.specs.declared.token_error.TokenError.TheVariants.{LinkFault, Memory as OutOfMemory};
+ghost use Rattle.dist_token.specs.Forwarded.{target_of, forwarded_text, HasHead, HasNoHead, HasStatus, is_success, is_fresh, Shows, host_of, port_of};
+
+use crate::checks::{ClientAuthCheck, ClientVisibleMsg};
+use crate::kept::{Kept, forget, keep, moment_of, none_kept};
+use dist_types::dialer::{AskFault, Dialer};
+use dist_types::fault::Memory;
+use dist_types::token_error::TokenError;
+use httparse::{EMPTY_HEADER, Header, Status};
+use std::alloc::Global;
+use url::Url;
+
+/// How many fields the head of a reply has at most.
+const MAX_HEADERS: usize = 100;
+
+/// How many bytes the head of a reply has at most.
+const MAX_HEAD_BYTES: usize = 65536;
+
+/// Milliseconds of a second.
+const MS: u64 = 1000;
+
+// The path, and where there is one `?` and the query.
+#[tactic(auto, unfolding(crate::specs::Forwarded::target_of))]
+fn target_of(alloc: Global, url: &Url) -> Result<String, Memory>
+    ensures { IfOk result (λ target. string_bytes target ≡ target_of url.now) }
+{
+    let path = url.path();
+    match url.query() {
+        Some(query) => Ok(format!(in alloc; "{path}?{query}")?),
+        None => Ok(String::from_str(alloc, path)?),
+    }
+}
+
+fn host_of(url: &Url) -> &str
+    ensures { result.now ≡ host_of url.now }
+{
+    url.host_str().unwrap_or("")
+}
+
+fn port_of(url: &Url) -> u16
+    ensures { result ≡ port_of url.now }
+{
+    url.port_or_known_default().unwrap_or(80)
+}
+
+// A GET of the URL with the token.
+#[tactic(auto, unfolding(crate::specs::Forwarded::forwarded_text))]
+fn request_for(alloc: Global, url: &Url, token: &str) -> Result<String, Memory>
+    ensures { IfOk result (λ request. string_bytes request ≡ forwarded_text url.now token.now) }
+{
+    let target = target_of(alloc, url)?;
+    let host = host_of(url);
+    let port = port_of(url);
+    Ok(format!(in alloc;
+        "GET {target} HTTP/1.1\r\nHost: {host}:{port}\r\nAuthorization: Bearer {token}\r\nConnection: close\r\n\r\n"
+    )?)
+}
+
+// The status of the reply's head, where it begins with one.
+fn head_status(reply: &[u8]) -> Option<u16>
+    ensures some { IfSome result (HasHead reply.now) }
+    ensures none { IfNone result (HasNoHead reply.now) }
+{
+    let mut room = [EMPTY_HEADER; MAX_HEADERS];
+    let mut head = httparse::Response::new(&mut room);
+    let Ok(Status::Complete(len)) = head.parse(reply) else {
+        return None;
+    };
+    let code = head.code.unwrap();
+    let headers: &[Header<'_>] = head.headers;
+    if headers.len() > MAX_HEADERS {
+        return None;
+    }
+    if len > MAX_HEAD_BYTES {
+        return None;
+    }
+    Some(code)
+}
+
+// The status of the reply, or 0 where it has no head.
+fn status_of(reply: &[u8]) -> u16
+    ensures { HasStatus reply.now result }
+{
+    match head_status(reply) {
+        Some(code) => code,
+        None => 0,
+    }
+}
+
+fn is_success(status: u16) -> bool
+    ensures { result ≡ is_success status }
+{
+    200 <= status && status <= 299
+}
+
+// Whether a token that was accepted at a moment is accepted without asking.
+fn is_fresh(cache_secs: Option<u64>, now: u64, moment: Option<u64>) -> bool
+    ensures { result ≡ is_fresh cache_secs now moment }
+{
+    match cache_secs {
+        Some(cache_secs) => match moment {
+            Some(moment) => now.saturating_sub(moment) < cache_secs.saturating_mul(MS),
+            None => false,
+        },
+        None => false,
+    }
+}
+
+// Asks the peer with the token, and gives the status of its reply.
+fn asked_status<D: Dialer>(
+    alloc: Global,
+    dialer: &mut D,
+    url: &Url,
+    token: &str,
+) -> Result<u16, TokenError>
+    ensures shown { Shows url.now token.now result (D.asked dialer.old) (D.asked dialer.new) }
+    ensures steady { OnOk result (D.faults dialer.new ≡ D.faults dialer.old) }
+    ensures cause { result ≡ Err LinkFault → Rose (D.faults dialer.old) (D.faults dialer.new) }
+{
+    let request = match request_for(alloc, url, token) {
+        Ok(request) => request,
+        Err(_) => return Err(TokenError::Memory),
+    };
+    match dialer.ask(host_of(url), port_of(url), request.as_bytes()) {
+        Ok(reply) => Ok(status_of(&reply)),
+        Err(AskFault::Failed) => Err(TokenError::LinkFault),
+        Err(AskFault::Memory) => Err(TokenError::Memory),
+    }
+}
+
+/// Lets in the clients whose token a peer accepts, which it is asked by a GET of the URL with that
+/// token. A token that was accepted is kept, and accepted again for so many seconds without asking.
+#[derive(Drop)]
+pub struct ProxyTokenCheck<D> {
+    alloc: Global,
+    dialer: D,
+    url: Url,
+    cache_secs: Option<u64>,
+    kept: Kept,
+}
+
+impl<D: Dialer> ProxyTokenCheck<D> {
+    ghost use Rattle.std.specs.Prelude.{◌≡◌, ℕ, List, None, codes};
+    ghost use Rattle.dist_token.specs.ProxyViews.{seen};
+
+    /// A check that asks at this URL, and keeps a token for so many seconds, or keeps none. It takes no
+    /// memory.
+    pub fn new(alloc: Global, dialer: D, url: Url, cache_secs: Option<u64>) -> Self
+        requires { url.scheme ≡ codes "http" }
+        ensures url { (seen D.asked D.faults result).url ≡ url }
+        ensures cache_secs { (seen D.asked D.faults result).cache_secs ≡ cache_secs }
+        ensures cached { (token : List ℕ) → (seen D.asked D.faults result).moment_of token ≡ None }
+        ensures asked { (seen D.asked D.faults result).asked ≡ D.asked dialer }
+        ensures faults { (seen D.asked D.faults result).faults ≡ D.faults dialer }
+    {
+        ProxyTokenCheck {
+            alloc,
+            dialer,
+            url,
+            cache_secs,
+            kept: none_kept(alloc),
+        }
+    }
+
+    /// The dialer, with its record.
+    pub fn dialer(&self) -> &D
+        ensures asked { D.asked result.now ≡ (seen D.asked D.faults self.now).asked }
+    {
+        &self.dialer
+    }
+}
+
+impl<D: Dialer + Send> ClientAuthCheck for ProxyTokenCheck<D> {
+    ghost use Rattle.dist_token.specs.Forwarded.{MayAnswer, forwarding_shown};
+    ghost use Rattle.dist_token.specs.ProxyViews.{seen};
+
+    ghost may_answer = { λ old now token answer new. MayAnswer (seen D.asked D.faults old) now token answer (seen D.asked D.faults new) };
+
+    ghost shown = { λ check e. forwarding_shown };
+
+    fn check(&mut self, now: u64, token: &str) -> Result<(), TokenError> {
+        if is_fresh(self.cache_secs, now, moment_of(&self.kept, token)) {
+            return Ok(());
+        }
+        forget(&mut self.kept, token);
+        match asked_status(self.alloc, &mut self.dialer, &self.url, token) {
+            Ok(status) => {
+                if !is_success(status) {
+                    return Err(TokenError::ForwardRefused(status));
+                }
+                match self.cache_secs {
+                    Some(_) => match keep(self.alloc, &mut self.kept, token, now) {
+                        Ok(_) => Ok(()),
+                        Err(_) => Err(TokenError::Memory),
+                    },
+                    None => Ok(()),
+                }
+            }
+            Err(e) => Err(e),
+        }
+    }
+
+    fn visible(&self, _e: &TokenError) -> Result<ClientVisibleMsg, Memory> {
+        let text = String::from_str(self.alloc, "Validation with token forwarding failed")?;
+        Ok(ClientVisibleMsg::from_nonsensitive(text))
+    }
+}

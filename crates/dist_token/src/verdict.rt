@@ -1,0 +1,105 @@
+//! The tests that every signed token passes, in their order.
+ghost use Rattle.std.specs.Prelude.{◌≡◌, ok_or};
+ghost use Rattle.serde_json.specs.View.{view};
+ghost use Rattle.dist_types.specs.Answers.{Gives};
+ghost use Rattle.dist_types.specs.declared.token_error.TokenError.TheVariants.{BadToken};
+ghost use Rattle.dist_types.specs.declared.token_error.Part.TheVariants.{Claims};
+ghost use Rattle.dist_token.specs.Verdict.{value_of, are_two, is_hs256, mac_test, header_test, said, tested, untested};
+ghost use Rattle.serde_json.specs.Find.{as_object};
+ghost use Rattle.dist_token.specs.Token.{signed_text};
+ghost use Rattle.dist_token.specs.Views.{parts_view};
+
+use crate::mac::{hmac_sha256, is_mac};
+use crate::parts::{TokenParts, bytes_of, parts_of, value_of};
+use dist_types::token_error::{Part, TokenError};
+use serde_json::Value;
+use std::alloc::Global;
+
+// Whether the third part is the MAC of the first two.
+fn mac_test(alloc: Global, key: &[u8], parts: &TokenParts<'_>) -> Result<(), TokenError>
+    requires { parts.now.signed.now ≡ signed_text parts.now.header.now parts.now.claims.now }
+    ensures { Gives (λ x. x) (mac_test key.now (parts_view parts.now)) result }
+{
+    let Some(mac) = bytes_of(alloc, parts.mac)? else {
+        return Err(TokenError::BadToken(Part::Mac));
+    };
+    if is_mac(mac.as_slice(), &hmac_sha256(key, parts.signed)) {
+        Ok(())
+    } else {
+        Err(TokenError::BadMac)
+    }
+}
+
+fn is_hs256(header: &Value) -> bool
+    ensures { result ≡ is_hs256 (view header.now) }
+{
+    match header.get("alg").and_then(Value::as_str) {
+        Some(name) => name == "HS256",
+        None => false,
+    }
+}
+
+// Whether the first part says the algorithm.
+fn header_test(alloc: Global, parts: &TokenParts<'_>) -> Result<(), TokenError>
+    ensures { Gives (λ x. x) (header_test (parts_view parts.now)) result }
+{
+    match value_of(alloc, parts.header)? {
+        Some(header) => {
+            if is_hs256(&header) {
+                Ok(())
+            } else {
+                Err(TokenError::BadToken(Part::Header))
+            }
+        }
+        None => Err(TokenError::BadToken(Part::Header)),
+    }
+}
+
+// What the second part says.
+fn claims_value(alloc: Global, parts: &TokenParts<'_>) -> Result<Value, TokenError>
+    ensures { Gives view (ok_or (value_of parts.now.claims.now) (BadToken Claims)) result }
+{
+    match value_of(alloc, parts.claims)? {
+        Some(claims) => Ok(claims),
+        None => Err(TokenError::BadToken(Part::Claims)),
+    }
+}
+
+// What the claims say, where the header passes.
+fn said(alloc: Global, parts: &TokenParts<'_>) -> Result<Value, TokenError>
+    ensures { Gives view (said (parts_view parts.now)) result }
+{
+    header_test(alloc, parts)?;
+    claims_value(alloc, parts)
+}
+
+/// What the claims of a token say, where its parts, its MAC and its header pass.
+pub fn tested(alloc: Global, key: &[u8], token: &str) -> Result<Value, TokenError>
+    ensures { Gives view (tested key.now token.now) result }
+{
+    let Some(parts) = parts_of(token) else {
+        return Err(TokenError::BadToken(Part::Shape));
+    };
+    mac_test(alloc, key, &parts)?;
+    said(alloc, &parts)
+}
+
+/// The same without the tests of the MAC.
+pub fn untested(alloc: Global, token: &str) -> Result<Value, TokenError>
+    ensures { Gives view (untested token.now) result }
+{
+    let Some(parts) = parts_of(token) else {
+        return Err(TokenError::BadToken(Part::Shape));
+    };
+    said(alloc, &parts)
+}
+
+// Whether the claims are an object of exactly two members.
+pub fn are_two(claims: &Value) -> bool
+    ensures { result ≡ are_two (as_object (view claims.now)) }
+{
+    match claims.as_object() {
+        Some(members) => members.len() == 2,
+        None => false,
+    }
+}

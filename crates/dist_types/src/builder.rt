@@ -1,0 +1,69 @@
+//! What runs the builds of a server.
+ghost use Rattle.std.specs.Prelude.{◌≡◌, ◌≤◌, ◌≢◌, List, ℕ, OnOk, Option, Err};
+ghost use Rattle.sha2.specs.Sha256.{sha256};
+ghost use Rattle.dist_types.specs.Cause.{Rose};
+ghost use Rattle.dist_types.specs.Content.{Recorded};
+ghost use Rattle.dist_types.specs.Builder.{Built};
+
+use crate::command::CompileCommand;
+use crate::fault::Memory;
+use crate::results::BuildResult;
+use crate::text::Text;
+use crate::toolchain::Toolchain;
+use std::alloc::AllocError;
+use thiserror::Error;
+
+/// Why a build gave nothing.
+#[derive(Clone, Copy, Debug, PartialEq, Eq, Error)]
+pub enum BuildFault {
+    /// The builder refused the build, and its count of refusals rose.
+    #[error("build refused")]
+    Refused,
+    /// Memory ran out.
+    #[error("out of memory")]
+    Memory,
+}
+
+impl From<AllocError> for BuildFault {
+    ghost use Rattle.dist_types.specs.declared.builder.BuildFault.TheVariants.{Memory as OutOfMemory};
+
+    ghost from_gives = { λ _ e. e ≡ OutOfMemory };
+
+    fn from(_: AllocError) -> Self {
+        BuildFault::Memory
+    }
+}
+
+impl From<Memory> for BuildFault {
+    ghost use Rattle.dist_types.specs.declared.builder.BuildFault.TheVariants.{Memory as OutOfMemory};
+
+    ghost from_gives = { λ _ e. e ≡ OutOfMemory };
+
+    fn from(_: Memory) -> Self {
+        BuildFault::Memory
+    }
+}
+
+/// Runs builds, each in the toolchain of an archive.
+pub trait BuilderIncoming {
+    /// The record: a row for each build that did not run out of memory, in order, where it is told.
+    ghost built: { Self → Option (List Built) };
+
+    /// How often it refused.
+    ghost refusals: { Self → ℕ };
+
+    /// Runs the command in the toolchain over the inputs, and gives what it gave and the outputs of these names.
+    fn run_build(
+        &mut self,
+        toolchain: &Toolchain,
+        archive: &[u8],
+        command: &CompileCommand,
+        outputs: &[Text],
+        inputs: &[u8],
+    ) -> Result<BuildResult, BuildFault>
+        ensures row { result ≢ Err BuildFault.Memory → Recorded (record { toolchain = toolchain.now; digest = sha256 archive.now; command = command.now; outputs = outputs.now; inputs = inputs.now; answer = result }) (built self.old) (built self.new) }
+        ensures memory { result ≡ Err BuildFault.Memory → built self.new ≡ built self.old }
+        ensures steady { OnOk result (refusals self.new ≡ refusals self.old) }
+        ensures later { refusals self.old ≤ refusals self.new }
+        ensures cause { result ≡ Err BuildFault.Refused → Rose (refusals self.old) (refusals self.new) };
+}

@@ -1,0 +1,15 @@
+pub mod BuiltLemmas
+pub mod DigitLemmas
+pub mod ExactLemmas
+pub mod FieldLemmas
+pub mod FirstFaultyLemmas
+pub mod HexDigitLemmas
+pub mod LimitLemmas
+pub mod LineLemmas
+pub mod OneLemmas
+pub mod PieceLemmas
+pub mod RunLemmas
+pub mod ScriptLemmas
+pub mod SpelledLemmas
+pub mod VisibleLemmas
+pub mod WordLemmas

@@ -1,0 +1,14 @@
+pub mod Command
+pub mod Fields
+pub mod Farm
+pub mod FirstFaulty
+pub mod Grammar
+pub mod Lines
+pub mod Next
+pub mod Pieces
+pub mod Printed
+pub mod Reading
+pub mod Script
+pub mod Spelled
+pub mod Texts
+pub mod Words

@@ -1,0 +1,44 @@
+-- What a line says.
+use Rattle.std.specs.Prelude.{ℕ, ◌==◌, Bool, true, if◌then◌else◌, List, [], ◌∷◌, Option, Some, None, codes}
+use Rattle.dist_types.specs.Addr.{◌>>=◌}
+use Rattle.farm.specs.Words.{strip, field, named, last}
+use Rattle.farm.specs.Fields.{addr_at, number_at, token_at, hex_at}
+use Rattle.farm.specs.declared.setup.Setup.{Setup}
+use Rattle.farm.specs.declared.setup.SetupAuth.TheVariants.{Plain}
+use Rattle.farm.specs.declared.event.Event.{Event}
+use Rattle.farm.specs.declared.event.EventKind.TheVariants.{Request}
+use Rattle.farm.specs.declared.lines.Line.{Line}
+use Rattle.farm.specs.declared.lines.Line.TheVariants.{Skipped, Scheduler, Happens}
+
+-- behind the word scheduler
+unfoldable pub scheduler_at : List ℕ → Option Setup
+scheduler_at t = do
+  addr ← field addr_at t
+  base ← named (codes "base ") number_at addr.1
+  count ← named (codes "count ") number_at base.1
+  client ← named (codes "client ") token_at count.1
+  token ← last (codes "plain ") token_at client.1
+  Some (record { scheduler = record { addr = addr.0; base = base.0; count = count.0; client = client.0; auth = Plain token }; servers = [] })
+
+-- a request to the farm
+unfoldable pub event_at : List ℕ → Option Event
+event_at t = do
+  at ← field number_at t
+  target ← named (codes "request ") addr_at at.1
+  peer ← field addr_at target.1
+  bytes ← hex_at peer.1
+  Some (record { at = at.0; kind = Request target.0 peer.0 bytes })
+
+-- an empty line, and one that begins with #
+abbrev pub is_skipped : List ℕ → Bool
+is_skipped [] = true
+is_skipped (c ∷ cs) = c == 35
+
+-- what a line says that is not skipped: of the scheduler behind its word, else an event
+abbrev pub said : List ℕ → Option (List ℕ) → Option Line
+said t (Some r) = scheduler_at r >>= λ s. Some (Scheduler s)
+said t None = event_at t >>= λ e. Some (Happens e)
+
+-- the value that the whole line spells, if it spells one
+unfoldable pub line_at : List ℕ → Option Line
+line_at t = if is_skipped t then Some Skipped else said t (strip (codes "scheduler ") t)

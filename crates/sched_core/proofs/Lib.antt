@@ -1,0 +1,12 @@
+pub mod AllLemmas
+pub mod EndLemmas
+pub mod FactLemmas
+pub mod HeldLemmas
+pub mod LegalLemmas
+pub mod OnceLemmas
+pub mod PlainLemmas
+pub mod QuietLemmas
+pub mod RoomLemmas
+pub mod SoundLemmas
+pub mod StandingLemmas
+pub mod StepLemmas

@@ -1,0 +1,5 @@
+use Rattle.sched_core.proofs.RoomLemmas.{legal_fair}
+use Rattle.sched_core.proofs.laws.reserves_are_fair.Goals as goal
+
+pub returns : goal.returns
+returns c = legal_fair

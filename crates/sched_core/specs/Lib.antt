@@ -1,0 +1,14 @@
+pub mod Log
+pub mod Standing
+pub mod Reservation
+pub mod Fault
+pub mod Job
+pub mod Rows
+pub mod Pick
+pub mod Prune
+pub mod Reap
+pub mod Advance
+pub mod Rule
+pub mod Laws
+pub mod Books
+pub mod Plain

@@ -1,0 +1,21 @@
+//! The core of the scheduler: one growing log of entries, and the books that answer from it.
+//!
+//! Every rule is a question to the whole log, asked by filters (`specs/`): which registrations stand,
+//! which reservations are unended, which jobs are open, and the one entry that a call makes.
+//! The contract: each call of `SchedState` appends exactly the entry of the core rule over the log
+//! before, and answers what that entry says; what it keeps beside the log equals the filters.
+//! The layer above uses `SchedState`, `CoreEntry` with its `copy`, `ServerRow`, `SchedError` and, in
+//! its own clauses, `rule`, `IsLegal` and the answers read off an entry.
+#![tactic(auto)]
+
+pub mod call;
+pub mod entry;
+pub mod error;
+mod keys;
+mod kind;
+pub mod laws;
+pub mod plain;
+pub mod rows;
+pub mod rules;
+mod standing;
+pub mod state;

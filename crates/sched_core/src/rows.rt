@@ -1,0 +1,95 @@
+//! What is asked of the log, as rows.
+ghost use Rattle.std.specs.Prelude.{◌≡◌};
+ghost use Rattle.std.specs.Iterator.{YieldsFirst, item_count};
+
+use dist_types::ids::{JobId, ServerId, ServerNonce};
+use dist_types::results::JobState;
+use std::marker::Model;
+
+/// A registration that stands.
+#[derive(Clone, Copy, Debug)]
+pub struct ServerRow {
+    /// Its number: the place in the log of the heartbeat that made it.
+    pub reg: u64,
+    /// Its address.
+    pub server: ServerId,
+    /// Its processors.
+    pub cpus: u64,
+    /// The nonce of this start of the server.
+    pub nonce: ServerNonce,
+    /// The moment of its last sign, in milliseconds.
+    pub seen: u64,
+    /// How many unended reservations it has.
+    pub load: u64,
+    /// The moment of its remembered error, in milliseconds.
+    pub error: Option<u64>,
+}
+
+/// A reservation that is unended.
+#[derive(Clone, Copy, Debug)]
+pub struct HeldRow {
+    /// Its number: the place in the log of the entry that made it.
+    pub number: u64,
+    /// Its job.
+    pub job: JobId,
+    /// The registration that it is at.
+    pub reg: u64,
+    /// The moment at which it was made, in milliseconds.
+    pub reserved_at: u64,
+    /// The state of its job, if the job is committed.
+    pub state: Option<JobState>,
+    /// Whether the build has begun.
+    pub claimed: bool,
+}
+
+/// A job that is committed and open.
+#[derive(Clone, Copy, Debug)]
+pub struct OpenRow {
+    /// The job.
+    pub job: JobId,
+    /// The registration that it was reserved at.
+    pub reg: Option<u64>,
+    /// The address of that registration.
+    pub server: Option<ServerId>,
+    /// Its state.
+    pub state: JobState,
+}
+
+/// The registrations that stand, by rising number. Contracts see it as the list of the rows that are
+/// still to come.
+#[derive(Drop)]
+pub struct Servers<'a> {
+    rest: &'a [ServerRow],
+}
+
+impl<'a> Model for Servers<'a> {
+    ghost use Rattle.std.specs.Prelude.{List};
+    ghost use Rattle.sched_core.specs.declared.rows.ServerRow.{ServerRow};
+
+    ghost Value = { List ServerRow };
+
+    ghost view = { λ s. s.rest.now };
+}
+
+impl<'a> Servers<'a> {
+    /// The rows of a slice.
+    pub fn new(rest: &'a [ServerRow]) -> Self
+        ensures rows { result ≡ rest.now }
+    {
+        Servers { rest }
+    }
+}
+
+impl<'a> Iterator for Servers<'a> {
+    type Item = ServerRow;
+
+    ghost next_gives = { YieldsFirst (λ s. s) };
+
+    ghost remaining = { item_count (λ s. s) };
+
+    fn next(&mut self) -> Option<ServerRow> {
+        let (first, others) = self.rest.split_first()?;
+        self.rest = others;
+        Some(*first)
+    }
+}

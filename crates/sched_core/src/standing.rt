@@ -1,0 +1,234 @@
+//! What a heartbeat and a status do to the rows of the registrations that stand.
+ghost use Rattle.std.specs.Prelude.{◌≡◌, ◌<◌, ◌++◌, ◌∷◌, [], ◌-◌, ◌^◌, IfOk, IsSome, map, filter, length, min, sum_by, option_to_list, vec_len, vec_capacity};
+ghost use Rattle.sched_core.specs.Prune.{is_expired, prune, left, at_address};
+ghost use Rattle.sched_core.specs.Rule.{replaced_by, says_new, beat_over, counts_over, status_by};
+ghost use Rattle.sched_core.specs.Books.{row_by, row_after, row_stays};
+
+use crate::entry::{CoreEntry, CoreKind};
+use crate::kind::{ends, renews};
+use crate::rows::ServerRow;
+use dist_types::ids::{ServerId, ServerNonce};
+use dist_types::results::SchedulerStatusResult;
+use dist_types::text::{Bytes, Items};
+use std::alloc::{AllocError, Global};
+
+/// A registration whose last sign is older is pruned, in milliseconds.
+const HEARTBEAT_TIMEOUT: u64 = 90000;
+
+/// Whether the last sign is too long ago.
+fn is_silent(row: &ServerRow, now: u64) -> bool
+    ensures { result ≡ is_expired now row.now }
+{
+    now.saturating_sub(row.seen) > HEARTBEAT_TIMEOUT
+}
+
+/// The numbers of the registrations whose last sign is too long ago. Refused for want of memory alone.
+pub fn pruned_numbers(alloc: Global, rows: &[ServerRow], now: u64) -> Result<Vec<u64>, AllocError>
+    ensures { IfOk result (λ v. v.items ≡ prune now rows.now) }
+{
+    rows.iter()
+        .filter(|row| is_silent(row, now))
+        .map(|row| row.reg)
+        .collect(alloc)
+}
+
+/// The registration at an address, among those that are not pruned.
+pub fn survivor(rows: &[ServerRow], now: u64, server: ServerId) -> Option<ServerRow>
+    ensures { result ≡ at_address server (left now rows.now) }
+{
+    rows.iter()
+        .copied()
+        .filter(|row| !is_silent(row, now))
+        .find(|row| row.server == server)
+}
+
+/// The registration at an address.
+pub fn row_at(rows: &[ServerRow], server: ServerId) -> Option<ServerRow>
+    ensures { result ≡ at_address server rows.now }
+{
+    rows.iter().copied().find(|row| row.server == server)
+}
+
+/// Takes out the registrations that an entry ends.
+pub fn end_rows(rows: &mut Vec<ServerRow>, step: &CoreEntry)
+    ensures items { rows.new.items ≡ filter (row_stays step.entry.now) rows.old.items }
+    ensures room { vec_len rows.old < vec_capacity rows.old → vec_len rows.new < vec_capacity rows.new }
+{
+    rows.retain(|row| !ends(&step.kind, row.reg));
+}
+
+/// The row after an entry.
+fn renewed(row: ServerRow, step: &CoreEntry) -> ServerRow
+    ensures { result ≡ row_after step.entry.now row }
+{
+    if renews(&step.kind, row.server) {
+        ServerRow {
+            seen: step.now,
+            ..row
+        }
+    } else {
+        row
+    }
+}
+
+/// Gives the registrations that an entry renews their new last sign.
+pub fn renew_rows(rows: &mut Vec<ServerRow>, step: &CoreEntry)
+    ensures { rows.new.items ≡ map (row_after step.entry.now) rows.old.items }
+{
+    for row in rows.iter_mut() {
+        *row = renewed(*row, step);
+    }
+}
+
+/// The registration that an entry of this number makes.
+pub fn row_made(step: &CoreEntry, number: u64) -> Option<ServerRow>
+    ensures { result ≡ row_by step.entry.now.kind number step.entry.now.now }
+{
+    match &step.kind {
+        CoreKind::Reserve(_) => None,
+        CoreKind::Commit { .. } => None,
+        CoreKind::Undo { .. } => None,
+        CoreKind::Beat {
+            server,
+            nonce,
+            cpus,
+            is_new,
+            ..
+        } => {
+            if *is_new {
+                Some(ServerRow {
+                    reg: number,
+                    server: *server,
+                    cpus: *cpus,
+                    nonce: *nonce,
+                    seen: step.now,
+                    load: 0,
+                    error: None,
+                })
+            } else {
+                None
+            }
+        }
+        CoreKind::Update { .. } => None,
+        CoreKind::Status { .. } => None,
+    }
+}
+
+/// The registration that another nonce replaces.
+pub fn replaced(there: &Option<ServerRow>, nonce: ServerNonce) -> Option<u64>
+    ensures { result ≡ replaced_by nonce there.now }
+{
+    match there {
+        Some(row) => {
+            if row.nonce == nonce {
+                None
+            } else {
+                Some(row.reg)
+            }
+        }
+        None => None,
+    }
+}
+
+/// Whether a heartbeat with this nonce makes a registration.
+pub fn is_new(there: &Option<ServerRow>, nonce: ServerNonce) -> bool
+    ensures { result ≡ says_new nonce there.now }
+{
+    match there {
+        Some(row) => row.nonce != nonce,
+        None => true,
+    }
+}
+
+/// The entry of a heartbeat, where no reservation is unended. Refused for want of memory alone.
+pub fn beat_entry(
+    alloc: Global,
+    rows: &[ServerRow],
+    now: u64,
+    server: ServerId,
+    nonce: ServerNonce,
+    cpus: u64,
+    key: &[u8],
+) -> Result<CoreEntry, AllocError>
+    ensures { IfOk result (λ e. e ≡ beat_over rows.now [] now server nonce cpus key.now) }
+{
+    let pruned = pruned_numbers(alloc, rows, now)?;
+    let there = survivor(rows, now, server);
+    let kind = CoreKind::Beat {
+        server,
+        nonce,
+        cpus,
+        key: Bytes::from_slice(alloc, key)?,
+        pruned: Items::new(pruned),
+        reaped: Items::new(Vec::new(alloc)),
+        replaced: replaced(&there, nonce),
+        is_new: is_new(&there, nonce),
+    };
+    Ok(CoreEntry { now, kind })
+}
+
+/// How many processors are left once those that are silent are pruned, at most 2^64 - 1.
+fn cpus_left(rows: &[ServerRow], now: u64) -> u64
+    ensures { result ≡ min (2 ^ 64 - 1) (sum_by (λ r. r.cpus) (left now rows.now)) }
+{
+    let mut total = 0u64;
+    for row in rows {
+        if !is_silent(row, now) {
+            total = total.saturating_add(row.cpus);
+        }
+    }
+    total
+}
+
+/// How many registrations are left once those that are silent are pruned.
+fn count_left(rows: &[ServerRow], now: u64) -> usize
+    ensures { result ≡ length (left now rows.now) }
+{
+    rows.iter().filter(|row| !is_silent(row, now)).count()
+}
+
+/// The numbers of a status, where no job is open.
+pub fn counts(rows: &[ServerRow], now: u64) -> SchedulerStatusResult
+    ensures { result ≡ counts_over rows.now [] now }
+{
+    SchedulerStatusResult {
+        num_servers: count_left(rows, now) as u64,
+        num_cpus: cpus_left(rows, now),
+        in_progress: 0,
+    }
+}
+
+/// The entry of a status.
+pub fn status_entry(now: u64, pruned: Vec<u64>, counts: SchedulerStatusResult) -> CoreEntry
+    ensures { result ≡ status_by now pruned.items counts }
+{
+    let kind = CoreKind::Status {
+        pruned: Items::new(pruned),
+        servers: counts.num_servers,
+        cpus: counts.num_cpus,
+        jobs: counts.in_progress,
+    };
+    CoreEntry { now, kind }
+}
+
+/// Adds an element, if there is one, where there is room for it.
+pub fn push_some<T: Drop>(items: &mut Vec<T>, item: Option<T>)
+    requires { IsSome item → vec_len items.old < vec_capacity items.old }
+    ensures { items.new.items ≡ items.old.items ++ option_to_list item }
+{
+    match item {
+        Some(x) => push_reserved(items, x),
+        None => (),
+    }
+}
+
+/// Adds an element where there is room for it.
+pub fn push_reserved<T: Drop>(items: &mut Vec<T>, item: T)
+    requires { vec_len items.old < vec_capacity items.old }
+    ensures { items.new.items ≡ items.old.items ++ item ∷ [] }
+{
+    match items.push(item) {
+        Ok(()) => (),
+        Err(_) => unreachable!(),
+    }
+}
