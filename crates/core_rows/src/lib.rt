@@ -3,6 +3,10 @@
 #![tactic(auto)]
 
 #[cfg(test)]
+mod both;
+#[cfg(test)]
+mod histories;
+#[cfg(test)]
 mod runs;
 #[cfg(test)]
 mod state;

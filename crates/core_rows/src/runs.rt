@@ -1,13 +1,11 @@
-//! Each worked run: its calls, the entry of each, and the books after the last.
+//! Each worked run, on the state and on the plain program: its calls, the entry of each, and the books after
+//! the last.
+use crate::both::Both;
 use crate::text::{books, line};
 use dist_types::addr::Addr;
 use dist_types::ids::{JobId, ServerId, ServerNonce};
 use dist_types::results::JobState;
-use dist_types::text::Bytes;
-use sched_core::call::Call;
-use sched_core::entry::CoreEntry;
-use sched_core::rules::rule;
-use std::alloc::{AllocError, Global};
+use std::alloc::Global;
 use std::process::Abort;
 use std::test::Fail;
 
@@ -16,8 +14,10 @@ use std::test::Fail;
 enum Step {
     Beat(u16, u64),
     Reserve,
-    Commit(u64, u64, JobState),
-    Undo(u64, u64),
+    /// The reservation of that number, to ready or else to pending.
+    Commit(u64, bool),
+    /// The reservation of that number.
+    Undo(u64),
     Update(u16, u64, JobState),
     Status,
 }
@@ -26,41 +26,25 @@ fn server(port: u16) -> ServerId {
     ServerId::new(Addr::V4([127, 0, 0, 1], port))
 }
 
-fn call_at(alloc: Global, now: u64, step: Step) -> Result<Call, AllocError> {
+/// Makes a call on both. A commit or an undo spends the reservation of that number.
+fn make(rt: &impl Abort, both: &mut Both, now: u64, step: Step) {
     match step {
-        Step::Beat(port, cpus) => {
-            let key = Bytes::from_slice(alloc, &[1, 2, 2])?;
-            Ok(Call::Beat {
-                now,
-                server: server(port),
-                nonce: ServerNonce::new(7),
-                cpus,
-                key,
-            })
-        }
-        Step::Reserve => Ok(Call::Reserve { now }),
-        Step::Commit(number, job, state) => Ok(Call::Commit {
-            now,
-            number,
-            job: JobId(job),
-            state,
-        }),
-        Step::Undo(number, job) => Ok(Call::Undo {
-            now,
-            number,
-            job: JobId(job),
-        }),
-        Step::Update(port, job, state) => Ok(Call::Update {
-            now,
-            server: server(port),
-            job: JobId(job),
-            state,
-        }),
-        Step::Status => Ok(Call::Status { now }),
+        Step::Beat(port, cpus) => both.beat(rt, now, server(port), ServerNonce::new(7), cpus),
+        Step::Reserve => both.reserve(rt, now),
+        Step::Commit(number, ready) => both.commit(rt, now, both.place(number), ready),
+        Step::Undo(number) => both.undo(rt, now, both.place(number)),
+        Step::Update(port, job, state) => both.update(rt, now, server(port), JobId(job), state),
+        Step::Status => both.status(rt, now),
     }
 }
 
-/// Runs the calls in order, and compares each entry, and then the books.
+/// The text of the last entry.
+fn last_line(rt: &impl Abort, alloc: Global, both: &Both) -> String {
+    let last = both.log().last().expect(rt, "an entry");
+    line(alloc, last).expect(rt, "memory")
+}
+
+/// Makes the calls in order, and compares each entry, and then the books.
 fn follow(
     rt: &impl Abort,
     alloc: Global,
@@ -68,18 +52,17 @@ fn follow(
     count: u64,
     steps: &[(u64, Step, &str)],
     end: &str,
-) -> Result<Vec<CoreEntry>, Fail> {
-    let mut log = Vec::new(alloc);
+) {
+    let mut both = Both::new(alloc, base, count);
     for (now, step, want) in steps {
-        let call = call_at(alloc, *now, *step)?;
-        let made = rule(alloc, base, count, &log, &call)?;
-        let text = line(alloc, &made)?;
+        make(rt, &mut both, *now, *step);
+        let text = last_line(rt, alloc, &both);
         assert_eq!(rt; text.as_str(), *want);
-        log.push(made)?;
     }
-    let text = books(alloc, &log)?;
+    assert_eq!(rt; both.len(), steps.len() as u64);
+    let text = books(alloc, both.log()).expect(rt, "memory");
     assert_eq!(rt; text.as_str(), end);
-    Ok(log)
+    both.close(0);
 }
 
 const NEW_8: &str = "beat 127.0.0.1:10501 nonce 7 cpus 8 pruned - reaped - replaced - new";
@@ -96,36 +79,30 @@ const FIRST_KEPT: &str = "commit job 4096 state pending kept";
 
 const FIRST_DROPPED: &str = "commit job 4096 state pending dropped";
 
+/// Compares the text of the last entry.
+fn expect_line(rt: &impl Abort, alloc: Global, both: &Both, want: &str) {
+    let text = last_line(rt, alloc, both);
+    assert_eq!(rt; text.as_str(), want);
+}
+
 /// Eight processors hold ten jobs, and no eleventh.
 #[test]
 fn capacity(rt: HostRuntime) -> Result<(), Fail> {
     let alloc = rt.alloc();
-    let mut log = Vec::new(alloc);
-    let call = call_at(alloc, 0, Step::Beat(10501, 8))?;
-    log.push(rule(alloc, 4096, 0, &log, &call)?)?;
+    let mut both = Both::new(alloc, 4096, 0);
+    make(&rt, &mut both, 0, Step::Beat(10501, 8));
     for n in 0..10u64 {
         let job = 4096 + n;
-        let call = call_at(alloc, 2 * n + 1, Step::Reserve)?;
-        let made = rule(alloc, 4096, 0, &log, &call)?;
-        let text = line(alloc, &made)?;
-        let want = format!(in alloc; "reserve job {job} reg 0 forgiven -")?;
-        assert_eq!(&rt; text.as_str(), want.as_str());
-        log.push(made)?;
-        let call = call_at(
-            alloc,
-            2 * n + 2,
-            Step::Commit(2 * n + 1, job, JobState::Pending),
-        )?;
-        let made = rule(alloc, 4096, 0, &log, &call)?;
-        let text = line(alloc, &made)?;
-        let want = format!(in alloc; "commit job {job} state pending kept")?;
-        assert_eq!(&rt; text.as_str(), want.as_str());
-        log.push(made)?;
+        make(&rt, &mut both, 2 * n + 1, Step::Reserve);
+        let want = format!(in alloc; "reserve job {job} reg 0 forgiven -").expect(&rt, "memory");
+        expect_line(&rt, alloc, &both, want.as_str());
+        make(&rt, &mut both, 2 * n + 2, Step::Commit(2 * n + 1, false));
+        let want = format!(in alloc; "commit job {job} state pending kept").expect(&rt, "memory");
+        expect_line(&rt, alloc, &both, want.as_str());
     }
-    let call = call_at(alloc, 30, Step::Reserve)?;
-    let made = rule(alloc, 4096, 0, &log, &call)?;
-    let text = line(alloc, &made)?;
-    assert_eq!(&rt; text.as_str(), "reserve none 1");
+    make(&rt, &mut both, 30, Step::Reserve);
+    expect_line(&rt, alloc, &both, "reserve none 1");
+    both.close(30);
     Ok(())
 }
 
@@ -149,13 +126,13 @@ fn ids_wrap_and_end(rt: HostRuntime) -> Result<(), Fail> {
     ];
     let books =
         "server 127.0.0.1:10501 reg 0 cpus 8 nonce 7 seen 0 load 3 error -\njob 18446744073709551614 reg 0 reserved unclaimed\njob 18446744073709551615 reg 0 reserved unclaimed\njob 0 reg 0 reserved unclaimed\n";
-    let _ = follow(&rt, alloc, 18446744073709551614, 0, &wrapped, books)?;
+    follow(&rt, alloc, 18446744073709551614, 0, &wrapped, books);
     let spent = [
         (0, Step::Beat(10501, 8), NEW_8),
         (1, Step::Reserve, "reserve spent"),
     ];
     let books = "server 127.0.0.1:10501 reg 0 cpus 8 nonce 7 seen 0 load 0 error -\n";
-    let _ = follow(&rt, alloc, 4096, u64::MAX, &spent, books)?;
+    follow(&rt, alloc, 4096, u64::MAX, &spent, books);
     Ok(())
 }
 
@@ -166,7 +143,7 @@ fn prune_edge(rt: HostRuntime) -> Result<(), Fail> {
     let old = [
         (0, Step::Beat(10501, 1), NEW_1),
         (0, Step::Reserve, FIRST_JOB),
-        (0, Step::Commit(1, 4096, JobState::Pending), FIRST_KEPT),
+        (0, Step::Commit(1, false), FIRST_KEPT),
         (90000, Step::Beat(10501, 1), OLD_1),
         (
             90000,
@@ -176,11 +153,11 @@ fn prune_edge(rt: HostRuntime) -> Result<(), Fail> {
     ];
     let books =
         "server 127.0.0.1:10501 reg 0 cpus 1 nonce 7 seen 90000 load 1 error -\njob 4096 reg 0 pending unclaimed\n";
-    let _ = follow(&rt, alloc, 4096, 0, &old, books)?;
+    follow(&rt, alloc, 4096, 0, &old, books);
     let pruned = [
         (0, Step::Beat(10501, 1), NEW_1),
         (0, Step::Reserve, FIRST_JOB),
-        (0, Step::Commit(1, 4096, JobState::Pending), FIRST_KEPT),
+        (0, Step::Commit(1, false), FIRST_KEPT),
         (
             90001,
             Step::Beat(10501, 1),
@@ -188,7 +165,7 @@ fn prune_edge(rt: HostRuntime) -> Result<(), Fail> {
         ),
     ];
     let books = "server 127.0.0.1:10501 reg 3 cpus 1 nonce 7 seen 90001 load 0 error -\n";
-    let _ = follow(&rt, alloc, 4096, 0, &pruned, books)?;
+    follow(&rt, alloc, 4096, 0, &pruned, books);
     Ok(())
 }
 
@@ -201,26 +178,18 @@ fn reaped_before_the_commit(rt: HostRuntime) -> Result<(), Fail> {
         (0, Step::Beat(10501, 1), NEW_1),
         (0, Step::Reserve, FIRST_JOB),
         (61000, Step::Beat(10501, 1), REAPED_4096),
-        (
-            61000,
-            Step::Commit(1, 4096, JobState::Pending),
-            FIRST_DROPPED,
-        ),
+        (61000, Step::Commit(1, false), FIRST_DROPPED),
     ];
     let books = "server 127.0.0.1:10501 reg 0 cpus 1 nonce 7 seen 61000 load 0 error -\n";
-    let _ = follow(&rt, alloc, 4096, 0, &answered, books)?;
+    follow(&rt, alloc, 4096, 0, &answered, books);
     let backwards = [
         (301000, Step::Beat(10501, 1), NEW_1),
         (0, Step::Reserve, FIRST_JOB),
         (301000, Step::Beat(10501, 1), REAPED_4096),
-        (
-            301000,
-            Step::Commit(1, 4096, JobState::Pending),
-            FIRST_DROPPED,
-        ),
+        (301000, Step::Commit(1, false), FIRST_DROPPED),
     ];
     let books = "server 127.0.0.1:10501 reg 0 cpus 1 nonce 7 seen 301000 load 0 error -\n";
-    let _ = follow(&rt, alloc, 4096, 0, &backwards, books)?;
+    follow(&rt, alloc, 4096, 0, &backwards, books);
     Ok(())
 }
 
@@ -235,25 +204,25 @@ fn two_remembered_errors(rt: HostRuntime) -> Result<(), Fail> {
         (0, Step::Beat(10502, 8), second),
         (0, Step::Reserve, FIRST_JOB),
         (0, Step::Reserve, "reserve job 4097 reg 1 forgiven -"),
-        (100, Step::Undo(2, 4096), "undo job 4096 noted 0 ended yes"),
-        (50, Step::Undo(3, 4097), "undo job 4097 noted 1 ended yes"),
+        (100, Step::Undo(2), "undo job 4096 noted 0 ended yes"),
+        (50, Step::Undo(3), "undo job 4097 noted 1 ended yes"),
         (300100, Step::Reserve, "reserve job 4098 reg 1 forgiven 1"),
     ];
     let books =
         "server 127.0.0.1:10501 reg 0 cpus 8 nonce 7 seen 0 load 0 error 100\nserver 127.0.0.1:10502 reg 1 cpus 8 nonce 7 seen 0 load 1 error -\njob 4098 reg 1 reserved unclaimed\n";
-    let _ = follow(&rt, alloc, 4096, 0, &one, books)?;
+    follow(&rt, alloc, 4096, 0, &one, books);
     let both = [
         (0, Step::Beat(10501, 8), NEW_8),
         (0, Step::Beat(10502, 8), second),
         (0, Step::Reserve, FIRST_JOB),
         (0, Step::Reserve, "reserve job 4097 reg 1 forgiven -"),
-        (100, Step::Undo(2, 4096), "undo job 4096 noted 0 ended yes"),
-        (50, Step::Undo(3, 4097), "undo job 4097 noted 1 ended yes"),
+        (100, Step::Undo(2), "undo job 4096 noted 0 ended yes"),
+        (50, Step::Undo(3), "undo job 4097 noted 1 ended yes"),
         (300101, Step::Reserve, "reserve job 4098 reg 1 forgiven 0,1"),
     ];
     let books =
         "server 127.0.0.1:10501 reg 0 cpus 8 nonce 7 seen 0 load 0 error -\nserver 127.0.0.1:10502 reg 1 cpus 8 nonce 7 seen 0 load 1 error -\njob 4098 reg 1 reserved unclaimed\n";
-    let _ = follow(&rt, alloc, 4096, 0, &both, books)?;
+    follow(&rt, alloc, 4096, 0, &both, books);
     Ok(())
 }
 
@@ -265,12 +234,12 @@ fn ready_counted_from_the_reservation(rt: HostRuntime) -> Result<(), Fail> {
     let steps = [
         (0, Step::Beat(10501, 1), NEW_1),
         (0, Step::Reserve, FIRST_JOB),
-        (0, Step::Commit(1, 4096, JobState::Pending), FIRST_KEPT),
+        (0, Step::Commit(1, false), FIRST_KEPT),
         (50000, Step::Update(10501, 4096, JobState::Ready), ready),
         (80000, Step::Beat(10501, 1), REAPED_4096),
         (110000, Step::Beat(10501, 1), OLD_1),
     ];
     let books = "server 127.0.0.1:10501 reg 0 cpus 1 nonce 7 seen 110000 load 0 error -\n";
-    let _ = follow(&rt, alloc, 4096, 0, &steps, books)?;
+    follow(&rt, alloc, 4096, 0, &steps, books);
     Ok(())
 }

@@ -1,11 +1,18 @@
 //! The state's own calls, each once.
+use crate::both::key;
 use crate::text::line;
 use dist_token::job_token::JWTJobAuthorizer;
 use dist_types::addr::Addr;
-use dist_types::ids::{ServerId, ServerNonce};
+use dist_types::ids::{JobId, ServerId, ServerNonce};
+use dist_types::results::JobState;
 use dist_types::roles::JobAuthorizer;
+use dist_types::token_error::TokenError;
+use sched_core::answers::{Committed, Picked, Undone};
 use sched_core::error::SchedError;
+use sched_core::reservation::Reservation;
 use sched_core::state::SchedState;
+use std::alloc::Global;
+use std::process::Abort;
 use std::test::Fail;
 
 /// A heartbeat makes a registration, a second renews it, one with another nonce replaces it; a status
@@ -58,5 +65,101 @@ fn heartbeats_and_statuses(rt: HostRuntime) -> Result<(), Fail> {
         let text = line(alloc, &copied)?;
         assert_eq!(&rt; text.as_str(), *want);
     }
+    Ok(())
+}
+
+type State = SchedState<JWTJobAuthorizer>;
+
+/// A state whose one registration has eight processors and the key 010202.
+fn with_server(rt: &impl Abort, alloc: Global, base: u64) -> State {
+    let mut state = SchedState::new(alloc, base);
+    let server = ServerId::new(Addr::V4([127, 0, 0, 1], 10501));
+    let answer = state.beat(0, server, ServerNonce::new(7), 8, key(rt, alloc));
+    assert!(rt; answer.is_ok());
+    state
+}
+
+/// A reservation, where there is room.
+fn reserve(rt: &impl Abort, state: &mut State, now: u64) -> Reservation {
+    match state.reserve(now) {
+        Ok(Picked::Reserved(r)) => r,
+        Ok(Picked::NoRoom(_)) => panic!(rt; "no room"),
+        Err(_) => panic!(rt; "refused"),
+    }
+}
+
+/// The token of the next reservation, which is then given back.
+fn token(rt: &impl Abort, alloc: Global, state: &mut State) -> String {
+    let r = reserve(rt, state, 1);
+    let token = String::from_str(alloc, r.auth()).expect(rt, "memory");
+    state.undo(1, r);
+    token
+}
+
+const HEADER: &str = "eyJ0eXAiOiJKV1QiLCJhbGciOiJIUzI1NiJ9.";
+
+/// A job's token is the one for its id under the key of its registration's own heartbeat: refused for
+/// another id and under another key, and the same when it is made again.
+#[test]
+fn job_tokens(rt: HostRuntime) -> Result<(), Fail> {
+    let alloc = rt.alloc();
+    let mut state = with_server(&rt, alloc, 55);
+    let first = token(&rt, alloc, &mut state);
+    assert!(&rt; first.starts_with(HEADER));
+    assert!(&rt; first.contains(".eyJleHAiOjAsImpvYl9pZCI6NTV9."));
+    let own = key(&rt, alloc);
+    let again = own.generate_token(JobId(55)).expect(&rt, "memory");
+    assert_eq!(&rt; again.as_str(), first.as_str());
+    assert!(&rt; own.verify_token(JobId(55), first.as_str()).is_ok());
+    let other_job = own.verify_token(JobId(56), first.as_str());
+    assert!(&rt; matches!(other_job, Err(TokenError::MismatchedClaims)));
+    let other = JWTJobAuthorizer::of_key([1u8, 2, 3].to_vec(alloc)?);
+    let other_key = other.verify_token(JobId(55), first.as_str());
+    assert!(&rt; matches!(other_key, Err(TokenError::BadMac)));
+    let server = ServerId::new(Addr::V4([127, 0, 0, 1], 10501));
+    let renewed = state.beat(2, server, ServerNonce::new(7), 8, other)?;
+    assert!(&rt; !renewed.is_new);
+    let second = token(&rt, alloc, &mut state);
+    assert!(&rt; second.contains(".eyJleHAiOjAsImpvYl9pZCI6NTZ9."));
+    assert!(&rt; own.verify_token(JobId(56), second.as_str()).is_ok());
+    Ok(())
+}
+
+/// A reservation of another state is foreign, and changes nothing, where this state has no unspent one of
+/// its number and job; where it has one, that one is spent.
+#[test]
+fn foreign_reservations(rt: HostRuntime) -> Result<(), Fail> {
+    let alloc = rt.alloc();
+    let mut one = with_server(&rt, alloc, 4096);
+    let mut other = with_server(&rt, alloc, 4096);
+    let mine = reserve(&rt, &mut one, 1);
+    let answer = other.commit(2, mine, JobState::Pending);
+    assert!(&rt; matches!(answer, Committed::Foreign(JobId(4096))));
+    assert_eq!(&rt; other.history().len(), 1);
+    let mine = reserve(&rt, &mut one, 3);
+    let theirs = reserve(&rt, &mut other, 3);
+    assert_eq!(&rt; (mine.number(), theirs.number()), (2, 1));
+    let answer = other.undo(4, mine);
+    assert!(&rt; answer == Undone::Foreign);
+    let answer = other.undo(5, theirs);
+    assert!(&rt; answer == Undone::Unassigned);
+    assert_eq!(&rt; other.history().len(), 3);
+    Ok(())
+}
+
+/// Where a reservation of another state has the number and the job of an unspent one, it spends that one.
+#[test]
+fn twins(rt: HostRuntime) -> Result<(), Fail> {
+    let alloc = rt.alloc();
+    let mut one = with_server(&rt, alloc, 4096);
+    let mut other = with_server(&rt, alloc, 4096);
+    let mine = reserve(&rt, &mut one, 1);
+    let theirs = reserve(&rt, &mut other, 1);
+    let answer = other.commit(2, mine, JobState::Ready);
+    assert!(&rt; matches!(answer, Committed::Kept(_)));
+    let answer = other.undo(3, theirs);
+    assert!(&rt; answer == Undone::Foreign);
+    let status = other.status(4)?;
+    assert_eq!(&rt; (status.num_servers, status.in_progress), (1, 1));
     Ok(())
 }
