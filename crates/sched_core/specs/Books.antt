@@ -124,23 +124,27 @@ abbrev pub held_by : CoreKind → ℕ → ℕ → Option HeldRow
 held_by (Reserve (Job job reg forgiven)) number now = Some (record { number = number; job = job; reg = reg; reserved_at = now; state = None; claimed = false })
 held_by other number now = None
 
--- the same with the address of the registration
+-- the unended reservations with the addresses of their registrations
 
+-- whether an entry leaves the reservation unended
 abbrev pub job_stays : CoreKind → JobRow → Bool
 job_stays kind j = not (frees_by kind j.job j.reg)
 
+-- the row of a reservation after an entry
 abbrev pub job_after : CoreKind → JobRow → JobRow
 job_after kind j = record j { state = state_after kind j.job j.state; claimed = j.claimed || claims_by kind j.job }
 
--- at the row of its registration
+-- the reservation that is made at the row of its registration, if that stands
 abbrev pub job_over : Option ServerRow → ℕ → JobId → ℕ → Option JobRow
 job_over None number job now = None
 job_over (Some row) number job now = Some (record { number = number; job = job; reg = row.reg; server = row.server; reserved_at = now; state = None; claimed = false })
 
+-- the reservation that a reserve of this number makes, where its registration is one of the rows
 abbrev pub job_in : Reserved → List ServerRow → ℕ → ℕ → Option JobRow
 job_in (Job job reg forgiven) rows number now = job_over (find (λ r. r.reg == reg) rows) number job now
 job_in other rows number now = None
 
+-- the reservation that an entry of this number makes
 abbrev pub job_by : CoreKind → List ServerRow → ℕ → ℕ → Option JobRow
 job_by (Reserve reserved) rows number now = job_in reserved rows number now
 job_by other rows number now = None
@@ -165,6 +169,7 @@ abbrev pub open_over : Option JobRow → JobState → Option OpenRow
 open_over None state = None
 open_over (Some j) state = Some (record { job = j.job; reg = Some j.reg; server = Some j.server; state = state })
 
+-- the open job that an entry makes: a commit that keeps a job and does not end it
 abbrev pub open_by : CoreKind → List JobRow → Option OpenRow
 open_by (Commit job state kept) jobs = if kept && not (is_complete state) then open_over (find (λ j. same_job j.job job) jobs) state else None
 open_by other jobs = None
@@ -184,26 +189,33 @@ unspent_by (Some j) = Some (record { number = j.number; job = j.job; reg = j.reg
 abbrev pub place_of_unspent : UnspentRow → (ℕ × JobId) × ℕ
 place_of_unspent u = ((u.number, u.job), u.reg)
 
+-- the same of a reservation of the log
 abbrev pub place_of_booking : Booking → (ℕ × JobId) × ℕ
 place_of_booking b = ((b.number, b.job), b.reg)
 
 -- the lists after an entry of this number
 
+-- the rows: those that stay, with their loads, last signs and errors, and the one that is made
 abbrev pub rows_next : Books → CoreEntry → ℕ → List ServerRow
 rows_next books e number = map (row_after e (served_by e.kind books.open_ones.items)) (map (row_freed e.kind books.held.items) (filter (row_stays e.kind) books.rows.items)) ++ option_to_list (row_by e.kind number e.now)
 
+-- the unended reservations: those that stay, with the states of their jobs, and the one that is made
 abbrev pub held_next : Books → CoreEntry → ℕ → List HeldRow
 held_next books e number = map (held_after e.kind) (filter (held_stays e.kind) books.held.items) ++ option_to_list (held_by e.kind number e.now)
 
+-- the same with their addresses, the new one in its place by the job id
 abbrev pub jobs_next : Books → CoreEntry → ℕ → List JobRow
 jobs_next books e number = job_placed (job_by e.kind books.rows.items number e.now) (map (job_after e.kind) (filter (job_stays e.kind) books.jobs.items))
 
+-- the open jobs: those that stay open, with their states, and the one that is committed
 abbrev pub open_next : Books → CoreEntry → List OpenRow
 open_next books e = map (open_after e.kind) (filter (open_stays e.kind) books.open_ones.items) ++ option_to_list (open_by e.kind books.jobs.items)
 
+-- the unspent reservations: those that stay so, and the one that is made
 abbrev pub unspent_next : Books → CoreEntry → ℕ → List UnspentRow
 unspent_next books e number = filter (unspent_stays e.kind) books.unspent.items ++ option_to_list (unspent_by (job_by e.kind books.rows.items number e.now))
 
+-- how many reservations were made
 abbrev pub made_next : Books → CoreEntry → ℕ
 made_next books e = one_more_if (is_booked e.kind) books.made
 
