@@ -19,7 +19,7 @@ use std::alloc::Global;
 use std::process::Abort;
 
 /// The state, the log that the plain program made of the same calls, and the reservations in hand.
-pub struct Both {
+pub(crate) struct Both {
     alloc: Global,
     state: SchedState<JWTJobAuthorizer>,
     log: Vec<CoreEntry>,
@@ -27,12 +27,12 @@ pub struct Both {
 }
 
 /// The authorizer of the key 010202.
-pub fn key(rt: &impl Abort, alloc: Global) -> JWTJobAuthorizer {
+pub(crate) fn key(rt: &impl Abort, alloc: Global) -> JWTJobAuthorizer {
     JWTJobAuthorizer::of_key([1u8, 2, 2].to_vec(alloc).expect(rt, "memory"))
 }
 
 impl Both {
-    pub fn new(alloc: Global, base: u64, count: u64) -> Self {
+    pub(crate) fn new(alloc: Global, base: u64, count: u64) -> Self {
         Both {
             alloc,
             state: SchedState::with_job_ids(alloc, base, count),
@@ -42,22 +42,22 @@ impl Both {
     }
 
     /// How many calls made an entry.
-    pub fn len(&self) -> u64 {
+    pub(crate) fn len(&self) -> u64 {
         self.log.len() as u64
     }
 
     /// How many reservations are in hand.
-    pub fn in_hand(&self) -> usize {
+    pub(crate) fn in_hand(&self) -> usize {
         self.held.len()
     }
 
     /// The entries of the plain program.
-    pub fn log(&self) -> &[CoreEntry] {
+    pub(crate) fn log(&self) -> &[CoreEntry] {
         &self.log
     }
 
     /// The place in hand of the reservation of that number.
-    pub fn place(&self, number: u64) -> usize {
+    pub(crate) fn place(&self, number: u64) -> usize {
         self.held
             .iter()
             .position(|r| r.number() == number)
@@ -83,7 +83,7 @@ impl Both {
         compare_jobs(rt, alloc, &self.state, &self.log);
     }
 
-    pub fn beat(
+    pub(crate) fn beat(
         &mut self,
         rt: &impl Abort,
         now: u64,
@@ -108,7 +108,7 @@ impl Both {
         self.compare(rt, made);
     }
 
-    pub fn status(&mut self, rt: &impl Abort, now: u64) {
+    pub(crate) fn status(&mut self, rt: &impl Abort, now: u64) {
         let made = self.plain(rt, &Call::Status { now });
         let answer = self.state.status(now).expect(rt, "a status");
         let numbers = (answer.num_servers, answer.num_cpus, answer.in_progress);
@@ -116,7 +116,7 @@ impl Both {
         self.compare(rt, made);
     }
 
-    pub fn reserve(&mut self, rt: &impl Abort, now: u64) {
+    pub(crate) fn reserve(&mut self, rt: &impl Abort, now: u64) {
         let made = self.plain(rt, &Call::Reserve { now });
         match self.state.reserve(now) {
             Ok(Picked::Reserved(r)) => {
@@ -138,7 +138,7 @@ impl Both {
     }
 
     /// Commits the reservation at that place in hand, if there is one.
-    pub fn commit(&mut self, rt: &impl Abort, now: u64, place: usize, ready: bool) {
+    pub(crate) fn commit(&mut self, rt: &impl Abort, now: u64, place: usize, ready: bool) {
         if place >= self.held.len() {
             return;
         }
@@ -163,7 +163,7 @@ impl Both {
     }
 
     /// Undoes the reservation at that place in hand, if there is one.
-    pub fn undo(&mut self, rt: &impl Abort, now: u64, place: usize) {
+    pub(crate) fn undo(&mut self, rt: &impl Abort, now: u64, place: usize) {
         if place >= self.held.len() {
             return;
         }
@@ -175,7 +175,7 @@ impl Both {
         self.compare(rt, made);
     }
 
-    pub fn update(
+    pub(crate) fn update(
         &mut self,
         rt: &impl Abort,
         now: u64,
@@ -202,7 +202,7 @@ impl Both {
     }
 
     /// Gives back what is in hand.
-    pub fn close(self, now: u64) {
+    pub(crate) fn close(self, now: u64) {
         let Both {
             alloc: _,
             mut state,
