@@ -1,0 +1,6 @@
+pub mod Codec
+pub mod CodecLaws
+pub mod Laws
+pub mod Reading
+pub mod Spelling
+pub mod Written

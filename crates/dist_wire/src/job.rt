@@ -1,0 +1,83 @@
+//! The answers about jobs.
+use crate::codec::Codec;
+use crate::error::WireError;
+use crate::message::Message;
+use crate::number::{read_u32, write_u32};
+use crate::reader::Reader;
+use dist_types::results::{AssignJobResult, JobState};
+
+impl Codec for JobState {
+    ghost use Rattle.dist_wire.specs.Reading.{state_at};
+    ghost use Rattle.dist_wire.specs.Spelling.{SpellsState};
+    ghost use Rattle.dist_wire.specs.Written.{state_bytes};
+    ghost use Rattle.dist_wire.specs.Laws.{state_codec};
+
+    ghost spells = { SpellsState };
+
+    ghost text = { state_bytes };
+
+    ghost at = { state_at };
+
+    #[tactic(auto, unfolding(crate::specs::Reading::state_at))]
+    fn decode(reader: &mut Reader<'_>) -> Result<Self, WireError> {
+        let n = read_u32(reader)?;
+        if n == 0 {
+            return Ok(JobState::Pending);
+        }
+        if n == 1 {
+            return Ok(JobState::Ready);
+        }
+        if n == 2 {
+            return Ok(JobState::Started);
+        }
+        if n == 3 {
+            return Ok(JobState::Complete);
+        }
+        Err(WireError::ParseError)
+    }
+
+    fn encode(&self, out: &mut Vec<u8>) -> Result<(), WireError> {
+        match self {
+            JobState::Pending => write_u32(0, out),
+            JobState::Ready => write_u32(1, out),
+            JobState::Started => write_u32(2, out),
+            JobState::Complete => write_u32(3, out),
+        }
+    }
+
+    ghost codec = { state_codec };
+}
+
+impl Codec for AssignJobResult {
+    ghost use Rattle.dist_wire.specs.Reading.{assign_at};
+    ghost use Rattle.dist_wire.specs.Spelling.{SpellsAssign};
+    ghost use Rattle.dist_wire.specs.Written.{assign_text};
+    ghost use Rattle.dist_wire.specs.Laws.{assign_codec};
+
+    ghost spells = { SpellsAssign };
+
+    ghost text = { assign_text };
+
+    ghost at = { assign_at };
+
+    #[tactic(auto, unfolding(crate::specs::Reading::assign_at))]
+    fn decode(reader: &mut Reader<'_>) -> Result<Self, WireError> {
+        let state = JobState::decode(reader)?;
+        let need_toolchain = bool::decode(reader)?;
+        Ok(AssignJobResult {
+            state,
+            need_toolchain,
+        })
+    }
+
+    fn encode(&self, out: &mut Vec<u8>) -> Result<(), WireError> {
+        self.state.encode(out)?;
+        self.need_toolchain.encode(out)
+    }
+
+    ghost codec = { assign_codec };
+}
+
+impl Message for JobState {}
+
+impl Message for AssignJobResult {}
