@@ -6,7 +6,7 @@ use Rattle.std.proofs.lemmas.List.{append-nil, append_cancel_right, take_at, dro
 use Rattle.std.proofs.lemmas.Nat.{le_bytes_2, le_bytes_4, le_bytes_8, from_le_bytes-to_le_bytes_2, from_le_bytes-to_le_bytes_4, from_le_bytes-to_le_bytes_8}
 use Rattle.dist_types.specs.Addr.{◌>>=◌}
 use Rattle.dist_wire.specs.Codec.{IsBytes, Taken, IsCodec}
-use Rattle.dist_wire.specs.Reading.{exactly_at, number_at, byte_at, made_at, meant_at, both_at, tagged_at}
+use Rattle.dist_wire.specs.Reading.{exactly_at, number_at, byte_at, made_at, meant_at, both_at, tagged_at, two_at}
 use Rattle.dist_wire.specs.Spelling.{Joined, SpellsNumber, SpellsU16, SpellsU32, SpellsU64}
 use Rattle.dist_wire.specs.Written.{number_text}
 
@@ -29,6 +29,11 @@ bind_some None f y e = absurd cc
 pub guard_some : {A : Type 0} (b : Bool) (x y : A) → cond b None (Some x) ≡ Some y → (b ≡ false) × (x ≡ y)
 guard_some true x y e = absurd cc
 guard_some false x y e = (refl, cc)
+
+-- a test that let a step through
+pub guard_step : {A : Type 0} (b : Bool) (r : Option A) (y : A) → cond b None r ≡ Some y → (b ≡ false) × (r ≡ Some y)
+guard_step true r y e = absurd cc
+guard_step false r y e = (refl, e)
 
 pub some_is : {A : Type 0} (x y : A) → Some x ≡ Some y → x ≡ y
 some_is x y e = cc
@@ -66,7 +71,7 @@ exactly_again n front rest len =
 
 pub byte_codec : IsCodec (λ b text. text ≡ b ∷ []) byte_at
 unfolding byte_at
-byte_codec = record { takes = byte_takes; again = λ x text rest e. rw e refl }
+byte_codec = record { takes = byte_takes; again = λ x text rest e. rw e refl; some = λ x text e. omega (arith, ap length e) }
   where
     byte_takes : (bytes : List ℕ) (x : ℕ) (rest : List ℕ) → IsBytes bytes → byte_at bytes ≡ Some (x, rest) → Taken (λ text. text ≡ x ∷ []) bytes rest
     byte_takes [] x rest fits e = absurd cc
@@ -76,6 +81,7 @@ byte_codec = record { takes = byte_takes; again = λ x text rest e. rw e refl }
 -- ---- numbers
 
 pub record IsWide (w : Width) (limit : ℕ) : Type 0 where
+  pub some : 0 < byte_len w
   pub len : (n : ℕ) → length (number_text w n) ≡ byte_len w
   pub back : (bytes : List ℕ) → length bytes ≡ byte_len w → IsBytes bytes → bytes ≡ number_text w (from_le_bytes w bytes)
   pub again : (n : ℕ) → n < limit → from_le_bytes w (number_text w n) ≡ n
@@ -84,6 +90,7 @@ pub record IsWide (w : Width) (limit : ℕ) : Type 0 where
 pub wide16 : IsWide w16 (2 ^ 16)
 unfolding number_text
 wide16 = record {
+  some = omega arith;
   len = λ n. refl;
   back = λ bytes len fits. sym (le_bytes_2 bytes _ len fits refl);
   again = λ n lt. from_le_bytes-to_le_bytes_2 n lt;
@@ -93,6 +100,7 @@ wide16 = record {
 pub wide32 : IsWide w32 (2 ^ 32)
 unfolding number_text
 wide32 = record {
+  some = omega arith;
   len = λ n. refl;
   back = λ bytes len fits. sym (le_bytes_4 bytes _ len fits refl);
   again = λ n lt. from_le_bytes-to_le_bytes_4 n lt;
@@ -102,6 +110,7 @@ wide32 = record {
 pub wide64 : IsWide w64 (2 ^ 64)
 unfolding number_text
 wide64 = record {
+  some = omega arith;
   len = λ n. refl;
   back = λ bytes len fits. sym (le_bytes_8 bytes _ len fits refl);
   again = λ n lt. from_le_bytes-to_le_bytes_8 n lt;
@@ -121,14 +130,17 @@ unfolding number_at
 number_again w limit wide n text rest s =
     rw (s.1, exactly_again (byte_len w) (number_text w n) rest (wide.len n), wide.again n s.0) refl
 
+number_some : (w : Width) (limit : ℕ) (wide : IsWide w limit) (n : ℕ) (text : List ℕ) → SpellsNumber w limit n text → 0 < length text
+number_some w limit wide n text s = omega (arith, ap length s.1, wide.len n, wide.some)
+
 pub number_codec : (w : Width) (limit : ℕ) → IsWide w limit → IsCodec (SpellsNumber w limit) (number_at w)
-number_codec w limit wide = record { takes = number_takes w limit wide; again = number_again w limit wide }
+number_codec w limit wide = record { takes = number_takes w limit wide; again = number_again w limit wide; some = number_some w limit wide }
 
 -- ---- one made of another
 
 pub made_codec : {A B : Type 0} (S : A → List ℕ → Type 0) (at : List ℕ → Option (A × List ℕ)) (make : A → B) (back : B → A)
     → ((a : A) → back (make a) ≡ a) → ((b : B) → make (back b) ≡ b) → IsCodec S at → IsCodec (λ b. S (back b)) (made_at make at)
-made_codec {A} {B} S at make back undone redone c = record { takes = takes; again = again }
+made_codec {A} {B} S at make back undone redone c = record { takes = takes; again = again; some = λ x text s. c.some (back x) text s }
   where
     takes : (bytes : List ℕ) (x : B) (rest : List ℕ) → IsBytes bytes → made_at make at bytes ≡ Some (x, rest) → Taken (S (back x)) bytes rest
     takes bytes x rest fits e =
@@ -142,7 +154,7 @@ made_codec {A} {B} S at make back undone redone c = record { takes = takes; agai
 
 pub meant_codec : {A B : Type 0} (S : A → List ℕ → Type 0) (at : List ℕ → Option (A × List ℕ)) (mean : A → Option B)
     → IsCodec S at → IsCodec (λ b text. (a : A) × (mean a ≡ Some b) × S a text) (meant_at mean at)
-meant_codec {A} {B} S at mean c = record { takes = takes; again = again }
+meant_codec {A} {B} S at mean c = record { takes = takes; again = again; some = λ x text s. c.some s.0 text s.2 }
   where
     takes : (bytes : List ℕ) (x : B) (rest : List ℕ) → IsBytes bytes → meant_at mean at bytes ≡ Some (x, rest) → Taken (λ text. (a : A) × (mean a ≡ Some x) × S a text) bytes rest
     takes bytes x rest fits e =
@@ -156,9 +168,12 @@ meant_codec {A} {B} S at mean c = record { takes = takes; again = again }
 
 -- ---- one after the other
 
+joined_some : (First Second : List ℕ → Type 0) (text : List ℕ) (s : Joined First Second text) → 0 < length s.front → 0 < length text
+joined_some First Second text s some = omega (arith, ap length s.whole ∙ length-append s.front s.back)
+
 pub both_codec : {A B : Type 0} (SA : A → List ℕ → Type 0) (SB : B → List ℕ → Type 0) (ra : List ℕ → Option (A × List ℕ)) (rb : List ℕ → Option (B × List ℕ))
     → IsCodec SA ra → IsCodec SB rb → IsCodec (λ (p : A × B). Joined (SA p.0) (SB p.1)) (both_at ra rb)
-both_codec {A} {B} SA SB ra rb ca cb = record { takes = takes; again = again }
+both_codec {A} {B} SA SB ra rb ca cb = record { takes = takes; again = again; some = λ x text s. joined_some (SA x.0) (SB x.1) text s (ca.some x.0 s.front s.first) }
   where
     takes : (bytes : List ℕ) (x : A × B) (rest : List ℕ) → IsBytes bytes → both_at ra rb bytes ≡ Some (x, rest) → Taken (Joined (SA x.0) (SB x.1)) bytes rest
     takes bytes x rest fits e =
@@ -184,6 +199,7 @@ pub same_codec : {A : Type 0} (S T : A → List ℕ → Type 0) (at : List ℕ �
 same_codec S T at to from c = record {
   takes = λ bytes x rest fits e. let t = c.takes bytes x rest fits e in record { text = t.text; spelled = to x t.text t.spelled; parts = t.parts; fits = t.fits };
   again = λ x text rest s. c.again x text rest (from x text s);
+  some = λ x text s. c.some x text (from x text s);
 }
 
 -- ---- what stands behind a number
@@ -194,7 +210,8 @@ pub record IsTagged {A : Type 0} (tag : A → ℕ) (Content : A → List ℕ →
 
 pub tagged_codec : {A : Type 0} (w : Width) (limit : ℕ) → IsWide w limit → (tag : A → ℕ) (Content : A → List ℕ → Type 0) (body : ℕ → List ℕ → Option (A × List ℕ))
     → IsTagged tag Content body → IsCodec (λ x. Joined (SpellsNumber w limit (tag x)) (Content x)) (tagged_at w body)
-tagged_codec {A} w limit wide tag Content body c = record { takes = takes; again = again }
+tagged_codec {A} w limit wide tag Content body c =
+    record { takes = takes; again = again; some = λ x text s. joined_some (SpellsNumber w limit (tag x)) (Content x) text s (number_some w limit wide (tag x) s.front s.first) }
   where
     takes : (bytes : List ℕ) (x : A) (rest : List ℕ) → IsBytes bytes → tagged_at w body bytes ≡ Some (x, rest) → Taken (Joined (SpellsNumber w limit (tag x)) (Content x)) bytes rest
     takes bytes x rest fits e =
@@ -211,6 +228,57 @@ tagged_codec {A} w limit wide tag Content body c = record { takes = takes; again
     again : (x : A) (text rest : List ℕ) → Joined (SpellsNumber w limit (tag x)) (Content x) text → tagged_at w body (text ++ rest) ≡ Some (x, rest)
     again x text rest s =
         rw (s.whole, append_assoc s.front s.back rest, number_again w limit wide (tag x) s.front (s.back ++ rest) s.first) (c.again x s.back rest s.second)
+
+-- ---- one of two variants
+
+-- what a reader of one variant takes
+abbrev pub IsVariant : {A : Type 0} → (A → ℕ) → (A → List ℕ → Type 0) → ℕ → (List ℕ → Option (A × List ℕ)) → Type 0
+IsVariant {A} tag Content n at = (bytes : List ℕ) (x : A) (rest : List ℕ) → IsBytes bytes → at bytes ≡ Some (x, rest) → (tag x ≡ n) × Taken (Content x) bytes rest
+
+-- a variant with nothing in it
+pub alone_variant : {A : Type 0} (tag : A → ℕ) (Content : A → List ℕ → Type 0) (n : ℕ) (x : A) → tag x ≡ n → Content x []
+    → IsVariant tag Content n (λ bytes. Some (x, bytes))
+alone_variant {A} tag Content n x is empty bytes y rest fits e =
+    let made : (tag x ≡ n) × Taken (Content x) bytes bytes = (is, record { text = []; spelled = empty; parts = refl; fits = fits }) in
+    subst (λ (p : A × List ℕ). (tag p.0 ≡ n) × Taken (Content p.0) bytes p.1) (some_is (x, bytes) (y, rest) e) made
+
+-- a variant with content
+pub made_variant : {A B : Type 0} (tag : A → ℕ) (Content : A → List ℕ → Type 0) (n : ℕ) (make : B → A) (S : B → List ℕ → Type 0) (at : List ℕ → Option (B × List ℕ))
+    → ((b : B) → tag (make b) ≡ n) → ((b : B) (text : List ℕ) → S b text → Content (make b) text) → IsCodec S at → IsVariant tag Content n (made_at make at)
+made_variant {A} {B} tag Content n make S at is content c bytes x rest fits e =
+    let a = bind_some (at bytes) (λ (b : B × List ℕ). Some (make b.0, b.1)) (x, rest) e in
+    let t = c.takes bytes a.0.0 a.0.1 fits a.1 in
+    let made : (tag (make a.0.0) ≡ n) × Taken (Content (make a.0.0)) bytes a.0.1 = (is a.0.0, record { text = t.text; spelled = content a.0.0 t.text t.spelled; parts = t.parts; fits = t.fits }) in
+    subst (λ (p : A × List ℕ). (tag p.0 ≡ n) × Taken (Content p.0) bytes p.1) (some_is (make a.0.0, a.0.1) (x, rest) a.2) made
+
+pub two_tagged : {A : Type 0} (tag : A → ℕ) (Content : A → List ℕ → Type 0) (first second : List ℕ → Option (A × List ℕ))
+    → IsVariant tag Content 0 first → IsVariant tag Content 1 second
+    → ((x : A) (text rest : List ℕ) → Content x text → two_at first second (tag x) (text ++ rest) ≡ Some (x, rest)) → IsTagged tag Content (two_at first second)
+two_tagged {A} tag Content first second one other again = record { takes = takes; again = again }
+  where
+    of_second : (b : Bool) (n : ℕ) (bytes : List ℕ) (x : A) (rest : List ℕ) → IsBytes bytes → eqb n 1 ≡ b → cond b (second bytes) None ≡ Some (x, rest) → (tag x ≡ n) × Taken (Content x) bytes rest
+    of_second true n bytes x rest fits t e = let o = other bytes x rest fits e in (o.0 ∙ sym (eqb-true n 1 t), o.1)
+    of_second false n bytes x rest fits t e = absurd cc
+    of_first : (b : Bool) (n : ℕ) (bytes : List ℕ) (x : A) (rest : List ℕ) → IsBytes bytes → eqb n 0 ≡ b → cond b (first bytes) (cond (eqb n 1) (second bytes) None) ≡ Some (x, rest) → (tag x ≡ n) × Taken (Content x) bytes rest
+    of_first true n bytes x rest fits t e = let o = one bytes x rest fits e in (o.0 ∙ sym (eqb-true n 0 t), o.1)
+    of_first false n bytes x rest fits t e = of_second (eqb n 1) n bytes x rest fits refl e
+    takes : (n : ℕ) (bytes : List ℕ) (x : A) (rest : List ℕ) → IsBytes bytes → two_at first second n bytes ≡ Some (x, rest) → (tag x ≡ n) × Taken (Content x) bytes rest
+    takes n bytes x rest fits e = of_first (eqb n 0) n bytes x rest fits refl e
+
+-- nothing behind a number is that number alone
+pub nothing_more : (Spelled : List ℕ → Type 0) (text : List ℕ) → Joined Spelled (λ more. more ≡ []) text → Spelled text
+nothing_more Spelled text s = subst Spelled (sym (s.whole ∙ ap (λ (b : List ℕ). s.front ++ b) s.second ∙ append-nil s.front)) s.first
+
+pub and_nothing : (Spelled : List ℕ → Type 0) (text : List ℕ) → Spelled text → Joined Spelled (λ more. more ≡ []) text
+and_nothing Spelled text s = record { front = text; back = []; first = s; second = refl; whole = sym (append-nil text) }
+
+-- ---- what is seen as something
+
+pub seen_codec : {A B : Type 0} (S : A → List ℕ → Type 0) (at : List ℕ → Option (A × List ℕ)) (see : A → B)
+    → IsCodec S at → IsCodec (λ b text. (a : A) × (see a ≡ b) × S a text) (made_at see at)
+seen_codec {A} {B} S at see c =
+    same_codec (λ b text. (a : A) × (Some (see a) ≡ Some b) × S a text) (λ b text. (a : A) × (see a ≡ b) × S a text) (made_at see at)
+    (λ b text s. (s.0, some_is (see s.0) b s.1, s.2)) (λ b text s. (s.0, ap (λ (y : B). Some y) s.1, s.2)) (meant_codec S at (λ a. Some (see a)) c)
 
 -- ---- what has a code
 
