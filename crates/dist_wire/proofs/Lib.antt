@@ -1,3 +1,5 @@
+pub mod Digests
 pub mod Fronts
 pub mod Loops
+pub mod Octets
 pub mod Texts

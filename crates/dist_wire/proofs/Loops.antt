@@ -1,6 +1,6 @@
 -- Reading items one after the other, as a loop does.
-use Rattle.std.proofs.Common.{◌≡◌, ℕ, suc, ◌-◌, ◌+◌, ◌≤◌, ◌<◌, List, [], ◌∷◌, ◌++◌, Option, Some, None, refl, sym, ap, ◌∙◌, append_assoc, subst, flat_map, take, get_or, length, arith}
-use Rattle.std.proofs.lemmas.List.{append-nil, take_more}
+use Rattle.std.proofs.Common.{◌≡◌, ℕ, suc, ◌-◌, ◌+◌, ◌≤◌, ◌<◌, List, [], ◌∷◌, ◌++◌, Option, Some, None, refl, sym, ap, ◌∙◌, append_assoc, subst, flat_map, take, arith}
+use Rattle.std.proofs.lemmas.List.{append-nil}
 use Rattle.std.proofs.lemmas.Grind.{flat_map-append}
 use Rattle.dist_types.specs.Addr.{◌>>=◌}
 use Rattle.dist_wire.specs.ListLaws.{each_more}
@@ -45,12 +45,11 @@ pub record Wrote {A : Type 0} (S : A → List ℕ → Type 0) (text : A → List
   pub written : new ≡ old ++ flat_map text xs
   pub spelled : SpellsEach S xs (flat_map text xs)
 
-pub wrote_more : {A : Type 0} (S : A → List ℕ → Type 0) (text : A → List ℕ) (xs : List A) (i : ℕ) (x : A) (old out new : List ℕ) → i < length xs → x ≡ get_or xs i x
+pub wrote_more : {A : Type 0} (S : A → List ℕ → Type 0) (text : A → List ℕ) (xs : List A) (i : ℕ) (x : A) (old out new : List ℕ) → take (i + 1) xs ≡ take i xs ++ x ∷ []
     → out ≡ old ++ flat_map text (take i xs) → SpellsEach S (take i xs) (flat_map text (take i xs)) → new ≡ out ++ text x → S x (text x)
     → Wrote S text (take (i + 1) xs) old new
-wrote_more {A} S text xs i x old out new lt is written spelled more s =
+wrote_more {A} S text xs i x old out new t written spelled more s =
     let front = take i xs in
-    let t : take (i + 1) xs ≡ front ++ x ∷ [] = take_more xs i x lt ∙ ap (λ (v : A). front ++ v ∷ []) (sym is) in
     let m : flat_map text (front ++ x ∷ []) ≡ flat_map text front ++ text x = flat_map-append text front (x ∷ []) ∙ ap (λ (b : List ℕ). flat_map text front ++ b) (append-nil (text x)) in
     let all : new ≡ old ++ flat_map text (front ++ x ∷ []) = more ∙ ap (λ (b : List ℕ). b ++ text x) written ∙ append_assoc old (flat_map text front) (text x) ∙ ap (λ (b : List ℕ). old ++ b) (sym m) in
     let made : Wrote S text (front ++ x ∷ []) old new = record { written = all; spelled = subst (λ (b : List ℕ). SpellsEach S (front ++ x ∷ []) b) (sym m) (each_more S front x (flat_map text front) (text x) spelled s) } in

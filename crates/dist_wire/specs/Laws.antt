@@ -1,4 +1,4 @@
--- Each message is read as it is spelled.
+-- Each part of a message is read as it is spelled.
 use Rattle.std.proofs.Common.{◌≡◌, ◌^◌, ◌+◌, ◌<◌, ◌≤◌, ℕ, ℤ, Bool, true, false, List, [], ◌∷◌, ◌++◌, length, Option, Some, None, refl, sym, ap, subst, ◌∙◌, inl, inr, arith}
 use Rattle.std.specs.Int.{w16, w32, w64, cast_signed, from_be_bytes, to_be_bytes}
 use Rattle.std.proofs.lemmas.Nat.{be_bytes_2, from_be_bytes-to_be_bytes_2}
@@ -50,36 +50,6 @@ pub flag_codec : IsCodec SpellsFlag flag_at
 unfolding flag_at
 flag_codec = coded_codec (λ b text. text ≡ b ∷ []) byte_at flag_in flag_number flag_again flag_back byte_codec
 
-state_again : (s : JobState) → state_in (state_number s) ≡ Some s
-state_again Pending = refl
-state_again Ready = refl
-state_again Started = refl
-state_again Completed = refl
-
-state_back : (n : ℕ) (s : JobState) → state_in n ≡ Some s → n ≡ state_number s
-state_back n s e =
-    elim (either n 0 Pending _ s e) [
-      | inl h ↦ h.0 ∙ ap state_number h.1
-      | inr more ↦ elim (either n 1 Ready _ s more) [
-        | inl h ↦ h.0 ∙ ap state_number h.1
-        | inr more ↦ elim (either n 2 Started _ s more) [
-          | inl h ↦ h.0 ∙ ap state_number h.1
-          | inr more ↦ elim (either n 3 Completed None s more) [ inl h ↦ h.0 ∙ ap state_number h.1 | inr none ↦ absurd cc ]
-        ]
-      ]
-    ]
-
-pub state_codec : IsCodec SpellsState state_at
-unfolding state_at
-state_codec = coded_codec SpellsU32 (number_at w32) state_in state_number state_again state_back (number_codec w32 (2 ^ 32) wide32)
-
-pub assign_codec : IsCodec SpellsAssign assign_at
-unfolding assign_at
-assign_codec =
-    made_codec (λ (p : JobState × Bool). SpellsState p.0 ⨾ SpellsFlag p.1) (both_at state_at flag_at)
-    (λ p. record { state = p.0; need_toolchain = p.1 }) (λ m. (m.state, m.need_toolchain)) (λ p. refl) (λ m. refl)
-    (both_codec SpellsState SpellsFlag state_at flag_at state_codec flag_codec)
-
 -- ---- numbers
 
 pub u64_codec : IsCodec SpellsU64 (number_at w64)
@@ -91,7 +61,7 @@ u32_codec = number_codec w32 (2 ^ 32) wide32
 u16_codec : IsCodec SpellsU16 (number_at w16)
 u16_codec = number_codec w16 (2 ^ 16) wide16
 
-i32_codec : IsCodec SpellsI32 i32_at
+pub i32_codec : IsCodec SpellsI32 i32_at
 unfolding i32_at
 i32_codec = seen_codec SpellsU32 (number_at w32) (cast_signed w32) u32_codec
 

@@ -2,6 +2,8 @@ pub mod Codec
 pub mod CodecLaws
 pub mod Laws
 pub mod ListLaws
+pub mod MessageLaws
 pub mod Reading
+pub mod Response
 pub mod Spelling
 pub mod Written

@@ -1,5 +1,11 @@
-//! Heartbeats and their answers.
+//! Heartbeats, statuses, and their answers.
+use crate::codec::Codec;
+use crate::error::WireError;
+use crate::message::Message;
+use crate::number::{read_u64, write_u64};
+use crate::reader::Reader;
 use dist_types::ids::ServerNonce;
+use dist_types::results::{HeartbeatServerResult, SchedulerStatusResult};
 use dist_types::text::Bytes;
 
 /// What a build server tells the scheduler.
@@ -12,3 +18,100 @@ pub struct HeartbeatServerHttpRequest {
     /// The nonce of this start of the server.
     pub server_nonce: ServerNonce,
 }
+
+impl Codec for HeartbeatServerHttpRequest {
+    ghost use Rattle.dist_wire.specs.MessageLaws.{heartbeat_codec};
+    ghost use Rattle.dist_wire.specs.Reading.{heartbeat_at};
+    ghost use Rattle.dist_wire.specs.Spelling.{SpellsHeartbeat};
+    ghost use Rattle.dist_wire.specs.Written.{heartbeat_text};
+
+    ghost spells = { SpellsHeartbeat };
+
+    ghost text = { heartbeat_text };
+
+    ghost at = { heartbeat_at };
+
+    #[tactic(auto, unfolding(crate::specs::Reading::heartbeat_at))]
+    fn decode(reader: &mut Reader<'_>) -> Result<Self, WireError> {
+        let jwt_key = Bytes::decode(reader)?;
+        let num_cpus = read_u64(reader)?;
+        let nonce = read_u64(reader)?;
+        Ok(HeartbeatServerHttpRequest {
+            jwt_key,
+            num_cpus,
+            server_nonce: ServerNonce::new(nonce),
+        })
+    }
+
+    fn encode(&self, out: &mut Vec<u8>) -> Result<(), WireError> {
+        self.jwt_key.encode(out)?;
+        write_u64(self.num_cpus, out)?;
+        write_u64(self.server_nonce.get(), out)
+    }
+
+    ghost codec = { heartbeat_codec };
+}
+
+impl Codec for HeartbeatServerResult {
+    ghost use Rattle.dist_wire.specs.MessageLaws.{heard_codec};
+    ghost use Rattle.dist_wire.specs.Reading.{heard_at};
+    ghost use Rattle.dist_wire.specs.Spelling.{SpellsHeard};
+    ghost use Rattle.dist_wire.specs.Written.{heard_text};
+
+    ghost spells = { SpellsHeard };
+
+    ghost text = { heard_text };
+
+    ghost at = { heard_at };
+
+    #[tactic(auto, unfolding(crate::specs::Reading::heard_at))]
+    fn decode(reader: &mut Reader<'_>) -> Result<Self, WireError> {
+        let is_new = bool::decode(reader)?;
+        Ok(HeartbeatServerResult { is_new })
+    }
+
+    fn encode(&self, out: &mut Vec<u8>) -> Result<(), WireError> {
+        self.is_new.encode(out)
+    }
+
+    ghost codec = { heard_codec };
+}
+
+impl Codec for SchedulerStatusResult {
+    ghost use Rattle.dist_wire.specs.MessageLaws.{status_codec};
+    ghost use Rattle.dist_wire.specs.Reading.{status_at};
+    ghost use Rattle.dist_wire.specs.Spelling.{SpellsStatus};
+    ghost use Rattle.dist_wire.specs.Written.{status_text};
+
+    ghost spells = { SpellsStatus };
+
+    ghost text = { status_text };
+
+    ghost at = { status_at };
+
+    #[tactic(auto, unfolding(crate::specs::Reading::status_at))]
+    fn decode(reader: &mut Reader<'_>) -> Result<Self, WireError> {
+        let num_servers = read_u64(reader)?;
+        let num_cpus = read_u64(reader)?;
+        let in_progress = read_u64(reader)?;
+        Ok(SchedulerStatusResult {
+            num_servers,
+            num_cpus,
+            in_progress,
+        })
+    }
+
+    fn encode(&self, out: &mut Vec<u8>) -> Result<(), WireError> {
+        write_u64(self.num_servers, out)?;
+        write_u64(self.num_cpus, out)?;
+        write_u64(self.in_progress, out)
+    }
+
+    ghost codec = { status_codec };
+}
+
+impl Message for HeartbeatServerHttpRequest {}
+
+impl Message for HeartbeatServerResult {}
+
+impl Message for SchedulerStatusResult {}

@@ -4,13 +4,14 @@ use crate::error::WireError;
 use crate::message::Message;
 use crate::number::{read_u32, write_u32};
 use crate::reader::Reader;
-use dist_types::results::{AssignJobResult, JobState};
+use dist_types::results::{AssignJobResult, JobState, UpdateJobStateResult};
+use dist_types::text::Text;
 
 impl Codec for JobState {
+    ghost use Rattle.dist_wire.specs.MessageLaws.{state_codec};
     ghost use Rattle.dist_wire.specs.Reading.{state_at};
     ghost use Rattle.dist_wire.specs.Spelling.{SpellsState};
     ghost use Rattle.dist_wire.specs.Written.{state_bytes};
-    ghost use Rattle.dist_wire.specs.Laws.{state_codec};
 
     ghost spells = { SpellsState };
 
@@ -49,10 +50,10 @@ impl Codec for JobState {
 }
 
 impl Codec for AssignJobResult {
+    ghost use Rattle.dist_wire.specs.MessageLaws.{assign_codec};
     ghost use Rattle.dist_wire.specs.Reading.{assign_at};
     ghost use Rattle.dist_wire.specs.Spelling.{SpellsAssign};
     ghost use Rattle.dist_wire.specs.Written.{assign_text};
-    ghost use Rattle.dist_wire.specs.Laws.{assign_codec};
 
     ghost spells = { SpellsAssign };
 
@@ -78,6 +79,47 @@ impl Codec for AssignJobResult {
     ghost codec = { assign_codec };
 }
 
+impl Codec for UpdateJobStateResult {
+    ghost use Rattle.dist_wire.specs.MessageLaws.{update_codec};
+    ghost use Rattle.dist_wire.specs.Reading.{update_at};
+    ghost use Rattle.dist_wire.specs.Spelling.{SpellsUpdate};
+    ghost use Rattle.dist_wire.specs.Written.{update_text};
+
+    ghost spells = { SpellsUpdate };
+
+    ghost text = { update_text };
+
+    ghost at = { update_at };
+
+    #[tactic(auto, unfolding(crate::specs::Reading::update_at))]
+    fn decode(reader: &mut Reader<'_>) -> Result<Self, WireError> {
+        let n = read_u32(reader)?;
+        if n == 0 {
+            return Ok(UpdateJobStateResult::Success);
+        }
+        if n == 1 {
+            let msg = Text::decode(reader)?;
+            return Ok(UpdateJobStateResult::Fail { msg });
+        }
+        Err(WireError::ParseError)
+    }
+
+    fn encode(&self, out: &mut Vec<u8>) -> Result<(), WireError> {
+        match self {
+            UpdateJobStateResult::Success => write_u32(0, out),
+            UpdateJobStateResult::Fail { msg } => {
+                write_u32(1, out)?;
+                msg.encode(out)?;
+                Ok(())
+            }
+        }
+    }
+
+    ghost codec = { update_codec };
+}
+
 impl Message for JobState {}
 
 impl Message for AssignJobResult {}
+
+impl Message for UpdateJobStateResult {}
