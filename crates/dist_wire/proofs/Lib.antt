@@ -1,5 +1,6 @@
 pub mod Digests
 pub mod Fronts
+pub mod Joins
 pub mod Loops
 pub mod Octets
 pub mod Texts

@@ -1,5 +1,5 @@
 //! Addresses.
-ghost use Rattle.std.specs.Prelude.{◌≡◌, ◌<◌, ◌^◌, ◌++◌, OnOk, IfErr, flat_map};
+ghost use Rattle.std.specs.Prelude.{◌≡◌, ◌<◌, ◌^◌, ◌++◌, OnOk, IfErr, flat_map, length};
 ghost use Rattle.std.specs.Int.{w16};
 ghost use Rattle.dist_wire.specs.Codec.{Gives};
 ghost use Rattle.dist_wire.specs.Reading.{exactly_at, group_at, groups_at};
@@ -48,6 +48,16 @@ fn read_groups(reader: &mut Reader<'_>) -> Result<[u16; 8], WireError>
     Ok([a, b, c, d, e, f, g, h])
 }
 
+/// Writes octets at the end.
+fn write_octets(octets: [u8; 4], out: &mut Vec<u8>) -> Result<(), WireError>
+    ensures written { OnOk result (out.new.items ≡ out.old.items ++ octets) }
+    ensures four { length octets ≡ 4 }
+    ensures memory { IfErr result (λ e. e ≡ WireError.Memory) }
+{
+    out.extend_from_slice(&octets)?;
+    Ok(())
+}
+
 /// Writes a group at the end.
 fn write_group(group: u16, out: &mut Vec<u8>) -> Result<(), WireError>
     ensures written { OnOk result (out.new.items ≡ out.old.items ++ group_text group) }
@@ -58,8 +68,8 @@ fn write_group(group: u16, out: &mut Vec<u8>) -> Result<(), WireError>
     Ok(())
 }
 
-/// Writes groups at the end.
-fn write_groups(groups: &[u16], out: &mut Vec<u8>) -> Result<(), WireError>
+/// Writes groups at the end, one after the other.
+fn write_each(groups: &[u16], out: &mut Vec<u8>) -> Result<(), WireError>
     ensures written { OnOk result (out.new.items ≡ out.old.items ++ flat_map group_text groups.now) }
     ensures spelled { OnOk result (SpellsEach SpellsGroup groups.now (flat_map group_text groups.now)) }
     ensures memory { IfErr result (λ e. e ≡ WireError.Memory) }
@@ -68,6 +78,16 @@ fn write_groups(groups: &[u16], out: &mut Vec<u8>) -> Result<(), WireError>
         write_group(*group, out)?;
     }
     Ok(())
+}
+
+/// Writes the groups of an address at the end.
+fn write_groups(groups: [u16; 8], out: &mut Vec<u8>) -> Result<(), WireError>
+    ensures written { OnOk result (out.new.items ≡ out.old.items ++ flat_map group_text groups) }
+    ensures spelled { OnOk result (SpellsEach SpellsGroup groups (flat_map group_text groups)) }
+    ensures eight { length groups ≡ 8 }
+    ensures memory { IfErr result (λ e. e ≡ WireError.Memory) }
+{
+    write_each(&groups, out)
 }
 
 impl Codec for Addr {
@@ -102,13 +122,15 @@ impl Codec for Addr {
         match self {
             Addr::V4(octets, port) => {
                 write_u32(0, out)?;
-                out.extend_from_slice(octets)?;
-                write_u16(*port, out)
+                write_octets(*octets, out)?;
+                write_u16(*port, out)?;
+                Ok(())
             }
             Addr::V6(groups, port) => {
                 write_u32(1, out)?;
-                write_groups(groups, out)?;
-                write_u16(*port, out)
+                write_groups(*groups, out)?;
+                write_u16(*port, out)?;
+                Ok(())
             }
         }
     }
