@@ -1,5 +1,6 @@
 pub mod Codec
 pub mod CodecLaws
+pub mod Json
 pub mod Laws
 pub mod ListLaws
 pub mod MessageLaws

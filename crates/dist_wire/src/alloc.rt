@@ -1,5 +1,7 @@
 //! Allocations of jobs.
-ghost use Rattle.std.specs.Prelude.{◌≡◌};
+ghost use Rattle.std.specs.Prelude.{◌≡◌, ◌++◌, OnOk, IfErr};
+ghost use Rattle.json.specs.Tree.{json_tokens};
+ghost use Rattle.dist_wire.specs.Json.{success_json};
 ghost use Rattle.dist_wire.specs.Response.{response_of};
 
 use crate::codec::Codec;
@@ -7,10 +9,13 @@ use crate::error::WireError;
 use crate::message::Message;
 use crate::number::{read_u32, read_u64, write_u32, write_u64};
 use crate::reader::Reader;
+use crate::to_json::{ToJson, write_fail};
 use dist_types::addr::Addr;
 use dist_types::ids::{JobId, ServerId};
 use dist_types::results::{AllocJobResult, JobAlloc};
 use dist_types::text::Text;
+use json::Writer;
+use std::alloc::Global;
 
 /// The answer to an allocation, as it is sent.
 #[derive(Debug, Drop)]
@@ -183,6 +188,81 @@ impl Codec for AllocJobHttpResponse {
     }
 
     ghost codec = { response_codec };
+}
+
+impl ToJson for JobAlloc {
+    ghost use Rattle.dist_wire.specs.Json.{job_alloc_json};
+
+    ghost json = { job_alloc_json };
+
+    fn write_json(&self, alloc: Global, writer: &mut Writer) -> Result<(), WireError> {
+        writer.begin_object()?;
+        writer.key("auth")?;
+        self.auth.write_json(alloc, writer)?;
+        writer.key("job_id")?;
+        writer.u64(self.job_id.0)?;
+        writer.key("server_id")?;
+        self.server_id.addr().write_json(alloc, writer)?;
+        writer.end_object()?;
+        Ok(())
+    }
+}
+
+/// Writes the variant of a job that was assigned.
+fn write_success(
+    job_alloc: &JobAlloc,
+    need_toolchain: bool,
+    alloc: Global,
+    writer: &mut Writer,
+) -> Result<(), WireError>
+    ensures written { OnOk result (writer.new.tokens ≡ writer.old.tokens ++ json_tokens (success_json job_alloc.now need_toolchain)) }
+    ensures before { writer.new.before ≡ writer.old.before }
+    ensures memory { IfErr result (λ e. e ≡ WireError.Memory) }
+{
+    writer.begin_object()?;
+    writer.key("Success")?;
+    writer.begin_object()?;
+    writer.key("job_alloc")?;
+    job_alloc.write_json(alloc, writer)?;
+    writer.key("need_toolchain")?;
+    writer.boolean(need_toolchain)?;
+    writer.end_object()?;
+    writer.end_object()?;
+    Ok(())
+}
+
+impl ToJson for AllocJobResult {
+    ghost use Rattle.dist_wire.specs.Json.{alloc_json};
+
+    ghost json = { alloc_json };
+
+    fn write_json(&self, alloc: Global, writer: &mut Writer) -> Result<(), WireError> {
+        match self {
+            AllocJobResult::Success {
+                job_alloc,
+                need_toolchain,
+            } => write_success(job_alloc, *need_toolchain, alloc, writer)?,
+            AllocJobResult::Fail { msg } => write_fail(msg, writer)?,
+        }
+        Ok(())
+    }
+}
+
+impl ToJson for AllocJobHttpResponse {
+    ghost use Rattle.dist_wire.specs.Json.{response_json};
+
+    ghost json = { response_json };
+
+    fn write_json(&self, alloc: Global, writer: &mut Writer) -> Result<(), WireError> {
+        match self {
+            AllocJobHttpResponse::Success {
+                job_alloc,
+                need_toolchain,
+            } => write_success(job_alloc, *need_toolchain, alloc, writer)?,
+            AllocJobHttpResponse::Fail { msg } => write_fail(msg, writer)?,
+        }
+        Ok(())
+    }
 }
 
 impl Message for JobAlloc {}

@@ -4,9 +4,12 @@ use crate::error::WireError;
 use crate::message::Message;
 use crate::number::{read_u64, write_u64};
 use crate::reader::Reader;
+use crate::to_json::ToJson;
 use dist_types::ids::ServerNonce;
 use dist_types::results::{HeartbeatServerResult, SchedulerStatusResult};
 use dist_types::text::Bytes;
+use json::Writer;
+use std::alloc::Global;
 
 /// What a build server tells the scheduler.
 #[derive(Drop)]
@@ -108,6 +111,56 @@ impl Codec for SchedulerStatusResult {
     }
 
     ghost codec = { status_codec };
+}
+
+impl ToJson for HeartbeatServerHttpRequest {
+    ghost use Rattle.dist_wire.specs.Json.{heartbeat_json};
+
+    ghost json = { heartbeat_json };
+
+    fn write_json(&self, alloc: Global, writer: &mut Writer) -> Result<(), WireError> {
+        writer.begin_object()?;
+        writer.key("jwt_key")?;
+        self.jwt_key.write_json(alloc, writer)?;
+        writer.key("num_cpus")?;
+        writer.u64(self.num_cpus)?;
+        writer.key("server_nonce")?;
+        writer.u64(self.server_nonce.get())?;
+        writer.end_object()?;
+        Ok(())
+    }
+}
+
+impl ToJson for HeartbeatServerResult {
+    ghost use Rattle.dist_wire.specs.Json.{heard_json};
+
+    ghost json = { heard_json };
+
+    fn write_json(&self, _alloc: Global, writer: &mut Writer) -> Result<(), WireError> {
+        writer.begin_object()?;
+        writer.key("is_new")?;
+        writer.boolean(self.is_new)?;
+        writer.end_object()?;
+        Ok(())
+    }
+}
+
+impl ToJson for SchedulerStatusResult {
+    ghost use Rattle.dist_wire.specs.Json.{status_json};
+
+    ghost json = { status_json };
+
+    fn write_json(&self, _alloc: Global, writer: &mut Writer) -> Result<(), WireError> {
+        writer.begin_object()?;
+        writer.key("in_progress")?;
+        writer.u64(self.in_progress)?;
+        writer.key("num_cpus")?;
+        writer.u64(self.num_cpus)?;
+        writer.key("num_servers")?;
+        writer.u64(self.num_servers)?;
+        writer.end_object()?;
+        Ok(())
+    }
 }
 
 impl Message for HeartbeatServerHttpRequest {}

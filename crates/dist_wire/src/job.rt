@@ -4,8 +4,11 @@ use crate::error::WireError;
 use crate::message::Message;
 use crate::number::{read_u32, write_u32};
 use crate::reader::Reader;
+use crate::to_json::{ToJson, write_fail};
 use dist_types::results::{AssignJobResult, JobState, UpdateJobStateResult};
 use dist_types::text::Text;
+use json::Writer;
+use std::alloc::Global;
 
 impl Codec for JobState {
     ghost use Rattle.dist_wire.specs.MessageLaws.{state_codec};
@@ -116,6 +119,52 @@ impl Codec for UpdateJobStateResult {
     }
 
     ghost codec = { update_codec };
+}
+
+impl ToJson for JobState {
+    ghost use Rattle.dist_wire.specs.Json.{state_json};
+
+    ghost json = { state_json };
+
+    fn write_json(&self, _alloc: Global, writer: &mut Writer) -> Result<(), WireError> {
+        match self {
+            JobState::Pending => writer.string("Pending")?,
+            JobState::Ready => writer.string("Ready")?,
+            JobState::Started => writer.string("Started")?,
+            JobState::Complete => writer.string("Complete")?,
+        }
+        Ok(())
+    }
+}
+
+impl ToJson for AssignJobResult {
+    ghost use Rattle.dist_wire.specs.Json.{assign_json};
+
+    ghost json = { assign_json };
+
+    fn write_json(&self, alloc: Global, writer: &mut Writer) -> Result<(), WireError> {
+        writer.begin_object()?;
+        writer.key("need_toolchain")?;
+        writer.boolean(self.need_toolchain)?;
+        writer.key("state")?;
+        self.state.write_json(alloc, writer)?;
+        writer.end_object()?;
+        Ok(())
+    }
+}
+
+impl ToJson for UpdateJobStateResult {
+    ghost use Rattle.dist_wire.specs.Json.{update_json};
+
+    ghost json = { update_json };
+
+    fn write_json(&self, _alloc: Global, writer: &mut Writer) -> Result<(), WireError> {
+        match self {
+            UpdateJobStateResult::Success => writer.string("Success")?,
+            UpdateJobStateResult::Fail { msg } => write_fail(msg, writer)?,
+        }
+        Ok(())
+    }
 }
 
 impl Message for JobState {}

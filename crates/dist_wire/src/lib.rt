@@ -8,9 +8,11 @@ pub mod error;
 pub mod heartbeat;
 mod items;
 mod job;
+
 pub mod message;
 mod number;
 pub mod reader;
 pub mod run;
 mod text;
+pub mod to_json;
 mod toolchain;

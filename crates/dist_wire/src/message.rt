@@ -1,14 +1,17 @@
 //! Messages, read from the front of bytes and written.
-ghost use Rattle.std.specs.Prelude.{◌≡◌, ◌≤◌, ℕ, List, ◌++◌, length, take, drop, Some, None, Err, IfOk, IfErr, MatchResult};
+ghost use Rattle.std.specs.Prelude.{◌≡◌, ◌≤◌, ℕ, List, ◌++◌, length, take, drop, Some, None, Err, IfOk, IfErr, MatchResult, string_bytes};
+ghost use Rattle.dist_wire.specs.Json.{json_text};
 ghost use Rattle.dist_wire.specs.declared.error.WireError.TheVariants.{ParseError, Memory};
 
 use crate::codec::Codec;
 use crate::error::WireError;
 use crate::reader::Reader;
+use crate::to_json::ToJson;
+use json::Writer;
 use std::alloc::Global;
 
 /// A message: what stands in a body of a request or a reply.
-pub trait Message: Codec {
+pub trait Message: Codec + ToJson {
     /// The message whose spelling begins the bytes, and the length of that spelling. Bytes may follow it.
     /// ParseError exactly where no spelling of a message begins the bytes.
     final fn read(alloc: Global, bytes: &[u8]) -> Result<(Self, usize), WireError>
@@ -41,6 +44,19 @@ pub trait Message: Codec {
         let mut out = Vec::new(alloc);
         self.encode(&mut out)?;
         Ok(out)
+    }
+
+    /// The message as JSON. Refused for want of memory alone.
+    final fn to_json(&self, alloc: Global) -> Result<String, WireError>
+        ensures text { IfOk result (λ text. string_bytes text ≡ json_text (Self.json self.now)) }
+        ensures memory { IfErr result (λ e. e ≡ Memory) }
+    {
+        let mut writer = Writer::new(Vec::new(alloc));
+        self.write_json(alloc, &mut writer)?;
+        match String::from_utf8(writer.into_inner()) {
+            Ok(text) => Ok(text),
+            Err(_) => unreachable!(),
+        }
     }
 }
 

@@ -1,13 +1,20 @@
 //! Runs of jobs, and their answers.
+ghost use Rattle.std.specs.Prelude.{◌≡◌, ◌++◌, OnOk, IfErr, codes};
+ghost use Rattle.json.specs.Tree.{json_tokens};
+ghost use Rattle.dist_wire.specs.Json.{variant_json, complete_json};
+
 use crate::codec::Codec;
 use crate::error::WireError;
 use crate::message::Message;
 use crate::number::{read_u32, read_u64, write_u32, write_u64};
 use crate::reader::Reader;
+use crate::to_json::ToJson;
 use dist_types::command::CompileCommand;
 use dist_types::output::{OutputData, ProcessOutput};
 use dist_types::results::{JobComplete, RunJobResult};
 use dist_types::text::{Bytes, Items, Text};
+use json::Writer;
+use std::alloc::Global;
 
 /// What a client asks a build server to run.
 #[derive(Debug, Drop)]
@@ -205,6 +212,121 @@ impl Codec for RunJobResult {
     }
 
     ghost codec = { ran_codec };
+}
+
+impl ToJson for CompileCommand {
+    ghost use Rattle.dist_wire.specs.Json.{command_json};
+
+    ghost json = { command_json };
+
+    fn write_json(&self, alloc: Global, writer: &mut Writer) -> Result<(), WireError> {
+        writer.begin_object()?;
+        writer.key("arguments")?;
+        self.arguments.write_json(alloc, writer)?;
+        writer.key("cwd")?;
+        self.cwd.write_json(alloc, writer)?;
+        writer.key("env_vars")?;
+        self.env_vars.write_json(alloc, writer)?;
+        writer.key("executable")?;
+        self.executable.write_json(alloc, writer)?;
+        writer.end_object()?;
+        Ok(())
+    }
+}
+
+impl ToJson for ProcessOutput {
+    ghost use Rattle.dist_wire.specs.Json.{process_json};
+
+    ghost json = { process_json };
+
+    fn write_json(&self, alloc: Global, writer: &mut Writer) -> Result<(), WireError> {
+        writer.begin_object()?;
+        writer.key("code")?;
+        writer.i64(i64::from(self.code))?;
+        writer.key("stderr")?;
+        self.stderr.write_json(alloc, writer)?;
+        writer.key("stdout")?;
+        self.stdout.write_json(alloc, writer)?;
+        writer.end_object()?;
+        Ok(())
+    }
+}
+
+impl ToJson for OutputData {
+    ghost use Rattle.dist_wire.specs.Json.{data_json};
+
+    ghost json = { data_json };
+
+    fn write_json(&self, alloc: Global, writer: &mut Writer) -> Result<(), WireError> {
+        writer.begin_array()?;
+        self.0.write_json(alloc, writer)?;
+        writer.u64(self.1)?;
+        writer.end_array()?;
+        Ok(())
+    }
+}
+
+impl ToJson for JobComplete {
+    ghost use Rattle.dist_wire.specs.Json.{complete_json};
+
+    ghost json = { complete_json };
+
+    fn write_json(&self, alloc: Global, writer: &mut Writer) -> Result<(), WireError> {
+        writer.begin_object()?;
+        writer.key("output")?;
+        self.output.write_json(alloc, writer)?;
+        writer.key("outputs")?;
+        self.outputs.write_json(alloc, writer)?;
+        writer.end_object()?;
+        Ok(())
+    }
+}
+
+impl ToJson for RunJobHttpRequest {
+    ghost use Rattle.dist_wire.specs.Json.{run_json};
+
+    ghost json = { run_json };
+
+    fn write_json(&self, alloc: Global, writer: &mut Writer) -> Result<(), WireError> {
+        writer.begin_object()?;
+        writer.key("command")?;
+        self.command.write_json(alloc, writer)?;
+        writer.key("outputs")?;
+        self.outputs.write_json(alloc, writer)?;
+        writer.end_object()?;
+        Ok(())
+    }
+}
+
+/// Writes the variant of a job that was run.
+fn write_complete(
+    complete: &JobComplete,
+    alloc: Global,
+    writer: &mut Writer,
+) -> Result<(), WireError>
+    ensures written { OnOk result (writer.new.tokens ≡ writer.old.tokens ++ json_tokens (variant_json (codes "Complete") (complete_json complete.now))) }
+    ensures before { writer.new.before ≡ writer.old.before }
+    ensures memory { IfErr result (λ e. e ≡ WireError.Memory) }
+{
+    writer.begin_object()?;
+    writer.key("Complete")?;
+    complete.write_json(alloc, writer)?;
+    writer.end_object()?;
+    Ok(())
+}
+
+impl ToJson for RunJobResult {
+    ghost use Rattle.dist_wire.specs.Json.{ran_json};
+
+    ghost json = { ran_json };
+
+    fn write_json(&self, alloc: Global, writer: &mut Writer) -> Result<(), WireError> {
+        match self {
+            RunJobResult::JobNotFound => writer.string("JobNotFound")?,
+            RunJobResult::Complete(complete) => write_complete(complete, alloc, writer)?,
+        }
+        Ok(())
+    }
 }
 
 impl Message for RunJobHttpRequest {}
