@@ -1,5 +1,5 @@
 -- Messages as JSON: the members of an object stand in byte order.
-use Rattle.std.specs.Prelude.{ℕ, Bool, List, [], ◌∷◌, codes}
+use Rattle.std.specs.Prelude.{ℕ, ℤ, Bool, List, [], ◌∷◌, codes}
 use Rattle.std.specs.Fmt.{decimal, signed_decimal}
 use Rattle.json.specs.Json.{Json, boolean, number, string, array, object, Items, no_items, item, Members, no_members, member}
 use Rattle.json.specs.Print.{print}
@@ -52,6 +52,10 @@ pair_json first second p = array (item (first p.0) (item (second p.1) no_items))
 abbrev pub number_json : ℕ → Json
 number_json n = number (decimal n)
 
+-- a signed number in decimal
+abbrev pub signed_json : ℤ → Json
+signed_json z = number (signed_decimal z)
+
 -- bytes are an array of numbers
 abbrev pub bytes_json : List ℕ → Json
 bytes_json bytes = items_json number_json bytes
@@ -76,7 +80,7 @@ command_json c =
 abbrev pub process_json : ProcessOutput → Json
 process_json p =
     object
-    (member (codes "code") (number (signed_decimal p.code))
+    (member (codes "code") (signed_json p.code)
     (member (codes "stderr") (bytes_json p.stderr) (member (codes "stdout") (bytes_json p.stdout) no_members)))
 
 abbrev pub data_json : OutputData → Json
@@ -117,9 +121,11 @@ job_alloc_json m =
     object
     (member (codes "auth") (string m.auth) (member (codes "job_id") (number_json m.job_id.0) (member (codes "server_id") (addr_json m.server_id) no_members)))
 
+abbrev pub assigned_json : JobAlloc → Bool → Json
+assigned_json job_alloc need_toolchain = object (member (codes "job_alloc") (job_alloc_json job_alloc) (member (codes "need_toolchain") (boolean need_toolchain) no_members))
+
 abbrev pub success_json : JobAlloc → Bool → Json
-success_json job_alloc need_toolchain =
-    variant_json (codes "Success") (object (member (codes "job_alloc") (job_alloc_json job_alloc) (member (codes "need_toolchain") (boolean need_toolchain) no_members)))
+success_json job_alloc need_toolchain = variant_json (codes "Success") (assigned_json job_alloc need_toolchain)
 
 abbrev pub alloc_json : AllocJobResult → Json
 alloc_json (Alloc.Success job_alloc need_toolchain) = success_json job_alloc need_toolchain

@@ -1,7 +1,7 @@
 //! Allocations of jobs.
 ghost use Rattle.std.specs.Prelude.{◌≡◌, ◌++◌, OnOk, IfErr};
 ghost use Rattle.json.specs.Tree.{json_tokens};
-ghost use Rattle.dist_wire.specs.Json.{success_json};
+ghost use Rattle.dist_wire.specs.Json.{assigned_json, success_json};
 ghost use Rattle.dist_wire.specs.Response.{response_of};
 
 use crate::codec::Codec;
@@ -9,7 +9,7 @@ use crate::error::WireError;
 use crate::message::Message;
 use crate::number::{read_u32, read_u64, write_u32, write_u64};
 use crate::reader::Reader;
-use crate::to_json::{ToJson, write_fail};
+use crate::to_json::{ToJson, write_fail, write_member};
 use dist_types::addr::Addr;
 use dist_types::ids::{JobId, ServerId};
 use dist_types::results::{AllocJobResult, JobAlloc};
@@ -197,15 +197,30 @@ impl ToJson for JobAlloc {
 
     fn write_json(&self, alloc: Global, writer: &mut Writer) -> Result<(), WireError> {
         writer.begin_object()?;
-        writer.key("auth")?;
-        self.auth.write_json(alloc, writer)?;
-        writer.key("job_id")?;
-        writer.u64(self.job_id.0)?;
-        writer.key("server_id")?;
-        self.server_id.addr().write_json(alloc, writer)?;
+        write_member("auth", &self.auth, alloc, writer)?;
+        write_member("job_id", &self.job_id.0, alloc, writer)?;
+        write_member("server_id", &self.server_id.addr(), alloc, writer)?;
         writer.end_object()?;
         Ok(())
     }
+}
+
+/// Writes what is told of a job that was assigned.
+fn write_assigned(
+    job_alloc: &JobAlloc,
+    need_toolchain: bool,
+    alloc: Global,
+    writer: &mut Writer,
+) -> Result<(), WireError>
+    ensures written { OnOk result (writer.new.tokens ≡ writer.old.tokens ++ json_tokens (assigned_json job_alloc.now need_toolchain)) }
+    ensures before { writer.new.before ≡ writer.old.before }
+    ensures memory { IfErr result (λ e. e ≡ WireError.Memory) }
+{
+    writer.begin_object()?;
+    write_member("job_alloc", job_alloc, alloc, writer)?;
+    write_member("need_toolchain", &need_toolchain, alloc, writer)?;
+    writer.end_object()?;
+    Ok(())
 }
 
 /// Writes the variant of a job that was assigned.
@@ -221,12 +236,7 @@ fn write_success(
 {
     writer.begin_object()?;
     writer.key("Success")?;
-    writer.begin_object()?;
-    writer.key("job_alloc")?;
-    job_alloc.write_json(alloc, writer)?;
-    writer.key("need_toolchain")?;
-    writer.boolean(need_toolchain)?;
-    writer.end_object()?;
+    write_assigned(job_alloc, need_toolchain, alloc, writer)?;
     writer.end_object()?;
     Ok(())
 }

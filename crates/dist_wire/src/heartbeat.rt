@@ -4,7 +4,7 @@ use crate::error::WireError;
 use crate::message::Message;
 use crate::number::{read_u64, write_u64};
 use crate::reader::Reader;
-use crate::to_json::ToJson;
+use crate::to_json::{ToJson, write_member};
 use dist_types::ids::ServerNonce;
 use dist_types::results::{HeartbeatServerResult, SchedulerStatusResult};
 use dist_types::text::Bytes;
@@ -120,12 +120,9 @@ impl ToJson for HeartbeatServerHttpRequest {
 
     fn write_json(&self, alloc: Global, writer: &mut Writer) -> Result<(), WireError> {
         writer.begin_object()?;
-        writer.key("jwt_key")?;
-        self.jwt_key.write_json(alloc, writer)?;
-        writer.key("num_cpus")?;
-        writer.u64(self.num_cpus)?;
-        writer.key("server_nonce")?;
-        writer.u64(self.server_nonce.get())?;
+        write_member("jwt_key", &self.jwt_key, alloc, writer)?;
+        write_member("num_cpus", &self.num_cpus, alloc, writer)?;
+        write_member("server_nonce", &self.server_nonce.get(), alloc, writer)?;
         writer.end_object()?;
         Ok(())
     }
@@ -136,10 +133,9 @@ impl ToJson for HeartbeatServerResult {
 
     ghost json = { heard_json };
 
-    fn write_json(&self, _alloc: Global, writer: &mut Writer) -> Result<(), WireError> {
+    fn write_json(&self, alloc: Global, writer: &mut Writer) -> Result<(), WireError> {
         writer.begin_object()?;
-        writer.key("is_new")?;
-        writer.boolean(self.is_new)?;
+        write_member("is_new", &self.is_new, alloc, writer)?;
         writer.end_object()?;
         Ok(())
     }
@@ -150,14 +146,11 @@ impl ToJson for SchedulerStatusResult {
 
     ghost json = { status_json };
 
-    fn write_json(&self, _alloc: Global, writer: &mut Writer) -> Result<(), WireError> {
+    fn write_json(&self, alloc: Global, writer: &mut Writer) -> Result<(), WireError> {
         writer.begin_object()?;
-        writer.key("in_progress")?;
-        writer.u64(self.in_progress)?;
-        writer.key("num_cpus")?;
-        writer.u64(self.num_cpus)?;
-        writer.key("num_servers")?;
-        writer.u64(self.num_servers)?;
+        write_member("in_progress", &self.in_progress, alloc, writer)?;
+        write_member("num_cpus", &self.num_cpus, alloc, writer)?;
+        write_member("num_servers", &self.num_servers, alloc, writer)?;
         writer.end_object()?;
         Ok(())
     }

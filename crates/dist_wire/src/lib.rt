@@ -8,7 +8,6 @@ pub mod error;
 pub mod heartbeat;
 mod items;
 mod job;
-
 pub mod message;
 mod number;
 pub mod reader;

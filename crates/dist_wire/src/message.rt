@@ -1,5 +1,6 @@
 //! Messages, read from the front of bytes and written.
 ghost use Rattle.std.specs.Prelude.{◌≡◌, ◌≤◌, ℕ, List, ◌++◌, length, take, drop, Some, None, Err, IfOk, IfErr, MatchResult, string_bytes};
+ghost use Rattle.dist_wire.specs.Codec.{IsBytes};
 ghost use Rattle.dist_wire.specs.Json.{json_text};
 ghost use Rattle.dist_wire.specs.declared.error.WireError.TheVariants.{ParseError, Memory};
 
@@ -63,6 +64,14 @@ pub trait Message: Codec + ToJson {
 /// No spelling of a message begins a spelling of another message of its type.
 pub fn no_spelling_begins_another<M: Message>()
     ensures { (m n : M) (a b x y : List ℕ) → M.spells m a → M.spells n b → a ++ x ≡ b ++ y → (a ≡ b) × (m ≡ n) }
+{
+}
+
+/// The definition that computes what stands in front of bytes tells what is spelled there, and that alone.
+pub fn computed_is_spelled<M: Message>()
+    ensures spelled { (bytes rest : List ℕ) (m : M) → IsBytes bytes → M.at bytes ≡ Some (m, rest)
+        → (text : List ℕ) × M.spells m text × (bytes ≡ text ++ rest) }
+    ensures computed { (text rest : List ℕ) (m : M) → M.spells m text → M.at (text ++ rest) ≡ Some (m, rest) }
 {
 }
 

@@ -8,7 +8,7 @@ use crate::error::WireError;
 use crate::message::Message;
 use crate::number::{read_u32, read_u64, write_u32, write_u64};
 use crate::reader::Reader;
-use crate::to_json::ToJson;
+use crate::to_json::{ToJson, write_member};
 use dist_types::command::CompileCommand;
 use dist_types::output::{OutputData, ProcessOutput};
 use dist_types::results::{JobComplete, RunJobResult};
@@ -221,14 +221,10 @@ impl ToJson for CompileCommand {
 
     fn write_json(&self, alloc: Global, writer: &mut Writer) -> Result<(), WireError> {
         writer.begin_object()?;
-        writer.key("arguments")?;
-        self.arguments.write_json(alloc, writer)?;
-        writer.key("cwd")?;
-        self.cwd.write_json(alloc, writer)?;
-        writer.key("env_vars")?;
-        self.env_vars.write_json(alloc, writer)?;
-        writer.key("executable")?;
-        self.executable.write_json(alloc, writer)?;
+        write_member("arguments", &self.arguments, alloc, writer)?;
+        write_member("cwd", &self.cwd, alloc, writer)?;
+        write_member("env_vars", &self.env_vars, alloc, writer)?;
+        write_member("executable", &self.executable, alloc, writer)?;
         writer.end_object()?;
         Ok(())
     }
@@ -241,12 +237,9 @@ impl ToJson for ProcessOutput {
 
     fn write_json(&self, alloc: Global, writer: &mut Writer) -> Result<(), WireError> {
         writer.begin_object()?;
-        writer.key("code")?;
-        writer.i64(i64::from(self.code))?;
-        writer.key("stderr")?;
-        self.stderr.write_json(alloc, writer)?;
-        writer.key("stdout")?;
-        self.stdout.write_json(alloc, writer)?;
+        write_member("code", &self.code, alloc, writer)?;
+        write_member("stderr", &self.stderr, alloc, writer)?;
+        write_member("stdout", &self.stdout, alloc, writer)?;
         writer.end_object()?;
         Ok(())
     }
@@ -273,10 +266,8 @@ impl ToJson for JobComplete {
 
     fn write_json(&self, alloc: Global, writer: &mut Writer) -> Result<(), WireError> {
         writer.begin_object()?;
-        writer.key("output")?;
-        self.output.write_json(alloc, writer)?;
-        writer.key("outputs")?;
-        self.outputs.write_json(alloc, writer)?;
+        write_member("output", &self.output, alloc, writer)?;
+        write_member("outputs", &self.outputs, alloc, writer)?;
         writer.end_object()?;
         Ok(())
     }
@@ -289,10 +280,8 @@ impl ToJson for RunJobHttpRequest {
 
     fn write_json(&self, alloc: Global, writer: &mut Writer) -> Result<(), WireError> {
         writer.begin_object()?;
-        writer.key("command")?;
-        self.command.write_json(alloc, writer)?;
-        writer.key("outputs")?;
-        self.outputs.write_json(alloc, writer)?;
+        write_member("command", &self.command, alloc, writer)?;
+        write_member("outputs", &self.outputs, alloc, writer)?;
         writer.end_object()?;
         Ok(())
     }
@@ -309,8 +298,7 @@ fn write_complete(
     ensures memory { IfErr result (λ e. e ≡ WireError.Memory) }
 {
     writer.begin_object()?;
-    writer.key("Complete")?;
-    complete.write_json(alloc, writer)?;
+    write_member("Complete", complete, alloc, writer)?;
     writer.end_object()?;
     Ok(())
 }

@@ -1,5 +1,6 @@
 //! Values as JSON, RFC 8259, with no spaces.
-ghost use Rattle.std.specs.Prelude.{◌≡◌, ◌++◌, OnOk, IfErr, flat_map};
+ghost use Rattle.std.specs.Prelude.{◌≡◌, ◌∷◌, ◌++◌, OnOk, IfErr, flat_map};
+ghost use Rattle.json.specs.Token.{key};
 ghost use Rattle.json.specs.Tree.{json_tokens};
 ghost use Rattle.dist_wire.specs.Json.{number_json, fail_json};
 
@@ -30,6 +31,17 @@ impl ToJson for u64 {
 
     fn write_json(&self, _alloc: Global, writer: &mut Writer) -> Result<(), WireError> {
         writer.u64(*self)?;
+        Ok(())
+    }
+}
+
+impl ToJson for i32 {
+    ghost use Rattle.dist_wire.specs.Json.{signed_json};
+
+    ghost json = { signed_json };
+
+    fn write_json(&self, _alloc: Global, writer: &mut Writer) -> Result<(), WireError> {
+        writer.i64(i64::from(*self))?;
         Ok(())
     }
 }
@@ -82,6 +94,22 @@ impl<A: ToJson, B: ToJson> ToJson for (A, B) {
         writer.end_array()?;
         Ok(())
     }
+}
+
+/// Writes a member of an object.
+pub(crate) fn write_member<T: ToJson>(
+    name: &str,
+    value: &T,
+    alloc: Global,
+    writer: &mut Writer,
+) -> Result<(), WireError>
+    ensures written { OnOk result (writer.new.tokens ≡ writer.old.tokens ++ key name.now ∷ json_tokens (T.json value.now)) }
+    ensures before { writer.new.before ≡ writer.old.before }
+    ensures memory { IfErr result (λ e. e ≡ WireError.Memory) }
+{
+    writer.key(name)?;
+    value.write_json(alloc, writer)?;
+    Ok(())
 }
 
 /// Writes the variant that says why not.
