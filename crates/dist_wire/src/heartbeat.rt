@@ -5,11 +5,16 @@ use crate::message::Message;
 use crate::number::{read_u64, write_u64};
 use crate::reader::Reader;
 use crate::to_json::{ToJson, write_member};
+use base64::display::Base64Display;
+use base64::engine::general_purpose::URL_SAFE_NO_PAD;
+use dist_types::fault::Memory;
 use dist_types::ids::ServerNonce;
 use dist_types::results::{HeartbeatServerResult, SchedulerStatusResult};
 use dist_types::text::Bytes;
+use dist_types::try_clone::TryClone;
 use json::Writer;
 use std::alloc::Global;
+use std::fmt;
 
 /// What a build server tells the scheduler.
 #[derive(Drop)]
@@ -20,6 +25,28 @@ pub struct HeartbeatServerHttpRequest {
     pub num_cpus: u64,
     /// The nonce of this start of the server.
     pub server_nonce: ServerNonce,
+}
+
+impl TryClone for HeartbeatServerHttpRequest {
+    fn clone(&self) -> Result<Self, Memory> {
+        let jwt_key = self.jwt_key.clone()?;
+        Ok(HeartbeatServerHttpRequest {
+            jwt_key,
+            num_cpus: self.num_cpus,
+            server_nonce: self.server_nonce,
+        })
+    }
+}
+
+/// The key stands in base64url without padding, RFC 4648, section 5.
+impl fmt::Debug for HeartbeatServerHttpRequest {
+    fn fmt<W: fmt::Write>(&self, f: &mut fmt::Formatter<W>) -> fmt::Result {
+        let engine = URL_SAFE_NO_PAD;
+        let jwt_key = Base64Display::new(self.jwt_key.get(), &engine);
+        let num_cpus = self.num_cpus;
+        let nonce = self.server_nonce.get();
+        write!(f, "HeartbeatServerHttpRequest {{ jwt_key: \"{jwt_key}\", num_cpus: {num_cpus}, server_nonce: ServerNonce({nonce}) }}")
+    }
 }
 
 impl Codec for HeartbeatServerHttpRequest {
