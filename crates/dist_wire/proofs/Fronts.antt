@@ -1,9 +1,9 @@
 -- What a reader answers, in terms of spellings.
-use Rattle.std.proofs.Common.{◌≡◌, ℕ, ◌+◌, ◌-◌, ◌<◌, ◌≤◌, List, ◌++◌, length, take, drop, Option, Some, None, refl, sym, ap, subst, ◌∙◌, arith}
+use Rattle.std.proofs.Common.{◌≡◌, ℕ, ◌+◌, ◌-◌, ◌≤◌, List, length, take, drop, Option, Some, None, refl, sym, ap, subst, ◌∙◌, arith}
 use Rattle.std.proofs.lemmas.List.{take_at, drop_at, take-append-drop, length-append, length-drop}
 use Rattle.dist_wire.specs.declared.error.WireError.{WireError}
 use Rattle.dist_wire.specs.declared.error.WireError.TheVariants.{ParseError, Memory}
-use Rattle.dist_wire.specs.Codec.{IsBytes, Taken, IsCodec}
+use Rattle.dist_wire.specs.Codec.{IsBytes, IsCodec}
 use Rattle.dist_wire.specs.CodecLaws.{some_is}
 
 -- a message's spelling stands before the rest

@@ -1,13 +1,13 @@
 -- What fits in its parts fits as a whole: numbers, pairs, and what stands behind a number.
-use Rattle.std.proofs.Common.{◌≡◌, ◌⊎◌, ℕ, zero, suc, ◌+◌, ◌^◌, ◌<◌, ◌≤◌, Bool, true, false, cond, eqb, ltb, List, [], ◌∷◌, ◌++◌, length, take, drop, Option, Some, None, refl, sym, ap, subst, ◌∙◌, append_assoc, arith, inl, inr}
-use Rattle.std.specs.Int.{Width, w16, w32, w64, byte_len, from_le_bytes, to_le_bytes}
+use Rattle.std.proofs.Common.{◌≡◌, ◌⊎◌, ℕ, suc, ◌+◌, ◌^◌, ◌<◌, ◌≤◌, Bool, true, false, cond, eqb, ltb, List, [], ◌∷◌, ◌++◌, length, take, drop, Option, Some, None, refl, sym, ap, subst, ◌∙◌, append_assoc, arith, inl, inr}
+use Rattle.std.specs.Int.{Width, w16, w32, w64, byte_len, from_le_bytes}
 use Rattle.std.proofs.lemmas.Bool.{cases_lt, eqb-true, ltb-false, le-ltb}
 use Rattle.std.proofs.lemmas.List.{append-nil, append_cancel_right, take_at, drop_at, take-append-drop, length-append, length-take, get_or-drop, get_or-take, get_or_past}
 use Rattle.std.proofs.lemmas.Nat.{le_bytes_2, le_bytes_4, le_bytes_8, from_le_bytes-to_le_bytes_2, from_le_bytes-to_le_bytes_4, from_le_bytes-to_le_bytes_8}
 use Rattle.dist_types.specs.Addr.{◌>>=◌}
 use Rattle.dist_wire.specs.Codec.{IsBytes, Taken, IsCodec}
 use Rattle.dist_wire.specs.Reading.{exactly_at, number_at, byte_at, made_at, meant_at, both_at, tagged_at, two_at}
-use Rattle.dist_wire.specs.Spelling.{Joined, SpellsNumber, SpellsU16, SpellsU32, SpellsU64}
+use Rattle.dist_wire.specs.Spelling.{Joined, SpellsNumber}
 use Rattle.dist_wire.specs.Written.{number_text}
 
 IsBytes-drop : (n : ℕ) (bytes : List ℕ) → IsBytes bytes → IsBytes (drop n bytes)
@@ -147,6 +147,7 @@ made_codec {A} {B} S at make back undone redone c = record { takes = takes; agai
         let a = bind_some (at bytes) (λ (a : A × List ℕ). Some (make a.0, a.1)) (x, rest) e in
         let t = c.takes bytes a.0.0 a.0.1 fits a.1 in
         subst (λ (p : B × List ℕ). Taken (S (back p.0)) bytes p.1) (some_is (make a.0.0, a.0.1) (x, rest) a.2) (subst (λ (y : A). Taken (S y) bytes a.0.1) (sym (undone a.0.0)) t)
+
     again : (x : B) (text rest : List ℕ) → S (back x) text → made_at make at (text ++ rest) ≡ Some (x, rest)
     again x text rest s = rw (c.again (back x) text rest s) (ap (λ (y : B). Some (y, rest)) (redone x))
 
@@ -163,6 +164,7 @@ meant_codec {A} {B} S at mean c = record { takes = takes; again = again; some = 
         let b = bind_some (mean a.0.0) (λ (b : B). Some (b, a.0.1)) (x, rest) a.2 in
         let made : Taken (λ text. (y : A) × (mean y ≡ Some b.0) × S y text) bytes a.0.1 = record { text = t.text; spelled = (a.0.0, b.1, t.spelled); parts = t.parts; fits = t.fits } in
         subst (λ (p : B × List ℕ). Taken (λ text. (y : A) × (mean y ≡ Some p.0) × S y text) bytes p.1) (some_is (b.0, a.0.1) (x, rest) b.2) made
+
     again : (x : B) (text rest : List ℕ) → (a : A) × (mean a ≡ Some x) × S a text → meant_at mean at (text ++ rest) ≡ Some (x, rest)
     again x text rest s = rw (c.again s.0 text rest s.2, s.1) refl
 
@@ -188,6 +190,7 @@ both_codec {A} {B} SA SB ra rb ca cb = record { takes = takes; again = again; so
           fits = tb.fits;
         } in
         subst (λ (p : (A × B) × List ℕ). Taken (Joined (SA p.0.0) (SB p.0.1)) bytes p.1) (some_is ((a.0.0, b.0.0), b.0.1) (x, rest) b.2) made
+
     again : (x : A × B) (text rest : List ℕ) → Joined (SA x.0) (SB x.1) text → both_at ra rb (text ++ rest) ≡ Some (x, rest)
     again x text rest s =
         rw (s.whole, append_assoc s.front s.back rest, ca.again x.0 s.front (s.back ++ rest) s.first, cb.again x.1 s.back rest s.second) refl
@@ -225,6 +228,7 @@ tagged_codec {A} w limit wide tag Content body c =
           parts = ta.parts ∙ ap (λ (t : List ℕ). ta.text ++ t) tb.parts ∙ sym (append_assoc ta.text tb.text rest);
           fits = tb.fits;
         }
+
     again : (x : A) (text rest : List ℕ) → Joined (SpellsNumber w limit (tag x)) (Content x) text → tagged_at w body (text ++ rest) ≡ Some (x, rest)
     again x text rest s =
         rw (s.whole, append_assoc s.front s.back rest, number_again w limit wide (tag x) s.front (s.back ++ rest) s.first) (c.again x s.back rest s.second)
@@ -259,9 +263,11 @@ two_tagged {A} tag Content first second one other again = record { takes = takes
     of_second : (b : Bool) (n : ℕ) (bytes : List ℕ) (x : A) (rest : List ℕ) → IsBytes bytes → eqb n 1 ≡ b → cond b (second bytes) None ≡ Some (x, rest) → (tag x ≡ n) × Taken (Content x) bytes rest
     of_second true n bytes x rest fits t e = let o = other bytes x rest fits e in (o.0 ∙ sym (eqb-true n 1 t), o.1)
     of_second false n bytes x rest fits t e = absurd cc
+
     of_first : (b : Bool) (n : ℕ) (bytes : List ℕ) (x : A) (rest : List ℕ) → IsBytes bytes → eqb n 0 ≡ b → cond b (first bytes) (cond (eqb n 1) (second bytes) None) ≡ Some (x, rest) → (tag x ≡ n) × Taken (Content x) bytes rest
     of_first true n bytes x rest fits t e = let o = one bytes x rest fits e in (o.0 ∙ sym (eqb-true n 0 t), o.1)
     of_first false n bytes x rest fits t e = of_second (eqb n 1) n bytes x rest fits refl e
+
     takes : (n : ℕ) (bytes : List ℕ) (x : A) (rest : List ℕ) → IsBytes bytes → two_at first second n bytes ≡ Some (x, rest) → (tag x ≡ n) × Taken (Content x) bytes rest
     takes n bytes x rest fits e = of_first (eqb n 0) n bytes x rest fits refl e
 

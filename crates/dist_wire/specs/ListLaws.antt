@@ -1,14 +1,14 @@
 -- What fits as an item fits as a list, and bytes and texts fit.
-use Rattle.std.proofs.Common.{◌≡◌, ◌⊎◌, ℕ, zero, suc, ◌+◌, ◌^◌, ◌<◌, ◌≤◌, Bool, true, false, cond, eqb, ltb, List, [], ◌∷◌, ◌++◌, length, take, drop, Option, Some, None, refl, sym, ap, subst, ◌∙◌, append_assoc, arith, inl, inr}
+use Rattle.std.proofs.Common.{◌≡◌, ℕ, zero, suc, ◌^◌, ◌<◌, ◌≤◌, Bool, true, false, cond, ltb, List, [], ◌∷◌, ◌++◌, length, Option, Some, None, refl, sym, ap, subst, ◌∙◌, append_assoc, arith}
 use Rattle.std.specs.Int.{w64}
 use Rattle.std.specs.Str.{is_utf8}
-use Rattle.std.proofs.lemmas.Bool.{ltb-false, le-ltb}
+use Rattle.std.proofs.lemmas.Bool.{le-ltb}
 use Rattle.std.proofs.lemmas.List.{append-nil, length-append}
 use Rattle.dist_types.specs.Addr.{◌>>=◌}
 use Rattle.dist_wire.specs.Codec.{IsBytes, Taken, IsCodec}
 use Rattle.dist_wire.specs.CodecLaws.{bind_some, guard_step, some_is, exactly_takes, exactly_again, IsTagged, tagged_codec, wide64, meant_codec, same_codec}
-use Rattle.dist_wire.specs.Reading.{exactly_at, number_at, meant_at, tagged_at, bytes_at, utf8_in, text_at, items_at, as_many_at, list_at}
-use Rattle.dist_wire.specs.Spelling.{Joined, SpellsU64, SpellsBytes, SpellsText, SpellsEach, SpellsItems}
+use Rattle.dist_wire.specs.Reading.{exactly_at, meant_at, bytes_at, utf8_in, text_at, items_at, as_many_at, list_at}
+use Rattle.dist_wire.specs.Spelling.{SpellsBytes, SpellsText, SpellsEach, SpellsItems}
 
 -- ---- bytes and texts
 
@@ -44,7 +44,6 @@ text_codec =
 -- ---- lists
 
 module _ {A : Type 0} (S : A → List ℕ → Type 0) (at : List ℕ → Option (A × List ℕ)) (c : IsCodec S at) where
-
   pub items_takes : (n : ℕ) (bytes : List ℕ) (xs : List A) (rest : List ℕ) → IsBytes bytes → items_at at n bytes ≡ Some (xs, rest) → (length xs ≡ n) × Taken (SpellsEach S xs) bytes rest
   unfolding items_at
   items_takes zero bytes xs rest fits e =
@@ -55,12 +54,15 @@ module _ {A : Type 0} (S : A → List ℕ → Type 0) (at : List ℕ → Option 
       let ta = c.takes bytes a.0.0 a.0.1 fits a.1 in
       let b = bind_some (items_at at n a.0.1) (λ (ys : List A × List ℕ). Some (a.0.0 ∷ ys.0, ys.1)) (xs, rest) a.2 in
       let tb = items_takes n a.0.1 b.0.0 b.0.1 ta.fits b.1 in
-      let made : (length (a.0.0 ∷ b.0.0) ≡ suc n) × Taken (SpellsEach S (a.0.0 ∷ b.0.0)) bytes b.0.1 = (ap suc tb.0, record {
-        text = ta.text ++ tb.1.text;
-        spelled = record { front = ta.text; back = tb.1.text; first = ta.spelled; second = tb.1.spelled; whole = refl };
-        parts = ta.parts ∙ ap (λ (t : List ℕ). ta.text ++ t) tb.1.parts ∙ sym (append_assoc ta.text tb.1.text b.0.1);
-        fits = tb.1.fits;
-      }) in
+      let made : (length (a.0.0 ∷ b.0.0) ≡ suc n) × Taken (SpellsEach S (a.0.0 ∷ b.0.0)) bytes b.0.1 = (
+        ap suc tb.0,
+        record {
+          text = ta.text ++ tb.1.text;
+          spelled = record { front = ta.text; back = tb.1.text; first = ta.spelled; second = tb.1.spelled; whole = refl };
+          parts = ta.parts ∙ ap (λ (t : List ℕ). ta.text ++ t) tb.1.parts ∙ sym (append_assoc ta.text tb.1.text b.0.1);
+          fits = tb.1.fits;
+        },
+      ) in
       subst (λ (p : List A × List ℕ). (length p.0 ≡ suc n) × Taken (SpellsEach S p.0) bytes p.1) (some_is (a.0.0 ∷ b.0.0, b.0.1) (xs, rest) b.2) made
 
   pub items_again : (xs : List A) (text rest : List ℕ) → SpellsEach S xs text → items_at at (length xs) (text ++ rest) ≡ Some (xs, rest)

@@ -1,40 +1,31 @@
 -- Each message is read as it is spelled.
-use Rattle.std.proofs.Common.{◌≡◌, ◌^◌, ◌+◌, ◌<◌, ◌≤◌, ℕ, ℤ, Bool, true, false, List, [], ◌∷◌, ◌++◌, length, Option, Some, None, refl, sym, ap, subst, ◌∙◌, inl, inr, arith}
-use Rattle.std.specs.Int.{w16, w32, w64, cast_signed, from_be_bytes, to_be_bytes}
-use Rattle.std.proofs.lemmas.Nat.{be_bytes_2, from_be_bytes-to_be_bytes_2}
-use Rattle.dist_types.specs.Addr.{◌>>=◌}
+use Rattle.std.proofs.Common.{◌≡◌, ◌^◌, ℕ, ℤ, Bool, List, [], ◌++◌, Option, Some, None, refl, ap, ◌∙◌, inl, inr}
+use Rattle.std.specs.Int.{w32, w64}
 use Rattle.dist_types.specs.Toolchain.{digest_in}
 use Rattle.dist_types.specs.declared.addr.Addr.{Addr}
-use Rattle.dist_types.specs.declared.addr.Addr.TheVariants.{V4, V6}
 use Rattle.dist_types.specs.declared.command.CompileCommand.{CompileCommand}
 use Rattle.dist_types.specs.declared.output.OutputData.{OutputData}
 use Rattle.dist_types.specs.declared.output.ProcessOutput.{ProcessOutput}
 use Rattle.dist_types.specs.declared.results.AllocJobResult.{AllocJobResult}
 use Rattle.dist_types.specs.declared.results.AllocJobResult.TheVariants as Alloc
-use Rattle.dist_types.specs.declared.results.AssignJobResult.{AssignJobResult}
-use Rattle.dist_types.specs.declared.results.HeartbeatServerResult.{HeartbeatServerResult}
 use Rattle.dist_types.specs.declared.results.JobAlloc.{JobAlloc}
-use Rattle.dist_types.specs.declared.results.JobComplete.{JobComplete}
 use Rattle.dist_types.specs.declared.results.JobState.{JobState}
 use Rattle.dist_types.specs.declared.results.JobState.TheVariants.{Pending, Ready, Started, Complete as Completed}
 use Rattle.dist_types.specs.declared.results.RunJobResult.{RunJobResult}
 use Rattle.dist_types.specs.declared.results.RunJobResult.TheVariants.{JobNotFound, Complete}
-use Rattle.dist_types.specs.declared.results.SchedulerStatusResult.{SchedulerStatusResult}
 use Rattle.dist_types.specs.declared.results.SubmitToolchainResult.{SubmitToolchainResult}
 use Rattle.dist_types.specs.declared.results.UpdateJobStateResult.{UpdateJobStateResult}
 use Rattle.dist_types.specs.declared.results.UpdateJobStateResult.TheVariants as Update
 use Rattle.dist_wire.specs.declared.alloc.AllocJobHttpResponse.{AllocJobHttpResponse}
 use Rattle.dist_wire.specs.declared.alloc.AllocJobHttpResponse.TheVariants as Response
-use Rattle.dist_wire.specs.declared.heartbeat.HeartbeatServerHttpRequest.{HeartbeatServerHttpRequest}
-use Rattle.dist_wire.specs.declared.run.RunJobHttpRequest.{RunJobHttpRequest}
 use Rattle.dist_types.specs.declared.results.SubmitToolchainResult.TheVariants as Submit
-use Rattle.dist_wire.specs.Codec.{IsBytes, Taken, IsCodec}
-use Rattle.dist_wire.specs.CodecLaws.{bind_some, some_is, either, exactly_takes, exactly_again, byte_codec, number_codec, wide16, wide32, wide64, made_codec, meant_codec, seen_codec, both_codec, same_codec, coded_codec, tagged_codec, IsTagged, alone_variant, made_variant, two_tagged, nothing_more, and_nothing}
+use Rattle.dist_wire.specs.Codec.{IsCodec}
+use Rattle.dist_wire.specs.CodecLaws.{either, wide32, made_codec, meant_codec, both_codec, same_codec, coded_codec, tagged_codec, alone_variant, made_variant, two_tagged, nothing_more, and_nothing}
 use Rattle.dist_wire.specs.Laws.{u32_codec, u64_codec, i32_codec, flag_codec, addr_codec}
-use Rattle.dist_wire.specs.ListLaws.{bytes_codec, text_codec, items_codec, exact_codec, fixed_codec}
-use Rattle.dist_wire.specs.Reading.{made_at, meant_at, both_at, exactly_at, byte_at, number_at, tagged_at, two_at, i32_at, flag_in, flag_at, bytes_at, utf8_in, text_at, items_at, as_many_at, list_at, group_at, groups_at, v4_at, v6_at, addr_at, command_at, process_at, data_at, complete_at, toolchain_at, state_in, state_at, assign_at, update_at, heartbeat_at, heard_at, job_alloc_at, alloc_at, response_at, run_at, ran_at, submit_in, submit_at, status_at}
-use Rattle.dist_wire.specs.Spelling.{Joined, ◌⨾◌, SpellsNumber, SpellsU16, SpellsU32, SpellsU64, SpellsI32, SpellsFlag, SpellsVariant, SpellsBytes, SpellsText, SpellsEach, SpellsItems, SpellsPair, SpellsOctets, SpellsGroup, SpellsGroups, SpellsAddr, SpellsCommand, SpellsProcess, SpellsData, SpellsComplete, SpellsToolchain, SpellsState, SpellsAssign, SpellsUpdate, SpellsHeartbeat, SpellsHeard, SpellsJobAlloc, SpellsAlloc, SpellsResponse, SpellsRun, SpellsRan, SpellsSubmit, SpellsStatus}
-use Rattle.dist_wire.specs.Written.{flag_number, state_number, submit_number}
+use Rattle.dist_wire.specs.ListLaws.{bytes_codec, text_codec, items_codec}
+use Rattle.dist_wire.specs.Reading.{made_at, both_at, number_at, tagged_at, two_at, i32_at, flag_at, bytes_at, text_at, list_at, addr_at, command_at, process_at, data_at, complete_at, toolchain_at, state_in, state_at, assign_at, update_at, heartbeat_at, heard_at, job_alloc_at, alloc_at, response_at, run_at, ran_at, submit_in, submit_at, status_at}
+use Rattle.dist_wire.specs.Spelling.{◌⨾◌, SpellsU32, SpellsU64, SpellsI32, SpellsFlag, SpellsVariant, SpellsBytes, SpellsText, SpellsItems, SpellsPair, SpellsAddr, SpellsCommand, SpellsProcess, SpellsData, SpellsComplete, SpellsToolchain, SpellsState, SpellsAssign, SpellsUpdate, SpellsHeartbeat, SpellsHeard, SpellsJobAlloc, SpellsAlloc, SpellsResponse, SpellsRun, SpellsRan, SpellsSubmit, SpellsStatus}
+use Rattle.dist_wire.specs.Written.{state_number, submit_number}
 
 state_again : (s : JobState) → state_in (state_number s) ≡ Some s
 state_again Pending = refl

@@ -64,16 +64,14 @@ pub trait Message: Codec + ToJson {
 /// No spelling of a message begins a spelling of another message of its type.
 pub fn no_spelling_begins_another<M: Message>()
     ensures { (m n : M) (a b x y : List ℕ) → M.spells m a → M.spells n b → a ++ x ≡ b ++ y → (a ≡ b) × (m ≡ n) }
-{
-}
+{}
 
 /// The definition that computes what stands in front of bytes tells what is spelled there, and that alone.
 pub fn computed_is_spelled<M: Message>()
     ensures spelled { (bytes rest : List ℕ) (m : M) → IsBytes bytes → M.at bytes ≡ Some (m, rest)
         → (text : List ℕ) × M.spells m text × (bytes ≡ text ++ rest) }
     ensures computed { (text rest : List ℕ) (m : M) → M.spells m text → M.at (text ++ rest) ≡ Some (m, rest) }
-{
-}
+{}
 
 /// What is written, followed by any bytes, is read: the message, and the length of what was written.
 /// Refused for want of memory alone.

@@ -48,9 +48,7 @@ pub(crate) fn read_u64(reader: &mut Reader<'_>) -> Result<u64, WireError>
     ensures { Gives result (number_at w64 reader.old) reader.new }
 {
     match reader.bytes(8) {
-        Some(b) => Ok(u64::from_le_bytes([
-            b[0], b[1], b[2], b[3], b[4], b[5], b[6], b[7],
-        ])),
+        Some(b) => Ok(u64::from_le_bytes([b[0], b[1], b[2], b[3], b[4], b[5], b[6], b[7]])),
         None => Err(WireError::ParseError),
     }
 }

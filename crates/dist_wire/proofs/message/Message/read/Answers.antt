@@ -1,6 +1,5 @@
-use Rattle.std.proofs.Common.{◌≡◌, ℕ, ◌-◌, List, length, Some, None, Err, sym, ap, ◌∙◌, arith}
-use Rattle.dist_wire.specs.declared.error.WireError.{WireError}
-use Rattle.dist_wire.specs.declared.error.WireError.TheVariants.{ParseError, Memory}
+use Rattle.std.proofs.Common.{◌≡◌, ℕ, List, Some, None, sym, ap, ◌∙◌, arith}
+use Rattle.dist_wire.specs.declared.error.WireError.TheVariants.{ParseError}
 use Rattle.dist_wire.proofs.Fronts.{read_found, read_only, read_one, only_memory, none_is_no_some}
 use Rattle.dist_wire.proofs.message.Message.read.Goals as goal
 
@@ -37,14 +36,14 @@ pub returns-in-Err-clause-only : goal.returns-in-Err-clause-only
 returns-in-Err-clause-only g c =
     let at = g.Self.Codec.at in
     λ m n within s.
-        only_memory (at c.args.bytes.now) (m, _) c.in-Err.e (read_only g.Self.Codec.spells at g.met.Self.Codec.codec c.args.bytes.now m n s)
-        (λ e. ap at (sym c.new-reader.ensures.bytes) ∙ c.in-Err.ensures.found e)
+    only_memory (at c.args.bytes.now) (m, _) c.in-Err.e (read_only g.Self.Codec.spells at g.met.Self.Codec.codec c.args.bytes.now m n s)
+    (λ e. ap at (sym c.new-reader.ensures.bytes) ∙ c.in-Err.ensures.found e)
 
 pub returns-in-Err-clause-parse_error : goal.returns-in-Err-clause-parse_error
 returns-in-Err-clause-parse_error g c =
     let at = g.Self.Codec.at in
     λ e m n s.
-        let error : c.in-Err.e ≡ ParseError = cc in
-        let none : at c.args.bytes.now ≡ None = ap at (sym c.new-reader.ensures.bytes) ∙ c.in-Err.ensures.found error in
-        let some = read_only g.Self.Codec.spells at g.met.Self.Codec.codec c.args.bytes.now m n s in
-        none_is_no_some (at c.args.bytes.now) _ none some
+    let error : c.in-Err.e ≡ ParseError = cc in
+    let none : at c.args.bytes.now ≡ None = ap at (sym c.new-reader.ensures.bytes) ∙ c.in-Err.ensures.found error in
+    let some = read_only g.Self.Codec.spells at g.met.Self.Codec.codec c.args.bytes.now m n s in
+    none_is_no_some (at c.args.bytes.now) _ none some
