@@ -8,7 +8,7 @@ use Rattle.dist_types.specs.Addr.{◌>>=◌}
 use Rattle.dist_wire.specs.Codec.{IsBytes, Taken, IsCodec}
 use Rattle.dist_wire.specs.Reading.{exactly_at, number_at, byte_at, made_at, meant_at, both_at, tagged_at, two_at}
 use Rattle.dist_wire.specs.Spelling.{Joined, SpellsNumber}
-use Rattle.dist_wire.specs.Written.{number_text}
+use Rattle.dist_wire.specs.Numbers.{number_text}
 
 IsBytes-drop : (n : ℕ) (bytes : List ℕ) → IsBytes bytes → IsBytes (drop n bytes)
 IsBytes-drop n bytes h i = rw get_or-drop (h (n + i))
