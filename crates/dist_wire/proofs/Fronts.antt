@@ -33,7 +33,7 @@ pub read_one : {A : Type 0} (S : A → List ℕ → Type 0) (at : List ℕ → O
     → (bytes : List ℕ) (m found : A) (n : ℕ) (rest : List ℕ) → n ≤ length bytes → at bytes ≡ Some (found, rest) → S m (take n bytes)
     → ◌≡◌ {A = A × ℕ} (found, length bytes - length rest) (m, n)
 read_one {A} S at c bytes m found n rest within e s =
-    let same : (found, rest) ≡ (m, drop n bytes) = some_is (found, rest) (m, drop n bytes) (sym e ∙ read_only S at c bytes m n s) in
+    let same : ◌≡◌ {A = A × List ℕ} (found, rest) (m, drop n bytes) = some_is (found, rest) (m, drop n bytes) (sym e ∙ read_only S at c bytes m n s) in
     let rest-is : rest ≡ drop n bytes = ap (λ (p : A × List ℕ). p.1) same in
     let len : length rest ≡ length bytes - n = ap length rest-is ∙ length-drop n bytes in
     let count : length bytes - length rest ≡ n = omega arith in

@@ -173,6 +173,15 @@ meant_codec {A} {B} S at mean c = record { takes = takes; again = again; some = 
 joined_some : (First Second : List ℕ → Type 0) (text : List ℕ) (s : Joined First Second text) → 0 < length s.front → 0 < length text
 joined_some First Second text s some = omega (arith, ap length s.whole ∙ length-append s.front s.back)
 
+-- one spelling was taken, then another
+pub taken_then : (First Second : List ℕ → Type 0) (bytes middle rest : List ℕ) → Taken First bytes middle → Taken Second middle rest → Taken (Joined First Second) bytes rest
+taken_then First Second bytes middle rest a b = record {
+  text = a.text ++ b.text;
+  spelled = record { front = a.text; back = b.text; first = a.spelled; second = b.spelled; whole = refl };
+  parts = a.parts ∙ ap (λ (t : List ℕ). a.text ++ t) b.parts ∙ sym (append_assoc a.text b.text rest);
+  fits = b.fits;
+}
+
 pub both_codec : {A B : Type 0} (SA : A → List ℕ → Type 0) (SB : B → List ℕ → Type 0) (ra : List ℕ → Option (A × List ℕ)) (rb : List ℕ → Option (B × List ℕ))
     → IsCodec SA ra → IsCodec SB rb → IsCodec (λ (p : A × B). Joined (SA p.0) (SB p.1)) (both_at ra rb)
 both_codec {A} {B} SA SB ra rb ca cb = record { takes = takes; again = again; some = λ x text s. joined_some (SA x.0) (SB x.1) text s (ca.some x.0 s.front s.first) }
@@ -183,12 +192,7 @@ both_codec {A} {B} SA SB ra rb ca cb = record { takes = takes; again = again; so
         let ta = ca.takes bytes a.0.0 a.0.1 fits a.1 in
         let b = bind_some (rb a.0.1) (λ (b : B × List ℕ). Some ((a.0.0, b.0), b.1)) (x, rest) a.2 in
         let tb = cb.takes a.0.1 b.0.0 b.0.1 ta.fits b.1 in
-        let made : Taken (Joined (SA a.0.0) (SB b.0.0)) bytes b.0.1 = record {
-          text = ta.text ++ tb.text;
-          spelled = record { front = ta.text; back = tb.text; first = ta.spelled; second = tb.spelled; whole = refl };
-          parts = ta.parts ∙ ap (λ (t : List ℕ). ta.text ++ t) tb.parts ∙ sym (append_assoc ta.text tb.text b.0.1);
-          fits = tb.fits;
-        } in
+        let made = taken_then (SA a.0.0) (SB b.0.0) bytes a.0.1 b.0.1 ta tb in
         subst (λ (p : (A × B) × List ℕ). Taken (Joined (SA p.0.0) (SB p.0.1)) bytes p.1) (some_is ((a.0.0, b.0.0), b.0.1) (x, rest) b.2) made
 
     again : (x : A × B) (text rest : List ℕ) → Joined (SA x.0) (SB x.1) text → both_at ra rb (text ++ rest) ≡ Some (x, rest)
@@ -221,14 +225,7 @@ tagged_codec {A} w limit wide tag Content body c =
         let a = bind_some (number_at w bytes) (λ (n : ℕ × List ℕ). body n.0 n.1) (x, rest) e in
         let ta = number_takes w limit wide bytes a.0.0 a.0.1 fits a.1 in
         let g = c.takes a.0.0 a.0.1 x rest ta.fits a.2 in
-        let tb = g.1 in
-        record {
-          text = ta.text ++ tb.text;
-          spelled = record { front = ta.text; back = tb.text; first = subst (λ (n : ℕ). SpellsNumber w limit n ta.text) (sym g.0) ta.spelled; second = tb.spelled; whole = refl };
-          parts = ta.parts ∙ ap (λ (t : List ℕ). ta.text ++ t) tb.parts ∙ sym (append_assoc ta.text tb.text rest);
-          fits = tb.fits;
-        }
-
+        taken_then (SpellsNumber w limit (tag x)) (Content x) bytes a.0.1 rest (subst (λ (n : ℕ). Taken (SpellsNumber w limit n) bytes a.0.1) (sym g.0) ta) g.1
     again : (x : A) (text rest : List ℕ) → Joined (SpellsNumber w limit (tag x)) (Content x) text → tagged_at w body (text ++ rest) ≡ Some (x, rest)
     again x text rest s =
         rw (s.whole, append_assoc s.front s.back rest, number_again w limit wide (tag x) s.front (s.back ++ rest) s.first) (c.again x s.back rest s.second)
