@@ -62,7 +62,9 @@ pub fn spelled(alloc: Global, name: &str, bytes: &[u8], json: &str) -> Result<bo
         "JobState" => is_spelled::<JobState>(alloc, bytes, json),
         "AssignJobResult" => is_spelled::<AssignJobResult>(alloc, bytes, json),
         "UpdateJobStateResult" => is_spelled::<UpdateJobStateResult>(alloc, bytes, json),
-        "HeartbeatServerHttpRequest" => is_spelled::<HeartbeatServerHttpRequest>(alloc, bytes, json),
+        "HeartbeatServerHttpRequest" => is_spelled::<HeartbeatServerHttpRequest>(
+            alloc, bytes, json,
+        ),
         "HeartbeatServerResult" => is_spelled::<HeartbeatServerResult>(alloc, bytes, json),
         "AllocJobHttpResponse" => is_spelled::<AllocJobHttpResponse>(alloc, bytes, json),
         "AllocJobResult" => is_spelled::<AllocJobResult>(alloc, bytes, json),

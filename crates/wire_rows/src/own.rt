@@ -96,7 +96,10 @@ fn few_bytes_are_escaped(rt: HostRuntime) -> Result<(), Fail> {
     let msg = Text::of(rt.alloc(), "\u{7f}\u{2028}\u{1}")?;
     let response = AllocJobHttpResponse::Fail { msg };
     let text = response.to_json(rt.alloc())?;
-    assert_eq!(rt; text.as_str(), "{\"Fail\":{\"msg\":\"\u{7f}\u{2028}\\u0001\"}}");
+    assert_eq!(rt;
+        text.as_str(),
+        "{\"Fail\":{\"msg\":\"\u{7f}\u{2028}\\u0001\"}}"
+    );
     Ok(())
 }
 

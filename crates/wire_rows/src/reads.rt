@@ -65,7 +65,11 @@ fn messages_begin_bytes(rt: HostRuntime) -> Result<(), Fail> {
         let (name, hex, length) = case::words(line).ok_or("a line has three words")?;
         let bytes = hex::decode(rt.alloc(), hex.as_bytes())?;
         let expected = length.parse::<usize>().ok();
-        assert_eq!(rt; case::length(rt.alloc(), name, bytes.as_slice()), expected, "{line}");
+        assert_eq!(rt;
+            case::length(rt.alloc(), name, bytes.as_slice()),
+            expected,
+            "{line}"
+        );
         count = count.saturating_add(1);
     }
     assert_eq!(rt; count, 49);
@@ -88,8 +92,14 @@ fn a_flag_is_0_or_1(rt: HostRuntime) {
 
 #[test]
 fn ids_are_written_in_lower_case(rt: HostRuntime) -> Result<(), Fail> {
-    let upper = hex::decode(rt.alloc(), b"400000000000000041414141414141414141414141414141414141414141414141414141414141414141414141414141414141414141414141414141414141414141414141414141")?;
-    let lower = hex::decode(rt.alloc(), b"400000000000000061616161616161616161616161616161616161616161616161616161616161616161616161616161616161616161616161616161616161616161616161616161")?;
+    let upper = hex::decode(
+        rt.alloc(),
+        b"400000000000000041414141414141414141414141414141414141414141414141414141414141414141414141414141414141414141414141414141414141414141414141414141",
+    )?;
+    let lower = hex::decode(
+        rt.alloc(),
+        b"400000000000000061616161616161616161616161616161616161616161616161616161616161616161616161616161616161616161616161616161616161616161616161616161",
+    )?;
     let written = case::rewritten::<Toolchain>(rt.alloc(), upper.as_slice())?;
     assert_eq!(rt; written.as_slice(), lower.as_slice());
     Ok(())

@@ -41,7 +41,10 @@ fn messages_are_spelled_so(rt: HostRuntime) -> Result<(), Fail> {
     for line in ROWS.lines() {
         let (name, hex, json) = case::words(line).ok_or("a line has three words")?;
         let bytes = hex::decode(rt.alloc(), hex.as_bytes())?;
-        assert!(rt; case::spelled(rt.alloc(), name, bytes.as_slice(), json)?, "{line}");
+        assert!(rt;
+            case::spelled(rt.alloc(), name, bytes.as_slice(), json)?,
+            "{line}"
+        );
         assert!(rt; case::whole(rt.alloc(), name, bytes.as_slice()), "{line}");
         count = count.saturating_add(1);
     }

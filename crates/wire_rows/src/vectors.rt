@@ -3,7 +3,8 @@ use crate::case;
 use std::test::Fail;
 
 /// The type, the bytes in hex, and the text.
-const VECTORS: &str = r#"Toolchain 400000000000000033653064356238343632383737626164613531653031613563616437336464383632626366626463323337616133633865303539396666333630366231616230 {"archive_id":"3e0d5b8462877bada51e01a5cad73dd862bcfbdc237aa3c8e0599ff3606b1ab0"}
+const VECTORS: &str =
+    r#"Toolchain 400000000000000033653064356238343632383737626164613531653031613563616437336464383632626366626463323337616133633865303539396666333630366231616230 {"archive_id":"3e0d5b8462877bada51e01a5cad73dd862bcfbdc237aa3c8e0599ff3606b1ab0"}
 JobState 01000000 "Ready"
 AssignJobResult 0100000000 {"need_toolchain":false,"state":"Ready"}
 UpdateJobStateResult 010000000000000000000000 {"Fail":{"msg":""}}
@@ -211,7 +212,10 @@ fn random_messages_are_spelled_so(rt: HostRuntime) -> Result<(), Fail> {
     for line in VECTORS.lines() {
         let (name, hex, json) = case::words(line).ok_or("a line has three words")?;
         let bytes = hex::decode(rt.alloc(), hex.as_bytes())?;
-        assert!(rt; case::spelled(rt.alloc(), name, bytes.as_slice(), json)?, "{line}");
+        assert!(rt;
+            case::spelled(rt.alloc(), name, bytes.as_slice(), json)?,
+            "{line}"
+        );
         assert!(rt; case::whole(rt.alloc(), name, bytes.as_slice()), "{line}");
         count = count.saturating_add(1);
     }
