@@ -1,89 +1,35 @@
 -- What a request asks, in the words of its parts.
 use Rattle.std.proofs.Common.{◌≡◌, ◌≢◌, ◌↔◌, ◌⊎◌, inl, inr, ℕ, ◌&&◌, ◌<◌, ◌≤◌, ◌+◌, get_or, Bool, true, false, cond, List, length, drop, Option, Some, None, Result, Ok, Err, refl, sym, ap, subst, ◌∙◌, arith}
-use Rattle.std.specs.Prelude.{codes, bytes_eq, is_some, nat_eq}
+use Rattle.std.specs.Prelude.{codes, bytes_eq, nat_eq}
 use Rattle.std.specs.List.{starts_with}
 use Rattle.std.proofs.lemmas.Bool.Decides.{nat_tests}
 use Rattle.std.proofs.lemmas.List.{get_or-append-add}
 use Rattle.dist_types.specs.declared.addr.Addr.{Addr}
 use Rattle.httparse.specs.Grammar.{print_request}
 use Rattle.dist_http.specs.declared.error.HttpError.{HttpError}
-use Rattle.dist_http.specs.declared.error.HttpError.TheVariants.{BadHead, WrongContentType, ParseError, BadRealIp, NoRoute, Unauthorised}
+use Rattle.dist_http.specs.declared.error.HttpError.TheVariants.{BadHead, WrongContentType, ParseError, NoRoute}
 use Rattle.dist_http.specs.declared.message.HeartbeatServerHttpRequest.{HeartbeatServerHttpRequest}
-use Rattle.dist_http.specs.declared.reply.Word.TheVariants.{NoBearerAuth, InvalidBearerToken, MismatchedAddress}
 use Rattle.dist_http.specs.declared.request.Request.{Request}
 use Rattle.dist_http.specs.declared.route.SchedRouted.{SchedRouted}
 use Rattle.dist_http.specs.declared.route.SchedRouted.TheVariants.{Beat, Status, Done}
 use Rattle.dist_http.specs.declared.reply.Response.{Response}
-use Rattle.dist_http.specs.declared.reply.Response.TheVariants.{NotFound}
-use Rattle.dist_http.specs.Bearer.{token_in, server_in, IsServerToken}
+use Rattle.dist_http.specs.Fault.{reply_of}
 use Rattle.dist_http.specs.Fields.{header, path_of}
 use Rattle.dist_http.specs.Asked.{IsAsked}
 use Rattle.dist_http.specs.Head.{IsRequest, IsNoRequest}
-use Rattle.dist_http.specs.InOrder.{IsAt, IsFrom, HasHeartbeat, IsHeartbeat, IsStatus}
+use Rattle.dist_http.specs.InOrder.{IsAt, HasHeartbeat, IsHeartbeat, IsStatus}
 use Rattle.dist_http.specs.Message.{IsBytes, heartbeat_in}
-use Rattle.dist_http.specs.Route.{◌>>=◌, unless_none, unless_false, unless_true, is_at, is_text, wants_json, same_ip, server_of, is_binary, heartbeat_of, has_cpus, beat_of, asked_of, answered, reply_of}
-use Rattle.dist_http.proofs.BearerLemmas.{equal_texts, same_text, begins, token_shown, shown_token, server_shown, shown_server}
+use Rattle.dist_http.specs.Route.{is_at, is_text, wants_json, is_binary, heartbeat_of, has_cpus, beat_of, asked_of, answered}
+use Rattle.dist_http.specs.Sender.{server_of}
+use Rattle.dist_http.specs.Steps.{◌>>=◌, unless_none, unless_false}
+use Rattle.dist_http.proofs.BearerLemmas.{equal_texts, same_text, begins}
 use Rattle.dist_http.proofs.MessageLemmas.{heartbeats_are_spelled}
-
--- ---- steps
-
-ok_step : {A B : Type 0} (x : Result A HttpError) (f : A → Result B HttpError) (y : B) → (x >>= f) ≡ Ok y → (a : A) × (x ≡ Ok a) × (f a ≡ Ok y)
-ok_step (Ok a) f y e = (a, refl, e)
-ok_step (Err d) f y e = absurd cc
-
-from_none : {A : Type 0} (d : HttpError) (o : Option A) (x : A) → unless_none d o ≡ Ok x → o ≡ Some x
-from_none d (Some a) x e = cc
-from_none d None x e = absurd cc
-
-from_false : {A : Type 0} (d : HttpError) (b : Bool) (x y : A) → unless_false d b x ≡ Ok y → (b ≡ true) × (x ≡ y)
-from_false d true x y e = (refl, cc)
-from_false d false x y e = absurd cc
-
-from_true : {A : Type 0} (d : HttpError) (b : Bool) (x y : A) → unless_true d b x ≡ Ok y → (b ≡ false) × (x ≡ y)
-from_true d false x y e = (refl, cc)
-from_true d true x y e = absurd cc
+use Rattle.dist_http.proofs.SenderLemmas.{sender_shown, shown_sender}
+use Rattle.dist_http.proofs.StepLemmas.{ok_step, from_none, from_false}
 
 -- a step that went well
 abbrev ok : {A : Type 0} → A → Result A HttpError
 ok x = Ok x
-
--- ---- the sender
-
-sender_shown : (r : Request) (peer : Addr) (token : List ℕ) (server : Addr) → server_of r peer token ≡ Ok server → IsFrom r peer token server
-unfolding server_of
-sender_shown r peer token server e =
-    by_parts (header (codes "authorization") r.headers) (header (codes "x-real-ip") r.headers) refl refl e
-  where
-    last : Addr → Result Addr HttpError
-    last direct = unless_false (Unauthorised MismatchedAddress) (same_ip peer direct) direct
-
-    none_left : (o : Option (List ℕ)) → is_some o ≡ false → o ≡ None
-    none_left None h = refl
-    none_left (Some x) h = absurd cc
-
-    by_parts : (auth real : Option (List ℕ)) → header (codes "authorization") r.headers ≡ auth → header (codes "x-real-ip") r.headers ≡ real
-        → (unless_none (Unauthorised NoBearerAuth) (token_in auth) >>= λ shown. unless_none (Unauthorised InvalidBearerToken) (server_in token shown) >>= λ s. unless_true BadRealIp (is_some real) s >>= λ d. unless_false (Unauthorised MismatchedAddress) (same_ip peer d) d) ≡ Ok server
-        → IsFrom r peer token server
-    by_parts auth real is_auth is_real h =
-        let a = ok_step (unless_none (Unauthorised NoBearerAuth) (token_in auth)) (λ shown. unless_none (Unauthorised InvalidBearerToken) (server_in token shown) >>= λ s. unless_true BadRealIp (is_some real) s >>= λ d. unless_false (Unauthorised MismatchedAddress) (same_ip peer d) d) server h in
-        let shown = token_shown auth a.0 (from_none (Unauthorised NoBearerAuth) (token_in auth) a.0 a.1) in
-        let b = ok_step (unless_none (Unauthorised InvalidBearerToken) (server_in token a.0)) (λ s. unless_true BadRealIp (is_some real) s >>= λ d. unless_false (Unauthorised MismatchedAddress) (same_ip peer d) d) server a.2 in
-        let own = server_shown token a.0 b.0 (from_none (Unauthorised InvalidBearerToken) (server_in token a.0) b.0 b.1) in
-        let c = ok_step (unless_true BadRealIp (is_some real) b.0) (λ d. unless_false (Unauthorised MismatchedAddress) (same_ip peer d) d) server b.2 in
-        let direct = from_true BadRealIp (is_some real) b.0 c.0 c.1 in
-        let ip = from_false (Unauthorised MismatchedAddress) (same_ip peer c.0) c.0 server c.2 in
-        record {
-          shown = a.0;
-          bearer = is_auth ∙ shown;
-          own = subst (λ (s : Addr). IsServerToken a.0 s token) (direct.1 ∙ ip.1) own;
-          direct = is_real ∙ none_left real direct.0;
-          ip = subst (λ (s : Addr). same_ip peer s ≡ true) ip.1 ip.0;
-        }
-
-shown_sender : (r : Request) (peer : Addr) (token : List ℕ) (server : Addr) → IsFrom r peer token server → server_of r peer token ≡ Ok server
-unfolding server_of
-shown_sender r peer token server f =
-    rw (f.bearer, shown_token f.shown, shown_server token f.shown server f.own, f.direct, f.ip) refl
 
 -- ---- the message
 
@@ -206,70 +152,6 @@ is_heartbeat r peer token server m fits h =
     let message = held_heartbeat r m fits h.message in
     rw (place.0, place.1, sender, message.0, message.1) refl
 
--- what is refused so has the reply 404
-record IsPlain {A : Type 0} (x : Result A HttpError) : Type 0 where
-  pub not_found : (e : HttpError) → x ≡ Err e → reply_of e ≡ NotFound
-
-plain_ok : {A : Type 0} (x : A) → IsPlain (ok x)
-plain_ok x = record { not_found = λ e h. absurd cc }
-
-plain_err : {A : Type 0} (d : HttpError) → reply_of d ≡ NotFound → IsPlain {A = A} (Err d)
-plain_err d is = record { not_found = λ e h. let same : d ≡ e = cc in subst (λ (c : HttpError). reply_of c ≡ NotFound) same is }
-
-plain_step : {A B : Type 0} (x : Result A HttpError) (f : A → Result B HttpError) → IsPlain x → ((a : A) → IsPlain (f a)) → IsPlain (x >>= f)
-plain_step (Ok a) f p q = q a
-plain_step (Err d) f p q = plain_err d (p.not_found d refl)
-
-plain_none : {A : Type 0} (d : HttpError) (o : Option A) → reply_of d ≡ NotFound → IsPlain (unless_none d o)
-plain_none d (Some x) is = plain_ok x
-plain_none d None is = plain_err d is
-
-plain_false : {A : Type 0} (d : HttpError) (b : Bool) (x : A) → reply_of d ≡ NotFound → IsPlain (unless_false d b x)
-plain_false d true x is = plain_ok x
-plain_false d false x is = plain_err d is
-
-plain_true : {A : Type 0} (d : HttpError) (b : Bool) (x : A) → reply_of d ≡ NotFound → IsPlain (unless_true d b x)
-plain_true d true x is = plain_err d is
-plain_true d false x is = plain_ok x
-
-server_plain : (r : Request) (peer : Addr) (token : List ℕ) → IsPlain (server_of r peer token)
-unfolding server_of
-server_plain r peer token =
-    plain_step (unless_none (Unauthorised NoBearerAuth) (token_in (header (codes "authorization") r.headers))) (λ shown. unless_none (Unauthorised InvalidBearerToken) (server_in token shown) >>= λ s. unless_true BadRealIp (is_some (header (codes "x-real-ip") r.headers)) s >>= λ d. unless_false (Unauthorised MismatchedAddress) (same_ip peer d) d)
-    (plain_none (Unauthorised NoBearerAuth) (token_in (header (codes "authorization") r.headers)) refl)
-    (λ shown. plain_step (unless_none (Unauthorised InvalidBearerToken) (server_in token shown)) (λ s. unless_true BadRealIp (is_some (header (codes "x-real-ip") r.headers)) s >>= λ d. unless_false (Unauthorised MismatchedAddress) (same_ip peer d) d)
-    (plain_none (Unauthorised InvalidBearerToken) (server_in token shown) refl)
-    (λ s. plain_step (unless_true BadRealIp (is_some (header (codes "x-real-ip") r.headers)) s) (λ d. unless_false (Unauthorised MismatchedAddress) (same_ip peer d) d)
-    (plain_true BadRealIp (is_some (header (codes "x-real-ip") r.headers)) s refl)
-    (λ d. plain_false (Unauthorised MismatchedAddress) (same_ip peer d) d refl)))
-
-heartbeat_plain : (r : Request) → IsPlain (heartbeat_of r)
-unfolding heartbeat_of
-heartbeat_plain r = by_test (is_binary (header (codes "content-type") r.headers))
-  where
-    by_test : (b : Bool) → IsPlain (cond b (unless_none ParseError (heartbeat_in r.body)) (Err WrongContentType))
-    by_test true = plain_none ParseError (heartbeat_in r.body) refl
-    by_test false = plain_err WrongContentType refl
-
-beat_plain : (r : Request) (peer : Addr) (token : List ℕ) → IsPlain (beat_of r peer token)
-unfolding beat_of
-beat_plain r peer token =
-    plain_step (server_of r peer token) (λ s. heartbeat_of r >>= λ m. unless_false NoRoute (has_cpus m.num_cpus) (Beat s m))
-    (server_plain r peer token)
-    (λ s. plain_step (heartbeat_of r) (λ m. unless_false NoRoute (has_cpus m.num_cpus) (Beat s m)) (heartbeat_plain r)
-    (λ m. plain_false NoRoute (has_cpus m.num_cpus) (Beat s m) refl))
-
-asked_plain : (r : Request) (peer : Addr) (token : List ℕ) → IsPlain (asked_of r peer token)
-unfolding asked_of
-asked_plain r peer token =
-    by_tests (wants_json r) (is_at (codes "POST") (codes "/api/v1/scheduler/heartbeat_server") r) (is_at (codes "GET") (codes "/api/v1/scheduler/status") r)
-  where
-    by_tests : (json post get : Bool) → IsPlain (cond json (Err NoRoute) (cond post (beat_of r peer token) (cond get (Ok Status) (Err NoRoute))))
-    by_tests true post get = plain_err NoRoute refl
-    by_tests false true get = beat_plain r peer token
-    by_tests false false true = plain_ok Status
-    by_tests false false false = plain_err NoRoute refl
-
 -- a heartbeat that the row of heartbeats answers is one
 beat_only : (r : Request) (peer : Addr) (token : List ℕ) (x : SchedRouted) → beat_of r peer token ≡ Ok x → (s : Addr) × (m : HeartbeatServerHttpRequest) × (x ≡ Beat s m)
 unfolding beat_of
@@ -320,13 +202,6 @@ asked_no_done r peer token reply e =
     no_done (wants_json r) (is_at (codes "POST") (codes "/api/v1/scheduler/heartbeat_server") r) (is_at (codes "GET") (codes "/api/v1/scheduler/status") r) (beat_of r peer token) reply
     (λ h. let b = beat_only r peer token (Done reply) h in let two = b.2 in absurd cc) e
 
-done_is : (r : Request) (peer : Addr) (token : List ℕ) (reply : Response) → answered (asked_of r peer token) ≡ Done reply → reply ≡ NotFound
-done_is r peer token reply e = by_result (asked_of r peer token) refl e
-  where
-    by_result : (x : Result SchedRouted HttpError) → asked_of r peer token ≡ x → answered x ≡ Done reply → reply ≡ NotFound
-    by_result (Ok y) is h = absurd (asked_no_done r peer token reply (is ∙ ap Ok h))
-    by_result (Err d) is h = let plain = (asked_plain r peer token).not_found d is in cc
-
 -- ---- the bytes
 
 body_fits : (bytes : List ℕ) (r : Request) → IsBytes bytes → IsRequest bytes r → IsBytes r.body
@@ -356,6 +231,13 @@ statuses_asked bytes peer token = (to, from)
     from (r, x, h) = inl (r, x, sym (is_status r peer token h))
 
 pub replies_at_once : (bytes : List ℕ) (peer : Addr) (token : List ℕ) (reply : Response) → IsAsked bytes peer token (Done reply)
-    → (((r : Request) × IsRequest bytes r) × (reply ≡ NotFound)) ⊎ (IsNoRequest bytes × (reply ≡ reply_of BadHead))
-replies_at_once bytes peer token reply (inl (r, x, e)) = inl ((r, x), done_is r peer token reply (sym e))
-replies_at_once bytes peer token reply (inr (none, e)) = inr (none, cc)
+    → (refusal : HttpError) × (reply ≡ reply_of refusal)
+    × (((r : Request) × IsRequest bytes r × (asked_of r peer token ≡ Err refusal)) ⊎ (IsNoRequest bytes × (refusal ≡ BadHead)))
+replies_at_once bytes peer token reply (inl (r, x, e)) = by_result (asked_of r peer token) refl e
+  where
+    by_result : (y : Result SchedRouted HttpError) → asked_of r peer token ≡ y → Done reply ≡ answered y
+        → (refusal : HttpError) × (reply ≡ reply_of refusal)
+        × (((q : Request) × IsRequest bytes q × (asked_of q peer token ≡ Err refusal)) ⊎ (IsNoRequest bytes × (refusal ≡ BadHead)))
+    by_result (Ok y) is h = absurd (asked_no_done r peer token reply (is ∙ ap Ok (sym h)))
+    by_result (Err d) is h = (d, cc, inl (r, x, is))
+replies_at_once bytes peer token reply (inr (none, e)) = (BadHead, cc, inr (none, refl))

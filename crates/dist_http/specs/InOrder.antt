@@ -1,26 +1,17 @@
 -- The requests that ask something of the scheduler, in the words of their parts.
-use Rattle.std.specs.Prelude.{◌≡◌, ◌≢◌, ℕ, ◌<◌, ◌≤◌, true, List, ◌++◌, Some, None, codes}
+use Rattle.std.specs.Prelude.{◌≡◌, ◌≢◌, ℕ, ◌<◌, ◌≤◌, List, ◌++◌, Some, codes}
 use Rattle.dist_types.specs.declared.addr.Addr.{Addr}
 use Rattle.dist_http.specs.declared.message.HeartbeatServerHttpRequest.{HeartbeatServerHttpRequest}
 use Rattle.dist_http.specs.declared.request.Request.{Request}
-use Rattle.dist_http.specs.Bearer.{IsServerToken}
 use Rattle.dist_http.specs.Fields.{header, path_of}
 use Rattle.dist_http.specs.Message.{BeginsWith}
-use Rattle.dist_http.specs.Route.{same_ip}
+use Rattle.dist_http.specs.Sender.{IsFrom}
 
 -- the request has that method and that path, and asks for no reply in JSON
 pub record IsAt (r : Request) (method path : List ℕ) : Type 0 where
   pub sent_by : r.method ≡ method
   pub sent_to : path_of r.target ≡ path
   pub binary : header (codes "accept") r.headers ≢ Some (codes "application/json")
-
--- the request shows the server's token, from the server's IP and with no X-Real-IP
-pub record IsFrom (r : Request) (peer : Addr) (token : List ℕ) (server : Addr) : Type 0 where
-  pub shown : List ℕ
-  pub bearer : header (codes "authorization") r.headers ≡ Some (codes "Bearer " ++ shown)
-  pub own : IsServerToken shown server token
-  pub direct : header (codes "x-real-ip") r.headers ≡ None
-  pub ip : same_ip peer server ≡ true
 
 -- the body is binary and begins with that heartbeat, which tells 1 to 4294967295 processors
 pub record HasHeartbeat (r : Request) (beat : HeartbeatServerHttpRequest) : Type 0 where

@@ -1,9 +1,14 @@
+pub mod ErrJson
 pub mod Fields
 pub mod Head
 pub mod Reply
 pub mod ReadBack
 pub mod Message
 pub mod Bearer
+pub mod Steps
+pub mod Sender
+pub mod Fault
+pub mod Written
 pub mod Route
 pub mod Asked
 pub mod InOrder

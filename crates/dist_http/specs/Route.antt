@@ -1,42 +1,21 @@
 -- What a request asks of the scheduler, with the refusals in order.
-use Rattle.std.specs.Prelude.{ℕ, ◌<◌, ◌≤◌, Bool, false, ◌&&◌, List, nat_lt, nat_le, nat_eq, if◌then◌else◌, Option, Some, None, is_some, Result, Ok, Err, codes, bytes_eq}
+use Rattle.std.specs.Prelude.{ℕ, ◌<◌, ◌≤◌, Bool, false, ◌&&◌, List, nat_lt, nat_le, nat_eq, if◌then◌else◌, Option, Some, None, Result, Ok, Err, codes, bytes_eq}
 use Rattle.std.specs.List.{starts_with}
 use Rattle.dist_types.specs.declared.addr.Addr.{Addr}
-use Rattle.dist_types.specs.declared.addr.Addr.TheVariants.{V4, V6}
 use Rattle.dist_http.specs.declared.error.HttpError.{HttpError}
-use Rattle.dist_http.specs.declared.error.HttpError.TheVariants.{BadHead, WrongContentType, ParseError, BadRealIp, NoRoute, Unauthorised}
+use Rattle.dist_http.specs.declared.error.HttpError.TheVariants.{WrongContentType, ParseError, NoRoute}
 use Rattle.dist_http.specs.declared.message.HeartbeatPart.{HeartbeatPart}
 use Rattle.dist_http.specs.declared.message.HeartbeatServerHttpRequest.{HeartbeatServerHttpRequest}
-use Rattle.dist_http.specs.declared.reply.Response.{Response}
-use Rattle.dist_http.specs.declared.reply.Response.TheVariants.{BadRequest, NotFound}
-use Rattle.dist_http.specs.declared.reply.Word.TheVariants.{NoBearerAuth, InvalidBearerToken, MismatchedAddress}
 use Rattle.dist_http.specs.declared.request.Request.{Request}
 use Rattle.dist_http.specs.declared.route.Question.{Question}
 use Rattle.dist_http.specs.declared.route.Question.TheVariants as question
 use Rattle.dist_http.specs.declared.route.SchedRouted.{SchedRouted}
 use Rattle.dist_http.specs.declared.route.SchedRouted.TheVariants.{Beat, Status, Done}
-use Rattle.dist_http.specs.Bearer.{token_in, server_in}
+use Rattle.dist_http.specs.Fault.{reply_of}
 use Rattle.dist_http.specs.Fields.{header, path_of}
 use Rattle.dist_http.specs.Message.{heartbeat_in, beat_view}
-
--- the next step, unless this one refused
-infixl 10 ◌>>=◌
-abbrev pub ◌>>=◌ : {A B : Type 0} → Result A HttpError → (A → Result B HttpError) → Result B HttpError
-(Ok x) >>= f = f x
-(Err e) >>= f = Err e
-
--- the value, or the refusal where there is none
-abbrev pub unless_none : {A : Type 0} → HttpError → Option A → Result A HttpError
-unless_none e (Some x) = Ok x
-unless_none e None = Err e
-
--- the value, or the refusal where the test fails
-abbrev pub unless_false : {A : Type 0} → HttpError → Bool → A → Result A HttpError
-unless_false e test x = if test then Ok x else Err e
-
--- the value, or the refusal where the test holds
-abbrev pub unless_true : {A : Type 0} → HttpError → Bool → A → Result A HttpError
-unless_true e test x = if test then Err e else Ok x
+use Rattle.dist_http.specs.Sender.{server_of}
+use Rattle.dist_http.specs.Steps.{◌>>=◌, unless_none, unless_false}
 
 -- whether the request has that method and that path
 unfoldable pub is_at : List ℕ → List ℕ → Request → Bool
@@ -50,21 +29,6 @@ is_text text (Some given) = bytes_eq given text
 -- whether the request asks for a reply in JSON
 unfoldable pub wants_json : Request → Bool
 wants_json r = is_text (codes "application/json") (header (codes "accept") r.headers)
-
--- whether two addresses have one IP
-abbrev pub same_ip : Addr → Addr → Bool
-same_ip (V4 a p) (V4 b q) = bytes_eq a b
-same_ip (V6 a p) (V6 b q) = bytes_eq a b
-same_ip (V4 a p) (V6 b q) = false
-same_ip (V6 a p) (V4 b q) = false
-
--- the server that sent the request: it shows its token from its own IP
-unfoldable pub server_of : Request → Addr → List ℕ → Result Addr HttpError
-server_of r peer expected = do
-  token ← unless_none (Unauthorised NoBearerAuth) (token_in (header (codes "authorization") r.headers))
-  server ← unless_none (Unauthorised InvalidBearerToken) (server_in expected token)
-  direct ← unless_true BadRealIp (is_some (header (codes "x-real-ip") r.headers)) server
-  unless_false (Unauthorised MismatchedAddress) (same_ip peer direct) direct
 
 -- whether a header says that the body is binary
 abbrev pub is_binary : Option (List ℕ) → Bool
@@ -95,11 +59,6 @@ asked_of r peer expected =
     else if is_at (codes "POST") (codes "/api/v1/scheduler/heartbeat_server") r then beat_of r peer expected
     else if is_at (codes "GET") (codes "/api/v1/scheduler/status") r then Ok Status
     else Err NoRoute
-
--- the reply to a refusal; each but a bad head has this one until the replies of the others are built
-abbrev pub reply_of : HttpError → Response
-reply_of BadHead = BadRequest (codes "{\"cause\":null,\"description\":\"bad request head\"}")
-reply_of other = NotFound
 
 -- what is asked, or the reply to the refusal
 abbrev pub answered : Result SchedRouted HttpError → SchedRouted

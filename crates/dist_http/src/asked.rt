@@ -5,7 +5,8 @@ ghost use Rattle.dist_http.specs.Route.{HasProcessors};
 
 use crate::error::HttpError;
 use crate::head::read_head;
-use crate::route::{SchedRouted, reply_of, scheduler_route};
+use crate::refusal::reply_of;
+use crate::route::{SchedRouted, scheduler_route};
 use dist_types::addr::Addr;
 use std::alloc::Global;
 

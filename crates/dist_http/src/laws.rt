@@ -1,5 +1,5 @@
 //! Laws over all bytes: each is a function with no body, whose contract is the law.
-ghost use Rattle.std.specs.Prelude.{◌≡◌, ◌↔◌, ◌⊎◌, ◌≤◌, ℕ, List, length, Some};
+ghost use Rattle.std.specs.Prelude.{◌≡◌, ◌↔◌, ◌⊎◌, ◌≤◌, ℕ, List, length, Some, Err};
 ghost use Rattle.dist_types.specs.declared.addr.Addr.{Addr};
 ghost use Rattle.dist_http.specs.declared.message.HeartbeatServerHttpRequest.{HeartbeatServerHttpRequest};
 ghost use Rattle.dist_http.specs.declared.reply.Response.{Response};
@@ -8,14 +8,15 @@ ghost use Rattle.dist_http.specs.declared.request.Request.{Request};
 ghost use Rattle.dist_http.specs.declared.route.SchedRouted.{SchedRouted};
 ghost use Rattle.dist_http.specs.Asked.{IsAsked};
 ghost use Rattle.dist_http.specs.declared.error.HttpError.TheVariants.{BadHead};
-ghost use Rattle.dist_http.specs.declared.reply.Response.TheVariants.{NotFound};
 ghost use Rattle.dist_http.specs.declared.route.SchedRouted.TheVariants.{Beat, Status, Done};
 ghost use Rattle.dist_http.specs.Head.{IsRequest, IsNoRequest, IsReply};
 ghost use Rattle.dist_http.specs.InOrder.{IsHeartbeat, IsStatus};
 ghost use Rattle.dist_http.specs.Message.{IsBytes, BeginsWith, heartbeat_in};
 ghost use Rattle.dist_http.specs.ReadBack.{seen};
 ghost use Rattle.dist_http.specs.Reply.{body_of, reply_text};
-ghost use Rattle.dist_http.specs.Route.{reply_of};
+ghost use Rattle.dist_http.specs.Fault.{reply_of};
+ghost use Rattle.dist_http.specs.Route.{asked_of};
+ghost use Rattle.dist_http.specs.declared.error.HttpError.{HttpError};
 
 /// Bytes are one request at most.
 pub fn one_request()
@@ -57,9 +58,10 @@ pub fn statuses_asked()
         → IsAsked bytes peer token Status ↔ ((r : Request) × IsRequest bytes r × IsStatus r) }
 {}
 
-/// A reply is known at once only to a bad head, which gets the reply 400, and to another request,
-/// which gets the reply 404.
+/// A reply is known at once only where the tests of a request refuse it, or the bytes are no request; it is
+/// then the reply to that refusal.
 pub fn replies_at_once()
     ensures { (bytes : List ℕ) (peer : Addr) (token : List ℕ) (reply : Response) → IsAsked bytes peer token (Done reply)
-        → (((r : Request) × IsRequest bytes r) × (reply ≡ NotFound)) ⊎ (IsNoRequest bytes × (reply ≡ reply_of BadHead)) }
+        → (refusal : HttpError) × (reply ≡ reply_of refusal)
+        × (((r : Request) × IsRequest bytes r × (asked_of r peer token ≡ Err refusal)) ⊎ (IsNoRequest bytes × (refusal ≡ BadHead))) }
 {}

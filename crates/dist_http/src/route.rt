@@ -4,16 +4,16 @@
 //! JSON and a heartbeat with a number of processors that is not allowed. A heartbeat has no header
 //! X-Real-IP for now.
 ghost use Rattle.std.specs.Prelude.{◌≡◌, IfOk, IfErr, IsTrue, option_copied};
-ghost use Rattle.dist_http.specs.Route.{is_at, same_ip, server_of, is_binary, heartbeat_of, wants_json, has_cpus, part_view, beat_of, asked_of, answered, beat_seen, asked_by, question_seen, reply_of, HasProcessors};
+ghost use Rattle.dist_http.specs.Route.{is_at, is_binary, heartbeat_of, wants_json, has_cpus, part_view, beat_of, asked_of, answered, beat_seen, asked_by, question_seen, HasProcessors};
 
-use crate::bearer::{server_in, token_in};
 use crate::error::HttpError;
 use crate::message::{HeartbeatPart, HeartbeatServerHttpRequest, heartbeat_in};
-use crate::reply::{Response, Word};
+use crate::refusal::reply_of;
+use crate::reply::Response;
 use crate::request::Request;
+use crate::sender::server_of;
 use dist_types::addr::Addr;
 use dist_types::ids::ServerId;
-use dist_types::text::Text;
 use std::alloc::Global;
 
 /// How many processors a heartbeat tells at most.
@@ -54,38 +54,6 @@ fn wants_json(request: &Request) -> bool
     match request.header("accept") {
         Some(text) => text == "application/json",
         None => false,
-    }
-}
-
-fn is_same_ip(a: Addr, b: Addr) -> bool
-    ensures { result ≡ same_ip a b }
-{
-    match (a, b) {
-        (Addr::V4(x, _), Addr::V4(y, _)) => x == y,
-        (Addr::V6(x, _), Addr::V6(y, _)) => x == y,
-        (Addr::V4(_, _), Addr::V6(_, _)) => false,
-        (Addr::V6(_, _), Addr::V4(_, _)) => false,
-    }
-}
-
-/// The server that sent the request.
-#[tactic(auto, unfolding(crate::specs::Route::server_of))]
-fn server_of(request: &Request, peer: Addr, expected: &str) -> Result<Addr, HttpError>
-    ensures { result ≡ server_of request.now peer expected.now }
-{
-    let Some(token) = token_in(request.header("authorization")) else {
-        return Err(HttpError::Unauthorised(Word::NoBearerAuth));
-    };
-    let Some(server) = server_in(expected, token) else {
-        return Err(HttpError::Unauthorised(Word::InvalidBearerToken));
-    };
-    if request.header("x-real-ip").is_some() {
-        return Err(HttpError::BadRealIp);
-    }
-    if is_same_ip(peer, server) {
-        Ok(server)
-    } else {
-        Err(HttpError::Unauthorised(Word::MismatchedAddress))
     }
 }
 
@@ -157,28 +125,6 @@ fn asked_of<'a>(request: &'a Request, peer: Addr, expected: &str) -> Result<Ques
         return Ok(Question::Status);
     }
     Err(HttpError::NoRoute)
-}
-
-/// The reply to a refusal. Refused for want of memory alone.
-pub(crate) fn reply_of(alloc: Global, refusal: HttpError) -> Result<Response, HttpError>
-    ensures ok { IfOk result (λ reply. reply ≡ reply_of refusal) }
-    ensures err { IfErr result (λ e. e ≡ HttpError.Memory) }
-{
-    match refusal {
-        HttpError::BadHead => {
-            let text = Text::of(
-                alloc,
-                "{\"cause\":null,\"description\":\"bad request head\"}",
-            )?;
-            Ok(Response::BadRequest(text))
-        }
-        HttpError::WrongContentType => Ok(Response::NotFound),
-        HttpError::ParseError => Ok(Response::NotFound),
-        HttpError::BadRealIp => Ok(Response::NotFound),
-        HttpError::NoRoute => Ok(Response::NotFound),
-        HttpError::Unauthorised(_) => Ok(Response::NotFound),
-        HttpError::Memory => Err(HttpError::Memory),
-    }
 }
 
 /// What a request of that peer asks of the scheduler. A client token is asked for by requests for

@@ -305,7 +305,7 @@ const SENDERS: &[(&str, &[u8], bool)] = &[
     (
         "an X-Real-IP",
         b"Authorization: Bearer 127.0.0.1:10501 s1\r\nContent-Type: application/octet-stream\r\nX-Real-IP: 127.0.0.1\r\n",
-        false,
+        true,
     ),
     (
         "an X-Real-IP that is not UTF-8",
@@ -417,8 +417,7 @@ fn check_beat(
             assert_eq!(rt; server.addr(), Addr::V4([127, 0, 0, 1], 10501), "{name}");
             assert_eq!(rt; beat.server_nonce.get(), 7, "{name}");
         }
-        SchedRouted::Done(Response::NotFound) => assert!(rt; !good, "{name}"),
-        SchedRouted::Done(_) => panic!(rt; "{name}"),
+        SchedRouted::Done(_) => assert!(rt; !good, "{name}"),
         SchedRouted::Status => panic!(rt; "{name}"),
     }
     Ok(())
