@@ -3,9 +3,9 @@ pub mod Fields
 pub mod Head
 pub mod Reply
 pub mod ReadBack
+pub mod Steps
 pub mod Message
 pub mod Bearer
-pub mod Steps
 pub mod Sender
 pub mod Fault
 pub mod Written

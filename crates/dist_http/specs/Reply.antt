@@ -1,9 +1,6 @@
 -- The text of a reply.
 use Rattle.std.specs.Prelude.{ℕ, List, [], ◌++◌, length, codes}
 use Rattle.std.specs.Fmt.{decimal}
-use Rattle.dist_types.specs.declared.results.HeartbeatServerResult.{HeartbeatServerResult}
-use Rattle.dist_types.specs.declared.results.SchedulerStatusResult.{SchedulerStatusResult}
-use Rattle.dist_http.specs.Message.{heartbeat_answer_text, status_text}
 use Rattle.dist_http.specs.declared.reply.Word.{Word}
 use Rattle.dist_http.specs.declared.reply.Word.TheVariants.{NoBearerAuth, BearerAuthFailed, InvalidBearerToken, MismatchedAddress, InvalidJwt, LinkFailed}
 use Rattle.dist_http.specs.declared.reply.Response.{Response}
@@ -51,11 +48,3 @@ head_text r = opening_text r ⧺ codes "Content-Length: " ⧺ decimal (length (b
 -- the bytes of the reply
 unfoldable pub reply_text : Response → List ℕ
 reply_text r = head_text r ++ body_of r
-
--- the reply to a heartbeat
-abbrev pub heartbeat_response : HeartbeatServerResult → Response
-heartbeat_response answer = Binary (heartbeat_answer_text answer)
-
--- the reply to a status request
-abbrev pub status_response : SchedulerStatusResult → Response
-status_response status = Binary (status_text status)

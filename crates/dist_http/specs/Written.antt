@@ -4,7 +4,7 @@ use Rattle.std.specs.Fmt.{decimal}
 use Rattle.dist_types.specs.Addr.{addr_text}
 use Rattle.dist_types.specs.declared.addr.Addr.{Addr}
 use Rattle.dist_types.specs.declared.ids.JobId.{JobId}
-use Rattle.dist_http.specs.Message.{bytes_text}
+use Rattle.dist_wire.specs.Written.{bytes_text}
 use Rattle.dist_http.specs.Reply.{◌⧺◌}
 
 -- the head of a request that asks a server to take a job, with a body of so many bytes

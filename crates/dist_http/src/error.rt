@@ -1,5 +1,6 @@
 //! Why a call or a route refuses.
 use crate::reply::Word;
+use dist_wire::error::WireError;
 use std::alloc::{AllocError, AllocFailed};
 use thiserror::Error;
 
@@ -48,5 +49,19 @@ impl<T: Drop> From<AllocFailed<T>> for HttpError {
 
     fn from(_: AllocFailed<T>) -> Self {
         HttpError::Memory
+    }
+}
+
+impl From<WireError> for HttpError {
+    ghost use Rattle.std.specs.Prelude.{◌≡◌};
+    ghost use Rattle.dist_http.specs.Steps.{of_wire};
+
+    ghost from_gives = { λ w e. e ≡ of_wire w };
+
+    fn from(e: WireError) -> Self {
+        match e {
+            WireError::ParseError => HttpError::ParseError,
+            WireError::Memory => HttpError::Memory,
+        }
     }
 }

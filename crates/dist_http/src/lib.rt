@@ -18,7 +18,7 @@ pub mod fault;
 mod fields;
 pub mod head;
 pub mod laws;
-pub mod message;
+mod message;
 pub mod refusal;
 pub mod reply;
 pub mod request;

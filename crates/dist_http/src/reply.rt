@@ -1,10 +1,8 @@
 //! Replies: the kinds that are written, with their bytes, and a reply as its reader sees it.
 ghost use Rattle.std.specs.Prelude.{◌≡◌, IfOk, IfErr};
-ghost use Rattle.dist_http.specs.Reply.{body_of, reply_text, heartbeat_response, status_response};
+ghost use Rattle.dist_http.specs.Reply.{body_of, reply_text};
 
 use crate::error::HttpError;
-use crate::message::{heartbeat_answer_bytes, status_bytes};
-use dist_types::results::{HeartbeatServerResult, SchedulerStatusResult};
 use dist_types::text::{Bytes, Items, Text};
 use std::alloc::Global;
 use std::fmt;
@@ -147,25 +145,4 @@ impl Response {
         bytes.extend_from_slice(body)?;
         Ok(bytes)
     }
-}
-
-/// The reply to a heartbeat, in binary. Refused for want of memory alone.
-pub fn heartbeat_response(
-    alloc: Global,
-    answer: &HeartbeatServerResult,
-) -> Result<Response, HttpError>
-    ensures ok { IfOk result (λ response. response ≡ heartbeat_response answer.now) }
-    ensures err { IfErr result (λ e. e ≡ HttpError.Memory) }
-{
-    let bytes = heartbeat_answer_bytes(alloc, answer)?;
-    Ok(Response::Binary(bytes))
-}
-
-/// The reply to a status request, in binary. Refused for want of memory alone.
-pub fn status_response(alloc: Global, status: &SchedulerStatusResult) -> Result<Response, HttpError>
-    ensures ok { IfOk result (λ response. response ≡ status_response status.now) }
-    ensures err { IfErr result (λ e. e ≡ HttpError.Memory) }
-{
-    let bytes = status_bytes(alloc, status)?;
-    Ok(Response::Binary(bytes))
 }

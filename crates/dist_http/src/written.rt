@@ -1,27 +1,14 @@
 //! The requests that are written.
 ghost use Rattle.std.specs.Prelude.{◌≡◌, ◌≤◌, IfOk, IfErr};
-ghost use Rattle.dist_http.specs.Message.{bytes_text};
 ghost use Rattle.dist_http.specs.Written.{assign_with, assign_request_text};
 
 use crate::error::HttpError;
 use dist_types::ids::{JobId, ServerId};
 use dist_types::text::Bytes;
 use dist_types::toolchain::Toolchain;
+use dist_wire::message::Message;
 use std::alloc::Global;
 use std::fmt;
-
-/// A toolchain as it is spelled.
-#[tactic(auto, unfolding(crate::specs::Message::number_text))]
-fn toolchain_bytes(alloc: Global, tc: &Toolchain) -> Result<Vec<u8>, HttpError>
-    ensures ok { IfOk result (λ bytes. bytes.items ≡ bytes_text tc.now) }
-    ensures err { IfErr result (λ e. e ≡ HttpError.Memory) }
-{
-    let id = tc.archive_id();
-    let mut bytes = Vec::with_capacity(alloc, 72)?;
-    bytes.extend_from_slice(&(id.len() as u64).to_le_bytes())?;
-    bytes.extend_from_slice(id.as_bytes())?;
-    Ok(bytes)
-}
 
 /// The head of a request that asks a server to take a job, with a body of so many bytes.
 #[derive(Drop)]
@@ -88,6 +75,6 @@ pub fn assign_request(
     ensures ok { IfOk result (λ bytes. bytes ≡ assign_request_text server job token.now tc.now) }
     ensures err { IfErr result (λ e. e ≡ HttpError.Memory) }
 {
-    let body = toolchain_bytes(alloc, tc)?;
+    let body = tc.write(alloc)?;
     assign_with(alloc, server, job, token, &body)
 }
