@@ -13,7 +13,6 @@ use Rattle.dist_http.proofs.BearerLemmas.{begins}
 use Rattle.dist_http.proofs.StepLemmas.{from_none}
 
 module _ {M : Type 0} (Spells : M → List ℕ → Type 0) (at : List ℕ → Option (M × List ℕ)) (codec : IsCodec Spells at) where
-
   pub read_begins : (bytes : List ℕ) (m : M) → IsBytes bytes → begins_in at bytes ≡ Some m → BeginsWith Spells bytes m
   read_begins bytes m fits e = by_parts (at bytes) refl e
     where

@@ -85,6 +85,13 @@ said_job text job s =
     less : (a b : ℕ) → a < b → nat_lt a b ≡ true
     less a b h = grind (arith, nat_tests)
 
+pub no_job : (text : List ℕ) → ((n : ℕ) → ¬ (SaysJob text n)) → job_in text ≡ None
+no_job text none = by_option (job_in text) refl
+  where
+    by_option : (o : Option JobId) → job_in text ≡ o → o ≡ None
+    by_option None e = refl
+    by_option (Some job) e = absurd (none job.0 (job_said text job e))
+
 -- what `strip_prefix` gives
 pub strips : (front text : List ℕ) (o : Option (Bor (List ℕ)))
     → MatchOption o (FindsTextPrefix front text None) (λ x. StripsPrefix (FindsTextPrefix front) text x.now)
@@ -96,7 +103,7 @@ strips front text None lacks = by_test (starts_with nat_eq text front) refl
     by_test true e = absurd (lacks (drop (length front) text) (begins text front e))
 strips front text (Some x) (n, finds, is, len) =
     let stands : starts_with nat_eq text front ≡ true =
-        subst (λ (t : List ℕ). starts_with nat_eq t front ≡ true) (sym finds.1) (subst (λ (t : List ℕ). bytes_eq front t ≡ true) (sym (take-append_seam front (drop n text))) (same_text front)) in
+    subst (λ (t : List ℕ). starts_with nat_eq t front ≡ true) (sym finds.1) (subst (λ (t : List ℕ). bytes_eq front t ≡ true) (sym (take-append_seam front (drop n text))) (same_text front)) in
     rw (stands, is, finds.0) refl
 
 behind_front : (front text rest : List ℕ) → stripped front text ≡ Some rest → text ≡ front ++ rest

@@ -3,6 +3,7 @@ use Rattle.std.specs.Prelude.{ℕ, List, [], ◌∷◌, ◌++◌, codes}
 use Rattle.std.specs.Fmt.{decimal}
 use Rattle.dist_types.specs.Addr.{addr_text}
 use Rattle.dist_types.specs.Ids.{state_text}
+use Rattle.dist_types.specs.declared.ids.JobId.{JobId}
 use Rattle.dist_types.specs.declared.outgoing.CallFault.{CallFault}
 use Rattle.dist_types.specs.declared.outgoing.CallFault.TheVariants.{Lost, Status, Unreadable, BadState, Memory as OutOfMemory}
 use Rattle.dist_http.specs.declared.error.HttpError.{HttpError}
@@ -61,3 +62,11 @@ reply_of ParseError = reply.BadRequest (err_text (input_text input.ParseError �
 reply_of BadRealIp = reply.BadRealIp
 reply_of (Unauthorised word) = reply.Unauthorised word (word_body word)
 reply_of other = reply.NotFound
+
+-- no server has room, of so many that stand
+abbrev pub no_room_text : ℕ → List ℕ
+no_room_text standing = codes "Insufficient capacity across " ⧺ decimal standing ⧺ codes " available servers"
+
+-- the job's reservation ended before its server answered
+abbrev pub dropped_text : JobId → List ℕ
+dropped_text job = codes "Job " ⧺ decimal job.0 ⧺ codes " assignment was cleaned up before allocation completed"

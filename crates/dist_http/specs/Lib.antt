@@ -9,6 +9,7 @@ pub mod Bearer
 pub mod Sender
 pub mod Fault
 pub mod Written
+pub mod Calls
 pub mod Route
 pub mod Asked
 pub mod InOrder

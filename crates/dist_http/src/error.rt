@@ -1,5 +1,6 @@
 //! Why a call or a route refuses.
 use crate::reply::Word;
+use dist_types::text::Bytes;
 use dist_wire::error::WireError;
 use std::alloc::{AllocError, AllocFailed};
 use thiserror::Error;
@@ -25,6 +26,9 @@ pub enum HttpError {
     /// The request does not show who sent it.
     #[error("unauthorised: {0}")]
     Unauthorised(Word),
+    /// A reply has this status, and not 200, and this body.
+    #[error("status {0}")]
+    Status(u16, Bytes),
     /// Memory ran out.
     #[error("out of memory")]
     Memory,

@@ -1,7 +1,7 @@
 //! The faults of a request whose route is known, and the replies that tell them.
 ghost use Rattle.std.specs.Prelude.{◌≡◌, IfOk, IfErr};
 ghost use Rattle.dist_http.specs.ErrJson.{texts_of};
-ghost use Rattle.dist_http.specs.Fault.{fault_texts, fault_response_of};
+ghost use Rattle.dist_http.specs.Fault.{fault_texts, fault_response_of, no_room_text, dropped_text};
 
 use crate::err_json::ErrJson;
 use crate::error::HttpError;
@@ -91,4 +91,24 @@ pub fn fault_response(alloc: Global, fault: &RouteFault) -> Result<Response, Htt
 {
     let json = fault_json(alloc, fault)?.into_data(alloc)?;
     Ok(Response::ServerError(Text::new(json)))
+}
+
+/// Why no job was allocated: no server has room, of so many that stand. Refused for want of memory alone.
+pub fn no_room_text(alloc: Global, standing: u64) -> Result<Text, HttpError>
+    ensures ok { IfOk result (λ text. text ≡ no_room_text standing) }
+    ensures err { IfErr result (λ e. e ≡ HttpError.Memory) }
+{
+    let text = format!(in alloc; "Insufficient capacity across {standing} available servers")?;
+    Ok(Text::new(text))
+}
+
+/// Why no job was allocated: its reservation ended before the server answered. Refused for want of memory alone.
+pub fn dropped_text(alloc: Global, job: JobId) -> Result<Text, HttpError>
+    ensures ok { IfOk result (λ text. text ≡ dropped_text job) }
+    ensures err { IfErr result (λ e. e ≡ HttpError.Memory) }
+{
+    let text = format!(in alloc;
+        "Job {job} assignment was cleaned up before allocation completed"
+    )?;
+    Ok(Text::new(text))
 }

@@ -1,7 +1,9 @@
 //! Laws over all bytes: each is a function with no body, whose contract is the law.
-ghost use Rattle.std.specs.Prelude.{◌≡◌, ◌↔◌, ◌⊎◌, ◌≤◌, ℕ, Bool, List, length, Err};
+ghost use Rattle.std.specs.Prelude.{◌≡◌, ◌↔◌, ◌⊎◌, ◌≤◌, ℕ, Bool, List, length, Result, Ok, Err};
 ghost use Rattle.dist_types.specs.declared.addr.Addr.{Addr};
 ghost use Rattle.dist_types.specs.declared.ids.JobId.{JobId};
+ghost use Rattle.dist_types.specs.declared.outgoing.CallFault.{CallFault};
+ghost use Rattle.dist_types.specs.declared.results.AssignJobResult.{AssignJobResult};
 ghost use Rattle.dist_types.specs.declared.results.JobState.{JobState};
 ghost use Rattle.dist_wire.specs.Codec.{IsBytes};
 ghost use Rattle.dist_wire.specs.declared.heartbeat.HeartbeatServerHttpRequest.{HeartbeatServerHttpRequest};
@@ -13,12 +15,16 @@ ghost use Rattle.dist_http.specs.declared.request.Request.{Request};
 ghost use Rattle.dist_http.specs.declared.route.Asked.{Asked};
 ghost use Rattle.dist_http.specs.declared.route.SchedRouted.TheVariants.{Alloc, Beat, Update, Status, Done};
 ghost use Rattle.dist_http.specs.Asked.{IsAsked};
+ghost use Rattle.dist_http.specs.Calls.{Tells, IsAssigned};
+ghost use Rattle.dist_http.specs.Message.{BeginsWith};
 ghost use Rattle.dist_http.specs.Fault.{reply_of};
 ghost use Rattle.dist_http.specs.Head.{IsRequest, IsNoRequest, IsReply};
 ghost use Rattle.dist_http.specs.InOrder.{InForm, IsAllocation, IsHeartbeat, IsUpdate, IsStatus};
 ghost use Rattle.dist_http.specs.ReadBack.{seen};
 ghost use Rattle.dist_http.specs.Reply.{body_of, reply_text};
 ghost use Rattle.dist_http.specs.Route.{asked_of};
+
+use dist_wire::message::Message;
 
 /// Bytes are one request at most.
 pub fn one_request()
@@ -78,4 +84,16 @@ pub fn replies_at_once()
         → IsAsked bytes peer client token (record { what = Done reply; json = json })
         → (refusal : HttpError) × (reply ≡ reply_of refusal)
         × (((r : Request) × IsRequest bytes r × (asked_of r peer client token ≡ Err refusal)) ⊎ (IsNoRequest bytes × (refusal ≡ BadHead))) }
+{}
+
+/// The bytes of a reply tell a message exactly where they are a reply with status 200 whose body the message
+/// begins.
+pub fn replies_told<M: Message>()
+    ensures { (bytes : List ℕ) (m : M) → IsBytes bytes
+        → Tells M.at bytes (Ok m) ↔ ((r : Reply) × IsReply bytes r × (r.code ≡ 200) × BeginsWith M.spells r.body m) }
+{}
+
+/// The bytes of a reply to an assignment say one thing at most.
+pub fn one_assignment()
+    ensures { (bytes : List ℕ) (a b : Result AssignJobResult CallFault) → IsAssigned bytes a → IsAssigned bytes b → a ≡ b }
 {}

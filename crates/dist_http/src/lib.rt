@@ -12,6 +12,7 @@
 
 pub mod asked;
 mod bearer;
+pub mod calls;
 pub mod err_json;
 pub mod error;
 pub mod fault;

@@ -127,6 +127,7 @@ pub(crate) fn reply_of(alloc: Global, refusal: HttpError) -> Result<Response, Ht
         HttpError::BadRealIp => Ok(Response::BadRealIp),
         HttpError::NoRoute => Ok(Response::NotFound),
         HttpError::Unauthorised(word) => unauthorised(alloc, word),
+        HttpError::Status(_, _) => Ok(Response::NotFound),
         HttpError::Memory => Err(HttpError::Memory),
     }
 }

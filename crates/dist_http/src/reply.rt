@@ -1,9 +1,14 @@
 //! Replies: the kinds that are written, with their bytes, and a reply as its reader sees it.
 ghost use Rattle.std.specs.Prelude.{◌≡◌, IfOk, IfErr};
-ghost use Rattle.dist_http.specs.Reply.{body_of, reply_text};
+ghost use Rattle.dist_http.specs.Reply.{body_of, reply_text, response_of};
+ghost use Rattle.dist_http.specs.Route.{wants_json};
+ghost use Rattle.dist_http.specs.declared.reply.Response.TheVariants.{Binary};
 
 use crate::error::HttpError;
+use crate::request::Request;
+use crate::route::wants_json;
 use dist_types::text::{Bytes, Items, Text};
+use dist_wire::message::Message;
 use std::alloc::Global;
 use std::fmt;
 
@@ -145,4 +150,37 @@ impl Response {
         bytes.extend_from_slice(body)?;
         Ok(bytes)
     }
+}
+
+/// The reply 200 with a message, in JSON or in binary. Refused for want of memory alone.
+pub fn respond<M: Message>(alloc: Global, json: bool, content: &M) -> Result<Response, HttpError>
+    ensures ok { IfOk result (λ response. response ≡ response_of M.text M.json json content.now) }
+    ensures err { IfErr result (λ e. e ≡ HttpError.Memory) }
+{
+    if json {
+        let text = content.to_json(alloc)?;
+        return Ok(Response::Json(Text::new(text)));
+    }
+    bincode_response(alloc, content)
+}
+
+/// The reply 200 with a message in binary. Refused for want of memory alone.
+pub fn bincode_response<M: Message>(alloc: Global, content: &M) -> Result<Response, HttpError>
+    ensures ok { IfOk result (λ response. response ≡ Binary (M.text content.now)) }
+    ensures err { IfErr result (λ e. e ≡ HttpError.Memory) }
+{
+    let bytes = content.write(alloc)?;
+    Ok(Response::Binary(Bytes::new(bytes)))
+}
+
+/// The reply 200 with a message, in the form that the request asks for. Refused for want of memory alone.
+pub fn prepare_response<M: Message>(
+    alloc: Global,
+    request: &Request,
+    content: &M,
+) -> Result<Response, HttpError>
+    ensures ok { IfOk result (λ response. response ≡ response_of M.text M.json (wants_json request.now) content.now) }
+    ensures err { IfErr result (λ e. e ≡ HttpError.Memory) }
+{
+    respond(alloc, wants_json(request), content)
 }

@@ -1,0 +1,79 @@
+-- What the reply to a call says, in the words of its parts.
+use Rattle.std.proofs.Common.{◌≡◌, ◌↔◌, ◌⊎◌, inl, inr, ◌==◌, ℕ, ◌+◌, ◌<◌, get_or, Bool, true, false, cond, List, length, Option, Some, None, Result, Ok, Err, refl, sym, ap, subst, ◌∙◌, arith}
+use Rattle.std.specs.Prelude.{MatchResult}
+use Rattle.std.proofs.lemmas.Bool.Decides.{nat_tests}
+use Rattle.std.proofs.lemmas.List.{get_or-append-add}
+use Rattle.httparse.specs.Grammar.{print_response}
+use Rattle.dist_types.specs.declared.outgoing.CallFault.{CallFault}
+use Rattle.dist_types.specs.declared.results.AssignJobResult.{AssignJobResult}
+use Rattle.dist_wire.specs.Codec.{IsBytes, IsCodec}
+use Rattle.dist_wire.specs.Reading.{assign_at}
+use Rattle.dist_http.specs.declared.error.HttpError.{HttpError}
+use Rattle.dist_http.specs.declared.error.HttpError.TheVariants.{BadHead, WrongContentType, ParseError, BadRealIp, NoRoute, Unauthorised, Status, Memory}
+use Rattle.dist_http.specs.declared.reply.Reply.{Reply}
+use Rattle.dist_http.specs.Calls.{told_by, Tells, Reads, assigned_by, IsAssigned}
+use Rattle.dist_http.specs.Head.{IsReply, IsNoReply, RefusesReply}
+use Rattle.dist_http.specs.Message.{BeginsWith, begins_in}
+use Rattle.dist_http.specs.Steps.{Gives, unless_none}
+use Rattle.dist_http.proofs.MessageLemmas.{read_begins, begins_read}
+use Rattle.dist_http.proofs.ReplyLemmas.{one_reply}
+use Rattle.dist_http.proofs.StepLemmas.{from_none}
+
+module _ {M : Type 0} (at : List ℕ → Option (M × List ℕ)) (bytes : List ℕ) where
+  -- a reply's message is what its bytes say
+  pub reads : (r : Reply) (answer : Result M HttpError) → IsReply bytes r → Gives (told_by at r) answer → Reads at bytes answer
+  reads r (Ok m) x told = inl (r, x, sym told)
+  reads r (Err e) x told = λ other. inl (r, x, sym (told other))
+
+  -- so is what refuses them
+  pub refuses : (e : HttpError) → RefusesReply bytes e → ¬ (e ≡ Memory) → Tells at bytes (Err e)
+  refuses ParseError none other = inr (none, refl)
+  refuses Memory some other = absurd (other refl)
+  refuses BadHead none other = absurd none
+  refuses WrongContentType none other = absurd none
+  refuses BadRealIp none other = absurd none
+  refuses NoRoute none other = absurd none
+  refuses (Unauthorised word) none other = absurd none
+  refuses (Status code body) none other = absurd none
+
+  -- the bytes say one thing
+  pub one_telling : (a b : Result M HttpError) → Tells at bytes a → Tells at bytes b → a ≡ b
+  one_telling a b (inl (r, x, e)) (inl (q, y, f)) = e ∙ (ap (told_by at) (one_reply bytes r q x y) ∙ sym f)
+  one_telling a b (inl (r, x, e)) (inr (none, f)) = absurd (none r x)
+  one_telling a b (inr (none, e)) (inl (q, y, f)) = absurd (none q y)
+  one_telling a b (inr (none, e)) (inr (nothing, f)) = e ∙ sym f
+
+pub one_assignment : (bytes : List ℕ) (a b : Result AssignJobResult CallFault) → IsAssigned bytes a → IsAssigned bytes b → a ≡ b
+one_assignment bytes a b (s, x, e) (t, y, f) = e ∙ (ap assigned_by (one_telling assign_at bytes s t x y) ∙ sym f)
+
+body_fits : (bytes : List ℕ) (r : Reply) → IsBytes bytes → IsReply bytes r → IsBytes r.body
+body_fits bytes r fits (h, x) i =
+    subst (λ n. n < 256) (ap (λ (t : List ℕ). get_or t (length (print_response h) + i) 0) x.reads.1 ∙ get_or-append-add (print_response h) r.body i 0) (fits (length (print_response h) + i))
+
+module _ {M : Type 0} (Spells : M → List ℕ → Type 0) (at : List ℕ → Option (M × List ℕ)) (codec : IsCodec Spells at) where
+  told : (r : Reply) (m : M) → IsBytes r.body → told_by at r ≡ Ok m → (r.code ≡ 200) × BeginsWith Spells r.body m
+  unfolding told_by
+  told r m fits e =
+      let t = by_test (r.code == 200) (unless_none ParseError (begins_in at r.body)) (Status r.code r.body) e in
+      (same r.code t.0, read_begins Spells at codec r.body m fits (from_none ParseError (begins_in at r.body) m t.1))
+    where
+      by_test : (b : Bool) (x : Result M HttpError) (d : HttpError) → cond b x (Err d) ≡ Ok m → (b ≡ true) × (x ≡ Ok m)
+      by_test true x d k = (refl, k)
+      by_test false x d k = absurd cc
+
+      same : (n : ℕ) → (n == 200) ≡ true → n ≡ 200
+      same n h = grind (arith, nat_tests)
+
+  tell : (r : Reply) (m : M) → r.code ≡ 200 → BeginsWith Spells r.body m → told_by at r ≡ Ok m
+  unfolding told_by
+  tell r m code b = let read = begins_read Spells at codec r.body m b in rw (code, read) refl
+
+  pub replies_told : (bytes : List ℕ) (m : M) → IsBytes bytes → Tells at bytes (Ok m) ↔ ((r : Reply) × IsReply bytes r × (r.code ≡ 200) × BeginsWith Spells r.body m)
+  replies_told bytes m fits = (to, from)
+    where
+      to : Tells at bytes (Ok m) → (r : Reply) × IsReply bytes r × (r.code ≡ 200) × BeginsWith Spells r.body m
+      to (inl (r, x, e)) = let t = told r m (body_fits bytes r fits x) (sym e) in (r, x, t.0, t.1)
+      to (inr (none, e)) = absurd cc
+
+      from : ((r : Reply) × IsReply bytes r × (r.code ≡ 200) × BeginsWith Spells r.body m) → Tells at bytes (Ok m)
+      from (r, x, code, b) = inl (r, x, sym (tell r m code b))
