@@ -1,6 +1,5 @@
 -- What the reply to a call says, in the words of its parts.
-use Rattle.std.proofs.Common.{◌≡◌, ◌↔◌, ◌⊎◌, inl, inr, ◌==◌, ℕ, ◌+◌, ◌<◌, get_or, Bool, true, false, cond, List, length, Option, Some, None, Result, Ok, Err, refl, sym, ap, subst, ◌∙◌, arith}
-use Rattle.std.specs.Prelude.{MatchResult}
+use Rattle.std.proofs.Common.{◌≡◌, ◌↔◌, inl, inr, ◌==◌, ℕ, ◌+◌, ◌<◌, get_or, Bool, true, false, cond, List, length, Option, Result, Ok, Err, refl, sym, ap, subst, ◌∙◌, arith}
 use Rattle.std.proofs.lemmas.Bool.Decides.{nat_tests}
 use Rattle.std.proofs.lemmas.List.{get_or-append-add}
 use Rattle.httparse.specs.Grammar.{print_response}
@@ -9,33 +8,17 @@ use Rattle.dist_types.specs.declared.results.AssignJobResult.{AssignJobResult}
 use Rattle.dist_wire.specs.Codec.{IsBytes, IsCodec}
 use Rattle.dist_wire.specs.Reading.{assign_at}
 use Rattle.dist_http.specs.declared.error.HttpError.{HttpError}
-use Rattle.dist_http.specs.declared.error.HttpError.TheVariants.{BadHead, WrongContentType, ParseError, BadRealIp, NoRoute, Unauthorised, Status, Memory}
+use Rattle.dist_http.specs.declared.error.HttpError.TheVariants.{ParseError, Status}
 use Rattle.dist_http.specs.declared.reply.Reply.{Reply}
-use Rattle.dist_http.specs.Calls.{told_by, Tells, Reads, assigned_by, IsAssigned}
-use Rattle.dist_http.specs.Head.{IsReply, IsNoReply, RefusesReply}
+use Rattle.dist_http.specs.Calls.{told_by, Tells, assigned_by, IsAssigned}
+use Rattle.dist_http.specs.Head.{IsReply}
 use Rattle.dist_http.specs.Message.{BeginsWith, begins_in}
-use Rattle.dist_http.specs.Steps.{Gives, unless_none}
+use Rattle.dist_http.specs.Steps.{unless_none}
 use Rattle.dist_http.proofs.MessageLemmas.{read_begins, begins_read}
 use Rattle.dist_http.proofs.ReplyLemmas.{one_reply}
 use Rattle.dist_http.proofs.StepLemmas.{from_none}
 
 module _ {M : Type 0} (at : List ℕ → Option (M × List ℕ)) (bytes : List ℕ) where
-  -- a reply's message is what its bytes say
-  pub reads : (r : Reply) (answer : Result M HttpError) → IsReply bytes r → Gives (told_by at r) answer → Reads at bytes answer
-  reads r (Ok m) x told = inl (r, x, sym told)
-  reads r (Err e) x told = λ other. inl (r, x, sym (told other))
-
-  -- so is what refuses them
-  pub refuses : (e : HttpError) → RefusesReply bytes e → ¬ (e ≡ Memory) → Tells at bytes (Err e)
-  refuses ParseError none other = inr (none, refl)
-  refuses Memory some other = absurd (other refl)
-  refuses BadHead none other = absurd none
-  refuses WrongContentType none other = absurd none
-  refuses BadRealIp none other = absurd none
-  refuses NoRoute none other = absurd none
-  refuses (Unauthorised word) none other = absurd none
-  refuses (Status code body) none other = absurd none
-
   -- the bytes say one thing
   pub one_telling : (a b : Result M HttpError) → Tells at bytes a → Tells at bytes b → a ≡ b
   one_telling a b (inl (r, x, e)) (inl (q, y, f)) = e ∙ (ap (told_by at) (one_reply bytes r q x y) ∙ sym f)

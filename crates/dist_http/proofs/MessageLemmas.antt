@@ -1,5 +1,5 @@
 -- A message is found in a body exactly where a spelling of it begins the body.
-use Rattle.std.proofs.Common.{◌≡◌, ℕ, Bool, true, false, cond, List, ◌++◌, length, drop, Option, Some, None, Result, Ok, Err, refl, sym, ap, subst, ◌∙◌}
+use Rattle.std.proofs.Common.{◌≡◌, ℕ, Bool, true, false, cond, List, drop, Option, Some, None, Result, Ok, Err, refl, ap, subst, ◌∙◌}
 use Rattle.std.specs.Prelude.{codes, nat_eq, option_map}
 use Rattle.std.specs.List.{starts_with}
 use Rattle.dist_wire.specs.Codec.{IsBytes, IsCodec}

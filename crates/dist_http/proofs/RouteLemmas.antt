@@ -12,7 +12,7 @@ use Rattle.dist_wire.specs.Spelling.{SpellsToolchain, SpellsHeartbeat, SpellsSta
 use Rattle.dist_wire.specs.declared.heartbeat.HeartbeatServerHttpRequest.{HeartbeatServerHttpRequest}
 use Rattle.httparse.specs.Grammar.{print_request}
 use Rattle.dist_http.specs.declared.error.HttpError.{HttpError}
-use Rattle.dist_http.specs.declared.error.HttpError.TheVariants.{BadHead, NoRoute}
+use Rattle.dist_http.specs.declared.error.HttpError.TheVariants.{BadHead}
 use Rattle.dist_http.specs.declared.reply.Response.{Response}
 use Rattle.dist_http.specs.declared.request.Request.{Request}
 use Rattle.dist_http.specs.declared.route.Asked.{Asked}
@@ -23,7 +23,7 @@ use Rattle.dist_http.specs.Fault.{reply_of}
 use Rattle.dist_http.specs.Head.{IsRequest, IsNoRequest}
 use Rattle.dist_http.specs.InOrder.{IsAt, InForm, IsAllocation, IsHeartbeat, IsUpdate, IsStatus}
 use Rattle.dist_http.specs.Message.{message_in}
-use Rattle.dist_http.specs.Route.{is_at, wants_json, job_of, alloc_of, beat_of, update_of, named_of, asked_of, answered, question_of}
+use Rattle.dist_http.specs.Route.{is_at, job_of, alloc_of, beat_of, update_of, named_of, asked_of, answered}
 use Rattle.dist_http.specs.Sender.{client_test, server_of}
 use Rattle.dist_http.specs.Steps.{◌>>=◌}
 use Rattle.dist_http.proofs.MessageLemmas.{message_held, held_message}

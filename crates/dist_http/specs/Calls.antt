@@ -1,11 +1,10 @@
 -- What the reply to a call says.
-use Rattle.std.specs.Prelude.{◌≡◌, ◌⊎◌, ◌==◌, ℕ, Bool, true, false, List, if◌then◌else◌, Option, Result, Ok, Err, MatchResult}
+use Rattle.std.specs.Prelude.{◌≡◌, ◌⊎◌, ◌==◌, ℕ, List, if◌then◌else◌, Option, Result, Ok, Err, MatchResult}
 use Rattle.dist_types.specs.declared.outgoing.CallFault.{CallFault}
 use Rattle.dist_types.specs.declared.outgoing.CallFault.TheVariants as call
 use Rattle.dist_types.specs.declared.results.AssignJobResult.{AssignJobResult}
-use Rattle.dist_types.specs.declared.results.JobState.{JobState}
-use Rattle.dist_types.specs.declared.results.JobState.TheVariants.{Pending, Ready}
 use Rattle.dist_wire.specs.Reading.{assign_at}
+use Rattle.sched_core.specs.Rule.{begins}
 use Rattle.dist_http.specs.declared.error.HttpError.{HttpError}
 use Rattle.dist_http.specs.declared.error.HttpError.TheVariants.{ParseError, Status, Memory}
 use Rattle.dist_http.specs.declared.reply.Reply.{Reply}
@@ -25,12 +24,6 @@ Tells at bytes told =
 -- the answer is what the bytes say, unless memory ran out
 abbrev pub Reads : {M : Type 0} → (List ℕ → Option (M × List ℕ)) → List ℕ → Result M HttpError → Type 0
 Reads at bytes answer = MatchResult answer (λ m. Tells at bytes (Ok m)) (λ e. ¬ (e ≡ Memory) → Tells at bytes (Err e))
-
--- whether an assignment may tell that state
-abbrev pub begins : JobState → Bool
-begins Pending = true
-begins Ready = true
-begins other = false
 
 -- the answer to an assignment, if its state is one that an assignment may tell
 abbrev pub begun : AssignJobResult → Result AssignJobResult CallFault

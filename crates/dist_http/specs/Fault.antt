@@ -6,10 +6,12 @@ use Rattle.dist_types.specs.Ids.{state_text}
 use Rattle.dist_types.specs.declared.ids.JobId.{JobId}
 use Rattle.dist_types.specs.declared.outgoing.CallFault.{CallFault}
 use Rattle.dist_types.specs.declared.outgoing.CallFault.TheVariants.{Lost, Status, Unreadable, BadState, Memory as OutOfMemory}
+use Rattle.sched_core.specs.declared.answers.Undone.{Undone}
+use Rattle.sched_core.specs.declared.answers.Undone.TheVariants.{Unassigned, NotKnown, NoServer, Foreign}
 use Rattle.dist_http.specs.declared.error.HttpError.{HttpError}
 use Rattle.dist_http.specs.declared.error.HttpError.TheVariants.{BadHead, WrongContentType, ParseError, BadRealIp, Unauthorised}
 use Rattle.dist_http.specs.declared.fault.RouteFault.{RouteFault}
-use Rattle.dist_http.specs.declared.fault.RouteFault.TheVariants.{BadCpus, UnknownJob, WrongServer, BadTransition, IdsSpent}
+use Rattle.dist_http.specs.declared.fault.RouteFault.TheVariants.{BadCpus, UnknownJob, WrongServer, BadTransition, IdsSpent, AssignFailed}
 use Rattle.dist_http.specs.declared.refusal.RouilleBincodeError.{RouilleBincodeError}
 use Rattle.dist_http.specs.declared.refusal.RouilleBincodeError.TheVariants as input
 use Rattle.dist_http.specs.declared.reply.Response as response
@@ -27,6 +29,13 @@ call_text Unreadable = codes "unreadable reply"
 call_text (BadState state) = codes "state " ⧺ state_text state ⧺ codes " in an assignment"
 call_text OutOfMemory = codes "out of memory"
 
+-- what became of a reservation whose call failed
+abbrev pub undone_text : Undone → List ℕ
+undone_text Unassigned = codes "assign job failed, job un-assigned from the server"
+undone_text NotKnown = codes "assign job failed and job not known to the server"
+undone_text NoServer = codes "assign job failed and server not known"
+undone_text Foreign = codes "assign job failed and job not known to the server"
+
 -- what went wrong
 abbrev pub fault_text : RouteFault → List ℕ
 fault_text (BadCpus cpus) = codes "Invalid number of CPUs (" ⧺ decimal cpus ⧺ codes ") specified in heartbeat"
@@ -34,10 +43,16 @@ fault_text UnknownJob = codes "Unknown job"
 fault_text (WrongServer job server) = codes "Job id " ⧺ decimal job.0 ⧺ codes " is not registered on server ServerId(" ⧺ addr_text server ⧺ codes ")"
 fault_text (BadTransition old new) = codes "Invalid job state transition from " ⧺ state_text old ⧺ codes " to " ⧺ state_text new
 fault_text IdsSpent = codes "No job ids left"
+fault_text (AssignFailed undone call) = undone_text undone
+
+-- why, outermost first
+abbrev pub causes_of : RouteFault → List (List ℕ)
+causes_of (AssignFailed undone call) = codes "POST to scheduler assign_job failed" ∷ call_text call ∷ []
+causes_of other = []
 
 -- what went wrong and why, outermost first
 abbrev pub fault_texts : RouteFault → List (List ℕ)
-fault_texts fault = fault_text fault ∷ []
+fault_texts fault = fault_text fault ∷ causes_of fault
 
 -- the reply to a fault
 abbrev pub fault_response_of : RouteFault → response.Response

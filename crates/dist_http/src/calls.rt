@@ -1,7 +1,8 @@
 //! What the reply to a call says.
 ghost use Rattle.std.specs.Prelude.{◌≡◌, IfOk, IfErr};
-ghost use Rattle.dist_http.specs.Calls.{told_by, Reads, begins, begun, call_fault, IsAssigned};
+ghost use Rattle.dist_http.specs.Calls.{told_by, Reads, begun, call_fault, IsAssigned};
 ghost use Rattle.dist_http.specs.Steps.{Gives};
+ghost use Rattle.sched_core.specs.Rule.{begins};
 
 use crate::error::HttpError;
 use crate::head::read_reply_head;
@@ -35,6 +36,7 @@ pub fn read_reply<M: Message>(alloc: Global, bytes: &[u8]) -> Result<M, HttpErro
     }
 }
 
+/// Whether an assignment may tell that state.
 fn begins(state: JobState) -> bool
     ensures { result ≡ begins state }
 {

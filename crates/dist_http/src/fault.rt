@@ -1,7 +1,7 @@
 //! The faults of a request whose route is known, and the replies that tell them.
-ghost use Rattle.std.specs.Prelude.{◌≡◌, IfOk, IfErr};
+ghost use Rattle.std.specs.Prelude.{◌≡◌, [], ◌∷◌, codes, IfOk, IfErr};
 ghost use Rattle.dist_http.specs.ErrJson.{texts_of};
-ghost use Rattle.dist_http.specs.Fault.{fault_texts, fault_response_of, no_room_text, dropped_text};
+ghost use Rattle.dist_http.specs.Fault.{call_text, fault_texts, fault_response_of, no_room_text, dropped_text};
 
 use crate::err_json::ErrJson;
 use crate::error::HttpError;
@@ -10,6 +10,7 @@ use dist_types::ids::{JobId, ServerId};
 use dist_types::outgoing::CallFault;
 use dist_types::results::JobState;
 use dist_types::text::Text;
+use sched_core::answers::Undone;
 use std::alloc::Global;
 use std::fmt;
 
@@ -26,6 +27,30 @@ pub enum RouteFault {
     BadTransition(JobState, JobState),
     /// Every job id is spent.
     IdsSpent,
+    /// The server did not take the job: what became of the reservation, and why the call failed.
+    AssignFailed(Undone, CallFault),
+}
+
+/// What became of a reservation whose call failed, as a reply tells it.
+#[derive(Drop)]
+struct UndoneText<'a>(&'a Undone);
+
+impl fmt::Display for UndoneText<'_> {
+    ghost use Rattle.std.specs.Prelude.{Some};
+    ghost use Rattle.dist_http.specs.Fault.{undone_text};
+
+    ghost output = { λ u. Some (undone_text u.0.now) };
+
+    fn fmt<W: fmt::Write>(&self, f: &mut fmt::Formatter<W>) -> fmt::Result {
+        match self.0 {
+            Undone::Unassigned => {
+                write!(f, "assign job failed, job un-assigned from the server")
+            }
+            Undone::NotKnown => write!(f, "assign job failed and job not known to the server"),
+            Undone::NoServer => write!(f, "assign job failed and server not known"),
+            Undone::Foreign => write!(f, "assign job failed and job not known to the server"),
+        }
+    }
 }
 
 /// Why a call gave no answer, as a reply tells it.
@@ -71,8 +96,21 @@ impl fmt::Display for RouteFault {
                 write!(f, "Invalid job state transition from {old} to {new}")
             }
             RouteFault::IdsSpent => write!(f, "No job ids left"),
+            RouteFault::AssignFailed(undone, _) => write!(f, "{}", UndoneText(undone)),
         }
     }
+}
+
+/// What went wrong, in a call that asked a server to take a job.
+fn assign_failed(alloc: Global, text: Text, call: &CallFault) -> Result<ErrJson, HttpError>
+    ensures texts { IfOk result (λ e. texts_of e ≡ text ∷ codes "POST to scheduler assign_job failed" ∷ call_text call.now ∷ []) }
+    ensures memory { IfErr result (λ e. e ≡ HttpError.Memory) }
+{
+    let call = CallText(call);
+    let why = format!(in alloc; "{call}")?;
+    let asked = Text::of(alloc, "POST to scheduler assign_job failed")?;
+    let cause = ErrJson::of(Text::new(why)).under(alloc, asked)?;
+    cause.under(alloc, text)
 }
 
 /// What went wrong, and why.
@@ -80,8 +118,15 @@ fn fault_json(alloc: Global, fault: &RouteFault) -> Result<ErrJson, HttpError>
     ensures texts { IfOk result (λ e. texts_of e ≡ fault_texts fault.now) }
     ensures memory { IfErr result (λ e. e ≡ HttpError.Memory) }
 {
-    let text = format!(in alloc; "{fault}")?;
-    Ok(ErrJson::of(Text::new(text)))
+    let text = Text::new(format!(in alloc; "{fault}")?);
+    match fault {
+        RouteFault::BadCpus(_) => Ok(ErrJson::of(text)),
+        RouteFault::UnknownJob => Ok(ErrJson::of(text)),
+        RouteFault::WrongServer(_, _) => Ok(ErrJson::of(text)),
+        RouteFault::BadTransition(_, _) => Ok(ErrJson::of(text)),
+        RouteFault::IdsSpent => Ok(ErrJson::of(text)),
+        RouteFault::AssignFailed(_, call) => assign_failed(alloc, text, call),
+    }
 }
 
 /// The reply 500 to a fault. Refused for want of memory alone.
