@@ -4,6 +4,8 @@ use Rattle.std.proofs.lemmas.Bool.Decides.{nat_tests}
 use Rattle.std.proofs.lemmas.List.{get_or-append-add}
 use Rattle.httparse.specs.Grammar.{print_response}
 use Rattle.dist_types.specs.declared.outgoing.CallFault.{CallFault}
+use Rattle.dist_types.specs.declared.outgoing.CallFault.TheVariants.{BadState}
+use Rattle.sched_core.specs.Rule.{begins}
 use Rattle.dist_types.specs.declared.results.AssignJobResult.{AssignJobResult}
 use Rattle.dist_wire.specs.Codec.{IsBytes, IsCodec}
 use Rattle.dist_wire.specs.Reading.{assign_at}
@@ -28,6 +30,18 @@ module _ {M : Type 0} (at : List ℕ → Option (M × List ℕ)) (bytes : List �
 
 pub one_assignment : (bytes : List ℕ) (a b : Result AssignJobResult CallFault) → IsAssigned bytes a → IsAssigned bytes b → a ≡ b
 one_assignment bytes a b (s, x, e) (t, y, f) = e ∙ (ap assigned_by (one_telling assign_at bytes s t x y) ∙ sym f)
+
+-- an answer that is taken tells a state that an assignment may tell
+pub begins_assigned : (bytes : List ℕ) (a : AssignJobResult) → IsAssigned bytes (Ok a) → begins a.state ≡ true
+begins_assigned bytes a (told, x, e) = by_told told e
+  where
+    by_test : (answer : AssignJobResult) (b : Bool) → begins answer.state ≡ b → Ok a ≡ cond b (Ok answer) (Err (BadState answer.state)) → begins a.state ≡ true
+    by_test answer true is h = let same : answer ≡ a = cc in subst (λ (r : AssignJobResult). begins r.state ≡ true) same is
+    by_test answer false is h = absurd cc
+
+    by_told : (t : Result AssignJobResult HttpError) → Ok a ≡ assigned_by t → begins a.state ≡ true
+    by_told (Ok answer) h = by_test answer (begins answer.state) refl h
+    by_told (Err d) h = absurd cc
 
 body_fits : (bytes : List ℕ) (r : Reply) → IsBytes bytes → IsReply bytes r → IsBytes r.body
 body_fits bytes r fits (h, x) i =

@@ -1,5 +1,5 @@
 //! What the reply to a call says.
-ghost use Rattle.std.specs.Prelude.{◌≡◌, IfOk, IfErr};
+ghost use Rattle.std.specs.Prelude.{◌≡◌, IfOk, IfErr, true};
 ghost use Rattle.dist_http.specs.Calls.{told_by, Reads, begun, call_fault, IsAssigned};
 ghost use Rattle.dist_http.specs.Steps.{Gives};
 ghost use Rattle.sched_core.specs.Rule.{begins};
@@ -49,7 +49,8 @@ fn begins(state: JobState) -> bool
 }
 
 fn begun(answer: AssignJobResult) -> Result<AssignJobResult, CallFault>
-    ensures { result ≡ begun answer }
+    ensures begun { result ≡ begun answer }
+    ensures begins { IfOk result (λ a. begins a.state ≡ true) }
 {
     if begins(answer.state) {
         Ok(answer)
@@ -81,6 +82,7 @@ pub fn assigned(
     reply: &[u8],
 ) -> Result<Result<AssignJobResult, CallFault>, HttpError>
     ensures ok { IfOk result (IsAssigned reply.now) }
+    ensures begins { IfOk result (λ answer. IfOk answer (λ a. begins a.state ≡ true)) }
     ensures err { IfErr result (λ e. e ≡ HttpError.Memory) }
 {
     match read_reply(alloc, reply) {

@@ -1,5 +1,5 @@
 //! Laws over all bytes: each is a function with no body, whose contract is the law.
-ghost use Rattle.std.specs.Prelude.{◌≡◌, ◌↔◌, ◌⊎◌, ◌≤◌, ℕ, Bool, List, length, Result, Ok, Err};
+ghost use Rattle.std.specs.Prelude.{◌≡◌, ◌↔◌, ◌⊎◌, ◌≤◌, ℕ, Bool, List, length, Result, Ok, Err, true};
 ghost use Rattle.dist_types.specs.declared.addr.Addr.{Addr};
 ghost use Rattle.dist_types.specs.declared.ids.JobId.{JobId};
 ghost use Rattle.dist_types.specs.declared.outgoing.CallFault.{CallFault};
@@ -7,6 +7,7 @@ ghost use Rattle.dist_types.specs.declared.results.AssignJobResult.{AssignJobRes
 ghost use Rattle.dist_types.specs.declared.results.JobState.{JobState};
 ghost use Rattle.dist_wire.specs.Codec.{IsBytes};
 ghost use Rattle.dist_wire.specs.declared.heartbeat.HeartbeatServerHttpRequest.{HeartbeatServerHttpRequest};
+ghost use Rattle.sched_core.specs.Rule.{begins};
 ghost use Rattle.dist_http.specs.declared.error.HttpError.{HttpError};
 ghost use Rattle.dist_http.specs.declared.error.HttpError.TheVariants.{BadHead};
 ghost use Rattle.dist_http.specs.declared.reply.Reply.{Reply};
@@ -96,4 +97,9 @@ pub fn replies_told<M: Message>()
 /// The bytes of a reply to an assignment say one thing at most.
 pub fn one_assignment()
     ensures { (bytes : List ℕ) (a b : Result AssignJobResult CallFault) → IsAssigned bytes a → IsAssigned bytes b → a ≡ b }
+{}
+
+/// An answer to an assignment that is taken tells a state that an assignment may tell.
+pub fn assignments_begin()
+    ensures { (bytes : List ℕ) (a : AssignJobResult) → IsAssigned bytes (Ok a) → begins a.state ≡ true }
 {}
