@@ -1,5 +1,5 @@
 -- What a request asks, in the words of its parts.
-use Rattle.std.proofs.Common.{◌≡◌, ◌↔◌, ◌⊎◌, inl, inr, ℕ, ◌+◌, ◌<◌, get_or, Bool, true, false, cond, List, ◌++◌, length, Option, Some, None, Result, Ok, Err, refl, sym, ap, subst, ◌∙◌}
+use Rattle.std.proofs.Common.{◌≡◌, ◌↔◌, inl, inr, ℕ, ◌+◌, ◌<◌, get_or, Bool, true, false, cond, List, ◌++◌, length, Option, Some, None, Result, Ok, Err, refl, sym, ap, subst, ◌∙◌}
 use Rattle.std.specs.Prelude.{codes}
 use Rattle.std.proofs.lemmas.List.{get_or-append-add}
 use Rattle.dist_types.specs.declared.addr.Addr.{Addr}
@@ -20,7 +20,7 @@ use Rattle.dist_http.specs.declared.route.SchedRouted.{SchedRouted}
 use Rattle.dist_http.specs.declared.route.SchedRouted.TheVariants.{Alloc, Beat, Update, Status, Done}
 use Rattle.dist_http.specs.Asked.{IsAsked}
 use Rattle.dist_http.specs.Fault.{reply_of}
-use Rattle.dist_http.specs.Head.{IsRequest, IsNoRequest}
+use Rattle.dist_http.specs.Head.{IsRequest}
 use Rattle.dist_http.specs.InOrder.{IsAt, InForm, IsAllocation, IsHeartbeat, IsUpdate, IsStatus}
 use Rattle.dist_http.specs.Message.{message_in}
 use Rattle.dist_http.specs.Route.{is_at, job_of, alloc_of, beat_of, update_of, named_of, asked_of, answered}
@@ -123,7 +123,7 @@ is_heartbeat r peer client token server m fits e = by_route (route r peer client
     by_route (by_status at is) = absurd cc
 
 -- where one route is, none before it is
-beat_no_alloc : (r : Request) → IsAt r (codes "POST") (codes "/api/v1/scheduler/heartbeat_server") → is_at (codes "POST") (codes "/api/v1/scheduler/alloc_job") r ≡ false
+pub beat_no_alloc : (r : Request) → IsAt r (codes "POST") (codes "/api/v1/scheduler/heartbeat_server") → is_at (codes "POST") (codes "/api/v1/scheduler/alloc_job") r ≡ false
 unfolding is_at
 beat_no_alloc r at = rw (at.sent_by, at.sent_to) refl
 
@@ -131,15 +131,15 @@ status_no_post : (r : Request) (path : List ℕ) → IsStatus r → is_at (codes
 unfolding is_at
 status_no_post r path at = rw at.sent_by refl
 
-job_no_alloc : (r : Request) (id : List ℕ) → IsAt r (codes "POST") (codes "/api/v1/scheduler/job_state/" ++ id) → is_at (codes "POST") (codes "/api/v1/scheduler/alloc_job") r ≡ false
+pub job_no_alloc : (r : Request) (id : List ℕ) → IsAt r (codes "POST") (codes "/api/v1/scheduler/job_state/" ++ id) → is_at (codes "POST") (codes "/api/v1/scheduler/alloc_job") r ≡ false
 unfolding is_at
 job_no_alloc r id at = rw (at.sent_by, at.sent_to) refl
 
-job_no_beat : (r : Request) (id : List ℕ) → IsAt r (codes "POST") (codes "/api/v1/scheduler/job_state/" ++ id) → is_at (codes "POST") (codes "/api/v1/scheduler/heartbeat_server") r ≡ false
+pub job_no_beat : (r : Request) (id : List ℕ) → IsAt r (codes "POST") (codes "/api/v1/scheduler/job_state/" ++ id) → is_at (codes "POST") (codes "/api/v1/scheduler/heartbeat_server") r ≡ false
 unfolding is_at
 job_no_beat r id at = rw (at.sent_by, at.sent_to) refl
 
-job_no_status : (r : Request) (id : List ℕ) → IsAt r (codes "POST") (codes "/api/v1/scheduler/job_state/" ++ id) → is_at (codes "GET") (codes "/api/v1/scheduler/status") r ≡ false
+pub job_no_status : (r : Request) (id : List ℕ) → IsAt r (codes "POST") (codes "/api/v1/scheduler/job_state/" ++ id) → is_at (codes "GET") (codes "/api/v1/scheduler/status") r ≡ false
 unfolding is_at
 job_no_status r id at = rw at.sent_by refl
 
@@ -201,7 +201,7 @@ status_is r peer client token h =
       place_at r (codes "GET") (codes "/api/v1/scheduler/status") h,
     ) refl
 
-never_done : (r : Request) (peer : Addr) (client token : List ℕ) (reply : Response) → asked_of r peer client token ≡ Ok (Done reply) → ⊥
+pub never_done : (r : Request) (peer : Addr) (client token : List ℕ) (reply : Response) → asked_of r peer client token ≡ Ok (Done reply) → ⊥
 never_done r peer client token reply e = by_route (route r peer client token (Done reply) e)
   where
     by_route : Route r peer client token (Done reply) → ⊥
@@ -212,7 +212,7 @@ never_done r peer client token reply e = by_route (route r peer client token (Do
 
 -- ---- the bytes
 
-body_fits : (bytes : List ℕ) (r : Request) → IsBytes bytes → IsRequest bytes r → IsBytes r.body
+pub body_fits : (bytes : List ℕ) (r : Request) → IsBytes bytes → IsRequest bytes r → IsBytes r.body
 body_fits bytes r fits (h, x) i =
     subst (λ n. n < 256) (ap (λ (t : List ℕ). get_or t (length (print_request h) + i) 0) x.reads.1 ∙ get_or-append-add (print_request h) r.body i 0) (fits (length (print_request h) + i))
 
@@ -281,16 +281,3 @@ statuses_asked bytes peer client token json = (to, from)
 
     from : ((r : Request) × IsRequest bytes r × IsStatus r × InForm r json) → IsAsked bytes peer client token (record { what = Status; json = json })
     from (r, x, h, form) = asked_by bytes peer client token Status json r x (status_is r peer client token h) form
-
-pub replies_at_once : (bytes : List ℕ) (peer : Addr) (client token : List ℕ) (reply : Response) (json : Bool)
-    → IsAsked bytes peer client token (record { what = Done reply; json = json })
-    → (refusal : HttpError) × (reply ≡ reply_of refusal)
-    × (((r : Request) × IsRequest bytes r × (asked_of r peer client token ≡ Err refusal)) ⊎ (IsNoRequest bytes × (refusal ≡ BadHead)))
-replies_at_once bytes peer client token reply json (inr (none, e)) = (BadHead, (let same = ap (λ (a : Asked). a.what) e in cc), inr (none, refl))
-replies_at_once bytes peer client token reply json (inl (r, x, e)) = by_result (asked_of r peer client token) refl (ap (λ (a : Asked). a.what) e)
-  where
-    by_result : (y : Result SchedRouted HttpError) → asked_of r peer client token ≡ y → Done reply ≡ answered y
-        → (refusal : HttpError) × (reply ≡ reply_of refusal)
-        × (((q : Request) × IsRequest bytes q × (asked_of q peer client token ≡ Err refusal)) ⊎ (IsNoRequest bytes × (refusal ≡ BadHead)))
-    by_result (Ok y) is h = absurd (never_done r peer client token reply (is ∙ ap Ok (sym h)))
-    by_result (Err d) is h = (d, cc, inl (r, x, is))

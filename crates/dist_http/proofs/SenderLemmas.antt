@@ -17,27 +17,27 @@ use Rattle.dist_http.specs.Steps.{◌>>=◌, unless_none, unless_false}
 use Rattle.dist_http.proofs.BearerLemmas.{equal_texts, same_text, token_shown, shown_token, server_shown, shown_server}
 use Rattle.dist_http.proofs.StepLemmas.{ok_step, from_none, from_false}
 
-equal_ips : (a b : Ip) → same_ip a b ≡ true → a ≡ b
+pub equal_ips : (a b : Ip) → same_ip a b ≡ true → a ≡ b
 equal_ips (V4 a) (V4 b) e = ap V4 (equal_texts a b e)
 equal_ips (V6 a) (V6 b) e = ap V6 (equal_texts a b e)
 equal_ips (V4 a) (V6 b) e = absurd cc
 equal_ips (V6 a) (V4 b) e = absurd cc
 
-one_ip : (a : Ip) → same_ip a a ≡ true
+pub one_ip : (a : Ip) → same_ip a a ≡ true
 one_ip (V4 a) = same_text a
 one_ip (V6 a) = same_text a
 
-came_from : (o : Option (List ℕ)) (peer : Addr) (ip : Ip) → origin o peer ≡ Ok ip → CameFrom o peer ip
+pub came_from : (o : Option (List ℕ)) (peer : Addr) (ip : Ip) → origin o peer ≡ Ok ip → CameFrom o peer ip
 came_from None peer ip e = cc
 came_from (Some text) peer ip e = ip_is text ip (from_none BadRealIp (ip_in text) ip e)
 
-from_came : (o : Option (List ℕ)) (peer : Addr) (ip : Ip) → CameFrom o peer ip → origin o peer ≡ Ok ip
+pub from_came : (o : Option (List ℕ)) (peer : Addr) (ip : Ip) → CameFrom o peer ip → origin o peer ≡ Ok ip
 from_came None peer ip e = ap Ok (sym e)
 from_came (Some text) peer ip h = rw (ip_of_text text ip h) refl
 
 -- ---- tokens
 
-shows : (r : Request) (token : List ℕ) → token_of r ≡ Ok token → Shows r token
+pub shows : (r : Request) (token : List ℕ) → token_of r ≡ Ok token → Shows r token
 shows r token e =
     token_shown (header (codes "authorization") r.headers) token
     (from_none (Unauthorised NoBearerAuth) (token_in (header (codes "authorization") r.headers)) token e)
@@ -58,10 +58,10 @@ shown_client r token h = rw (shown r token h, same_text token) refl
 
 -- ---- servers
 
-abbrev from_here : Request → Addr → Addr → Result Addr HttpError
+abbrev pub from_here : Request → Addr → Addr → Result Addr HttpError
 from_here r peer server = origin (header (codes "x-real-ip") r.headers) peer >>= λ ip. unless_false (Unauthorised MismatchedAddress) (same_ip ip (ip_of server)) server
 
-abbrev by_token : Request → Addr → List ℕ → List ℕ → Result Addr HttpError
+abbrev pub by_token : Request → Addr → List ℕ → List ℕ → Result Addr HttpError
 by_token r peer expected token = unless_none (Unauthorised InvalidBearerToken) (server_in expected token) >>= from_here r peer
 
 pub sender_shown : (r : Request) (peer : Addr) (token : List ℕ) (server : Addr) → server_of r peer token ≡ Ok server → IsFrom r peer token server

@@ -13,3 +13,4 @@ pub mod Calls
 pub mod Route
 pub mod Asked
 pub mod InOrder
+pub mod Refused

@@ -1,5 +1,5 @@
 //! Laws over all bytes: each is a function with no body, whose contract is the law.
-ghost use Rattle.std.specs.Prelude.{◌≡◌, ◌↔◌, ◌⊎◌, ◌≤◌, ℕ, Bool, List, length, Result, Ok, Err, true};
+ghost use Rattle.std.specs.Prelude.{◌≡◌, ◌↔◌, ◌⊎◌, ◌≤◌, ℕ, Bool, List, length, Result, Ok, true, false};
 ghost use Rattle.dist_types.specs.declared.addr.Addr.{Addr};
 ghost use Rattle.dist_types.specs.declared.ids.JobId.{JobId};
 ghost use Rattle.dist_types.specs.declared.outgoing.CallFault.{CallFault};
@@ -23,7 +23,7 @@ ghost use Rattle.dist_http.specs.Head.{IsRequest, IsNoRequest, IsReply};
 ghost use Rattle.dist_http.specs.InOrder.{InForm, IsAllocation, IsHeartbeat, IsUpdate, IsStatus};
 ghost use Rattle.dist_http.specs.ReadBack.{seen};
 ghost use Rattle.dist_http.specs.Reply.{body_of, reply_text};
-ghost use Rattle.dist_http.specs.Route.{asked_of};
+ghost use Rattle.dist_http.specs.Refused.{IsRefused};
 
 use dist_wire::message::Message;
 
@@ -78,13 +78,13 @@ pub fn statuses_asked()
         ↔ ((r : Request) × IsRequest bytes r × IsStatus r × InForm r json) }
 {}
 
-/// A reply is known at once only where the tests of a request refuse it, or the bytes are no request; it is
-/// then the reply to that refusal.
+/// A reply is known at once exactly where the bytes are a request that one test of its route refuses, in the
+/// tests' order, and it is the reply to that refusal; or they are no request, and it is the reply to a bad head.
 pub fn replies_at_once()
-    ensures { (bytes : List ℕ) (peer : Addr) (client token : List ℕ) (reply : Response) (json : Bool)
+    ensures { (bytes : List ℕ) (peer : Addr) (client token : List ℕ) (reply : Response) (json : Bool) → IsBytes bytes
         → IsAsked bytes peer client token (record { what = Done reply; json = json })
-        → (refusal : HttpError) × (reply ≡ reply_of refusal)
-        × (((r : Request) × IsRequest bytes r × (asked_of r peer client token ≡ Err refusal)) ⊎ (IsNoRequest bytes × (refusal ≡ BadHead))) }
+        ↔ (((r : Request) × (refusal : HttpError) × IsRequest bytes r × IsRefused r peer client token refusal × (reply ≡ reply_of refusal) × InForm r json)
+        ⊎ (IsNoRequest bytes × (reply ≡ reply_of BadHead) × (json ≡ false))) }
 {}
 
 /// The bytes of a reply tell a message exactly where they are a reply with status 200 whose body the message
