@@ -1,4 +1,4 @@
-use Rattle.dist_http.proofs.RouteLemmas.{replies_at_once}
+use Rattle.dist_http.proofs.AtOnceLemmas.{replies_at_once}
 use Rattle.dist_http.proofs.laws.replies_at_once.Goals as goal
 
 pub returns : goal.returns
