@@ -1,12 +1,15 @@
 pub mod BuiltLemmas
+pub mod CallLemmas
 pub mod DigitLemmas
 pub mod ExactLemmas
 pub mod FieldLemmas
 pub mod FirstFaultyLemmas
-pub mod HexDigitLemmas
+pub mod HexLemmas
 pub mod LimitLemmas
 pub mod LineLemmas
+pub mod NumberLemmas
 pub mod OneLemmas
+pub mod OwnLemmas
 pub mod PieceLemmas
 pub mod RunLemmas
 pub mod ScriptLemmas

@@ -1,6 +1,5 @@
 -- An event makes one entry, events make one list of entries, and a script's run has one text.
 use Rattle.std.proofs.Common.{◌≡◌, inl, inr, ℕ, List, [], ◌∷◌, ◌++◌, length, refl, ap, ◌∙◌, sym, subst}
-use Rattle.dist_http.specs.declared.route.SchedRouted.{SchedRouted}
 use Rattle.dist_http.proofs.HeadLemmas.{one_question}
 use Rattle.sched_core.specs.Log.{Core}
 use Rattle.farm.specs.declared.setup.Setup.{Setup}

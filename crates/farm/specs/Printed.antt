@@ -16,7 +16,6 @@ use Rattle.sched_core.specs.declared.entry.Reserved.TheVariants.{Job, NoRoom, Sp
 use Rattle.sched_core.specs.declared.entry.UpdateAnswer.{UpdateAnswer}
 use Rattle.sched_core.specs.declared.entry.UpdateAnswer.TheVariants.{Accepted, Unknown, Wrong, Transition}
 use Rattle.farm.specs.declared.setup.SetupScheduler.{SetupScheduler}
-use Rattle.farm.specs.declared.event.Event.{Event}
 use Rattle.farm.specs.declared.event.EventKind.{EventKind}
 use Rattle.farm.specs.declared.event.EventKind.TheVariants as event
 use Rattle.farm.specs.declared.entry.Entry.{Entry}

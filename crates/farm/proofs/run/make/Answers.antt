@@ -1,4 +1,4 @@
-use Rattle.std.proofs.Common.{◌++◌, ◌∷◌, [], ap, ◌∙◌}
+use Rattle.std.proofs.Common.{ap, ◌∙◌}
 use Rattle.farm.specs.Farm.{with_core}
 use Rattle.farm.proofs.RunLemmas.{core_of-push}
 use Rattle.farm.proofs.run.make.Goals as goal
