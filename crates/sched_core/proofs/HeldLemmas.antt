@@ -45,7 +45,7 @@ pub record Sound (base count : ℕ) (log : List CoreEntry) : Type 0 where
   pub begun_past : AllByRecursion (λ c. IsPast log c.job) (begun log)
   pub begun_held : AllByRecursion (IsHeldAt log) (begun log)
 
-is_this-eq : (o : Option ℕ) (n : ℕ) → is_this o n ≡ true → o ≡ Some n
+pub is_this-eq : (o : Option ℕ) (n : ℕ) → is_this o n ≡ true → o ≡ Some n
 is_this-eq None n e = absurd (false≢true e)
 is_this-eq (Some m) n e = ap (λ x. Some x) (eqb-true m n e)
 

@@ -29,20 +29,20 @@ use Rattle.sched_core.proofs.FactLemmas.{Facts, JobFacts, facts, first_has, pick
 use Rattle.sched_core.proofs.HeldLemmas.{Sound, no_sound, sound-step}
 
 -- tests on numbers
-lt_true : (a b : ℕ) → nat_lt a b ≡ true → a < b
+pub lt_true : (a b : ℕ) → nat_lt a b ≡ true → a < b
 lt_true a b e = grind (arith, nat_tests)
 
-lt_false : (a b : ℕ) → nat_lt a b ≡ false → b ≤ a
+pub lt_false : (a b : ℕ) → nat_lt a b ≡ false → b ≤ a
 lt_false a b e = grind (arith, nat_tests)
 
-lt_is : (a b : ℕ) → a < b → nat_lt a b ≡ true
+pub lt_is : (a b : ℕ) → a < b → nat_lt a b ≡ true
 lt_is a b e = grind (arith, nat_tests)
 
-ge_is : (a b : ℕ) → b ≤ a → nat_lt a b ≡ false
+pub ge_is : (a b : ℕ) → b ≤ a → nat_lt a b ≡ false
 ge_is a b e = grind (arith, nat_tests)
 
 -- counts
-count-map : {X Y : Type 0} (p : Y → Bool) (f : X → Y) (xs : List X) → count_by p (map f xs) ≡ count_by (λ x. p (f x)) xs
+pub count-map : {X Y : Type 0} (p : Y → Bool) (f : X → Y) (xs : List X) → count_by p (map f xs) ≡ count_by (λ x. p (f x)) xs
 count-map p f [] = refl
 count-map p f (x ∷ xs) = sum_by-cons (λ y. cond (p y) 1 0) (f x) (map f xs) ∙ ap (λ n. cond (p (f x)) 1 0 + n) (count-map p f xs) ∙ sym (sum_by-cons (λ x. cond (p (f x)) 1 0) x xs)
 
@@ -56,11 +56,11 @@ count-kept p q (x ∷ xs) =
       | false ↦ omega (arith, rest, whole)
     ]
 
-count_none : {X : Type 0} (p : X → Bool) (xs : List X) → list_any p xs ≡ false → count_by p xs ≡ 0
+pub count_none : {X : Type 0} (p : X → Bool) (xs : List X) → list_any p xs ≡ false → count_by p xs ≡ 0
 count_none p [] e = refl
 count_none p (x ∷ xs) e = sum_by-cons (λ y. cond (p y) 1 0) x xs ∙ ap (λ b. cond b 1 0 + count_by p xs) (or_left (p x) (list_any p xs) e) ∙ (let rest : count_by p xs ≡ 0 = count_none p xs (or_right (p x) (list_any p xs) e) in omega (arith, rest))
 
-load_held : (log : List CoreEntry) (reg : ℕ) → load_of log reg ≡ count_by (λ b. b.reg == reg) (held log)
+pub load_held : (log : List CoreEntry) (reg : ℕ) → load_of log reg ≡ count_by (λ b. b.reg == reg) (held log)
 load_held log reg = sym (count-map (λ b. b.reg == reg) bare (unended log))
 
 -- the load after one more entry
@@ -160,7 +160,7 @@ added base count log (Update server job state answer) number now distinct is old
 added base count log (Status pruned servers cpus n) number now distinct is old = all-weaker (Holds log) (λ p. load_of log p.0 + 0 ≤ p.1 + 1 + p.1 / 8) (λ p le. omega (arith, le)) (pairs log) old
 
 -- nothing is reserved yet at the number of the next entry
-none_next : (log : List CoreEntry) → AllByRecursion (λ p. p.0 < length log) (pairs log) → AllByRecursion (λ b. names (regs log) b.reg ≡ true) (held log) → list_any (λ b. b.reg == length log) (held log) ≡ false
+pub none_next : (log : List CoreEntry) → AllByRecursion (λ p. p.0 < length log) (pairs log) → AllByRecursion (λ b. names (regs log) b.reg ≡ true) (held log) → list_any (λ b. b.reg == length log) (held log) ≡ false
 none_next log below stands = go (held log) stands
   where
     regs_below : AllByRecursion (λ r. r < length log) (regs log)

@@ -56,7 +56,7 @@ committed log e = committed_by e.kind log []
 abbrev pub grown : CoreEntry → Booking → Booking
 grown e b = record b { later = b.later ++ e ∷ [] }
 
-booked-grown : (k : CoreKind) (number now : ℕ) (later : List CoreEntry) (e : CoreEntry) → booked_by k number now (later ++ e ∷ []) ≡ option_map (grown e) (booked_by k number now later)
+pub booked-grown : (k : CoreKind) (number now : ℕ) (later : List CoreEntry) (e : CoreEntry) → booked_by k number now (later ++ e ∷ []) ≡ option_map (grown e) (booked_by k number now later)
 booked-grown (Beat server nonce cpus key pruned reaped replaced is_new) number now later e = refl
 booked-grown (Reserve (Job job reg forgiven)) number now later e = refl
 booked-grown (Reserve (NoRoom n)) number now later e = refl
@@ -91,7 +91,7 @@ taken-push log e =
     ∙ ap (λ bs. bs ++ map bare (option_to_list (booked log e))) (map-map bare (grown e) (bookings log))
     ∙ ap (λ bs. taken log ++ bs) (map-option bare (booked log e) ∙ ap option_to_list (booked-bare e.kind (length log) e.now))
 
-booked_fresh : (lasts : Booking → Bool) → ((b : Booking) → b.later ≡ [] → lasts b ≡ true) → (k : CoreKind) (number now : ℕ) (later : List CoreEntry) → later ≡ [] → filter lasts (option_to_list (booked_by k number now later)) ≡ option_to_list (booked_by k number now later)
+pub booked_fresh : (lasts : Booking → Bool) → ((b : Booking) → b.later ≡ [] → lasts b ≡ true) → (k : CoreKind) (number now : ℕ) (later : List CoreEntry) → later ≡ [] → filter lasts (option_to_list (booked_by k number now later)) ≡ option_to_list (booked_by k number now later)
 booked_fresh lasts h (Beat server nonce cpus key pruned reaped replaced is_new) number now later none = refl
 booked_fresh lasts h (Reserve (Job job reg forgiven)) number now later none = let b : Booking = record { number = number; now = now; job = job; reg = reg; later = later } in ap (λ t. cond t (b ∷ []) []) (h b none)
 booked_fresh lasts h (Reserve (NoRoom n)) number now later none = refl
@@ -142,7 +142,7 @@ free-push log e =
 abbrev pub grown_commit : CoreEntry → Committed → Committed
 grown_commit e c = record c { later = c.later ++ e ∷ [] }
 
-committed-grown : (k : CoreKind) (before later : List CoreEntry) (e : CoreEntry) → committed_by k before (later ++ e ∷ []) ≡ option_map (grown_commit e) (committed_by k before later)
+pub committed-grown : (k : CoreKind) (before later : List CoreEntry) (e : CoreEntry) → committed_by k before (later ++ e ∷ []) ≡ option_map (grown_commit e) (committed_by k before later)
 committed-grown (Beat server nonce cpus key pruned reaped replaced is_new) before later e = refl
 committed-grown (Reserve r) before later e = refl
 committed-grown (Commit job state true) before later e = refl
@@ -206,7 +206,7 @@ fresh_begun (Undo job noted was_ended) before = refl
 fresh_begun (Update server job state answer) before = refl
 fresh_begun (Status pruned servers cpus jobs) before = refl
 
-open-grown : (e : CoreEntry) (c : Committed) → is_open (grown_commit e c) ≡ (is_open c && begun_stays e (bare_commit c))
+pub open-grown : (e : CoreEntry) (c : Committed) → is_open (grown_commit e c) ≡ (is_open c && begun_stays e (bare_commit c))
 open-grown e c = ap (λ b. not (is_complete c.state) && b) (none-push (λ d. closes_by d.kind c.job c.reg) c.later e) ∙ and_assoc (not (is_complete c.state)) (not (list_any (λ d. closes_by d.kind c.job c.reg) c.later)) (begun_stays e (bare_commit c))
 
 pub begun-push : (log : List CoreEntry) (e : CoreEntry) → begun (log ++ e ∷ []) ≡ filter (begun_stays e) (begun log) ++ filter (λ c. not (is_complete c.state)) (option_to_list (committed log e))

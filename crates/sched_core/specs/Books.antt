@@ -1,13 +1,79 @@
 -- What the scheduler keeps beside its log, and what one entry does to it.
-use Rattle.std.specs.Prelude.{◌≡◌, ℕ, List, map, Bool, true, false, not, Option, Some, None, if◌then◌else◌}
-use Rattle.std.specs.List.{AllByRecursion}
+use Rattle.std.specs.Prelude.{◌≡◌, ◌≤◌, ◌<◌, ℕ, ◌+◌, ◌-◌, ◌^◌, List, ◌++◌, length, map, filter, Bool, true, false, not, ◌&&◌, ◌||◌, ◌==◌, Option, Some, None, if◌then◌else◌, count_by, unwrap_or, option_to_list, min, vec_len, vec_capacity}
+use Rattle.std.specs.List.{AllByRecursion, find, list_any}
+use Rattle.std.specs.Option.{option_map}
+use Rattle.dist_types.specs.declared.addr.Addr.{Addr}
+use Rattle.dist_types.specs.declared.ids.JobId.{JobId}
+use Rattle.dist_types.specs.declared.results.JobState.{JobState}
 use Rattle.sched_core.specs.declared.entry.CoreEntry.{CoreEntry}
 use Rattle.sched_core.specs.declared.entry.CoreKind.{CoreKind}
-use Rattle.sched_core.specs.declared.entry.CoreKind.TheVariants.{Beat, Status}
+use Rattle.sched_core.specs.declared.entry.CoreKind.TheVariants.{Beat, Reserve, Commit, Undo, Update, Status}
+use Rattle.sched_core.specs.declared.entry.Reserved.{Reserved}
+use Rattle.sched_core.specs.declared.entry.Reserved.TheVariants.{Job}
 use Rattle.sched_core.specs.declared.rows.ServerRow.{ServerRow}
-use Rattle.sched_core.specs.Standing.{Registered, standing, ends_by, renews_by}
-use Rattle.sched_core.specs.Rows.{servers_of}
+use Rattle.sched_core.specs.declared.rows.HeldRow.{HeldRow}
+use Rattle.sched_core.specs.declared.rows.JobRow.{JobRow}
+use Rattle.sched_core.specs.declared.rows.OpenRow.{OpenRow}
+use Rattle.sched_core.specs.declared.books.UnspentRow.{UnspentRow}
+use Rattle.sched_core.specs.declared.books.Books.{Books}
+use Rattle.sched_core.specs.Log.{same_job, is_this, newer}
+use Rattle.sched_core.specs.Standing.{Registered, standing, ends_by, renews_by, is_heard, address_of}
+use Rattle.sched_core.specs.Reservation.{Booking, bookings, unspent, spends_by, frees_by, claims_by, is_complete}
+use Rattle.sched_core.specs.Fault.{notes_by, forgives_by}
+use Rattle.sched_core.specs.Job.{moves_by, closes_by}
+use Rattle.sched_core.specs.Rows.{servers_of, held_rows, open_rows, placed, held_part, held_by_id}
+use Rattle.sched_core.specs.Rule.{place_at}
+use Rattle.sched_core.specs.Plain.{is_booked}
 use Rattle.sched_core.specs.Laws.{IsLegal}
+
+-- the rows of the registrations that stand
+
+-- whether an entry leaves the registration standing
+abbrev pub row_stays : CoreKind → ServerRow → Bool
+row_stays kind row = not (ends_by kind row.reg)
+
+-- the registration of an open job, if there is one
+abbrev pub place_if : Option OpenRow → Option ℕ
+place_if None = None
+place_if (Some o) = o.reg
+
+-- the registration whose open job an update names that counts as a sign
+abbrev pub served_by : CoreKind → List OpenRow → Option ℕ
+served_by (Update server job state answer) open_ones = if is_heard answer then place_if (find (λ o. same_job o.job job) open_ones) else None
+served_by other open_ones = None
+
+-- how many of the reservations at a registration an entry ends
+abbrev pub freed_at : CoreKind → List HeldRow → ℕ → ℕ
+freed_at kind held reg = count_by (λ h. frees_by kind h.job h.reg && (h.reg == reg)) held
+
+-- a row with one reservation less, where it is at that registration
+abbrev pub row_lowered : ℕ → ServerRow → ServerRow
+row_lowered reg row = record row { load = if reg == row.reg then row.load - 1 else row.load }
+
+-- a row without those
+abbrev pub row_freed : CoreKind → List HeldRow → ServerRow → ServerRow
+row_freed kind held row = record row { load = row.load - freed_at kind held row.reg }
+
+-- whether an entry reserves a job at the registration
+abbrev pub takes_by : CoreKind → ℕ → Bool
+takes_by (Reserve (Job job reg forgiven)) r = reg == r
+takes_by other r = false
+
+-- the remembered error after an entry
+abbrev pub error_after : CoreEntry → ℕ → Option ℕ → Option ℕ
+error_after e reg before = if notes_by e.kind reg then Some e.now else (if forgives_by e.kind reg then None else before)
+
+-- one more, at most 2^64 - 1
+abbrev pub one_more_if : Bool → ℕ → ℕ
+one_more_if more n = if more then min (2 ^ 64 - 1) (n + 1) else n
+
+-- a row with its last sign, its load and its error after an entry that serves the registration of that number
+abbrev pub row_after : CoreEntry → Option ℕ → ServerRow → ServerRow
+row_after e served row = record row {
+  seen = if renews_by e.kind row.server || is_this served row.reg then e.now else row.seen;
+  load = one_more_if (takes_by e.kind row.reg) row.load;
+  error = error_after e row.reg row.error;
+}
 
 -- the row of the registration that an entry of this number makes
 abbrev pub row_by : CoreKind → ℕ → ℕ → Option ServerRow
@@ -15,13 +81,7 @@ row_by (Beat server nonce cpus key pruned reaped replaced is_new) number now =
     if is_new then Some (record { reg = number; server = server; cpus = cpus; nonce = nonce; seen = now; load = 0; error = None }) else None
 row_by other number now = None
 
--- a row after an entry that is a heartbeat or a status
-abbrev pub row_after : CoreEntry → ServerRow → ServerRow
-row_after e row = if renews_by e.kind row.server then record row { seen = e.now } else row
-
--- whether an entry leaves the registration standing
-abbrev pub row_stays : CoreEntry → ServerRow → Bool
-row_stays e row = not (ends_by e.kind row.reg)
+-- the keys of the registrations that stand
 
 -- the number of a registration, and its key
 abbrev pub key_of : Registered → ℕ × List ℕ
@@ -40,23 +100,165 @@ key_by other number = None
 abbrev pub key_stays : CoreEntry → ℕ × List ℕ → Bool
 key_stays e k = not (ends_by e.kind k.0)
 
--- a heartbeat or a status
-abbrev pub is_quiet : CoreKind → Bool
-is_quiet (Beat server nonce cpus key pruned reaped replaced is_new) = true
-is_quiet (Status pruned servers cpus jobs) = true
-is_quiet other = false
+-- the unended reservations
 
--- heartbeats and statuses alone
-abbrev pub IsQuiet : List CoreEntry → Type 0
-IsQuiet log = AllByRecursion (λ e. is_quiet e.kind ≡ true) log
+-- the state in which an entry commits the job and keeps it
+abbrev pub begins_by : CoreKind → JobId → Option JobState
+begins_by (Commit job state kept) j = if kept && same_job job j then Some state else None
+begins_by other j = None
 
--- the rows and the keys are those of the log, which has heartbeats and statuses alone
-pub record AreBooks (kept_rows : List ServerRow) (kept_keys : List (ℕ × List ℕ)) (log : List CoreEntry) : Type 0 where
-  pub rows : kept_rows ≡ servers_of log
+-- the state of the job after an entry: that of a commit, or where it is committed that of an accepted update
+abbrev pub state_after : CoreKind → JobId → Option JobState → Option JobState
+state_after kind job before = newer (begins_by kind job) (option_map (λ s. unwrap_or (moves_by kind job) s) before)
+
+-- whether an entry leaves the reservation unended
+abbrev pub held_stays : CoreKind → HeldRow → Bool
+held_stays kind h = not (frees_by kind h.job h.reg)
+
+-- the row of a reservation after an entry
+abbrev pub held_after : CoreKind → HeldRow → HeldRow
+held_after kind h = record h { state = state_after kind h.job h.state; claimed = h.claimed || claims_by kind h.job }
+
+-- the reservation that an entry of this number makes
+abbrev pub held_by : CoreKind → ℕ → ℕ → Option HeldRow
+held_by (Reserve (Job job reg forgiven)) number now = Some (record { number = number; job = job; reg = reg; reserved_at = now; state = None; claimed = false })
+held_by other number now = None
+
+-- the same with the address of the registration
+
+abbrev pub job_stays : CoreKind → JobRow → Bool
+job_stays kind j = not (frees_by kind j.job j.reg)
+
+abbrev pub job_after : CoreKind → JobRow → JobRow
+job_after kind j = record j { state = state_after kind j.job j.state; claimed = j.claimed || claims_by kind j.job }
+
+-- at the row of its registration
+abbrev pub job_over : Option ServerRow → ℕ → JobId → ℕ → Option JobRow
+job_over None number job now = None
+job_over (Some row) number job now = Some (record { number = number; job = job; reg = row.reg; server = row.server; reserved_at = now; state = None; claimed = false })
+
+abbrev pub job_in : Reserved → List ServerRow → ℕ → ℕ → Option JobRow
+job_in (Job job reg forgiven) rows number now = job_over (find (λ r. r.reg == reg) rows) number job now
+job_in other rows number now = None
+
+abbrev pub job_by : CoreKind → List ServerRow → ℕ → ℕ → Option JobRow
+job_by (Reserve reserved) rows number now = job_in reserved rows number now
+job_by other rows number now = None
+
+-- the list with the row put in its place by the job id
+abbrev pub job_placed : Option JobRow → List JobRow → List JobRow
+job_placed None jobs = jobs
+job_placed (Some j) jobs = placed (λ x. x.job.0) j jobs
+
+-- the open jobs
+
+-- whether an entry leaves the job open
+abbrev pub open_stays : CoreKind → OpenRow → Bool
+open_stays kind o = not (closes_by kind o.job o.reg)
+
+-- the row of an open job after an entry
+abbrev pub open_after : CoreKind → OpenRow → OpenRow
+open_after kind o = record o { state = unwrap_or (moves_by kind o.job) o.state }
+
+-- the open job that a commit keeps, at the place of its reservation
+abbrev pub open_over : Option JobRow → JobState → Option OpenRow
+open_over None state = None
+open_over (Some j) state = Some (record { job = j.job; reg = Some j.reg; server = Some j.server; state = state })
+
+abbrev pub open_by : CoreKind → List JobRow → Option OpenRow
+open_by (Commit job state kept) jobs = if kept && not (is_complete state) then open_over (find (λ j. same_job j.job job) jobs) state else None
+open_by other jobs = None
+
+-- the unspent reservations
+
+-- whether an entry leaves the reservation unspent
+abbrev pub unspent_stays : CoreKind → UnspentRow → Bool
+unspent_stays kind u = not (spends_by kind u.job)
+
+-- the new reservation, as one that is unspent
+abbrev pub unspent_by : Option JobRow → Option UnspentRow
+unspent_by None = None
+unspent_by (Some j) = Some (record { number = j.number; job = j.job; reg = j.reg; server = j.server })
+
+-- a reservation's number, job and registration
+abbrev pub place_of_unspent : UnspentRow → (ℕ × JobId) × ℕ
+place_of_unspent u = ((u.number, u.job), u.reg)
+
+abbrev pub place_of_booking : Booking → (ℕ × JobId) × ℕ
+place_of_booking b = ((b.number, b.job), b.reg)
+
+-- the lists after an entry of this number
+
+abbrev pub rows_next : Books → CoreEntry → ℕ → List ServerRow
+rows_next books e number = map (row_after e (served_by e.kind books.open_ones.items)) (map (row_freed e.kind books.held.items) (filter (row_stays e.kind) books.rows.items)) ++ option_to_list (row_by e.kind number e.now)
+
+abbrev pub held_next : Books → CoreEntry → ℕ → List HeldRow
+held_next books e number = map (held_after e.kind) (filter (held_stays e.kind) books.held.items) ++ option_to_list (held_by e.kind number e.now)
+
+abbrev pub jobs_next : Books → CoreEntry → ℕ → List JobRow
+jobs_next books e number = job_placed (job_by e.kind books.rows.items number e.now) (map (job_after e.kind) (filter (job_stays e.kind) books.jobs.items))
+
+abbrev pub open_next : Books → CoreEntry → List OpenRow
+open_next books e = map (open_after e.kind) (filter (open_stays e.kind) books.open_ones.items) ++ option_to_list (open_by e.kind books.jobs.items)
+
+abbrev pub unspent_next : Books → CoreEntry → ℕ → List UnspentRow
+unspent_next books e number = filter (unspent_stays e.kind) books.unspent.items ++ option_to_list (unspent_by (job_by e.kind books.rows.items number e.now))
+
+abbrev pub made_next : Books → CoreEntry → ℕ
+made_next books e = one_more_if (is_booked e.kind) books.made
+
+-- a job is reserved at one of the rows
+abbrev pub IsAtRow : Reserved → List ServerRow → Type 0
+IsAtRow (Job job reg forgiven) rows = list_any (λ r. r.reg == reg) rows ≡ true
+IsAtRow other rows = Unit {0}
+
+-- room
+
+-- a heartbeat or a reserve may add a row
+abbrev pub MayMake : CoreKind → Type 0
+MayMake (Beat server nonce cpus key pruned reaped replaced is_new) = Unit {0}
+MayMake (Reserve reserved) = Unit {0}
+MayMake other = ⊥
+
+-- there is room for one row more of each kind
+pub record HasRoom (books : Books) : Type 0 where
+  pub rows : vec_len books.rows < vec_capacity books.rows
+  pub held : vec_len books.held < vec_capacity books.held
+  pub jobs : vec_len books.jobs < vec_capacity books.jobs
+  pub unspent : vec_len books.unspent < vec_capacity books.unspent
+
+-- the same lists, whatever room there is
+pub record SameBooks (old new : Books) : Type 0 where
+  pub rows : new.rows.items ≡ old.rows.items
+  pub held : new.held.items ≡ old.held.items
+  pub jobs : new.jobs.items ≡ old.jobs.items
+  pub open_ones : new.open_ones.items ≡ old.open_ones.items
+  pub unspent : new.unspent.items ≡ old.unspent.items
+  pub made : new.made ≡ old.made
+
+-- an entry that spends one of the reservations
+abbrev pub SpendsOne : CoreKind → List UnspentRow → Type 0
+SpendsOne (Commit job state kept) unspent = list_any (λ u. same_job job u.job) unspent ≡ true
+SpendsOne (Undo job noted was_ended) unspent = list_any (λ u. same_job job u.job) unspent ≡ true
+SpendsOne other unspent = ⊥
+
+-- all of it
+
+-- the books are the log's
+pub record AreBooks (books : Books) (kept_keys : List (ℕ × List ℕ)) (log : List CoreEntry) : Type 0 where
+  pub rows : books.rows.items ≡ servers_of log
   pub keys : kept_keys ≡ keys_of log
-  pub quiet : IsQuiet log
+  pub held : books.held.items ≡ held_rows log
+  pub jobs : map held_part books.jobs.items ≡ held_by_id log
+  pub jobs_placed : AllByRecursion (λ j. address_of log j.reg ≡ Some j.server) books.jobs.items
+  pub open_ones : books.open_ones.items ≡ open_rows log
+  pub unspent : map place_of_unspent books.unspent.items ≡ map place_of_booking (unspent log)
+  pub unspent_placed : AllByRecursion (λ u. (place_at log u.number ≡ Some u.reg) × (address_of log u.reg ≡ Some u.server)) books.unspent.items
+  pub made : books.made ≡ length (bookings log)
 
--- the books are the log's, and each entry of the log is the core rule's
-pub record IsState (base count : ℕ) (kept_rows : List ServerRow) (kept_keys : List (ℕ × List ℕ)) (log : List CoreEntry) : Type 0 where
-  pub books : AreBooks kept_rows kept_keys log
+-- The books are the log's, and each entry of the log is the core rule's. The log, and the list of the open jobs, have room for each unspent reservation to be spent.
+pub record IsState (base count : ℕ) (kept : Books) (kept_keys : List (ℕ × List ℕ)) (log : List CoreEntry) (log_len log_capacity : ℕ) : Type 0 where
+  pub books : AreBooks kept kept_keys log
   pub legal : IsLegal base count log
+  pub log_room : log_len + length kept.unspent.items ≤ log_capacity
+  pub open_room : vec_len kept.open_ones + length kept.unspent.items ≤ vec_capacity kept.open_ones

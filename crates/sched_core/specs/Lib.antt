@@ -4,6 +4,8 @@ pub mod Reservation
 pub mod Fault
 pub mod Job
 pub mod Rows
+pub mod Ticket
+pub mod Answers
 pub mod Pick
 pub mod Prune
 pub mod Reap

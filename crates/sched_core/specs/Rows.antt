@@ -1,10 +1,13 @@
 -- What is asked of the log, as rows.
-use Rattle.std.specs.Prelude.{List, map}
-use Rattle.std.specs.Prelude.{option_and_then}
+use Rattle.std.specs.Prelude.{ℕ, List, [], ◌∷◌, map, Option, option_and_then, nat_lt, if◌then◌else◌}
+use Rattle.std.specs.List.{filter_map}
+use Rattle.std.specs.Option.{option_map}
+use Rattle.dist_types.specs.declared.addr.Addr.{Addr}
 use Rattle.sched_core.specs.declared.entry.CoreEntry.{CoreEntry}
 use Rattle.sched_core.specs.declared.rows.ServerRow.{ServerRow}
 use Rattle.sched_core.specs.declared.rows.HeldRow.{HeldRow}
 use Rattle.sched_core.specs.declared.rows.OpenRow.{OpenRow}
+use Rattle.sched_core.specs.declared.rows.JobRow.{JobRow}
 use Rattle.sched_core.specs.Standing.{Registered, standing, last_sign, address_of}
 use Rattle.sched_core.specs.Reservation.{Booking, unended, is_claimed, load_of}
 use Rattle.sched_core.specs.Fault.{error_of}
@@ -33,3 +36,29 @@ open_of log c = record { job = c.job; reg = c.reg; server = option_and_then (add
 -- the open jobs, in the order of their commits
 abbrev pub open_rows : List CoreEntry → List OpenRow
 open_rows log = map (open_of log) (open_jobs log)
+
+-- a row put before the first whose number is greater
+abbrev pub placed : {X : Type 0} → (X → ℕ) → X → List X → List X
+placed number x [] = x ∷ []
+placed number x (y ∷ ys) = if nat_lt (number x) (number y) then x ∷ y ∷ ys else y ∷ placed number x ys
+
+-- some rows put so one after the other among those that are placed
+abbrev pub sorted_into : {X : Type 0} → (X → ℕ) → List X → List X → List X
+sorted_into number done [] = done
+sorted_into number done (x ∷ xs) = sorted_into number (placed number x done) xs
+
+-- the unended reservations, by rising job id
+abbrev pub held_by_id : List CoreEntry → List HeldRow
+held_by_id log = sorted_into (λ h. h.job.0) [] (held_rows log)
+
+-- a reservation with the address of its registration
+abbrev pub job_at : Addr → HeldRow → JobRow
+job_at server h = record { number = h.number; job = h.job; reg = h.reg; server = server; reserved_at = h.reserved_at; state = h.state; claimed = h.claimed }
+
+-- and without it
+abbrev pub held_part : JobRow → HeldRow
+held_part j = record { number = j.number; job = j.job; reg = j.reg; reserved_at = j.reserved_at; state = j.state; claimed = j.claimed }
+
+-- the unended reservations, by rising job id, each with the address of its registration
+abbrev pub jobs_of : List CoreEntry → List JobRow
+jobs_of log = filter_map (λ h. option_map (λ server. job_at server h) (address_of log h.reg)) (held_by_id log)

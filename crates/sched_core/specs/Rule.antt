@@ -11,6 +11,7 @@ use Rattle.dist_types.specs.declared.results.SchedulerStatusResult.{SchedulerSta
 use Rattle.sched_core.specs.declared.entry.CoreEntry.{CoreEntry}
 use Rattle.sched_core.specs.declared.entry.CoreKind.{CoreKind}
 use Rattle.sched_core.specs.declared.entry.CoreKind.TheVariants.{Reserve, Commit, Undo, Beat, Update, Status}
+use Rattle.sched_core.specs.declared.entry.Reserved.{Reserved}
 use Rattle.sched_core.specs.declared.entry.Reserved.TheVariants.{Job, NoRoom, Spent}
 use Rattle.sched_core.specs.declared.rows.ServerRow.{ServerRow}
 use Rattle.sched_core.specs.declared.rows.HeldRow.{HeldRow}
@@ -28,11 +29,14 @@ use Rattle.sched_core.specs.Advance.{advance}
 
 -- reserve: the job with the next id at the pick, or none where nothing has room, or spent where the ids are
 
+-- what becomes of a reserve, by its pick
+abbrev pub reserved_at : Option ServerRow → List ServerRow → ℕ → ℕ → ℕ → Reserved
+reserved_at None rows now base given = NoRoom (length rows)
+reserved_at (Some row) rows now base given = if given == 2 ^ 64 - 1 then Spent else Job (record { 0 = (base + given) % 2 ^ 64 }) row.reg (forgiven now rows)
+
 -- the entry of a reserve, by its pick
 abbrev pub reserve_at : Option ServerRow → List ServerRow → ℕ → ℕ → ℕ → CoreEntry
-reserve_at None rows now base given = record { now = now; kind = Reserve (NoRoom (length rows)) }
-reserve_at (Some row) rows now base given =
-    record { now = now; kind = Reserve (if given == 2 ^ 64 - 1 then Spent else Job (record { 0 = (base + given) % 2 ^ 64 }) row.reg (forgiven now rows)) }
+reserve_at picked rows now base given = record { now = now; kind = Reserve (reserved_at picked rows now base given) }
 
 -- over the rows of the registrations that stand, where so many ids were given before
 abbrev pub reserve_over : List ServerRow → ℕ → ℕ → ℕ → CoreEntry

@@ -88,3 +88,7 @@ last_sign g = latest g.now (map (λ c. c.at.now) (filter (is_sign g.server g.reg
 -- the address of the registration of that number, if one was ever made
 abbrev pub address_of : List CoreEntry → ℕ → Option Addr
 address_of log reg = newest None (map (λ g. g.server) (lasting registered_at (λ g. g.reg == reg) log))
+
+-- the key that the heartbeat of the registration of that number carried, if one was ever made
+abbrev pub key_at : List CoreEntry → ℕ → Option (List ℕ)
+key_at log reg = newest None (map (λ g. g.key) (lasting registered_at (λ g. g.reg == reg) log))

@@ -5,13 +5,14 @@ ghost use Rattle.sched_core.specs.Standing.{ends_by, renews_by, reserves_by, is_
 ghost use Rattle.sched_core.specs.Reservation.{spends_by, is_accepted, is_started, is_complete, completes_by, reaps_by, undoes_by, ends_job_by, frees_by, claims_by};
 ghost use Rattle.sched_core.specs.Fault.{notes_by, forgives_by};
 ghost use Rattle.sched_core.specs.Job.{places_by, moves_by, ends_place_by, closes_by};
+ghost use Rattle.sched_core.specs.Books.{takes_by, begins_by};
 
 use crate::entry::{CoreKind, Reserved, UpdateAnswer};
 use dist_types::ids::{JobId, ServerId};
 use dist_types::results::JobState;
 
 /// Whether there is a number, and it is this one.
-fn is_number(there: Option<u64>, number: u64) -> bool
+pub fn is_number(there: Option<u64>, number: u64) -> bool
     ensures { result ≡ is_this there number }
 {
     match there {
@@ -54,6 +55,22 @@ pub fn renews(kind: &CoreKind, at: ServerId) -> bool
         CoreKind::Commit { .. } => false,
         CoreKind::Undo { .. } => false,
         CoreKind::Beat { server, is_new, .. } => !*is_new && at == *server,
+        CoreKind::Update { .. } => false,
+        CoreKind::Status { .. } => false,
+    }
+}
+
+/// Whether an entry of this kind reserves a job at the registration.
+pub fn takes(kind: &CoreKind, r: u64) -> bool
+    ensures { result ≡ takes_by kind.now r }
+{
+    match kind {
+        CoreKind::Reserve(Reserved::Job { reg, .. }) => *reg == r,
+        CoreKind::Reserve(Reserved::NoRoom(_)) => false,
+        CoreKind::Reserve(Reserved::Spent) => false,
+        CoreKind::Commit { .. } => false,
+        CoreKind::Undo { .. } => false,
+        CoreKind::Beat { .. } => false,
         CoreKind::Update { .. } => false,
         CoreKind::Status { .. } => false,
     }
@@ -258,6 +275,26 @@ pub fn places(kind: &CoreKind, j: JobId) -> Option<u64>
         CoreKind::Reserve(Reserved::NoRoom(_)) => None,
         CoreKind::Reserve(Reserved::Spent) => None,
         CoreKind::Commit { .. } => None,
+        CoreKind::Undo { .. } => None,
+        CoreKind::Beat { .. } => None,
+        CoreKind::Update { .. } => None,
+        CoreKind::Status { .. } => None,
+    }
+}
+
+/// The state in which an entry of this kind commits the job and keeps it.
+pub fn begins(kind: &CoreKind, j: JobId) -> Option<JobState>
+    ensures { result ≡ begins_by kind.now j }
+{
+    match kind {
+        CoreKind::Reserve(_) => None,
+        CoreKind::Commit { job, state, kept } => {
+            if *kept && job.0 == j.0 {
+                Some(*state)
+            } else {
+                None
+            }
+        }
         CoreKind::Undo { .. } => None,
         CoreKind::Beat { .. } => None,
         CoreKind::Update { .. } => None,

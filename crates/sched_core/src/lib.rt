@@ -4,18 +4,23 @@
 //! which reservations are unended, which jobs are open, and the one entry that a call makes.
 //! The contract: each call of `SchedState` appends exactly the entry of the core rule over the log
 //! before, and answers what that entry says; what it keeps beside the log equals the filters.
-//! The layer above uses `SchedState`, `CoreEntry` with its `copy`, `ServerRow`, `SchedError` and, in
-//! its own clauses, `rule`, `IsLegal` and the answers read off an entry.
+//! The layer above uses `SchedState`, `Reservation`, `CoreEntry` with its `copy`, `ServerRow`, `JobRow`,
+//! `SchedError` and, in its own clauses, `rule`, `IsLegal` and the answers read off an entry.
 #![tactic(auto)]
 
+pub mod answers;
+mod books;
 pub mod call;
 pub mod entry;
 pub mod error;
+mod held;
 mod keys;
 mod kind;
 pub mod laws;
 pub mod plain;
+pub mod reservation;
 pub mod rows;
 pub mod rules;
+mod spending;
 mod standing;
 pub mod state;

@@ -528,7 +528,7 @@ pub fn is_held(held: &[HeldRow], number: u64, job: JobId) -> bool
 }
 
 /// Whether an entry of this kind makes a reservation.
-fn is_reservation(kind: &CoreKind) -> bool
+pub(crate) fn is_reservation(kind: &CoreKind) -> bool
     ensures { result ≡ is_booked kind.now }
 {
     match kind {

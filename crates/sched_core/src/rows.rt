@@ -42,6 +42,25 @@ pub struct HeldRow {
     pub claimed: bool,
 }
 
+/// A reservation that is unended, with the address of its registration.
+#[derive(Clone, Copy, Debug)]
+pub struct JobRow {
+    /// The number of the reservation: the place in the log of the entry that made it.
+    pub number: u64,
+    /// Its job.
+    pub job: JobId,
+    /// The registration that it is at.
+    pub reg: u64,
+    /// The address of that registration.
+    pub server: ServerId,
+    /// The moment at which it was made, in milliseconds.
+    pub reserved_at: u64,
+    /// The state of its job, if the job is committed.
+    pub state: Option<JobState>,
+    /// Whether the build has begun.
+    pub claimed: bool,
+}
+
 /// A job that is committed and open.
 #[derive(Clone, Copy, Debug)]
 pub struct OpenRow {
@@ -88,6 +107,45 @@ impl<'a> Iterator for Servers<'a> {
     ghost remaining = { item_count (λ s. s) };
 
     fn next(&mut self) -> Option<ServerRow> {
+        let (first, others) = self.rest.split_first()?;
+        self.rest = others;
+        Some(*first)
+    }
+}
+
+/// The unended reservations, by rising job id. Contracts see it as the list of the rows that are still
+/// to come.
+#[derive(Drop)]
+pub struct Jobs<'a> {
+    rest: &'a [JobRow],
+}
+
+impl<'a> Model for Jobs<'a> {
+    ghost use Rattle.std.specs.Prelude.{List};
+    ghost use Rattle.sched_core.specs.declared.rows.JobRow.{JobRow};
+
+    ghost Value = { List JobRow };
+
+    ghost view = { λ s. s.rest.now };
+}
+
+impl<'a> Jobs<'a> {
+    /// The rows of a slice.
+    pub fn new(rest: &'a [JobRow]) -> Self
+        ensures rows { result ≡ rest.now }
+    {
+        Jobs { rest }
+    }
+}
+
+impl<'a> Iterator for Jobs<'a> {
+    type Item = JobRow;
+
+    ghost next_gives = { YieldsFirst (λ s. s) };
+
+    ghost remaining = { item_count (λ s. s) };
+
+    fn next(&mut self) -> Option<JobRow> {
         let (first, others) = self.rest.split_first()?;
         self.rest = others;
         Some(*first)

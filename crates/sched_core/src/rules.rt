@@ -10,7 +10,7 @@ ghost use Rattle.sched_core.specs.Pick.{has_room, roomy, is_faultless, is_lighte
 ghost use Rattle.sched_core.specs.Prune.{prune};
 ghost use Rattle.sched_core.specs.Reap.{is_overdue, is_reaped, reap};
 ghost use Rattle.sched_core.specs.Advance.{follows, is_at, advance_by, advance};
-ghost use Rattle.sched_core.specs.Rule.{rule, is_among, place_at, noted_over, reserve_at, reaped_by, replaced_by, says_new, is_left, counts_over, beat_over, commit_by, undo_by, update_over, status_over};
+ghost use Rattle.sched_core.specs.Rule.{rule, is_among, place_at, noted_over, reserved_at, reaped_by, replaced_by, says_new, is_left, counts_over, beat_over, commit_by, undo_by, update_over, status_over};
 
 use crate::call::Call;
 use crate::entry::{CoreEntry, CoreKind, Reserved, UpdateAnswer};
@@ -270,14 +270,14 @@ fn is_there(there: Option<ServerId>, server: ServerId) -> bool
 }
 
 /// The open job of that id.
-fn open_job(rows: &[OpenRow], job: JobId) -> Option<OpenRow>
+pub(crate) fn open_job(rows: &[OpenRow], job: JobId) -> Option<OpenRow>
     ensures { result ≡ find (λ o. same_job o.job job) rows.now }
 {
     rows.iter().copied().find(|o| o.job.0 == job.0)
 }
 
 /// What an update of that open job answers.
-fn answer_by(found: &Option<OpenRow>, server: ServerId, state: JobState) -> UpdateAnswer
+pub(crate) fn answer_by(found: &Option<OpenRow>, server: ServerId, state: JobState) -> UpdateAnswer
     ensures { result ≡ advance_by found.now server state }
 {
     match found {
@@ -298,43 +298,51 @@ fn answer_by(found: &Option<OpenRow>, server: ServerId, state: JobState) -> Upda
 
 // The entry of each call.
 
-/// The entry of a reserve that picked that registration.
-fn reserve_entry(
+/// What becomes of a reserve that picked that registration.
+fn reserved(
     rows: &[ServerRow],
     picked: &Option<ServerRow>,
     numbers: Vec<u64>,
     now: u64,
     base: u64,
     given: u128,
-) -> CoreEntry
+) -> Reserved
     requires forgiven { numbers.items ≡ forgiven now rows.now }
     requires fits { given < 2 ^ 66 }
-    ensures { result ≡ reserve_at picked.now rows.now now base given }
+    ensures { result ≡ reserved_at picked.now rows.now now base given }
 {
     match picked {
-        None => CoreEntry {
-            now,
-            kind: CoreKind::Reserve(Reserved::NoRoom(rows.len() as u64)),
-        },
+        None => Reserved::NoRoom(rows.len() as u64),
         Some(row) => {
             if given == u128::from(u64::MAX) {
-                CoreEntry {
-                    now,
-                    kind: CoreKind::Reserve(Reserved::Spent),
-                }
+                Reserved::Spent
             } else {
                 let job = JobId(((u128::from(base) + given) % 18446744073709551616) as u64);
-                CoreEntry {
-                    now,
-                    kind: CoreKind::Reserve(Reserved::Job {
-                        job,
-                        reg: row.reg,
-                        forgiven: Items::new(numbers),
-                    }),
+                Reserved::Job {
+                    job,
+                    reg: row.reg,
+                    forgiven: Items::new(numbers),
                 }
             }
         }
     }
+}
+
+/// What becomes of a reserve over those rows, where so many ids were given before. Refused for want of
+/// memory alone.
+pub(crate) fn reserve_over_rows(
+    alloc: Global,
+    rows: &[ServerRow],
+    now: u64,
+    base: u64,
+    given: u128,
+) -> Result<Reserved, AllocError>
+    requires fits { given < 2 ^ 66 }
+    ensures { IfOk result (λ r. r ≡ reserved_at (pick rows.now) rows.now now base given) }
+{
+    let row = picked(alloc, rows)?;
+    let numbers = forgiven_numbers(alloc, rows, now)?;
+    Ok(reserved(rows, &row, numbers, now, base, given))
 }
 
 /// The entry of a reserve.
@@ -349,13 +357,12 @@ fn reserve(
 {
     let rows = servers(alloc, log)?;
     let given = u128::from(count) + u128::from(reservation_count(log));
-    let row = picked(alloc, &rows)?;
-    let numbers = forgiven_numbers(alloc, &rows, now)?;
-    Ok(reserve_entry(&rows, &row, numbers, now, base, given))
+    let kind = CoreKind::Reserve(reserve_over_rows(alloc, &rows, now, base, given)?);
+    Ok(CoreEntry { now, kind })
 }
 
 /// The registration that stands at an address, if there is one.
-fn noted_number(rows: &[ServerRow], server: Option<ServerId>) -> Option<u64>
+pub(crate) fn noted_number(rows: &[ServerRow], server: Option<ServerId>) -> Option<u64>
     ensures { result ≡ noted_over rows.now server }
 {
     match server {
@@ -431,7 +438,7 @@ fn reaped_there(
 }
 
 /// The entry of a heartbeat over those rows. Refused for want of memory alone.
-fn beat_over_rows(
+pub(crate) fn beat_over_rows(
     alloc: Global,
     rows: &[ServerRow],
     held: &[HeldRow],
@@ -439,14 +446,14 @@ fn beat_over_rows(
     server: ServerId,
     nonce: ServerNonce,
     cpus: u64,
-    key: &Bytes,
+    key: &[u8],
 ) -> Result<CoreEntry, AllocError>
     ensures { IfOk result (λ e. e ≡ beat_over rows.now held.now now server nonce cpus key.now) }
 {
     let pruned = standing::pruned_numbers(alloc, rows, now)?;
     let there = standing::survivor(rows, now, server);
     let reaped = reaped_there(alloc, held, &there, now, nonce)?;
-    let key = key.copy(alloc)?;
+    let key = Bytes::from_slice(alloc, key)?;
     let kind = CoreKind::Beat {
         server,
         nonce,
@@ -474,7 +481,7 @@ fn beat(
 {
     let rows = servers(alloc, log)?;
     let held = reservations(alloc, log)?;
-    beat_over_rows(alloc, &rows, &held, now, server, nonce, cpus, key)
+    beat_over_rows(alloc, &rows, &held, now, server, nonce, cpus, key.get())
 }
 
 /// The entry of an update. Refused for want of memory alone.
@@ -518,7 +525,12 @@ fn jobs_left(pruned: &[u64], jobs: &[OpenRow]) -> u64
 }
 
 /// The numbers of a status.
-fn counts(rows: &[ServerRow], jobs: &[OpenRow], pruned: &[u64], now: u64) -> SchedulerStatusResult
+pub(crate) fn counts(
+    rows: &[ServerRow],
+    jobs: &[OpenRow],
+    pruned: &[u64],
+    now: u64,
+) -> SchedulerStatusResult
     requires { pruned.now ≡ prune now rows.now }
     ensures { result ≡ counts_over rows.now jobs.now now }
 {

@@ -1,15 +1,18 @@
-//! What a heartbeat and a status do to the rows of the registrations that stand.
-ghost use Rattle.std.specs.Prelude.{◌≡◌, ◌<◌, ◌++◌, ◌∷◌, [], ◌-◌, ◌^◌, IfOk, IsSome, map, filter, length, min, sum_by, option_to_list, vec_len, vec_capacity};
+//! The rows of the registrations that stand, and what one entry does to them.
+ghost use Rattle.std.specs.Prelude.{◌≡◌, ◌<◌, ◌≤◌, ◌+◌, ◌++◌, ◌∷◌, ◌||◌, ◌==◌, [], ◌-◌, ◌^◌, IfOk, IsSome, None, true, false, map, filter, find, length, min, sum_by, option_to_list, vec_len, vec_capacity, if◌then◌else◌};
+ghost use Rattle.sched_core.specs.Log.{is_this, same_job};
+ghost use Rattle.sched_core.specs.Standing.{renews_by};
 ghost use Rattle.sched_core.specs.Prune.{is_expired, prune, left, at_address};
-ghost use Rattle.sched_core.specs.Rule.{replaced_by, says_new, beat_over, counts_over, status_by};
-ghost use Rattle.sched_core.specs.Books.{row_by, row_after, row_stays};
+ghost use Rattle.sched_core.specs.Rule.{replaced_by, says_new, counts_over, status_by};
+ghost use Rattle.sched_core.specs.Books.{row_by, row_after, row_stays, row_lowered, row_freed, place_if, served_by, takes_by, one_more_if, error_after};
 
 use crate::entry::{CoreEntry, CoreKind};
-use crate::kind::{ends, renews};
-use crate::rows::ServerRow;
-use dist_types::ids::{ServerId, ServerNonce};
+use crate::kind::{ends, forgives, frees, heard, is_number, notes, renews, takes};
+use crate::rows::{HeldRow, OpenRow, ServerRow};
+use crate::rules::open_job;
+use dist_types::ids::{JobId, ServerId, ServerNonce};
 use dist_types::results::SchedulerStatusResult;
-use dist_types::text::{Bytes, Items};
+use dist_types::text::Items;
 use std::alloc::{AllocError, Global};
 
 /// A registration whose last sign is older is pruned, in milliseconds.
@@ -49,21 +52,29 @@ pub fn row_at(rows: &[ServerRow], server: ServerId) -> Option<ServerRow>
     rows.iter().copied().find(|row| row.server == server)
 }
 
-/// Takes out the registrations that an entry ends.
-pub fn end_rows(rows: &mut Vec<ServerRow>, step: &CoreEntry)
-    ensures items { rows.new.items ≡ filter (row_stays step.entry.now) rows.old.items }
-    ensures room { vec_len rows.old < vec_capacity rows.old → vec_len rows.new < vec_capacity rows.new }
+/// The registration of that number.
+pub fn row_numbered(rows: &[ServerRow], reg: u64) -> Option<ServerRow>
+    ensures { result ≡ find (λ r. r.reg == reg) rows.now }
 {
-    rows.retain(|row| !ends(&step.kind, row.reg));
+    rows.iter().copied().find(|row| row.reg == reg)
 }
 
-/// The row after an entry.
-fn renewed(row: ServerRow, step: &CoreEntry) -> ServerRow
-    ensures { result ≡ row_after step.entry.now row }
+/// Takes out the registrations that an entry ends.
+pub fn end_rows(rows: &mut Vec<ServerRow>, kind: &CoreKind)
+    ensures items { rows.new.items ≡ filter (row_stays kind.now) rows.old.items }
+    ensures len { vec_len rows.new ≤ vec_len rows.old }
+    ensures capacity { vec_capacity rows.new ≡ vec_capacity rows.old }
 {
-    if renews(&step.kind, row.server) {
+    rows.retain(|row| !ends(kind, row.reg));
+}
+
+/// The row with one reservation less, where it is that registration's.
+fn lowered(row: ServerRow, reg: u64) -> ServerRow
+    ensures { result ≡ row_lowered reg row }
+{
+    if reg == row.reg {
         ServerRow {
-            seen: step.now,
+            load: row.load.saturating_sub(1),
             ..row
         }
     } else {
@@ -71,12 +82,131 @@ fn renewed(row: ServerRow, step: &CoreEntry) -> ServerRow
     }
 }
 
-/// Gives the registrations that an entry renews their new last sign.
-pub fn renew_rows(rows: &mut Vec<ServerRow>, step: &CoreEntry)
-    ensures { rows.new.items ≡ map (row_after step.entry.now) rows.old.items }
+/// Takes one reservation from the load of a registration.
+fn lower(rows: &mut Vec<ServerRow>, reg: u64)
+    ensures items { rows.new.items ≡ map (row_lowered reg) rows.old.items }
+    ensures len { vec_len rows.new ≡ vec_len rows.old }
+    ensures capacity { vec_capacity rows.new ≡ vec_capacity rows.old }
 {
     for row in rows.iter_mut() {
-        *row = renewed(*row, step);
+        *row = lowered(*row, reg);
+    }
+}
+
+/// The same, where the reservation ended.
+fn lower_if(rows: &mut Vec<ServerRow>, freed: bool, reg: u64)
+    ensures freed { freed ≡ true → rows.new.items ≡ map (row_lowered reg) rows.old.items }
+    ensures kept { freed ≡ false → rows.new.items ≡ rows.old.items }
+    ensures len { vec_len rows.new ≡ vec_len rows.old }
+    ensures capacity { vec_capacity rows.new ≡ vec_capacity rows.old }
+{
+    if freed {
+        lower(rows, reg);
+    }
+}
+
+/// Takes the reservations that an entry ends from the loads of their registrations.
+pub fn free_rows(rows: &mut Vec<ServerRow>, held: &[HeldRow], kind: &CoreKind)
+    ensures items { rows.new.items ≡ map (row_freed kind.now held.now) rows.old.items }
+    ensures len { vec_len rows.new ≡ vec_len rows.old }
+    ensures capacity { vec_capacity rows.new ≡ vec_capacity rows.old }
+{
+    for h in held {
+        let freed = frees(kind, h.job, h.reg);
+        lower_if(rows, freed, h.reg);
+    }
+}
+
+/// The registration of an open job, if there is one.
+fn place_of(found: &Option<OpenRow>) -> Option<u64>
+    ensures { result ≡ place_if found.now }
+{
+    match found {
+        Some(o) => o.reg,
+        None => None,
+    }
+}
+
+/// The registration of the open job of that id, where it counts.
+fn place_if_heard(heard: bool, open_ones: &[OpenRow], job: JobId) -> Option<u64>
+    ensures { result ≡ (if heard then place_if (find (λ o. same_job o.job job) open_ones.now) else None) }
+{
+    if heard {
+        let found = open_job(open_ones, job);
+        place_of(&found)
+    } else {
+        None
+    }
+}
+
+/// The registration whose open job an entry names that counts as a sign.
+pub fn served(kind: &CoreKind, open_ones: &[OpenRow]) -> Option<u64>
+    ensures { result ≡ served_by kind.now open_ones.now }
+{
+    match kind {
+        CoreKind::Reserve(_) => None,
+        CoreKind::Commit { .. } => None,
+        CoreKind::Undo { .. } => None,
+        CoreKind::Beat { .. } => None,
+        CoreKind::Update { job, answer, .. } => place_if_heard(heard(*answer), open_ones, *job),
+        CoreKind::Status { .. } => None,
+    }
+}
+
+/// The moment of the last sign of a registration after an entry.
+fn seen_after(row: &ServerRow, step: &CoreEntry, served: Option<u64>) -> u64
+    ensures { result ≡ (if renews_by step.entry.now.kind row.now.server || is_this served row.now.reg then step.entry.now.now else row.now.seen) }
+{
+    if renews(&step.kind, row.server) || is_number(served, row.reg) {
+        step.now
+    } else {
+        row.seen
+    }
+}
+
+/// One more, at most 2^64 - 1.
+pub fn one_more(more: bool, n: u64) -> u64
+    ensures { result ≡ one_more_if more n }
+{
+    if more { n.saturating_add(1) } else { n }
+}
+
+/// The remembered error of a registration after an entry.
+fn error_now(row: &ServerRow, step: &CoreEntry) -> Option<u64>
+    ensures { result ≡ error_after step.entry.now row.now.reg row.now.error }
+{
+    if notes(&step.kind, row.reg) {
+        Some(step.now)
+    } else if forgives(&step.kind, row.reg) {
+        None
+    } else {
+        row.error
+    }
+}
+
+/// The row of a registration after an entry.
+fn changed(row: &ServerRow, step: &CoreEntry, served: Option<u64>) -> ServerRow
+    ensures { result ≡ row_after step.entry.now served row.now }
+{
+    ServerRow {
+        reg: row.reg,
+        server: row.server,
+        cpus: row.cpus,
+        nonce: row.nonce,
+        seen: seen_after(row, step, served),
+        load: one_more(takes(&step.kind, row.reg), row.load),
+        error: error_now(row, step),
+    }
+}
+
+/// Gives the registrations their last sign, load and error after an entry.
+pub fn change_rows(rows: &mut Vec<ServerRow>, step: &CoreEntry, served: Option<u64>)
+    ensures items { rows.new.items ≡ map (row_after step.entry.now served) rows.old.items }
+    ensures len { vec_len rows.new ≡ vec_len rows.old }
+    ensures capacity { vec_capacity rows.new ≡ vec_capacity rows.old }
+{
+    for row in rows.iter_mut() {
+        *row = changed(row, step, served);
     }
 }
 
@@ -140,33 +270,6 @@ pub fn is_new(there: &Option<ServerRow>, nonce: ServerNonce) -> bool
     }
 }
 
-/// The entry of a heartbeat, where no reservation is unended. Refused for want of memory alone.
-pub fn beat_entry(
-    alloc: Global,
-    rows: &[ServerRow],
-    now: u64,
-    server: ServerId,
-    nonce: ServerNonce,
-    cpus: u64,
-    key: &[u8],
-) -> Result<CoreEntry, AllocError>
-    ensures { IfOk result (λ e. e ≡ beat_over rows.now [] now server nonce cpus key.now) }
-{
-    let pruned = pruned_numbers(alloc, rows, now)?;
-    let there = survivor(rows, now, server);
-    let kind = CoreKind::Beat {
-        server,
-        nonce,
-        cpus,
-        key: Bytes::from_slice(alloc, key)?,
-        pruned: Items::new(pruned),
-        reaped: Items::new(Vec::new(alloc)),
-        replaced: replaced(&there, nonce),
-        is_new: is_new(&there, nonce),
-    };
-    Ok(CoreEntry { now, kind })
-}
-
 /// How many processors are left once those that are silent are pruned, at most 2^64 - 1.
 fn cpus_left(rows: &[ServerRow], now: u64) -> u64
     ensures { result ≡ min (2 ^ 64 - 1) (sum_by (λ r. r.cpus) (left now rows.now)) }
@@ -214,7 +317,9 @@ pub fn status_entry(now: u64, pruned: Vec<u64>, counts: SchedulerStatusResult) -
 /// Adds an element, if there is one, where there is room for it.
 pub fn push_some<T: Drop>(items: &mut Vec<T>, item: Option<T>)
     requires { IsSome item → vec_len items.old < vec_capacity items.old }
-    ensures { items.new.items ≡ items.old.items ++ option_to_list item }
+    ensures items { items.new.items ≡ items.old.items ++ option_to_list item }
+    ensures len { vec_len items.new ≡ vec_len items.old + length (option_to_list item) }
+    ensures capacity { vec_capacity items.old ≤ vec_capacity items.new }
 {
     match item {
         Some(x) => push_reserved(items, x),
@@ -225,7 +330,9 @@ pub fn push_some<T: Drop>(items: &mut Vec<T>, item: Option<T>)
 /// Adds an element where there is room for it.
 pub fn push_reserved<T: Drop>(items: &mut Vec<T>, item: T)
     requires { vec_len items.old < vec_capacity items.old }
-    ensures { items.new.items ≡ items.old.items ++ item ∷ [] }
+    ensures items { items.new.items ≡ items.old.items ++ item ∷ [] }
+    ensures len { vec_len items.new ≡ vec_len items.old + 1 }
+    ensures capacity { vec_capacity items.old ≤ vec_capacity items.new }
 {
     match items.push(item) {
         Ok(()) => (),

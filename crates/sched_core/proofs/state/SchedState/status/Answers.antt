@@ -1,32 +1,19 @@
-use Rattle.std.proofs.Common.{◌++◌, ◌∷◌, [], ap, ◌∙◌}
-use Rattle.sched_core.specs.Log.{logged}
-use Rattle.sched_core.specs.Rule.{counts_of}
+use Rattle.std.proofs.Common.{length, sym, subst}
+use Rattle.std.specs.Prelude.{vec_len, vec_capacity}
+use Rattle.sched_core.specs.Laws.{IsRule}
 use Rattle.sched_core.specs.declared.call.Call.TheVariants as call
-use Rattle.sched_core.proofs.LegalLemmas.{legal-after}
-use Rattle.sched_core.proofs.QuietLemmas.{status-is}
+use Rattle.sched_core.proofs.LegalLemmas.{core_of}
+use Rattle.sched_core.proofs.BookLemmas.{log_room-one, open_room-one}
 use Rattle.sched_core.proofs.state.SchedState.status.Goals as goal
 
-pub invariant_of-self-2 : goal.invariant_of-self-2
-invariant_of-self-2 g c =
+pub take-requires-clause-rule : goal.take-requires-clause-rule
+take-requires-clause-rule g c κs within =
     let s = c.self.inside in
-    let now = c.args.now in
-    let entry = rw (c.in_ok-pruned.ensures, c.counts-answer.ensures, c.deref-2.ensures.value, c.deref.ensures.value) at c.status_entry-entry.ensures in
-    let added = c.take.ensures.log ∙ ap (λ l. l ++ c.status_entry-entry.result ∷ []) c.in_ok-make_room.ensures.log in
-    record {
-      books = c.take.ensures.books;
-      legal = legal-after s.base s.count s.log.items _ c.status_entry-entry.result (call.Status now) c.self.invariant.legal tt
-          (entry ∙ status-is s.base s.count s.rows.items s.keys.items s.log.items now c.self.invariant.books) added;
-    }
+    let entry = rw (c.in_ok-pruned.ensures, c.counts-answer.ensures, c.deref.ensures.value, c.deref-2.ensures.value, c.deref-3.ensures.value, c.self.invariant.books.rows, c.self.invariant.books.open_ones) at c.status_entry-entry.ensures in
+    subst (λ l. IsRule (core_of s.base s.count l) c.status_entry-entry.result) (sym c.in_ok-make_room.ensures.log) (call.Status c.args.now, tt, entry)
 
-pub returns-clause-logged : goal.returns-clause-logged
-returns-clause-logged g c =
-    let s = c.self.inside in
-    let entry = rw (c.in_ok-pruned.ensures, c.counts-answer.ensures, c.deref-2.ensures.value, c.deref.ensures.value) at c.status_entry-entry.ensures in
-    rw (← c.self.view_is, c.take.ensures.log, c.in_ok-make_room.ensures.log)
-    (ap (logged _) (entry ∙ status-is s.base s.count s.rows.items s.keys.items s.log.items c.args.now c.self.invariant.books))
+pub take-requires-clause-log_room : goal.take-requires-clause-log_room
+take-requires-clause-log_room g c κs within = log_room-one c.make_room.new.books c.status_entry-entry.result (length c.make_room.new.log.items) (vec_len c.make_room.new.log) (vec_capacity c.make_room.new.log) c.in_ok-make_room.ensures.log_spare
 
-pub returns-clause-answer : goal.returns-clause-answer
-returns-clause-answer g c =
-    let s = c.self.inside in
-    rw (← c.self.view_is, c.counts-answer.ensures, c.deref-2.ensures.value)
-    (ap counts_of (status-is s.base s.count s.rows.items s.keys.items s.log.items c.args.now c.self.invariant.books))
+pub take-requires-clause-open_room : goal.take-requires-clause-open_room
+take-requires-clause-open_room g c κs within = open_room-one c.make_room.new.books c.status_entry-entry.result (length c.make_room.new.log.items) (vec_len c.make_room.new.books.open_ones) (vec_capacity c.make_room.new.books.open_ones) c.in_ok-make_room.ensures.open_spare

@@ -2,9 +2,9 @@ use Rattle.std.proofs.Common.{◌<◌, ap, arith, length}
 use Rattle.std.proofs.lemmas.List.Edits.{map_over_more}
 use Rattle.std.proofs.lemmas.Grind.{common_steps}
 use Rattle.sched_core.specs.Books.{row_after}
-use Rattle.sched_core.proofs.standing.renew_rows.Goals as goal
+use Rattle.sched_core.proofs.standing.change_rows.Goals as goal
 
 pub loop-row-preserved : goal.loop-row-preserved
 loop-row-preserved c =
     let within : c.loop-row.row-index < length c.args.rows.now.items = omega (arith, ap length c.deref_mut-row-items.ensures.value) in
-    rw c.renewed.ensures (map_over_more (row_after c.args.step.now) _ _ _ _ within c.loop-row.invariant (grind (arith, common_steps)))
+    rw c.changed.ensures (map_over_more (row_after c.args.step.now c.args.served) _ _ _ _ within c.loop-row.invariant (grind (arith, common_steps)))

@@ -1,0 +1,139 @@
+-- The books after one more legal entry are those of the longer log, and there is room for what spends the reservations.
+use Rattle.std.proofs.Common.{◌≡◌, ℕ, ◌+◌, ◌^◌, ◌<◌, ◌≤◌, List, [], ◌∷◌, ◌++◌, Bool, true, false, cond, not, ◌||◌, map, filter, length, Option, Some, None, refl, ap, ◌∙◌, sym, subst, arith, append-nil, length-append, eq-eqb, eqb-true}
+use Rattle.std.specs.Prelude.{◌==◌, option_to_list, vec_len, vec_capacity}
+use Rattle.std.specs.List.{list_any}
+use Rattle.std.proofs.lemmas.Bool.{false≢true}
+use Rattle.std.proofs.lemmas.List.{length-map}
+use Rattle.dist_types.specs.declared.ids.JobId.{JobId}
+use Rattle.sched_core.specs.declared.entry.CoreEntry.{CoreEntry}
+use Rattle.sched_core.specs.declared.entry.CoreKind.{CoreKind}
+use Rattle.sched_core.specs.declared.entry.CoreKind.TheVariants.{Beat, Reserve, Commit, Undo, Update, Status}
+use Rattle.sched_core.specs.declared.entry.Reserved.TheVariants.{Job, NoRoom, Spent}
+use Rattle.sched_core.specs.declared.rows.OpenRow.{OpenRow}
+use Rattle.sched_core.specs.declared.books.UnspentRow.{UnspentRow}
+use Rattle.sched_core.specs.declared.books.Books.{Books}
+use Rattle.sched_core.specs.Log.{Core, same_job}
+use Rattle.sched_core.specs.Reservation.{booked_by, bookings, spends_by}
+use Rattle.sched_core.specs.Rows.{servers_of}
+use Rattle.sched_core.specs.Plain.{is_booked}
+use Rattle.sched_core.specs.Laws.{IsRule, IsLegal}
+use Rattle.sched_core.specs.Books.{AreBooks, key_stays, key_by, one_more_if, unspent_stays, unspent_by, job_by, open_by, rows_next, held_next, jobs_next, open_next, unspent_next, made_next, SpendsOne}
+use Rattle.sched_core.proofs.AllLemmas.{same_job-sym}
+use Rattle.sched_core.proofs.StandingLemmas.{keys-absorb}
+use Rattle.sched_core.proofs.StepLemmas as step
+use Rattle.sched_core.proofs.LegalLemmas.{core_of, legal-push}
+use Rattle.sched_core.proofs.FactLemmas.{Facts, facts, pick_there}
+use Rattle.sched_core.proofs.SoundLemmas.{HasIds, jobs, legal_ids}
+use Rattle.sched_core.proofs.RoomLemmas.{Fits, legal_fits}
+use Rattle.sched_core.proofs.KeptLemmas.{IsAtRowBy, held_rows-push, jobs-absorb, jobs_placed-absorb, unspent-absorb, unspent_placed-absorb, open-absorb}
+use Rattle.sched_core.proofs.RowLemmas.{filter-few, one_more_is, legal_errors, rows-absorb}
+
+-- a job is reserved at a registration that stands
+pub at_row_by : (s : Core) (k : CoreKind) → Facts s k → IsAtRowBy k (servers_of s.log)
+at_row_by s (Reserve (Job job reg forgiven)) is = subst (λ r. list_any (λ q. q.reg == r) (servers_of s.log) ≡ true) (sym is.at) (pick_there (servers_of s.log) is.row is.picked).0
+at_row_by s (Reserve (NoRoom n)) is = tt
+at_row_by s (Reserve Spent) is = tt
+at_row_by s (Beat server nonce cpus key pruned reaped replaced is_new) is = tt
+at_row_by s (Commit job state kept) is = tt
+at_row_by s (Undo job noted was_ended) is = tt
+at_row_by s (Update server job state answer) is = tt
+at_row_by s (Status pruned servers cpus n) is = tt
+
+one_booked : (k : CoreKind) (number now : ℕ) → length (option_to_list (booked_by k number now [])) ≡ cond (is_booked k) 1 0
+one_booked (Reserve (Job job reg forgiven)) number now = refl
+one_booked (Reserve (NoRoom n)) number now = refl
+one_booked (Reserve Spent) number now = refl
+one_booked (Beat server nonce cpus key pruned reaped replaced is_new) number now = refl
+one_booked (Commit job state kept) number now = refl
+one_booked (Undo job noted was_ended) number now = refl
+one_booked (Update server job state answer) number now = refl
+one_booked (Status pruned servers cpus n) number now = refl
+
+made-absorb : (log : List CoreEntry) (e : CoreEntry) → length (bookings (log ++ e ∷ [])) < 2 ^ 64 → one_more_if (is_booked e.kind) (length (bookings log)) ≡ length (bookings (log ++ e ∷ []))
+made-absorb log e small =
+    let more : length (bookings (log ++ e ∷ [])) ≡ length (bookings log) + cond (is_booked e.kind) 1 0 =
+    ap length (step.bookings-push log e) ∙ length-append (map (step.grown e) (bookings log)) (option_to_list (step.booked log e))
+    ∙ ap (λ n. n + length (option_to_list (step.booked log e))) (length-map (bookings log) (step.grown e)) ∙ ap (λ n. length (bookings log) + n) (one_booked e.kind (length log) e.now) in
+    one_more_is (is_booked e.kind) (length (bookings log)) (omega (arith, more, small)) ∙ sym more
+
+few_bookings : (base count : ℕ) (log : List CoreEntry) → count < 2 ^ 64 → IsLegal base count log → length (bookings log) < 2 ^ 64
+few_bookings base count log fits legal =
+    let ids : HasIds base count (jobs log) = legal_ids base count log fits legal in
+    let small = ids.fits in
+    let same : length (jobs log) ≡ length (bookings log) = length-map (bookings log) (λ b. b.job) in
+    omega (arith, small, same)
+
+-- the lists of the books after an entry
+pub record Absorbs (old new : Books) (log : List CoreEntry) (e : CoreEntry) : Type 0 where
+  pub rows : new.rows.items ≡ rows_next old e (length log)
+  pub held : new.held.items ≡ held_next old e (length log)
+  pub jobs : new.jobs.items ≡ jobs_next old e (length log)
+  pub open_ones : new.open_ones.items ≡ open_next old e
+  pub unspent : new.unspent.items ≡ unspent_next old e (length log)
+  pub made : new.made ≡ made_next old e
+
+pub absorbed : (base count : ℕ) (old new : Books) (old_keys new_keys : List (ℕ × List ℕ)) (log : List CoreEntry) (e : CoreEntry) → count < 2 ^ 64 → AreBooks old old_keys log → IsLegal base count log → IsRule (core_of base count log) e →
+    Absorbs old new log e → new_keys ≡ filter (key_stays e) old_keys ++ option_to_list (key_by e.kind (length log)) → AreBooks new new_keys (log ++ e ∷ [])
+absorbed base count old new old_keys new_keys log e fits books legal rule_is does keys =
+    let is : Facts (core_of base count log) e.kind = facts (core_of base count log) e rule_is in
+    let at : IsAtRowBy e.kind (servers_of log) = at_row_by (core_of base count log) e.kind is in
+    let fit : Fits base count log = legal_fits base count log fits legal in
+    let small : length (bookings (log ++ e ∷ [])) < 2 ^ 64 = few_bookings base count (log ++ e ∷ []) fits (legal-push base count [] log e legal rule_is) in
+    record {
+      rows = rw (does.rows, books.rows, books.open_ones, books.held) (rows-absorb base count log e fit.sound fit.room is (legal_errors base count log fits legal (length log) (omega arith)) small);
+      keys = keys ∙ keys-absorb old_keys log e books.keys;
+      held = rw (does.held, books.held) (sym (held_rows-push log e));
+      jobs = rw (does.jobs, books.rows) (jobs-absorb old.jobs.items log e at books.jobs);
+      jobs_placed = rw (does.jobs, books.rows) (jobs_placed-absorb old.jobs.items log e at books.jobs_placed);
+      open_ones = does.open_ones ∙ open-absorb base count old.open_ones.items old.jobs.items log e fit.sound is books.jobs books.jobs_placed books.open_ones;
+      unspent = rw (does.unspent, books.rows) (unspent-absorb old.unspent.items log e at books.unspent);
+      unspent_placed = rw (does.unspent, books.rows) (unspent_placed-absorb old.unspent.items log e at books.unspent_placed);
+      made = does.made ∙ ap (one_more_if (is_booked e.kind)) books.made ∙ made-absorb log e small;
+    }
+
+-- room
+
+at_most_one : {X : Type 0} (o : Option X) → length (option_to_list o) ≤ 1
+at_most_one None = omega arith
+at_most_one (Some x) = omega arith
+
+few_unspent : (books : Books) (e : CoreEntry) (number : ℕ) → length (unspent_next books e number) ≤ length books.unspent.items + 1
+few_unspent books e number =
+    let all = length-append (filter (unspent_stays e.kind) books.unspent.items) (option_to_list (unspent_by (job_by e.kind books.rows.items number e.now))) in
+    let fewer = filter-few (unspent_stays e.kind) books.unspent.items in
+    let one = at_most_one (unspent_by (job_by e.kind books.rows.items number e.now)) in
+    omega (arith, all, fewer, one)
+
+-- room for one entry, whatever it does
+pub log_room-one : (books : Books) (e : CoreEntry) (number len capacity : ℕ) → len + length books.unspent.items + 2 ≤ capacity → len + 1 + length (unspent_next books e number) ≤ capacity
+log_room-one books e number len capacity room = let few = few_unspent books e number in omega (arith, few, room)
+
+pub open_room-one : (books : Books) (e : CoreEntry) (number len capacity : ℕ) → len + length books.unspent.items + 2 ≤ capacity → len + length (option_to_list (open_by e.kind books.jobs.items)) + length (unspent_next books e number) ≤ capacity
+open_room-one books e number len capacity room = let few = few_unspent books e number in let one = at_most_one (open_by e.kind books.jobs.items) in omega (arith, few, one, room)
+
+-- what is in the list and doesn't pass makes the filter shorter
+filter-fewer : {X : Type 0} (p q : X → Bool) → ((x : X) → q x ≡ true → p x ≡ false) → (xs : List X) → list_any q xs ≡ true → length (filter p xs) + 1 ≤ length xs
+filter-fewer p q apart [] some = absurd (false≢true some)
+filter-fewer {X} p q apart (x ∷ xs) some = split (q x) refl some (filter-fewer p q apart xs)
+  where
+    split : (b : Bool) → q x ≡ b → (b || list_any q xs) ≡ true → (list_any q xs ≡ true → length (filter p xs) + 1 ≤ length xs) → length (cond (p x) (x ∷ filter p xs) (filter p xs)) + 1 ≤ length (x ∷ xs)
+    split true e s rest = rw (apart x e) (let few = filter-few p xs in omega (arith, few))
+    split false e s rest = let less : length (filter p xs) + 1 ≤ length xs = rest s in elim (p x) as (λ c. length (cond c (x ∷ filter p xs) (filter p xs)) + 1 ≤ length (x ∷ xs)) [ true ↦ omega (arith, less) | false ↦ omega (arith, less) ]
+
+not_same : (job other : JobId) → same_job job other ≡ true → not (same_job job other) ≡ false
+not_same job other e = ap not e
+
+one_spent : (books : Books) (now number : ℕ) (k : CoreKind) → SpendsOne k books.unspent.items → length (unspent_next books (record { now = now; kind = k }) number) + 1 ≤ length books.unspent.items
+one_spent books now number (Commit job state kept) some = rw (append-nil (filter (λ (u : UnspentRow). not (same_job job u.job)) books.unspent.items)) (filter-fewer (λ u. not (same_job job u.job)) (λ u. same_job job u.job) (λ u e. not_same job u.job e) books.unspent.items some)
+one_spent books now number (Undo job noted was_ended) some = rw (append-nil (filter (λ (u : UnspentRow). not (same_job job u.job)) books.unspent.items)) (filter-fewer (λ u. not (same_job job u.job)) (λ u. same_job job u.job) (λ u e. not_same job u.job e) books.unspent.items some)
+one_spent books now number (Reserve r) some = absurd some
+one_spent books now number (Beat server nonce cpus key pruned reaped replaced is_new) some = absurd some
+one_spent books now number (Update server job state answer) some = absurd some
+one_spent books now number (Status pruned servers cpus n) some = absurd some
+
+-- an entry that spends a reservation takes the room that was kept for it
+pub log_room-spent : (books : Books) (now number : ℕ) (k : CoreKind) (len capacity : ℕ) → SpendsOne k books.unspent.items → len + length books.unspent.items ≤ capacity → len + 1 + length (unspent_next books (record { now = now; kind = k }) number) ≤ capacity
+log_room-spent books now number k len capacity some room = let less = one_spent books now number k some in omega (arith, less, room)
+
+pub open_room-spent : (books : Books) (now number : ℕ) (k : CoreKind) (len capacity : ℕ) → SpendsOne k books.unspent.items → len + length books.unspent.items ≤ capacity → len + length (option_to_list (open_by k books.jobs.items)) + length (unspent_next books (record { now = now; kind = k }) number) ≤ capacity
+open_room-spent books now number k len capacity some room = let less = one_spent books now number k some in let one = at_most_one (open_by k books.jobs.items) in omega (arith, less, one, room)

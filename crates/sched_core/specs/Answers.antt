@@ -1,0 +1,105 @@
+-- What the calls answer that make and spend reservations, and the updates, read off their entries.
+use Rattle.std.specs.Prelude.{◌≡◌, ℕ, List, length, Bool, false, Option, Some, None, Result, Ok, Err, if◌then◌else◌}
+use Rattle.dist_types.specs.declared.ids.JobId.{JobId}
+use Rattle.sched_core.specs.declared.entry.CoreEntry.{CoreEntry}
+use Rattle.sched_core.specs.declared.entry.CoreKind.{CoreKind}
+use Rattle.sched_core.specs.declared.entry.CoreKind.TheVariants.{Reserve, Commit, Undo, Update}
+use Rattle.sched_core.specs.declared.entry.Reserved.{Reserved}
+use Rattle.sched_core.specs.declared.entry.Reserved.TheVariants.{Job, NoRoom, Spent}
+use Rattle.dist_types.specs.declared.results.JobState.{JobState}
+use Rattle.dist_types.specs.declared.results.UpdateJobStateResult.{UpdateJobStateResult}
+use Rattle.dist_types.specs.declared.results.UpdateJobStateResult.TheVariants.{Success}
+use Rattle.sched_core.specs.declared.entry.UpdateAnswer.{UpdateAnswer}
+use Rattle.sched_core.specs.declared.entry.UpdateAnswer.TheVariants.{Accepted, Unknown, Wrong, Transition}
+use Rattle.sched_core.specs.declared.error.SchedError.{SchedError}
+use Rattle.sched_core.specs.declared.error.SchedError.TheVariants as error
+use Rattle.sched_core.specs.declared.answers.Picked.{Picked}
+use Rattle.sched_core.specs.declared.answers.Picked.TheVariants as picked
+use Rattle.sched_core.specs.declared.answers.Committed.{Committed}
+use Rattle.sched_core.specs.declared.answers.Committed.TheVariants as committed
+use Rattle.sched_core.specs.declared.answers.Undone.{Undone}
+use Rattle.sched_core.specs.declared.answers.Undone.TheVariants as undone
+use Rattle.sched_core.specs.Log.{Core, logged}
+use Rattle.sched_core.specs.Standing.{address_of, key_at}
+use Rattle.sched_core.specs.Ticket.{Ticket}
+
+-- what a refused call leaves: want of memory leaves all as it was, and every other refusal is logged
+abbrev pub Leaves : SchedError → Core → Core → CoreEntry → Type 0
+Leaves error.Memory old new made = new ≡ old
+Leaves other old new made = new ≡ logged old made
+
+-- reserve
+
+-- the text is a job's token of an authorizer under the key of the registration's own heartbeat
+abbrev pub IsTokenAt : {A : Type 0} → (A → List ℕ) → (A → ℕ → List ℕ) → List CoreEntry → ℕ → JobId → List ℕ → Type 0
+IsTokenAt {A} key_of token_for log reg job text = (authorizer : A) × (key_at log reg ≡ Some (key_of authorizer)) × (text ≡ token_for authorizer job.0)
+
+-- A reservation of the job at the registration, made by the next entry of the log: it has that entry's number, the registration's address and the job's token.
+pub record IsTicket {A : Type 0} (key_of : A → List ℕ) (token_for : A → ℕ → List ℕ) (log : List CoreEntry) (asked : JobId) (at : ℕ) (r : Ticket) : Type 0 where
+  pub number : r.number ≡ length log
+  pub job : r.job ≡ asked
+  pub reg : r.reg ≡ at
+  pub server : address_of log at ≡ Some r.server
+  pub token : IsTokenAt key_of token_for log at asked r.auth
+
+-- what a reserve makes: the reservation, or as many registrations without room, or nothing where the ids are spent
+abbrev pub IsMade : {A : Type 0} → (A → List ℕ) → (A → ℕ → List ℕ) → List CoreEntry → Reserved → Option Picked → Type 0
+IsMade key_of token_for log (Job job reg forgiven) (Some (picked.Reserved r)) = IsTicket key_of token_for log job reg r
+IsMade key_of token_for log (NoRoom standing) (Some (picked.NoRoom n)) = n ≡ standing
+IsMade key_of token_for log Spent None = Unit {0}
+IsMade key_of token_for log reserved other = ⊥
+
+-- what a reserve answers that made this
+abbrev pub picked_or_spent : Option Picked → Result Picked SchedError
+picked_or_spent None = Err error.IdsSpent
+picked_or_spent (Some p) = Ok p
+
+-- what a reserve picks, by its entry
+abbrev pub IsPicked : {A : Type 0} → (A → List ℕ) → (A → ℕ → List ℕ) → List CoreEntry → CoreKind → Picked → Type 0
+IsPicked key_of token_for log (Reserve reserved) p = IsMade key_of token_for log reserved (Some p)
+IsPicked key_of token_for log other p = ⊥
+
+-- how a reserve is refused, by its entry: the ids are spent exactly where it says so
+abbrev pub RefusesReserve : CoreKind → SchedError → Type 0
+RefusesReserve kind error.IdsSpent = kind ≡ Reserve Spent
+RefusesReserve kind error.Memory = Unit {0}
+RefusesReserve kind other = ⊥
+
+-- commit and undo
+
+-- whether the entry of a commit keeps the job
+abbrev pub keeps_by : CoreKind → Bool
+keeps_by (Commit job state kept) = kept
+keeps_by other = false
+
+-- what a commit answers: foreign where the reservation is none of the unspent ones, else by its entry
+abbrev pub committed_by : Bool → CoreKind → Ticket → Committed
+committed_by own kind r = if own then (if keeps_by kind then committed.Kept (record { auth = r.auth; job_id = r.job; server_id = r.server }) else committed.Dropped r.job) else committed.Foreign r.job
+
+-- where an undo ended no reservation: whether it noted a registration
+abbrev pub unended_by : Option ℕ → Undone
+unended_by None = undone.NoServer
+unended_by (Some reg) = undone.NotKnown
+
+-- what an undo of an unspent reservation answers, by its entry
+abbrev pub undone_by : CoreKind → Undone
+undone_by (Undo job noted ended) = if ended then undone.Unassigned else unended_by noted
+undone_by other = undone.Foreign
+
+-- foreign where the reservation is none of the unspent ones, else by its entry
+abbrev pub undo_answer : Bool → CoreKind → Undone
+undo_answer own kind = if own then undone_by kind else undone.Foreign
+
+-- update
+
+-- what an update answers, by whether it is accepted
+abbrev pub verdict : UpdateAnswer → JobState → Result UpdateJobStateResult SchedError
+verdict Accepted state = Ok Success
+verdict Unknown state = Err error.UnknownJob
+verdict Wrong state = Err error.WrongServer
+verdict (Transition from) state = Err (error.BadTransition from state)
+
+-- what an update answers, by its entry
+abbrev pub updated_by : CoreKind → Result UpdateJobStateResult SchedError
+updated_by (Update server job state answer) = verdict answer state
+updated_by other = Err error.Memory
