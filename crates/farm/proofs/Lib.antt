@@ -5,6 +5,7 @@ pub mod ExactLemmas
 pub mod FieldLemmas
 pub mod FirstFaultyLemmas
 pub mod HexLemmas
+pub mod IdLemmas
 pub mod LimitLemmas
 pub mod LineLemmas
 pub mod NumberLemmas

@@ -1,10 +1,12 @@
 //! A farm, and its runs.
-ghost use Rattle.std.specs.Prelude.{◌≡◌, ◌++◌, ◌∷◌, [], ◌<◌, ◌≤◌, ◌-◌, ℕ, length, take, IfOk, IfErr, OnOk, OnErr, slice_get, Some, option_to_list};
+ghost use Rattle.std.specs.Prelude.{◌≡◌, ◌++◌, ◌∷◌, [], ◌<◌, ◌≤◌, ◌-◌, ℕ, length, take, IfOk, IfErr, OnOk, OnErr, slice_get, Some, option_to_list, map, count_by};
 ghost use Rattle.dist_http.specs.Route.{HasProcessors};
 ghost use Rattle.dist_http.specs.Reply as response;
 ghost use Rattle.sched_core.specs.Log.{logged};
 ghost use Rattle.sched_core.specs.Rule.{rule, says_new_entry, counts_of};
-ghost use Rattle.sched_core.specs.Rows.{servers_of};
+ghost use Rattle.sched_core.specs.Rows.{servers_of, jobs_of, held_by_id, held_part};
+ghost use Rattle.sched_core.specs.Plain.{is_booked};
+ghost use Rattle.farm.specs.Printed.{ids_given};
 ghost use Rattle.sched_core.specs.declared.call.Call.TheVariants as call;
 ghost use Rattle.dist_http.specs.declared.route.SchedRouted.TheVariants as asked;
 ghost use Rattle.farm.specs.Next.{core_log, token_of, reply_to, answer, IsMade, IsNext, EachNext};
@@ -26,9 +28,9 @@ use dist_types::addr::Addr;
 use dist_types::ids::ServerId;
 use dist_types::roles::JobAuthorizer;
 use dist_types::text::{Bytes, Items};
-use sched_core::entry::CoreEntry;
+use sched_core::entry::{CoreEntry, CoreKind, Reserved};
 use sched_core::error::SchedError;
-use sched_core::rows::Servers;
+use sched_core::rows::{Jobs, Servers};
 use sched_core::state::SchedState;
 use std::alloc::{AllocError, Global};
 use std::marker::Model;
@@ -99,6 +101,24 @@ impl Farm {
         self.state.servers()
     }
 
+    /// The reservations that are unended, by rising id. It takes no memory.
+    pub fn jobs(&self) -> Jobs<'_>
+        ensures rows { result ≡ jobs_of (core_log self.now.entries) }
+        ensures all { map held_part result ≡ held_by_id (core_log self.now.entries) }
+    {
+        self.state.jobs()
+    }
+
+    /// How many ids are given: those before the script, and one for each job that was reserved. It takes
+    /// no memory, and goes through the scheduler's log once.
+    #[tactic(auto, using(crate::proofs::IdLemmas::ids_fit, crate::proofs::IdLemmas::ids_counted))]
+    pub fn ids_given(&self) -> u64
+        ensures given { result ≡ ids_given self.now.scheduler (core_log self.now.entries) }
+    {
+        let reserved = reserved_count(self.state.history()) as u64;
+        self.state.count() + reserved
+    }
+
     /// One event.
     fn step(self, event: &Event) -> Result<Farm, Stopped>
         ensures ok { IfOk result (Steps self event.now) }
@@ -167,6 +187,20 @@ fn copy_scheduler(alloc: Global, scheduler: &SetupScheduler) -> Result<SetupSche
         client,
         auth,
     })
+}
+
+/// Whether an entry reserves a job.
+fn is_booking(entry: &CoreEntry) -> bool
+    ensures { result ≡ is_booked entry.entry.now.kind }
+{
+    matches!(entry.kind, CoreKind::Reserve(Reserved::Job { .. }))
+}
+
+/// How many entries reserve a job.
+fn reserved_count(log: &[CoreEntry]) -> usize
+    ensures { result ≡ count_by (λ e. is_booked e.kind) log.now }
+{
+    log.iter().filter(|e| is_booking(e)).count()
 }
 
 /// The token of all build servers.

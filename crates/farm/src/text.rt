@@ -1,14 +1,16 @@
 //! The texts of a printed run, piece by piece.
 ghost use Rattle.std.specs.Prelude.{◌≡◌, ◌*◌, Some, length};
 ghost use Rattle.hex.specs.Hex.{encode_lower};
-ghost use Rattle.farm.specs.Printed.{numbers_text, jobs_text, number_text, hex_text, kind_text, age_text, kept_text, ended_text, reserved_text, advance_text, core_text, core_line, heard_text, ready_text, archive_text, archives_text, step_text, step_line, call_line, reply_line, word_line, row_text};
+ghost use Rattle.farm.specs.Printed.{numbers_text, jobs_text, number_text, hex_text, kind_text, age_text, kept_text, ended_text, reserved_text, advance_text, core_text, core_line, heard_text, ready_text, archive_text, archives_text, step_text, step_line, call_line, reply_line, word_line, row_text, stage_text, claim_text, job_text};
+ghost use Rattle.sched_core.specs.Rows.{held_part};
 
 use crate::entry::{EntryWord, HeardAs, OutCall, Reply, Step, StepKind};
 use crate::event::EventKind;
 use dist_types::ids::JobId;
+use dist_types::results::JobState;
 use dist_types::toolchain::Toolchain;
 use sched_core::entry::{CoreEntry, CoreKind, Reserved, UpdateAnswer};
-use sched_core::rows::ServerRow;
+use sched_core::rows::{JobRow, ServerRow};
 use std::{fmt, str};
 
 /// Numbers joined by commas, or a dash.
@@ -464,5 +466,43 @@ impl fmt::Display for RowLine {
             f,
             "server {server} reg {reg} cpus {cpus} nonce {nonce} seen {seen} load {load} error {error}\n"
         )
+    }
+}
+
+/// How far the job of a reservation is.
+#[derive(Drop)]
+struct Stage(Option<JobState>);
+
+impl fmt::Display for Stage {
+    ghost output = { λ x. Some (stage_text x.0) };
+
+    fn fmt<W: fmt::Write>(&self, f: &mut fmt::Formatter<W>) -> fmt::Result {
+        match self.0 {
+            Some(state) => write!(f, "{state}"),
+            None => write!(f, "reserved"),
+        }
+    }
+}
+
+fn claim_word(claimed: bool) -> &'static str
+    ensures { result.now ≡ claim_text claimed }
+{
+    if claimed { "claimed" } else { "unclaimed" }
+}
+
+/// The line of a reservation that is unended.
+#[derive(Drop)]
+pub struct JobLine(pub JobRow);
+
+impl fmt::Display for JobLine {
+    ghost output = { λ x. Some (job_text (held_part x.0)) };
+
+    fn fmt<W: fmt::Write>(&self, f: &mut fmt::Formatter<W>) -> fmt::Result {
+        let row = &self.0;
+        let job = row.job;
+        let reg = row.reg;
+        let stage = Stage(row.state);
+        let claim = claim_word(row.claimed);
+        write!(f, "job {job} reg {reg} {stage} {claim}\n")
     }
 }
