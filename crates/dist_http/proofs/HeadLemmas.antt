@@ -1,9 +1,9 @@
 -- Bytes are one request at most.
 use Rattle.std.proofs.Common.{◌≡◌, inl, inr, ℕ, ◌≤◌, List, [], Bor, length, drop, Some, arith, ap, sym, ◌∙◌}
 use Rattle.dist_types.specs.declared.addr.Addr.{Addr}
-use Rattle.dist_http.specs.declared.route.SchedRouted.{SchedRouted}
+use Rattle.dist_http.specs.declared.route.Asked.{Asked}
 use Rattle.dist_http.specs.Asked.{IsAsked}
-use Rattle.dist_http.specs.Route.{asked_of, answered}
+use Rattle.dist_http.specs.Route.{question_of}
 use Rattle.httparse.specs.declared.borrowed.Request as parsed
 use Rattle.httparse.specs.Borrowed.{HoldsRequest, HoldsSomeRequest, header_parts}
 use Rattle.httparse.specs.Grammar.{RequestHead, print_request}
@@ -76,10 +76,10 @@ pub none_by : (bytes : List ℕ) (len : ℕ) (p : parsed.Request) → HoldsSomeR
     → (IsWhole bytes len p → ⊥) → IsNoRequest bytes
 none_by bytes len p (h, x) refused r (k, y) = refused (is_whole bytes len p r h k x y)
 
-pub one_question : (bytes : List ℕ) (peer : Addr) (token : List ℕ) (a b : SchedRouted)
-    → IsAsked bytes peer token a → IsAsked bytes peer token b → a ≡ b
-one_question bytes peer token a b (inl (r, x, e)) (inl (q, y, f)) =
-    e ∙ (ap (λ s. answered (asked_of s peer token)) (one_request bytes r q x y) ∙ sym f)
-one_question bytes peer token a b (inl (r, x, e)) (inr (none, f)) = absurd (none r x)
-one_question bytes peer token a b (inr (none, e)) (inl (q, y, f)) = absurd (none q y)
-one_question bytes peer token a b (inr (none, e)) (inr (nothing, f)) = e ∙ sym f
+pub one_question : (bytes : List ℕ) (peer : Addr) (client token : List ℕ) (a b : Asked)
+    → IsAsked bytes peer client token a → IsAsked bytes peer client token b → a ≡ b
+one_question bytes peer client token a b (inl (r, x, e)) (inl (q, y, f)) =
+    e ∙ (ap (λ s. question_of s peer client token) (one_request bytes r q x y) ∙ sym f)
+one_question bytes peer client token a b (inl (r, x, e)) (inr (none, f)) = absurd (none r x)
+one_question bytes peer client token a b (inr (none, e)) (inl (q, y, f)) = absurd (none q y)
+one_question bytes peer client token a b (inr (none, e)) (inr (nothing, f)) = e ∙ sym f

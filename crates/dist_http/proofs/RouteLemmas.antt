@@ -1,331 +1,214 @@
 -- What a request asks, in the words of its parts.
-use Rattle.std.proofs.Common.{◌≡◌, ◌≢◌, ◌↔◌, ◌⊎◌, inl, inr, ℕ, ◌&&◌, ◌<◌, ◌≤◌, ◌+◌, get_or, Bool, true, false, cond, List, length, drop, Option, Some, None, Result, Ok, Err, refl, sym, ap, subst, ◌∙◌, arith}
-use Rattle.std.specs.Prelude.{codes, bytes_eq, is_some, nat_eq}
-use Rattle.std.specs.List.{starts_with}
-use Rattle.std.proofs.lemmas.Bool.Decides.{nat_tests}
+use Rattle.std.proofs.Common.{◌≡◌, ◌↔◌, ◌⊎◌, inl, inr, ℕ, ◌+◌, ◌<◌, get_or, Bool, true, false, cond, List, ◌++◌, length, Option, Some, None, Result, Ok, Err, refl, sym, ap, subst, ◌∙◌}
+use Rattle.std.specs.Prelude.{codes}
 use Rattle.std.proofs.lemmas.List.{get_or-append-add}
 use Rattle.dist_types.specs.declared.addr.Addr.{Addr}
+use Rattle.dist_types.specs.declared.ids.JobId.{JobId}
+use Rattle.dist_types.specs.declared.results.JobState.{JobState}
+use Rattle.dist_wire.specs.Codec.{IsBytes}
+use Rattle.dist_wire.specs.MessageLaws.{toolchain_codec, heartbeat_codec, state_codec}
+use Rattle.dist_wire.specs.Reading.{toolchain_at, heartbeat_at, state_at}
+use Rattle.dist_wire.specs.Spelling.{SpellsToolchain, SpellsHeartbeat, SpellsState}
+use Rattle.dist_wire.specs.declared.heartbeat.HeartbeatServerHttpRequest.{HeartbeatServerHttpRequest}
 use Rattle.httparse.specs.Grammar.{print_request}
 use Rattle.dist_http.specs.declared.error.HttpError.{HttpError}
-use Rattle.dist_http.specs.declared.error.HttpError.TheVariants.{BadHead, WrongContentType, ParseError, BadRealIp, NoRoute, Unauthorised}
-use Rattle.dist_http.specs.declared.message.HeartbeatServerHttpRequest.{HeartbeatServerHttpRequest}
-use Rattle.dist_http.specs.declared.reply.Word.TheVariants.{NoBearerAuth, InvalidBearerToken, MismatchedAddress}
-use Rattle.dist_http.specs.declared.request.Request.{Request}
-use Rattle.dist_http.specs.declared.route.SchedRouted.{SchedRouted}
-use Rattle.dist_http.specs.declared.route.SchedRouted.TheVariants.{Beat, Status, Done}
+use Rattle.dist_http.specs.declared.error.HttpError.TheVariants.{BadHead}
 use Rattle.dist_http.specs.declared.reply.Response.{Response}
-use Rattle.dist_http.specs.declared.reply.Response.TheVariants.{NotFound}
-use Rattle.dist_http.specs.Bearer.{token_in, server_in, IsServerToken}
-use Rattle.dist_http.specs.Fields.{header, path_of}
+use Rattle.dist_http.specs.declared.request.Request.{Request}
+use Rattle.dist_http.specs.declared.route.Asked.{Asked}
+use Rattle.dist_http.specs.declared.route.SchedRouted.{SchedRouted}
+use Rattle.dist_http.specs.declared.route.SchedRouted.TheVariants.{Alloc, Beat, Update, Status, Done}
 use Rattle.dist_http.specs.Asked.{IsAsked}
+use Rattle.dist_http.specs.Fault.{reply_of}
 use Rattle.dist_http.specs.Head.{IsRequest, IsNoRequest}
-use Rattle.dist_http.specs.InOrder.{IsAt, IsFrom, HasHeartbeat, IsHeartbeat, IsStatus}
-use Rattle.dist_http.specs.Message.{IsBytes, heartbeat_in}
-use Rattle.dist_http.specs.Route.{◌>>=◌, unless_none, unless_false, unless_true, is_at, is_text, wants_json, same_ip, server_of, is_binary, heartbeat_of, has_cpus, beat_of, asked_of, answered, reply_of}
-use Rattle.dist_http.proofs.BearerLemmas.{equal_texts, same_text, begins, token_shown, shown_token, server_shown, shown_server}
-use Rattle.dist_http.proofs.MessageLemmas.{heartbeats_are_spelled}
+use Rattle.dist_http.specs.InOrder.{IsAt, InForm, IsAllocation, IsHeartbeat, IsUpdate, IsStatus}
+use Rattle.dist_http.specs.Message.{message_in}
+use Rattle.dist_http.specs.Route.{is_at, job_of, alloc_of, beat_of, update_of, named_of, asked_of, answered}
+use Rattle.dist_http.specs.Sender.{client_test, server_of}
+use Rattle.dist_http.specs.Steps.{◌>>=◌}
+use Rattle.dist_http.proofs.MessageLemmas.{message_held, held_message}
+use Rattle.dist_http.proofs.PlaceLemmas.{at_place, place_at, in_form, form_in, job_named, named_job}
+use Rattle.dist_http.proofs.SenderLemmas.{client_shown, shown_client, sender_shown, shown_sender}
+use Rattle.dist_http.proofs.StepLemmas.{ok_step}
 
--- ---- steps
+-- ---- the routes, one by one
 
-ok_step : {A B : Type 0} (x : Result A HttpError) (f : A → Result B HttpError) (y : B) → (x >>= f) ≡ Ok y → (a : A) × (x ≡ Ok a) × (f a ≡ Ok y)
-ok_step (Ok a) f y e = (a, refl, e)
-ok_step (Err d) f y e = absurd cc
+alloc_parts : (r : Request) (client : List ℕ) (w : SchedRouted) → alloc_of r client ≡ Ok w
+    → (tc : List ℕ) × (client_test r client ≡ Ok tt) × (message_in toolchain_at r ≡ Ok tc) × (Alloc tc ≡ w)
+unfolding alloc_of
+alloc_parts r client w e =
+    let a = ok_step (client_test r client) (λ t. message_in toolchain_at r >>= λ tc. Ok (Alloc tc)) w e in
+    let b = ok_step (message_in toolchain_at r) (λ tc. Ok (Alloc tc)) w a.2 in
+    (b.0, a.1, b.1, cc)
 
-from_none : {A : Type 0} (d : HttpError) (o : Option A) (x : A) → unless_none d o ≡ Ok x → o ≡ Some x
-from_none d (Some a) x e = cc
-from_none d None x e = absurd cc
-
-from_false : {A : Type 0} (d : HttpError) (b : Bool) (x y : A) → unless_false d b x ≡ Ok y → (b ≡ true) × (x ≡ y)
-from_false d true x y e = (refl, cc)
-from_false d false x y e = absurd cc
-
-from_true : {A : Type 0} (d : HttpError) (b : Bool) (x y : A) → unless_true d b x ≡ Ok y → (b ≡ false) × (x ≡ y)
-from_true d false x y e = (refl, cc)
-from_true d true x y e = absurd cc
-
--- a step that went well
-abbrev ok : {A : Type 0} → A → Result A HttpError
-ok x = Ok x
-
--- ---- the sender
-
-sender_shown : (r : Request) (peer : Addr) (token : List ℕ) (server : Addr) → server_of r peer token ≡ Ok server → IsFrom r peer token server
-unfolding server_of
-sender_shown r peer token server e =
-    by_parts (header (codes "authorization") r.headers) (header (codes "x-real-ip") r.headers) refl refl e
-  where
-    last : Addr → Result Addr HttpError
-    last direct = unless_false (Unauthorised MismatchedAddress) (same_ip peer direct) direct
-
-    none_left : (o : Option (List ℕ)) → is_some o ≡ false → o ≡ None
-    none_left None h = refl
-    none_left (Some x) h = absurd cc
-
-    by_parts : (auth real : Option (List ℕ)) → header (codes "authorization") r.headers ≡ auth → header (codes "x-real-ip") r.headers ≡ real
-        → (unless_none (Unauthorised NoBearerAuth) (token_in auth) >>= λ shown. unless_none (Unauthorised InvalidBearerToken) (server_in token shown) >>= λ s. unless_true BadRealIp (is_some real) s >>= λ d. unless_false (Unauthorised MismatchedAddress) (same_ip peer d) d) ≡ Ok server
-        → IsFrom r peer token server
-    by_parts auth real is_auth is_real h =
-        let a = ok_step (unless_none (Unauthorised NoBearerAuth) (token_in auth)) (λ shown. unless_none (Unauthorised InvalidBearerToken) (server_in token shown) >>= λ s. unless_true BadRealIp (is_some real) s >>= λ d. unless_false (Unauthorised MismatchedAddress) (same_ip peer d) d) server h in
-        let shown = token_shown auth a.0 (from_none (Unauthorised NoBearerAuth) (token_in auth) a.0 a.1) in
-        let b = ok_step (unless_none (Unauthorised InvalidBearerToken) (server_in token a.0)) (λ s. unless_true BadRealIp (is_some real) s >>= λ d. unless_false (Unauthorised MismatchedAddress) (same_ip peer d) d) server a.2 in
-        let own = server_shown token a.0 b.0 (from_none (Unauthorised InvalidBearerToken) (server_in token a.0) b.0 b.1) in
-        let c = ok_step (unless_true BadRealIp (is_some real) b.0) (λ d. unless_false (Unauthorised MismatchedAddress) (same_ip peer d) d) server b.2 in
-        let direct = from_true BadRealIp (is_some real) b.0 c.0 c.1 in
-        let ip = from_false (Unauthorised MismatchedAddress) (same_ip peer c.0) c.0 server c.2 in
-        record {
-          shown = a.0;
-          bearer = is_auth ∙ shown;
-          own = subst (λ (s : Addr). IsServerToken a.0 s token) (direct.1 ∙ ip.1) own;
-          direct = is_real ∙ none_left real direct.0;
-          ip = subst (λ (s : Addr). same_ip peer s ≡ true) ip.1 ip.0;
-        }
-
-shown_sender : (r : Request) (peer : Addr) (token : List ℕ) (server : Addr) → IsFrom r peer token server → server_of r peer token ≡ Ok server
-unfolding server_of
-shown_sender r peer token server f =
-    rw (f.bearer, shown_token f.shown, shown_server token f.shown server f.own, f.direct, f.ip) refl
-
--- ---- the message
-
-heartbeat_held : (r : Request) (beat : HeartbeatServerHttpRequest) → IsBytes r.body → heartbeat_of r ≡ Ok beat → has_cpus beat.num_cpus ≡ true → HasHeartbeat r beat
-unfolding heartbeat_of
-heartbeat_held r beat fits e cpus =
-    by_parts (header (codes "content-type") r.headers) refl e
-  where
-    low : (n : ℕ) → has_cpus n ≡ true → (0 < n) × (n ≤ 4294967295)
-    low n h = grind (arith, nat_tests)
-
-    by_parts : (content : Option (List ℕ)) → header (codes "content-type") r.headers ≡ content
-        → cond (is_binary content) (unless_none ParseError (heartbeat_in r.body)) (Err WrongContentType) ≡ Ok beat → HasHeartbeat r beat
-    by_parts None is h = absurd cc
-    by_parts (Some text) is h =
-        let t = by_test (starts_with nat_eq text (codes "application/octet-stream")) (unless_none ParseError (heartbeat_in r.body)) h in
-        let range = low beat.num_cpus cpus in
-        record {
-          more = drop 24 text;
-          content = is ∙ ap Some (begins text (codes "application/octet-stream") t.0);
-          body = (heartbeats_are_spelled r.body beat fits).0 (from_none ParseError (heartbeat_in r.body) beat t.1);
-          some = range.0;
-          fits = range.1;
-        }
-      where
-        by_test : (b : Bool) (x : Result HeartbeatServerHttpRequest HttpError) → cond b x (Err WrongContentType) ≡ Ok beat → (b ≡ true) × (x ≡ Ok beat)
-        by_test true x k = (refl, k)
-        by_test false x k = absurd cc
-
-held_heartbeat : (r : Request) (beat : HeartbeatServerHttpRequest) → IsBytes r.body → HasHeartbeat r beat → (heartbeat_of r ≡ Ok beat) × (has_cpus beat.num_cpus ≡ true)
-unfolding heartbeat_of
-held_heartbeat r beat fits h =
-    let read = (heartbeats_are_spelled r.body beat fits).1 h.body in
-    (rw (h.content, read) refl, low beat.num_cpus h.some h.fits)
-  where
-    low : (n : ℕ) → 0 < n → n ≤ 4294967295 → has_cpus n ≡ true
-    low n some fits = grind (arith, nat_tests)
-
--- ---- the place
-
-is_text_is : (text : List ℕ) (o : Option (List ℕ)) → is_text text o ≡ false → o ≢ Some text
-is_text_is text None h e = absurd cc
-is_text_is text (Some given) h e = absurd (let same = subst (λ (o : Option (List ℕ)). is_text text o ≡ true) (sym e) (same_text text) in cc)
-
-is_text_not : (text : List ℕ) (o : Option (List ℕ)) → o ≢ Some text → is_text text o ≡ false
-is_text_not text None h = refl
-is_text_not text (Some given) h = by_test (bytes_eq given text) refl
-  where
-    by_test : (b : Bool) → bytes_eq given text ≡ b → b ≡ false
-    by_test true e = absurd (h (ap Some (equal_texts given text e)))
-    by_test false e = refl
-
-both : (a b : Bool) → (a && b) ≡ true → (a ≡ true) × (b ≡ true)
-both true b h = (refl, h)
-both false b h = absurd cc
-
-at_place : (r : Request) (method path : List ℕ) → wants_json r ≡ false → is_at method path r ≡ true → IsAt r method path
-unfolding wants_json is_at
-at_place r method path json h =
-    let parts = both (bytes_eq r.method method) (bytes_eq (path_of r.target) path) h in
-    record {
-      sent_by = equal_texts r.method method parts.0;
-      sent_to = equal_texts (path_of r.target) path parts.1;
-      binary = is_text_is (codes "application/json") (header (codes "accept") r.headers) json;
-    }
-
-place_at : (r : Request) (method path : List ℕ) → IsAt r method path → (wants_json r ≡ false) × (is_at method path r ≡ true)
-unfolding wants_json is_at
-place_at r method path h = (
-  is_text_not (codes "application/json") (header (codes "accept") r.headers) h.binary,
-  rw (h.sent_by, h.sent_to, same_text method, same_text path) refl,
-)
-
--- ---- the rows
-
-row_of_beat : (json post get : Bool) (beat : Result SchedRouted HttpError) (server : Addr) (m : HeartbeatServerHttpRequest)
-    → answered (cond json (Err NoRoute) (cond post beat (cond get (Ok Status) (Err NoRoute)))) ≡ Beat server m
-    → (json ≡ false) × (post ≡ true) × (answered beat ≡ Beat server m)
-row_of_beat true post get beat server m e = absurd cc
-row_of_beat false true get beat server m e = (refl, refl, e)
-row_of_beat false false true beat server m e = absurd cc
-row_of_beat false false false beat server m e = absurd cc
-
-beat_parts : (r : Request) (peer : Addr) (token : List ℕ) (server : Addr) (m : HeartbeatServerHttpRequest) → answered (beat_of r peer token) ≡ Beat server m
-    → (server_of r peer token ≡ Ok server) × (heartbeat_of r ≡ Ok m) × (has_cpus m.num_cpus ≡ true)
+beat_parts : (r : Request) (peer : Addr) (token : List ℕ) (w : SchedRouted) → beat_of r peer token ≡ Ok w
+    → (server : Addr) × (m : HeartbeatServerHttpRequest) × (server_of r peer token ≡ Ok server) × (message_in heartbeat_at r ≡ Ok m) × (Beat server m ≡ w)
 unfolding beat_of
-beat_parts r peer token server m e = by_parts (server_of r peer token) (heartbeat_of r) e
-  where
-    by_cpus : (b : Bool) (s : Addr) (h : HeartbeatServerHttpRequest) → answered (unless_false NoRoute b (Beat s h)) ≡ Beat server m → (b ≡ true) × (s ≡ server) × (h ≡ m)
-    by_cpus true s h k = (refl, cc, cc)
-    by_cpus false s h k = absurd cc
+beat_parts r peer token w e =
+    let a = ok_step (server_of r peer token) (λ s. message_in heartbeat_at r >>= λ m. Ok (Beat s m)) w e in
+    let b = ok_step (message_in heartbeat_at r) (λ m. Ok (Beat a.0 m)) w a.2 in
+    (a.0, b.0, a.1, b.1, cc)
 
-    by_parts : (s : Result Addr HttpError) (h : Result HeartbeatServerHttpRequest HttpError)
-        → answered (s >>= λ x. h >>= λ y. unless_false NoRoute (has_cpus y.num_cpus) (Beat x y)) ≡ Beat server m
-        → (s ≡ Ok server) × (h ≡ Ok m) × (has_cpus m.num_cpus ≡ true)
-    by_parts (Ok s) (Ok h) k =
-        let t = by_cpus (has_cpus h.num_cpus) s h k in
-        (ap Ok t.1, ap Ok t.2, subst (λ (n : HeartbeatServerHttpRequest). has_cpus n.num_cpus ≡ true) t.2 t.0)
-    by_parts (Ok s) (Err d) k = absurd cc
-    by_parts (Err d) h k = absurd cc
+update_parts : (r : Request) (peer : Addr) (token : List ℕ) (job : JobId) (w : SchedRouted) → update_of r peer token job ≡ Ok w
+    → (server : Addr) × (state : JobState) × (server_of r peer token ≡ Ok server) × (message_in state_at r ≡ Ok state) × (Update server job state ≡ w)
+unfolding update_of
+update_parts r peer token job w e =
+    let a = ok_step (server_of r peer token) (λ s. message_in state_at r >>= λ m. Ok (Update s job m)) w e in
+    let b = ok_step (message_in state_at r) (λ m. Ok (Update a.0 job m)) w a.2 in
+    (a.0, b.0, a.1, b.1, cc)
 
-heartbeat_is : (r : Request) (peer : Addr) (token : List ℕ) (server : Addr) (m : HeartbeatServerHttpRequest) → IsBytes r.body
-    → answered (asked_of r peer token) ≡ Beat server m → IsHeartbeat r peer token server m
+-- ---- which route it is
+
+-- what was asked, by its route
+pub data Route (r : Request) (peer : Addr) (client token : List ℕ) (w : SchedRouted) : Type 0 where
+  by_alloc : (tc : List ℕ) → IsAt r (codes "POST") (codes "/api/v1/scheduler/alloc_job") → client_test r client ≡ Ok tt → message_in toolchain_at r ≡ Ok tc → Alloc tc ≡ w → Route r peer client token w
+  by_beat : (server : Addr) (m : HeartbeatServerHttpRequest) → IsAt r (codes "POST") (codes "/api/v1/scheduler/heartbeat_server") → server_of r peer token ≡ Ok server → message_in heartbeat_at r ≡ Ok m → Beat server m ≡ w → Route r peer client token w
+  by_update : (server : Addr) (job : JobId) (state : JobState) → job_of r ≡ Some job → server_of r peer token ≡ Ok server → message_in state_at r ≡ Ok state → Update server job state ≡ w → Route r peer client token w
+  by_status : IsAt r (codes "GET") (codes "/api/v1/scheduler/status") → Status ≡ w → Route r peer client token w
+
+route : (r : Request) (peer : Addr) (client token : List ℕ) (w : SchedRouted) → asked_of r peer client token ≡ Ok w → Route r peer client token w
 unfolding asked_of
-heartbeat_is r peer token server m fits e =
-    let row = row_of_beat (wants_json r) (is_at (codes "POST") (codes "/api/v1/scheduler/heartbeat_server") r) (is_at (codes "GET") (codes "/api/v1/scheduler/status") r) (beat_of r peer token) server m e in
-    let parts = beat_parts r peer token server m row.2 in
-    record {
-      at = at_place r (codes "POST") (codes "/api/v1/scheduler/heartbeat_server") row.0 row.1;
-      sender = sender_shown r peer token server parts.0;
-      message = heartbeat_held r m fits parts.1 parts.2;
-    }
-
-is_heartbeat : (r : Request) (peer : Addr) (token : List ℕ) (server : Addr) (m : HeartbeatServerHttpRequest) → IsBytes r.body
-    → IsHeartbeat r peer token server m → answered (asked_of r peer token) ≡ Beat server m
-unfolding asked_of beat_of
-is_heartbeat r peer token server m fits h =
-    let place = place_at r (codes "POST") (codes "/api/v1/scheduler/heartbeat_server") h.at in
-    let sender = shown_sender r peer token server h.sender in
-    let message = held_heartbeat r m fits h.message in
-    rw (place.0, place.1, sender, message.0, message.1) refl
-
--- what is refused so has the reply 404
-record IsPlain {A : Type 0} (x : Result A HttpError) : Type 0 where
-  pub not_found : (e : HttpError) → x ≡ Err e → reply_of e ≡ NotFound
-
-plain_ok : {A : Type 0} (x : A) → IsPlain (ok x)
-plain_ok x = record { not_found = λ e h. absurd cc }
-
-plain_err : {A : Type 0} (d : HttpError) → reply_of d ≡ NotFound → IsPlain {A = A} (Err d)
-plain_err d is = record { not_found = λ e h. let same : d ≡ e = cc in subst (λ (c : HttpError). reply_of c ≡ NotFound) same is }
-
-plain_step : {A B : Type 0} (x : Result A HttpError) (f : A → Result B HttpError) → IsPlain x → ((a : A) → IsPlain (f a)) → IsPlain (x >>= f)
-plain_step (Ok a) f p q = q a
-plain_step (Err d) f p q = plain_err d (p.not_found d refl)
-
-plain_none : {A : Type 0} (d : HttpError) (o : Option A) → reply_of d ≡ NotFound → IsPlain (unless_none d o)
-plain_none d (Some x) is = plain_ok x
-plain_none d None is = plain_err d is
-
-plain_false : {A : Type 0} (d : HttpError) (b : Bool) (x : A) → reply_of d ≡ NotFound → IsPlain (unless_false d b x)
-plain_false d true x is = plain_ok x
-plain_false d false x is = plain_err d is
-
-plain_true : {A : Type 0} (d : HttpError) (b : Bool) (x : A) → reply_of d ≡ NotFound → IsPlain (unless_true d b x)
-plain_true d true x is = plain_err d is
-plain_true d false x is = plain_ok x
-
-server_plain : (r : Request) (peer : Addr) (token : List ℕ) → IsPlain (server_of r peer token)
-unfolding server_of
-server_plain r peer token =
-    plain_step (unless_none (Unauthorised NoBearerAuth) (token_in (header (codes "authorization") r.headers))) (λ shown. unless_none (Unauthorised InvalidBearerToken) (server_in token shown) >>= λ s. unless_true BadRealIp (is_some (header (codes "x-real-ip") r.headers)) s >>= λ d. unless_false (Unauthorised MismatchedAddress) (same_ip peer d) d)
-    (plain_none (Unauthorised NoBearerAuth) (token_in (header (codes "authorization") r.headers)) refl)
-    (λ shown. plain_step (unless_none (Unauthorised InvalidBearerToken) (server_in token shown)) (λ s. unless_true BadRealIp (is_some (header (codes "x-real-ip") r.headers)) s >>= λ d. unless_false (Unauthorised MismatchedAddress) (same_ip peer d) d)
-    (plain_none (Unauthorised InvalidBearerToken) (server_in token shown) refl)
-    (λ s. plain_step (unless_true BadRealIp (is_some (header (codes "x-real-ip") r.headers)) s) (λ d. unless_false (Unauthorised MismatchedAddress) (same_ip peer d) d)
-    (plain_true BadRealIp (is_some (header (codes "x-real-ip") r.headers)) s refl)
-    (λ d. plain_false (Unauthorised MismatchedAddress) (same_ip peer d) d refl)))
-
-heartbeat_plain : (r : Request) → IsPlain (heartbeat_of r)
-unfolding heartbeat_of
-heartbeat_plain r = by_test (is_binary (header (codes "content-type") r.headers))
+route r peer client token w e =
+    by_tests (is_at (codes "POST") (codes "/api/v1/scheduler/alloc_job") r) (is_at (codes "POST") (codes "/api/v1/scheduler/heartbeat_server") r) (is_at (codes "GET") (codes "/api/v1/scheduler/status") r) (job_of r)
+    refl refl refl refl e
   where
-    by_test : (b : Bool) → IsPlain (cond b (unless_none ParseError (heartbeat_in r.body)) (Err WrongContentType))
-    by_test true = plain_none ParseError (heartbeat_in r.body) refl
-    by_test false = plain_err WrongContentType refl
+    by_tests : (a b s : Bool) (j : Option JobId)
+        → is_at (codes "POST") (codes "/api/v1/scheduler/alloc_job") r ≡ a
+        → is_at (codes "POST") (codes "/api/v1/scheduler/heartbeat_server") r ≡ b
+        → is_at (codes "GET") (codes "/api/v1/scheduler/status") r ≡ s
+        → job_of r ≡ j
+        → cond a (alloc_of r client) (cond b (beat_of r peer token) (cond s (Ok Status) (named_of r peer token j))) ≡ Ok w
+        → Route r peer client token w
+    by_tests true b s j at_a at_b at_s at_j h =
+        let p = alloc_parts r client w h in
+        by_alloc p.0 (at_place r (codes "POST") (codes "/api/v1/scheduler/alloc_job") at_a) p.1 p.2 p.3
+    by_tests false true s j at_a at_b at_s at_j h =
+        let p = beat_parts r peer token w h in
+        by_beat p.0 p.1 (at_place r (codes "POST") (codes "/api/v1/scheduler/heartbeat_server") at_b) p.2 p.3 p.4
+    by_tests false false true j at_a at_b at_s at_j h = by_status (at_place r (codes "GET") (codes "/api/v1/scheduler/status") at_s) cc
+    by_tests false false false None at_a at_b at_s at_j h = absurd cc
+    by_tests false false false (Some job) at_a at_b at_s at_j h =
+        let p = update_parts r peer token job w h in
+        by_update p.0 job p.1 at_j p.2 p.3 p.4
 
-beat_plain : (r : Request) (peer : Addr) (token : List ℕ) → IsPlain (beat_of r peer token)
-unfolding beat_of
-beat_plain r peer token =
-    plain_step (server_of r peer token) (λ s. heartbeat_of r >>= λ m. unless_false NoRoute (has_cpus m.num_cpus) (Beat s m))
-    (server_plain r peer token)
-    (λ s. plain_step (heartbeat_of r) (λ m. unless_false NoRoute (has_cpus m.num_cpus) (Beat s m)) (heartbeat_plain r)
-    (λ m. plain_false NoRoute (has_cpus m.num_cpus) (Beat s m) refl))
+-- ---- the requests that ask each thing
 
-asked_plain : (r : Request) (peer : Addr) (token : List ℕ) → IsPlain (asked_of r peer token)
-unfolding asked_of
-asked_plain r peer token =
-    by_tests (wants_json r) (is_at (codes "POST") (codes "/api/v1/scheduler/heartbeat_server") r) (is_at (codes "GET") (codes "/api/v1/scheduler/status") r)
+is_allocation : (r : Request) (peer : Addr) (client token tc : List ℕ) → IsBytes r.body → asked_of r peer client token ≡ Ok (Alloc tc) → IsAllocation r client tc
+is_allocation r peer client token tc fits e = by_route (route r peer client token (Alloc tc) e)
   where
-    by_tests : (json post get : Bool) → IsPlain (cond json (Err NoRoute) (cond post (beat_of r peer token) (cond get (Ok Status) (Err NoRoute))))
-    by_tests true post get = plain_err NoRoute refl
-    by_tests false true get = beat_plain r peer token
-    by_tests false false true = plain_ok Status
-    by_tests false false false = plain_err NoRoute refl
+    by_route : Route r peer client token (Alloc tc) → IsAllocation r client tc
+    by_route (by_alloc t at test message is) =
+        let same : t ≡ tc = cc in
+        record { at = at; shows = client_shown r client test; message = message_held SpellsToolchain toolchain_at toolchain_codec r tc fits (message ∙ ap Ok same) }
+    by_route (by_beat s m at sender message is) = absurd cc
+    by_route (by_update s j m at sender message is) = absurd cc
+    by_route (by_status at is) = absurd cc
 
--- a heartbeat that the row of heartbeats answers is one
-beat_only : (r : Request) (peer : Addr) (token : List ℕ) (x : SchedRouted) → beat_of r peer token ≡ Ok x → (s : Addr) × (m : HeartbeatServerHttpRequest) × (x ≡ Beat s m)
-unfolding beat_of
-beat_only r peer token x e =
-    let a = ok_step (server_of r peer token) (λ s. heartbeat_of r >>= λ m. unless_false NoRoute (has_cpus m.num_cpus) (Beat s m)) x e in
-    let b = ok_step (heartbeat_of r) (λ m. unless_false NoRoute (has_cpus m.num_cpus) (Beat a.0 m)) x a.2 in
-    let c = from_false NoRoute (has_cpus b.0.num_cpus) (Beat a.0 b.0) x b.2 in
-    (a.0, b.0, sym c.1)
+allocation_is : (r : Request) (peer : Addr) (client token tc : List ℕ) → IsAllocation r client tc → asked_of r peer client token ≡ Ok (Alloc tc)
+unfolding asked_of alloc_of
+allocation_is r peer client token tc a =
+    rw (place_at r (codes "POST") (codes "/api/v1/scheduler/alloc_job") a.at, shown_client r client a.shows, held_message SpellsToolchain toolchain_at toolchain_codec r tc a.message) refl
 
-status_row : (json post get : Bool) (beat : Result SchedRouted HttpError) → (answered beat ≡ Status → ⊥)
-    → answered (cond json (Err NoRoute) (cond post beat (cond get (Ok Status) (Err NoRoute)))) ≡ Status
-    → (json ≡ false) × (get ≡ true)
-status_row true post get beat none e = absurd cc
-status_row false true get beat none e = absurd (none e)
-status_row false false true beat none e = (refl, refl)
-status_row false false false beat none e = absurd cc
-
-status_is : (r : Request) (peer : Addr) (token : List ℕ) → answered (asked_of r peer token) ≡ Status → IsStatus r
-unfolding asked_of
-status_is r peer token e =
-    let row = status_row (wants_json r) (is_at (codes "POST") (codes "/api/v1/scheduler/heartbeat_server") r) (is_at (codes "GET") (codes "/api/v1/scheduler/status") r) (beat_of r peer token) (no_status (beat_of r peer token) (beat_only r peer token)) e in
-    at_place r (codes "GET") (codes "/api/v1/scheduler/status") row.0 row.1
+is_heartbeat : (r : Request) (peer : Addr) (client token : List ℕ) (server : Addr) (m : HeartbeatServerHttpRequest) → IsBytes r.body
+    → asked_of r peer client token ≡ Ok (Beat server m) → IsHeartbeat r peer token server m
+is_heartbeat r peer client token server m fits e = by_route (route r peer client token (Beat server m) e)
   where
-    no_status : (x : Result SchedRouted HttpError) → ((y : SchedRouted) → x ≡ Ok y → (s : Addr) × (m : HeartbeatServerHttpRequest) × (y ≡ Beat s m)) → answered x ≡ Status → ⊥
-    no_status (Ok y) only h = let b = only y refl in let two = sym b.2 ∙ h in absurd cc
-    no_status (Err d) only h = absurd cc
+    by_route : Route r peer client token (Beat server m) → IsHeartbeat r peer token server m
+    by_route (by_alloc t at test message is) = absurd cc
+    by_route (by_beat s b at sender message is) =
+        let same_server : s ≡ server = cc in
+        let same : b ≡ m = cc in
+        record { at = at; sender = sender_shown r peer token server (sender ∙ ap Ok same_server); message = message_held SpellsHeartbeat heartbeat_at heartbeat_codec r m fits (message ∙ ap Ok same) }
+    by_route (by_update s j b at sender message is) = absurd cc
+    by_route (by_status at is) = absurd cc
 
-other_method : (r : Request) → IsStatus r → is_at (codes "POST") (codes "/api/v1/scheduler/heartbeat_server") r ≡ false
+-- where one route is, none before it is
+beat_no_alloc : (r : Request) → IsAt r (codes "POST") (codes "/api/v1/scheduler/heartbeat_server") → is_at (codes "POST") (codes "/api/v1/scheduler/alloc_job") r ≡ false
 unfolding is_at
-other_method r h = rw h.sent_by refl
+beat_no_alloc r at = rw (at.sent_by, at.sent_to) refl
 
-is_status : (r : Request) (peer : Addr) (token : List ℕ) → IsStatus r → answered (asked_of r peer token) ≡ Status
-unfolding asked_of
-is_status r peer token h =
-    let place = place_at r (codes "GET") (codes "/api/v1/scheduler/status") h in
-    rw (place.0, other_method r h, place.1) refl
+status_no_post : (r : Request) (path : List ℕ) → IsStatus r → is_at (codes "POST") path r ≡ false
+unfolding is_at
+status_no_post r path at = rw at.sent_by refl
 
-no_done : (json post get : Bool) (beat : Result SchedRouted HttpError) (reply : Response) → (beat ≡ Ok (Done reply) → ⊥)
-    → cond json (Err NoRoute) (cond post beat (cond get (Ok Status) (Err NoRoute))) ≡ Ok (Done reply) → ⊥
-no_done true post get beat reply none e = absurd cc
-no_done false true get beat reply none e = none e
-no_done false false true beat reply none e = absurd cc
-no_done false false false beat reply none e = absurd cc
+job_no_alloc : (r : Request) (id : List ℕ) → IsAt r (codes "POST") (codes "/api/v1/scheduler/job_state/" ++ id) → is_at (codes "POST") (codes "/api/v1/scheduler/alloc_job") r ≡ false
+unfolding is_at
+job_no_alloc r id at = rw (at.sent_by, at.sent_to) refl
 
-asked_no_done : (r : Request) (peer : Addr) (token : List ℕ) (reply : Response) → asked_of r peer token ≡ Ok (Done reply) → ⊥
-unfolding asked_of
-asked_no_done r peer token reply e =
-    no_done (wants_json r) (is_at (codes "POST") (codes "/api/v1/scheduler/heartbeat_server") r) (is_at (codes "GET") (codes "/api/v1/scheduler/status") r) (beat_of r peer token) reply
-    (λ h. let b = beat_only r peer token (Done reply) h in let two = b.2 in absurd cc) e
+job_no_beat : (r : Request) (id : List ℕ) → IsAt r (codes "POST") (codes "/api/v1/scheduler/job_state/" ++ id) → is_at (codes "POST") (codes "/api/v1/scheduler/heartbeat_server") r ≡ false
+unfolding is_at
+job_no_beat r id at = rw (at.sent_by, at.sent_to) refl
 
-done_is : (r : Request) (peer : Addr) (token : List ℕ) (reply : Response) → answered (asked_of r peer token) ≡ Done reply → reply ≡ NotFound
-done_is r peer token reply e = by_result (asked_of r peer token) refl e
+job_no_status : (r : Request) (id : List ℕ) → IsAt r (codes "POST") (codes "/api/v1/scheduler/job_state/" ++ id) → is_at (codes "GET") (codes "/api/v1/scheduler/status") r ≡ false
+unfolding is_at
+job_no_status r id at = rw at.sent_by refl
+
+heartbeat_is : (r : Request) (peer : Addr) (client token : List ℕ) (server : Addr) (m : HeartbeatServerHttpRequest)
+    → IsHeartbeat r peer token server m → asked_of r peer client token ≡ Ok (Beat server m)
+unfolding asked_of beat_of
+heartbeat_is r peer client token server m h =
+    rw (beat_no_alloc r h.at, place_at r (codes "POST") (codes "/api/v1/scheduler/heartbeat_server") h.at, shown_sender r peer token server h.sender, held_message SpellsHeartbeat heartbeat_at heartbeat_codec r m h.message) refl
+
+is_update : (r : Request) (peer : Addr) (client token : List ℕ) (server : Addr) (job : JobId) (state : JobState) → IsBytes r.body
+    → asked_of r peer client token ≡ Ok (Update server job state) → IsUpdate r peer token server job state
+is_update r peer client token server job state fits e = by_route (route r peer client token (Update server job state) e)
   where
-    by_result : (x : Result SchedRouted HttpError) → asked_of r peer token ≡ x → answered x ≡ Done reply → reply ≡ NotFound
-    by_result (Ok y) is h = absurd (asked_no_done r peer token reply (is ∙ ap Ok h))
-    by_result (Err d) is h = let plain = (asked_plain r peer token).not_found d is in cc
+    by_route : Route r peer client token (Update server job state) → IsUpdate r peer token server job state
+    by_route (by_alloc t at test message is) = absurd cc
+    by_route (by_beat s b at sender message is) = absurd cc
+    by_route (by_update s j m at sender message is) =
+        let same_server : s ≡ server = cc in
+        let same_job : j ≡ job = cc in
+        let same : m ≡ state = cc in
+        let named = job_named r job (at ∙ ap Some same_job) in
+        record {
+          id = named.0;
+          at = named.1;
+          names = named.2;
+          sender = sender_shown r peer token server (sender ∙ ap Ok same_server);
+          message = message_held SpellsState state_at state_codec r state fits (message ∙ ap Ok same);
+        }
+    by_route (by_status at is) = absurd cc
+
+update_is : (r : Request) (peer : Addr) (client token : List ℕ) (server : Addr) (job : JobId) (state : JobState)
+    → IsUpdate r peer token server job state → asked_of r peer client token ≡ Ok (Update server job state)
+unfolding asked_of update_of
+update_is r peer client token server job state u =
+    rw (
+      job_no_alloc r u.id u.at,
+      job_no_beat r u.id u.at,
+      job_no_status r u.id u.at,
+      named_job r job u.id u.at u.names,
+      shown_sender r peer token server u.sender,
+      held_message SpellsState state_at state_codec r state u.message,
+    ) refl
+
+is_status : (r : Request) (peer : Addr) (client token : List ℕ) → asked_of r peer client token ≡ Ok Status → IsStatus r
+is_status r peer client token e = by_route (route r peer client token Status e)
+  where
+    by_route : Route r peer client token Status → IsStatus r
+    by_route (by_alloc t at test message is) = absurd cc
+    by_route (by_beat s b at sender message is) = absurd cc
+    by_route (by_update s j m at sender message is) = absurd cc
+    by_route (by_status at is) = at
+
+status_is : (r : Request) (peer : Addr) (client token : List ℕ) → IsStatus r → asked_of r peer client token ≡ Ok Status
+unfolding asked_of
+status_is r peer client token h =
+    rw (
+      status_no_post r (codes "/api/v1/scheduler/alloc_job") h,
+      status_no_post r (codes "/api/v1/scheduler/heartbeat_server") h,
+      place_at r (codes "GET") (codes "/api/v1/scheduler/status") h,
+    ) refl
+
+never_done : (r : Request) (peer : Addr) (client token : List ℕ) (reply : Response) → asked_of r peer client token ≡ Ok (Done reply) → ⊥
+never_done r peer client token reply e = by_route (route r peer client token (Done reply) e)
+  where
+    by_route : Route r peer client token (Done reply) → ⊥
+    by_route (by_alloc t at test message is) = absurd cc
+    by_route (by_beat s b at sender message is) = absurd cc
+    by_route (by_update s j m at sender message is) = absurd cc
+    by_route (by_status at is) = absurd cc
 
 -- ---- the bytes
 
@@ -333,29 +216,81 @@ body_fits : (bytes : List ℕ) (r : Request) → IsBytes bytes → IsRequest byt
 body_fits bytes r fits (h, x) i =
     subst (λ n. n < 256) (ap (λ (t : List ℕ). get_or t (length (print_request h) + i) 0) x.reads.1 ∙ get_or-append-add (print_request h) r.body i 0) (fits (length (print_request h) + i))
 
-pub heartbeats_asked : (bytes : List ℕ) (peer : Addr) (token : List ℕ) (server : Addr) (m : HeartbeatServerHttpRequest) → IsBytes bytes
-    → IsAsked bytes peer token (Beat server m) ↔ ((r : Request) × IsRequest bytes r × IsHeartbeat r peer token server m)
-heartbeats_asked bytes peer token server m fits = (to, from)
+-- what is asked and is no reply known at once was asked by a request
+asks : (bytes : List ℕ) (peer : Addr) (client token : List ℕ) (w : SchedRouted) (json : Bool) → ((reply : Response) → w ≡ Done reply → ⊥)
+    → IsAsked bytes peer client token (record { what = w; json = json })
+    → (r : Request) × IsRequest bytes r × (asked_of r peer client token ≡ Ok w) × InForm r json
+asks bytes peer client token w json other (inr (none, e)) = absurd (other (reply_of BadHead) (ap (λ (a : Asked). a.what) e))
+asks bytes peer client token w json other (inl (r, x, e)) =
+    (r, x, by_result (asked_of r peer client token) (ap (λ (a : Asked). a.what) e), in_form r json (ap (λ (a : Asked). a.json) e))
   where
-    to : IsAsked bytes peer token (Beat server m) → (r : Request) × IsRequest bytes r × IsHeartbeat r peer token server m
-    to (inl (r, x, e)) = (r, x, heartbeat_is r peer token server m (body_fits bytes r fits x) (sym e))
-    to (inr (none, e)) = absurd cc
+    by_result : (y : Result SchedRouted HttpError) → w ≡ answered y → y ≡ Ok w
+    by_result (Ok y) h = ap Ok (sym h)
+    by_result (Err d) h = absurd (other (reply_of d) h)
 
-    from : ((r : Request) × IsRequest bytes r × IsHeartbeat r peer token server m) → IsAsked bytes peer token (Beat server m)
-    from (r, x, h) = inl (r, x, sym (is_heartbeat r peer token server m (body_fits bytes r fits x) h))
+asked_by : (bytes : List ℕ) (peer : Addr) (client token : List ℕ) (w : SchedRouted) (json : Bool) (r : Request)
+    → IsRequest bytes r → asked_of r peer client token ≡ Ok w → InForm r json
+    → IsAsked bytes peer client token (record { what = w; json = json })
+asked_by bytes peer client token w json r x is form =
+    inl (r, x, λ i. record { what = answered (sym is i); json = form_in r json form i })
 
-pub statuses_asked : (bytes : List ℕ) (peer : Addr) (token : List ℕ)
-    → IsAsked bytes peer token Status ↔ ((r : Request) × IsRequest bytes r × IsStatus r)
-statuses_asked bytes peer token = (to, from)
+pub allocations_asked : (bytes : List ℕ) (peer : Addr) (client token tc : List ℕ) (json : Bool) → IsBytes bytes
+    → IsAsked bytes peer client token (record { what = Alloc tc; json = json }) ↔ ((r : Request) × IsRequest bytes r × IsAllocation r client tc × InForm r json)
+allocations_asked bytes peer client token tc json fits = (to, from)
   where
-    to : IsAsked bytes peer token Status → (r : Request) × IsRequest bytes r × IsStatus r
-    to (inl (r, x, e)) = (r, x, status_is r peer token (sym e))
-    to (inr (none, e)) = absurd cc
+    to : IsAsked bytes peer client token (record { what = Alloc tc; json = json }) → (r : Request) × IsRequest bytes r × IsAllocation r client tc × InForm r json
+    to h =
+        let (r, x, is, form) = asks bytes peer client token (Alloc tc) json (λ reply e. cc) h in
+        (r, x, is_allocation r peer client token tc (body_fits bytes r fits x) is, form)
 
-    from : ((r : Request) × IsRequest bytes r × IsStatus r) → IsAsked bytes peer token Status
-    from (r, x, h) = inl (r, x, sym (is_status r peer token h))
+    from : ((r : Request) × IsRequest bytes r × IsAllocation r client tc × InForm r json) → IsAsked bytes peer client token (record { what = Alloc tc; json = json })
+    from (r, x, a, form) = asked_by bytes peer client token (Alloc tc) json r x (allocation_is r peer client token tc a) form
 
-pub replies_at_once : (bytes : List ℕ) (peer : Addr) (token : List ℕ) (reply : Response) → IsAsked bytes peer token (Done reply)
-    → (((r : Request) × IsRequest bytes r) × (reply ≡ NotFound)) ⊎ (IsNoRequest bytes × (reply ≡ reply_of BadHead))
-replies_at_once bytes peer token reply (inl (r, x, e)) = inl ((r, x), done_is r peer token reply (sym e))
-replies_at_once bytes peer token reply (inr (none, e)) = inr (none, cc)
+pub heartbeats_asked : (bytes : List ℕ) (peer : Addr) (client token : List ℕ) (server : Addr) (m : HeartbeatServerHttpRequest) (json : Bool) → IsBytes bytes
+    → IsAsked bytes peer client token (record { what = Beat server m; json = json }) ↔ ((r : Request) × IsRequest bytes r × IsHeartbeat r peer token server m × InForm r json)
+heartbeats_asked bytes peer client token server m json fits = (to, from)
+  where
+    to : IsAsked bytes peer client token (record { what = Beat server m; json = json }) → (r : Request) × IsRequest bytes r × IsHeartbeat r peer token server m × InForm r json
+    to h =
+        let (r, x, is, form) = asks bytes peer client token (Beat server m) json (λ reply e. cc) h in
+        (r, x, is_heartbeat r peer client token server m (body_fits bytes r fits x) is, form)
+
+    from : ((r : Request) × IsRequest bytes r × IsHeartbeat r peer token server m × InForm r json) → IsAsked bytes peer client token (record { what = Beat server m; json = json })
+    from (r, x, h, form) = asked_by bytes peer client token (Beat server m) json r x (heartbeat_is r peer client token server m h) form
+
+pub updates_asked : (bytes : List ℕ) (peer : Addr) (client token : List ℕ) (server : Addr) (job : JobId) (state : JobState) (json : Bool) → IsBytes bytes
+    → IsAsked bytes peer client token (record { what = Update server job state; json = json }) ↔ ((r : Request) × IsRequest bytes r × IsUpdate r peer token server job state × InForm r json)
+updates_asked bytes peer client token server job state json fits = (to, from)
+  where
+    to : IsAsked bytes peer client token (record { what = Update server job state; json = json }) → (r : Request) × IsRequest bytes r × IsUpdate r peer token server job state × InForm r json
+    to h =
+        let (r, x, is, form) = asks bytes peer client token (Update server job state) json (λ reply e. cc) h in
+        (r, x, is_update r peer client token server job state (body_fits bytes r fits x) is, form)
+
+    from : ((r : Request) × IsRequest bytes r × IsUpdate r peer token server job state × InForm r json) → IsAsked bytes peer client token (record { what = Update server job state; json = json })
+    from (r, x, u, form) = asked_by bytes peer client token (Update server job state) json r x (update_is r peer client token server job state u) form
+
+pub statuses_asked : (bytes : List ℕ) (peer : Addr) (client token : List ℕ) (json : Bool)
+    → IsAsked bytes peer client token (record { what = Status; json = json }) ↔ ((r : Request) × IsRequest bytes r × IsStatus r × InForm r json)
+statuses_asked bytes peer client token json = (to, from)
+  where
+    to : IsAsked bytes peer client token (record { what = Status; json = json }) → (r : Request) × IsRequest bytes r × IsStatus r × InForm r json
+    to h =
+        let (r, x, is, form) = asks bytes peer client token Status json (λ reply e. cc) h in
+        (r, x, is_status r peer client token is, form)
+
+    from : ((r : Request) × IsRequest bytes r × IsStatus r × InForm r json) → IsAsked bytes peer client token (record { what = Status; json = json })
+    from (r, x, h, form) = asked_by bytes peer client token Status json r x (status_is r peer client token h) form
+
+pub replies_at_once : (bytes : List ℕ) (peer : Addr) (client token : List ℕ) (reply : Response) (json : Bool)
+    → IsAsked bytes peer client token (record { what = Done reply; json = json })
+    → (refusal : HttpError) × (reply ≡ reply_of refusal)
+    × (((r : Request) × IsRequest bytes r × (asked_of r peer client token ≡ Err refusal)) ⊎ (IsNoRequest bytes × (refusal ≡ BadHead)))
+replies_at_once bytes peer client token reply json (inr (none, e)) = (BadHead, (let same = ap (λ (a : Asked). a.what) e in cc), inr (none, refl))
+replies_at_once bytes peer client token reply json (inl (r, x, e)) = by_result (asked_of r peer client token) refl (ap (λ (a : Asked). a.what) e)
+  where
+    by_result : (y : Result SchedRouted HttpError) → asked_of r peer client token ≡ y → Done reply ≡ answered y
+        → (refusal : HttpError) × (reply ≡ reply_of refusal)
+        × (((q : Request) × IsRequest bytes q × (asked_of q peer client token ≡ Err refusal)) ⊎ (IsNoRequest bytes × (refusal ≡ BadHead)))
+    by_result (Ok y) is h = absurd (never_done r peer client token reply (is ∙ ap Ok (sym h)))
+    by_result (Err d) is h = (d, cc, inl (r, x, is))

@@ -45,8 +45,12 @@ pub record IsReplyWith (bytes : List ℕ) (r : Reply) (h : ResponseHead) : Type 
 abbrev pub IsReply : List ℕ → Reply → Type 0
 IsReply bytes r = (h : ResponseHead) × IsReplyWith bytes r h
 
+-- the bytes are no reply
+abbrev pub IsNoReply : List ℕ → Type 0
+IsNoReply bytes = (r : Reply) → ¬ (IsReply bytes r)
+
 -- what a refusal says of the bytes of a reply
 abbrev pub RefusesReply : List ℕ → HttpError → Type 0
-RefusesReply bytes ParseError = (r : Reply) → ¬ (IsReply bytes r)
+RefusesReply bytes ParseError = IsNoReply bytes
 RefusesReply bytes Memory = (r : Reply) × IsReply bytes r
 RefusesReply bytes other = ⊥

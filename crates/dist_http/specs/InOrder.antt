@@ -1,40 +1,45 @@
 -- The requests that ask something of the scheduler, in the words of their parts.
-use Rattle.std.specs.Prelude.{◌≡◌, ◌≢◌, ℕ, ◌<◌, ◌≤◌, true, List, ◌++◌, Some, None, codes}
+use Rattle.std.specs.Prelude.{◌≡◌, ◌≢◌, ℕ, Bool, true, false, List, ◌++◌, Some, codes}
 use Rattle.dist_types.specs.declared.addr.Addr.{Addr}
-use Rattle.dist_http.specs.declared.message.HeartbeatServerHttpRequest.{HeartbeatServerHttpRequest}
+use Rattle.dist_types.specs.declared.ids.JobId.{JobId}
+use Rattle.dist_types.specs.declared.results.JobState.{JobState}
+use Rattle.dist_types.specs.Ids.{SaysJob}
+use Rattle.dist_wire.specs.Spelling.{SpellsToolchain, SpellsHeartbeat, SpellsState}
+use Rattle.dist_wire.specs.declared.heartbeat.HeartbeatServerHttpRequest.{HeartbeatServerHttpRequest}
 use Rattle.dist_http.specs.declared.request.Request.{Request}
-use Rattle.dist_http.specs.Bearer.{IsServerToken}
 use Rattle.dist_http.specs.Fields.{header, path_of}
-use Rattle.dist_http.specs.Message.{BeginsWith}
-use Rattle.dist_http.specs.Route.{same_ip}
+use Rattle.dist_http.specs.Message.{HasMessage}
+use Rattle.dist_http.specs.Sender.{Shows, IsFrom}
 
--- the request has that method and that path, and asks for no reply in JSON
+-- the request has that method and that path
 pub record IsAt (r : Request) (method path : List ℕ) : Type 0 where
   pub sent_by : r.method ≡ method
   pub sent_to : path_of r.target ≡ path
-  pub binary : header (codes "accept") r.headers ≢ Some (codes "application/json")
 
--- the request shows the server's token, from the server's IP and with no X-Real-IP
-pub record IsFrom (r : Request) (peer : Addr) (token : List ℕ) (server : Addr) : Type 0 where
-  pub shown : List ℕ
-  pub bearer : header (codes "authorization") r.headers ≡ Some (codes "Bearer " ++ shown)
-  pub own : IsServerToken shown server token
-  pub direct : header (codes "x-real-ip") r.headers ≡ None
-  pub ip : same_ip peer server ≡ true
+-- the request asks for a reply in JSON, or in binary
+abbrev pub InForm : Request → Bool → Type 0
+InForm r true = header (codes "accept") r.headers ≡ Some (codes "application/json")
+InForm r false = header (codes "accept") r.headers ≢ Some (codes "application/json")
 
--- the body is binary and begins with that heartbeat, which tells 1 to 4294967295 processors
-pub record HasHeartbeat (r : Request) (beat : HeartbeatServerHttpRequest) : Type 0 where
-  pub more : List ℕ
-  pub content : header (codes "content-type") r.headers ≡ Some (codes "application/octet-stream" ++ more)
-  pub body : BeginsWith r.body beat
-  pub some : 0 < beat.num_cpus
-  pub fits : beat.num_cpus ≤ 4294967295
+-- the request asks for a job with that toolchain, and shows the clients' token
+pub record IsAllocation (r : Request) (token tc : List ℕ) : Type 0 where
+  pub at : IsAt r (codes "POST") (codes "/api/v1/scheduler/alloc_job")
+  pub shows : Shows r token
+  pub message : HasMessage SpellsToolchain r tc
 
--- the request is that heartbeat of that server, in order
+-- the request is that heartbeat of that server
 pub record IsHeartbeat (r : Request) (peer : Addr) (token : List ℕ) (server : Addr) (beat : HeartbeatServerHttpRequest) : Type 0 where
   pub at : IsAt r (codes "POST") (codes "/api/v1/scheduler/heartbeat_server")
   pub sender : IsFrom r peer token server
-  pub message : HasHeartbeat r beat
+  pub message : HasMessage SpellsHeartbeat r beat
+
+-- the request tells, of that server, the state of that job
+pub record IsUpdate (r : Request) (peer : Addr) (token : List ℕ) (server : Addr) (job : JobId) (state : JobState) : Type 0 where
+  pub id : List ℕ
+  pub at : IsAt r (codes "POST") (codes "/api/v1/scheduler/job_state/" ++ id)
+  pub names : SaysJob id job.0
+  pub sender : IsFrom r peer token server
+  pub message : HasMessage SpellsState r state
 
 -- the request asks for the status
 abbrev pub IsStatus : Request → Type 0

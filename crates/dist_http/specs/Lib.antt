@@ -1,9 +1,15 @@
+pub mod ErrJson
 pub mod Fields
 pub mod Head
 pub mod Reply
 pub mod ReadBack
+pub mod Steps
 pub mod Message
 pub mod Bearer
+pub mod Sender
+pub mod Fault
+pub mod Written
+pub mod Calls
 pub mod Route
 pub mod Asked
 pub mod InOrder

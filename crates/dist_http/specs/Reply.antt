@@ -1,9 +1,8 @@
 -- The text of a reply.
-use Rattle.std.specs.Prelude.{ℕ, List, [], ◌++◌, length, codes}
+use Rattle.std.specs.Prelude.{ℕ, Bool, List, [], ◌++◌, length, if◌then◌else◌, codes}
 use Rattle.std.specs.Fmt.{decimal}
-use Rattle.dist_types.specs.declared.results.HeartbeatServerResult.{HeartbeatServerResult}
-use Rattle.dist_types.specs.declared.results.SchedulerStatusResult.{SchedulerStatusResult}
-use Rattle.dist_http.specs.Message.{heartbeat_answer_text, status_text}
+use Rattle.json.specs.Json as tree
+use Rattle.dist_wire.specs.Json.{json_text}
 use Rattle.dist_http.specs.declared.reply.Word.{Word}
 use Rattle.dist_http.specs.declared.reply.Word.TheVariants.{NoBearerAuth, BearerAuthFailed, InvalidBearerToken, MismatchedAddress, InvalidJwt, LinkFailed}
 use Rattle.dist_http.specs.declared.reply.Response.{Response}
@@ -52,10 +51,6 @@ head_text r = opening_text r ⧺ codes "Content-Length: " ⧺ decimal (length (b
 unfoldable pub reply_text : Response → List ℕ
 reply_text r = head_text r ++ body_of r
 
--- the reply to a heartbeat
-abbrev pub heartbeat_response : HeartbeatServerResult → Response
-heartbeat_response answer = Binary (heartbeat_answer_text answer)
-
--- the reply to a status request
-abbrev pub status_response : SchedulerStatusResult → Response
-status_response status = Binary (status_text status)
+-- the reply with a message, in JSON or in binary, by the text and the JSON of messages of its type
+abbrev pub response_of : {M : Type 0} → (M → List ℕ) → (M → tree.Json) → Bool → M → Response
+response_of text json_of json m = if json then Json (json_text (json_of m)) else Binary (text m)

@@ -1,48 +1,51 @@
 -- What a request asks of the scheduler, with the refusals in order.
-use Rattle.std.specs.Prelude.{ℕ, ◌<◌, ◌≤◌, Bool, false, ◌&&◌, List, nat_lt, nat_le, nat_eq, if◌then◌else◌, Option, Some, None, is_some, Result, Ok, Err, codes, bytes_eq}
+use Rattle.std.specs.Prelude.{ℕ, Bool, false, ◌&&◌, List, length, drop, nat_eq, nat_lt, if◌then◌else◌, Option, Some, None, Result, Ok, Err, codes, bytes_eq}
 use Rattle.std.specs.List.{starts_with}
+use Rattle.std.specs.Str.Parse.{without_leading_plus, digits_value}
 use Rattle.dist_types.specs.declared.addr.Addr.{Addr}
-use Rattle.dist_types.specs.declared.addr.Addr.TheVariants.{V4, V6}
+use Rattle.dist_types.specs.declared.ids.JobId.{JobId}
+use Rattle.dist_types.specs.Addr.{is_digits}
+use Rattle.dist_wire.specs.Reading.{toolchain_at, heartbeat_at, state_at}
 use Rattle.dist_http.specs.declared.error.HttpError.{HttpError}
-use Rattle.dist_http.specs.declared.error.HttpError.TheVariants.{BadHead, WrongContentType, ParseError, BadRealIp, NoRoute, Unauthorised}
-use Rattle.dist_http.specs.declared.message.HeartbeatPart.{HeartbeatPart}
-use Rattle.dist_http.specs.declared.message.HeartbeatServerHttpRequest.{HeartbeatServerHttpRequest}
-use Rattle.dist_http.specs.declared.reply.Response.{Response}
-use Rattle.dist_http.specs.declared.reply.Response.TheVariants.{BadRequest, NotFound}
-use Rattle.dist_http.specs.declared.reply.Word.TheVariants.{NoBearerAuth, InvalidBearerToken, MismatchedAddress}
+use Rattle.dist_http.specs.declared.error.HttpError.TheVariants.{NoRoute}
 use Rattle.dist_http.specs.declared.request.Request.{Request}
-use Rattle.dist_http.specs.declared.route.Question.{Question}
-use Rattle.dist_http.specs.declared.route.Question.TheVariants as question
+use Rattle.dist_http.specs.declared.route.Asked.{Asked}
 use Rattle.dist_http.specs.declared.route.SchedRouted.{SchedRouted}
-use Rattle.dist_http.specs.declared.route.SchedRouted.TheVariants.{Beat, Status, Done}
-use Rattle.dist_http.specs.Bearer.{token_in, server_in}
+use Rattle.dist_http.specs.declared.route.SchedRouted.TheVariants.{Alloc, Beat, Update, Status, Done}
+use Rattle.dist_http.specs.Fault.{reply_of}
 use Rattle.dist_http.specs.Fields.{header, path_of}
-use Rattle.dist_http.specs.Message.{heartbeat_in, beat_view}
+use Rattle.dist_http.specs.Message.{message_in}
+use Rattle.dist_http.specs.Sender.{client_test, server_of}
+use Rattle.dist_http.specs.Steps.{◌>>=◌}
 
--- the next step, unless this one refused
-infixl 10 ◌>>=◌
-abbrev pub ◌>>=◌ : {A B : Type 0} → Result A HttpError → (A → Result B HttpError) → Result B HttpError
-(Ok x) >>= f = f x
-(Err e) >>= f = Err e
-
--- the value, or the refusal where there is none
-abbrev pub unless_none : {A : Type 0} → HttpError → Option A → Result A HttpError
-unless_none e (Some x) = Ok x
-unless_none e None = Err e
-
--- the value, or the refusal where the test fails
-abbrev pub unless_false : {A : Type 0} → HttpError → Bool → A → Result A HttpError
-unless_false e test x = if test then Ok x else Err e
-
--- the value, or the refusal where the test holds
-abbrev pub unless_true : {A : Type 0} → HttpError → Bool → A → Result A HttpError
-unless_true e test x = if test then Err e else Ok x
+-- ---- the place
 
 -- whether the request has that method and that path
 unfoldable pub is_at : List ℕ → List ℕ → Request → Bool
 is_at method path r = bytes_eq r.method method && bytes_eq (path_of r.target) path
 
--- whether a text may be absent and, where it is not, is that one
+-- what follows the front, where the text begins with it
+abbrev pub stripped : List ℕ → List ℕ → Option (List ℕ)
+stripped front text = if starts_with nat_eq text front then Some (drop (length front) text) else None
+
+-- the job of an id: an optional plus and at least one digit, at most 2^64 - 1
+unfoldable pub job_in : List ℕ → Option JobId
+job_in text =
+    if is_digits (without_leading_plus text) && nat_lt (digits_value 10 (without_leading_plus text)) 18446744073709551616
+    then Some (record { 0 = digits_value 10 (without_leading_plus text) }) else None
+
+-- the job of an id, where one is given
+abbrev pub given_job : Option (List ℕ) → Option JobId
+given_job None = None
+given_job (Some id) = job_in id
+
+-- the job whose state the request tells
+unfoldable pub job_of : Request → Option JobId
+job_of r = if bytes_eq r.method (codes "POST") then given_job (stripped (codes "/api/v1/scheduler/job_state/") (path_of r.target)) else None
+
+-- ---- the form of the reply
+
+-- whether a text stands there and is that one
 abbrev pub is_text : List ℕ → Option (List ℕ) → Bool
 is_text text None = false
 is_text text (Some given) = bytes_eq given text
@@ -51,82 +54,47 @@ is_text text (Some given) = bytes_eq given text
 unfoldable pub wants_json : Request → Bool
 wants_json r = is_text (codes "application/json") (header (codes "accept") r.headers)
 
--- whether two addresses have one IP
-abbrev pub same_ip : Addr → Addr → Bool
-same_ip (V4 a p) (V4 b q) = bytes_eq a b
-same_ip (V6 a p) (V6 b q) = bytes_eq a b
-same_ip (V4 a p) (V6 b q) = false
-same_ip (V6 a p) (V4 b q) = false
+-- ---- what is asked
 
--- the server that sent the request: it shows its token from its own IP
-unfoldable pub server_of : Request → Addr → List ℕ → Result Addr HttpError
-server_of r peer expected = do
-  token ← unless_none (Unauthorised NoBearerAuth) (token_in (header (codes "authorization") r.headers))
-  server ← unless_none (Unauthorised InvalidBearerToken) (server_in expected token)
-  direct ← unless_true BadRealIp (is_some (header (codes "x-real-ip") r.headers)) server
-  unless_false (Unauthorised MismatchedAddress) (same_ip peer direct) direct
+-- a request for a job
+unfoldable pub alloc_of : Request → List ℕ → Result SchedRouted HttpError
+alloc_of r client = do
+  shown ← client_test r client
+  tc ← message_in toolchain_at r
+  Ok (Alloc tc)
 
--- whether a header says that the body is binary
-abbrev pub is_binary : Option (List ℕ) → Bool
-is_binary None = false
-is_binary (Some text) = starts_with nat_eq text (codes "application/octet-stream")
-
--- the heartbeat in the body
-unfoldable pub heartbeat_of : Request → Result HeartbeatServerHttpRequest HttpError
-heartbeat_of r =
-    if is_binary (header (codes "content-type") r.headers) then unless_none ParseError (heartbeat_in r.body)
-    else Err WrongContentType
-
--- whether a server may have that many processors
-abbrev pub has_cpus : ℕ → Bool
-has_cpus cpus = nat_lt 0 cpus && nat_le cpus 4294967295
-
--- a heartbeat that is in order
+-- a heartbeat
 unfoldable pub beat_of : Request → Addr → List ℕ → Result SchedRouted HttpError
 beat_of r peer expected = do
   server ← server_of r peer expected
-  beat ← heartbeat_of r
-  unless_false NoRoute (has_cpus beat.num_cpus) (Beat server beat)
+  beat ← message_in heartbeat_at r
+  Ok (Beat server beat)
 
--- what a request asks, or why it is refused
-unfoldable pub asked_of : Request → Addr → List ℕ → Result SchedRouted HttpError
-asked_of r peer expected =
-    if wants_json r then Err NoRoute
+-- a state of that job
+unfoldable pub update_of : Request → Addr → List ℕ → JobId → Result SchedRouted HttpError
+update_of r peer expected job = do
+  server ← server_of r peer expected
+  state ← message_in state_at r
+  Ok (Update server job state)
+
+-- a state of that job, where one is named
+abbrev pub named_of : Request → Addr → List ℕ → Option JobId → Result SchedRouted HttpError
+named_of r peer expected None = Err NoRoute
+named_of r peer expected (Some job) = update_of r peer expected job
+
+-- what the request asks, or why it is refused
+unfoldable pub asked_of : Request → Addr → List ℕ → List ℕ → Result SchedRouted HttpError
+asked_of r peer client expected =
+    if is_at (codes "POST") (codes "/api/v1/scheduler/alloc_job") r then alloc_of r client
     else if is_at (codes "POST") (codes "/api/v1/scheduler/heartbeat_server") r then beat_of r peer expected
     else if is_at (codes "GET") (codes "/api/v1/scheduler/status") r then Ok Status
-    else Err NoRoute
-
--- the reply to a refusal; each but a bad head has this one until the replies of the others are built
-abbrev pub reply_of : HttpError → Response
-reply_of BadHead = BadRequest (codes "{\"cause\":null,\"description\":\"bad request head\"}")
-reply_of other = NotFound
+    else named_of r peer expected (job_of r)
 
 -- what is asked, or the reply to the refusal
 abbrev pub answered : Result SchedRouted HttpError → SchedRouted
 answered (Ok asked) = asked
 answered (Err refusal) = Done (reply_of refusal)
 
--- a heartbeat that is asked has a number of processors that a server may have
-abbrev pub HasProcessors : SchedRouted → Type 0
-HasProcessors (Beat server beat) = (0 < beat.num_cpus) × (beat.num_cpus ≤ 4294967295)
-HasProcessors other = Unit {0}
-
--- a heartbeat, or a refusal, without where it stands
-abbrev pub part_view : Result HeartbeatPart HttpError → Result HeartbeatServerHttpRequest HttpError
-part_view (Ok part) = Ok (beat_view part)
-part_view (Err e) = Err e
-
--- the same with its server
-abbrev pub beat_seen : Result (Addr × HeartbeatPart) HttpError → Result SchedRouted HttpError
-beat_seen (Ok p) = Ok (Beat p.0 (beat_view p.1))
-beat_seen (Err e) = Err e
-
--- a question, without where it stands
-abbrev pub asked_by : Question → SchedRouted
-asked_by (question.Beat server part) = Beat server (beat_view part)
-asked_by question.Status = Status
-
--- a question, or a refusal, without where it stands
-abbrev pub question_seen : Result Question HttpError → Result SchedRouted HttpError
-question_seen (Ok question) = Ok (asked_by question)
-question_seen (Err e) = Err e
+-- what the request asks, and the form of the reply
+abbrev pub question_of : Request → Addr → List ℕ → List ℕ → Asked
+question_of r peer client expected = record { what = answered (asked_of r peer client expected); json = wants_json r }

@@ -1,5 +1,7 @@
 //! Why a call or a route refuses.
 use crate::reply::Word;
+use dist_types::text::Bytes;
+use dist_wire::error::WireError;
 use std::alloc::{AllocError, AllocFailed};
 use thiserror::Error;
 
@@ -24,6 +26,9 @@ pub enum HttpError {
     /// The request does not show who sent it.
     #[error("unauthorised: {0}")]
     Unauthorised(Word),
+    /// A reply has this status, and not 200, and this body.
+    #[error("status {0}")]
+    Status(u16, Bytes),
     /// Memory ran out.
     #[error("out of memory")]
     Memory,
@@ -48,5 +53,19 @@ impl<T: Drop> From<AllocFailed<T>> for HttpError {
 
     fn from(_: AllocFailed<T>) -> Self {
         HttpError::Memory
+    }
+}
+
+impl From<WireError> for HttpError {
+    ghost use Rattle.std.specs.Prelude.{◌≡◌};
+    ghost use Rattle.dist_http.specs.Steps.{of_wire};
+
+    ghost from_gives = { λ w e. e ≡ of_wire w };
+
+    fn from(e: WireError) -> Self {
+        match e {
+            WireError::ParseError => HttpError::ParseError,
+            WireError::Memory => HttpError::Memory,
+        }
     }
 }

@@ -12,13 +12,19 @@
 
 pub mod asked;
 mod bearer;
+pub mod calls;
+pub mod err_json;
 pub mod error;
+pub mod fault;
 mod fields;
 pub mod head;
 pub mod laws;
-pub mod message;
+mod message;
+pub mod refusal;
 pub mod reply;
 pub mod request;
 pub mod route;
+mod sender;
 #[cfg(test)]
 mod tests;
+pub mod written;

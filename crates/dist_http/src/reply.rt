@@ -1,11 +1,14 @@
 //! Replies: the kinds that are written, with their bytes, and a reply as its reader sees it.
 ghost use Rattle.std.specs.Prelude.{◌≡◌, IfOk, IfErr};
-ghost use Rattle.dist_http.specs.Reply.{body_of, reply_text, heartbeat_response, status_response};
+ghost use Rattle.dist_http.specs.Reply.{body_of, reply_text, response_of};
+ghost use Rattle.dist_http.specs.Route.{wants_json};
+ghost use Rattle.dist_http.specs.declared.reply.Response.TheVariants.{Binary};
 
 use crate::error::HttpError;
-use crate::message::{heartbeat_answer_bytes, status_bytes};
-use dist_types::results::{HeartbeatServerResult, SchedulerStatusResult};
+use crate::request::Request;
+use crate::route::wants_json;
 use dist_types::text::{Bytes, Items, Text};
+use dist_wire::message::Message;
 use std::alloc::Global;
 use std::fmt;
 
@@ -149,23 +152,35 @@ impl Response {
     }
 }
 
-/// The reply to a heartbeat, in binary. Refused for want of memory alone.
-pub fn heartbeat_response(
-    alloc: Global,
-    answer: &HeartbeatServerResult,
-) -> Result<Response, HttpError>
-    ensures ok { IfOk result (λ response. response ≡ heartbeat_response answer.now) }
+/// The reply 200 with a message, in JSON or in binary. Refused for want of memory alone.
+pub fn respond<M: Message>(alloc: Global, json: bool, content: &M) -> Result<Response, HttpError>
+    ensures ok { IfOk result (λ response. response ≡ response_of M.text M.json json content.now) }
     ensures err { IfErr result (λ e. e ≡ HttpError.Memory) }
 {
-    let bytes = heartbeat_answer_bytes(alloc, answer)?;
-    Ok(Response::Binary(bytes))
+    if json {
+        let text = content.to_json(alloc)?;
+        return Ok(Response::Json(Text::new(text)));
+    }
+    bincode_response(alloc, content)
 }
 
-/// The reply to a status request, in binary. Refused for want of memory alone.
-pub fn status_response(alloc: Global, status: &SchedulerStatusResult) -> Result<Response, HttpError>
-    ensures ok { IfOk result (λ response. response ≡ status_response status.now) }
+/// The reply 200 with a message in binary. Refused for want of memory alone.
+pub fn bincode_response<M: Message>(alloc: Global, content: &M) -> Result<Response, HttpError>
+    ensures ok { IfOk result (λ response. response ≡ Binary (M.text content.now)) }
     ensures err { IfErr result (λ e. e ≡ HttpError.Memory) }
 {
-    let bytes = status_bytes(alloc, status)?;
-    Ok(Response::Binary(bytes))
+    let bytes = content.write(alloc)?;
+    Ok(Response::Binary(Bytes::new(bytes)))
+}
+
+/// The reply 200 with a message, in the form that the request asks for. Refused for want of memory alone.
+pub fn prepare_response<M: Message>(
+    alloc: Global,
+    request: &Request,
+    content: &M,
+) -> Result<Response, HttpError>
+    ensures ok { IfOk result (λ response. response ≡ response_of M.text M.json (wants_json request.now) content.now) }
+    ensures err { IfErr result (λ e. e ≡ HttpError.Memory) }
+{
+    respond(alloc, wants_json(request), content)
 }

@@ -1,40 +1,43 @@
 //! The routes of the scheduler: what a request asks of it.
-//!
-//! Until messages and refusals are built, each refusal is answered by 404, and so are a request for
-//! JSON and a heartbeat with a number of processors that is not allowed. A heartbeat has no header
-//! X-Real-IP for now.
-ghost use Rattle.std.specs.Prelude.{◌≡◌, IfOk, IfErr, IsTrue, option_copied};
-ghost use Rattle.dist_http.specs.Route.{is_at, same_ip, server_of, is_binary, heartbeat_of, wants_json, has_cpus, part_view, beat_of, asked_of, answered, beat_seen, asked_by, question_seen, reply_of, HasProcessors};
+ghost use Rattle.std.specs.Prelude.{◌≡◌, IfOk, IfErr, option_copied};
+ghost use Rattle.dist_http.specs.Route.{is_at, stripped, job_in, job_of, wants_json, alloc_of, beat_of, update_of, asked_of, answered};
+ghost use Rattle.dist_http.specs.Steps.{Gives};
 
-use crate::bearer::{server_in, token_in};
 use crate::error::HttpError;
-use crate::message::{HeartbeatPart, HeartbeatServerHttpRequest, heartbeat_in};
-use crate::reply::{Response, Word};
+use crate::message::message_in;
+use crate::refusal::reply_of;
+use crate::reply::Response;
 use crate::request::Request;
+use crate::sender::{client_test, server_of};
 use dist_types::addr::Addr;
-use dist_types::ids::ServerId;
-use dist_types::text::Text;
+use dist_types::ids::{JobId, ServerId};
+use dist_types::results::JobState;
+use dist_types::toolchain::Toolchain;
+use dist_wire::heartbeat::HeartbeatServerHttpRequest;
 use std::alloc::Global;
 
-/// How many processors a heartbeat tells at most.
-pub const MAX_CPUS: u64 = 4294967295;
-
 /// What a request asks of the scheduler.
-#[derive(Debug, Drop)]
+#[derive(Drop)]
 pub enum SchedRouted {
+    /// A job with that toolchain.
+    Alloc(Toolchain),
     /// A heartbeat of that server.
     Beat(ServerId, HeartbeatServerHttpRequest),
+    /// The state of that job, told by that server.
+    Update(ServerId, JobId, JobState),
     /// How many servers, processors and jobs there are.
     Status,
     /// Nothing more: the reply is known.
     Done(Response),
 }
 
-/// What a request asks, where it stands in the request's bytes.
-#[derive(Clone, Copy, Debug)]
-enum Question<'a> {
-    Beat(Addr, HeartbeatPart<'a>),
-    Status,
+/// What is asked of the scheduler, and the form of the reply.
+#[derive(Drop)]
+pub struct Asked {
+    /// What is asked.
+    pub what: SchedRouted,
+    /// Whether the reply is to be in JSON.
+    pub json: bool,
 }
 
 #[tactic(auto, unfolding(crate::specs::Route::is_at))]
@@ -47,8 +50,38 @@ fn is_at(request: &Request, method: &str, path: &str) -> bool
     request.path() == path
 }
 
+/// What follows the front, where the text begins with it.
+#[tactic(auto, using(crate::proofs::PlaceLemmas::strips))]
+fn stripped<'a>(front: &str, text: &'a str) -> Option<&'a str>
+    ensures { option_copied result ≡ stripped front.now text.now }
+{
+    text.strip_prefix(front)
+}
+
+fn job_in(text: &str) -> Option<JobId>
+    ensures { result ≡ job_in text.now }
+{
+    match text.parse() {
+        Ok(job) => Some(job),
+        Err(_) => None,
+    }
+}
+
+/// The job whose state a request tells.
+#[tactic(auto, unfolding(crate::specs::Route::job_of))]
+fn job_of(request: &Request) -> Option<JobId>
+    ensures { result ≡ job_of request.now }
+{
+    if request.method.get() != "POST" {
+        return None;
+    }
+    let id = stripped("/api/v1/scheduler/job_state/", request.path())?;
+    job_in(id)
+}
+
+/// Whether a request asks for a reply in JSON: its Accept is exactly `application/json`.
 #[tactic(auto, unfolding(crate::specs::Route::wants_json))]
-fn wants_json(request: &Request) -> bool
+pub fn wants_json(request: &Request) -> bool
     ensures { result ≡ wants_json request.now }
 {
     match request.header("accept") {
@@ -57,149 +90,88 @@ fn wants_json(request: &Request) -> bool
     }
 }
 
-fn is_same_ip(a: Addr, b: Addr) -> bool
-    ensures { result ≡ same_ip a b }
+/// A request for a job: it shows the clients' token, and its body begins with a toolchain.
+#[tactic(auto, unfolding(crate::specs::Route::alloc_of))]
+fn alloc_of(alloc: Global, request: &Request, client_token: &str) -> Result<SchedRouted, HttpError>
+    ensures { Gives (alloc_of request.now client_token.now) result }
 {
-    match (a, b) {
-        (Addr::V4(x, _), Addr::V4(y, _)) => x == y,
-        (Addr::V6(x, _), Addr::V6(y, _)) => x == y,
-        (Addr::V4(_, _), Addr::V6(_, _)) => false,
-        (Addr::V6(_, _), Addr::V4(_, _)) => false,
-    }
+    client_test(request, client_token)?;
+    let tc = message_in(alloc, request)?;
+    Ok(SchedRouted::Alloc(tc))
 }
 
-/// The server that sent the request.
-#[tactic(auto, unfolding(crate::specs::Route::server_of))]
-fn server_of(request: &Request, peer: Addr, expected: &str) -> Result<Addr, HttpError>
-    ensures { result ≡ server_of request.now peer expected.now }
-{
-    let Some(token) = token_in(request.header("authorization")) else {
-        return Err(HttpError::Unauthorised(Word::NoBearerAuth));
-    };
-    let Some(server) = server_in(expected, token) else {
-        return Err(HttpError::Unauthorised(Word::InvalidBearerToken));
-    };
-    if request.header("x-real-ip").is_some() {
-        return Err(HttpError::BadRealIp);
-    }
-    if is_same_ip(peer, server) {
-        Ok(server)
-    } else {
-        Err(HttpError::Unauthorised(Word::MismatchedAddress))
-    }
-}
-
-fn is_binary(text: Option<&str>) -> bool
-    ensures { result ≡ is_binary (option_copied text.entry) }
-{
-    match text {
-        Some(text) => text.as_bytes().starts_with(b"application/octet-stream"),
-        None => false,
-    }
-}
-
-/// The heartbeat in the body.
-#[tactic(auto, unfolding(crate::specs::Route::heartbeat_of))]
-fn heartbeat_of(request: &Request) -> Result<HeartbeatPart<'_>, HttpError>
-    ensures { part_view result ≡ heartbeat_of request.now }
-{
-    if !is_binary(request.header("content-type")) {
-        return Err(HttpError::WrongContentType);
-    }
-    match heartbeat_in(request.body.get()) {
-        Some(beat) => Ok(beat),
-        None => Err(HttpError::ParseError),
-    }
-}
-
-fn has_cpus(num_cpus: u64) -> bool
-    ensures { result ≡ has_cpus num_cpus }
-{
-    if num_cpus == 0 {
-        return false;
-    }
-    num_cpus <= MAX_CPUS
-}
-
-/// A heartbeat that is in order, and its server, in the request's bytes.
+/// A heartbeat, and its server.
 #[tactic(auto, unfolding(crate::specs::Route::beat_of))]
-fn beat_of<'a>(
-    request: &'a Request,
+fn beat_of(
+    alloc: Global,
+    request: &Request,
     peer: Addr,
-    expected: &str,
-) -> Result<(Addr, HeartbeatPart<'a>), HttpError>
-    ensures seen { beat_seen result ≡ beat_of request.now peer expected.now }
-    ensures processors { IfOk result (λ p. IsTrue (has_cpus p.1.num_cpus)) }
+    server_token: &str,
+) -> Result<SchedRouted, HttpError>
+    ensures { Gives (beat_of request.now peer server_token.now) result }
 {
-    let server = server_of(request, peer, expected)?;
-    let beat = heartbeat_of(request)?;
-    if has_cpus(beat.num_cpus) {
-        Ok((server, beat))
-    } else {
-        Err(HttpError::NoRoute)
-    }
+    let server = server_of(request, peer, server_token)?;
+    let beat = message_in(alloc, request)?;
+    Ok(SchedRouted::Beat(ServerId::new(server), beat))
+}
+
+/// A state of that job, and the server that tells it.
+#[tactic(auto, unfolding(crate::specs::Route::update_of))]
+fn update_of(
+    alloc: Global,
+    request: &Request,
+    peer: Addr,
+    server_token: &str,
+    job: JobId,
+) -> Result<SchedRouted, HttpError>
+    ensures { Gives (update_of request.now peer server_token.now job) result }
+{
+    let server = server_of(request, peer, server_token)?;
+    let state = message_in(alloc, request)?;
+    Ok(SchedRouted::Update(ServerId::new(server), job, state))
 }
 
 /// What a request asks, or why it is refused.
 #[tactic(auto, unfolding(crate::specs::Route::asked_of))]
-fn asked_of<'a>(request: &'a Request, peer: Addr, expected: &str) -> Result<Question<'a>, HttpError>
-    ensures seen { question_seen result ≡ asked_of request.now peer expected.now }
-    ensures processors { IfOk result (λ question. HasProcessors (asked_by question)) }
+fn asked_of(
+    alloc: Global,
+    request: &Request,
+    peer: Addr,
+    client_token: &str,
+    server_token: &str,
+) -> Result<SchedRouted, HttpError>
+    ensures { Gives (asked_of request.now peer client_token.now server_token.now) result }
 {
-    if wants_json(request) {
-        return Err(HttpError::NoRoute);
+    if is_at(request, "POST", "/api/v1/scheduler/alloc_job") {
+        return alloc_of(alloc, request, client_token);
     }
     if is_at(request, "POST", "/api/v1/scheduler/heartbeat_server") {
-        let (server, beat) = beat_of(request, peer, expected)?;
-        return Ok(Question::Beat(server, beat));
+        return beat_of(alloc, request, peer, server_token);
     }
     if is_at(request, "GET", "/api/v1/scheduler/status") {
-        return Ok(Question::Status);
+        return Ok(SchedRouted::Status);
     }
-    Err(HttpError::NoRoute)
-}
-
-/// The reply to a refusal. Refused for want of memory alone.
-pub(crate) fn reply_of(alloc: Global, refusal: HttpError) -> Result<Response, HttpError>
-    ensures ok { IfOk result (λ reply. reply ≡ reply_of refusal) }
-    ensures err { IfErr result (λ e. e ≡ HttpError.Memory) }
-{
-    match refusal {
-        HttpError::BadHead => {
-            let text = Text::of(
-                alloc,
-                "{\"cause\":null,\"description\":\"bad request head\"}",
-            )?;
-            Ok(Response::BadRequest(text))
-        }
-        HttpError::WrongContentType => Ok(Response::NotFound),
-        HttpError::ParseError => Ok(Response::NotFound),
-        HttpError::BadRealIp => Ok(Response::NotFound),
-        HttpError::NoRoute => Ok(Response::NotFound),
-        HttpError::Unauthorised(_) => Ok(Response::NotFound),
-        HttpError::Memory => Err(HttpError::Memory),
+    match job_of(request) {
+        Some(job) => update_of(alloc, request, peer, server_token, job),
+        None => Err(HttpError::NoRoute),
     }
 }
 
-/// What a request of that peer asks of the scheduler. A client token is asked for by requests for
-/// a job, which are not built yet. Refused for want of memory alone.
+/// What a request of that peer asks of the scheduler, under the tokens of its clients and of its servers;
+/// a request that is refused gets its reply. Refused for want of memory alone.
 pub fn scheduler_route(
     alloc: Global,
     request: &Request,
     peer: Addr,
-    _client_token: &str,
+    client_token: &str,
     server_token: &str,
 ) -> Result<SchedRouted, HttpError>
-    ensures ok { IfOk result (λ routed. routed ≡ answered (asked_of request.now peer server_token.now)) }
-    ensures processors { IfOk result HasProcessors }
+    ensures ok { IfOk result (λ routed. routed ≡ answered (asked_of request.now peer client_token.now server_token.now)) }
     ensures err { IfErr result (λ e. e ≡ HttpError.Memory) }
 {
-    match asked_of(request, peer, server_token) {
-        Ok(Question::Beat(server, beat)) => {
-            let beat = beat.copy(alloc)?;
-            Ok(SchedRouted::Beat(ServerId::new(server), beat))
-        }
-        Ok(Question::Status) => Ok(SchedRouted::Status),
+    match asked_of(alloc, request, peer, client_token, server_token) {
+        Ok(routed) => Ok(routed),
+        Err(HttpError::Memory) => Err(HttpError::Memory),
         Err(refusal) => {
             let reply = reply_of(alloc, refusal)?;
             Ok(SchedRouted::Done(reply))
