@@ -8,12 +8,17 @@ pub mod HexLemmas
 pub mod IdLemmas
 pub mod LimitLemmas
 pub mod LineLemmas
+pub mod MadeLemmas
+pub mod NextLemmas
 pub mod NumberLemmas
 pub mod OneLemmas
 pub mod OwnLemmas
 pub mod PieceLemmas
 pub mod RunLemmas
 pub mod ScriptLemmas
+pub mod ServeLemmas
+pub mod SoundLemmas
 pub mod SpelledLemmas
 pub mod VisibleLemmas
+pub mod WaitLemmas
 pub mod WordLemmas

@@ -9,6 +9,7 @@ pub mod Next
 pub mod Pieces
 pub mod Printed
 pub mod Reading
+pub mod Replies
 pub mod Script
 pub mod Spelled
 pub mod Texts
