@@ -1,12 +1,10 @@
 -- A script that is read sets up a farm of those that are built so far.
-use Rattle.std.proofs.Common.{◌≡◌, ℕ, ◌+◌, ◌-◌, Bool, ◌||◌, nat_lt, List, [], ◌∷◌, ◌++◌, length, Option, Some, None, is_some, Result, Ok, Err, refl, sym, subst, arith}
+use Rattle.std.proofs.Common.{◌≡◌, ℕ, ◌+◌, ◌-◌, ◌||◌, nat_lt, List, [], ◌∷◌, ◌++◌, length, Option, Some, None, is_some, Result, Ok, Err, refl, sym, subst}
 use Rattle.std.specs.Prelude.{IfOk}
 use Rattle.std.proofs.lemmas.Option.{same_Some}
 use Rattle.farm.specs.declared.setup.Setup.{Setup}
-use Rattle.farm.specs.declared.setup.SetupAuth.{SetupAuth}
 use Rattle.farm.specs.declared.event.Event.{Event}
 use Rattle.farm.specs.declared.fault.FarmFault.{FarmFault}
-use Rattle.farm.specs.declared.fault.FarmFault.TheVariants as farm_faults
 use Rattle.farm.specs.declared.lines.Line.{Line}
 use Rattle.farm.specs.declared.lines.Line.TheVariants.{Skipped, Scheduler, Happens}
 use Rattle.farm.specs.Pieces.{pieces, text_of}

@@ -1,11 +1,11 @@
 -- The command's clauses in the words of the grammar.
-use Rattle.std.proofs.Common.{◌≡◌, ◌⊎◌, inl, inr, ℕ, Bool, true, false, cond, List, Option, Some, None, Result, Ok, Err, ap, ◌∙◌, refl}
+use Rattle.std.proofs.Common.{◌≡◌, ◌⊎◌, inl, inr, ℕ, Bool, true, cond, List, Option, Some, None, Result, Ok, Err, ap, ◌∙◌, refl}
 use Rattle.std.specs.Prelude.{IfSome}
 use Rattle.farm.specs.declared.setup.Setup.{Setup}
 use Rattle.farm.specs.declared.event.Event.{Event}
 use Rattle.farm.specs.Script.{script}
 use Rattle.farm.specs.FirstFaulty.{IsFirstFaulty}
-use Rattle.dist_types.specs.Content.{Added, Began}
+use Rattle.dist_types.specs.Content.{Added}
 use Rattle.farm.specs.Command.{names_farm, script_status, status_of, IsRunText, IsReadText, WroteFront}
 use Rattle.farm.proofs.FirstFaultyLemmas.{first_faulty}
 use Rattle.farm.proofs.SpelledLemmas.{script_is_said}

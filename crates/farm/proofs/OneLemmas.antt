@@ -1,35 +1,68 @@
 -- An event makes one entry, events make one list of entries, and a script's run has one text.
-use Rattle.std.proofs.Common.{◌≡◌, inl, inr, ℕ, List, [], ◌∷◌, ◌++◌, length, refl, ap, ◌∙◌, sym, subst}
-use Rattle.dist_http.specs.declared.route.SchedRouted.{SchedRouted}
-use Rattle.dist_http.proofs.HeadLemmas.{one_question}
+use Rattle.std.proofs.Common.{◌≡◌, ℕ, Bool, List, [], ◌∷◌, ◌++◌, length, Option, Some, None, Result, refl, ap, ◌∙◌, sym, subst}
+use Rattle.dist_types.specs.declared.addr.Addr.{Addr}
+use Rattle.dist_types.specs.declared.outgoing.CallFault.{CallFault}
+use Rattle.dist_types.specs.declared.results.AssignJobResult.{AssignJobResult}
 use Rattle.sched_core.specs.Log.{Core}
+use Rattle.sched_core.specs.Ticket.{Ticket}
+use Rattle.dist_http.specs.declared.route.Asked.{Asked}
+use Rattle.dist_http.proofs.HeadLemmas.{one_question}
+use Rattle.dist_http.proofs.CallLemmas.{one_assignment}
 use Rattle.farm.specs.declared.setup.Setup.{Setup}
 use Rattle.farm.specs.declared.setup.SetupScheduler.{SetupScheduler}
 use Rattle.farm.specs.declared.event.Event.{Event}
 use Rattle.farm.specs.declared.event.EventKind.{EventKind}
 use Rattle.farm.specs.declared.event.EventKind.TheVariants.{Request, Deliver, Fail, Return, Answer, Beat, Restart}
 use Rattle.farm.specs.declared.entry.Entry.{Entry}
-use Rattle.farm.specs.Next.{core_of, token_of, answer, IsMade, IsNext, EachNext}
+use Rattle.farm.specs.declared.entry.OutCall.{OutCall}
+use Rattle.farm.specs.Calls.{call_at, waiting_at}
+use Rattle.farm.specs.Next.{core_of, token_of, ticket_at, brought_to, brought_at, Wants, answer, IsOutcome, continued, GoesOn, IsSettled, to_settle, IsServed, IsDelivered, Settles, IsMade, IsNext, EachNext}
 use Rattle.farm.specs.Printed.{run_text}
 use Rattle.farm.specs.Command.{IsRunText}
 use Rattle.farm.proofs.SpelledLemmas.{one_script}
 
-one_made : (farm : SetupScheduler) (core : Core) (number : ℕ) (event : Event) (kind : EventKind) (a b : Entry)
-    → IsMade farm core number event kind a → IsMade farm core number event kind b → a ≡ b
-one_made farm core number event (Request target peer bytes) a b (inl p) (inl q) =
-    p.3 ∙ ap (answer core number event) (one_question bytes peer (token_of farm.auth) p.1 q.1 p.2 q.2) ∙ sym q.3
-one_made farm core number event (Request target peer bytes) a b (inl p) (inr q) = absurd (q.0 p.0)
-one_made farm core number event (Request target peer bytes) a b (inr p) (inl q) = absurd (p.0 q.0)
-one_made farm core number event (Request target peer bytes) a b (inr p) (inr q) = p.1 ∙ sym q.1
-one_made farm core number event (Deliver c) a b p q = p ∙ sym q
-one_made farm core number event (Fail c) a b p q = p ∙ sym q
-one_made farm core number event (Return d) a b p q = p ∙ sym q
-one_made farm core number event (Answer c bytes) a b p q = p ∙ sym q
-one_made farm core number event (Beat server) a b p q = p ∙ sym q
-one_made farm core number event (Restart server key nonce) a b p q = p ∙ sym q
+one_served : (farm : SetupScheduler) (core : Core) (number : ℕ) (event : Event) (o : Option (Addr × List ℕ)) (a b : Entry) → IsServed farm core number event o a → IsServed farm core number event o b → a ≡ b
+one_served farm core number event None a b p q = p ∙ sym q
+one_served farm core number event (Some x) a b p q =
+    p.2 ∙ ap (answer core number event) (one_question x.1 x.0 farm.client (token_of farm.auth) p.0 q.0 p.1 q.1) ∙ sym q.2
+
+one_delivered : (farm : SetupScheduler) (log : List Entry) (event : Event) (o : Option OutCall) (a b : Entry) → IsDelivered farm log event o a → IsDelivered farm log event o b → a ≡ b
+one_delivered farm log event None a b p q = p ∙ sym q
+one_delivered farm log event (Some c) a b p q = one_served farm (core_of farm log) (length log) event (brought_to farm c.target farm.addr c.bytes) a b p q
+
+one_wish : (farm : SetupScheduler) (o : Option (Addr × List ℕ)) (j k : Bool) → Wants farm o j → Wants farm o k → j ≡ k
+one_wish farm None j k p q = absurd p.1
+one_wish farm (Some x) j k p q = p.2 ∙ ap (λ (a : Asked). a.json) (one_question x.1 x.0 farm.client (token_of farm.auth) p.0 q.0 p.1 q.1) ∙ sym q.2
+
+one_outcome : (reply : Option (List ℕ)) (a b : Result AssignJobResult CallFault) → IsOutcome reply a → IsOutcome reply b → a ≡ b
+one_outcome None a b p q = p ∙ sym q
+one_outcome (Some bytes) a b p q = one_assignment bytes a b p q
+
+one_way : (farm : SetupScheduler) (log : List Entry) (event : Event) (n : ℕ) (reply : Option (List ℕ)) (o : Option Ticket) (a b : Entry) → GoesOn farm log event n reply o a → GoesOn farm log event n reply o b → a ≡ b
+one_way farm log event n reply None a b p q = p ∙ sym q
+one_way farm log event n reply (Some t) a b p q =
+    p.4 ∙ ap (λ (j : Bool). continued (core_of farm log) t n j event p.2) (one_wish farm (brought_at farm log n) p.0 q.0 p.1 q.1)
+    ∙ ap (continued (core_of farm log) t n q.0 event) (one_outcome reply p.2 q.2 p.3 q.3) ∙ sym q.4
+
+one_settled : (farm : SetupScheduler) (log : List Entry) (event : Event) (n : ℕ) (reply : Option (List ℕ)) (o : Option Entry) (a b : Entry) → IsSettled farm log event n reply o a → IsSettled farm log event n reply o b → a ≡ b
+one_settled farm log event n reply None a b p q = p ∙ sym q
+one_settled farm log event n reply (Some w) a b p q = one_way farm log event n reply (ticket_at log n) a b p q
+
+one_settlement : (farm : SetupScheduler) (log : List Entry) (event : Event) (o : Option (ℕ × Option (List ℕ))) (a b : Entry) → Settles farm log event o a → Settles farm log event o b → a ≡ b
+one_settlement farm log event None a b p q = p ∙ sym q
+one_settlement farm log event (Some x) a b p q = one_settled farm log event x.0 x.1 (waiting_at log x.0) a b p q
+
+one_made : (farm : SetupScheduler) (log : List Entry) (event : Event) (kind : EventKind) (a b : Entry) → IsMade farm log event kind a → IsMade farm log event kind b → a ≡ b
+one_made farm log event (Request target peer bytes) a b p q = one_served farm (core_of farm log) (length log) event (brought_to farm target peer bytes) a b p q
+one_made farm log event (Deliver c) a b p q = one_delivered farm log event (call_at log c) a b p q
+one_made farm log event (Fail c) a b p q = one_settlement farm log event (to_settle farm log (Fail c)) a b p q
+one_made farm log event (Return d) a b p q = one_settlement farm log event (to_settle farm log (Return d)) a b p q
+one_made farm log event (Answer c bytes) a b p q = one_settlement farm log event (to_settle farm log (Answer c bytes)) a b p q
+one_made farm log event (Beat server) a b p q = p ∙ sym q
+one_made farm log event (Restart server key nonce) a b p q = p ∙ sym q
 
 pub one_next : (farm : SetupScheduler) (log : List Entry) (event : Event) (a b : Entry) → IsNext farm log event a → IsNext farm log event b → a ≡ b
-one_next farm log event a b p q = one_made farm (core_of farm log) (length log) event event.kind a b p q
+one_next farm log event a b p q = one_made farm log event event.kind a b p q
 
 pub one_run : (farm : SetupScheduler) (log : List Entry) (events : List Event) (xs ys : List Entry) → EachNext farm log events xs → EachNext farm log events ys → xs ≡ ys
 one_run farm log [] [] [] p q = refl

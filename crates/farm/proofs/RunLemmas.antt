@@ -1,5 +1,5 @@
 -- One more entry, and one more event.
-use Rattle.std.proofs.Common.{◌≡◌, ◌⊎◌, inl, ℕ, List, [], ◌∷◌, ◌++◌, length, Option, Some, None, Result, Ok, Err, refl, ap, ◌∙◌, sym, subst, append_assoc, append-nil}
+use Rattle.std.proofs.Common.{◌≡◌, inl, ℕ, List, [], ◌∷◌, ◌++◌, Option, Some, None, Result, Ok, Err, refl, ap, ◌∙◌, sym, subst, append_assoc, append-nil}
 use Rattle.std.specs.Prelude.{option_to_list, IfOk}
 use Rattle.std.specs.List.{cons_option}
 use Rattle.std.proofs.lemmas.List.Elements.{filter_map-append}
@@ -13,19 +13,12 @@ use Rattle.farm.specs.declared.event.Event.{Event}
 use Rattle.farm.specs.declared.event.EventKind.TheVariants.{Request}
 use Rattle.farm.specs.declared.entry.Entry.{Entry}
 use Rattle.farm.specs.declared.fault.FarmFault.{FarmFault}
-use Rattle.farm.specs.Next.{core_log, core_of, token_of, answer, IsMade, IsNext, EachNext}
+use Rattle.farm.specs.Next.{core_log, core_of, IsNext, EachNext}
 use Rattle.farm.specs.declared.setup.Setup.{Setup}
 use Rattle.farm.specs.Script.{script}
 use Rattle.farm.specs.Printed.{run_text}
 use Rattle.farm.specs.Command.{IsReadText}
 use Rattle.farm.specs.Farm.{Farmed, with_entries, with_core, Runs}
-
--- what was asked of the scheduler was answered
-pub made_answer : (scheduler : SetupScheduler) (core : Core) (number : ℕ) (event : Event) (target peer : Addr) (bytes : List ℕ) (routed : SchedRouted) (r : Result Entry FarmFault)
-    → target ≡ scheduler.addr → IsAsked bytes peer (token_of scheduler.auth) routed → IfOk r (λ e. e ≡ answer core number event routed)
-    → IfOk r (IsMade scheduler core number event (Request target peer bytes))
-made_answer scheduler core number event target peer bytes routed (Ok e) same is h = inl (same, routed, is, h)
-made_answer scheduler core number event target peer bytes routed (Err f) same is h = tt
 
 one_core : {X : Type 0} (o : Option X) → cons_option o [] ≡ option_to_list o
 one_core None = refl

@@ -1,5 +1,5 @@
 -- A script is read as what its lines spell.
-use Rattle.std.proofs.Common.{◌≡◌, ◌↔◌, ℕ, ◌+◌, ◌-◌, Bool, true, false, ◌||◌, nat_lt, List, [], ◌∷◌, ◌++◌, length, Option, Some, None, is_some, Result, Ok, Err, refl, sym, ap, subst, ◌∙◌, append_assoc, append-nil}
+use Rattle.std.proofs.Common.{◌≡◌, ◌↔◌, ℕ, ◌+◌, ◌-◌, false, ◌||◌, nat_lt, List, [], ◌∷◌, ◌++◌, length, Option, Some, None, is_some, Result, Ok, Err, refl, sym, ap, ◌∙◌, append_assoc, append-nil}
 use Rattle.std.specs.Prelude.{option_to_list}
 use Rattle.std.specs.List.{filter_map}
 use Rattle.std.proofs.lemmas.Bool.{or_parts}
@@ -15,7 +15,7 @@ use Rattle.farm.specs.FirstFaulty.{IsFirstFaulty}
 use Rattle.farm.specs.Spelled.{setup_in, event_in, EachLine, Says}
 use Rattle.farm.proofs.WordLemmas.{guard_off}
 use Rattle.farm.proofs.LineLemmas.{line_complete}
-use Rattle.farm.proofs.FirstFaultyLemmas.{IsRead, read_is, first_faulty}
+use Rattle.farm.proofs.FirstFaultyLemmas.{read_is, first_faulty}
 
 -- what is left of a script says the rest
 record SaysRest (r : Read) (ps : List (List ℕ)) (x : Setup × List Event) : Type 0 where

@@ -10,7 +10,8 @@ use Rattle.farm.specs.Words.{is_visible}
 use Rattle.farm.specs.declared.setup.Setup.{Setup}
 use Rattle.farm.specs.declared.setup.SetupAuth.TheVariants.{Plain}
 use Rattle.farm.specs.declared.event.Event.{Event}
-use Rattle.farm.specs.declared.event.EventKind.TheVariants.{Request}
+use Rattle.farm.specs.declared.event.EventKind.{EventKind}
+use Rattle.farm.specs.declared.event.EventKind.TheVariants.{Request, Deliver, Fail, Return, Answer, Beat, Restart}
 use Rattle.farm.specs.declared.lines.Line.{Line}
 use Rattle.farm.specs.declared.lines.Line.TheVariants.{Skipped, Scheduler, Happens}
 
@@ -49,20 +50,44 @@ pub record IsSchedulerLine (t : List ℕ) (s : Setup) : Type 0 where
   pub spelled : t ≡ codes "scheduler " ⧺ addr ⧺ codes " base " ⧺ decimal s.scheduler.base ⧺ codes " count " ⧺ decimal s.scheduler.count
       ⧺ codes " client " ⧺ client ⧺ codes " plain " ⧺ token
 
--- N request ADDR ADDR HEX
-pub record IsEventLine (t : List ℕ) (e : Event) : Type 0 where
-  pub target_addr : Addr
-  pub peer_addr : Addr
-  pub value : List ℕ
+-- request ADDR ADDR HEX
+pub record IsRequest (t : List ℕ) (target_addr peer_addr : Addr) (value : List ℕ) : Type 0 where
   pub target : List ℕ
   pub peer : List ℕ
   pub hex : List ℕ
-  pub kind : e.kind ≡ Request target_addr peer_addr value
-  pub at : e.at < 2 ^ 64
   pub is_target : IsAddrWord target target_addr
   pub is_peer : IsAddrWord peer peer_addr
   pub is_hex : IsHex hex value
-  pub spelled : t ≡ decimal e.at ⧺ codes " request " ⧺ target ⧺ codes " " ⧺ peer ⧺ codes " " ⧺ hex
+  pub spelled : t ≡ codes "request " ⧺ target ⧺ codes " " ⧺ peer ⧺ codes " " ⧺ hex
+
+-- answer N HEX
+pub record IsAnswer (t : List ℕ) (call : ℕ) (value : List ℕ) : Type 0 where
+  pub hex : List ℕ
+  pub fits : call < 2 ^ 64
+  pub is_hex : IsHex hex value
+  pub spelled : t ≡ codes "answer " ⧺ decimal call ⧺ codes " " ⧺ hex
+
+-- a word and the number of a call
+pub record IsNumbered (word t : List ℕ) (call : ℕ) : Type 0 where
+  pub fits : call < 2 ^ 64
+  pub spelled : t ≡ word ⧺ codes " " ⧺ decimal call
+
+-- what happens; no line says what befalls build servers yet
+abbrev pub IsKind : List ℕ → EventKind → Type 0
+IsKind t (Request target peer bytes) = IsRequest t target peer bytes
+IsKind t (Deliver call) = IsNumbered (codes "deliver") t call
+IsKind t (Fail call) = IsNumbered (codes "fail") t call
+IsKind t (Return delivery) = ⊥
+IsKind t (Answer call bytes) = IsAnswer t call bytes
+IsKind t (Beat server) = ⊥
+IsKind t (Restart server key nonce) = ⊥
+
+-- a moment, and what happens at it
+pub record IsEventLine (t : List ℕ) (e : Event) : Type 0 where
+  pub kind : List ℕ
+  pub at : e.at < 2 ^ 64
+  pub is_kind : IsKind kind e.kind
+  pub spelled : t ≡ decimal e.at ⧺ codes " " ⧺ kind
 
 -- a line is skipped, or says what the scheduler is or what happens
 abbrev pub IsLine : List ℕ → Line → Type 0

@@ -1,3 +1,4 @@
+pub mod Calls
 pub mod Command
 pub mod Fields
 pub mod Farm
@@ -8,6 +9,7 @@ pub mod Next
 pub mod Pieces
 pub mod Printed
 pub mod Reading
+pub mod Replies
 pub mod Script
 pub mod Spelled
 pub mod Texts

@@ -1,12 +1,14 @@
 -- What a line says.
-use Rattle.std.specs.Prelude.{ℕ, ◌==◌, Bool, true, if◌then◌else◌, List, [], ◌∷◌, Option, Some, None, codes}
+use Rattle.std.specs.Prelude.{ℕ, ◌==◌, nat_eq, Bool, true, if◌then◌else◌, List, [], ◌∷◌, Option, Some, None, codes}
+use Rattle.std.specs.Cmp.Lexicographic.{pointwise}
 use Rattle.dist_types.specs.Addr.{◌>>=◌}
-use Rattle.farm.specs.Words.{strip, field, named, last}
+use Rattle.farm.specs.Words.{first_word, strip, field, named, last}
 use Rattle.farm.specs.Fields.{addr_at, number_at, token_at, hex_at}
 use Rattle.farm.specs.declared.setup.Setup.{Setup}
 use Rattle.farm.specs.declared.setup.SetupAuth.TheVariants.{Plain}
 use Rattle.farm.specs.declared.event.Event.{Event}
-use Rattle.farm.specs.declared.event.EventKind.TheVariants.{Request}
+use Rattle.farm.specs.declared.event.EventKind.{EventKind}
+use Rattle.farm.specs.declared.event.EventKind.TheVariants.{Request, Deliver, Fail, Answer}
 use Rattle.farm.specs.declared.lines.Line.{Line}
 use Rattle.farm.specs.declared.lines.Line.TheVariants.{Skipped, Scheduler, Happens}
 
@@ -20,14 +22,42 @@ scheduler_at t = do
   token ← last (codes "plain ") token_at client.1
   Some (record { scheduler = record { addr = addr.0; base = base.0; count = count.0; client = client.0; auth = Plain token }; servers = [] })
 
--- a request to the farm
+-- behind the word request
+unfoldable pub request_at : List ℕ → Option EventKind
+request_at t = do
+  target ← field addr_at t
+  peer ← field addr_at target.1
+  bytes ← hex_at peer.1
+  Some (Request target.0 peer.0 bytes)
+
+-- behind the word answer
+unfoldable pub answer_at : List ℕ → Option EventKind
+answer_at t = do
+  call ← field number_at t
+  bytes ← hex_at call.1
+  Some (Answer call.0 bytes)
+
+-- a word, and what stands behind it
+abbrev pub kind_behind : List ℕ → List ℕ → Option EventKind
+kind_behind word t =
+    if pointwise nat_eq word (codes "request") then request_at t
+    else if pointwise nat_eq word (codes "deliver") then (number_at t >>= λ call. Some (Deliver call))
+    else if pointwise nat_eq word (codes "fail") then (number_at t >>= λ call. Some (Fail call))
+    else if pointwise nat_eq word (codes "answer") then answer_at t
+    else None
+
+-- what happens, behind its moment
+unfoldable pub kind_at : List ℕ → Option EventKind
+kind_at t = do
+  word ← first_word t
+  kind_behind word.0 word.1
+
+-- a moment, and what happens at it
 unfoldable pub event_at : List ℕ → Option Event
 event_at t = do
   at ← field number_at t
-  target ← named (codes "request ") addr_at at.1
-  peer ← field addr_at target.1
-  bytes ← hex_at peer.1
-  Some (record { at = at.0; kind = Request target.0 peer.0 bytes })
+  kind ← kind_at at.1
+  Some (record { at = at.0; kind = kind })
 
 -- an empty line, and one that begins with #
 abbrev pub is_skipped : List ℕ → Bool

@@ -6,7 +6,10 @@ use Rattle.hex.specs.Hex.{encode_lower}
 use Rattle.dist_types.specs.Addr.{addr_text}
 use Rattle.dist_types.specs.Ids.{state_text}
 use Rattle.dist_types.specs.declared.ids.JobId.{JobId}
-use Rattle.sched_core.specs.Rows.{servers_of}
+use Rattle.dist_types.specs.declared.results.JobState.{JobState}
+use Rattle.sched_core.specs.Reservation.{bookings}
+use Rattle.sched_core.specs.Rows.{servers_of, held_by_id}
+use Rattle.sched_core.specs.declared.rows.HeldRow.{HeldRow}
 use Rattle.sched_core.specs.declared.rows.ServerRow.{ServerRow}
 use Rattle.sched_core.specs.declared.entry.CoreEntry.{CoreEntry}
 use Rattle.sched_core.specs.declared.entry.CoreKind.{CoreKind}
@@ -16,7 +19,6 @@ use Rattle.sched_core.specs.declared.entry.Reserved.TheVariants.{Job, NoRoom, Sp
 use Rattle.sched_core.specs.declared.entry.UpdateAnswer.{UpdateAnswer}
 use Rattle.sched_core.specs.declared.entry.UpdateAnswer.TheVariants.{Accepted, Unknown, Wrong, Transition}
 use Rattle.farm.specs.declared.setup.SetupScheduler.{SetupScheduler}
-use Rattle.farm.specs.declared.event.Event.{Event}
 use Rattle.farm.specs.declared.event.EventKind.{EventKind}
 use Rattle.farm.specs.declared.event.EventKind.TheVariants as event
 use Rattle.farm.specs.declared.entry.Entry.{Entry}
@@ -192,10 +194,30 @@ row_text row =
     codes "server " ⧺ addr_text row.server ⧺ codes " reg " ⧺ decimal row.reg ⧺ codes " cpus " ⧺ decimal row.cpus ⧺ codes " nonce " ⧺ decimal row.nonce
     ⧺ codes " seen " ⧺ decimal row.seen ⧺ codes " load " ⧺ decimal row.load ⧺ codes " error " ⧺ number_text row.error ⧺ codes "\n"
 
--- the ids, and the registrations that stand after the whole log, by rising number; no job is reserved yet
+-- how far the job of a reservation is: reserved alone, or the state that it is committed in
+abbrev pub stage_text : Option JobState → List ℕ
+stage_text None = codes "reserved"
+stage_text (Some state) = state_text state
+
+-- whether the build of a reservation's job has begun
+abbrev pub claim_text : Bool → List ℕ
+claim_text true = codes "claimed"
+claim_text false = codes "unclaimed"
+
+-- the line of a reservation that is unended
+abbrev pub job_text : HeldRow → List ℕ
+job_text h =
+    codes "job " ⧺ decimal h.job.0 ⧺ codes " reg " ⧺ decimal h.reg ⧺ codes " " ⧺ stage_text h.state ⧺ codes " " ⧺ claim_text h.claimed ⧺ codes "\n"
+
+-- how many ids are given after the whole log: those before the script, and one for each job that was reserved
+abbrev pub ids_given : SetupScheduler → List CoreEntry → ℕ
+ids_given scheduler log = scheduler.count + length (bookings log)
+
+-- the ids, the registrations that stand after the whole log, by rising number, and the reservations that are unended, by rising id
 abbrev pub books_text : SetupScheduler → List CoreEntry → List ℕ
 books_text scheduler log =
-    (codes "books\nids base " ⧺ decimal scheduler.base ⧺ codes " count " ⧺ decimal scheduler.count ⧺ codes "\n") ++ flat_map row_text (servers_of log) ++ codes "end\n"
+    (codes "books\nids base " ⧺ decimal scheduler.base ⧺ codes " count " ⧺ decimal (ids_given scheduler log) ⧺ codes "\n")
+    ++ flat_map row_text (servers_of log) ++ flat_map job_text (held_by_id log) ++ codes "end\n"
 
 -- the whole text
 abbrev pub run_text : SetupScheduler → List Entry → List ℕ

@@ -1,6 +1,6 @@
 //! What an event did.
-ghost use Rattle.std.specs.Prelude.{◌≡◌};
-ghost use Rattle.farm.specs.Next.{worded, replied};
+ghost use Rattle.std.specs.Prelude.{◌≡◌, Some};
+ghost use Rattle.farm.specs.Next.{worded, replied, asking};
 
 use crate::event::Event;
 use dist_types::addr::Addr;
@@ -115,6 +115,20 @@ impl Entry {
             call: None,
             reply: Some(reply),
             word: None,
+        }
+    }
+
+    /// An entry that makes a call, whose settlement is waited for.
+    pub(crate) fn asking(event: Event, core: CoreEntry, call: OutCall) -> Self
+        ensures { result ≡ asking event core (Some call) }
+    {
+        Entry {
+            event,
+            core: Some(core),
+            step: None,
+            call: Some(call),
+            reply: None,
+            word: Some(EntryWord::Waiting),
         }
     }
 }

@@ -1,10 +1,11 @@
 //! Laws of the formats, each a clause that quantifies over every input.
-ghost use Rattle.std.specs.Prelude.{◌≡◌, ◌↔◌, List, ℕ, Some, Err};
+ghost use Rattle.std.specs.Prelude.{◌≡◌, ◌↔◌, ◌<◌, ◌^◌, List, [], ℕ, Some, Err};
 ghost use Rattle.farm.specs.Lines.{line_at};
 ghost use Rattle.farm.specs.Grammar.{IsLine};
 ghost use Rattle.farm.specs.Script.{script};
 ghost use Rattle.farm.specs.FirstFaulty.{IsFirstFaulty};
 ghost use Rattle.farm.specs.Next.{IsNext, EachNext};
+ghost use Rattle.farm.specs.Farm.{AreLawful};
 ghost use Rattle.farm.specs.Command.{IsRunText};
 ghost use Rattle.farm.specs.Spelled.{Says};
 ghost use Rattle.farm.specs.declared.setup.Setup.{Setup};
@@ -39,6 +40,14 @@ pub fn next_entries_are_one()
 pub fn runs_are_one()
     ensures { (farm : SetupScheduler) (log : List Entry) (events : List Event) (a b : List Entry)
         → EachNext farm log events a → EachNext farm log events b → a ≡ b }
+{}
+
+/// Whatever the events, each core entry of a run is the core rule's; so after each front of its entries
+/// different reservations have different jobs, each open job has exactly one unended reservation, at a
+/// registration that stands, and no registration has a greater load than it has room for.
+pub fn runs_are_lawful()
+    ensures { (farm : SetupScheduler) (events : List Event) (entries : List Entry)
+        → farm.count < 2 ^ 64 → EachNext farm [] events entries → AreLawful farm entries }
 {}
 
 /// The run of a script has one text at most.

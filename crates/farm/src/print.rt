@@ -1,13 +1,15 @@
 //! The printed run.
 ghost use Rattle.std.specs.Prelude.{◌≡◌, ◌+◌, ◌++◌, ◌<◌, ◌^◌, OnOk, IfOk, IfErr, string_bytes};
 ghost use Rattle.std.specs.List.{flat_map};
-ghost use Rattle.farm.specs.Printed.{entry_text, entries_text, core_count, row_text, run_text};
+ghost use Rattle.farm.specs.Printed.{entry_text, entries_text, core_count, row_text, job_text, books_text, run_text};
+ghost use Rattle.farm.specs.Next.{core_log};
+ghost use Rattle.sched_core.specs.Rows.{held_by_id};
 ghost use Rattle.farm.specs.declared.fault.FarmFault.TheVariants as fault;
 
 use crate::entry::Entry;
 use crate::fault::FarmFault;
 use crate::run::Farm;
-use crate::text::{CallLine, CoreLine, Kind, ReplyLine, RowLine, StepLine, WordLine};
+use crate::text::{CallLine, CoreLine, JobLine, Kind, ReplyLine, RowLine, StepLine, WordLine};
 use sched_core::rows::Servers;
 use std::alloc::{AllocError, Global};
 
@@ -70,6 +72,30 @@ fn push_rows(out: &mut String, servers: Servers<'_>) -> Result<(), AllocError>
     Ok(())
 }
 
+/// Writes the lines of the reservations that are unended.
+fn push_jobs(out: &mut String, farm: &Farm) -> Result<(), AllocError>
+    ensures { OnOk result (string_bytes out.new ≡ string_bytes out.old ++ flat_map job_text (held_by_id (core_log farm.now.entries))) }
+{
+    for row in farm.jobs() {
+        let line = JobLine(row);
+        write!(out, "{line}")?;
+    }
+    Ok(())
+}
+
+/// Writes the books of a farm.
+fn push_books(out: &mut String, farm: &Farm) -> Result<(), AllocError>
+    ensures { OnOk result (string_bytes out.new ≡ string_bytes out.old ++ books_text farm.now.scheduler (core_log farm.now.entries)) }
+{
+    let base = farm.scheduler().base;
+    let count = farm.ids_given();
+    write!(out, "books\nids base {base} count {count}\n")?;
+    push_rows(out, farm.servers())?;
+    push_jobs(out, farm)?;
+    out.push_str("end\n")?;
+    Ok(())
+}
+
 /// The text of a run: a farm, its entries, and its books after them. Refused for want of memory alone.
 pub fn print_run(alloc: Global, farm: &Farm) -> Result<String, FarmFault>
     ensures ok { IfOk result (λ text. string_bytes text ≡ run_text farm.now.scheduler farm.now.entries) }
@@ -80,11 +106,6 @@ pub fn print_run(alloc: Global, farm: &Farm) -> Result<String, FarmFault>
     let number = entries.len();
     write!(out, "run 1 entries {number}\n")?;
     push_entries(&mut out, entries)?;
-    let scheduler = farm.scheduler();
-    let base = scheduler.base;
-    let count = scheduler.count;
-    write!(out, "books\nids base {base} count {count}\n")?;
-    push_rows(&mut out, farm.servers())?;
-    out.push_str("end\n")?;
+    push_books(&mut out, farm)?;
     Ok(out)
 }

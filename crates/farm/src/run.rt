@@ -1,45 +1,42 @@
 //! A farm, and its runs.
-ghost use Rattle.std.specs.Prelude.{◌≡◌, ◌++◌, ◌∷◌, [], ◌<◌, ◌≤◌, ◌-◌, ℕ, length, take, IfOk, IfErr, OnOk, OnErr, slice_get, Some, option_to_list};
-ghost use Rattle.dist_http.specs.Route.{HasProcessors};
-ghost use Rattle.dist_http.specs.Reply as response;
-ghost use Rattle.sched_core.specs.Log.{logged};
-ghost use Rattle.sched_core.specs.Rule.{rule, says_new_entry, counts_of};
-ghost use Rattle.sched_core.specs.Rows.{servers_of};
-ghost use Rattle.sched_core.specs.declared.call.Call.TheVariants as call;
-ghost use Rattle.dist_http.specs.declared.route.SchedRouted.TheVariants as asked;
-ghost use Rattle.farm.specs.Next.{core_log, token_of, reply_to, answer, IsMade, IsNext, EachNext};
-ghost use Rattle.farm.specs.Farm.{IsPlain, IsBuilt, IsFarm, with_core, AddsNext, Steps, Runs};
+ghost use Rattle.std.specs.Prelude.{◌≡◌, ◌++◌, ◌∷◌, [], ◌<◌, ◌≤◌, ◌-◌, ℕ, length, take, IfOk, IfErr, OnOk, OnErr, map, count_by, Some, None, true, Ok, Err, List, Option};
+ghost use Rattle.sched_core.specs.Rule.{begins};
+ghost use Rattle.sched_core.specs.Rows.{servers_of, jobs_of, held_by_id, held_part};
+ghost use Rattle.sched_core.specs.Plain.{is_booked};
+ghost use Rattle.std.specs.Option.{option_map};
+ghost use Rattle.farm.specs.Calls.{call_at, delivery_at, settles_by};
+ghost use Rattle.farm.specs.Next.{core_log, worded, is_inside, IsOutcome, IsNext, EachNext};
+ghost use Rattle.farm.specs.Farm.{IsBuilt, IsFarm, IsMadeSo, IsSettledSo, AreLawful, with_core, AddsNext, Steps, Runs};
+ghost use Rattle.farm.specs.Printed.{ids_given};
 ghost use Rattle.farm.specs.declared.event.EventKind.TheVariants as kind;
 ghost use Rattle.farm.specs.declared.fault.FarmFault.TheVariants as fault;
 
-use crate::entry::{Entry, EntryWord, Reply};
+use crate::entry::{Entry, EntryWord, OutCall};
 use crate::event::{Event, EventKind};
 use crate::fault::FarmFault;
+use crate::serve::serve;
+use crate::settle::{go_on, outcome};
 use crate::setup::{Setup, SetupAuth, SetupScheduler};
-use dist_http::asked::asked;
-use dist_http::error::HttpError;
-use dist_http::message::HeartbeatServerHttpRequest;
-use dist_http::reply::{Response, heartbeat_response, status_response};
-use dist_http::route::SchedRouted;
+use crate::waiting::{Made, Waiting, release, take_at, undo_last};
 use dist_token::job_token::JWTJobAuthorizer;
 use dist_types::addr::Addr;
-use dist_types::ids::ServerId;
-use dist_types::roles::JobAuthorizer;
-use dist_types::text::{Bytes, Items};
-use sched_core::entry::CoreEntry;
-use sched_core::error::SchedError;
-use sched_core::rows::Servers;
+use dist_types::outgoing::CallFault;
+use dist_types::results::AssignJobResult;
+use dist_types::text::Items;
+use sched_core::entry::{CoreEntry, CoreKind, Reserved};
+use sched_core::rows::{Jobs, Servers};
 use sched_core::state::SchedState;
-use std::alloc::{AllocError, Global};
+use std::alloc::{AllocError, AllocFailed, Global};
 use std::marker::Model;
 
 /// A scheduler and the log of all that came to it. Contracts see how it was set up, and the entries.
-#[derive(Drop)]
 pub struct Farm {
     alloc: Global,
     scheduler: SetupScheduler,
     state: SchedState<JWTJobAuthorizer>,
     entries: Vec<Entry>,
+    /// A place for each entry, for what is kept of its call while that waits.
+    kept: Vec<Option<Waiting>>,
 }
 
 impl Model for Farm {
@@ -51,7 +48,21 @@ impl Model for Farm {
 
     ghost view = { λ f. record { scheduler = f.scheduler; entries = f.entries.items } };
 
-    ghost invariant = { λ f. IsFarm f.scheduler f.state f.entries.items };
+    ghost invariant = { λ f. IsFarm f.scheduler f.state f.entries.items f.kept.items };
+}
+
+/// What is kept of calls that wait is undone.
+impl Drop for Farm {
+    fn drop(self) {
+        let Farm {
+            alloc: _,
+            scheduler: _,
+            state,
+            entries: _,
+            kept,
+        } = self;
+        release(state, kept);
+    }
 }
 
 /// A run that stopped for want of memory.
@@ -75,6 +86,7 @@ impl Farm {
             scheduler,
             state,
             entries: Vec::new(alloc),
+            kept: Vec::new(alloc),
         })
     }
 
@@ -99,6 +111,24 @@ impl Farm {
         self.state.servers()
     }
 
+    /// The reservations that are unended, by rising id. It takes no memory.
+    pub fn jobs(&self) -> Jobs<'_>
+        ensures rows { result ≡ jobs_of (core_log self.now.entries) }
+        ensures all { map held_part result ≡ held_by_id (core_log self.now.entries) }
+    {
+        self.state.jobs()
+    }
+
+    /// How many ids are given: those before the script, and one for each job that was reserved. It takes
+    /// no memory, and goes through the scheduler's log once.
+    #[tactic(auto, using(crate::proofs::IdLemmas::ids_fit, crate::proofs::IdLemmas::ids_counted))]
+    pub fn ids_given(&self) -> u64
+        ensures given { result ≡ ids_given self.now.scheduler (core_log self.now.entries) }
+    {
+        let reserved = reserved_count(self.state.history()) as u64;
+        self.state.count() + reserved
+    }
+
     /// One event.
     fn step(self, event: &Event) -> Result<Farm, Stopped>
         ensures ok { IfOk result (Steps self event.now) }
@@ -109,18 +139,38 @@ impl Farm {
             scheduler,
             mut state,
             mut entries,
+            mut kept,
         } = self;
-        match make(alloc, &scheduler, &mut state, &mut entries, event) {
+        match make(
+            alloc,
+            &scheduler,
+            &mut state,
+            &mut entries,
+            &mut kept,
+            event,
+        ) {
             Ok(()) => Ok(Farm {
                 alloc,
                 scheduler,
                 state,
                 entries,
+                kept,
             }),
-            Err(_) => Err(Stopped {
-                entries: Items::new(entries),
-            }),
+            Err(_) => {
+                release(state, kept);
+                Err(Stopped {
+                    entries: Items::new(entries),
+                })
+            }
         }
+    }
+
+    /// That the laws hold after each front of the entries.
+    #[tactic(auto, using(crate::proofs::NextLemmas::are_lawful))]
+    fn obey(&self)
+        ensures { AreLawful self.now.scheduler self.now.entries }
+    {
+        let _ = self.entries.len();
     }
 
     /// Runs events in order. Stopped for want of memory alone, with the entries of the events that were
@@ -128,6 +178,10 @@ impl Farm {
     pub fn run(self, events: &[Event]) -> Result<Farm, Stopped>
         // One entry more for each event, each next over the entries before it.
         ensures ok { IfOk result (Runs self events.now) }
+        // After each front of the entries the books are those of a lawful scheduler: different reservations
+        // have different jobs, each open job has exactly one unended reservation, at a registration that
+        // stands, and no load is over its bound.
+        ensures laws { IfOk result (λ farm. AreLawful farm.scheduler farm.entries) }
         // The same for the events before the one that memory ran out in.
         ensures err { IfErr result (λ s. (n : ℕ) × (n < length events.now)
             × Runs self (take n events.now) (record { scheduler = self.scheduler; entries = s.entries })) }
@@ -136,6 +190,7 @@ impl Farm {
         for event in events {
             farm = farm.step(event)?;
         }
+        farm.obey();
         Ok(farm)
     }
 }
@@ -169,149 +224,250 @@ fn copy_scheduler(alloc: Global, scheduler: &SetupScheduler) -> Result<SetupSche
     })
 }
 
-/// The token of all build servers.
-fn token(auth: &SetupAuth) -> &str
-    requires { IsPlain auth.now }
-    ensures { result.now ≡ token_of auth.now }
+/// Whether an entry reserves a job.
+fn is_booking(entry: &CoreEntry) -> bool
+    ensures { result ≡ is_booked entry.entry.now.kind }
 {
-    match auth {
-        SetupAuth::Plain(token) => token.get(),
-        SetupAuth::Jwt(_) => unreachable!(),
+    matches!(entry.kind, CoreKind::Reserve(Reserved::Job { .. }))
+}
+
+/// How many entries reserve a job.
+fn reserved_count(log: &[CoreEntry]) -> usize
+    ensures { result ≡ count_by (λ e. is_booked e.kind) log.now }
+{
+    log.iter().filter(|e| is_booking(e)).count()
+}
+
+/// An event that does nothing but say a word.
+fn idle(event: Event, word: EntryWord) -> Made
+    ensures { result ≡ record { entry = worded event word; waiting = None } }
+{
+    Made::whole(Entry::worded(event, word))
+}
+
+/// The call of that number, if it was made.
+fn call_at(entries: &[Entry], call: u64) -> Option<&OutCall>
+    ensures { option_map (λ c. c.now) result ≡ call_at entries.now call }
+{
+    match entries.get(call as usize) {
+        None => None,
+        Some(entry) => match &entry.call {
+            None => None,
+            Some(out) => Some(out),
+        },
     }
 }
 
-fn last_copy(alloc: Global, log: &[CoreEntry]) -> Result<CoreEntry, AllocError>
-    requires { 0 < length log.now }
-    ensures { IfOk result (λ e. slice_get log.now (length log.now - 1) ≡ Some e) }
+/// Whether a call goes to the scheduler.
+fn is_inside(scheduler: &SetupScheduler, entries: &[Entry], call: u64) -> bool
+    ensures { result ≡ is_inside scheduler.now (call_at entries.now call) }
 {
-    log[log.len() - 1].copy(alloc)
-}
-
-/// The reply of an entry.
-fn reply(alloc: Global, number: u64, response: &Response) -> Result<Reply, HttpError>
-    ensures ok { IfOk result (λ r. r ≡ reply_to number response.now) }
-    ensures err { IfErr result (λ e. e ≡ HttpError.Memory) }
-{
-    let bytes = response.bytes(alloc)?;
-    Ok(Reply {
-        to: number,
-        bytes: Bytes::new(bytes),
-    })
-}
-
-/// Takes a heartbeat: the scheduler's entry, and the reply that says the same.
-fn hear(
-    alloc: Global,
-    state: &mut SchedState<JWTJobAuthorizer>,
-    now: u64,
-    server: ServerId,
-    beat: HeartbeatServerHttpRequest,
-) -> Result<(CoreEntry, Response), FarmFault>
-    requires some { 0 < beat.num_cpus }
-    requires most { beat.num_cpus ≤ 4294967295 }
-    ensures made { let made = rule state.old (call.Beat now server beat.server_nonce beat.num_cpus beat.jwt_key) in
-        IfOk result (λ r. (r.0 ≡ made) × (r.1 ≡ response.heartbeat_response (record { is_new = says_new_entry made }))) }
-    ensures logged { let made = rule state.old (call.Beat now server beat.server_nonce beat.num_cpus beat.jwt_key) in
-        OnOk result (state.new ≡ logged state.old made) }
-    ensures err { IfErr result (λ e. e ≡ fault.Memory) }
-{
-    let HeartbeatServerHttpRequest {
-        jwt_key,
-        num_cpus,
-        server_nonce,
-    } = beat;
-    let key = JWTJobAuthorizer::of_key(jwt_key.into_inner());
-    let answer = state.beat(now, server, server_nonce, num_cpus, key)?;
-    let entry = last_copy(alloc, state.history())?;
-    let response = heartbeat_response(alloc, &answer)?;
-    Ok((entry, response))
-}
-
-/// Takes a status request: the scheduler's entry, and the reply that says the same.
-fn count(
-    alloc: Global,
-    state: &mut SchedState<JWTJobAuthorizer>,
-    now: u64,
-) -> Result<(CoreEntry, Response), FarmFault>
-    ensures made { let made = rule state.old (call.Status now) in
-        IfOk result (λ r. (r.0 ≡ made) × (r.1 ≡ response.status_response (counts_of made))) }
-    ensures logged { OnOk result (state.new ≡ logged state.old (rule state.old (call.Status now))) }
-    ensures err { IfErr result (λ e. e ≡ fault.Memory) }
-{
-    let answer = state.status(now)?;
-    let entry = last_copy(alloc, state.history())?;
-    let response = status_response(alloc, &answer)?;
-    Ok((entry, response))
-}
-
-/// The entry of what is asked of the scheduler.
-fn serve(
-    alloc: Global,
-    state: &mut SchedState<JWTJobAuthorizer>,
-    number: u64,
-    event: Event,
-    routed: SchedRouted,
-) -> Result<Entry, FarmFault>
-    requires { HasProcessors routed }
-    ensures answer { IfOk result (λ e. e ≡ answer state.old number event routed) }
-    ensures core { IfOk result (λ e. state.new ≡ with_core state.old e.core) }
-    ensures err { IfErr result (λ e. e ≡ fault.Memory) }
-{
-    let at = event.at;
-    match routed {
-        SchedRouted::Beat(server, beat) => {
-            let (core, response) = hear(alloc, state, at, server, beat)?;
-            let reply = reply(alloc, number, &response)?;
-            Ok(Entry::replied(event, Some(core), reply))
-        }
-        SchedRouted::Status => {
-            let (core, response) = count(alloc, state, at)?;
-            let reply = reply(alloc, number, &response)?;
-            Ok(Entry::replied(event, Some(core), reply))
-        }
-        SchedRouted::Done(response) => {
-            let reply = reply(alloc, number, &response)?;
-            Ok(Entry::replied(event, None, reply))
-        }
+    match call_at(entries, call) {
+        None => false,
+        Some(out) => out.target == scheduler.addr,
     }
 }
 
-/// The entry of a request.
+/// The call of a delivery, and the bytes of the delivery's reply, if it got one.
+fn delivery_at(entries: &[Entry], delivery: u64) -> Option<(u64, &[u8])>
+    ensures { option_map (λ p. (p.0, p.1.now)) result ≡ delivery_at entries.now delivery }
+{
+    match entries.get(delivery as usize) {
+        None => None,
+        Some(entry) => match &entry.event.kind {
+            EventKind::Request { .. } => None,
+            EventKind::Deliver { call } => match &entry.reply {
+                None => None,
+                Some(reply) => Some((*call, reply.bytes.get())),
+            },
+            EventKind::Fail { .. } => None,
+            EventKind::Return { .. } => None,
+            EventKind::Answer { .. } => None,
+            EventKind::Beat { .. } => None,
+            EventKind::Restart { .. } => None,
+        },
+    }
+}
+
+/// A request.
 fn request(
     alloc: Global,
     scheduler: &SetupScheduler,
     state: &mut SchedState<JWTJobAuthorizer>,
-    number: u64,
+    entries: &[Entry],
+    kept: &[Option<Waiting>],
     event: Event,
     target: Addr,
     peer: Addr,
     bytes: &[u8],
-) -> Result<Entry, FarmFault>
-    requires plain { IsPlain scheduler.now.auth }
-    ensures made { IfOk result (IsMade scheduler.now state.old number event (kind.Request target peer bytes.now)) }
-    ensures core { IfOk result (λ e. state.new ≡ with_core state.old e.core) }
+) -> Result<Made, FarmFault>
+    requires farm { IsFarm scheduler.now state.old entries.now kept.now }
+    requires event { event.kind ≡ kind.Request target peer bytes.now }
+    ensures made { IfOk result (IsMadeSo scheduler.now entries.now event (kind.Request target peer bytes.now) kept.now) }
+    ensures core { IfOk result (λ m. state.new ≡ with_core state.old m.entry.core) }
     ensures err { IfErr result (λ e. e ≡ fault.Memory) }
 {
-    if target != scheduler.addr {
-        return Ok(Entry::worded(event, EntryWord::Down));
-    }
-    let client = scheduler.client.get();
-    let token = token(&scheduler.auth);
-    let routed = asked(alloc, bytes, peer, client, token)?;
-    serve(alloc, state, number, event, routed)
+    let entry_number = entries.len() as u64;
+    serve(
+        alloc,
+        scheduler,
+        state,
+        entry_number,
+        event,
+        target,
+        peer,
+        bytes,
+    )
 }
 
-/// The entry of an event.
-fn entry_of(
+/// A delivery.
+fn deliver(
     alloc: Global,
     scheduler: &SetupScheduler,
     state: &mut SchedState<JWTJobAuthorizer>,
-    number: u64,
+    entries: &[Entry],
+    kept: &[Option<Waiting>],
+    event: Event,
+    call: u64,
+) -> Result<Made, FarmFault>
+    requires farm { IsFarm scheduler.now state.old entries.now kept.now }
+    requires event { event.kind ≡ kind.Deliver call }
+    ensures made { IfOk result (IsMadeSo scheduler.now entries.now event (kind.Deliver call) kept.now) }
+    ensures core { IfOk result (λ m. state.new ≡ with_core state.old m.entry.core) }
+    ensures err { IfErr result (λ e. e ≡ fault.Memory) }
+{
+    let number = entries.len() as u64;
+    match call_at(entries, call) {
+        None => Ok(idle(event, EntryWord::Void)),
+        Some(out) => serve(
+            alloc,
+            scheduler,
+            state,
+            number,
+            event,
+            out.target,
+            scheduler.addr,
+            out.bytes.get(),
+        ),
+    }
+}
+
+/// The settlement of a call.
+fn settle(
+    alloc: Global,
+    scheduler: &SetupScheduler,
+    state: &mut SchedState<JWTJobAuthorizer>,
+    entries: &[Entry],
+    kept: &mut Vec<Option<Waiting>>,
+    event: Event,
+    call: u64,
+    outcome: Result<AssignJobResult, CallFault>,
+) -> Result<Made, FarmFault>
+    requires farm { IsFarm scheduler.now state.old entries.now kept.old.items }
+    requires begins { IfOk outcome (λ a. begins a.state ≡ true) }
+    ensures made { IfOk result (λ m. (reply : Option (List ℕ)) → settles_by entries.now event.kind ≡ Some (call, reply) → IsOutcome reply outcome
+        → IsSettledSo scheduler.now entries.now event call reply kept.new.items m) }
+    ensures core { IfOk result (λ m. state.new ≡ with_core state.old m.entry.core) }
+    ensures err { IfErr result (λ e. e ≡ fault.Memory) }
+{
+    match take_at(kept, call) {
+        None => Ok(idle(event, EntryWord::Void)),
+        Some(waiting) => {
+            let entry = go_on(alloc, state, call, event, waiting, outcome)?;
+            Ok(Made::whole(entry))
+        }
+    }
+}
+
+/// The loss of a call.
+fn fail(
+    alloc: Global,
+    scheduler: &SetupScheduler,
+    state: &mut SchedState<JWTJobAuthorizer>,
+    entries: &[Entry],
+    kept: &mut Vec<Option<Waiting>>,
+    event: Event,
+    call: u64,
+) -> Result<Made, FarmFault>
+    requires farm { IsFarm scheduler.now state.old entries.now kept.old.items }
+    requires event { event.kind ≡ kind.Fail call }
+    ensures made { IfOk result (IsMadeSo scheduler.now entries.now event (kind.Fail call) kept.new.items) }
+    ensures core { IfOk result (λ m. state.new ≡ with_core state.old m.entry.core) }
+    ensures err { IfErr result (λ e. e ≡ fault.Memory) }
+{
+    settle(
+        alloc,
+        scheduler,
+        state,
+        entries,
+        kept,
+        event,
+        call,
+        Err(CallFault::Lost),
+    )
+}
+
+/// The return of a delivery.
+fn bring_back(
+    alloc: Global,
+    scheduler: &SetupScheduler,
+    state: &mut SchedState<JWTJobAuthorizer>,
+    entries: &[Entry],
+    kept: &mut Vec<Option<Waiting>>,
+    event: Event,
+    delivery: u64,
+) -> Result<Made, FarmFault>
+    requires farm { IsFarm scheduler.now state.old entries.now kept.old.items }
+    requires event { event.kind ≡ kind.Return delivery }
+    ensures made { IfOk result (IsMadeSo scheduler.now entries.now event (kind.Return delivery) kept.new.items) }
+    ensures core { IfOk result (λ m. state.new ≡ with_core state.old m.entry.core) }
+    ensures err { IfErr result (λ e. e ≡ fault.Memory) }
+{
+    match delivery_at(entries, delivery) {
+        None => Ok(idle(event, EntryWord::Void)),
+        Some((call, bytes)) => {
+            let outcome = outcome(alloc, bytes)?;
+            settle(alloc, scheduler, state, entries, kept, event, call, outcome)
+        }
+    }
+}
+
+/// The answer to a call from outside the farm.
+fn answer(
+    alloc: Global,
+    scheduler: &SetupScheduler,
+    state: &mut SchedState<JWTJobAuthorizer>,
+    entries: &[Entry],
+    kept: &mut Vec<Option<Waiting>>,
+    event: Event,
+    call: u64,
+    bytes: &[u8],
+) -> Result<Made, FarmFault>
+    requires farm { IsFarm scheduler.now state.old entries.now kept.old.items }
+    requires event { event.kind ≡ kind.Answer call bytes.now }
+    ensures made { IfOk result (IsMadeSo scheduler.now entries.now event (kind.Answer call bytes.now) kept.new.items) }
+    ensures core { IfOk result (λ m. state.new ≡ with_core state.old m.entry.core) }
+    ensures err { IfErr result (λ e. e ≡ fault.Memory) }
+{
+    if is_inside(scheduler, entries, call) {
+        return Ok(idle(event, EntryWord::Void));
+    }
+    let outcome = outcome(alloc, bytes)?;
+    settle(alloc, scheduler, state, entries, kept, event, call, outcome)
+}
+
+/// What an event makes.
+fn made_of(
+    alloc: Global,
+    scheduler: &SetupScheduler,
+    state: &mut SchedState<JWTJobAuthorizer>,
+    entries: &[Entry],
+    kept: &mut Vec<Option<Waiting>>,
     event: &Event,
-) -> Result<Entry, FarmFault>
-    requires plain { IsPlain scheduler.now.auth }
-    ensures made { IfOk result (IsMade scheduler.now state.old number event.now event.now.kind) }
-    ensures core { IfOk result (λ e. state.new ≡ with_core state.old e.core) }
+) -> Result<Made, FarmFault>
+    requires farm { IsFarm scheduler.now state.old entries.now kept.old.items }
+    ensures made { IfOk result (IsMadeSo scheduler.now entries.now event.now event.now.kind kept.new.items) }
+    ensures core { IfOk result (λ m. state.new ≡ with_core state.old m.entry.core) }
     ensures err { IfErr result (λ e. e ≡ fault.Memory) }
 {
     let copy = event.copy(alloc)?;
@@ -324,18 +480,30 @@ fn entry_of(
             alloc,
             scheduler,
             state,
-            number,
+            entries,
+            kept,
             copy,
             *target,
             *peer,
             bytes.get(),
         ),
-        EventKind::Deliver { .. } => Ok(Entry::worded(copy, EntryWord::Void)),
-        EventKind::Fail { .. } => Ok(Entry::worded(copy, EntryWord::Void)),
-        EventKind::Return { .. } => Ok(Entry::worded(copy, EntryWord::Void)),
-        EventKind::Answer { .. } => Ok(Entry::worded(copy, EntryWord::Void)),
-        EventKind::Beat { .. } => Ok(Entry::worded(copy, EntryWord::Void)),
-        EventKind::Restart { .. } => Ok(Entry::worded(copy, EntryWord::Void)),
+        EventKind::Deliver { call } => deliver(alloc, scheduler, state, entries, kept, copy, *call),
+        EventKind::Fail { call } => fail(alloc, scheduler, state, entries, kept, copy, *call),
+        EventKind::Return { delivery } => {
+            bring_back(alloc, scheduler, state, entries, kept, copy, *delivery)
+        }
+        EventKind::Answer { call, bytes } => answer(
+            alloc,
+            scheduler,
+            state,
+            entries,
+            kept,
+            copy,
+            *call,
+            bytes.get(),
+        ),
+        EventKind::Beat { .. } => Ok(idle(copy, EntryWord::Void)),
+        EventKind::Restart { .. } => Ok(idle(copy, EntryWord::Void)),
     }
 }
 
@@ -345,16 +513,27 @@ fn make(
     scheduler: &SetupScheduler,
     state: &mut SchedState<JWTJobAuthorizer>,
     entries: &mut Vec<Entry>,
+    kept: &mut Vec<Option<Waiting>>,
     event: &Event,
 ) -> Result<(), FarmFault>
-    requires farm { IsFarm scheduler.now state.old entries.old.items }
+    requires farm { IsFarm scheduler.now state.old entries.old.items kept.old.items }
     ensures next { OnOk result (AddsNext scheduler.now entries.old.items event.now entries.new.items) }
-    ensures farm { OnOk result (IsFarm scheduler.now state.new entries.new.items) }
+    ensures farm { OnOk result (IsFarm scheduler.now state.new entries.new.items kept.new.items) }
     ensures same { OnErr result (entries.new.items ≡ entries.old.items) }
     ensures err { IfErr result (λ e. e ≡ fault.Memory) }
 {
-    let number = entries.len() as u64;
-    let entry = entry_of(alloc, scheduler, state, number, event)?;
-    entries.push(entry)?;
-    Ok(())
+    entries.reserve(1)?;
+    let made = made_of(alloc, scheduler, state, entries, kept, event)?;
+    let Made { entry, waiting } = made;
+    match kept.push(waiting) {
+        Ok(()) => {
+            entries.push_reserved(entry);
+            Ok(())
+        }
+        Err(full) => {
+            let AllocFailed { value } = full;
+            undo_last(state, value);
+            Err(FarmFault::Memory)
+        }
+    }
 }

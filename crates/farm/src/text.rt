@@ -1,15 +1,17 @@
 //! The texts of a printed run, piece by piece.
-ghost use Rattle.std.specs.Prelude.{◌≡◌, ◌<◌, ◌∷◌, [], Some, slice_index, encode_utf8};
-ghost use Rattle.hex.specs.Hex.{lower_digits, encode_lower};
-ghost use Rattle.farm.specs.Printed.{numbers_text, jobs_text, number_text, hex_text, kind_text, age_text, kept_text, ended_text, reserved_text, advance_text, core_text, core_line, heard_text, ready_text, archive_text, archives_text, step_text, step_line, call_line, reply_line, word_line, row_text};
+ghost use Rattle.std.specs.Prelude.{◌≡◌, ◌*◌, Some, length};
+ghost use Rattle.hex.specs.Hex.{encode_lower};
+ghost use Rattle.farm.specs.Printed.{numbers_text, jobs_text, number_text, hex_text, kind_text, age_text, kept_text, ended_text, reserved_text, advance_text, core_text, core_line, heard_text, ready_text, archive_text, archives_text, step_text, step_line, call_line, reply_line, word_line, row_text, stage_text, claim_text, job_text};
+ghost use Rattle.sched_core.specs.Rows.{held_part};
 
 use crate::entry::{EntryWord, HeardAs, OutCall, Reply, Step, StepKind};
 use crate::event::EventKind;
 use dist_types::ids::JobId;
+use dist_types::results::JobState;
 use dist_types::toolchain::Toolchain;
 use sched_core::entry::{CoreEntry, CoreKind, Reserved, UpdateAnswer};
-use sched_core::rows::ServerRow;
-use std::fmt;
+use sched_core::rows::{JobRow, ServerRow};
+use std::{fmt, str};
 
 /// Numbers joined by commas, or a dash.
 #[derive(Drop)]
@@ -68,30 +70,22 @@ impl fmt::Display for Maybe {
     }
 }
 
-/// The digits of hex.
-const DIGITS: &[u8; 16] = b"0123456789abcdef";
+/// How many bytes are put into hex at a time.
+const HEX_PIECE: usize = 64;
 
-/// The digit of a number.
-#[tactic(auto, using(crate::proofs::HexDigitLemmas::encode_digit))]
-fn digit(n: u8) -> char
-    requires { n < 16 }
-    ensures { encode_utf8 result ≡ slice_index lower_digits n ∷ [] }
+/// The text of bytes in hex, in room of exactly its size.
+#[tactic(auto, using(crate::proofs::HexLemmas::hex_is_text))]
+fn hex_in<'a>(bytes: &[u8], room: &'a mut [u8]) -> &'a str
+    requires { length room.now ≡ 2 * length bytes.now }
+    ensures { result.now ≡ encode_lower bytes.now }
 {
-    char::from(DIGITS[n as usize])
-}
-
-/// A byte as two hex digits in lower case.
-#[derive(Drop)]
-struct Byte(u8);
-
-#[tactic(auto, unfolding(hex::specs::Hex::encode_with))]
-impl fmt::Display for Byte {
-    ghost output = { λ x. Some (encode_lower (x.0 ∷ [])) };
-
-    fn fmt<W: fmt::Write>(&self, f: &mut fmt::Formatter<W>) -> fmt::Result {
-        let high = digit(self.0 / 16);
-        let low = digit(self.0 % 16);
-        write!(f, "{high}{low}")
+    match hex::encode_to_slice(bytes, room) {
+        Ok(()) => {}
+        Err(_) => unreachable!(),
+    }
+    match str::from_utf8(room) {
+        Ok(text) => text,
+        Err(_) => unreachable!(),
     }
 }
 
@@ -106,9 +100,14 @@ impl fmt::Display for Hex<'_> {
         if self.0.is_empty() {
             return write!(f, "-");
         }
-        for b in self.0 {
-            let byte = Byte(*b);
-            write!(f, "{byte}")?;
+        let mut room = [0u8; 2 * HEX_PIECE];
+        let mut rest = self.0;
+        while !rest.is_empty() {
+            let size = rest.len().min(HEX_PIECE);
+            let (piece, after) = rest.split_at(size);
+            let text = hex_in(piece, &mut room[..2 * size]);
+            write!(f, "{text}")?;
+            rest = after;
         }
         Ok(())
     }
@@ -467,5 +466,43 @@ impl fmt::Display for RowLine {
             f,
             "server {server} reg {reg} cpus {cpus} nonce {nonce} seen {seen} load {load} error {error}\n"
         )
+    }
+}
+
+/// How far the job of a reservation is.
+#[derive(Drop)]
+struct Stage(Option<JobState>);
+
+impl fmt::Display for Stage {
+    ghost output = { λ x. Some (stage_text x.0) };
+
+    fn fmt<W: fmt::Write>(&self, f: &mut fmt::Formatter<W>) -> fmt::Result {
+        match self.0 {
+            Some(state) => write!(f, "{state}"),
+            None => write!(f, "reserved"),
+        }
+    }
+}
+
+fn claim_word(claimed: bool) -> &'static str
+    ensures { result.now ≡ claim_text claimed }
+{
+    if claimed { "claimed" } else { "unclaimed" }
+}
+
+/// The line of a reservation that is unended.
+#[derive(Drop)]
+pub struct JobLine(pub JobRow);
+
+impl fmt::Display for JobLine {
+    ghost output = { λ x. Some (job_text (held_part x.0)) };
+
+    fn fmt<W: fmt::Write>(&self, f: &mut fmt::Formatter<W>) -> fmt::Result {
+        let row = &self.0;
+        let job = row.job;
+        let reg = row.reg;
+        let stage = Stage(row.state);
+        let claim = claim_word(row.claimed);
+        write!(f, "job {job} reg {reg} {stage} {claim}\n")
     }
 }

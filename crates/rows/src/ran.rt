@@ -3,6 +3,7 @@ use dist_types::sink::MemSink;
 use dist_types::source::MemSource;
 use farm::command::dist_main;
 use std::alloc::Global;
+use std::process::Abort;
 use std::test::Fail;
 
 /// A number of a call that is never made.
@@ -51,4 +52,13 @@ pub fn called(alloc: Global, word: &str, script: Vec<u8>, failing: Failing) -> R
 pub fn farm(alloc: Global, script: &str) -> Result<Ran, Fail> {
     let bytes = Vec::from_slice(alloc, script.as_bytes())?;
     called(alloc, "farm", bytes, NOTHING)
+}
+
+/// The script runs, prints that, and tells nothing.
+pub fn runs(rt: &impl Abort, alloc: Global, script: &str, run: &str) -> Result<(), Fail> {
+    let ran = farm(alloc, script)?;
+    assert_eq!(rt; ran.status, 0);
+    assert_eq!(rt; ran.out.as_slice(), run.as_bytes());
+    assert_eq!(rt; ran.errs.len(), 0);
+    Ok(())
 }

@@ -10,6 +10,17 @@ type Case = (&'static str, u64, &'static str);
 /// The script runs, or the line is named and nothing is written.
 fn judge(rt: &impl Abort, alloc: Global, case: Case) -> Result<(), Fail> {
     let (script, line, why) = case;
+    judge_script(rt, alloc, script, line, why)
+}
+
+/// The same for a script of any origin.
+fn judge_script(
+    rt: &impl Abort,
+    alloc: Global,
+    script: &str,
+    line: u64,
+    why: &str,
+) -> Result<(), Fail> {
     let ran = farm(alloc, script)?;
     if line == 0 {
         assert_eq!(rt; ran.status, 0, "{why}");
@@ -181,7 +192,7 @@ static WORDS_OF_THE_SCHEDULER: [Case; 18] = [
     ),
 ];
 
-static WORDS_OF_EVENTS: [Case; 23] = [
+static WORDS_OF_EVENTS: [Case; 22] = [
     (
         "scheduler 127.0.0.1:10600 base 4096 count 0 client c1 plain s1\n18446744073709551615 request 127.0.0.1:10600 127.0.0.1:40000 -\n",
         0,
@@ -288,16 +299,92 @@ static WORDS_OF_EVENTS: [Case; 23] = [
         "a word more",
     ),
     (
-        "scheduler 127.0.0.1:10600 base 4096 count 0 client c1 plain s1\n0 deliver 0\n",
-        2,
-        "a kind that is not built yet",
-    ),
-    (
         "scheduler 127.0.0.1:10600 base 4096 count 0 client c1 plain s1\nrequest 0 127.0.0.1:80 127.0.0.1:40000 -\n",
         2,
         "the kind before the moment",
     ),
 ];
+
+/// The number of the first faulty line where each of these stands behind a scheduler line, or 0 where it
+/// is in the grammar, and what it shows.
+const LINES_OF_CALLS: &[(u64, &str, &str)] = &[
+    (0, "0 deliver 0", "a delivery"),
+    (
+        0,
+        "18446744073709551615 deliver 18446744073709551615",
+        "the greatest numbers",
+    ),
+    (2, "0 deliver 18446744073709551616", "2^64"),
+    (2, "0 deliver 00", "two zeros"),
+    (2, "0 deliver +0", "a sign"),
+    (2, "0 deliver -", "no number but a dash"),
+    (2, "0 deliver", "no number"),
+    (2, "0 deliver ", "an empty number"),
+    (2, "0 deliver 0 ", "a trailing space"),
+    (2, "0 deliver 0 0", "a word more"),
+    (2, "0 deliver  0", "two spaces"),
+    (2, "0 Deliver 0", "a capital"),
+    (2, "0 delivers 0", "another word"),
+    (2, "deliver 0", "no moment"),
+    (2, "00 deliver 0", "a moment with a leading zero"),
+    (0, "0 fail 7", "a loss"),
+    (2, "0 fail 07", "a leading zero"),
+    (2, "0 fail", "no number"),
+    (2, "0 fail 7 -", "bytes of a loss"),
+    (0, "0 answer 0 -", "an answer of no bytes"),
+    (0, "0 answer 0 0aFf", "hex of either case"),
+    (2, "0 answer 0 0", "odd hex"),
+    (2, "0 answer 0 0g", "no hex digit"),
+    (2, "0 answer 0 ", "no hex word"),
+    (2, "0 answer 0", "no bytes"),
+    (2, "0 answer -", "no number"),
+    (2, "0 answer 01 -", "a leading zero"),
+    (2, "0 answer 18446744073709551616 -", "2^64"),
+    (2, "0 answer 0 - ", "a trailing space"),
+    (2, "0 answer 0 - -", "a word more"),
+    (2, "0 return 0", "a return is not built yet"),
+    (
+        2,
+        "0 beat 127.0.0.1:10501",
+        "a beat of a build server is not built yet",
+    ),
+    (
+        2,
+        "0 restart 127.0.0.1:10501 key 010202 nonce 7",
+        "a restart is not built yet",
+    ),
+    (
+        2,
+        "server 127.0.0.1:10501 cpus 1 nonce 7 key 010202 capacity 1000",
+        "a build server is not built yet",
+    ),
+    (
+        2,
+        "builder 127.0.0.1:10501 refuse",
+        "a builder's answer is not built yet",
+    ),
+];
+
+/// The script of one line behind a scheduler line.
+fn judge_line(
+    rt: &impl Abort,
+    alloc: Global,
+    row: &(u64, &'static str, &'static str),
+) -> Result<(), Fail> {
+    let (number, line, why) = *row;
+    let script = format!(in alloc;
+        "scheduler 127.0.0.1:10600 base 4096 count 0 client c1 plain s1\n{line}\n"
+    )?;
+    judge_script(rt, alloc, script.as_str(), number, why)
+}
+
+#[test]
+fn reads_lines_of_calls(rt: HostRuntime) -> Result<(), Fail> {
+    for row in LINES_OF_CALLS {
+        judge_line(&rt, rt.alloc(), row)?;
+    }
+    Ok(())
+}
 
 #[test]
 fn reads_ends_and_skipped_lines(rt: HostRuntime) -> Result<(), Fail> {

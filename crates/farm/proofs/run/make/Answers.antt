@@ -1,10 +1,8 @@
-use Rattle.std.proofs.Common.{◌++◌, ◌∷◌, [], ap, ◌∙◌}
-use Rattle.farm.specs.Farm.{with_core}
-use Rattle.farm.proofs.RunLemmas.{core_of-push}
+use Rattle.farm.proofs.MadeLemmas.{farm_next}
 use Rattle.farm.proofs.run.make.Goals as goal
 
-pub returns-clause-farm : goal.returns-clause-farm
-returns-clause-farm c = rw c.in_ok-push.ensures.items (record {
-  plain = c.requires.farm.plain;
-  core_is = c.in_ok-entry.ensures.core ∙ ap (λ s. with_core s c.in_ok-entry.entry.core) c.requires.farm.core_is ∙ core_of-push c.args.scheduler.now c.args.entries.now.items c.in_ok-entry.entry;
-})
+pub returns-in-Ok-clause-farm : goal.returns-in-Ok-clause-farm
+returns-in-Ok-clause-farm c =
+    rw (c.push_reserved.ensures.items, c.in-Ok.ensures.items, c.reserve.ensures.items)
+    (farm_next c.args.scheduler.now c.args.state.now c.made_of.new.state c.args.entries.now.items c.args.kept.now.items c.made_of.new.kept.items c.args.event.now c.in_ok-made.made c.requires.farm
+    (rw (c.deref.ensures.value, c.reserve.ensures.items) at c.in_ok-made.ensures.made) c.in_ok-made.ensures.core)

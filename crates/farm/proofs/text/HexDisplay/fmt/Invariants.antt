@@ -1,8 +1,13 @@
-use Rattle.std.proofs.Common.{take, [], ◌∷◌}
-use Rattle.std.specs.List.{flat_map}
+use Rattle.std.proofs.Common.{◌≡◌, ℕ, List, ◌++◌, length}
 use Rattle.std.specs.Fmt.{HasWritten, IsPlainFormatter}
 use Rattle.hex.specs.Hex.{encode_lower}
+use Rattle.farm.specs.Printed.{hex_text}
 use Rattle.farm.proofs.text.HexDisplay.fmt.Given as goal
 
-abbrev pub invariant-loop-b : goal.invariant-loop-b
-invariant-loop-b g l = IsPlainFormatter l.initial.f → HasWritten g.W.Write.write_str_gives l.initial.f (flat_map (λ b. encode_lower (b ∷ [])) (take l.b-index l.self.0.now)) l.f
+-- what was written, and the hex of what is left
+abbrev pub invariant-loop-rest : goal.invariant-loop-rest
+invariant-loop-rest g l = IsPlainFormatter l.initial.f → (done : List ℕ) × HasWritten g.W.Write.write_str_gives l.initial.f done l.f
+    × (done ++ encode_lower l.rest ≡ hex_text l.fn.self.0.now)
+
+abbrev pub decreases-loop-rest : goal.decreases-loop-rest
+decreases-loop-rest g l = length l.rest
