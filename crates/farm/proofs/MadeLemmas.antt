@@ -1,5 +1,5 @@
 -- What each kind of event makes, and what is kept after it.
-use Rattle.std.proofs.Common.{◌≡◌, ◌≢◌, ◌⊎◌, inl, inr, ℕ, zero, suc, ◌<◌, ◌≤◌, ◌==◌, Bool, true, false, cond, not, ◌&&◌, nat_lt, List, [], ◌∷◌, ◌++◌, length, set, Option, Some, None, Result, Ok, Err, refl, sym, ap, subst, ◌∙◌, arith}
+use Rattle.std.proofs.Common.{◌≡◌, ◌≢◌, ◌⊎◌, inl, inr, ℕ, zero, suc, ◌<◌, Bool, true, false, ◌&&◌, nat_lt, List, [], ◌∷◌, ◌++◌, length, set, Option, Some, None, Result, Ok, Err, refl, sym, ap, subst, ◌∙◌, arith}
 use Rattle.std.specs.Prelude.{slice_get, IfOk}
 use Rattle.std.proofs.lemmas.Bool.{cases_Bool, cases_eq, ne_eqb}
 use Rattle.std.proofs.lemmas.List.{length-set}
@@ -20,20 +20,18 @@ use Rattle.sched_core.specs.declared.entry.Reserved.TheVariants.{Job, NoRoom, Sp
 use Rattle.farm.specs.declared.setup.SetupScheduler.{SetupScheduler}
 use Rattle.farm.specs.declared.event.Event.{Event}
 use Rattle.farm.specs.declared.event.EventKind.{EventKind}
-use Rattle.farm.specs.declared.event.EventKind.TheVariants.{Request, Deliver, Fail, Return, Answer, Beat, Restart}
+use Rattle.farm.specs.declared.event.EventKind.TheVariants.{Request, Deliver}
 use Rattle.farm.specs.declared.entry.Entry.{Entry}
 use Rattle.farm.specs.declared.entry.OutCall.{OutCall}
-use Rattle.farm.specs.declared.entry.EntryWord.{EntryWord}
-use Rattle.farm.specs.declared.entry.EntryWord.TheVariants.{Void, Down, Waiting as Awaiting, Died}
+use Rattle.farm.specs.declared.entry.EntryWord.TheVariants.{Void}
 use Rattle.farm.specs.declared.fault.FarmFault.{FarmFault}
 use Rattle.farm.specs.declared.waiting.Waiting.{Waiting}
 use Rattle.farm.specs.declared.waiting.Made.{Made}
-use Rattle.dist_http.specs.declared.route.Asked.{Asked}
 use Rattle.dist_http.specs.declared.route.SchedRouted.{SchedRouted}
 use Rattle.dist_http.specs.declared.route.SchedRouted.TheVariants as asked
-use Rattle.farm.specs.Calls.{call_at, settles_by, is_of, settled_at, waiting_at}
-use Rattle.farm.specs.Next.{core_log, core_of, ticket_at, brought_to, brought_by, Wants, worded, hears, allocated, answer_to, IsOutcome, continued, GoesOn, IsSettled, to_settle, is_inside, IsServed, Settles, IsMade}
-use Rattle.farm.specs.Farm.{with_core, IsWaiting, IsKept, kept_at, AreKept, IsAfter, IsBegun, IsMadeSo, IsSettledSo, IsSound, IsFarm}
+use Rattle.farm.specs.Calls.{call_at, settles_by, is_of, settled_at}
+use Rattle.farm.specs.Next.{core_of, brought_to, brought_by, Wants, worded, hears, allocated, answer_to, IsOutcome, continued, GoesOn, IsSettled, to_settle, IsServed, Settles, IsMade}
+use Rattle.farm.specs.Farm.{with_core, IsWaiting, IsKept, kept_at, AreKept, IsAfter, IsBegun, IsMadeSo, IsSettledSo, IsFarm}
 use Rattle.farm.proofs.CallLemmas.{waiting-end}
 use Rattle.farm.proofs.SoundLemmas.{ticket-end}
 use Rattle.farm.proofs.RunLemmas.{core_of-push}

@@ -1,12 +1,10 @@
 -- What the next entry adds, and what every run has.
-use Rattle.std.proofs.Common.{◌≡◌, ◌⊎◌, inl, inr, ℕ, ◌+◌, ◌<◌, ◌≤◌, ◌^◌, ◌==◌, Bool, true, false, cond, not, ◌&&◌, nat_lt, nat_le, List, [], ◌∷◌, ◌++◌, length, take, drop, Option, Some, None, Result, Ok, Err, refl, sym, ap, subst, ◌∙◌, append_assoc, append-nil, arith}
+use Rattle.std.proofs.Common.{◌≡◌, inl, inr, ℕ, ◌+◌, ◌<◌, ◌≤◌, ◌^◌, Bool, true, false, nat_le, List, [], ◌∷◌, ◌++◌, length, take, drop, Option, Some, None, Result, Ok, Err, refl, sym, ap, subst, ◌∙◌, append_assoc, append-nil}
 use Rattle.std.specs.Prelude.{slice_get}
-use Rattle.std.specs.List.{AllByRecursion}
 use Rattle.std.proofs.lemmas.Bool.{cases_Bool, and_parts, leb-true, lt-ltb, eq-eqb}
-use Rattle.std.proofs.lemmas.Option.{same_Some, slice_get_within}
+use Rattle.std.proofs.lemmas.Option.{slice_get_within}
 use Rattle.std.proofs.lemmas.List.{take-append-drop}
 use Rattle.std.proofs.lemmas.List.Elements.{filter_map-append}
-use Rattle.dist_types.specs.Addr.{◌>>=◌}
 use Rattle.dist_types.specs.declared.addr.Addr.{Addr}
 use Rattle.dist_types.specs.declared.ids.JobId.{JobId}
 use Rattle.dist_types.specs.declared.outgoing.CallFault.{CallFault}
@@ -25,7 +23,6 @@ use Rattle.sched_core.specs.declared.entry.CoreKind.{CoreKind}
 use Rattle.sched_core.specs.declared.entry.CoreKind.TheVariants as core
 use Rattle.sched_core.specs.declared.entry.Reserved.TheVariants.{Job, NoRoom, Spent}
 use Rattle.sched_core.specs.Log.{Core}
-use Rattle.sched_core.proofs.AllLemmas.{both}
 use Rattle.sched_core.proofs.HeldLemmas.{legal_once}
 use Rattle.sched_core.proofs.RoomLemmas.{legal_bounded}
 use Rattle.sched_core.proofs.SoundLemmas.{legal_distinct}
@@ -35,7 +32,7 @@ use Rattle.farm.specs.declared.event.EventKind.{EventKind}
 use Rattle.farm.specs.declared.event.EventKind.TheVariants.{Request, Deliver, Fail, Return, Answer, Beat, Restart}
 use Rattle.farm.specs.declared.entry.Entry.{Entry}
 use Rattle.farm.specs.declared.entry.OutCall.{OutCall}
-use Rattle.farm.specs.Calls.{call_at, delivery_at, settles_by, settled_at, waiting_at}
+use Rattle.farm.specs.Calls.{call_at, settles_by, settled_at, waiting_at}
 use Rattle.farm.specs.Next.{core_log, core_of, ticket_at, brought_to, hears, allocated, answer_to, IsOutcome, continued, GoesOn, IsSettled, is_inside, to_settle, IsServed, IsDelivered, Settles, IsMade, IsNext, EachNext}
 use Rattle.farm.specs.Farm.{IsSound, IsLawful, AreLawful}
 use Rattle.sched_core.specs.Ticket.{Ticket}
@@ -44,7 +41,7 @@ use Rattle.dist_http.specs.declared.route.SchedRouted.TheVariants as asked
 use Rattle.dist_http.proofs.CallLemmas.{begins_assigned}
 use Rattle.farm.proofs.WordLemmas.{guard_off}
 use Rattle.farm.proofs.OwnLemmas.{legal_front}
-use Rattle.farm.proofs.SoundLemmas.{AddsNone, AddsQuiet, AddsSpent, Adds, sound-step}
+use Rattle.farm.proofs.SoundLemmas.{Adds, sound-step}
 
 -- ---- what an answer adds
 

@@ -1,16 +1,11 @@
 -- One more entry, and one more event.
-use Rattle.std.proofs.Common.{◌≡◌, inl, ℕ, List, [], ◌∷◌, ◌++◌, Option, Some, None, Result, Ok, Err, refl, ap, ◌∙◌, sym, subst, append_assoc, append-nil}
+use Rattle.std.proofs.Common.{◌≡◌, ℕ, List, [], ◌∷◌, ◌++◌, Option, Some, None, Result, Ok, Err, refl, ap, ◌∙◌, sym, subst, append_assoc, append-nil}
 use Rattle.std.specs.Prelude.{option_to_list, IfOk}
 use Rattle.std.specs.List.{cons_option}
 use Rattle.std.proofs.lemmas.List.Elements.{filter_map-append}
-use Rattle.dist_types.specs.declared.addr.Addr.{Addr}
-use Rattle.dist_http.specs.Asked.{IsAsked}
-use Rattle.dist_http.specs.declared.route.SchedRouted.{SchedRouted}
-use Rattle.sched_core.specs.Log.{Core}
 use Rattle.sched_core.specs.declared.entry.CoreEntry.{CoreEntry}
 use Rattle.farm.specs.declared.setup.SetupScheduler.{SetupScheduler}
 use Rattle.farm.specs.declared.event.Event.{Event}
-use Rattle.farm.specs.declared.event.EventKind.TheVariants.{Request}
 use Rattle.farm.specs.declared.entry.Entry.{Entry}
 use Rattle.farm.specs.declared.fault.FarmFault.{FarmFault}
 use Rattle.farm.specs.Next.{core_log, core_of, IsNext, EachNext}

@@ -1,5 +1,5 @@
 -- What is kept for the calls that wait, after one more entry.
-use Rattle.std.proofs.Common.{◌≡◌, inl, inr, ℕ, ◌<◌, ◌≤◌, Bool, true, false, cond, List, [], ◌∷◌, ◌++◌, length, take, Option, Some, None, refl, sym, ap, subst, ◌∙◌, arith}
+use Rattle.std.proofs.Common.{◌≡◌, inl, inr, ℕ, ◌<◌, Bool, true, false, cond, List, [], ◌∷◌, ◌++◌, length, take, Option, Some, None, sym, ap, subst, ◌∙◌, arith}
 use Rattle.std.specs.Prelude.{slice_get}
 use Rattle.std.proofs.lemmas.Bool.{cases_lt}
 use Rattle.std.proofs.lemmas.List.{length-append}
@@ -11,11 +11,11 @@ use Rattle.farm.specs.declared.setup.SetupScheduler.{SetupScheduler}
 use Rattle.farm.specs.declared.entry.Entry.{Entry}
 use Rattle.farm.specs.declared.waiting.Waiting.{Waiting}
 use Rattle.farm.specs.Calls.{settled_at, is_settled, waiting_at}
-use Rattle.farm.specs.Next.{ticket_at, brought_at, brought_by, Wants}
-use Rattle.farm.specs.Farm.{IsWaiting, IsKept, kept_at, AreKept, IsAfter}
-use Rattle.farm.proofs.CallLemmas.{get_left, get_end, waiting-push, waiting-end}
+use Rattle.farm.specs.Next.{brought_at, brought_by, Wants}
+use Rattle.farm.specs.Farm.{IsKept, kept_at, AreKept, IsAfter}
+use Rattle.farm.proofs.CallLemmas.{get_left, get_end, waiting-push}
 use Rattle.farm.proofs.NumberLemmas.{take_left, take_end}
-use Rattle.farm.proofs.SoundLemmas.{ticket-left, ticket-end}
+use Rattle.farm.proofs.SoundLemmas.{ticket-left}
 
 pub brought-left : (farm : SetupScheduler) (log : List Entry) (e : Entry) (n : ℕ) → n < length log → brought_at farm (log ++ e ∷ []) n ≡ brought_at farm log n
 brought-left farm log e n h =

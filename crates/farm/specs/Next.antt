@@ -1,5 +1,5 @@
 -- The one entry that an event makes over the entries before it.
-use Rattle.std.specs.Prelude.{◌≡◌, ◌≤◌, ℕ, List, [], ◌∷◌, ◌++◌, length, take, slice_get, Bool, true, false, ◌&&◌, nat_le, if◌then◌else◌, Option, Some, None, Result, Ok, Err}
+use Rattle.std.specs.Prelude.{◌≡◌, ℕ, List, [], ◌∷◌, ◌++◌, length, take, slice_get, Bool, true, false, ◌&&◌, nat_le, if◌then◌else◌, Option, Some, None, Result, Ok, Err}
 use Rattle.std.specs.List.{filter_map}
 use Rattle.std.specs.Option.{option_map}
 use Rattle.dist_types.specs.Addr.{◌>>=◌, same_addr}
@@ -7,11 +7,9 @@ use Rattle.dist_types.specs.declared.addr.Addr.{Addr}
 use Rattle.dist_types.specs.declared.ids.JobId.{JobId}
 use Rattle.dist_types.specs.declared.outgoing.CallFault.{CallFault}
 use Rattle.dist_types.specs.declared.outgoing.CallFault.TheVariants.{Lost}
-use Rattle.dist_types.specs.declared.results.AllocJobResult.{AllocJobResult}
 use Rattle.dist_types.specs.declared.results.AllocJobResult.TheVariants as alloc
 use Rattle.dist_types.specs.declared.results.AssignJobResult.{AssignJobResult}
 use Rattle.dist_types.specs.declared.results.JobState.{JobState}
-use Rattle.dist_types.specs.declared.results.UpdateJobStateResult.{UpdateJobStateResult}
 use Rattle.dist_types.specs.declared.results.UpdateJobStateResult.TheVariants.{Success}
 use Rattle.dist_token.specs.Token.{token_text, job_claims_text}
 use Rattle.dist_http.specs.Reply.{reply_text}
@@ -28,7 +26,6 @@ use Rattle.sched_core.specs.declared.call.Call.TheVariants as call
 use Rattle.sched_core.specs.declared.entry.CoreEntry.{CoreEntry}
 use Rattle.sched_core.specs.declared.entry.CoreKind.{CoreKind}
 use Rattle.sched_core.specs.declared.entry.CoreKind.TheVariants as core
-use Rattle.sched_core.specs.declared.entry.Reserved.{Reserved}
 use Rattle.sched_core.specs.declared.entry.Reserved.TheVariants.{Job, NoRoom, Spent}
 use Rattle.sched_core.specs.declared.entry.UpdateAnswer.{UpdateAnswer}
 use Rattle.sched_core.specs.declared.entry.UpdateAnswer.TheVariants.{Accepted, Unknown, Wrong, Transition}

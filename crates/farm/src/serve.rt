@@ -334,8 +334,8 @@ fn allocate(
     }
 }
 
-/// The entry of what is asked of the scheduler beside an allocation.
-fn serve_whole(
+/// What is made of what is asked of the scheduler.
+fn serve_asked(
     alloc: Global,
     state: &mut SchedState<JWTJobAuthorizer>,
     number: u64,
@@ -397,5 +397,5 @@ pub fn serve(
     let token = token(&scheduler.auth);
     let question = asked(alloc, bytes, peer, client, token)?;
     let Asked { what, json } = question;
-    serve_whole(alloc, state, number, event, json, what)
+    serve_asked(alloc, state, number, event, json, what)
 }

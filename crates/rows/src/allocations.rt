@@ -30,7 +30,17 @@ const TWO_ERRORS_AT_300101: (&str, &str) = (
 fn prints_runs_with_allocations(rt: HostRuntime) -> Result<(), Fail> {
     runs(&rt, rt.alloc(), IDS_SPENT.0, IDS_SPENT.1)?;
     runs(&rt, rt.alloc(), IDS_WRAP.0, IDS_WRAP.1)?;
-    runs(&rt, rt.alloc(), TWO_ERRORS_AT_300100.0, TWO_ERRORS_AT_300100.1)?;
-    runs(&rt, rt.alloc(), TWO_ERRORS_AT_300101.0, TWO_ERRORS_AT_300101.1)?;
+    runs(
+        &rt,
+        rt.alloc(),
+        TWO_ERRORS_AT_300100.0,
+        TWO_ERRORS_AT_300100.1,
+    )?;
+    runs(
+        &rt,
+        rt.alloc(),
+        TWO_ERRORS_AT_300101.0,
+        TWO_ERRORS_AT_300101.1,
+    )?;
     Ok(())
 }

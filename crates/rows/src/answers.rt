@@ -44,7 +44,17 @@ fn prints_runs_with_answers(rt: HostRuntime) -> Result<(), Fail> {
     runs(&rt, rt.alloc(), ANSWER_LONGER.0, ANSWER_LONGER.1)?;
     runs(&rt, rt.alloc(), ANSWER_SHORT.0, ANSWER_SHORT.1)?;
     runs(&rt, rt.alloc(), ANSWER_STARTED.0, ANSWER_STARTED.1)?;
-    runs(&rt, rt.alloc(), REAPED_BEFORE_THE_ANSWER.0, REAPED_BEFORE_THE_ANSWER.1)?;
-    runs(&rt, rt.alloc(), REAPED_BETWEEN_RESERVE_AND_COMMIT.0, REAPED_BETWEEN_RESERVE_AND_COMMIT.1)?;
+    runs(
+        &rt,
+        rt.alloc(),
+        REAPED_BEFORE_THE_ANSWER.0,
+        REAPED_BEFORE_THE_ANSWER.1,
+    )?;
+    runs(
+        &rt,
+        rt.alloc(),
+        REAPED_BETWEEN_RESERVE_AND_COMMIT.0,
+        REAPED_BETWEEN_RESERVE_AND_COMMIT.1,
+    )?;
     Ok(())
 }

@@ -1,4 +1,4 @@
-use Rattle.std.proofs.Common.{◌≡◌, true, false, Option, Some, refl, rules}
+use Rattle.std.proofs.Common.{◌≡◌, true, false, Some, refl, rules}
 use Rattle.farm.specs.Calls.{call_at}
 use Rattle.farm.specs.Next.{is_inside}
 use Rattle.farm.specs.declared.event.EventKind.TheVariants.{Answer}

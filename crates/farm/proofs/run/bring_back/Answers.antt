@@ -1,4 +1,4 @@
-use Rattle.std.proofs.Common.{◌≡◌, Option, Some, None, refl, rules}
+use Rattle.std.proofs.Common.{◌≡◌, Some, None, refl, rules}
 use Rattle.farm.specs.Calls.{delivery_at}
 use Rattle.farm.specs.declared.event.EventKind.TheVariants.{Return}
 use Rattle.farm.proofs.MadeLemmas.{settling_ok, settling_void}

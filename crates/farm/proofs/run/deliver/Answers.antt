@@ -1,4 +1,4 @@
-use Rattle.std.proofs.Common.{◌≡◌, Option, Some, None, rules}
+use Rattle.std.proofs.Common.{◌≡◌, Some, None, rules}
 use Rattle.farm.specs.Calls.{call_at}
 use Rattle.farm.proofs.MadeLemmas.{delivery_made, delivery_void}
 use Rattle.farm.proofs.run.deliver.Goals as goal

@@ -1,4 +1,4 @@
-use Rattle.std.proofs.Common.{◌≡◌, sym, ◌∙◌}
+use Rattle.std.proofs.Common.{sym, ◌∙◌}
 use Rattle.farm.proofs.MadeLemmas.{settled_none, settled_some}
 use Rattle.farm.proofs.run.settle.Goals as goal
 

@@ -1,8 +1,7 @@
-use Rattle.std.proofs.Common.{◌≡◌, ℕ, List, ap, ◌∙◌}
+use Rattle.std.proofs.Common.{ℕ, List, ap, ◌∙◌}
 use Rattle.sched_core.specs.Rule.{rule}
 use Rattle.sched_core.specs.declared.call.Call.TheVariants as call
 use Rattle.dist_token.specs.Token.{token_text, job_claims_text}
-use Rattle.farm.specs.declared.entry.Entry.{Entry}
 use Rattle.farm.specs.declared.waiting.Made.{Made}
 use Rattle.farm.proofs.ServeLemmas.{told_core, no_room_told, spent_told}
 use Rattle.farm.proofs.serve.allocate.Goals as goal

@@ -1,4 +1,4 @@
-use Rattle.std.proofs.Common.{◌≡◌, sym, ◌∙◌}
+use Rattle.std.proofs.Common.{sym, ◌∙◌}
 use Rattle.sched_core.specs.Rule.{rule}
 use Rattle.sched_core.specs.declared.call.Call.TheVariants as call
 use Rattle.farm.specs.Next.{update_by}

@@ -1,6 +1,5 @@
 use Rattle.sched_core.specs.Rule.{rule}
 use Rattle.sched_core.specs.declared.call.Call.TheVariants as call
-use Rattle.std.proofs.Common.{◌≡◌}
 use Rattle.farm.proofs.ServeLemmas.{told_core, committed_is}
 use Rattle.farm.proofs.settle.commit.Goals as goal
 

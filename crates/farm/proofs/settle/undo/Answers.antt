@@ -1,6 +1,5 @@
 use Rattle.sched_core.specs.Rule.{rule}
 use Rattle.sched_core.specs.declared.call.Call.TheVariants as call
-use Rattle.std.proofs.Common.{◌≡◌}
 use Rattle.farm.proofs.ServeLemmas.{told_core, undone_is}
 use Rattle.farm.proofs.settle.undo.Goals as goal
 

@@ -1,4 +1,3 @@
-use Rattle.std.proofs.Common.{ℕ}
 use Rattle.std.specs.Prelude.{vec_len}
 use Rattle.farm.proofs.waiting.release.Given as goal
 
