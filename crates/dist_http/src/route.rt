@@ -17,7 +17,7 @@ use dist_wire::heartbeat::HeartbeatServerHttpRequest;
 use std::alloc::Global;
 
 /// What a request asks of the scheduler.
-#[derive(Drop)]
+#[derive(Debug, Drop)]
 pub enum SchedRouted {
     /// A job with that toolchain.
     Alloc(Toolchain),
@@ -32,7 +32,7 @@ pub enum SchedRouted {
 }
 
 /// What is asked of the scheduler, and the form of the reply.
-#[derive(Drop)]
+#[derive(Debug, Drop)]
 pub struct Asked {
     /// What is asked.
     pub what: SchedRouted,
