@@ -33,7 +33,7 @@ exact_faultless (Some bytes) words status (inr f) named = λ none. inr f
 run_text_said : (bytes text : List ℕ) → IsReadText bytes text → IsRunText bytes text
 run_text_said bytes text r =
     let said = (script_is_said bytes r.setup r.events).0 r.read in
-    record { setup = r.setup; events = r.events; entries = r.entries; fine = said.0; says = said.1; each = r.each; is = r.is }
+    record { setup = r.setup; events = r.events; entries = r.entries; fine = said.0; says = said.1; each = r.each; lawful = r.lawful; is = r.is }
 
 pub printed_said : (o old new : Option (List ℕ)) → IfSome o (λ bytes. (text : List ℕ) × IsReadText bytes text × Added text old new)
     → IfSome o (λ bytes. (text : List ℕ) × IsRunText bytes text × Added text old new)

@@ -26,6 +26,7 @@ use Rattle.sched_core.specs.Log.{Core}
 use Rattle.sched_core.proofs.HeldLemmas.{legal_once}
 use Rattle.sched_core.proofs.RoomLemmas.{legal_bounded}
 use Rattle.sched_core.proofs.SoundLemmas.{legal_distinct}
+use Rattle.sched_core.proofs.OnceLemmas.{legal_all}
 use Rattle.farm.specs.declared.setup.SetupScheduler.{SetupScheduler}
 use Rattle.farm.specs.declared.event.Event.{Event}
 use Rattle.farm.specs.declared.event.EventKind.{EventKind}
@@ -213,6 +214,7 @@ lawful base count log fits legal = record {
   legal = legal;
   ids = legal_distinct base count log fits legal;
   held = legal_once base count log fits legal;
+  states = (legal_all base count log fits legal).order;
   loads = legal_bounded base count log fits legal;
 }
 

@@ -13,7 +13,7 @@ use Rattle.farm.specs.declared.setup.Setup.{Setup}
 use Rattle.farm.specs.Script.{script}
 use Rattle.farm.specs.Printed.{run_text}
 use Rattle.farm.specs.Command.{IsReadText}
-use Rattle.farm.specs.Farm.{Farmed, with_entries, with_core, Runs}
+use Rattle.farm.specs.Farm.{Farmed, with_entries, with_core, Runs, AreLawful}
 
 one_core : {X : Type 0} (o : Option X) → cons_option o [] ≡ option_to_list o
 one_core None = refl
@@ -57,10 +57,10 @@ Runs-entries old events mid entries run same =
 
 -- the text of a farm that ran a script's events is that of the script's run
 pub run_text_is : {X : Type 0} (view : X → List ℕ) (r : Result X FarmFault) (bytes : List ℕ) (setup : Setup) (events run_events : List Event) (start farm : Farmed)
-    → script bytes ≡ Ok (setup, events) → start ≡ record { scheduler = setup.scheduler; entries = [] } → run_events ≡ events → Runs start run_events farm
+    → script bytes ≡ Ok (setup, events) → start ≡ record { scheduler = setup.scheduler; entries = [] } → run_events ≡ events → Runs start run_events farm → AreLawful farm.scheduler farm.entries
     → IfOk r (λ t. view t ≡ run_text farm.scheduler farm.entries) → IfOk r (λ t. IsReadText bytes (view t))
-run_text_is view (Err f) bytes setup events run_events start farm read start-is events-is run h = tt
-run_text_is view (Ok t) bytes setup events run_events start farm read start-is events-is run h =
+run_text_is view (Err f) bytes setup events run_events start farm read start-is events-is run laws h = tt
+run_text_is view (Ok t) bytes setup events run_events start farm read start-is events-is run laws h =
     let begun : Farmed = record { scheduler = setup.scheduler; entries = [] } in
     let whole : Runs begun events farm = subst (λ (es : List Event). Runs begun es farm) events-is (subst (λ (s : Farmed). Runs s run_events farm) start-is run) in
     record {
@@ -69,5 +69,6 @@ run_text_is view (Ok t) bytes setup events run_events start farm read start-is e
       entries = whole.0;
       read = read;
       each = whole.1;
+      lawful = subst (λ (f : Farmed). AreLawful f.scheduler f.entries) whole.2 laws;
       is = h ∙ ap (λ (f : Farmed). run_text f.scheduler f.entries) whole.2;
     }

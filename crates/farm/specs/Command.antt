@@ -10,6 +10,7 @@ use Rattle.farm.specs.declared.entry.Entry.{Entry}
 use Rattle.farm.specs.declared.fault.FarmFault.{FarmFault}
 use Rattle.farm.specs.declared.fault.FarmFault.TheVariants.{Usage, BadLine, ReadFault, WriteFault, Memory}
 use Rattle.farm.specs.Next.{EachNext}
+use Rattle.farm.specs.Farm.{AreLawful}
 use Rattle.farm.specs.Printed.{run_text}
 use Rattle.farm.specs.Script.{script}
 use Rattle.farm.specs.FirstFaulty.{IsFirstFaulty}
@@ -24,7 +25,8 @@ names_farm (name ∷ word ∷ []) = pointwise nat_eq word (codes "farm")
 names_farm (name ∷ word ∷ more ∷ others) = false
 
 -- The text is that of a script's run: no line of the script is faulty, its lines say a setup and events, and the text is that of
--- the farm that is set up so and of a list that has one entry for each event, each next over those before it.
+-- the farm that is set up so and of a list that has one entry for each event, each next over those before it. After each front of the
+-- entries the laws of the scheduler hold.
 pub record IsRunText (bytes text : List ℕ) : Type 0 where
   pub setup : Setup
   pub events : List Event
@@ -32,6 +34,7 @@ pub record IsRunText (bytes text : List ℕ) : Type 0 where
   pub fine : (n : ℕ) → IsFirstFaulty bytes n → ⊥
   pub says : Says bytes setup events
   pub each : EachNext setup.scheduler [] events entries
+  pub lawful : AreLawful setup.scheduler entries
   pub is : text ≡ run_text setup.scheduler entries
 
 -- the same, where the script is what reading it gives
@@ -41,6 +44,7 @@ pub record IsReadText (bytes text : List ℕ) : Type 0 where
   pub entries : List Entry
   pub read : script bytes ≡ Ok (setup, events)
   pub each : EachNext setup.scheduler [] events entries
+  pub lawful : AreLawful setup.scheduler entries
   pub is : text ≡ run_text setup.scheduler entries
 
 -- what stands on errs

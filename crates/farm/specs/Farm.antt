@@ -5,10 +5,10 @@ use Rattle.dist_types.specs.Addr.{◌>>=◌}
 use Rattle.dist_types.specs.declared.addr.Addr.{Addr}
 use Rattle.sched_core.specs.Log.{Core, logged}
 use Rattle.sched_core.specs.Reservation.{bookings, unspent}
-use Rattle.sched_core.specs.Job.{open_jobs}
+use Rattle.sched_core.specs.Job.{commits, open_jobs}
 use Rattle.sched_core.specs.Standing.{standing}
 use Rattle.sched_core.specs.Rule.{is_among}
-use Rattle.sched_core.specs.Laws.{IsLegal, AreDistinct, IsHeldOnce, IsBounded}
+use Rattle.sched_core.specs.Laws.{IsLegal, AreDistinct, IsHeldOnce, HasOrder, IsBounded}
 use Rattle.sched_core.specs.declared.entry.CoreEntry.{CoreEntry}
 use Rattle.farm.specs.declared.setup.Setup.{Setup}
 use Rattle.farm.specs.declared.setup.SetupScheduler.{SetupScheduler}
@@ -100,11 +100,13 @@ pub record IsSound (farm : SetupScheduler) (log : List Entry) : Type 0 where
   pub own : (n : ℕ) (w : Entry) (t : Ticket) → waiting_at log n ≡ Some w → ticket_at log n ≡ Some t → is_among (unspent (core_log log)) t.number t.job ≡ true
 
 -- Each core entry is the core rule's over those before it; so different reservations have different jobs, each open job has exactly one
--- unended reservation, at a registration that stands, and a registration with c processors has a load of at most c + 1 + c/8.
+-- unended reservation, at a registration that stands, the states of a committed job begin with pending or ready and leave none out from
+-- there on, and a registration with c processors has a load of at most c + 1 + c/8.
 pub record IsLawful (base count : ℕ) (log : List CoreEntry) : Type 0 where
   pub legal : IsLegal base count log
   pub ids : AreDistinct (map (λ b. b.job) (bookings log))
   pub held : AllByRecursion (λ c. IsHeldOnce log c.job) (open_jobs log)
+  pub states : AllByRecursion HasOrder (commits log)
   pub loads : AllByRecursion (IsBounded log) (standing log)
 
 -- after each front of the entries
