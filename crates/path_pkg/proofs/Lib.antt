@@ -1,0 +1,2 @@
+pub mod FramedLemmas
+pub mod PathLemmas

@@ -1,0 +1,7 @@
+pub mod Fault
+pub mod Framed
+pub mod Path
+pub mod Simplified
+pub mod Spot
+pub mod Told
+pub mod Tree

@@ -1,0 +1,10 @@
+//! Paths and packages: paths as they are sent and as they are read again, paths made simple, and
+//! packages of a tree's directories, files and links, written as a framed list.
+#![tactic(auto)]
+
+pub mod fault;
+pub mod framed;
+pub mod laws;
+pub mod node;
+pub mod path;
+pub mod tree;
