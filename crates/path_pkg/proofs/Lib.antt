@@ -1,2 +1,3 @@
 pub mod FramedLemmas
 pub mod PathLemmas
+pub mod FaultLemmas

@@ -7,4 +7,6 @@ pub mod framed;
 pub mod laws;
 pub mod node;
 pub mod path;
+pub mod place;
+pub mod simplify;
 pub mod tree;

@@ -1,0 +1,22 @@
+-- A tree's refusals as those of packing.
+use Rattle.std.proofs.Common.{◌≡◌, ◌≤◌, false, refl, sym, arith, Result, Ok, Err}
+use Rattle.path_pkg.specs.Told.{Told, Refused, TreeCause, Leaves}
+use Rattle.path_pkg.specs.Fault.{pack_error, is_decided, PackCause, PackLeaves}
+use Rattle.path_pkg.specs.declared.fault.TreeFault.{TreeFault}
+use Rattle.path_pkg.specs.declared.fault.TreeFault.TheVariants.{Failed, NotUtf8, Memory}
+use Rattle.path_pkg.specs.declared.fault.PackError.{PackError}
+use Rattle.path_pkg.specs.declared.fault.PackError.TheVariants as Packs
+
+pub undecided : (f : TreeFault) → is_decided (pack_error f) ≡ false
+undecided Failed = refl
+undecided NotUtf8 = refl
+undecided Memory = refl
+
+pub pack_refused : (f : TreeFault) (old new : Told) → Refused (TreeCause f) old new → Refused (PackCause (pack_error f)) old new
+pack_refused Failed old new h = record { nodes = h.nodes; faults = h.faults; misnamed = h.misnamed; caused = h.caused }
+pack_refused NotUtf8 old new h = record { nodes = h.nodes; faults = h.faults; misnamed = h.misnamed; caused = h.caused }
+pack_refused Memory old new h = record { nodes = h.nodes; faults = h.faults; misnamed = h.misnamed; caused = tt }
+
+-- what asks the tree nothing leaves it as it was
+pub untouched : (e : PackError) (told : Told) → PackCause e told told → Refused (PackCause e) told told
+untouched e told h = record { nodes = refl; faults = omega arith; misnamed = omega arith; caused = h }
