@@ -1,3 +1,4 @@
 pub mod FramedLemmas
 pub mod PathLemmas
 pub mod FaultLemmas
+pub mod TakenLemmas

@@ -98,3 +98,41 @@ fn push(steps: &mut VecDeque<Step>, step: Step) -> Result<(), AllocError>
     steps.push_back(step)?;
     Ok(())
 }
+
+/// Takes the steps, and replaces at most so many links.
+fn take<T: Links>(
+    alloc: Global,
+    tree: &mut T,
+    recording: bool,
+    left: u32,
+    place: Place,
+    todo: VecDeque<Step>,
+) -> Result<Place, PackError>
+    ensures taken { Holds (T.told tree.old) (λ t. Gives spot_of (taken left t recording (spot_of place) todo.items) result) }
+    ensures leaves { PackLeaves result (T.told tree.old) (T.told tree.new) }
+{
+    let mut place = place;
+    let mut todo = todo;
+    while let Some(step) = todo.pop_front() {
+        match step {
+            Step::Up => match go_up(alloc, tree, place) {
+                Ok(next) => place = next,
+                Err(fault) => return Err(fault),
+            },
+            Step::Name(name) => {
+                place = below(place, name)?;
+                if is_met(alloc, tree, recording, &place)? {
+                    if left == 0 {
+                        return Err(PackError::TooManyLinks);
+                    }
+                    let (next, steps) = follow(alloc, tree, place, todo)?;
+                    return take(alloc, tree, recording, left - 1, next, steps);
+                }
+            }
+            Step::Linked(path) => {
+                place = noted(alloc, place, path)?;
+            }
+        }
+    }
+    Ok(place)
+}
