@@ -2,3 +2,4 @@ pub mod FramedLemmas
 pub mod PathLemmas
 pub mod FaultLemmas
 pub mod TakenLemmas
+pub mod NodeLemmas

@@ -30,6 +30,7 @@ Gives seen verdict (Err e) = is_decided e ≡ true → verdict ≡ Err e
 abbrev pub PackCause : PackError → Told → Told → Type 0
 PackCause Packs.TreeFault old new = Rose old.faults new.faults
 PackCause Packs.NotUtf8 old new = Rose old.misnamed new.misnamed
+PackCause Packs.SinkFault old new = ⊥
 PackCause _ old new = Unit {0}
 
 -- an answer leaves the tree as it was, and a refusal has its cause

@@ -1,7 +1,10 @@
 pub mod Fault
 pub mod Framed
+pub mod InMemory
+pub mod MapNodes
 pub mod Path
 pub mod Place
+pub mod Resolved
 pub mod Simplified
 pub mod Spot
 pub mod Told

@@ -1,5 +1,5 @@
 -- Paths made simple.
-use Rattle.std.specs.Prelude.{ℕ, zero, suc, List, [], ◌∷◌, ◌++◌, Bool, ◌&&◌, if◌then◌else◌, Result, Ok, Err}
+use Rattle.std.specs.Prelude.{ℕ, zero, suc, List, [], ◌∷◌, ◌++◌, Bool, ◌&&◌, true, false, if◌then◌else◌, Result, Ok, Err}
 use Rattle.path_pkg.specs.Told.{Nodes}
 use Rattle.path_pkg.specs.Path.{steps_of}
 use Rattle.path_pkg.specs.Tree.{is_link, target_at}
@@ -38,3 +38,12 @@ taken (suc n) t recording = taken_by (taken n t recording) t recording
 -- a path made simple, with at most forty links replaced
 unfoldable pub simplified : Bool → Nodes → List ℕ → Result Spot PackError
 simplified recording t path = taken 40 t recording (start path) (steps_of path)
+
+-- the text of what a path was made
+abbrev pub text_of : Result Spot PackError → Result (List ℕ) PackError
+text_of (Ok s) = Ok (spot_text s)
+text_of (Err e) = Err e
+
+-- the text of a path made simple without recording
+unfoldable pub plain_path : Nodes → List ℕ → Result (List ℕ) PackError
+plain_path t path = text_of (simplified false t path)

@@ -41,6 +41,6 @@ abbrev pub target_at : Nodes → List ℕ → List ℕ
 target_at t path = target_of (node_at t path)
 
 -- the content of a file
-abbrev pub bytes_of : Option Node → List ℕ
-bytes_of (Some (Nodes.File bytes)) = bytes
-bytes_of _ = []
+abbrev pub content_of : Option Node → Option (List ℕ)
+content_of (Some (Nodes.File bytes)) = Some bytes
+content_of _ = None

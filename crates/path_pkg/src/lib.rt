@@ -5,8 +5,10 @@
 pub mod fault;
 pub mod framed;
 pub mod laws;
+pub mod mem_tree;
 pub mod node;
 pub mod path;
 pub mod place;
+mod plain_tree;
 pub mod simplify;
 pub mod tree;

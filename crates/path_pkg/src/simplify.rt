@@ -3,7 +3,7 @@ ghost use Rattle.std.specs.Prelude.{◌≡◌, ◌++◌, ◌∷◌, [], ℕ, tru
 ghost use Rattle.path_pkg.specs.Fault.{is_decided, Gives, PackLeaves};
 ghost use Rattle.path_pkg.specs.Path.{steps_of};
 ghost use Rattle.path_pkg.specs.Place.{spot_of};
-ghost use Rattle.path_pkg.specs.Simplified.{is_met, link_target, taken, simplified};
+ghost use Rattle.path_pkg.specs.Simplified.{is_met, link_target, taken, simplified, plain_path};
 ghost use Rattle.path_pkg.specs.Spot.{spot_text, above, below, beside};
 ghost use Rattle.path_pkg.specs.Told.{Holds};
 ghost use Rattle.path_pkg.specs.declared.path.Step.TheVariants.{Linked};
@@ -135,4 +135,47 @@ fn take<T: Links>(
         }
     }
     Ok(place)
+}
+
+/// A path made simple, with the links that were replaced on it.
+#[tactic(auto, using(crate::proofs::FaultLemmas::untouched), unfolding(crate::specs::Simplified::simplified))]
+pub(crate) fn simplified<T: Links>(
+    alloc: Global,
+    tree: &mut T,
+    recording: bool,
+    path: &str,
+) -> Result<Place, PackError>
+    ensures simplified { Holds (T.told tree.old) (λ t. Gives spot_of (simplified recording t path.now) result) }
+    ensures leaves { PackLeaves result (T.told tree.old) (T.told tree.new) }
+{
+    let steps = steps_of(alloc, path)?;
+    take(
+        alloc,
+        tree,
+        recording,
+        MAX_LINKS,
+        start(alloc, path),
+        steps,
+    )
+}
+
+/// The path without empty parts, without `.`, and without `..`, each of which drops the part before it.
+/// LinkInParent exactly where a `..` stands behind a link; the rest of the path is not asked for links.
+/// TreeFault and NotUtf8 come only where the tree's count of them rose.
+#[tactic(auto, using(crate::proofs::FaultLemmas::untouched))]
+pub fn simplify_path<T: Links>(
+    alloc: Global,
+    tree: &mut T,
+    path: &str,
+) -> Result<String, PackError>
+    ensures simplified { Holds (T.told tree.old) (λ t. Gives string_bytes (plain_path t path.now) result) }
+    ensures leaves { PackLeaves result (T.told tree.old) (T.told tree.new) }
+{
+    match simplified(alloc, tree, false, path) {
+        Ok(place) => {
+            let simple = text(alloc, &place)?;
+            Ok(simple)
+        }
+        Err(fault) => Err(fault),
+    }
 }
