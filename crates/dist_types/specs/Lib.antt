@@ -12,4 +12,5 @@ pub mod InMemory
 pub mod Link
 pub mod Outgoing
 pub mod Output
+pub mod Real
 pub mod Toolchain

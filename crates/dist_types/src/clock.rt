@@ -2,6 +2,7 @@
 ghost use Rattle.std.specs.Prelude.{◌≡◌, [], List, ℕ, drop, Option, Some, None, IfSome};
 ghost use Rattle.std.specs.Option.{option_map};
 ghost use Rattle.dist_types.specs.Clock.{next_moment};
+ghost use Rattle.dist_types.specs.Real.{real_clock_last};
 
 use std::time::Clock as SystemClock;
 
@@ -67,7 +68,9 @@ pub struct RealClock<C: SystemClock> {
 
 impl<C: SystemClock> RealClock<C> {
     /// A clock that asks the system. It takes no memory.
-    pub fn new(clock: C) -> Self {
+    pub fn new(clock: C) -> Self
+        ensures last { real_clock_last result ≡ 0 }
+    {
         RealClock { clock, last: 0 }
     }
 }

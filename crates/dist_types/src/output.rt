@@ -6,7 +6,7 @@ ghost use Rattle.dist_types.specs.Output.{output_in};
 ghost use Rattle.dist_types.specs.InMemory.{source_left, source_fails};
 
 use crate::fault::Memory;
-use crate::source::{MemSource, ReadError, Source, read_up_to};
+use crate::source::{MemSource, ReadError, Source, read_whole};
 use crate::text::Bytes;
 use crate::try_clone::TryClone;
 use crate::type_error::TypeError;
@@ -14,7 +14,7 @@ use std::alloc::Global;
 use std::fmt;
 
 /// The most bytes of one output.
-pub const MAX_OUTPUT: usize = 1_073_741_824;
+pub const MAX_OUTPUT: u32 = 1_073_741_824;
 
 /// What a process gave that ended with a code.
 #[derive(Debug, Drop)]
@@ -120,10 +120,7 @@ impl OutputData {
         ensures later { R.faults reader.old ≤ R.faults reader.new }
         ensures cause { result ≡ Err ReadError.Failed → Rose (R.faults reader.old) (R.faults reader.new) }
     {
-        let bytes = read_up_to(alloc, reader, MAX_OUTPUT + 1)?;
-        if bytes.len() > MAX_OUTPUT {
-            return Err(ReadError::TooLong);
-        }
+        let bytes = read_whole(alloc, reader, MAX_OUTPUT)?;
         let size = bytes.len() as u64;
         Ok(OutputData(Bytes::new(bytes), size))
     }

@@ -1,6 +1,7 @@
 //! What is written: the trait, the sink in memory, the one of the system, and writing all of a text.
 ghost use Rattle.std.specs.Prelude.{◌≡◌, ◌≤◌, ◌<◌, [], List, ℕ, length, take, IfOk, OnOk, OnErr, Option, Some, None};
 ghost use Rattle.dist_types.specs.Cause.{Rose};
+ghost use Rattle.dist_types.specs.Real.{std_sink_faults};
 ghost use Rattle.dist_types.specs.Content.{Added, Began};
 
 use crate::fault::{Failed, raise};
@@ -140,7 +141,9 @@ pub struct StdSink<W: Write> {
 
 impl<W: Write> StdSink<W> {
     /// A sink that writes to a writer, no fault so far. It takes no memory.
-    pub fn new(writer: W) -> Self {
+    pub fn new(writer: W) -> Self
+        ensures faults { std_sink_faults result ≡ 0 }
+    {
         StdSink { writer, faults: 0 }
     }
 }

@@ -1,6 +1,7 @@
 //! What is read: the trait, the source in memory, the one of the system, and reading to a limit.
-ghost use Rattle.std.specs.Prelude.{◌≡◌, ◌≤◌, ◌<◌, ◌⊎◌, List, ℕ, length, take, drop, IfOk, IfErr, OnOk, OnErr, Option, Some, None};
+ghost use Rattle.std.specs.Prelude.{◌≡◌, ◌≤◌, ◌<◌, ◌⊎◌, List, ℕ, length, take, drop, IfOk, IfErr, IfSome, OnOk, OnErr, Option, Some, None, Err};
 ghost use Rattle.dist_types.specs.Cause.{Rose};
+ghost use Rattle.dist_types.specs.Real.{std_source_faults};
 ghost use Rattle.dist_types.specs.Content.{Taken, TookFront, IsAtEnd};
 ghost use Rattle.dist_types.specs.declared.source.ReadError.TheVariants.{Failed, Memory};
 
@@ -129,7 +130,9 @@ pub struct StdSource<R: Read> {
 
 impl<R: Read> StdSource<R> {
     /// A source that reads from a reader, no fault so far. It takes no memory.
-    pub fn new(reader: R) -> Self {
+    pub fn new(reader: R) -> Self
+        ensures faults { std_source_faults result ≡ 0 }
+    {
         StdSource { reader, faults: 0 }
     }
 }
@@ -210,4 +213,24 @@ pub fn read_up_to<S: Source>(
         }
     }
     Ok(out)
+}
+
+/// All that a source has left. Failed only where the source's count of faults rose, TooLong exactly where more
+/// bytes than the limit came. After an error a front was read.
+pub fn read_whole<S: Source>(alloc: Global, input: &mut S, limit: u32) -> Result<Vec<u8>, ReadError>
+    ensures all { IfOk result (λ v. Taken v.items (S.left input.old) (S.left input.new)) }
+    ensures at_end { OnOk result (IsAtEnd (S.left input.new)) }
+    ensures short { IfOk result (λ v. length v.items ≤ limit) }
+    ensures too_long { result ≡ Err ReadError.TooLong → IfSome (S.left input.old) (λ left. limit < length left) }
+    ensures front { OnErr result (TookFront (S.left input.old) (S.left input.new)) }
+    ensures steady { OnOk result (S.faults input.new ≡ S.faults input.old) }
+    ensures later { S.faults input.old ≤ S.faults input.new }
+    ensures cause { result ≡ Err ReadError.Failed → Rose (S.faults input.old) (S.faults input.new) }
+{
+    let limit = limit as usize;
+    let bytes = read_up_to(alloc, input, limit + 1)?;
+    if bytes.len() > limit {
+        return Err(ReadError::TooLong);
+    }
+    Ok(bytes)
 }

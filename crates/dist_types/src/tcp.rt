@@ -1,17 +1,20 @@
 //! The network's own connections. They tell no content.
-ghost use Rattle.std.specs.Prelude.{None};
+ghost use Rattle.std.specs.Prelude.{◌≡◌, ◌≤◌, length, IfOk, OnOk, None, Ok, Err};
+ghost use Rattle.dist_types.specs.Cause.{Rose};
+ghost use Rattle.dist_types.specs.Content.{Recorded};
+ghost use Rattle.dist_types.specs.Real.{link_read_faults, link_write_faults, real_asked, real_dialer_faults};
 
 use crate::dialer::{AskFault, Dialer};
 use crate::fault::{Failed, raise};
 use crate::link::Link;
 use crate::sink::{Sink, write_all, write_some};
-use crate::source::{ReadError, Source, read_some, read_up_to};
+use crate::source::{ReadError, Source, read_some, read_whole};
 use std::alloc::Global;
 use std::io::{Read, Write};
 use std::net::{Net, TcpStream};
 
 /// The most bytes of one reply.
-pub const MAX_REPLY: usize = 2_147_483_648;
+pub const MAX_REPLY: u32 = 2_147_483_648;
 
 /// A connection over a stream of the system.
 #[derive(Drop)]
@@ -23,7 +26,10 @@ pub struct TcpLink<S: Read + Write> {
 
 impl<S: Read + Write> TcpLink<S> {
     /// The connection over a stream, no fault so far. It takes no memory.
-    pub fn new(stream: S) -> Self {
+    pub fn new(stream: S) -> Self
+        ensures read_faults { link_read_faults result ≡ 0 }
+        ensures write_faults { link_write_faults result ≡ 0 }
+    {
         TcpLink {
             stream,
             read_faults: 0,
@@ -86,7 +92,9 @@ pub struct TcpDialer<N: Net + Drop> {
 
 impl<N: Net + Drop> TcpDialer<N> {
     /// A dialer that asked nothing so far. It takes no memory.
-    pub fn new(alloc: Global, net: N) -> Self {
+    pub fn new(alloc: Global, net: N) -> Self
+        ensures faults { real_dialer_faults result ≡ 0 }
+    {
         TcpDialer {
             alloc,
             net,
@@ -113,19 +121,16 @@ fn fetch<N: Net>(
     host: &str,
     port: u16,
     request: &[u8],
-) -> Result<Vec<u8>, AskFault> {
+) -> Result<Vec<u8>, AskFault>
+    ensures short { IfOk result (λ reply. length reply.items ≤ 2147483648) }
+{
     let Ok(stream) = TcpStream::connect(net, (unbracketed(host), port)) else {
         return Err(AskFault::Failed);
     };
     let mut link = TcpLink::new(stream);
     write_all(&mut link, request)?;
-    match read_up_to(alloc, &mut link, MAX_REPLY + 1) {
-        Ok(reply) => {
-            if reply.len() > MAX_REPLY {
-                return Err(AskFault::Failed);
-            }
-            Ok(reply)
-        }
+    match read_whole(alloc, &mut link, MAX_REPLY) {
+        Ok(reply) => Ok(reply),
         Err(ReadError::Memory) => Err(AskFault::Memory),
         Err(_) => Err(AskFault::Failed),
     }
@@ -136,7 +141,17 @@ impl<N: Net + Drop> Dialer for TcpDialer<N> {
 
     ghost faults = { λ d. d.faults };
 
-    fn ask(&mut self, host: &str, port: u16, request: &[u8]) -> Result<Vec<u8>, AskFault> {
+    /// The reply to its end, at most 2,147,483,648 bytes; a longer one is a fault.
+    fn ask(&mut self, host: &str, port: u16, request: &[u8]) -> Result<Vec<u8>, AskFault>
+        ensures ok { IfOk result (λ reply. Recorded (record { host = host.now; port = port; request = request.now; answer = Ok reply.items }) (real_asked self.old) (real_asked self.new)) }
+        ensures failed { result ≡ Err AskFault.Failed → Recorded (record { host = host.now; port = port; request = request.now; answer = Err AskFault.Failed }) (real_asked self.old) (real_asked self.new) }
+        ensures memory { result ≡ Err AskFault.Memory → real_asked self.new ≡ real_asked self.old }
+        ensures steady { OnOk result (real_dialer_faults self.new ≡ real_dialer_faults self.old) }
+        ensures later { real_dialer_faults self.old ≤ real_dialer_faults self.new }
+        ensures cause { result ≡ Err AskFault.Failed → Rose (real_dialer_faults self.old) (real_dialer_faults self.new) }
+
+        ensures short { IfOk result (λ reply. length reply.items ≤ 2147483648) }
+    {
         match fetch(self.alloc, &self.net, host, port, request) {
             Ok(reply) => Ok(reply),
             Err(AskFault::Memory) => Err(AskFault::Memory),

@@ -3,4 +3,5 @@
 mod addresses;
 mod loopback;
 mod objects;
+mod roles;
 mod values;

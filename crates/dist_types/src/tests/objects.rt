@@ -6,7 +6,7 @@ use crate::link::MemLink;
 use crate::output::OutputData;
 use crate::readers::{InputsReader, ToolchainReader};
 use crate::sink::{MemSink, Sink, StdSink, write_all};
-use crate::source::{MemSource, ReadError, Source, StdSource, read_up_to};
+use crate::source::{MemSource, ReadError, Source, StdSource, read_up_to, read_whole};
 use crate::text::Bytes;
 use std::test::Fail;
 
@@ -72,5 +72,21 @@ fn dialer_and_clock_in_memory(rt: HostRuntime) -> Result<(), Fail> {
     let mut clock = MemClock::new(vec![in alloc; 5, 3]?);
     assert_eq!(rt; (clock.now(), clock.now(), clock.now()), (5, 3, 3));
     assert_eq!(rt; MemClock::new(Vec::new(alloc)).now(), 0);
+    Ok(())
+}
+
+#[test]
+fn whole_contents_end_at_the_limit(rt: HostRuntime) -> Result<(), Fail> {
+    let alloc = rt.alloc();
+    let mut source = MemSource::new(b"abcde".to_vec(alloc)?, Vec::new(alloc));
+    assert_eq!(rt;
+        read_whole(alloc, &mut source, 5)?.as_slice(),
+        b"abcde".as_slice()
+    );
+    let mut source = MemSource::new(b"abcdef".to_vec(alloc)?, Vec::new(alloc));
+    assert_eq!(rt;
+        read_whole(alloc, &mut source, 5).err(),
+        Some(ReadError::TooLong)
+    );
     Ok(())
 }
