@@ -3,3 +3,4 @@ pub mod PathLemmas
 pub mod FaultLemmas
 pub mod TakenLemmas
 pub mod NodeLemmas
+pub mod ResolvedLemmas

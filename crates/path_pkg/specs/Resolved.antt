@@ -31,9 +31,13 @@ content_at t path = content_of (target_node t path)
 abbrev pub dir_prefix : List ℕ → List ℕ
 dir_prefix path = if bytes_eq path (47 ∷ []) then path else path ++ 47 ∷ []
 
+-- whether a path lies in a directory, by what the paths in it begin with
+abbrev pub is_within : List ℕ → List ℕ → Bool
+is_within prefix inner = nat_lt (length prefix) (length inner) && starts_with nat_eq inner prefix
+
 -- whether a path lies below a directory
 abbrev pub is_below : List ℕ → List ℕ → Bool
-is_below path inner = nat_lt (length (dir_prefix path)) (length inner) && starts_with nat_eq inner (dir_prefix path)
+is_below path inner = is_within (dir_prefix path) inner
 
 -- the paths below a directory, in byte order
 abbrev pub paths_below : Nodes → List ℕ → List (List ℕ)

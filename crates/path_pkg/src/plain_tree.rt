@@ -1,9 +1,9 @@
 //! Looking into a map of nodes.
-ghost use Rattle.std.specs.Prelude.{◌≡◌, ◌⊎◌, true, IfOk, string_bytes};
+ghost use Rattle.std.specs.Prelude.{◌≡◌, ◌⊎◌, ◌++◌, ◌∷◌, [], true, map, IfOk, OnOk, string_bytes};
 ghost use Rattle.path_pkg.specs.Fault.{is_decided};
 ghost use Rattle.std.specs.Option.{option_copied};
 ghost use Rattle.path_pkg.specs.MapNodes.{nodes_of};
-ghost use Rattle.path_pkg.specs.Resolved.{target_node};
+ghost use Rattle.path_pkg.specs.Resolved.{target_node, dir_prefix, is_within, paths_below};
 ghost use Rattle.path_pkg.specs.Tree.{node_at, kind_of, target_of};
 
 use crate::fault::{PackError, TreeFault};
@@ -109,4 +109,48 @@ pub(crate) fn target_node<'a>(
             Ok(None)
         }
     }
+}
+
+/// Whether a path lies below the directory of which all paths in it begin with this prefix.
+pub(crate) fn is_within(prefix: &str, inner: &str) -> bool
+    ensures { result ≡ is_within prefix.now inner.now }
+{
+    prefix.len() < inner.len() && inner.as_bytes().starts_with(prefix.as_bytes())
+}
+
+/// What the paths in a directory begin with.
+pub(crate) fn dir_prefix(alloc: Global, path: &str) -> Result<String, AllocError>
+    ensures { IfOk result (λ prefix. string_bytes prefix ≡ dir_prefix path.now) }
+{
+    let mut prefix = String::from_str(alloc, path)?;
+    if path != "/" {
+        prefix.push_str("/")?;
+    }
+    Ok(prefix)
+}
+
+/// The paths below a directory, in byte order.
+pub(crate) fn paths_below(
+    alloc: Global,
+    nodes: &BTreeMap<String, Node>,
+    path: &str,
+) -> Result<Vec<String>, AllocError>
+    ensures { IfOk result (λ v. map string_bytes v.items ≡ paths_below (nodes_of nodes.now.entries) path.now) }
+{
+    let prefix = dir_prefix(alloc, path)?;
+    let mut paths = Vec::new(alloc);
+    for (inner, _) in nodes {
+        if is_within(prefix.as_str(), inner.as_str()) {
+            push_copy(alloc, &mut paths, inner.as_str())?;
+        }
+    }
+    Ok(paths)
+}
+
+fn push_copy(alloc: Global, paths: &mut Vec<String>, path: &str) -> Result<(), AllocError>
+    ensures { OnOk result (map string_bytes paths.new.items ≡ map string_bytes paths.old.items ++ path.now ∷ []) }
+{
+    let copy = String::from_str(alloc, path)?;
+    paths.push(copy)?;
+    Ok(())
 }
