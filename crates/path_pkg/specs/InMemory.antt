@@ -4,7 +4,7 @@ use Rattle.std.specs.List.{list_any}
 use Rattle.std.specs.Str.{bytes_eq}
 use Rattle.dist_types.specs.InMemory.{is_listed}
 use Rattle.path_pkg.specs.Told.{Told, Nodes}
-use Rattle.path_pkg.specs.Tree.{kind_at, is_link, target_at}
+use Rattle.path_pkg.specs.Tree.{node_at, kind_at, link_of}
 use Rattle.path_pkg.specs.Resolved.{target_kind_at, content_at, is_below, paths_below}
 use Rattle.path_pkg.specs.MapNodes.{nodes_of}
 use Rattle.path_pkg.specs.declared.node.Kind.{Kind}
@@ -48,13 +48,15 @@ is_to_fail t = is_listed t.fails.items t.calls
 abbrev pub kind_verdict : MemTree → List ℕ → Result Kind TreeFault
 kind_verdict t path = if is_to_fail t then Err Failed else Ok (kind_at (tree_nodes t) path)
 
+-- what reading the link gives, where its path may be listed as one whose target is not UTF-8
+abbrev pub link_answer : List (List ℕ) → List ℕ → Option (List ℕ) → Result (List ℕ) TreeFault
+link_answer misnames path (Some target) = if list_any (bytes_eq path) misnames then Err NotUtf8 else Ok target
+link_answer misnames path None = Err Failed
+
 -- the answer to `read_link`
 abbrev pub link_verdict : MemTree → List ℕ → Result (List ℕ) TreeFault
 link_verdict t path =
-    if is_to_fail t then Err Failed
-    else if is_link (tree_nodes t) path
-    then (if list_any (bytes_eq path) (tree_misnames t) then Err NotUtf8 else Ok (target_at (tree_nodes t) path))
-    else Err Failed
+    if is_to_fail t then Err Failed else link_answer (tree_misnames t) path (link_of (node_at (tree_nodes t) path))
 
 -- the answer to `target_kind`
 abbrev pub target_kind_verdict : MemTree → List ℕ → Result Kind TreeFault

@@ -31,6 +31,11 @@ is_link_kind _ = false
 abbrev pub is_link : Nodes → List ℕ → Bool
 is_link t path = is_link_kind (kind_at t path)
 
+-- the target, where the node is a link
+abbrev pub link_of : Option Node → Option (List ℕ)
+link_of (Some (Nodes.Link target)) = Some target
+link_of _ = None
+
 -- the target of a link
 abbrev pub target_of : Option Node → List ℕ
 target_of (Some (Nodes.Link target)) = target

@@ -1,8 +1,15 @@
 //! The tree in memory.
-ghost use Rattle.std.specs.Prelude.{◌≡◌, IfOk, IfErr, OnOk, OnErr, Some, Err, true, false, is_err, map, string_bytes, ◌≤◌};
+ghost use Rattle.std.specs.Prelude.{◌≡◌, ◌≤◌, IfOk, IfErr, if◌then◌else◌, is_err, string_bytes};
+ghost use Rattle.std.specs.List.{list_any};
+ghost use Rattle.std.specs.Option.{option_copied};
+ghost use Rattle.std.specs.Str.{bytes_eq};
+ghost use Rattle.dist_types.specs.Cause.{counted};
+ghost use Rattle.dist_types.specs.InMemory.{is_listed};
+ghost use Rattle.path_pkg.specs.Tree.{link_of};
 
 use crate::fault::TreeFault;
 use crate::node::{Kind, Node};
+use crate::plain_tree::{kind_of, node};
 use crate::tree::{Links, Tree};
 use dist_types::fault::raise;
 use dist_types::text::Text;
@@ -50,4 +57,87 @@ impl MemTree {
             misnamed: 0,
         }
     }
+}
+
+/// One more call, which fails where it is listed.
+fn begin(fails: &[u64], calls: &mut u64, faults: &mut u64) -> Result<(), TreeFault>
+    ensures fails { is_err result ≡ is_listed fails.now calls.old }
+    ensures failed { IfErr result (λ e. e ≡ TreeFault.Failed) }
+    ensures calls { calls.new ≡ counted calls.old }
+    ensures counted { faults.new ≡ (if is_err result then counted faults.old else faults.old) }
+    ensures later { faults.old ≤ faults.new }
+{
+    let number = *calls;
+    *calls = calls.saturating_add(1);
+    let _ = *faults;
+    if fails.contains(&number) {
+        raise(faults);
+        return Err(TreeFault::Failed);
+    }
+    Ok(())
+}
+
+impl Links for MemTree {
+    ghost use Rattle.path_pkg.specs.Told.{Holds, Leaves};
+    ghost use Rattle.path_pkg.specs.Tree.{kind_at, target_at};
+    ghost use Rattle.path_pkg.specs.InMemory.{tree_told, tree_nodes, tree_fails, tree_misnames, tree_calls, kind_verdict, link_verdict, Answers};
+
+    ghost told = { tree_told };
+
+    /// Failed exactly where this call is listed.
+    fn kind(&mut self, path: &str) -> Result<Kind, TreeFault>
+        ensures kind { IfOk result (λ k. Holds (tree_told self.old) (λ t. k ≡ kind_at t path.now)) }
+        ensures leaves { Leaves result (tree_told self.old) (tree_told self.new) }
+
+        ensures exact { result ≡ kind_verdict self.old path.now }
+        ensures calls { tree_calls self.new ≡ counted (tree_calls self.old) }
+        ensures kept { (tree_nodes self.new ≡ tree_nodes self.old) × (tree_fails self.new ≡ tree_fails self.old) × (tree_misnames self.new ≡ tree_misnames self.old) }
+    {
+        begin(&self.fails, &mut self.calls, &mut self.faults)?;
+        Ok(kind_of(node(&self.nodes, path)))
+    }
+
+    /// Failed exactly where this call is listed or there is no link, and else NotUtf8 exactly where its path is listed.
+    fn read_link(&mut self, path: &str) -> Result<String, TreeFault>
+        ensures target { IfOk result (λ s. Holds (tree_told self.old) (λ t. string_bytes s ≡ target_at t path.now)) }
+        ensures leaves { Leaves result (tree_told self.old) (tree_told self.new) }
+
+        ensures exact { Answers string_bytes (link_verdict self.old path.now) result }
+        ensures calls { tree_calls self.new ≡ counted (tree_calls self.old) }
+        ensures kept { (tree_nodes self.new ≡ tree_nodes self.old) × (tree_fails self.new ≡ tree_fails self.old) × (tree_misnames self.new ≡ tree_misnames self.old) }
+    {
+        begin(&self.fails, &mut self.calls, &mut self.faults)?;
+        match link_target(node(&self.nodes, path)) {
+            None => {
+                raise(&mut self.faults);
+                Err(TreeFault::Failed)
+            }
+            Some(target) => {
+                if is_listed_path(&self.misnames, path) {
+                    raise(&mut self.misnamed);
+                    return Err(TreeFault::NotUtf8);
+                }
+                let copy = String::from_str(self.alloc, target)?;
+                Ok(copy)
+            }
+        }
+    }
+}
+
+fn link_target(node: Option<&Node>) -> Option<&str>
+    ensures { option_copied result ≡ link_of (option_copied node.entry) }
+{
+    match node {
+        None => None,
+        Some(Node::Dir) => None,
+        Some(Node::File(_)) => None,
+        Some(Node::Link(target)) => Some(target.get()),
+        Some(Node::Other) => None,
+    }
+}
+
+fn is_listed_path(paths: &[Text], path: &str) -> bool
+    ensures { result ≡ list_any (bytes_eq path.now) paths.now }
+{
+    paths.iter().any(|p| path == p.get())
 }
