@@ -5,11 +5,12 @@ ghost use Rattle.std.specs.Option.{option_copied};
 ghost use Rattle.std.specs.Str.{bytes_eq};
 ghost use Rattle.dist_types.specs.Cause.{counted};
 ghost use Rattle.dist_types.specs.InMemory.{is_listed};
-ghost use Rattle.path_pkg.specs.Tree.{link_of};
+ghost use Rattle.path_pkg.specs.Resolved.{is_within};
+ghost use Rattle.path_pkg.specs.Tree.{link_of, content_of};
 
 use crate::fault::TreeFault;
 use crate::node::{Kind, Node};
-use crate::plain_tree::{kind_of, node};
+use crate::plain_tree::{dir_prefix, is_within, kind_of, node, paths_below, target_node};
 use crate::tree::{Links, Tree};
 use dist_types::fault::raise;
 use dist_types::text::Text;
@@ -140,4 +141,85 @@ fn is_listed_path(paths: &[Text], path: &str) -> bool
     ensures { result ≡ list_any (bytes_eq path.now) paths.now }
 {
     paths.iter().any(|p| path == p.get())
+}
+
+fn content_of(node: Option<&Node>) -> Option<&[u8]>
+    ensures { option_copied result ≡ content_of (option_copied node.entry) }
+{
+    match node {
+        None => None,
+        Some(Node::Dir) => None,
+        Some(Node::File(bytes)) => Some(bytes.get()),
+        Some(Node::Link(_)) => None,
+        Some(Node::Other) => None,
+    }
+}
+
+fn has_path_below(prefix: &str, paths: &[Text]) -> bool
+    ensures { result ≡ list_any (is_within prefix.now) paths.now }
+{
+    paths.iter().any(|p| is_within(prefix, p.get()))
+}
+
+impl Tree for MemTree {
+    ghost use Rattle.std.specs.Prelude.{Some, map};
+    ghost use Rattle.path_pkg.specs.Told.{Holds, Leaves};
+    ghost use Rattle.path_pkg.specs.Resolved.{target_kind_at, content_at, paths_below};
+    ghost use Rattle.path_pkg.specs.InMemory.{tree_told, tree_nodes, tree_fails, tree_misnames, tree_calls, target_kind_verdict, read_verdict, walk_verdict, Answers};
+
+    /// Failed exactly where this call is listed.
+    fn target_kind(&mut self, path: &str) -> Result<Kind, TreeFault>
+        ensures kind { IfOk result (λ k. Holds (tree_told self.old) (λ t. k ≡ target_kind_at t path.now)) }
+        ensures leaves { Leaves result (tree_told self.old) (tree_told self.new) }
+
+        ensures exact { Answers (λ k. k) (target_kind_verdict self.old path.now) result }
+        ensures calls { tree_calls self.new ≡ counted (tree_calls self.old) }
+        ensures kept { (tree_nodes self.new ≡ tree_nodes self.old) × (tree_fails self.new ≡ tree_fails self.old) × (tree_misnames self.new ≡ tree_misnames self.old) }
+    {
+        begin(&self.fails, &mut self.calls, &mut self.faults)?;
+        let node = target_node(self.alloc, &self.nodes, path)?;
+        Ok(kind_of(node))
+    }
+
+    /// Failed exactly where this call is listed or the path leads to no file.
+    fn read(&mut self, path: &str) -> Result<Vec<u8>, TreeFault>
+        ensures content { IfOk result (λ v. Holds (tree_told self.old) (λ t. content_at t path.now ≡ Some v.items)) }
+        ensures leaves { Leaves result (tree_told self.old) (tree_told self.new) }
+
+        ensures exact { Answers (λ v. v.items) (read_verdict self.old path.now) result }
+        ensures calls { tree_calls self.new ≡ counted (tree_calls self.old) }
+        ensures kept { (tree_nodes self.new ≡ tree_nodes self.old) × (tree_fails self.new ≡ tree_fails self.old) × (tree_misnames self.new ≡ tree_misnames self.old) }
+    {
+        begin(&self.fails, &mut self.calls, &mut self.faults)?;
+        let node = target_node(self.alloc, &self.nodes, path)?;
+        match content_of(node) {
+            None => {
+                raise(&mut self.faults);
+                Err(TreeFault::Failed)
+            }
+            Some(bytes) => {
+                let copy = Vec::from_slice(self.alloc, bytes)?;
+                Ok(copy)
+            }
+        }
+    }
+
+    /// Failed exactly where this call is listed, and else NotUtf8 exactly where a listed path lies below.
+    fn walk(&mut self, path: &str) -> Result<Vec<String>, TreeFault>
+        ensures paths { IfOk result (λ v. Holds (tree_told self.old) (λ t. map string_bytes v.items ≡ paths_below t path.now)) }
+        ensures leaves { Leaves result (tree_told self.old) (tree_told self.new) }
+
+        ensures exact { Answers (λ v. map string_bytes v.items) (walk_verdict self.old path.now) result }
+        ensures calls { tree_calls self.new ≡ counted (tree_calls self.old) }
+        ensures kept { (tree_nodes self.new ≡ tree_nodes self.old) × (tree_fails self.new ≡ tree_fails self.old) × (tree_misnames self.new ≡ tree_misnames self.old) }
+    {
+        begin(&self.fails, &mut self.calls, &mut self.faults)?;
+        let prefix = dir_prefix(self.alloc, path)?;
+        if has_path_below(prefix.as_str(), &self.misnames) {
+            raise(&mut self.misnamed);
+            return Err(TreeFault::NotUtf8);
+        }
+        let paths = paths_below(self.alloc, &self.nodes, path)?;
+        Ok(paths)
+    }
 }
