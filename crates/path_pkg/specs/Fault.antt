@@ -21,6 +21,15 @@ is_decided Packs.NotUtf8 = false
 is_decided Packs.Memory = false
 is_decided _ = true
 
+-- whether making a path simple may be refused so
+abbrev pub is_simplify_error : PackError → Bool
+is_simplify_error Packs.LinkInParent = true
+is_simplify_error Packs.TooManyLinks = true
+is_simplify_error Packs.TreeFault = true
+is_simplify_error Packs.NotUtf8 = true
+is_simplify_error Packs.Memory = true
+is_simplify_error _ = false
+
 -- the answer, seen through a view, is the verdict, unless the outside failed or memory ran out
 abbrev pub Gives : {T U : Type 0} → (T → U) → Result U PackError → Result T PackError → Type 0
 Gives seen verdict (Ok x) = verdict ≡ Ok (seen x)

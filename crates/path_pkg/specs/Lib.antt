@@ -4,6 +4,7 @@ pub mod InMemory
 pub mod MapNodes
 pub mod Path
 pub mod Place
+pub mod Records
 pub mod Resolved
 pub mod Simplified
 pub mod Spot

@@ -10,5 +10,6 @@ pub mod node;
 pub mod path;
 pub mod place;
 mod plain_tree;
+pub mod record;
 pub mod simplify;
 pub mod tree;

@@ -1,6 +1,6 @@
 //! Paths made simple: without empty parts, `.` and `..`, and with recording without links.
 ghost use Rattle.std.specs.Prelude.{◌≡◌, ◌++◌, ◌∷◌, [], ℕ, true, false, IfOk, IfErr, OnOk, string_bytes};
-ghost use Rattle.path_pkg.specs.Fault.{is_decided, Gives, PackLeaves};
+ghost use Rattle.path_pkg.specs.Fault.{is_decided, is_simplify_error, Gives, PackLeaves};
 ghost use Rattle.path_pkg.specs.Path.{steps_of};
 ghost use Rattle.path_pkg.specs.Place.{spot_of};
 ghost use Rattle.path_pkg.specs.Simplified.{is_met, link_target, taken, simplified, plain_path};
@@ -21,10 +21,11 @@ use std::collections::VecDeque;
 /// The most links that are replaced on one path, those of their targets with them.
 pub const MAX_LINKS: u32 = 40;
 
-#[tactic(auto, using(crate::proofs::FaultLemmas::undecided, crate::proofs::FaultLemmas::pack_refused, crate::proofs::FaultLemmas::untouched))]
+#[tactic(auto, using(crate::proofs::FaultLemmas::undecided, crate::proofs::FaultLemmas::of_simplify, crate::proofs::FaultLemmas::pack_refused, crate::proofs::FaultLemmas::untouched))]
 fn is_link_at<T: Links>(alloc: Global, tree: &mut T, place: &Place) -> Result<bool, PackError>
     ensures link { IfOk result (λ b. Holds (T.told tree.old) (λ t. b ≡ is_link t (spot_text (spot_of place.now)))) }
     ensures decided { IfErr result (λ e. is_decided e ≡ false) }
+    ensures reasons { IfErr result (λ e. is_simplify_error e ≡ true) }
     ensures leaves { PackLeaves result (T.told tree.old) (T.told tree.new) }
 {
     let path = text(alloc, place)?;
@@ -43,6 +44,7 @@ fn is_link_at<T: Links>(alloc: Global, tree: &mut T, place: &Place) -> Result<bo
 fn go_up<T: Links>(alloc: Global, tree: &mut T, place: Place) -> Result<Place, PackError>
     ensures up { IfOk result (λ p. spot_of p ≡ above (spot_of place)) }
     ensures free { OnOk result (Holds (T.told tree.old) (λ t. is_link t (spot_text (spot_of place)) ≡ false)) }
+    ensures reasons { IfErr result (λ e. is_simplify_error e ≡ true) }
     ensures at_link { IfErr result (λ e. is_decided e ≡ true → (e ≡ PackError.LinkInParent) × Holds (T.told tree.old) (λ t. is_link t (spot_text (spot_of place)) ≡ true)) }
     ensures leaves { PackLeaves result (T.told tree.old) (T.told tree.new) }
 {
@@ -61,6 +63,7 @@ fn is_met<T: Links>(
 ) -> Result<bool, PackError>
     ensures met { IfOk result (λ b. Holds (T.told tree.old) (λ t. b ≡ is_met t recording (spot_of place.now))) }
     ensures decided { IfErr result (λ e. is_decided e ≡ false) }
+    ensures reasons { IfErr result (λ e. is_simplify_error e ≡ true) }
     ensures leaves { PackLeaves result (T.told tree.old) (T.told tree.new) }
 {
     if !recording {
@@ -70,7 +73,7 @@ fn is_met<T: Links>(
 }
 
 /// From the link where one is: the place that its target is taken from, the steps of the target, and then the others.
-#[tactic(auto, using(crate::proofs::FaultLemmas::undecided, crate::proofs::FaultLemmas::pack_refused, crate::proofs::FaultLemmas::untouched))]
+#[tactic(auto, using(crate::proofs::FaultLemmas::undecided, crate::proofs::FaultLemmas::of_simplify, crate::proofs::FaultLemmas::pack_refused, crate::proofs::FaultLemmas::untouched))]
 fn follow<T: Links>(
     alloc: Global,
     tree: &mut T,
@@ -80,6 +83,7 @@ fn follow<T: Links>(
     ensures place { IfOk result (λ r. Holds (T.told tree.old) (λ t. spot_of r.0 ≡ beside (above (spot_of place)) (link_target t (spot_of place)))) }
     ensures steps { IfOk result (λ r. Holds (T.told tree.old) (λ t. r.1.items ≡ steps_of (link_target t (spot_of place)) ++ Linked (spot_text (spot_of place)) ∷ others.items)) }
     ensures decided { IfErr result (λ e. is_decided e ≡ false) }
+    ensures reasons { IfErr result (λ e. is_simplify_error e ≡ true) }
     ensures leaves { PackLeaves result (T.told tree.old) (T.told tree.new) }
 {
     let mut others = others;
@@ -109,6 +113,7 @@ fn take<T: Links>(
     todo: VecDeque<Step>,
 ) -> Result<Place, PackError>
     ensures taken { Holds (T.told tree.old) (λ t. Gives spot_of (taken left t recording (spot_of place) todo.items) result) }
+    ensures reasons { IfErr result (λ e. is_simplify_error e ≡ true) }
     ensures leaves { PackLeaves result (T.told tree.old) (T.told tree.new) }
 {
     let mut place = place;
@@ -146,6 +151,7 @@ pub(crate) fn simplified<T: Links>(
     path: &str,
 ) -> Result<Place, PackError>
     ensures simplified { Holds (T.told tree.old) (λ t. Gives spot_of (simplified recording t path.now) result) }
+    ensures reasons { IfErr result (λ e. is_simplify_error e ≡ true) }
     ensures leaves { PackLeaves result (T.told tree.old) (T.told tree.new) }
 {
     let steps = steps_of(alloc, path)?;
@@ -169,6 +175,7 @@ pub fn simplify_path<T: Links>(
     path: &str,
 ) -> Result<String, PackError>
     ensures simplified { Holds (T.told tree.old) (λ t. Gives string_bytes (plain_path t path.now) result) }
+    ensures reasons { IfErr result (λ e. is_simplify_error e ≡ true) }
     ensures leaves { PackLeaves result (T.told tree.old) (T.told tree.new) }
 {
     match simplified(alloc, tree, false, path) {
