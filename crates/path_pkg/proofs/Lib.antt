@@ -4,3 +4,4 @@ pub mod FaultLemmas
 pub mod TakenLemmas
 pub mod NodeLemmas
 pub mod ResolvedLemmas
+pub mod FoundLemmas

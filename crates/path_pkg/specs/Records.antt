@@ -60,18 +60,20 @@ abbrev pub is_file_kind : Kind → Bool
 is_file_kind Kinds.File = true
 is_file_kind _ = false
 
--- what adding a directory adds
-unfoldable pub dir_records : Nodes → List ℕ → Result (List Record) PackError
-dir_records t path =
-    if is_absolute path
-    then (if is_dir_kind (target_kind_at t path) then then_checked Packs.Dir (simplified true t path) else Err NotDir)
-    else Err NotAbsolute
+-- whether this kind is the one that is to be packed
+abbrev pub is_wanted : Packed → Kind → Bool
+is_wanted Packs.Dir kind = is_dir_kind kind
+is_wanted Packs.File kind = is_file_kind kind
 
--- what adding a file adds
-unfoldable pub file_records : Nodes → List ℕ → Result (List Record) PackError
-file_records t path =
+abbrev pub unwanted : Packed → PackError
+unwanted Packs.Dir = NotDir
+unwanted Packs.File = NotFile
+
+-- what adding a directory or a file adds
+unfoldable pub added : Packed → Nodes → List ℕ → Result (List Record) PackError
+added what t path =
     if is_absolute path
-    then (if is_file_kind (target_kind_at t path) then then_checked Packs.File (simplified true t path) else Err NotFile)
+    then (if is_wanted what (target_kind_at t path) then then_checked what (simplified true t path) else Err (unwanted what))
     else Err NotAbsolute
 
 -- whether a path in a directory is packed: a file, or a link that leads to one
@@ -104,12 +106,15 @@ abbrev pub then_check : Result (List Record) PackError → Result (List Record) 
 then_check (Ok records) = checked records
 then_check (Err e) = Err e
 
+-- the links on a directory's way, and each file and each link to a file in it, unless one is too long
+unfoldable pub found_at : Nodes → Spot → Result (List Record) PackError
+found_at t s = then_check (onto (link_records s.links) (all_found t (paths_below t (spot_text s))))
+
 abbrev pub then_found : Nodes → Result Spot PackError → Result (List Record) PackError
-then_found t (Ok s) = then_check (onto (link_records s.links) (all_found t (paths_below t (spot_text s))))
+then_found t (Ok s) = found_at t s
 then_found t (Err e) = Err e
 
--- what adding the contents of a directory adds: the links on the directory's way, and each file and each link to a
--- file in it
+-- what adding the contents of a directory adds
 unfoldable pub contents_records : Nodes → List ℕ → Result (List Record) PackError
 contents_records t path =
     if is_absolute path

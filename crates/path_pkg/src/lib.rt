@@ -2,6 +2,7 @@
 //! packages of a tree's directories, files and links, written as a framed list.
 #![tactic(auto)]
 
+mod collect;
 pub mod fault;
 pub mod framed;
 pub mod laws;
