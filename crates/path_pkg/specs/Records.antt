@@ -1,5 +1,5 @@
 -- What a package is made of, and what each call adds to it.
-use Rattle.std.specs.Prelude.{ℕ, List, [], ◌∷◌, ◌++◌, map, length, Bool, true, false, ◌&&◌, ◌||◌, ◌==◌, nat_le, if◌then◌else◌, Result, Ok, Err}
+use Rattle.std.specs.Prelude.{◌≡◌, ℕ, List, [], ◌∷◌, ◌++◌, map, length, Bool, true, false, ◌&&◌, ◌||◌, ◌==◌, nat_le, if◌then◌else◌, Result, Ok, Err}
 use Rattle.std.specs.List.{list_all}
 use Rattle.path_pkg.specs.Told.{Nodes}
 use Rattle.path_pkg.specs.Path.{is_absolute, joined}
@@ -120,3 +120,7 @@ contents_records t path =
     if is_absolute path
     then (if is_dir_kind (target_kind_at t path) then then_found t (simplified true t path) else Err NotDir)
     else Err NotAbsolute
+
+-- no path of a record is longer than 65,535 bytes
+abbrev pub RecordsFit : List Record → Type 0
+RecordsFit records = list_all record_fits records ≡ true

@@ -8,6 +8,7 @@ pub mod framed;
 pub mod laws;
 pub mod mem_tree;
 pub mod node;
+pub mod package;
 pub mod path;
 pub mod place;
 mod plain_tree;
