@@ -5,3 +5,5 @@ pub mod TakenLemmas
 pub mod NodeLemmas
 pub mod ResolvedLemmas
 pub mod FoundLemmas
+pub mod WrittenLemmas
+pub mod FrameLemmas

@@ -10,3 +10,4 @@ pub mod Simplified
 pub mod Spot
 pub mod Told
 pub mod Tree
+pub mod Written

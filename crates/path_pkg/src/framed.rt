@@ -1,6 +1,7 @@
 //! Framed lists: the bytes of a record.
-ghost use Rattle.std.specs.Prelude.{◌≡◌, ◌++◌, ◌∷◌, ◌<◌, ◌^◌, length, OnOk};
-ghost use Rattle.path_pkg.specs.Framed.{path_bytes, content_bytes, frame_bytes};
+ghost use Rattle.std.specs.Prelude.{◌≡◌, ◌++◌, ◌∷◌, [], ◌<◌, ◌^◌, List, ℕ, length, IfOk, OnOk};
+ghost use Rattle.path_pkg.specs.Framed.{path_bytes, frame_bytes};
+ghost use Rattle.path_pkg.specs.Framed.Frame.{DirFrame, FileFrame, LinkFrame};
 
 use std::alloc::{AllocError, Global};
 
@@ -26,4 +27,42 @@ fn put_path(out: &mut Vec<u8>, path: &[u8]) -> Result<(), AllocError>
     out.extend_from_slice(&len.to_be_bytes())?;
     out.extend_from_slice(path)?;
     Ok(())
+}
+
+/// The record of a directory.
+pub(crate) fn dir_frame(alloc: Global, path: &[u8]) -> Result<Vec<u8>, AllocError>
+    requires { length path.now < 2 ^ 32 }
+    ensures { IfOk result (λ v. v.items ≡ frame_bytes (DirFrame path.now)) }
+{
+    let mut out = Vec::new(alloc);
+    out.push(DIRECTORY)?;
+    put_path(&mut out, path)?;
+    Ok(out)
+}
+
+/// The record of a link.
+pub(crate) fn link_frame(alloc: Global, path: &[u8], target: &[u8]) -> Result<Vec<u8>, AllocError>
+    requires path { length path.now < 2 ^ 32 }
+    requires target { length target.now < 2 ^ 32 }
+    ensures { IfOk result (λ v. v.items ≡ frame_bytes (LinkFrame path.now target.now)) }
+{
+    let mut out = Vec::new(alloc);
+    out.push(LINK)?;
+    put_path(&mut out, path)?;
+    put_path(&mut out, target)?;
+    Ok(out)
+}
+
+/// The record of a file, up to its content.
+#[tactic(auto, using(crate::proofs::FrameLemmas::file_frame))]
+pub(crate) fn file_head(alloc: Global, path: &[u8], content: &[u8]) -> Result<Vec<u8>, AllocError>
+    requires { length path.now < 2 ^ 32 }
+    ensures { IfOk result (λ v. v.items ++ content.now ≡ frame_bytes (FileFrame path.now content.now)) }
+{
+    let mut out = Vec::new(alloc);
+    out.push(FILE)?;
+    put_path(&mut out, path)?;
+    let len = content.len() as u64;
+    out.extend_from_slice(&len.to_be_bytes())?;
+    Ok(out)
 }

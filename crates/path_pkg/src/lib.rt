@@ -14,4 +14,5 @@ pub mod place;
 mod plain_tree;
 pub mod record;
 pub mod simplify;
+mod sorted;
 pub mod tree;
