@@ -1,5 +1,5 @@
 -- Writing one piece after another, and putting one entry after another.
-use Rattle.std.proofs.Common.{◌≡◌, ℕ, ◌+◌, ◌≤◌, List, [], ◌∷◌, ◌++◌, length, take, map, min, String, string_bytes, Option, Some, None, refl, sym, ap, ◌∙◌, append_assoc, arith}
+use Rattle.std.proofs.Common.{◌≡◌, ℕ, ◌+◌, ◌≤◌, List, [], ◌∷◌, ◌++◌, length, take, map, min, String, string_bytes, Option, Result, Ok, Err, refl, sym, ap, ◌∙◌, append_assoc, arith}
 use Rattle.std.specs.BTreeMap.{insert_entry}
 use Rattle.std.specs.Cmp.Lexicographic.{slice_cmp}
 use Rattle.std.specs.Ordering.{nat_cmp}
@@ -10,7 +10,12 @@ use Rattle.std.proofs.Math.Seq.{take-append-add}
 use Rattle.std.proofs.lemmas.List.{take-append-le, take_min}
 use Rattle.dist_types.specs.Content.{Added, Began}
 use Rattle.dist_types.proofs.Contents.{added_then, added_none}
-use Rattle.path_pkg.specs.Written.{texts_of, put}
+use Rattle.path_pkg.specs.Told.{Told, Refused, TreeCause}
+use Rattle.path_pkg.specs.Fault.{pack_error}
+use Rattle.path_pkg.specs.declared.fault.TreeFault.{TreeFault}
+use Rattle.path_pkg.specs.declared.fault.TreeFault.TheVariants.{Failed, NotUtf8, Memory}
+use Rattle.path_pkg.specs.Written.{texts_of, put, Puts, WriteCause}
+use Rattle.path_pkg.specs.declared.fault.PackError.{PackError}
 
 -- a front of the first piece is a front of both
 pub began_front : (a b : List ℕ) (o p : Option (List ℕ)) → Began a o p → Began (a ++ b) o p
@@ -27,6 +32,11 @@ began_after a b o p q h k = (length a + k.0, rw (take-append-add a b k.0) (added
 pub began_none : (a : List ℕ) (o : Option (List ℕ)) → Began a o o
 began_none a o = (0, added_none o)
 
+-- one piece after another
+pub puts_then : {T : Type 0} (r : Result T PackError) (a b : List ℕ) (o p q : Option (List ℕ)) → Added a o p → Puts r b p q → Puts r (a ++ b) o q
+puts_then (Ok x) a b o p q h k = added_then a b o p q h k
+puts_then (Err e) a b o p q h k = began_after a b o p q h k
+
 pub put_view : {A : Type 0} (es : List (String A × List ℕ)) (k : String A) (v : List ℕ) → texts_of (insert_entry string_cmp es k v) ≡ put (texts_of es) (string_bytes k, v)
 put_view [] k v = refl
 put_view (e ∷ es) k v = by_order (slice_cmp nat_cmp (string_bytes k) (string_bytes e.0)) refl (put_view es k v)
@@ -36,3 +46,13 @@ put_view (e ∷ es) k v = by_order (slice_cmp nat_cmp (string_bytes k) (string_b
     by_order Less h later = rw h refl
     by_order Equal h later = rw h refl
     by_order Greater h later = rw h (ap (λ l. (string_bytes e.0, e.1) ∷ l) later)
+
+-- what neither asks the tree nor writes leaves both as they were
+pub unwritten : (e : PackError) (told : Told) (f f2 : ℕ) → f ≤ f2 → WriteCause e f f2 told told → Refused (WriteCause e f f2) told told × (f ≤ f2)
+unwritten e told f f2 le h = (record { nodes = refl; faults = omega arith; misnamed = omega arith; caused = h }, le)
+
+-- a refusal of the tree, before anything was written
+pub unread : (f : TreeFault) (old new : Told) (n : ℕ) → Refused (TreeCause f) old new → Refused (WriteCause (pack_error f) n n) old new × (n ≤ n)
+unread Failed old new n h = (record { nodes = h.nodes; faults = h.faults; misnamed = h.misnamed; caused = h.caused }, omega arith)
+unread NotUtf8 old new n h = (record { nodes = h.nodes; faults = h.faults; misnamed = h.misnamed; caused = h.caused }, omega arith)
+unread Memory old new n h = (record { nodes = h.nodes; faults = h.faults; misnamed = h.misnamed; caused = tt }, omega arith)

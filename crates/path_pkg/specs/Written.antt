@@ -6,6 +6,7 @@ use Rattle.std.specs.BTreeMap.{insert_entry}
 use Rattle.std.specs.Cmp.Lexicographic.{slice_cmp}
 use Rattle.std.specs.Ordering.{nat_cmp}
 use Rattle.dist_types.specs.Cause.{Rose}
+use Rattle.dist_types.specs.Content.{Added, Began}
 use Rattle.path_pkg.specs.Told.{Told, Nodes, Refused}
 use Rattle.path_pkg.specs.Resolved.{content_at}
 use Rattle.path_pkg.specs.Fault.{PackCause}
@@ -80,6 +81,21 @@ WriteCause Packs.Memory f f2 old new = Unit {0}
 WriteCause _ f f2 old new = ⊥
 
 -- an answer leaves the tree and the sink's count as they were, and a refusal is a fault or want of memory and has its cause
-abbrev pub Writes : Result (Unit {0}) PackError → Told → Told → ℕ → ℕ → Type 0
+abbrev pub Writes : {T : Type 0} → Result T PackError → Told → Told → ℕ → ℕ → Type 0
 Writes (Ok x) old new f f2 = (new ≡ old) × (f2 ≡ f)
 Writes (Err e) old new f f2 = Refused (WriteCause e f f2) old new × (f ≤ f2)
+
+-- the text was written, or after a refusal a front of it
+abbrev pub Puts : {T : Type 0} → Result T PackError → List ℕ → Option (List ℕ) → Option (List ℕ) → Type 0
+Puts (Ok x) text old new = Added text old new
+Puts (Err e) text old new = Began text old new
+
+-- the bytes of the records of one kind
+abbrev pub group_bytes : Nodes → ℕ → List Entry → List ℕ
+group_bytes t rank [] = []
+group_bytes t rank (e ∷ es) = frame_bytes (frame_at t rank e) ++ group_bytes t rank es
+
+-- no path and no target is longer than 65,535 bytes
+abbrev pub EntriesFit : List Entry → Type 0
+EntriesFit [] = Unit {0}
+EntriesFit (e ∷ es) = (length e.0 ≤ 65535) × (length e.1 ≤ 65535) × EntriesFit es

@@ -16,3 +16,4 @@ pub mod record;
 pub mod simplify;
 mod sorted;
 pub mod tree;
+mod write;

@@ -1,0 +1,94 @@
+//! Writing a package.
+ghost use Rattle.std.specs.Prelude.{◌≡◌, ◌≤◌, ◌++◌, ◌∷◌, length, string_bytes, IfOk, IfErr, OnErr, OnOk};
+ghost use Rattle.dist_types.specs.Cause.{Rose};
+ghost use Rattle.path_pkg.specs.Framed.{frame_bytes};
+ghost use Rattle.path_pkg.specs.Framed.Frame.{FileFrame};
+ghost use Rattle.path_pkg.specs.Told.{Holds};
+ghost use Rattle.path_pkg.specs.Written.{content_in, frame_at, Puts, Writes};
+
+use crate::fault::PackError;
+use crate::framed::{dir_frame, file_head, link_frame};
+use crate::tree::{Links, Tree};
+use dist_types::sink::{Sink, write_all};
+use std::alloc::{AllocError, Global};
+
+fn write<W: Sink>(out: &mut W, bytes: &[u8]) -> Result<(), PackError>
+    ensures puts { Puts result bytes.now (W.held out.old) (W.held out.new) }
+    ensures err { IfErr result (λ e. e ≡ PackError.SinkFault) }
+    ensures steady { OnOk result (W.faults out.new ≡ W.faults out.old) }
+    ensures later { W.faults out.old ≤ W.faults out.new }
+    ensures cause { OnErr result (Rose (W.faults out.old) (W.faults out.new)) }
+{
+    match write_all(out, bytes) {
+        Ok(()) => Ok(()),
+        Err(_) => Err(PackError::SinkFault),
+    }
+}
+
+/// Writes one piece after another.
+#[tactic(auto, using(crate::proofs::WrittenLemmas::puts_then, crate::proofs::WrittenLemmas::began_front))]
+fn write_both<W: Sink>(out: &mut W, first: &[u8], second: &[u8]) -> Result<(), PackError>
+    ensures puts { Puts result (first.now ++ second.now) (W.held out.old) (W.held out.new) }
+    ensures err { IfErr result (λ e. e ≡ PackError.SinkFault) }
+    ensures steady { OnOk result (W.faults out.new ≡ W.faults out.old) }
+    ensures later { W.faults out.old ≤ W.faults out.new }
+    ensures cause { OnErr result (Rose (W.faults out.old) (W.faults out.new)) }
+{
+    match write(out, first) {
+        Ok(()) => write(out, second),
+        Err(fault) => Err(fault),
+    }
+}
+
+/// The path of what is packed under a path.
+fn rooted(alloc: Global, path: &str) -> Result<String, AllocError>
+    ensures { IfOk result (λ s. string_bytes s ≡ 47 ∷ path.now) }
+{
+    let mut rooted = String::from_str(alloc, "/")?;
+    rooted.push_str(path)?;
+    Ok(rooted)
+}
+
+/// Reads a file and writes its record.
+#[tactic(auto, using(crate::proofs::WrittenLemmas::began_none, crate::proofs::WrittenLemmas::unwritten, crate::proofs::WrittenLemmas::unread))]
+fn write_file<T: Tree, W: Sink>(
+    alloc: Global,
+    tree: &mut T,
+    out: &mut W,
+    path: &str,
+) -> Result<(), PackError>
+    requires { length path.now ≤ 65535 }
+    ensures puts { Holds (T.told tree.old) (λ t. Puts result (frame_bytes (FileFrame path.now (content_in t path.now))) (W.held out.old) (W.held out.new)) }
+    ensures writes { Writes result (T.told tree.old) (T.told tree.new) (W.faults out.old) (W.faults out.new) }
+{
+    let rooted = rooted(alloc, path)?;
+    let content = tree.read(rooted.as_str())?;
+    let head = file_head(alloc, path.as_bytes(), &content)?;
+    write_both(out, &head, &content)
+}
+
+/// Writes the record of one entry.
+#[tactic(auto, using(crate::proofs::WrittenLemmas::began_none, crate::proofs::WrittenLemmas::unwritten))]
+fn write_frame<T: Tree, W: Sink>(
+    alloc: Global,
+    tree: &mut T,
+    out: &mut W,
+    rank: u8,
+    path: &str,
+    target: &str,
+) -> Result<(), PackError>
+    requires path { length path.now ≤ 65535 }
+    requires target { length target.now ≤ 65535 }
+    ensures puts { Holds (T.told tree.old) (λ t. Puts result (frame_bytes (frame_at t rank (path.now, target.now))) (W.held out.old) (W.held out.new)) }
+    ensures writes { Writes result (T.told tree.old) (T.told tree.new) (W.faults out.old) (W.faults out.new) }
+{
+    if rank == 0 {
+        let frame = dir_frame(alloc, path.as_bytes())?;
+        return write(out, &frame);
+    }
+    if rank == 1 {
+        return write_file(alloc, tree, out, path);
+    }
+    let frame = link_frame(alloc, path.as_bytes(), target.as_bytes())?;
+    write(out, &frame)
+}
