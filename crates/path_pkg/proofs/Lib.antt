@@ -7,3 +7,4 @@ pub mod ResolvedLemmas
 pub mod FoundLemmas
 pub mod WrittenLemmas
 pub mod FrameLemmas
+pub mod GroupLemmas

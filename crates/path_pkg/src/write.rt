@@ -4,10 +4,11 @@ ghost use Rattle.dist_types.specs.Cause.{Rose};
 ghost use Rattle.path_pkg.specs.Framed.{frame_bytes};
 ghost use Rattle.path_pkg.specs.Framed.Frame.{FileFrame};
 ghost use Rattle.path_pkg.specs.Told.{Holds};
-ghost use Rattle.path_pkg.specs.Written.{content_in, frame_at, Puts, Writes};
+ghost use Rattle.path_pkg.specs.Written.{content_in, frame_at, texts_of, group_bytes, EntriesFit, Puts, Writes};
 
 use crate::fault::PackError;
 use crate::framed::{dir_frame, file_head, link_frame};
+use crate::sorted::Entries;
 use crate::tree::{Links, Tree};
 use dist_types::sink::{Sink, write_all};
 use std::alloc::{AllocError, Global};
@@ -91,4 +92,26 @@ fn write_frame<T: Tree, W: Sink>(
     }
     let frame = link_frame(alloc, path.as_bytes(), target.as_bytes())?;
     write(out, &frame)
+}
+
+/// Writes the records of one kind.
+#[tactic(auto, using(crate::proofs::WrittenLemmas::began_none, crate::proofs::WrittenLemmas::unwritten))]
+fn write_group<T: Tree, W: Sink>(
+    alloc: Global,
+    tree: &mut T,
+    out: &mut W,
+    rank: u8,
+    entries: &Entries,
+) -> Result<(), PackError>
+    requires { EntriesFit (texts_of entries.now.entries) }
+    ensures puts { Holds (T.told tree.old) (λ t. Puts result (group_bytes t rank (texts_of entries.now.entries)) (W.held out.old) (W.held out.new)) }
+    ensures writes { Writes result (T.told tree.old) (T.told tree.new) (W.faults out.old) (W.faults out.new) }
+{
+    for (path, target) in entries {
+        match write_frame(alloc, tree, out, rank, path.as_str(), target.get()) {
+            Ok(()) => {}
+            Err(fault) => return Err(fault),
+        }
+    }
+    Ok(())
 }
