@@ -8,3 +8,4 @@ pub mod FoundLemmas
 pub mod WrittenLemmas
 pub mod FrameLemmas
 pub mod GroupLemmas
+pub mod FitLemmas

@@ -1,7 +1,8 @@
 //! The records of a package in the order in which they are written.
 ghost use Rattle.std.specs.Prelude.{◌≡◌, IfOk, OnOk};
 ghost use Rattle.std.specs.Option.{option_to_list};
-ghost use Rattle.path_pkg.specs.Written.{texts_of, put, put_all, rank_of, entry_of, in_rank, sorted};
+ghost use Rattle.path_pkg.specs.Written.{texts_of, put, put_all, rank_of, entry_of, in_rank, sorted, EntriesFit};
+ghost use Rattle.path_pkg.specs.Records.{RecordsFit};
 
 use crate::record::Record;
 use dist_types::text::Text;
@@ -68,12 +69,22 @@ fn put_ranked(alloc: Global, entries: &mut Entries, rank: u8, r: &Record) -> Res
 
 /// The records of one kind: by path in byte order, of each path the last.
 #[tactic(auto, unfolding(crate::specs::Written::sorted))]
-pub(crate) fn sorted(alloc: Global, records: &[Record], rank: u8) -> Result<Entries, AllocError>
+fn in_order(alloc: Global, records: &[Record], rank: u8) -> Result<Entries, AllocError>
     ensures { IfOk result (λ m. texts_of m.entries ≡ sorted rank records.now) }
 {
     let mut entries = BTreeMap::new(alloc);
     for r in records {
         put_ranked(alloc, &mut entries, rank, r)?;
     }
+    Ok(entries)
+}
+
+/// The same, where the records fit.
+pub(crate) fn sorted(alloc: Global, records: &[Record], rank: u8) -> Result<Entries, AllocError>
+    requires { RecordsFit records.now }
+    ensures sorted { IfOk result (λ m. texts_of m.entries ≡ sorted rank records.now) }
+    ensures fit { IfOk result (λ m. EntriesFit (texts_of m.entries)) }
+{
+    let entries = in_order(alloc, records, rank)?;
     Ok(entries)
 }

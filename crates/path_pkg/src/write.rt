@@ -1,5 +1,5 @@
 //! Writing a package.
-ghost use Rattle.std.specs.Prelude.{◌≡◌, ◌≤◌, ◌++◌, ◌∷◌, length, string_bytes, IfOk, IfErr, OnErr, OnOk};
+ghost use Rattle.std.specs.Prelude.{◌≡◌, ◌≤◌, ◌++◌, ◌∷◌, [], length, string_bytes, IfOk, IfErr, OnErr, OnOk};
 ghost use Rattle.dist_types.specs.Cause.{Rose};
 ghost use Rattle.path_pkg.specs.Framed.{frame_bytes};
 ghost use Rattle.path_pkg.specs.Framed.Frame.{FileFrame};
@@ -7,7 +7,7 @@ ghost use Rattle.path_pkg.specs.Told.{Holds};
 ghost use Rattle.path_pkg.specs.Written.{content_in, frame_at, texts_of, group_bytes, EntriesFit, Puts, Writes};
 
 use crate::fault::PackError;
-use crate::framed::{dir_frame, file_head, link_frame};
+use crate::framed::{END, dir_frame, file_head, link_frame};
 use crate::sorted::Entries;
 use crate::tree::{Links, Tree};
 use dist_types::sink::{Sink, write_all};
@@ -114,4 +114,22 @@ fn write_group<T: Tree, W: Sink>(
         }
     }
     Ok(())
+}
+
+/// Writes the links and the byte at the end.
+#[tactic(auto, using(crate::proofs::WrittenLemmas::puts_then, crate::proofs::WrittenLemmas::began_front))]
+fn write_links<T: Tree, W: Sink>(
+    alloc: Global,
+    tree: &mut T,
+    out: &mut W,
+    links: &Entries,
+) -> Result<(), PackError>
+    requires { EntriesFit (texts_of links.now.entries) }
+    ensures puts { Holds (T.told tree.old) (λ t. Puts result (group_bytes t 2 (texts_of links.now.entries) ++ 69 ∷ []) (W.held out.old) (W.held out.new)) }
+    ensures writes { Writes result (T.told tree.old) (T.told tree.new) (W.faults out.old) (W.faults out.new) }
+{
+    match write_group(alloc, tree, out, 2, links) {
+        Ok(()) => write(out, &[END]),
+        Err(fault) => Err(fault),
+    }
 }
