@@ -10,4 +10,5 @@ pub mod Simplified
 pub mod Spot
 pub mod Told
 pub mod Tree
+pub mod Unix
 pub mod Written

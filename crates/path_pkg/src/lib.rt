@@ -16,4 +16,5 @@ pub mod record;
 pub mod simplify;
 mod sorted;
 pub mod tree;
+pub mod unix;
 mod write;

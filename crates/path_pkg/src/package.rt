@@ -5,12 +5,15 @@ ghost use Rattle.path_pkg.specs.Fault.{Gives, PackLeaves};
 ghost use Rattle.path_pkg.specs.Path.{is_absolute};
 ghost use Rattle.path_pkg.specs.Records.{record_fits, onto, added, contents_records};
 ghost use Rattle.path_pkg.specs.Told.{Holds};
+ghost use Rattle.path_pkg.specs.Written.{framed, Puts, Writes};
 ghost use Rattle.path_pkg.specs.declared.record.Packed.TheVariants.{Dir, File};
 
 use crate::collect::{added, contents};
 use crate::fault::PackError;
 use crate::record::{Packed, Record};
-use crate::tree::Tree;
+use crate::tree::{Links, Tree};
+use crate::write::write_package;
+use dist_types::sink::Sink;
 use std::alloc::{AllocError, Global};
 use std::marker::Model;
 
@@ -103,6 +106,21 @@ impl ToolchainPackageBuilder {
             }
             Err(fault) => Err(fault),
         }
+    }
+
+    /// Writes the package as a framed list: its directories, then its files, then its links, each by path in byte
+    /// order, of each path the last. TreeFault, NotUtf8 and SinkFault come only where a count rose. After a refusal a
+    /// front of the list was written.
+    pub fn into_framed_list<T: Tree, W: Sink>(
+        self,
+        tree: &mut T,
+        out: &mut W,
+    ) -> Result<(), PackError>
+        ensures puts { Holds (T.told tree.old) (λ t. Puts result (framed t self) (W.held out.old) (W.held out.new)) }
+        ensures writes { Writes result (T.told tree.old) (T.told tree.new) (W.faults out.old) (W.faults out.new) }
+    {
+        let alloc = self.alloc;
+        write_package(alloc, tree, out, &self.records)
     }
 }
 

@@ -4,11 +4,13 @@ ghost use Rattle.dist_types.specs.Cause.{Rose};
 ghost use Rattle.path_pkg.specs.Framed.{frame_bytes};
 ghost use Rattle.path_pkg.specs.Framed.Frame.{FileFrame};
 ghost use Rattle.path_pkg.specs.Told.{Holds};
-ghost use Rattle.path_pkg.specs.Written.{content_in, frame_at, texts_of, group_bytes, EntriesFit, Puts, Writes};
+ghost use Rattle.path_pkg.specs.Written.{content_in, frame_at, texts_of, group_bytes, framed, EntriesFit, Puts, Writes};
+ghost use Rattle.path_pkg.specs.Records.{RecordsFit};
 
 use crate::fault::PackError;
 use crate::framed::{END, dir_frame, file_head, link_frame};
-use crate::sorted::Entries;
+use crate::record::Record;
+use crate::sorted::{Entries, sorted};
 use crate::tree::{Links, Tree};
 use dist_types::sink::{Sink, write_all};
 use std::alloc::{AllocError, Global};
@@ -132,4 +134,64 @@ fn write_links<T: Tree, W: Sink>(
         Ok(()) => write(out, &[END]),
         Err(fault) => Err(fault),
     }
+}
+
+/// Writes the files, the links and the byte at the end.
+#[tactic(auto, using(crate::proofs::WrittenLemmas::puts_then, crate::proofs::WrittenLemmas::began_front))]
+fn write_files<T: Tree, W: Sink>(
+    alloc: Global,
+    tree: &mut T,
+    out: &mut W,
+    files: &Entries,
+    links: &Entries,
+) -> Result<(), PackError>
+    requires files { EntriesFit (texts_of files.now.entries) }
+    requires links { EntriesFit (texts_of links.now.entries) }
+    ensures puts { Holds (T.told tree.old) (λ t. Puts result (group_bytes t 1 (texts_of files.now.entries) ++ (group_bytes t 2 (texts_of links.now.entries) ++ 69 ∷ [])) (W.held out.old) (W.held out.new)) }
+    ensures writes { Writes result (T.told tree.old) (T.told tree.new) (W.faults out.old) (W.faults out.new) }
+{
+    match write_group(alloc, tree, out, 1, files) {
+        Ok(()) => write_links(alloc, tree, out, links),
+        Err(fault) => Err(fault),
+    }
+}
+
+/// Writes the directories, the files, the links and the byte at the end.
+#[tactic(auto, using(crate::proofs::WrittenLemmas::puts_then, crate::proofs::WrittenLemmas::began_front))]
+fn write_entries<T: Tree, W: Sink>(
+    alloc: Global,
+    tree: &mut T,
+    out: &mut W,
+    dirs: &Entries,
+    files: &Entries,
+    links: &Entries,
+) -> Result<(), PackError>
+    requires dirs { EntriesFit (texts_of dirs.now.entries) }
+    requires files { EntriesFit (texts_of files.now.entries) }
+    requires links { EntriesFit (texts_of links.now.entries) }
+    ensures puts { Holds (T.told tree.old) (λ t. Puts result (group_bytes t 0 (texts_of dirs.now.entries) ++ (group_bytes t 1 (texts_of files.now.entries) ++ (group_bytes t 2 (texts_of links.now.entries) ++ 69 ∷ []))) (W.held out.old) (W.held out.new)) }
+    ensures writes { Writes result (T.told tree.old) (T.told tree.new) (W.faults out.old) (W.faults out.new) }
+{
+    match write_group(alloc, tree, out, 0, dirs) {
+        Ok(()) => write_files(alloc, tree, out, files, links),
+        Err(fault) => Err(fault),
+    }
+}
+
+/// Writes the framed list of a package.
+#[tactic(auto, using(crate::proofs::WrittenLemmas::began_none, crate::proofs::WrittenLemmas::unwritten))]
+pub(crate) fn write_package<T: Tree, W: Sink>(
+    alloc: Global,
+    tree: &mut T,
+    out: &mut W,
+    records: &[Record],
+) -> Result<(), PackError>
+    requires { RecordsFit records.now }
+    ensures puts { Holds (T.told tree.old) (λ t. Puts result (framed t records.now) (W.held out.old) (W.held out.new)) }
+    ensures writes { Writes result (T.told tree.old) (T.told tree.new) (W.faults out.old) (W.faults out.new) }
+{
+    let dirs = sorted(alloc, records, 0)?;
+    let files = sorted(alloc, records, 1)?;
+    let links = sorted(alloc, records, 2)?;
+    write_entries(alloc, tree, out, &dirs, &files, &links)
 }
