@@ -11,4 +11,5 @@ pub mod Spot
 pub mod Told
 pub mod Tree
 pub mod Unix
+pub mod Windows
 pub mod Written

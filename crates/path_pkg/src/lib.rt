@@ -17,4 +17,5 @@ pub mod simplify;
 mod sorted;
 pub mod tree;
 pub mod unix;
+mod win_path;
 mod write;
