@@ -69,7 +69,7 @@ pub(crate) fn steps_of(alloc: Global, path: &str) -> Result<VecDeque<Step>, Allo
     Ok(steps)
 }
 
-fn push_joined(out: &mut String, parts: &[Text]) -> Result<(), AllocError>
+pub(crate) fn push_joined(out: &mut String, parts: &[Text]) -> Result<(), AllocError>
     ensures { OnOk result (string_bytes out.new ≡ string_bytes out.old ++ flat_map (λ p. 47 ∷ p) parts.now) }
 {
     for part in parts {

@@ -1,10 +1,13 @@
 //! The text that a path of Windows is sent as.
-ghost use Rattle.std.specs.Prelude.{◌≡◌, ◌++◌, ◌∷◌, [], slice_index, map, filter, IfOk, OnOk, not, ◌==◌, ◌&&◌, string_bytes};
+ghost use Rattle.std.specs.Prelude.{◌≡◌, ◌++◌, ◌∷◌, [], slice_index, drop, ◌<◌, ◌+◌, true, filter, IfOk, OnOk, not, ◌==◌, ◌&&◌, string_bytes};
 ghost use Rattle.std.specs.List.{slice_split, flat_map};
 ghost use Rattle.std.specs.Option.{option_map};
-ghost use Rattle.path_pkg.specs.Windows.{is_separator, is_plain, is_verbatim, is_barred, is_full, parts_of, verbatim_parts, without_dots, after_first, on_disk, abs_text, any_text};
+ghost use Rattle.std.specs.Str.{bytes_eq};
+ghost use Rattle.path_pkg.specs.Windows.{is_separator, is_plain, is_verbatim, is_barred, is_full, parts_of, verbatim_parts, without_dots, after_first, disk_text, on_disk, abs_text, any_text};
+ghost use Rattle.path_pkg.specs.Path.{joined};
+ghost use Rattle.std.specs.Char.{is_ascii_alphabetic};
 
-use crate::path::path_text;
+use crate::path::{path_text, push_joined};
 use dist_types::text::Text;
 use std::alloc::{AllocError, Global};
 
@@ -49,4 +52,109 @@ fn is_barred(path: &[u8]) -> bool
     ensures { result ≡ is_barred path.now }
 {
     is_separator(byte(path, 0)) || (byte(path, 0).is_ascii_alphabetic() && byte(path, 1) == b':')
+}
+
+/// What follows the byte at a place, or nothing past the end.
+fn after(text: &str, i: usize) -> &str
+    requires { slice_index text.now i < 128 }
+    ensures { result.now ≡ drop (i + 1) text.now }
+{
+    if i >= text.len() {
+        return "";
+    }
+    &text[i + 1..]
+}
+
+fn push_full(alloc: Global, parts: &mut Vec<Text>, piece: &str) -> Result<(), AllocError>
+    ensures { OnOk result (parts.new.items ≡ parts.old.items ++ filter is_full (piece.now ∷ [])) }
+{
+    if piece == "" {
+        return Ok(());
+    }
+    let part = Text::of(alloc, piece)?;
+    parts.push(part)?;
+    Ok(())
+}
+
+/// Adds the parts of a text that is cut at a byte, without the empty ones.
+fn push_cut(alloc: Global, parts: &mut Vec<Text>, text: &str, at: char) -> Result<(), AllocError>
+    requires { at < 128 }
+    ensures { OnOk result (parts.new.items ≡ parts.old.items ++ filter is_full (slice_split (λ b. b == at) text.now)) }
+{
+    for piece in text.split(at) {
+        push_full(alloc, parts, piece)?;
+    }
+    Ok(())
+}
+
+/// The parts between each two `\`, without the empty ones.
+fn verbatim_parts(alloc: Global, path: &str) -> Result<Vec<Text>, AllocError>
+    ensures { IfOk result (λ v. v.items ≡ verbatim_parts path.now) }
+{
+    let mut parts = Vec::new(alloc);
+    push_cut(alloc, &mut parts, path, '\\')?;
+    Ok(parts)
+}
+
+/// The parts between each two separators, without the empty ones.
+fn parts_of(alloc: Global, path: &str) -> Result<Vec<Text>, AllocError>
+    ensures { IfOk result (λ v. v.items ≡ parts_of path.now) }
+{
+    let mut parts = Vec::new(alloc);
+    for piece in path.split('\\') {
+        push_cut(alloc, &mut parts, piece, '/')?;
+    }
+    Ok(parts)
+}
+
+fn is_dot(part: &Text) -> bool
+    ensures { result ≡ bytes_eq part.now (46 ∷ []) }
+{
+    part.get() == "."
+}
+
+/// The parts without each `.`.
+fn without_dots(parts: Vec<Text>) -> Vec<Text>
+    ensures { result.items ≡ without_dots parts.items }
+{
+    let mut parts = parts;
+    parts.retain(|part| !is_dot(part));
+    parts
+}
+
+/// The parts without each `.` but one that leads, joined by `/`.
+fn relative_text(alloc: Global, parts: Vec<Text>) -> Result<String, AllocError>
+    ensures { IfOk result (λ s. string_bytes s ≡ joined (after_first parts.items)) }
+{
+    let mut parts = parts;
+    if parts.is_empty() {
+        return Ok(String::new(alloc));
+    }
+    let first = parts.remove(0);
+    let others = without_dots(parts);
+    let mut out = first.into_inner();
+    push_joined(&mut out, &others)?;
+    Ok(out)
+}
+
+/// The text of a path on a disk.
+fn disk_path(alloc: Global, letter: u8, parts: &[Text]) -> Result<String, AllocError>
+    requires { is_ascii_alphabetic letter ≡ true }
+    ensures { IfOk result (λ s. string_bytes s ≡ on_disk letter parts.now) }
+{
+    let mut out = disk_text(alloc, letter.to_ascii_uppercase())?;
+    out.push_str("/")?;
+    let rest = path_text(alloc, false, parts)?;
+    out.push_str(rest.as_str())?;
+    Ok(out)
+}
+
+/// The text of a disk in the other system.
+pub(crate) fn disk_text(alloc: Global, letter: u8) -> Result<String, AllocError>
+    requires { letter < 128 }
+    ensures { IfOk result (λ s. string_bytes s ≡ disk_text letter) }
+{
+    let mut out = String::from_str(alloc, "/prefix/disk-")?;
+    out.push(char::from(letter))?;
+    Ok(out)
 }
