@@ -9,3 +9,5 @@ pub mod WrittenLemmas
 pub mod FrameLemmas
 pub mod GroupLemmas
 pub mod FitLemmas
+pub mod WindowsLemmas
+pub mod LastLemmas

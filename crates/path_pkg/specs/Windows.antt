@@ -1,5 +1,5 @@
 -- Paths of Windows, as they are sent.
-use Rattle.std.specs.Prelude.{◌≡◌, ℕ, ◌+◌, List, [], ◌∷◌, ◌++◌, map, filter, length, drop, slice_index, codes, Bool, true, false, not, ◌&&◌, ◌||◌, ◌==◌, nat_le, if◌then◌else◌, Option, Some, None}
+use Rattle.std.specs.Prelude.{◌≡◌, ℕ, ◌+◌, List, [], ◌∷◌, ◌++◌, map, filter, length, drop, slice_index, codes, Bool, true, false, not, ◌&&◌, ◌||◌, ◌==◌, nat_le, if◌then◌else◌, Option, Some, None, String, string_bytes}
 use Rattle.std.specs.List.{slice_split, flat_map, list_any}
 use Rattle.std.specs.Map.{lookup}
 use Rattle.std.specs.Char.{is_ascii_alphabetic, to_ascii_uppercase}
@@ -95,8 +95,37 @@ is_on_verbatim letter path = is_verbatim path && to_ascii_uppercase (slice_index
 abbrev pub letters : List ℕ
 letters = codes "ABCDEFGHIJKLMNOPQRSTUVWXYZ"
 
--- the disks of the paths that were mapped, each once, by letter: the plain ones and then the verbatim ones
+-- the plain disks of the paths that were mapped, each once, by letter
+abbrev pub plain_mappings : List Entry → List ℕ → List Entry
+plain_mappings mapped [] = []
+plain_mappings mapped (x ∷ xs) =
+    (if list_any (λ e. is_on_plain x e.1) mapped then (x ∷ 58 ∷ [], disk_text x) ∷ [] else []) ++ plain_mappings mapped xs
+
+-- the verbatim disks of the paths that were mapped, each once, by letter
+abbrev pub verbatim_mappings : List Entry → List ℕ → List Entry
+verbatim_mappings mapped [] = []
+verbatim_mappings mapped (x ∷ xs) =
+    (if list_any (λ e. is_on_verbatim x e.1) mapped then (92 ∷ 92 ∷ 63 ∷ 92 ∷ x ∷ 58 ∷ [], disk_text x) ∷ [] else []) ++ verbatim_mappings mapped xs
+
+-- the disks of the paths that were mapped, each with its text: the plain ones and then the verbatim ones
 abbrev pub mappings : List Entry → List Entry
-mappings mapped =
-    map (λ x. (x ∷ 58 ∷ [], disk_text x)) (filter (λ x. list_any (λ e. is_on_plain x e.1) mapped) letters)
-    ++ map (λ x. (codes "\\\\?\\" ++ x ∷ 58 ∷ [], disk_text x)) (filter (λ x. list_any (λ e. is_on_verbatim x e.1) mapped) letters)
+mappings mapped = plain_mappings mapped letters ++ verbatim_mappings mapped letters
+
+-- pairs of strings as pairs of texts
+abbrev pub pairs_of : {A B : Type 0} → List (String A × String B) → List Entry
+pairs_of pairs = map (λ p. (string_bytes p.0, string_bytes p.1)) pairs
+
+-- what was mapped, after paths with the texts that they are sent as, one after another
+abbrev pub mapped_all : List Entry → List (List ℕ × Option (List ℕ)) → List Entry
+mapped_all mapped [] = mapped
+mapped_all mapped (m ∷ ms) = mapped_all (mapped_with mapped m.0 m.1) ms
+
+-- whether a path is sent as this text
+abbrev pub is_sent_as : List ℕ → Option (List ℕ) → Bool
+is_sent_as text None = false
+is_sent_as text (Some sent) = bytes_eq text sent
+
+-- the last of the paths that is sent as this text, if one is, and else the one before them
+abbrev pub last_sent_as : List ℕ → Option (List ℕ) → List (List ℕ × Option (List ℕ)) → Option (List ℕ)
+last_sent_as text before [] = before
+last_sent_as text before (m ∷ ms) = last_sent_as text (if is_sent_as text m.1 then Some m.0 else before) ms

@@ -18,4 +18,5 @@ mod sorted;
 pub mod tree;
 pub mod unix;
 mod win_path;
+pub mod windows;
 mod write;

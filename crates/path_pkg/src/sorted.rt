@@ -1,5 +1,5 @@
 //! The records of a package in the order in which they are written.
-ghost use Rattle.std.specs.Prelude.{◌≡◌, IfOk, OnOk};
+ghost use Rattle.std.specs.Prelude.{◌≡◌, IfOk, OnOk, OnErr};
 ghost use Rattle.std.specs.Option.{option_to_list};
 ghost use Rattle.path_pkg.specs.Written.{texts_of, put, put_all, rank_of, entry_of, in_rank, sorted, EntriesFit};
 ghost use Rattle.path_pkg.specs.Records.{RecordsFit};
@@ -49,7 +49,8 @@ pub(crate) fn put(
     path: &str,
     target: &str,
 ) -> Result<(), AllocError>
-    ensures { OnOk result (texts_of entries.new.entries ≡ put (texts_of entries.old.entries) (path.now, target.now)) }
+    ensures put { OnOk result (texts_of entries.new.entries ≡ put (texts_of entries.old.entries) (path.now, target.now)) }
+    ensures same { OnErr result (texts_of entries.new.entries ≡ texts_of entries.old.entries) }
 {
     let key = String::from_str(alloc, path)?;
     let value = Text::of(alloc, target)?;

@@ -158,3 +158,53 @@ pub(crate) fn disk_text(alloc: Global, letter: u8) -> Result<String, AllocError>
     out.push(char::from(letter))?;
     Ok(out)
 }
+
+fn verbatim_text(alloc: Global, path: &str) -> Result<String, AllocError>
+    requires { is_verbatim path.now ≡ true }
+    ensures { IfOk result (λ s. string_bytes s ≡ on_disk (slice_index path.now 4) (verbatim_parts (drop 7 path.now))) }
+{
+    let parts = verbatim_parts(alloc, after(path, 6))?;
+    let text = disk_path(alloc, byte(path.as_bytes(), 4), &parts)?;
+    Ok(text)
+}
+
+fn plain_text(alloc: Global, path: &str) -> Result<String, AllocError>
+    requires { is_plain path.now ≡ true }
+    ensures { IfOk result (λ s. string_bytes s ≡ on_disk (slice_index path.now 0) (without_dots (parts_of (drop 3 path.now)))) }
+{
+    let parts = without_dots(parts_of(alloc, after(path, 2))?);
+    let text = disk_path(alloc, byte(path.as_bytes(), 0), &parts)?;
+    Ok(text)
+}
+
+/// The text that a path on a disk is sent as, and None for every other path.
+#[tactic(auto, unfolding(crate::specs::Windows::abs_text))]
+pub(crate) fn abs_text(alloc: Global, path: &str) -> Result<Option<String>, AllocError>
+    ensures { IfOk result (λ o. option_map string_bytes o ≡ abs_text path.now) }
+{
+    if is_verbatim(path.as_bytes()) {
+        let text = verbatim_text(alloc, path)?;
+        return Ok(Some(text));
+    }
+    if is_plain(path.as_bytes()) {
+        let text = plain_text(alloc, path)?;
+        return Ok(Some(text));
+    }
+    Ok(None)
+}
+
+/// The text that a path is sent as.
+#[tactic(auto, unfolding(crate::specs::Windows::any_text))]
+pub(crate) fn any_text(alloc: Global, path: &str) -> Result<Option<String>, AllocError>
+    ensures { IfOk result (λ o. option_map string_bytes o ≡ any_text path.now) }
+{
+    if is_verbatim(path.as_bytes()) || is_plain(path.as_bytes()) {
+        return abs_text(alloc, path);
+    }
+    if is_barred(path.as_bytes()) {
+        return Ok(None);
+    }
+    let parts = parts_of(alloc, path)?;
+    let text = relative_text(alloc, parts)?;
+    Ok(Some(text))
+}
