@@ -1,3 +1,4 @@
+pub mod Append
 pub mod Fault
 pub mod Framed
 pub mod InMemory

@@ -1,5 +1,5 @@
 -- Paths of Windows, as they are sent.
-use Rattle.std.specs.Prelude.{◌≡◌, ℕ, ◌+◌, List, [], ◌∷◌, ◌++◌, map, filter, length, drop, slice_index, codes, Bool, true, false, not, ◌&&◌, ◌||◌, ◌==◌, nat_le, if◌then◌else◌, Option, Some, None, String, string_bytes}
+use Rattle.std.specs.Prelude.{◌≡◌, ℕ, zero, suc, ◌+◌, List, [], ◌∷◌, ◌++◌, map, filter, length, drop, slice_index, codes, Bool, true, false, not, ◌&&◌, ◌||◌, ◌==◌, nat_le, if◌then◌else◌, Option, Some, None, String, string_bytes}
 use Rattle.std.specs.List.{slice_split, flat_map, list_any}
 use Rattle.std.specs.Map.{lookup}
 use Rattle.std.specs.Char.{is_ascii_alphabetic, to_ascii_uppercase}
@@ -92,8 +92,10 @@ is_on_plain letter path = is_plain path && to_ascii_uppercase (slice_index path 
 abbrev pub is_on_verbatim : ℕ → List ℕ → Bool
 is_on_verbatim letter path = is_verbatim path && to_ascii_uppercase (slice_index path 4) == letter
 
-abbrev pub letters : List ℕ
-letters = codes "ABCDEFGHIJKLMNOPQRSTUVWXYZ"
+-- so many letters, from one on
+unfoldable pub letters_from : ℕ → ℕ → List ℕ
+letters_from first zero = []
+letters_from first (suc n) = first ∷ letters_from (first + 1) n
 
 -- the plain disks of the paths that were mapped, each once, by letter
 abbrev pub plain_mappings : List Entry → List ℕ → List Entry
@@ -109,7 +111,7 @@ verbatim_mappings mapped (x ∷ xs) =
 
 -- the disks of the paths that were mapped, each with its text: the plain ones and then the verbatim ones
 abbrev pub mappings : List Entry → List Entry
-mappings mapped = plain_mappings mapped letters ++ verbatim_mappings mapped letters
+mappings mapped = plain_mappings mapped (letters_from 65 26) ++ verbatim_mappings mapped (letters_from 65 26)
 
 -- pairs of strings as pairs of texts
 abbrev pub pairs_of : {A B : Type 0} → List (String A × String B) → List Entry

@@ -9,6 +9,7 @@ pub mod laws;
 pub mod mem_tree;
 pub mod node;
 pub mod package;
+pub mod packagers;
 pub mod path;
 pub mod place;
 mod plain_tree;

@@ -2,7 +2,7 @@
 ghost use Rattle.std.specs.Prelude.{◌≡◌, ◌++◌, ◌∷◌, ◌<◌, [], All, if◌then◌else◌, IfOk, IfErr, OnErr, OnOk, string_bytes};
 ghost use Rattle.std.specs.List.{list_any};
 ghost use Rattle.std.specs.Option.{option_map, option_copied};
-ghost use Rattle.path_pkg.specs.Windows.{windows_dist, windows_dist_abs, is_on_plain, is_on_verbatim, plain_mappings, verbatim_mappings, mappings, mapped_with, local_of, pairs_of};
+ghost use Rattle.path_pkg.specs.Windows.{windows_dist, windows_dist_abs, is_on_plain, is_on_verbatim, plain_mappings, verbatim_mappings, mappings, mapped_with, local_of, pairs_of, letters_from};
 ghost use Rattle.path_pkg.specs.Written.{texts_of};
 
 use crate::fault::PackError;
@@ -105,6 +105,18 @@ impl PathTransformer {
         keep(self.alloc, &mut self.mapped, path, text)
     }
 
+    /// The disks of the paths that are kept, each with its text: the plain ones `X:` and then the verbatim ones
+    /// `\\?\X:`, each once, by letter.
+    pub fn disk_mappings(&self) -> Result<Vec<(String, String)>, PackError>
+        ensures mappings { IfOk result (λ v. pairs_of v.items ≡ mappings self.now) }
+        ensures err { IfErr result (λ e. e ≡ PackError.Memory) }
+    {
+        let mut pairs = Vec::new(self.alloc);
+        push_plain_disks(self.alloc, &mut pairs, &self.mapped)?;
+        push_verbatim_disks(self.alloc, &mut pairs, &self.mapped)?;
+        Ok(pairs)
+    }
+
     /// The path that was mapped last to a text, and None exactly where none was.
     pub fn to_local(&self, p: &str) -> Result<Option<String>, PackError>
         ensures path { IfOk result (λ o. option_map string_bytes o ≡ local_of self.now p.now) }
@@ -151,9 +163,6 @@ fn keep(
     }
 }
 
-/// The disks that have letters.
-const LETTERS: &[u8; 26] = b"ABCDEFGHIJKLMNOPQRSTUVWXYZ";
-
 fn push_plain(
     alloc: Global,
     pairs: &mut Vec<(String, String)>,
@@ -191,5 +200,31 @@ fn push_verbatim(
     disk.push_str(":")?;
     let text = disk_text(alloc, letter)?;
     pairs.push((disk, text))?;
+    Ok(())
+}
+
+fn push_plain_disks(
+    alloc: Global,
+    pairs: &mut Vec<(String, String)>,
+    mapped: &Entries,
+) -> Result<(), AllocError>
+    ensures { OnOk result (pairs_of pairs.new.items ≡ pairs_of pairs.old.items ++ plain_mappings (texts_of mapped.now.entries) (letters_from 65 26)) }
+{
+    for letter in b'A'..b'Z' + 1 {
+        push_plain(alloc, pairs, mapped, letter)?;
+    }
+    Ok(())
+}
+
+fn push_verbatim_disks(
+    alloc: Global,
+    pairs: &mut Vec<(String, String)>,
+    mapped: &Entries,
+) -> Result<(), AllocError>
+    ensures { OnOk result (pairs_of pairs.new.items ≡ pairs_of pairs.old.items ++ verbatim_mappings (texts_of mapped.now.entries) (letters_from 65 26)) }
+{
+    for letter in b'A'..b'Z' + 1 {
+        push_verbatim(alloc, pairs, mapped, letter)?;
+    }
     Ok(())
 }
