@@ -31,7 +31,7 @@ apart d t k p v rest differ = by_tests (bytes_eq d k) (bytes_eq d t) refl refl
     by_tests false true ek et = rw (ek, et) refl
     by_tests false false ek et = rw (ek, et) refl
 
-put_found : (es : List Entry) (d t p : List ℕ) → lookup (λ k. bytes_eq d k) (insert_entry (slice_cmp nat_cmp) es t p) ≡ cond (bytes_eq d t) (Some p) (lookup (λ k. bytes_eq d k) es)
+pub put_found : (es : List Entry) (d t p : List ℕ) → lookup (λ k. bytes_eq d k) (insert_entry (slice_cmp nat_cmp) es t p) ≡ cond (bytes_eq d t) (Some p) (lookup (λ k. bytes_eq d k) es)
 put_found [] d t p = refl
 put_found (e ∷ es) d t p = by_order (slice_cmp nat_cmp t e.0) refl (put_found es d t p)
   where

@@ -11,3 +11,4 @@ pub mod GroupLemmas
 pub mod FitLemmas
 pub mod WindowsLemmas
 pub mod LastLemmas
+pub mod RestoreLemmas

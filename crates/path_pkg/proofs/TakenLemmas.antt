@@ -7,7 +7,7 @@ use Rattle.path_pkg.specs.Told.{Nodes}
 use Rattle.path_pkg.specs.Tree.{is_link}
 use Rattle.path_pkg.specs.Path.{steps_of}
 use Rattle.path_pkg.specs.Spot.{Spot, spot_text, above, below, noted, beside}
-use Rattle.path_pkg.specs.Simplified.{is_met, link_target, taken_by, taken, simplified, text_of, plain_path}
+use Rattle.path_pkg.specs.Simplified.{is_met, link_target, taken_by, taken, simplified, text_of, simple_path}
 use Rattle.path_pkg.specs.declared.path.Step.{Step}
 use Rattle.path_pkg.specs.declared.path.Step.TheVariants.{Up, Name, Linked}
 use Rattle.path_pkg.specs.declared.fault.PackError.{PackError}
@@ -102,10 +102,10 @@ pub ends_here : (n : ℕ) (t : Nodes) (r : Bool) (s s0 : Spot) (todo todo0 : Lis
 ends_here n t r s s0 [] todo0 none so_far = sym so_far ∙ taken_none n t r s
 ends_here n t r s s0 (x ∷ todo) todo0 none so_far = absurd (omega arith)
 
-pub plain_ok : (t : Nodes) (path : List ℕ) (s : Spot) → simplified false t path ≡ Ok s → plain_path t path ≡ Ok (spot_text s)
-unfolding plain_path
-plain_ok t path s e = ap text_of e
+pub simple_ok : (r : Bool) (t : Nodes) (path : List ℕ) (s : Spot) → simplified r t path ≡ Ok s → simple_path r t path ≡ Ok (spot_text s)
+unfolding simple_path
+simple_ok r t path s e = ap text_of e
 
-pub plain_err : (t : Nodes) (path : List ℕ) (e : PackError) → simplified false t path ≡ Err e → plain_path t path ≡ Err e
-unfolding plain_path
-plain_err t path e h = ap text_of h
+pub simple_err : (r : Bool) (t : Nodes) (path : List ℕ) (e : PackError) → simplified r t path ≡ Err e → simple_path r t path ≡ Err e
+unfolding simple_path
+simple_err r t path e h = ap text_of h

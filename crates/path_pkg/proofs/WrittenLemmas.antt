@@ -10,6 +10,7 @@ use Rattle.std.proofs.Math.Seq.{take-append-add}
 use Rattle.std.proofs.lemmas.List.{take-append-le, take_min}
 use Rattle.dist_types.specs.Content.{Added, Began}
 use Rattle.dist_types.proofs.Contents.{added_then, added_none}
+use Rattle.path_pkg.specs.Windows.{pairs_of}
 use Rattle.path_pkg.specs.Told.{Told, Refused, TreeCause}
 use Rattle.path_pkg.specs.Fault.{pack_error}
 use Rattle.path_pkg.specs.declared.fault.TreeFault.{TreeFault}
@@ -56,3 +57,14 @@ pub unread : (f : TreeFault) (old new : Told) (n : ℕ) → Refused (TreeCause f
 unread Failed old new n h = (record { nodes = h.nodes; faults = h.faults; misnamed = h.misnamed; caused = h.caused }, omega arith)
 unread NotUtf8 old new n h = (record { nodes = h.nodes; faults = h.faults; misnamed = h.misnamed; caused = h.caused }, omega arith)
 unread Memory old new n h = (record { nodes = h.nodes; faults = h.faults; misnamed = h.misnamed; caused = tt }, omega arith)
+
+-- the same for a map from texts to texts
+pub put_pairs : {A B : Type 0} (es : List (String A × String B)) (k : String A) (v : String B) → pairs_of (insert_entry string_cmp es k v) ≡ put (pairs_of es) (string_bytes k, string_bytes v)
+put_pairs [] k v = refl
+put_pairs (e ∷ es) k v = by_order (slice_cmp nat_cmp (string_bytes k) (string_bytes e.0)) refl (put_pairs es k v)
+  where
+    by_order : (o : Ordering) → slice_cmp nat_cmp (string_bytes k) (string_bytes e.0) ≡ o → pairs_of (insert_entry string_cmp es k v) ≡ put (pairs_of es) (string_bytes k, string_bytes v)
+        → pairs_of (insert_entry string_cmp (e ∷ es) k v) ≡ put (pairs_of (e ∷ es)) (string_bytes k, string_bytes v)
+    by_order Less h later = rw h refl
+    by_order Equal h later = rw h refl
+    by_order Greater h later = rw h (ap (λ l. (string_bytes e.0, string_bytes e.1) ∷ l) later)

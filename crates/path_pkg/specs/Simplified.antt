@@ -44,6 +44,6 @@ abbrev pub text_of : Result Spot PackError → Result (List ℕ) PackError
 text_of (Ok s) = Ok (spot_text s)
 text_of (Err e) = Err e
 
--- the text of a path made simple without recording
-unfoldable pub plain_path : Nodes → List ℕ → Result (List ℕ) PackError
-plain_path t path = text_of (simplified false t path)
+-- the text of a path made simple
+unfoldable pub simple_path : Bool → Nodes → List ℕ → Result (List ℕ) PackError
+simple_path recording t path = text_of (simplified recording t path)

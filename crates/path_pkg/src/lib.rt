@@ -14,6 +14,7 @@ pub mod path;
 pub mod place;
 mod plain_tree;
 pub mod record;
+mod recorded;
 pub mod simplify;
 mod sorted;
 pub mod tree;

@@ -3,7 +3,7 @@ ghost use Rattle.std.specs.Prelude.{◌≡◌, ◌++◌, ◌∷◌, [], ℕ, tru
 ghost use Rattle.path_pkg.specs.Fault.{is_decided, is_simplify_error, Gives, PackLeaves};
 ghost use Rattle.path_pkg.specs.Path.{steps_of};
 ghost use Rattle.path_pkg.specs.Place.{spot_of};
-ghost use Rattle.path_pkg.specs.Simplified.{is_met, link_target, taken, simplified, plain_path};
+ghost use Rattle.path_pkg.specs.Simplified.{is_met, link_target, taken, simplified, simple_path};
 ghost use Rattle.path_pkg.specs.Spot.{spot_text, above, below, beside};
 ghost use Rattle.path_pkg.specs.Told.{Holds};
 ghost use Rattle.path_pkg.specs.declared.path.Step.TheVariants.{Linked};
@@ -174,7 +174,7 @@ pub fn simplify_path<T: Links>(
     tree: &mut T,
     path: &str,
 ) -> Result<String, PackError>
-    ensures simplified { Holds (T.told tree.old) (λ t. Gives string_bytes (plain_path t path.now) result) }
+    ensures simplified { Holds (T.told tree.old) (λ t. Gives string_bytes (simple_path false t path.now) result) }
     ensures reasons { IfErr result (λ e. is_simplify_error e ≡ true) }
     ensures leaves { PackLeaves result (T.told tree.old) (T.told tree.new) }
 {
