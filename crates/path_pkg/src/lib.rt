@@ -13,6 +13,7 @@ pub mod packagers;
 pub mod path;
 pub mod place;
 mod plain_tree;
+pub mod real_tree;
 pub mod record;
 mod recorded;
 pub mod simplify;
