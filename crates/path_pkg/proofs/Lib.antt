@@ -12,3 +12,4 @@ pub mod FitLemmas
 pub mod WindowsLemmas
 pub mod LastLemmas
 pub mod RestoreLemmas
+pub mod OrderLemmas

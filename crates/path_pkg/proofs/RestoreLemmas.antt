@@ -49,10 +49,10 @@ undo_new (e ∷ es) k v h = by_order (slice_cmp nat_cmp k e.0) refl (bytes_eq k 
         let none : local_of es k ≡ None = sym (ap (λ b. cond b (Some e.1) (lookup (λ x. bytes_eq k x) es)) hb) ∙ h in
         rw (ho, hb) (ap (λ l. e ∷ l) (later none))
 
-abbrev InOrder : List Entry → Type 0
+abbrev pub InOrder : List Entry → Type 0
 InOrder es = IsStrictlySortedBy (slice_cmp nat_cmp) (map (λ e. e.0) es)
 
-below_all : (k x : List ℕ) (ys : List (List ℕ)) → slice_cmp nat_cmp k x ≡ Less → AllByRecursion (λ y. slice_cmp nat_cmp x y ≡ Less) ys → AllByRecursion (λ y. slice_cmp nat_cmp k y ≡ Less) ys
+pub below_all : (k x : List ℕ) (ys : List (List ℕ)) → slice_cmp nat_cmp k x ≡ Less → AllByRecursion (λ y. slice_cmp nat_cmp x y ≡ Less) ys → AllByRecursion (λ y. slice_cmp nat_cmp k y ≡ Less) ys
 below_all k x [] h all = tt
 below_all k x (y ∷ ys) h all = (nat_list_cmp_total.trans k x y h all.0, below_all k x ys h all.1)
 
