@@ -15,7 +15,7 @@ pub mod place;
 mod plain_tree;
 pub mod real_tree;
 pub mod record;
-mod recorded;
+pub mod recorded;
 pub mod simplify;
 mod sorted;
 pub mod tree;

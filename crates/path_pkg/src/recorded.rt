@@ -99,6 +99,7 @@ fn simplify_recorded<T: Links>(
 
 /// Makes paths simple. Where it has a map, each link on a path is replaced by its target, and recorded there with what
 /// stands in its place.
+#[derive(Drop)]
 pub struct SimplifyPath<'a> {
     /// The paths of links, each with its target made simple.
     pub resolved_symlinks: Option<&'a mut BTreeMap<String, String>>,
