@@ -1,11 +1,10 @@
 -- A tree's refusals as those of packing.
-use Rattle.std.proofs.Common.{◌≡◌, ◌≤◌, false, true, refl, sym, arith, Result, Ok, Err}
-use Rattle.path_pkg.specs.Told.{Told, Refused, TreeCause, Leaves}
-use Rattle.path_pkg.specs.Fault.{pack_error, is_decided, is_simplify_error, PackCause, PackLeaves}
+use Rattle.std.proofs.Common.{◌≡◌, false, true, refl, arith}
+use Rattle.path_pkg.specs.Told.{Told, Refused, TreeCause}
+use Rattle.path_pkg.specs.Fault.{pack_error, is_decided, is_simplify_error, PackCause}
 use Rattle.path_pkg.specs.declared.fault.TreeFault.{TreeFault}
 use Rattle.path_pkg.specs.declared.fault.TreeFault.TheVariants.{Failed, NotUtf8, Memory}
 use Rattle.path_pkg.specs.declared.fault.PackError.{PackError}
-use Rattle.path_pkg.specs.declared.fault.PackError.TheVariants as Packs
 
 pub undecided : (f : TreeFault) → is_decided (pack_error f) ≡ false
 undecided Failed = refl

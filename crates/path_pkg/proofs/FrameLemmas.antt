@@ -1,5 +1,5 @@
 -- The record of a file in two pieces.
-use Rattle.std.proofs.Common.{◌≡◌, ℕ, List, [], ◌∷◌, ◌++◌, length, refl, sym, ap, ◌∙◌, append_assoc}
+use Rattle.std.proofs.Common.{◌≡◌, ℕ, List, ◌∷◌, ◌++◌, length, ap, ◌∙◌, append_assoc}
 use Rattle.std.specs.Int.{w64, to_be_bytes}
 use Rattle.path_pkg.specs.Framed.{path_bytes, content_bytes, frame_bytes}
 use Rattle.path_pkg.specs.Framed.Frame.{FileFrame}

@@ -1,9 +1,9 @@
 -- A framed list is read in one way.
-use Rattle.std.proofs.Common.{◌≡◌, ℕ, ◌+◌, ◌<◌, ◌^◌, List, [], ◌∷◌, ◌++◌, length, refl, sym, ap, ◌∙◌, append_assoc, arith}
+use Rattle.std.proofs.Common.{◌≡◌, ℕ, ◌<◌, ◌^◌, List, [], ◌∷◌, ◌++◌, length, refl, sym, ap, ◌∙◌, append_assoc, arith}
 use Rattle.std.specs.Int.{w32, w64, to_be_bytes, from_be_bytes}
 use Rattle.std.proofs.lemmas.Nat.{from_be_bytes-to_be_bytes_4, from_be_bytes-to_be_bytes_8}
 use Rattle.path_pkg.specs.Framed.Frame.{DirFrame, FileFrame, LinkFrame}
-use Rattle.path_pkg.specs.Framed.{Frame, path_bytes, content_bytes, frame_bytes, spelled, FrameFits, FramesFit, IsFramedList}
+use Rattle.path_pkg.specs.Framed.{Frame, path_bytes, content_bytes, spelled, FramesFit, IsFramedList}
 
 -- two fronts of one length
 pub cut_same : (a b x y : List ℕ) → length a ≡ length b → a ++ x ≡ b ++ y → (a ≡ b) × (x ≡ y)

@@ -1,5 +1,5 @@
 -- Writing one record after another.
-use Rattle.std.proofs.Common.{◌≡◌, ℕ, ◌≤◌, List, [], ◌∷◌, ◌++◌, length, take, map, Option, Result, Ok, Err, refl, sym, ap, ◌∙◌, append_assoc, subst}
+use Rattle.std.proofs.Common.{◌≡◌, ℕ, List, [], ◌∷◌, ◌++◌, map, Option, Result, Ok, Err, refl, sym, ap, ◌∙◌, append_assoc, subst}
 use Rattle.dist_types.specs.Content.{Added, Began}
 use Rattle.dist_types.proofs.Contents.{added_then}
 use Rattle.path_pkg.specs.Told.{Nodes}
@@ -19,8 +19,8 @@ group_more t rank rest rest2 path target path2 target2 all h0 h1 h2 er ep et so_
     let frame : List ℕ = frame_bytes (frame_at t rank (path2, target2)) in
     let same : (path2, target2) ≡ (path, target) = cc in
     let whole : (so_far.0 ++ frame) ++ group_bytes t rank rest2 ≡ all =
-      append_assoc so_far.0 frame (group_bytes t rank rest2) ∙ ap (λ e. so_far.0 ++ (frame_bytes (frame_at t rank e) ++ group_bytes t rank rest2)) same
-      ∙ ap (λ r. so_far.0 ++ group_bytes t rank r) (sym er) ∙ so_far.1 in
+    append_assoc so_far.0 frame (group_bytes t rank rest2) ∙ ap (λ e. so_far.0 ++ (frame_bytes (frame_at t rank e) ++ group_bytes t rank rest2)) same
+    ∙ ap (λ r. so_far.0 ++ group_bytes t rank r) (sym er) ∙ so_far.1 in
     (so_far.0 ++ frame, whole, added_then so_far.0 frame h0 h1 h2 so_far.2 more)
 
 -- a record that was refused
@@ -33,8 +33,8 @@ group_began t rank rest rest2 path target path2 target2 all h0 h1 h2 er ep et so
     let frame : List ℕ = frame_bytes (frame_at t rank (path2, target2)) in
     let same : (path2, target2) ≡ (path, target) = cc in
     let whole : so_far.0 ++ (frame ++ group_bytes t rank rest2) ≡ all =
-      ap (λ e. so_far.0 ++ (frame_bytes (frame_at t rank e) ++ group_bytes t rank rest2)) same
-      ∙ ap (λ r. so_far.0 ++ group_bytes t rank r) (sym er) ∙ so_far.1 in
+    ap (λ e. so_far.0 ++ (frame_bytes (frame_at t rank e) ++ group_bytes t rank rest2)) same
+    ∙ ap (λ r. so_far.0 ++ group_bytes t rank r) (sym er) ∙ so_far.1 in
     let P : List ℕ → Type 0 = λ x. Began x h0 h2 in
     subst P whole (began_after so_far.0 (frame ++ group_bytes t rank rest2) h0 h1 h2 so_far.2 (began_front frame (group_bytes t rank rest2) h1 h2 begun))
 
@@ -57,8 +57,8 @@ pub framed_is : (t : Nodes) (records : List Record) (dirs files links : List Ent
 unfolding framed
 framed_is t records dirs files links ed ef el =
     rw (ed, ef, el) (sym (group_spelled t 0 (sorted 0 records) (map (frame_at t 1) (sorted 1 records) ++ map (frame_at t 2) (sorted 2 records))
-      ∙ ap (λ l. group_bytes t 0 (sorted 0 records) ++ l) (group_spelled t 1 (sorted 1 records) (map (frame_at t 2) (sorted 2 records))
-        ∙ ap (λ l. group_bytes t 1 (sorted 1 records) ++ l) (last_spelled t 2 (sorted 2 records)))))
+    ∙ ap (λ l. group_bytes t 0 (sorted 0 records) ++ l) (group_spelled t 1 (sorted 1 records) (map (frame_at t 2) (sorted 2 records))
+    ∙ ap (λ l. group_bytes t 1 (sorted 1 records) ++ l) (last_spelled t 2 (sorted 2 records)))))
 
 -- the same text
 pub puts_same : {T : Type 0} (r : Result T PackError) (a b : List ℕ) (o p : Option (List ℕ)) → a ≡ b → Puts r a o p → Puts r b o p

@@ -1,5 +1,5 @@
 -- A package is written in order.
-use Rattle.std.proofs.Common.{◌≡◌, ℕ, ◌+◌, ◌<◌, ◌≤◌, ◌^◌, List, [], ◌∷◌, ◌++◌, length, map, Bool, true, false, ◌||◌, ◌&&◌, ◌==◌, nat_lt, refl, sym, ap, ◌∙◌, subst, arith}
+use Rattle.std.proofs.Common.{◌≡◌, ℕ, ◌<◌, ◌≤◌, ◌^◌, List, [], ◌∷◌, ◌++◌, length, map, Bool, true, ◌||◌, ◌&&◌, ◌==◌, nat_lt, refl, ap, ◌∙◌, arith}
 use Rattle.std.specs.List.{AllByRecursion}
 use Rattle.std.specs.List.Sorted.{IsStrictlySortedBy}
 use Rattle.std.specs.BTreeMap.{insert_entry}
@@ -92,7 +92,7 @@ pub frames_in_order : (t : Nodes) (records : List Record) → IsInOrder (frames 
 frames_in_order t records =
     let links : IsInOrder (map (frame_at t 2) (sorted 2 records)) = in_order_last (frame_at t 2) 2 (λ e. refl) (λ e. refl) (sorted 2 records) (sorted_in_order 2 records) in
     let files : IsInOrder (map (frame_at t 1) (sorted 1 records) ++ map (frame_at t 2) (sorted 2 records)) =
-      in_order_with (frame_at t 1) 1 (λ e. refl) (λ e. refl) (sorted 1 records) (map (frame_at t 2) (sorted 2 records)) (sorted_in_order 1 records) links (links_above t 1 (sorted 2 records) (omega arith)) in
+    in_order_with (frame_at t 1) 1 (λ e. refl) (λ e. refl) (sorted 1 records) (map (frame_at t 2) (sorted 2 records)) (sorted_in_order 1 records) links (links_above t 1 (sorted 2 records) (omega arith)) in
     in_order_with (frame_at t 0) 0 (λ e. refl) (λ e. refl) (sorted 0 records) _ (sorted_in_order 0 records) files (files_above t (sorted 1 records) (sorted 2 records))
 
 fits_with : (make : Entry → Frame) → ((e : Entry) → length e.0 ≤ 65535 → length e.1 ≤ 65535 → FrameFits (make e)) → (es : List Entry) (rest : List Frame) → EntriesFit es → FramesFit rest → FramesFit (map make es ++ rest)
@@ -106,8 +106,8 @@ fits_last make each (e ∷ es) fit = (each e fit.0 fit.1, fits_last make each es
 pub frames_fit : (t : Nodes) (records : List Record) → RecordsFit records → ((path : List ℕ) → length (content_in t path) < 2 ^ 64) → FramesFit (frames t records)
 frames_fit t records fit contents =
     fits_with (frame_at t 0) (λ e hp ht. omega arith) (sorted 0 records) _ (sorted_fits 0 records fit)
-      (fits_with (frame_at t 1) (λ e hp ht. (omega arith, contents e.0)) (sorted 1 records) _ (sorted_fits 1 records fit)
-        (fits_last (frame_at t 2) (λ e hp ht. (omega arith, omega arith)) (sorted 2 records) (sorted_fits 2 records fit)))
+    (fits_with (frame_at t 1) (λ e hp ht. (omega arith, contents e.0)) (sorted 1 records) _ (sorted_fits 1 records fit)
+    (fits_last (frame_at t 2) (λ e hp ht. (omega arith, omega arith)) (sorted 2 records) (sorted_fits 2 records fit)))
 
 pub package_is_framed : (t : Nodes) (records : List Record) → RecordsFit records → ((path : List ℕ) → length (content_in t path) < 2 ^ 64) → IsFramedList (framed t records) (frames t records)
 unfolding framed

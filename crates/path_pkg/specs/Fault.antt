@@ -1,5 +1,5 @@
 -- The refusals of packing.
-use Rattle.std.specs.Prelude.{◌≡◌, ℕ, Bool, true, false, Result, Ok, Err}
+use Rattle.std.specs.Prelude.{◌≡◌, Bool, true, false, Result, Ok, Err}
 use Rattle.dist_types.specs.Cause.{Rose}
 use Rattle.path_pkg.specs.Told.{Told, Refused}
 use Rattle.path_pkg.specs.declared.fault.TreeFault.{TreeFault}

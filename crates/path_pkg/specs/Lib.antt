@@ -5,6 +5,7 @@ pub mod InMemory
 pub mod MapNodes
 pub mod Path
 pub mod Place
+pub mod Real
 pub mod Recorded
 pub mod Records
 pub mod Resolved

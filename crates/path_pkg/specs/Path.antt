@@ -1,5 +1,5 @@
 -- Paths as texts and as parts.
-use Rattle.std.specs.Prelude.{ℕ, List, [], ◌∷◌, ◌++◌, Bool, true, false, ◌==◌, if◌then◌else◌, Option, Some, None}
+use Rattle.std.specs.Prelude.{ℕ, List, [], ◌∷◌, ◌++◌, Bool, false, ◌==◌, if◌then◌else◌, Option, Some, None}
 use Rattle.std.specs.List.{slice_split, flat_map, filter_map}
 use Rattle.std.specs.Str.{bytes_eq}
 use Rattle.path_pkg.specs.declared.path.Step.{Step}

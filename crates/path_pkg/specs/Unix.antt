@@ -1,5 +1,5 @@
 -- Paths of Unix, as they are sent.
-use Rattle.std.specs.Prelude.{ℕ, List, Bool, ◌&&◌, if◌then◌else◌, Option, Some, None}
+use Rattle.std.specs.Prelude.{ℕ, List, if◌then◌else◌, Option, Some, None}
 use Rattle.std.specs.Str.{is_utf8}
 use Rattle.path_pkg.specs.Path.{is_absolute}
 

@@ -1,5 +1,5 @@
 -- Paths of Windows, as they are sent.
-use Rattle.std.specs.Prelude.{◌≡◌, ℕ, zero, suc, ◌+◌, List, [], ◌∷◌, ◌++◌, map, filter, length, drop, slice_index, codes, Bool, true, false, not, ◌&&◌, ◌||◌, ◌==◌, nat_le, if◌then◌else◌, Option, Some, None, String, string_bytes}
+use Rattle.std.specs.Prelude.{ℕ, zero, suc, ◌+◌, List, [], ◌∷◌, ◌++◌, map, filter, drop, slice_index, codes, Bool, false, not, ◌&&◌, ◌||◌, ◌==◌, if◌then◌else◌, Option, Some, None, String, string_bytes}
 use Rattle.std.specs.List.{slice_split, flat_map, list_any}
 use Rattle.std.specs.Map.{lookup}
 use Rattle.std.specs.Char.{is_ascii_alphabetic, to_ascii_uppercase}

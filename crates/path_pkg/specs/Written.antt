@@ -1,6 +1,6 @@
 -- What a package is written as.
-use Rattle.std.specs.Prelude.{◌≡◌, ℕ, ◌<◌, ◌≤◌, List, [], ◌∷◌, ◌++◌, map, length, ◌==◌, if◌then◌else◌, Option, Some, None, Result, Ok, Err, String, string_bytes}
-use Rattle.std.specs.List.{filter_map, flat_map}
+use Rattle.std.specs.Prelude.{◌≡◌, ℕ, ◌≤◌, List, [], ◌∷◌, ◌++◌, map, length, ◌==◌, if◌then◌else◌, Option, Some, None, Result, Ok, Err, String, string_bytes}
+use Rattle.std.specs.List.{filter_map}
 use Rattle.std.specs.Option.{unwrap_or}
 use Rattle.std.specs.BTreeMap.{insert_entry}
 use Rattle.std.specs.Cmp.Lexicographic.{slice_cmp}
@@ -9,7 +9,6 @@ use Rattle.dist_types.specs.Cause.{Rose}
 use Rattle.dist_types.specs.Content.{Added, Began}
 use Rattle.path_pkg.specs.Told.{Told, Nodes, Refused}
 use Rattle.path_pkg.specs.Resolved.{content_at}
-use Rattle.path_pkg.specs.Fault.{PackCause}
 use Rattle.path_pkg.specs.Framed.{Frame, frame_bytes, spelled}
 use Rattle.path_pkg.specs.Framed.Frame.{DirFrame, FileFrame, LinkFrame}
 use Rattle.path_pkg.specs.declared.record.Record.{Record}

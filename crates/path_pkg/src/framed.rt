@@ -62,7 +62,7 @@ pub(crate) fn file_head(alloc: Global, path: &[u8], content: &[u8]) -> Result<Ve
     let mut out = Vec::new(alloc);
     out.push(FILE)?;
     put_path(&mut out, path)?;
-    let len = content.len() as u64;
-    out.extend_from_slice(&len.to_be_bytes())?;
+    let size = content.len() as u64;
+    out.extend_from_slice(&size.to_be_bytes())?;
     Ok(out)
 }

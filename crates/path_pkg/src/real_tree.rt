@@ -1,6 +1,5 @@
 //! The tree of the system.
-ghost use Rattle.std.specs.Prelude.{◌≡◌, ◌≤◌, IfErr, None};
-ghost use Rattle.path_pkg.specs.Told.{TreeCause, Told};
+ghost use Rattle.std.specs.Prelude.{◌≡◌, None};
 
 use crate::fault::TreeFault;
 use crate::node::Kind;
@@ -24,8 +23,13 @@ pub struct RealTree<R: Files + AllocGlobal + Clone + Drop> {
 }
 
 impl<R: Files + AllocGlobal + Clone + Drop> RealTree<R> {
+    ghost use Rattle.path_pkg.specs.Real.{real_faults, real_misnamed};
+
     /// The tree of the system, no fault so far. It takes no memory.
-    pub fn new(rt: R) -> Self {
+    pub fn new(rt: R) -> Self
+        ensures faults { real_faults result ≡ 0 }
+        ensures misnamed { real_misnamed result ≡ 0 }
+    {
         RealTree {
             rt,
             faults: 0,

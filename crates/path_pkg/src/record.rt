@@ -101,10 +101,7 @@ fn push_own(
 }
 
 /// The records of the links that were replaced on a path.
-pub(crate) fn link_records(
-    alloc: Global,
-    links: &[(Text, Text)],
-) -> Result<Vec<Record>, AllocError>
+pub(crate) fn link_records(alloc: Global, links: &[(Text, Text)]) -> Result<Vec<Record>, AllocError>
     ensures { IfOk result (λ v. v.items ≡ link_records links.now) }
 {
     let mut records = Vec::new(alloc);

@@ -5,7 +5,7 @@ ghost use Rattle.std.specs.List.Sorted.{IsStrictlySortedBy};
 ghost use Rattle.std.specs.Option.{option_map, is_some};
 ghost use Rattle.std.specs.Ordering.{nat_cmp};
 ghost use Rattle.path_pkg.specs.Fault.{is_simplify_error, Gives, PackLeaves};
-ghost use Rattle.path_pkg.specs.Recorded.{recorded, recorded_with};
+ghost use Rattle.path_pkg.specs.Recorded.{recorded, recorded_with, IsSameMap};
 ghost use Rattle.path_pkg.specs.Simplified.{simplified, simple_path};
 ghost use Rattle.path_pkg.specs.Told.{Holds};
 ghost use Rattle.path_pkg.specs.Windows.{local_of, pairs_of};
@@ -119,6 +119,7 @@ impl SimplifyPath<'_> {
         ensures links { OnOk result (Holds (T.told tree.old) (λ t. recorded self.new.resolved_symlinks ≡ option_map (λ links. recorded_with links (simplified true t path.now)) (recorded self.old.resolved_symlinks))) }
         ensures err { OnErr result (recorded self.new.resolved_symlinks ≡ recorded self.old.resolved_symlinks) }
         ensures reasons { IfErr result (λ e. is_simplify_error e ≡ true) }
+        ensures same_map { IsSameMap self.old.resolved_symlinks self.new.resolved_symlinks }
         ensures leaves { PackLeaves result (T.told tree.old) (T.told tree.new) }
     {
         match &mut self.resolved_symlinks {

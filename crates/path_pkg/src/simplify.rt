@@ -155,25 +155,14 @@ pub(crate) fn simplified<T: Links>(
     ensures leaves { PackLeaves result (T.told tree.old) (T.told tree.new) }
 {
     let steps = steps_of(alloc, path)?;
-    take(
-        alloc,
-        tree,
-        recording,
-        MAX_LINKS,
-        start(alloc, path),
-        steps,
-    )
+    take(alloc, tree, recording, MAX_LINKS, start(alloc, path), steps)
 }
 
 /// The path without empty parts, without `.`, and without `..`, each of which drops the part before it.
 /// LinkInParent exactly where a `..` stands behind a link; the rest of the path is not asked for links.
 /// TreeFault and NotUtf8 come only where the tree's count of them rose.
 #[tactic(auto, using(crate::proofs::FaultLemmas::untouched))]
-pub fn simplify_path<T: Links>(
-    alloc: Global,
-    tree: &mut T,
-    path: &str,
-) -> Result<String, PackError>
+pub fn simplify_path<T: Links>(alloc: Global, tree: &mut T, path: &str) -> Result<String, PackError>
     ensures simplified { Holds (T.told tree.old) (λ t. Gives string_bytes (simple_path false t path.now) result) }
     ensures reasons { IfErr result (λ e. is_simplify_error e ≡ true) }
     ensures leaves { PackLeaves result (T.told tree.old) (T.told tree.new) }

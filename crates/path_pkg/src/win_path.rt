@@ -35,7 +35,10 @@ pub(crate) fn is_plain(path: &[u8]) -> bool
 fn begins_verbatim(path: &[u8]) -> bool
     ensures { result ≡ (slice_index path.now 0 == 92 && slice_index path.now 1 == 92 && slice_index path.now 2 == 63 && slice_index path.now 3 == 92) }
 {
-    byte(path, 0) == b'\\' && byte(path, 1) == b'\\' && byte(path, 2) == b'?' && byte(path, 3) == b'\\'
+    byte(path, 0) == b'\\'
+        && byte(path, 1) == b'\\'
+        && byte(path, 2) == b'?'
+        && byte(path, 3) == b'\\'
 }
 
 /// Whether a path begins with `\\?\`, a letter and `:\`.
@@ -43,7 +46,10 @@ fn begins_verbatim(path: &[u8]) -> bool
 pub(crate) fn is_verbatim(path: &[u8]) -> bool
     ensures { result ≡ is_verbatim path.now }
 {
-    begins_verbatim(path) && byte(path, 4).is_ascii_alphabetic() && byte(path, 5) == b':' && byte(path, 6) == b'\\'
+    begins_verbatim(path)
+        && byte(path, 4).is_ascii_alphabetic()
+        && byte(path, 5) == b':'
+        && byte(path, 6) == b'\\'
 }
 
 /// Whether a path begins with a separator, or with a letter and `:`.

@@ -15,7 +15,7 @@ use std::marker::Model;
 
 /// Maps the paths of a client under Windows, and keeps the path that was mapped last to each text. Contracts see it as
 /// the pairs of a text and that path, by text in byte order.
-#[derive(Drop)]
+#[derive(Debug, Drop)]
 pub struct PathTransformer {
     alloc: Global,
     mapped: Entries,

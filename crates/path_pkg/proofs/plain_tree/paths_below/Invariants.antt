@@ -1,6 +1,6 @@
-use Rattle.std.proofs.Common.{◌≡◌, ◌++◌, map, filter, string_bytes}
+use Rattle.std.proofs.Common.{◌≡◌, ◌++◌, map, string_bytes}
 use Rattle.path_pkg.specs.MapNodes.{nodes_of}
-use Rattle.path_pkg.specs.Resolved.{is_below, paths_below}
+use Rattle.path_pkg.specs.Resolved.{paths_below}
 use Rattle.path_pkg.proofs.plain_tree.paths_below.Given as goal
 
 abbrev pub invariant-loop-inner : goal.invariant-loop-inner

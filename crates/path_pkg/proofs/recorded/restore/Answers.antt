@@ -1,4 +1,4 @@
-use Rattle.std.proofs.Common.{◌≡◌, ◌∙◌, sym, ap, string_bytes, Some, None, List, ℕ}
+use Rattle.std.proofs.Common.{◌∙◌, ap, string_bytes, List, ℕ}
 use Rattle.std.specs.Option.{option_map}
 use Rattle.std.specs.Map.{remove_entry}
 use Rattle.std.specs.Cmp.Lexicographic.{slice_cmp}

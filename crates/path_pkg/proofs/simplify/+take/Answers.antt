@@ -1,4 +1,4 @@
-use Rattle.std.proofs.Common.{◌≡◌, ◌∙◌, sym, ap, true, false, Err, arith}
+use Rattle.std.proofs.Common.{◌∙◌, sym, ap, Err, arith}
 use Rattle.path_pkg.specs.Place.{spot_of}
 use Rattle.path_pkg.proofs.TakenLemmas.{kept_up, kept_name, kept_linked, ends_up, ends_many, goes_on, ends_here, gives_same}
 use Rattle.path_pkg.proofs.simplify.+take.Goals as goal
@@ -9,8 +9,8 @@ loop-step-preserved-in-Ok g m c =
     record {
       told = leaves ∙ c.loop-step.invariant.told;
       same = λ t e.
-        let here = ap (λ w. w.nodes) (sym leaves) ∙ e in
-        kept_up c.args.left t c.args.recording _ _ _ _ _ _ _ c.in-Some.ensures.items c.in-Up.is c.in-Ok.ensures.up (c.in-Ok.ensures.free t here) (c.loop-step.invariant.same t here);
+          let here = ap (λ w. w.nodes) (sym leaves) ∙ e in
+          kept_up c.args.left t c.args.recording _ _ _ _ _ _ _ c.in-Some.ensures.items c.in-Up.is c.in-Ok.ensures.up (c.in-Ok.ensures.free t here) (c.loop-step.invariant.same t here);
     }
 
 pub returns-in-Err-clause-taken : goal.returns-in-Err-clause-taken
@@ -23,7 +23,7 @@ pub returns-then-left-eq0-clause-taken : goal.returns-then-left-eq0-clause-taken
 returns-then-left-eq0-clause-taken g m c = λ t e d.
     let here = ap (λ w. w.nodes) c.loop-step.invariant.told ∙ e in
     ends_many c.args.left t c.args.recording _ _ _ _ _ _ _ _ c.in-Some.ensures.items c.in-Name.is c.in_ok-place-in-Name.ensures
-      (sym (c.in_ok-is_met-in-Name.ensures.met t here) ∙ c.if-branch.true) (c.if-left-eq0.true) (c.loop-step.invariant.same t here)
+    (sym (c.in_ok-is_met-in-Name.ensures.met t here) ∙ c.if-branch.true) (c.if-left-eq0.true) (c.loop-step.invariant.same t here)
 
 pub returns-then-branch-clause-taken : goal.returns-then-branch-clause-taken
 returns-then-branch-clause-taken g m c = λ t e.
@@ -31,10 +31,10 @@ returns-then-branch-clause-taken g m c = λ t e.
     let next = ap (λ w. w.nodes) c.in_ok-is_met-in-Name.ensures.leaves ∙ here in
     let last = ap (λ w. w.nodes) c.in_ok-next-in-Name.ensures.leaves ∙ next in
     gives_same spot_of _ _ c.take.result
-      (goes_on c.args.left t c.args.recording _ _ _ _ _ _ _ _ _ _ c.in-Some.ensures.items c.in-Name.is c.in_ok-place-in-Name.ensures
-        (sym (c.in_ok-is_met-in-Name.ensures.met t here) ∙ c.if-branch.true) (omega arith)
-        (c.in_ok-next-in-Name.ensures.place t next) (c.in_ok-next-in-Name.ensures.steps t next) (c.loop-step.invariant.same t here))
-      (c.take.ensures.taken t last)
+    (goes_on c.args.left t c.args.recording _ _ _ _ _ _ _ _ _ _ c.in-Some.ensures.items c.in-Name.is c.in_ok-place-in-Name.ensures
+    (sym (c.in_ok-is_met-in-Name.ensures.met t here) ∙ c.if-branch.true) (omega arith)
+    (c.in_ok-next-in-Name.ensures.place t next) (c.in_ok-next-in-Name.ensures.steps t next) (c.loop-step.invariant.same t here))
+    (c.take.ensures.taken t last)
 
 pub loop-step-preserved-else-branch : goal.loop-step-preserved-else-branch
 loop-step-preserved-else-branch g m c =
@@ -42,8 +42,8 @@ loop-step-preserved-else-branch g m c =
     record {
       told = leaves ∙ c.loop-step.invariant.told;
       same = λ t e.
-        let here = ap (λ w. w.nodes) (sym leaves) ∙ e in
-        kept_name c.args.left t c.args.recording _ _ _ _ _ _ _ _ c.in-Some.ensures.items c.in-Name.is c.in_ok-place-in-Name.ensures
+          let here = ap (λ w. w.nodes) (sym leaves) ∙ e in
+          kept_name c.args.left t c.args.recording _ _ _ _ _ _ _ _ c.in-Some.ensures.items c.in-Name.is c.in_ok-place-in-Name.ensures
           (sym (c.in_ok-is_met-in-Name.ensures.met t here) ∙ c.if-branch.false) (c.loop-step.invariant.same t here);
     }
 
@@ -52,7 +52,7 @@ loop-step-preserved g m c =
     record {
       told = c.loop-step.invariant.told;
       same = λ t e.
-        kept_linked c.args.left t c.args.recording _ _ _ _ _ _ _ _ c.in-Some.ensures.items c.in-Linked.is c.in_ok-place-in-Linked.ensures (c.loop-step.invariant.same t e);
+          kept_linked c.args.left t c.args.recording _ _ _ _ _ _ _ _ c.in-Some.ensures.items c.in-Linked.is c.in_ok-place-in-Linked.ensures (c.loop-step.invariant.same t e);
     }
 
 pub returns-clause-taken : goal.returns-clause-taken

@@ -1,4 +1,4 @@
-use Rattle.std.proofs.Common.{◌≡◌, ◌∙◌, sym, ap, Some, None, List, ℕ, if◌then◌else◌}
+use Rattle.std.proofs.Common.{◌∙◌, sym, ap, Some, None, List, ℕ, if◌then◌else◌}
 use Rattle.dist_types.proofs.CommandLemmas.{is_text, is_no_text}
 use Rattle.path_pkg.proofs.unix.text_in.Goals as goal
 

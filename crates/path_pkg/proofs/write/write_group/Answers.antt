@@ -12,8 +12,8 @@ loop-path-preserved g c =
       steady = writes.1 ∙ c.loop-path.invariant.steady;
       fit = fit_rest _ _ _ rest c.loop-path.invariant.fit;
       so_far = λ t e.
-        let here = ap (λ w. w.nodes) (sym writes.0) ∙ e in
-        group_more t c.args.rank _ _ _ _ _ _ _ _ _ _ rest c.as_str.ensures.value c.get.ensures.text (c.loop-path.invariant.so_far t here) (c.in-Ok.ensures.puts t here);
+          let here = ap (λ w. w.nodes) (sym writes.0) ∙ e in
+          group_more t c.args.rank _ _ _ _ _ _ _ _ _ _ rest c.as_str.ensures.value c.get.ensures.text (c.loop-path.invariant.so_far t here) (c.in-Ok.ensures.puts t here);
     }
 
 pub returns-in-Err-clause-puts : goal.returns-in-Err-clause-puts
