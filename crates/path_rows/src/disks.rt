@@ -33,7 +33,12 @@ fn has_disks(rt: &impl Abort, t: &PathTransformer, wanted: &str) -> Result<(), F
 fn plain_and_verbatim_disks(rt: HostRuntime) -> Result<(), Fail> {
     let mut t = PathTransformer::new(rt.alloc());
     sends(&rt, &mut t, "X:/other.c", "/prefix/disk-X/other.c")?;
-    sends(&rt, &mut t, r"\\?\X:\out\other.o", "/prefix/disk-X/out/other.o")?;
+    sends(
+        &rt,
+        &mut t,
+        r"\\?\X:\out\other.o",
+        "/prefix/disk-X/out/other.o",
+    )?;
     has_disks(&rt, &t, r"X:=/prefix/disk-X,\\?\X:=/prefix/disk-X")?;
     gives(&rt, &t, "/prefix/disk-X/out/other.o", r"\\?\X:\out\other.o")?;
     gives(&rt, &t, "/prefix/disk-X/other.c", "X:/other.c")?;
@@ -81,7 +86,10 @@ fn relative_paths_of_windows(rt: HostRuntime) -> Result<(), Fail> {
 #[test]
 fn unix_paths_as_they_are(rt: HostRuntime) -> Result<(), Fail> {
     let mut t = unix::PathTransformer::new(rt.alloc());
-    assert_eq!(rt; t.as_dist_abs(b"/a//b")?.ok_or("absolute")?.as_str(), "/a//b");
+    assert_eq!(rt;
+        t.as_dist_abs(b"/a//b")?.ok_or("absolute")?.as_str(),
+        "/a//b"
+    );
     assert_eq!(rt; t.as_dist(b"a/b")?.ok_or("relative")?.as_str(), "a/b");
     assert!(rt; t.as_dist_abs(b"a/b")?.is_none());
     assert!(rt; t.as_dist(&[0x2f, 0xff])?.is_none());

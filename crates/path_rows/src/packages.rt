@@ -10,7 +10,8 @@ use std::process::Abort;
 use std::test::Fail;
 
 /// The directory at a link, a file behind two links, and the contents of a directory.
-const LIST: &str = "4400000003612f624600000005612f622f6600000000000000036f6e654600000003632f67000000000000000374776f4c00000004612f7570000000042f632f674c00000003616273000000042f612f624c0000000464656570000000062f612f622f6645";
+const LIST: &str =
+    "4400000003612f624600000005612f622f6600000000000000036f6e654600000003632f67000000000000000374776f4c00000004612f7570000000042f632f674c00000003616273000000042f612f624c0000000464656570000000062f612f622f6645";
 
 fn is_list(
     rt: &impl Abort,
@@ -48,24 +49,64 @@ fn directories_files_and_links(rt: HostRuntime) -> Result<(), Fail> {
     is_list(&rt, alloc, builder, &mut tree, LIST)
 }
 
+/// What is asked, of which path, and the refusal.
+const REFUSED: &str = "dir a|path is not absolute
+file |path is not absolute
+contents a|path is not absolute
+dir /c/g|not a directory
+dir /self|not a directory
+contents /deep|not a directory
+file /abs|not a file
+file /m0|not a file
+file /l1|not a file
+dir /tmp|not a directory";
+
+fn asks(
+    builder: &mut ToolchainPackageBuilder,
+    tree: &mut MemTree,
+    what: &str,
+    path: &str,
+) -> Result<(), PackError> {
+    if what == "dir" {
+        return builder.add_dir(tree, path);
+    }
+    if what == "file" {
+        return builder.add_file(tree, path);
+    }
+    builder.add_dir_contents(tree, path)
+}
+
+fn is_refused(
+    rt: &impl Abort,
+    alloc: Global,
+    builder: &mut ToolchainPackageBuilder,
+    tree: &mut MemTree,
+    row: &str,
+) -> Result<(), Fail> {
+    let (asked, wanted) = row.split_once('|').ok_or("no column")?;
+    let (what, path) = asked.split_once(' ').ok_or("no path")?;
+    let fault = asks(builder, tree, what, path).err().ok_or("taken")?;
+    let text = fault.to_string(alloc)?;
+    assert_eq!(rt; text.as_str(), wanted, "{row}");
+    Ok(())
+}
+
 #[test]
 fn what_is_refused_adds_nothing(rt: HostRuntime) -> Result<(), Fail> {
     let alloc = rt.alloc();
     let mut tree = tree(alloc, Vec::new(alloc), Vec::new(alloc))?;
     let mut builder = ToolchainPackageBuilder::new(alloc);
-    assert_eq!(rt; builder.add_dir(&mut tree, "a"), Err(PackError::NotAbsolute));
-    assert_eq!(rt; builder.add_file(&mut tree, ""), Err(PackError::NotAbsolute));
-    assert_eq!(rt; builder.add_dir_contents(&mut tree, "a"), Err(PackError::NotAbsolute));
-    assert_eq!(rt; builder.add_dir(&mut tree, "/c/g"), Err(PackError::NotDir));
-    assert_eq!(rt; builder.add_dir(&mut tree, "/self"), Err(PackError::NotDir));
-    assert_eq!(rt; builder.add_dir_contents(&mut tree, "/deep"), Err(PackError::NotDir));
-    assert_eq!(rt; builder.add_file(&mut tree, "/abs"), Err(PackError::NotFile));
-    assert_eq!(rt; builder.add_file(&mut tree, "/m0"), Err(PackError::NotFile));
-    assert_eq!(rt; builder.add_common(&mut tree), Err(PackError::NotDir));
+    for row in REFUSED.lines() {
+        is_refused(&rt, alloc, &mut builder, &mut tree, row)?;
+    }
     is_list(&rt, alloc, builder, &mut tree, "45")
 }
 
-fn adds(alloc: Global, fails: Vec<u64>, misnames: Vec<Text>) -> Result<Result<(), PackError>, Fail> {
+fn adds(
+    alloc: Global,
+    fails: Vec<u64>,
+    misnames: Vec<Text>,
+) -> Result<Result<(), PackError>, Fail> {
     let mut tree = tree(alloc, fails, misnames)?;
     let mut builder = ToolchainPackageBuilder::new(alloc);
     Ok(builder.add_dir_contents(&mut tree, "/a"))
@@ -117,6 +158,9 @@ fn the_longest_path(rt: HostRuntime) -> Result<(), Fail> {
     let (mut tree, path) = long_tree(alloc, 65_535)?;
     assert_eq!(rt; builder.add_file(&mut tree, path.as_str()), Ok(()));
     let (mut tree, path) = long_tree(alloc, 65_536)?;
-    assert_eq!(rt; builder.add_file(&mut tree, path.as_str()), Err(PackError::PathTooLong));
+    assert_eq!(rt;
+        builder.add_file(&mut tree, path.as_str()),
+        Err(PackError::PathTooLong)
+    );
     Ok(())
 }

