@@ -1,0 +1,15 @@
+pub mod FramedLemmas
+pub mod PathLemmas
+pub mod FaultLemmas
+pub mod TakenLemmas
+pub mod NodeLemmas
+pub mod ResolvedLemmas
+pub mod FoundLemmas
+pub mod WrittenLemmas
+pub mod FrameLemmas
+pub mod GroupLemmas
+pub mod FitLemmas
+pub mod WindowsLemmas
+pub mod LastLemmas
+pub mod RestoreLemmas
+pub mod OrderLemmas

@@ -1,0 +1,46 @@
+//! Who makes the bytes that are sent: toolchain packages, inputs and outputs.
+ghost use Rattle.std.specs.Prelude.{◌≡◌, ◌≤◌, ℕ, Err, OnOk};
+ghost use Rattle.dist_types.specs.Cause.{Rose};
+ghost use Rattle.path_pkg.specs.Append.{HasAppended};
+
+use crate::fault::PackFault;
+use crate::unix::PathTransformer;
+
+/// Packs a toolchain.
+pub trait ToolchainPackager {
+    /// How often it refused.
+    ghost refusals: { Self → ℕ };
+
+    /// Appends the package.
+    fn write_pkg(&mut self, out: &mut Vec<u8>) -> Result<(), PackFault>
+        ensures appends { HasAppended out.old.items out.new.items }
+        ensures steady { OnOk result (refusals self.new ≡ refusals self.old) }
+        ensures later { refusals self.old ≤ refusals self.new }
+        ensures cause { result ≡ Err PackFault.Refused → Rose (refusals self.old) (refusals self.new) };
+}
+
+/// Packs the inputs of a compile command.
+pub trait InputsPackager {
+    /// How often it refused.
+    ghost refusals: { Self → ℕ };
+
+    /// Appends the inputs, and gives what mapped their paths.
+    fn write_inputs(&mut self, out: &mut Vec<u8>) -> Result<PathTransformer, PackFault>
+        ensures appends { HasAppended out.old.items out.new.items }
+        ensures steady { OnOk result (refusals self.new ≡ refusals self.old) }
+        ensures later { refusals self.old ≤ refusals self.new }
+        ensures cause { result ≡ Err PackFault.Refused → Rose (refusals self.old) (refusals self.new) };
+}
+
+/// Packs the outputs of a compile command again.
+pub trait OutputsRepackager {
+    /// How often it refused.
+    ghost refusals: { Self → ℕ };
+
+    /// Appends the outputs, and gives what mapped their paths.
+    fn repackage_outputs(&mut self, out: &mut Vec<u8>) -> Result<PathTransformer, PackFault>
+        ensures appends { HasAppended out.old.items out.new.items }
+        ensures steady { OnOk result (refusals self.new ≡ refusals self.old) }
+        ensures later { refusals self.old ≤ refusals self.new }
+        ensures cause { result ≡ Err PackFault.Refused → Rose (refusals self.old) (refusals self.new) };
+}
