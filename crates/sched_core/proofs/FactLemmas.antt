@@ -50,7 +50,7 @@ pub record BeatFacts (s : Core) (server : Addr) (nonce cpus : ℕ) (pruned : Lis
 
 abbrev pub Facts : Core → CoreKind → Type 0
 Facts s (Reserve (Job job reg forgiven)) = JobFacts s job reg
-Facts s (Reserve (NoRoom n)) = Unit {0}
+Facts s (Reserve (NoRoom n)) = (pick (servers_of s.log) ≡ None) × (n ≡ length (servers_of s.log))
 Facts s (Reserve Spent) = Unit {0}
 Facts s (Commit job state kept) = SpendFacts s job kept × (begins state ≡ true)
 Facts s (Undo job noted ended) = SpendFacts s job ended
@@ -66,7 +66,7 @@ fact_of s (call.Reserve now) is = split (pick (servers_of s.log)) refl
     spend row e false f = record { id = refl; left = f; row = row; picked = e; at = refl }
 
     split : (o : Option ServerRow) → pick (servers_of s.log) ≡ o → Facts s (reserve_at o (servers_of s.log) now s.base (given s)).kind
-    split None e = tt
+    split None e = (e, refl)
     split (Some row) e = spend row e (given s == 2 ^ 64 - 1) refl
 fact_of s (call.Commit now number job state) is = (record { number = number; unspent = is.0; says_held = refl }, is.1)
 fact_of s (call.Undo now number job) is = record { number = number; unspent = is; says_held = refl }
@@ -79,7 +79,7 @@ pub facts : (s : Core) (e : CoreEntry) → IsRule s e → Facts s e.kind
 facts s e is = subst (λ d. Facts s d.kind) (sym is.2) (fact_of s is.0 is.1)
 
 -- the best of a list is one of it
-best_has : {X : Type 0} (P : X → Type 0) (beats : X → X → Bool) (first : X) (xs : List X) → P first → AllByRecursion P xs → P (best_of beats first xs)
+pub best_has : {X : Type 0} (P : X → Type 0) (beats : X → X → Bool) (first : X) (xs : List X) → P first → AllByRecursion P xs → P (best_of beats first xs)
 best_has P beats first [] p all = p
 best_has P beats first (x ∷ xs) p all = best_has P beats (cond (beats x first) x first) xs (elim (beats x first) as (λ b. P (cond b x first)) [ true ↦ all.0 | false ↦ p ]) all.1
 

@@ -1,3 +1,4 @@
+pub mod AddressLemmas
 pub mod AllLemmas
 pub mod BookLemmas
 pub mod EndLemmas
@@ -6,12 +7,16 @@ pub mod FreeLemmas
 pub mod GrowLemmas
 pub mod HeldLemmas
 pub mod InLog
+pub mod JobLemmas
 pub mod KeptLemmas
+pub mod LawfulLemmas
 pub mod LegalLemmas
 pub mod Lists
 pub mod OnceLemmas
+pub mod PickLemmas
 pub mod PlaceLemmas
 pub mod PlainLemmas
+pub mod RisingLemmas
 pub mod RoomLemmas
 pub mod RowLemmas
 pub mod SortLemmas

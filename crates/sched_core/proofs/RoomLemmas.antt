@@ -1,4 +1,4 @@
--- In each legal log no registration has more than its share, and each reserve goes to a registration with room that none is lighter than.
+-- In each legal log no registration has more than its share.
 use Rattle.std.proofs.Common.{◌≡◌, ℕ, ◌+◌, ◌*◌, ◌/◌, ◌^◌, ◌<◌, ◌≤◌, List, [], ◌∷◌, ◌++◌, Bool, true, false, cond, not, ◌||◌, map, filter, length, Option, Some, None, refl, ap, ◌∙◌, sym, subst, arith, append-nil, eq-eqb, eqb-true, length-append}
 use Rattle.std.specs.Prelude.{◌==◌, option_to_list, count_by, nat_lt}
 use Rattle.std.specs.List.{AllByRecursion, list_any, best_of}
@@ -6,6 +6,7 @@ use Rattle.std.specs.Option.{option_map}
 use Rattle.std.proofs.Math.Nat.{mul-lt-mul_of_pos_right, lt_of_mul-lt-mul_right}
 use Rattle.std.proofs.lemmas.Nat.{mul-le}
 use Rattle.std.proofs.lemmas.Bool.Decides.{nat_tests}
+use Rattle.std.proofs.lemmas.List.{map-append}
 use Rattle.std.proofs.lemmas.List.Sums.{sum_by-cons, sum_by-append}
 use Rattle.sched_core.specs.Cuts.{cuts}
 use Rattle.dist_types.specs.declared.ids.JobId.{JobId}
@@ -20,10 +21,11 @@ use Rattle.sched_core.specs.Standing.{Registered, registered_by, registered_at, 
 use Rattle.sched_core.specs.Reservation.{Booking, booked_by, unended, load_of}
 use Rattle.sched_core.specs.Rows.{row_of, servers_of}
 use Rattle.sched_core.specs.Pick.{pick, first_best, or_else, is_lighter, is_older, is_faultless, roomy, has_room}
-use Rattle.sched_core.specs.Laws.{IsRule, IsLegal, AreDistinct, IsBounded, IsFair, IsFairly, IsFairEntry}
+use Rattle.sched_core.specs.Laws.{IsRule, IsLegal, AreDistinct, AreRising, IsBounded}
 use Rattle.sched_core.proofs.LegalLemmas.{core_of, legal_has}
 use Rattle.sched_core.proofs.StandingLemmas.{standing-push}
 use Rattle.sched_core.proofs.AllLemmas.{or_left, or_right, true_false, is_false, all-weaker, all-both, all-append, all-filter, all-map, all-unmap, all-step, found, distinct-push, distinct-filter, each_same, own_only}
+use Rattle.sched_core.proofs.RisingLemmas.{rising-filter, rising-push}
 use Rattle.sched_core.proofs.StepLemmas.{bare, held, regs, booked, held_stays, held-push}
 use Rattle.sched_core.proofs.FactLemmas.{Facts, JobFacts, facts, first_has, pick_has, pick_there, all_there}
 use Rattle.sched_core.proofs.HeldLemmas.{Sound, no_sound, sound-step}
@@ -74,14 +76,14 @@ load-step log e reg =
     omega (arith, new, less, old)
 
 -- numbers of registrations, as ids
-abbrev num : ℕ → JobId
+abbrev pub num : ℕ → JobId
 num n = record { 0 = n }
 
 -- a registration that stands, with its processors
-abbrev view : Registered → ℕ × ℕ
+abbrev pub view : Registered → ℕ × ℕ
 view g = (g.reg, g.cpus)
 
-abbrev pairs : List CoreEntry → List (ℕ × ℕ)
+abbrev pub pairs : List CoreEntry → List (ℕ × ℕ)
 pairs log = map view (standing log)
 
 abbrev pair_stays : CoreEntry → ℕ × ℕ → Bool
@@ -98,6 +100,7 @@ Holds log p = load_of log p.0 ≤ p.1 + 1 + p.1 / 8
 pub record Roomy (log : List CoreEntry) : Type 0 where
   pub below : AllByRecursion (λ p. p.0 < length log) (pairs log)
   pub distinct : AreDistinct (map (λ p. num p.0) (pairs log))
+  pub rising : AreRising (map (λ p. p.0) (pairs log))
   pub positive : AllByRecursion (λ p. 1 ≤ p.1) (pairs log)
   pub bounded : AllByRecursion (Holds log) (pairs log)
 
@@ -125,7 +128,7 @@ no_booking (Update server job state answer) number now before at = tt
 no_booking (Status pruned servers cpus n) number now before at = tt
 
 -- the rows that stand have different numbers
-rows_distinct : (log : List CoreEntry) → AreDistinct (map (λ p. num p.0) (pairs log)) → AreDistinct (map (λ r. num r.reg) (servers_of log))
+pub rows_distinct : (log : List CoreEntry) → AreDistinct (map (λ p. num p.0) (pairs log)) → AreDistinct (map (λ r. num r.reg) (servers_of log))
 rows_distinct log distinct = subst AreDistinct (map-map (λ p. num p.0) view (standing log) ∙ sym (map-map (λ r. num r.reg) (row_of log) (standing log))) distinct
 
 -- where a job is reserved, the registration has room
@@ -185,6 +188,11 @@ distinct_more n ps (Some p) below distinct new = subst AreDistinct (sym (map-pus
     map-push [] = refl
     map-push (q ∷ qs) = ap (λ l. num q.0 ∷ l) (map-push qs)
 
+rising_more : (n : ℕ) (ps : List (ℕ × ℕ)) (o : Option (ℕ × ℕ)) → AllByRecursion (λ p. p.0 < n) ps → AreRising (map (λ p. p.0) ps) → AllByRecursion (λ p. p.0 ≡ n) (option_to_list o) → AreRising (map (λ p. p.0) (ps ++ option_to_list o))
+rising_more n ps None below rising new = subst (λ l. AreRising (map (λ p. p.0) l)) (sym (append-nil ps)) rising
+rising_more n ps (Some p) below rising new = subst AreRising (sym (map-append (λ q. q.0) ps (p ∷ [])))
+    (rising-push (map (λ q. q.0) ps) p.0 rising (all-map (λ m. m < p.0) (λ q. q.0) ps (all-weaker (λ q. q.0 < n) (λ q. q.0 < p.0) (λ q lt. let at = new.0 in omega (arith, lt, at)) ps below)))
+
 pub roomy-step : (base count : ℕ) (log : List CoreEntry) (e : CoreEntry) → Sound base count log → Roomy log → IsRule (core_of base count log) e → Roomy (log ++ e ∷ [])
 roomy-step base count log e sound room rule_is =
     let next : List CoreEntry = log ++ e ∷ [] in
@@ -197,6 +205,8 @@ roomy-step base count log e sound room rule_is =
           (all-step (λ p. p.0 < length log) (λ p. p.0 < length next) (pair_stays e) made (λ p lt t. omega (arith, lt, longer)) (all-weaker (NewPair log) (λ p. p.0 < length next) (λ p h. let here = h.0 in omega (arith, here, longer)) (option_to_list made) new) (pairs log) room.below);
       distinct = subst (λ ps. AreDistinct (map (λ p. num p.0) ps)) (sym (pairs-push log e))
           (distinct_more (length log) (filter (pair_stays e) (pairs log)) made (all-filter (λ p. p.0 < length log) (λ p. p.0 < length log) (pair_stays e) (λ p lt t. lt) (pairs log) room.below) (distinct-filter (λ p. num p.0) (pair_stays e) (pairs log) room.distinct) (all-weaker (NewPair log) (λ p. p.0 ≡ length log) (λ p h. h.0) (option_to_list made) new));
+      rising = subst (λ ps. AreRising (map (λ p. p.0) ps)) (sym (pairs-push log e))
+          (rising_more (length log) (filter (pair_stays e) (pairs log)) made (all-filter (λ p. p.0 < length log) (λ p. p.0 < length log) (pair_stays e) (λ p lt t. lt) (pairs log) room.below) (rising-filter (λ p. p.0) (pair_stays e) (pairs log) room.rising) (all-weaker (NewPair log) (λ p. p.0 ≡ length log) (λ p h. h.0) (option_to_list made) new));
       positive = subst (AllByRecursion (λ p. 1 ≤ p.1)) (sym (pairs-push log e)) (all-step (λ p. 1 ≤ p.1) (λ p. 1 ≤ p.1) (pair_stays e) made (λ p h t. h) (all-weaker (NewPair log) (λ p. 1 ≤ p.1) (λ p h. h.1) (option_to_list made) new) (pairs log) room.positive);
       bounded = subst (AllByRecursion (Holds next)) (sym (pairs-push log e))
           (all-step (λ p. load_of log p.0 + count_by (λ b. b.reg == p.0) (option_to_list (booked log e)) ≤ p.1 + 1 + p.1 / 8) (Holds next) (pair_stays e) made
@@ -212,121 +222,16 @@ roomy-step base count log e sound room rule_is =
           (pairs log) (added base count log e.kind (length log) e.now room.distinct is room.bounded));
     }
 
+pub no_roomy : Roomy []
+no_roomy = record { below = tt; distinct = tt; rising = tt; positive = tt; bounded = tt }
+
 pub record Fits (base count : ℕ) (log : List CoreEntry) : Type 0 where
   pub sound : Sound base count log
   pub room : Roomy log
 
 pub legal_fits : (base count : ℕ) (log : List CoreEntry) → count < 2 ^ 64 → IsLegal base count log → Fits base count log
-legal_fits base count log fits legal = legal_has base count (Fits base count) (record { sound = no_sound base count fits; room = record { below = tt; distinct = tt; positive = tt; bounded = tt } })
+legal_fits base count log fits legal = legal_has base count (Fits base count) (record { sound = no_sound base count fits; room = no_roomy })
     (λ l e h is. record { sound = sound-step base count l e h.sound is; room = roomy-step base count l e h.sound h.room is }) log legal
 
 pub legal_bounded : (base count : ℕ) (log : List CoreEntry) → count < 2 ^ 64 → IsLegal base count log → AllByRecursion (IsBounded log) (standing log)
 legal_bounded base count log fits legal = all-unmap (Holds log) view (standing log) (legal_fits base count log fits legal).room.bounded
-
--- the pick
-
--- what is no heavier than what is lighter is lighter
-lighter_through : (a x b : ServerRow) → 1 ≤ a.cpus → 1 ≤ x.cpus → is_lighter x a ≡ false → is_lighter x b ≡ true → is_lighter a b ≡ true
-lighter_through a x b pa px first second =
-    let le : a.load * x.cpus ≤ x.load * a.cpus = lt_false (x.load * a.cpus) (a.load * x.cpus) first in
-    let lt : x.load * b.cpus < b.load * x.cpus = lt_true (x.load * b.cpus) (b.load * x.cpus) second in
-    let one : (a.load * x.cpus) * b.cpus ≤ (x.load * a.cpus) * b.cpus = mul-le (a.load * x.cpus) b.cpus (x.load * a.cpus) b.cpus le (omega arith) in
-    let two : (x.load * b.cpus) * a.cpus < (b.load * x.cpus) * a.cpus = mul-lt-mul_of_pos_right lt (omega (arith, pa)) in
-    let both_are : (a.load * b.cpus) * x.cpus < (b.load * a.cpus) * x.cpus = omega (arith, one, two) in
-    lt_is (a.load * b.cpus) (b.load * a.cpus) (lt_of_mul-lt-mul_right x.cpus both_are)
-
-lighter_not : (a x : ServerRow) → is_lighter x a ≡ true → is_lighter a x ≡ false
-lighter_not a x e = let lt : x.load * a.cpus < a.load * x.cpus = lt_true (x.load * a.cpus) (a.load * x.cpus) e in ge_is (a.load * x.cpus) (x.load * a.cpus) (omega (arith, lt))
-
-abbrev Ok : ServerRow → Type 0
-Ok row = 1 ≤ row.cpus
-
--- none is lighter than the first best
-best_least : (first : ServerRow) (rows : List ServerRow) → Ok first → AllByRecursion Ok rows → (is_lighter first (best_of is_lighter first rows) ≡ false) × AllByRecursion (λ r. is_lighter r (best_of is_lighter first rows) ≡ false) rows
-best_least first [] ok all = (ge_is (first.load * first.cpus) (first.load * first.cpus) (omega arith), tt)
-best_least first (x ∷ rows) ok all = split (is_lighter x first) refl (best_least x rows all.0 all.1) (best_least first rows ok all.1)
-  where
-    split : (b : Bool) → is_lighter x first ≡ b → (is_lighter x (best_of is_lighter x rows) ≡ false) × AllByRecursion (λ r. is_lighter r (best_of is_lighter x rows) ≡ false) rows → (is_lighter first (best_of is_lighter first rows) ≡ false) × AllByRecursion (λ r. is_lighter r (best_of is_lighter first rows) ≡ false) rows →
-        (is_lighter first (best_of is_lighter (cond b x first) rows) ≡ false) × AllByRecursion (λ r. is_lighter r (best_of is_lighter (cond b x first) rows) ≡ false) (x ∷ rows)
-    split true is to old = (is_false (is_lighter first (best_of is_lighter x rows)) (λ t. true_false (is_lighter x (best_of is_lighter x rows)) (lighter_through x first (best_of is_lighter x rows) all.0 ok (lighter_not first x is) t) to.0), (to.0, to.1))
-    split false is to old = (old.0, (is_false (is_lighter x (best_of is_lighter first rows)) (λ t. true_false (is_lighter first (best_of is_lighter first rows)) (lighter_through first x (best_of is_lighter first rows) ok all.0 is t) old.0), old.1))
-
--- what holds of those that pass two tests
-unfilter : (P : ServerRow → Type 0) (p q : ServerRow → Bool) (rows : List ServerRow) → AllByRecursion P (filter p (filter q rows)) → AllByRecursion (λ r. q r ≡ true → p r ≡ true → P r) rows
-unfilter P p q [] all = tt
-unfilter P p q (r ∷ rows) all =
-    let both_are : (q r ≡ true → p r ≡ true → P r) × AllByRecursion P (filter p (filter q rows)) = split (q r) refl all in
-    (both_are.0, unfilter P p q rows both_are.1)
-  where
-    inner : (b : Bool) → p r ≡ b → AllByRecursion P (cond b (r ∷ filter p (filter q rows)) (filter p (filter q rows))) → (p r ≡ true → P r) × AllByRecursion P (filter p (filter q rows))
-    inner true is h = ((λ t. h.0), h.1)
-    inner false is h = ((λ t. absurd (true_false (p r) t is)), h)
-
-    split : (b : Bool) → q r ≡ b → AllByRecursion P (filter p (cond b (r ∷ filter q rows) (filter q rows))) → (q r ≡ true → p r ≡ true → P r) × AllByRecursion P (filter p (filter q rows))
-    split true is h = let both_are : (p r ≡ true → P r) × AllByRecursion P (filter p (filter q rows)) = inner (p r) refl h in ((λ t. both_are.0), both_are.1)
-    split false is h = ((λ t u. absurd (true_false (q r) t is)), h)
-
-abbrev Fair : ServerRow → ServerRow → Type 0
-Fair row r = (is_faultless row ≡ true) × (is_lighter r row ≡ false)
-
--- against each with room and no error the pick has no error, and is no heavier
-pick_fair : (rows : List ServerRow) (row : ServerRow) → AllByRecursion Ok rows → pick rows ≡ Some row → AllByRecursion (λ r. has_room r ≡ true → is_faultless r ≡ true → Fair row r) rows
-pick_fair rows row ok e = unfilter (Fair row) is_faultless has_room rows (by_list (filter is_faultless (roomy rows)) refl
-    (all-filter Ok Ok is_faultless (λ r h t. h) (roomy rows) (all-filter Ok Ok has_room (λ r h t. h) rows ok))
-    (all-filter (λ r. Unit {0}) (λ r. is_faultless r ≡ true) is_faultless (λ r h t. t) (roomy rows) (all_unit (roomy rows))))
-  where
-    all_unit : (rs : List ServerRow) → AllByRecursion (λ r. Unit {0}) rs
-    all_unit [] = tt
-    all_unit (r ∷ rs) = (tt, all_unit rs)
-
-    by_list : (list : List ServerRow) → filter is_faultless (roomy rows) ≡ list → AllByRecursion Ok list → AllByRecursion (λ r. is_faultless r ≡ true) list → AllByRecursion (Fair row) list
-    by_list [] is all free = tt
-    by_list (r ∷ list) is all free =
-        let best : Some (best_of is_lighter r list) ≡ Some row = ap (λ l. or_else (first_best is_lighter l) (first_best is_older (roomy rows))) (sym is) ∙ e in
-        let same : best_of is_lighter r list ≡ row = cc in
-        let least : (is_lighter r (best_of is_lighter r list) ≡ false) × AllByRecursion (λ x. is_lighter x (best_of is_lighter r list) ≡ false) list = best_least r list all.0 all.1 in
-        let faultless : is_faultless row ≡ true = first_has (λ x. is_faultless x ≡ true) is_lighter (r ∷ list) row free (ap (λ x. Some x) same) in
-        subst (λ b. AllByRecursion (λ x. (is_faultless row ≡ true) × (is_lighter x b ≡ false)) (r ∷ list)) same
-        (all-weaker (λ x. is_lighter x (best_of is_lighter r list) ≡ false) (λ x. (is_faultless row ≡ true) × (is_lighter x (best_of is_lighter r list) ≡ false)) (λ x h. (faultless, h)) (r ∷ list) (least.0, least.1))
-
-fair_entry : (base count : ℕ) (log : List CoreEntry) (k : CoreKind) → AllByRecursion Ok (servers_of log) → AreDistinct (map (λ r. num r.reg) (servers_of log)) → Facts (core_of base count log) k → IsFairEntry log k
-fair_entry base count log (Reserve (Job job reg forgiven)) ok distinct is =
-    let rows : List ServerRow = servers_of log in
-    let row : ServerRow = is.row in
-    let there : (list_any (λ r. r.reg == row.reg) rows ≡ true) × (has_room row ≡ true) = pick_there rows row is.picked in
-    let only_one : AllByRecursion (λ y. same_job (num y.reg) (num row.reg) ≡ true → y ≡ row) rows = pick_has (λ x. AllByRecursion (λ y. same_job (num y.reg) (num x.reg) ≡ true → y ≡ x) rows) rows row
-    (all-filter (λ x. AllByRecursion (λ y. same_job (num y.reg) (num x.reg) ≡ true → y ≡ x) rows) (λ x. AllByRecursion (λ y. same_job (num y.reg) (num x.reg) ≡ true → y ≡ x) rows) has_room (λ x h t. h) rows (own_only (λ r. num r.reg) rows distinct)) is.picked in
-    let fair : AllByRecursion (IsFair row) rows = pick_fair rows row ok is.picked in
-    subst (IsFairly rows) (sym is.at) (
-      there.0,
-      all-weaker (λ y. same_job (num y.reg) (num row.reg) ≡ true → y ≡ row) (λ y. (y.reg == row.reg) ≡ true → (has_room y ≡ true) × AllByRecursion (IsFair y) rows)
-          (λ y same h. subst (λ z. (has_room z ≡ true) × AllByRecursion (IsFair z) rows) (sym (same h)) (there.1, fair)) rows only_one,
-    )
-fair_entry base count log (Reserve (NoRoom n)) ok distinct is = tt
-fair_entry base count log (Reserve Spent) ok distinct is = tt
-fair_entry base count log (Beat server nonce cpus key pruned reaped replaced is_new) ok distinct is = tt
-fair_entry base count log (Commit job state kept) ok distinct is = tt
-fair_entry base count log (Undo job noted was_ended) ok distinct is = tt
-fair_entry base count log (Update server job state answer) ok distinct is = tt
-fair_entry base count log (Status pruned servers cpus n) ok distinct is = tt
-
-rows_positive : (log : List CoreEntry) → AllByRecursion (λ p. 1 ≤ p.1) (pairs log) → AllByRecursion Ok (servers_of log)
-rows_positive log all = all-map Ok (row_of log) (standing log) (all-unmap (λ p. 1 ≤ p.1) view (standing log) all)
-
-abbrev AreFair : List CoreEntry → Type 0
-AreFair log = AllByRecursion (λ c. IsFairEntry c.before c.at.kind) (cuts log)
-
-fair-step : (base count : ℕ) (log : List CoreEntry) (e : CoreEntry) → AreFair log → Roomy log → IsRule (core_of base count log) e → AreFair (log ++ e ∷ [])
-fair-step base count log e fair room is =
-    subst (AllByRecursion (λ c. IsFairEntry c.before c.at.kind)) (sym (cuts_behind-push [] log e))
-    (all-append (λ c. IsFairEntry c.before c.at.kind) (map (followed e) (cuts log)) (end_cut log e ∷ []) (all-map (λ c. IsFairEntry c.before c.at.kind) (followed e) (cuts log) fair)
-    (fair_entry base count log e.kind (rows_positive log room.positive) (rows_distinct log room.distinct) (facts (core_of base count log) e is), tt))
-
-record FitsFairly (base count : ℕ) (log : List CoreEntry) : Type 0 where
-  sound : Sound base count log
-  room : Roomy log
-  fair : AreFair log
-
-pub legal_fair : (base count : ℕ) (log : List CoreEntry) → count < 2 ^ 64 → IsLegal base count log → AllByRecursion (λ c. IsFairEntry c.before c.at.kind) (cuts log)
-legal_fair base count log fits legal = (legal_has base count (FitsFairly base count) (record { sound = no_sound base count fits; room = record { below = tt; distinct = tt; positive = tt; bounded = tt }; fair = tt })
-    (λ l e h is. record { sound = sound-step base count l e h.sound is; room = roomy-step base count l e h.sound h.room is; fair = fair-step base count l e h.fair h.room is }) log legal).fair

@@ -59,6 +59,10 @@ job_at server h = record { number = h.number; job = h.job; reg = h.reg; server =
 abbrev pub held_part : JobRow → HeldRow
 held_part j = record { number = j.number; job = j.job; reg = j.reg; reserved_at = j.reserved_at; state = j.state; claimed = j.claimed }
 
+-- an unended reservation as a row, if its registration has an address
+abbrev pub job_row : List CoreEntry → Booking → Option JobRow
+job_row log b = option_map (λ server. record { number = b.number; job = b.job; reg = b.reg; server = server; reserved_at = b.now; state = state_of b.job b.later; claimed = is_claimed b }) (address_of log b.reg)
+
 -- the unended reservations, by rising job id, each with the address of its registration
 abbrev pub jobs_of : List CoreEntry → List JobRow
 jobs_of log = filter_map (λ h. option_map (λ server. job_at server h) (address_of log h.reg)) (held_by_id log)

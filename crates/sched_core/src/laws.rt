@@ -5,7 +5,8 @@ ghost use Rattle.std.specs.List.{AllByRecursion};
 ghost use Rattle.sched_core.specs.declared.entry.CoreEntry.{CoreEntry};
 ghost use Rattle.sched_core.specs.Reservation.{bookings, unended};
 ghost use Rattle.sched_core.specs.Job.{commits, open_jobs};
-ghost use Rattle.sched_core.specs.Laws.{IsLegal, AreDistinct, IsHeldOnce, IsSpentOnce, IsEndedOnce, HasOrder, IsBounded, IsFairEntry, EndsOnce, HasStanding};
+ghost use Rattle.sched_core.specs.Laws.{IsLegal, IsLawful, AreDistinct, AreDifferent, AreJobRows, IsHeldOnce, IsSpentOnce, IsEndedOnce, HasOrder, IsBounded, IsFairEntry, EndsOnce, HasStanding};
+ghost use Rattle.sched_core.specs.Rows.{jobs_of};
 ghost use Rattle.sched_core.specs.Standing.{registrations, standing};
 ghost use Rattle.sched_core.specs.Cuts.{cuts};
 
@@ -47,8 +48,10 @@ pub fn loads_are_bounded()
     ensures { (base count : ℕ) (log : List CoreEntry) → count < 2 ^ 64 → IsLegal base count log → AllByRecursion (IsBounded log) (standing log) }
 {}
 
-/// A job is reserved at a registration that stands and has room; and against each with room and no
-/// remembered error it has none itself and no greater load for each processor.
+/// A job is reserved at a registration that stands and has room. Against each with room and no
+/// remembered error it has none itself, and no greater load for each processor; of equals it has the
+/// least number. Where each with room has an error its own is the oldest, and of equals it has the least
+/// number. And a reserve says that none has room only where none has.
 pub fn reserves_are_fair()
     ensures { (base count : ℕ) (log : List CoreEntry) → count < 2 ^ 64 → IsLegal base count log → AllByRecursion (λ c. IsFairEntry c.before c.at.kind) (cuts log) }
 {}
@@ -61,4 +64,19 @@ pub fn reservations_are_at_standing_servers()
 /// A registration ends at most once: no entry prunes or replaces it after one that did.
 pub fn registrations_end_once()
     ensures { (base count : ℕ) (log : List CoreEntry) → count < 2 ^ 64 → IsLegal base count log → AllByRecursion EndsOnce (registrations log) }
+{}
+
+/// An address has at most one registration that stands.
+pub fn addresses_are_registered_once()
+    ensures { (base count : ℕ) (log : List CoreEntry) → IsLegal base count log → AreDifferent (map (λ g. g.server) (standing log)) }
+{}
+
+/// The rows of the unended reservations have rising job ids, and are exactly those reservations.
+pub fn job_rows_are_exact()
+    ensures { (base count : ℕ) (log : List CoreEntry) → count < 2 ^ 64 → IsLegal base count log → AreJobRows log (jobs_of log) }
+{}
+
+/// All of these laws, as one.
+pub fn legal_logs_are_lawful()
+    ensures { (base count : ℕ) (log : List CoreEntry) → count < 2 ^ 64 → IsLegal base count log → IsLawful log }
 {}

@@ -1,5 +1,5 @@
 //! The scheduler's state: its log, and what is kept of it.
-ghost use Rattle.std.specs.Prelude.{◌≡◌, ◌↔◌, ◌⊎◌, ◌<◌, ◌≤◌, ◌+◌, ◌++◌, ◌∷◌, [], Err, Some, IfOk, IfErr, OnOk, OnErr, IsErrOf, length, map, true, if◌then◌else◌, option_to_list, vec_len, vec_capacity};
+ghost use Rattle.std.specs.Prelude.{◌≡◌, ◌↔◌, ◌⊎◌, ◌<◌, ◌≤◌, ◌+◌, ◌^◌, ◌++◌, ◌∷◌, [], Err, Some, IfOk, IfErr, OnOk, OnErr, IsErrOf, length, map, true, if◌then◌else◌, option_to_list, vec_len, vec_capacity};
 ghost use Rattle.std.specs.List.{AllByRecursion};
 ghost use Rattle.sched_core.specs.Log.{Core, logged};
 ghost use Rattle.sched_core.specs.Standing.{address_of};
@@ -7,7 +7,7 @@ ghost use Rattle.sched_core.specs.Reservation.{bookings, unspent};
 ghost use Rattle.sched_core.specs.Rule.{rule, says_new_entry, counts_of, is_among, begins};
 ghost use Rattle.sched_core.specs.Rows.{servers_of, jobs_of, held_by_id, held_part};
 ghost use Rattle.sched_core.specs.Answers.{Leaves, IsPicked, RefusesReserve, committed_by, undo_answer, updated_by};
-ghost use Rattle.sched_core.specs.Laws.{IsLegal, IsRule};
+ghost use Rattle.sched_core.specs.Laws.{IsLegal, IsLawful, IsRule};
 ghost use Rattle.sched_core.specs.Books.{IsState, HasRoom, SameBooks, MayMake, key_by, open_by, unspent_next};
 ghost use Rattle.sched_core.specs.declared.call.Call.TheVariants as call;
 
@@ -109,13 +109,17 @@ impl<A: JobAuthorizer> SchedState<A> {
         self.books.made
     }
 
-    /// The log, oldest entry first: each entry is the core rule's over those before it. It takes no
-    /// memory.
+    /// The log, oldest entry first: each entry is the core rule's over those before it, so all laws of
+    /// legal logs hold of it. It takes no memory.
     pub fn history(&self) -> &[CoreEntry]
         ensures log { result.now ≡ self.now.log }
         ensures legal { IsLegal self.now.base self.now.count self.now.log }
+        ensures count { self.now.count < 2 ^ 64 }
+        ensures lawful { IsLawful self.now.log }
     {
-        &self.log
+        let log = self.log.as_slice();
+        lawful(self.base, self.count, log);
+        log
     }
 
     /// The registrations that stand, by rising number, as the whole log gives them. It takes no
@@ -341,6 +345,12 @@ impl<A: JobAuthorizer> SchedState<A> {
         Ok(answer)
     }
 }
+
+/// A legal log is lawful.
+fn lawful(base: u64, count: u64, log: &[CoreEntry])
+    ensures count { count < 2 ^ 64 }
+    ensures lawful { IsLegal base count log.now → IsLawful log.now }
+{}
 
 /// Makes room for what one more entry may add, beside what spends the reservations. Refused for want of
 /// memory alone; the lists stay.

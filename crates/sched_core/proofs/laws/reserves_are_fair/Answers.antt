@@ -1,4 +1,4 @@
-use Rattle.sched_core.proofs.RoomLemmas.{legal_fair}
+use Rattle.sched_core.proofs.PickLemmas.{legal_fair}
 use Rattle.sched_core.proofs.laws.reserves_are_fair.Goals as goal
 
 pub returns : goal.returns

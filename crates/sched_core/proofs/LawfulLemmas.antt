@@ -1,0 +1,30 @@
+-- Each legal log is lawful.
+use Rattle.std.proofs.Common.{◌≡◌, ℕ, ◌<◌, ◌^◌, List}
+use Rattle.sched_core.specs.declared.entry.CoreEntry.{CoreEntry}
+use Rattle.sched_core.specs.Laws.{IsLegal, IsLawful}
+use Rattle.sched_core.proofs.SoundLemmas.{legal_distinct}
+use Rattle.sched_core.proofs.OnceLemmas.{legal_all}
+use Rattle.sched_core.proofs.HeldLemmas.{legal_standing, legal_once}
+use Rattle.sched_core.proofs.EndLemmas.{legal_ends}
+use Rattle.sched_core.proofs.AddressLemmas.{legal_apart}
+use Rattle.sched_core.proofs.RoomLemmas.{legal_bounded}
+use Rattle.sched_core.proofs.PickLemmas.{legal_fair}
+use Rattle.sched_core.proofs.JobLemmas.{legal_jobs}
+
+pub legal_lawful : (base count : ℕ) (log : List CoreEntry) → count < 2 ^ 64 → IsLegal base count log → IsLawful log
+legal_lawful base count log fits legal =
+    let once = legal_all base count log fits legal in
+    record {
+      ids = legal_distinct base count log fits legal;
+      spent_once = once.spent;
+      ended_once = once.ended;
+      at_standing = legal_standing base count log fits legal;
+      committed_once = once.committed;
+      in_order = once.order;
+      open_held = legal_once base count log fits legal;
+      registered_once = legal_ends base count log fits legal;
+      one_each = legal_apart base count log legal;
+      bounded = legal_bounded base count log fits legal;
+      fair = legal_fair base count log fits legal;
+      job_rows = legal_jobs base count log fits legal;
+    }
