@@ -14,7 +14,8 @@ pub record Built : Type 0 where
   pub answer : Result BuildResult BuildFault
 
 -- the row of a build, whatever its answer
-abbrev pub built_row : List ℕ → List ℕ → CompileCommand → List (List ℕ) → List ℕ → Result BuildResult BuildFault → Built
+abbrev pub built_row : List ℕ → List ℕ → CompileCommand → List (List ℕ) → List ℕ
+    → Result BuildResult BuildFault → Built
 built_row toolchain digest command outputs inputs answer = record {
   toolchain = toolchain;
   digest = digest;

@@ -8,6 +8,7 @@ pub mod Content
 pub mod Dialer
 pub mod Ids
 pub mod InMemory
+pub mod Keys
 pub mod Link
 pub mod Outgoing
 pub mod Output

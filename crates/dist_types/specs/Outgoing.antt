@@ -37,8 +37,8 @@ pub record Peer : Type 0 where
   pub port : ℕ
   pub token : List ℕ
 
--- what a requester was lent: the name of the reference to a dialer, whom it asks by it, and that dialer's record
--- now, where it is told
+-- what a requester was lent: the name of the reference to a dialer, whom it asks by it, and that dialer's
+-- record now, where it is told
 pub record Lent : Type 0 where
   pub name : ℕ
   pub peer : Peer
@@ -48,15 +48,17 @@ pub record Lent : Type 0 where
 abbrev pub nothing_lent : Lent
 nothing_lent = record { name = 0; peer = record { host = []; port = 0; token = [] }; asked = None }
 
--- The reference and the peer are those that were lent, and the dialer's record has one more row, of which this holds.
+-- The reference and the peer are those that were lent, and the dialer's record has one more row, of which
+-- this holds.
 pub record Sends (is_it : Asked → Type 0) (old new : Lent) : Type 0 where
   pub same : new.name ≡ old.name
   pub same_peer : new.peer ≡ old.peer
   pub one : IfSome old.asked (λ rows. (a : Asked) × (new.asked ≡ Some (rows ++ a ∷ [])) × is_it a)
 
--- What a call does to the dialer that was lent: one row more, which says what the call's row says. Where memory ran
--- out, the dialer may have been asked or not.
+-- What a call does to the dialer that was lent: one row more, which says what the call's row says. Where
+-- memory ran out, the dialer may have been asked or not.
 pub record Calls {Row Answer : Type 0} (says : Row → Asked → Type 0) (row : Result Answer CallFault → Row)
     (answer : Result Answer CallFault) (old new : Lent) : Type 0 where
   pub sent : answer ≢ Err Memory → Sends (says (row answer)) old new
-  pub unsent : answer ≡ Err Memory → (new ≡ old) ⊎ Sends (λ a. (heard : Result Answer CallFault) × says (row heard) a) old new
+  pub unsent : answer ≡ Err Memory
+      → (new ≡ old) ⊎ Sends (λ a. (heard : Result Answer CallFault) × says (row heard) a) old new

@@ -46,13 +46,15 @@ impl From<Memory> for BuildFault {
 
 /// Runs builds, each in the toolchain of an archive.
 pub trait BuilderIncoming {
-    /// The record: a row for each build in order, where it is told. A build that ran out of memory may have none.
+    /// The record: a row for each build in order, where it is told. A build that ran out of memory may have
+    /// none.
     ghost built: { Self → Option (List Built) };
 
     /// How often it refused.
     ghost refusals: { Self → ℕ };
 
-    /// Runs the command in the toolchain over the inputs, and gives what it gave and the outputs of these names.
+    /// Runs the command in the toolchain over the inputs, and gives what it gave and the outputs of these
+    /// names.
     fn run_build(
         &mut self,
         toolchain: &Toolchain,
@@ -62,10 +64,12 @@ pub trait BuilderIncoming {
         inputs: &[u8],
     ) -> Result<BuildResult, BuildFault>
         ensures row { result ≢ Err BuildFault.Memory
-            → Recorded (built_row toolchain.now (sha256 archive.now) command.now outputs.now inputs.now result)
+            → Recorded (built_row toolchain.now (sha256 archive.now)
+            command.now outputs.now inputs.now result)
             (built self.old) (built self.new) }
         ensures memory { result ≡ Err BuildFault.Memory
-            → KeptOrRecorded (built_row toolchain.now (sha256 archive.now) command.now outputs.now inputs.now result)
+            → KeptOrRecorded (built_row toolchain.now (sha256 archive.now)
+            command.now outputs.now inputs.now result)
             (built self.old) (built self.new) }
         ensures steady { OnOk result (refusals self.new ≡ refusals self.old) }
         ensures uncounted { result ≡ Err BuildFault.Memory → refusals self.new ≡ refusals self.old }

@@ -13,6 +13,7 @@ pub mod command;
 pub mod dialer;
 pub mod fault;
 pub mod ids;
+pub mod keys;
 pub mod link;
 pub mod outgoing;
 pub mod output;
@@ -22,8 +23,6 @@ pub mod roles;
 pub mod sink;
 pub mod source;
 pub mod tcp;
-#[cfg(test)]
-mod tests;
 pub mod text;
 pub mod token_error;
 pub mod toolchain;

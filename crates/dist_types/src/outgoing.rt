@@ -54,7 +54,8 @@ impl From<Memory> for CallFault {
 
 /// Asks servers to take jobs.
 pub trait SchedulerOutgoing {
-    /// The record: a row for each call in order, where it is told. A call that ran out of memory may have none.
+    /// The record: a row for each call in order, where it is told. A call that ran out of memory may have
+    /// none.
     ghost assigned: { Self → Option (List Assigned) };
 
     /// How often a call was lost.
@@ -75,19 +76,23 @@ pub trait SchedulerOutgoing {
         auth: &str,
     ) -> Result<AssignJobResult, CallFault>
         ensures row { result ≢ Err CallFault.Memory
-            → Recorded (assigned_row server_id job_id.0 tc.now auth.now result) (assigned self.old) (assigned self.new) }
+            → Recorded (assigned_row server_id job_id.0 tc.now auth.now result)
+            (assigned self.old) (assigned self.new) }
         ensures memory { result ≡ Err CallFault.Memory
-            → KeptOrRecorded (assigned_row server_id job_id.0 tc.now auth.now result) (assigned self.old) (assigned self.new) }
+            → KeptOrRecorded (assigned_row server_id job_id.0 tc.now auth.now result)
+            (assigned self.old) (assigned self.new) }
         ensures steady { OnOk result (faults self.new ≡ faults self.old) }
         ensures uncounted { result ≡ Err CallFault.Memory → faults self.new ≡ faults self.old }
         ensures later { faults self.old ≤ faults self.new }
         ensures cause { result ≡ Err CallFault.Lost → Rose (faults self.old) (faults self.new) }
-        ensures lent { Calls says (assigned_row server_id job_id.0 tc.now auth.now) result (lent self.old) (lent self.new) };
+        ensures lent { Calls says (assigned_row server_id job_id.0 tc.now auth.now) result
+            (lent self.old) (lent self.new) };
 }
 
 /// Tells the scheduler the states of jobs.
 pub trait ServerOutgoing {
-    /// The record: a row for each call in order, where it is told. A call that ran out of memory may have none.
+    /// The record: a row for each call in order, where it is told. A call that ran out of memory may have
+    /// none.
     ghost updated: { Self → Option (List Updated) };
 
     /// How often a call was lost.
@@ -113,5 +118,6 @@ pub trait ServerOutgoing {
         ensures uncounted { result ≡ Err CallFault.Memory → faults self.new ≡ faults self.old }
         ensures later { faults self.old ≤ faults self.new }
         ensures cause { result ≡ Err CallFault.Lost → Rose (faults self.old) (faults self.new) }
-        ensures lent { Calls (says (lent self.old).peer) (updated_row job_id.0 state) result (lent self.old) (lent self.new) };
+        ensures lent { Calls (says (lent self.old).peer) (updated_row job_id.0 state) result
+            (lent self.old) (lent self.new) };
 }

@@ -1,5 +1,5 @@
 //! What a build's process gave, and the files that it made.
-ghost use Rattle.std.specs.Prelude.{◌≡◌, ◌≤◌, ◌<◌, [], IfOk, IfSome, OnOk, OnErr, length, None, Err};
+ghost use Rattle.std.specs.Prelude.{◌≡◌, ◌≢◌, ◌≤◌, ◌<◌, [], IfOk, IfSome, OnOk, OnErr, length, None, Err};
 ghost use Rattle.dist_types.specs.Cause.{Rose};
 ghost use Rattle.dist_types.specs.Content.{Taken, TookFront, IsAtEnd};
 ghost use Rattle.dist_types.specs.Output.{output_in};
@@ -41,7 +41,8 @@ pub struct ExitOutput {
 }
 
 impl ProcessOutput {
-    /// The output of a process with its code; Signalled with the signal where it has no code, NoCode where it has neither. It takes no memory.
+    /// The output of a process with its code; Signalled with the signal where it has no code, NoCode where
+    /// it has neither. It takes no memory.
     pub fn try_from(
         code: Option<i32>,
         signal: Option<i32>,
@@ -65,7 +66,8 @@ impl ProcessOutput {
 
     /// The same, ended by no signal. It takes no memory.
     pub fn into_output(self) -> ExitOutput
-        ensures output { result ≡ record { code = self.code; signal = None; stdout = self.stdout; stderr = self.stderr } }
+        ensures output { result
+            ≡ record { code = self.code; signal = None; stdout = self.stdout; stderr = self.stderr } }
     {
         let ProcessOutput {
             code,
@@ -107,16 +109,19 @@ pub struct OutputDataLens {
 }
 
 impl OutputData {
-    /// All that a source has left, and its number: Failed only where the source's count of faults rose, TooLong
-    /// exactly where more than 1,073,741,824 bytes came. After an error a front was read.
+    /// All that a source has left, and its number: Failed only where the source's count of faults rose,
+    /// TooLong exactly where more than 1,073,741,824 bytes came. After an error a front was read.
     pub fn try_from_reader<R: Source>(alloc: Global, reader: &mut R) -> Result<Self, ReadError>
         ensures all { IfOk result (λ d. Taken d.0 (R.left reader.old) (R.left reader.new)) }
         ensures at_end { OnOk result (IsAtEnd (R.left reader.new)) }
         ensures size { IfOk result (λ d. d.1 ≡ length d.0) }
         ensures short { IfOk result (λ d. length d.0 ≤ 1073741824) }
-        ensures too_long { result ≡ Err ReadError.TooLong → IfSome (R.left reader.old) (λ left. 1073741824 < length left) }
+        ensures too_long { result ≡ Err ReadError.TooLong
+            → IfSome (R.left reader.old) (λ left. 1073741824 < length left) }
         ensures front { OnErr result (TookFront (R.left reader.old) (R.left reader.new)) }
         ensures steady { OnOk result (R.faults reader.new ≡ R.faults reader.old) }
+        ensures uncounted { result ≢ Err ReadError.Failed → R.faults reader.new ≡ R.faults reader.old }
+        ensures apart { R.apart reader.new ≡ R.apart reader.old }
         ensures later { R.faults reader.old ≤ R.faults reader.new }
         ensures cause { result ≡ Err ReadError.Failed → Rose (R.faults reader.old) (R.faults reader.new) }
     {

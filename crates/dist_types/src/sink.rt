@@ -79,14 +79,16 @@ impl Sink for MemSink {
     fn write(&mut self, bytes: &[u8]) -> Result<usize, Failed>
         ensures within { IfOk result (λ n. n ≤ length bytes.now) }
         ensures some { IfOk result (λ n. 0 < length bytes.now → 0 < n) }
-        ensures added { IfOk result (λ n. Added (take n bytes.now) (Some (sink_held self.old)) (Some (sink_held self.new))) }
+        ensures added { IfOk result (λ n.
+            Added (take n bytes.now) (Some (sink_held self.old)) (Some (sink_held self.new))) }
         ensures same { OnErr result (sink_held self.new ≡ sink_held self.old) }
         ensures steady { OnOk result (sink_faults self.new ≡ sink_faults self.old) }
         ensures later { sink_faults self.old ≤ sink_faults self.new }
         ensures cause { OnErr result (Rose (sink_faults self.old) (sink_faults self.new)) }
 
         ensures fails { is_listed (sink_fails self.old) (sink_calls self.old) ≡ true → is_err result ≡ true }
-        ensures no_other { OnErr result ((is_listed (sink_fails self.old) (sink_calls self.old) ≡ true) ⊎ (sink_room self.old < length (sink_held self.old) + length bytes.now)) }
+        ensures no_other { OnErr result ((is_listed (sink_fails self.old) (sink_calls self.old) ≡ true)
+            ⊎ (sink_room self.old < length (sink_held self.old) + length bytes.now)) }
         ensures amount { IfOk result (λ n. n ≡ length bytes.now) }
         ensures counted { OnErr result (sink_faults self.new ≡ counted (sink_faults self.old)) }
         ensures calls { sink_calls self.new ≡ counted (sink_calls self.old) }

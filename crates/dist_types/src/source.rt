@@ -75,7 +75,8 @@ impl Source for MemSource {
     /// Fails exactly where this call is listed, and else reads as many bytes as fit.
     fn read(&mut self, buf: &mut [u8]) -> Result<usize, Failed>
         ensures within { IfOk result (λ n. n ≤ length buf.old) }
-        ensures taken { IfOk result (λ n. Taken (take n buf.new) (Some (source_left self.old)) (Some (source_left self.new))) }
+        ensures taken { IfOk result (λ n.
+            Taken (take n buf.new) (Some (source_left self.old)) (Some (source_left self.new))) }
         ensures end { IfOk result (λ n. n ≡ 0 → 0 < length buf.old → IsAtEnd (Some (source_left self.new))) }
         ensures same { OnErr result (source_left self.new ≡ source_left self.old) }
         ensures steady { OnOk result (source_faults self.new ≡ source_faults self.old) }
@@ -183,8 +184,8 @@ impl From<Failed> for ReadError {
     }
 }
 
-/// Reads to the end, or as many bytes as the limit says: what is left is what stands behind the limit. Each turn
-/// reads a byte or ends.
+/// Reads to the end, or as many bytes as the limit says: what is left is what stands behind the limit.
+/// Each turn reads a byte or ends.
 #[tactic(auto, using(crate::proofs::Contents::taken_then, crate::proofs::Contents::taken_none, crate::proofs::Contents::behind_limit))]
 pub fn read_up_to<S: Source>(
     alloc: Global,
@@ -219,14 +220,16 @@ pub fn read_up_to<S: Source>(
     Ok(out)
 }
 
-/// All that a source has left. Failed only where the source's count of faults rose, TooLong exactly where more
-/// bytes than the limit came: then one byte past it was read. After another error a front was read.
+/// All that a source has left. Failed only where the source's count of faults rose, TooLong exactly where
+/// more bytes than the limit came: then one byte past it was read. After another error a front was read.
 pub fn read_whole<S: Source>(alloc: Global, input: &mut S, limit: u32) -> Result<Vec<u8>, ReadError>
     ensures all { IfOk result (λ v. Taken v.items (S.left input.old) (S.left input.new)) }
     ensures at_end { OnOk result (IsAtEnd (S.left input.new)) }
     ensures short { IfOk result (λ v. length v.items ≤ limit) }
-    ensures too_long { result ≡ Err ReadError.TooLong → IfSome (S.left input.old) (λ left. limit < length left) }
-    ensures rest { result ≡ Err ReadError.TooLong → S.left input.new ≡ left_behind (limit + 1) (S.left input.old) }
+    ensures too_long { result ≡ Err ReadError.TooLong
+        → IfSome (S.left input.old) (λ left. limit < length left) }
+    ensures rest { result ≡ Err ReadError.TooLong
+        → S.left input.new ≡ left_behind (limit + 1) (S.left input.old) }
     ensures front { OnErr result (TookFront (S.left input.old) (S.left input.new)) }
     ensures steady { OnOk result (S.faults input.new ≡ S.faults input.old) }
     ensures uncounted { result ≢ Err ReadError.Failed → S.faults input.new ≡ S.faults input.old }

@@ -158,17 +158,21 @@ impl<N: Net + Drop> Dialer for TcpDialer<N> {
         ensures ok { IfOk result (λ reply. Recorded (asked_row host.now port request.now (Ok reply.items))
             (real_asked self.old) (real_asked self.new)) }
         ensures failed { result ≡ Err AskFault.Failed
-            → Recorded (asked_row host.now port request.now (Err AskFault.Failed)) (real_asked self.old) (real_asked self.new) }
+            → Recorded (asked_row host.now port request.now (Err AskFault.Failed))
+            (real_asked self.old) (real_asked self.new) }
         ensures memory { result ≡ Err AskFault.Memory
             → KeptOrRecorded (asked_row host.now port request.now (Err AskFault.Memory))
             (real_asked self.old) (real_asked self.new) }
         ensures steady { OnOk result (real_dialer_faults self.new ≡ real_dialer_faults self.old) }
-        ensures uncounted { result ≡ Err AskFault.Memory → real_dialer_faults self.new ≡ real_dialer_faults self.old }
+        ensures uncounted { result ≡ Err AskFault.Memory
+            → real_dialer_faults self.new ≡ real_dialer_faults self.old }
         ensures later { real_dialer_faults self.old ≤ real_dialer_faults self.new }
-        ensures cause { result ≡ Err AskFault.Failed → Rose (real_dialer_faults self.old) (real_dialer_faults self.new) }
+        ensures cause { result ≡ Err AskFault.Failed
+            → Rose (real_dialer_faults self.old) (real_dialer_faults self.new) }
 
         ensures short { IfOk result (λ reply. length reply.items ≤ 2147483648) }
-        ensures counted { result ≡ Err AskFault.Failed → real_dialer_faults self.new ≡ counted (real_dialer_faults self.old) }
+        ensures counted { result ≡ Err AskFault.Failed
+            → real_dialer_faults self.new ≡ counted (real_dialer_faults self.old) }
     {
         match fetch(self.alloc, &self.net, host, port, request) {
             Ok(reply) => Ok(reply),

@@ -1,13 +1,13 @@
 //! Servers, a scheduler and a builder in memory that tell their record: the traits can be met.
-use crate::builder::{BuildFault, BuilderIncoming};
-use crate::command::CompileCommand;
-use crate::fault::raise;
-use crate::ids::{JobId, ServerId};
-use crate::outgoing::{CallFault, SchedulerOutgoing, ServerOutgoing};
-use crate::output::ProcessOutput;
-use crate::results::{AssignJobResult, BuildResult, JobState, UpdateJobStateResult};
-use crate::text::{Bytes, Items, Text};
-use crate::toolchain::Toolchain;
+use dist_types::builder::{BuildFault, BuilderIncoming};
+use dist_types::command::CompileCommand;
+use dist_types::fault::raise;
+use dist_types::ids::{JobId, ServerId};
+use dist_types::outgoing::{CallFault, SchedulerOutgoing, ServerOutgoing};
+use dist_types::output::ProcessOutput;
+use dist_types::results::{AssignJobResult, BuildResult, JobState, UpdateJobStateResult};
+use dist_types::text::{Bytes, Items, Text};
+use dist_types::toolchain::Toolchain;
 use std::alloc::Global;
 use std::test::Fail;
 

@@ -1,13 +1,13 @@
 //! The objects in memory, with a call that fails in mid-stream.
-use crate::clock::{Clock, MemClock};
-use crate::dialer::{AskFault, Dialer, MemDialer};
-use crate::fault::Failed;
-use crate::link::MemLink;
-use crate::output::OutputData;
-use crate::readers::{InputsReader, ToolchainReader};
-use crate::sink::{MemSink, Sink, StdSink, write_all};
-use crate::source::{MemSource, ReadError, Source, StdSource, read_up_to, read_whole};
-use crate::text::Bytes;
+use dist_types::clock::{Clock, MemClock};
+use dist_types::dialer::{AskFault, Dialer, MemDialer};
+use dist_types::fault::Failed;
+use dist_types::link::MemLink;
+use dist_types::output::OutputData;
+use dist_types::readers::{InputsReader, ToolchainReader};
+use dist_types::sink::{MemSink, Sink, StdSink, write_all};
+use dist_types::source::{MemSource, ReadError, Source, StdSource, read_up_to, read_whole};
+use dist_types::text::Bytes;
 use std::test::Fail;
 
 #[test]

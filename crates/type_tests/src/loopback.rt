@@ -1,13 +1,13 @@
 //! The system's clock and connections, over loopback.
-use crate::clock::{Clock, RealClock};
-use crate::dialer::Dialer;
-use crate::sink::write_all;
-use crate::source::read_up_to;
-use crate::tcp::{TcpDialer, TcpLink};
+use dist_types::clock::{Clock, RealClock};
+use dist_types::dialer::{AskFault, Dialer};
+use dist_types::sink::write_all;
+use dist_types::source::read_up_to;
+use dist_types::tcp::{TcpDialer, TcpLink};
 use std::alloc::Global;
-use std::net::{TcpListener, TcpStream};
+use std::net::{Net, SocketAddr, TcpListener, TcpStream};
 use std::test::Fail;
-use std::thread;
+use std::{io, thread};
 
 #[test]
 fn clock_of_the_system(rt: HostRuntime) {
@@ -63,4 +63,36 @@ fn dialer_over_loopback(rt: HostRuntime) -> Result<(), Fail> {
     assert!(rt; answered);
     assert_eq!(rt; reply?.as_slice(), b"pong".as_slice());
     Ok(())
+}
+
+// A network that opens nothing, for a cause of its own.
+#[derive(Drop)]
+struct NoNet {
+    cause: io::ErrorKind,
+}
+
+impl Net for NoNet {
+    type Stream = TcpStream;
+
+    type Listener = TcpListener;
+
+    fn bind(&self, _addr: SocketAddr) -> io::Result<TcpListener> {
+        Err(io::Error::from(self.cause))
+    }
+
+    fn connect(&self, _addr: SocketAddr) -> io::Result<TcpStream> {
+        Err(io::Error::from(self.cause))
+    }
+}
+
+fn fault_of(alloc: Global, cause: io::ErrorKind) -> Option<AskFault> {
+    let mut dialer = TcpDialer::new(alloc, NoNet { cause });
+    dialer.ask("127.0.0.1", 10501, b"ping").err()
+}
+
+#[test]
+fn a_connection_that_wants_memory_is_no_fault(rt: HostRuntime) {
+    let alloc = rt.alloc();
+    assert!(rt; fault_of(alloc, io::ErrorKind::OutOfMemory) == Some(AskFault::Memory));
+    assert!(rt; fault_of(alloc, io::ErrorKind::ConnectionRefused) == Some(AskFault::Failed));
 }

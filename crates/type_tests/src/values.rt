@@ -1,17 +1,19 @@
 //! Ids, commands, outputs and results, each call once with ample memory.
-use crate::addr::Addr;
-use crate::command::{
+use dist_types::addr::Addr;
+use dist_types::command::{
     SingleCompileCommand, osstring_tuples_to_strings, osstrings_to_strings, strings_to_osstrings,
     try_compile_command_to_dist,
 };
-use crate::ids::{JobId, ServerId};
-use crate::output::{OutputData, ProcessOutput};
-use crate::results::{AllocJobResult, JobAlloc, JobComplete, RunJobResult, UpdateJobStateResult};
-use crate::source::MemSource;
-use crate::text::{Bytes, Items, Text};
-use crate::toolchain::Toolchain;
-use crate::try_clone::TryClone;
-use crate::type_error::TypeError;
+use dist_types::ids::{JobId, ServerId};
+use dist_types::output::{OutputData, ProcessOutput};
+use dist_types::results::{
+    AllocJobResult, JobAlloc, JobComplete, RunJobResult, UpdateJobStateResult,
+};
+use dist_types::source::MemSource;
+use dist_types::text::{Bytes, Items, Text};
+use dist_types::toolchain::Toolchain;
+use dist_types::try_clone::TryClone;
+use dist_types::type_error::TypeError;
 use std::test::Fail;
 
 const ABC: &str = "ba7816bf8f01cfea414140de5dae2223b00361a396177a9cb410ff61f20015ad";

@@ -1,7 +1,7 @@
 //! Address texts against the examples of RFC 4291, section 2.2, and RFC 5952, sections 4 and 5.
-use crate::addr::{Addr, Ip, is_scoped, read_ip};
-use crate::ids::ServerId;
-use crate::type_error::TypeError;
+use dist_types::addr::{Addr, Ip, is_scoped, read_ip};
+use dist_types::ids::ServerId;
+use dist_types::type_error::TypeError;
 use std::test::Fail;
 
 // A text a line, and how the address that it says is printed.
