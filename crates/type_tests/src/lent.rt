@@ -8,7 +8,7 @@ use dist_types::dialer::{AskFault, Dialer, MemDialer};
 use dist_types::ids::JobId;
 use dist_types::outgoing::{CallFault, ServerOutgoing};
 use dist_types::results::{JobState, UpdateJobStateResult};
-use dist_types::text::{Bytes, Text};
+use dist_types::text::Bytes;
 use std::alloc::{AllocError, Global};
 use std::test::Fail;
 
@@ -17,9 +17,9 @@ use std::test::Fail;
 struct Telling<'d, D: Dialer> {
     alloc: Global,
     dialer: &'d mut D,
-    host: Text,
+    host: &'d str,
     port: u16,
-    token: Text,
+    token: &'d str,
 }
 
 #[tactic(auto, unfolding(crate::specs::Told::update_text))]
@@ -55,7 +55,7 @@ impl<'d, D: Dialer> ServerOutgoing for Telling<'d, D> {
 
     ghost lent = { λ s. record {
       name = s.dialer.ghost_name;
-      peer = record { host = s.host; port = s.port; token = s.token };
+      peer = record { host = s.host.now; port = s.port; token = s.token.now };
       asked = D.asked s.dialer.now;
     } };
 
@@ -66,11 +66,8 @@ impl<'d, D: Dialer> ServerOutgoing for Telling<'d, D> {
         job_id: JobId,
         state: JobState,
     ) -> Result<UpdateJobStateResult, CallFault> {
-        let request = update_text(self.alloc, self.token.get(), job_id, state)?;
-        match self
-            .dialer
-            .ask(self.host.get(), self.port, request.as_bytes())
-        {
+        let request = update_text(self.alloc, self.token, job_id, state)?;
+        match self.dialer.ask(self.host, self.port, request.as_bytes()) {
             Ok(reply) => answer_in(&reply),
             Err(AskFault::Failed) => Err(CallFault::Lost),
             Err(AskFault::Memory) => Err(CallFault::Memory),
@@ -95,26 +92,26 @@ fn tell_both<O: ServerOutgoing>(
 }
 
 // The same over the caller's dialer.
+#[tactic(auto, using(crate::proofs::ToldLemmas::told_twice))]
 fn tell_through<D: Dialer>(
+    alloc: Global,
     dialer: &mut D,
-    host: Text,
-    port: u16,
-    token: Text,
+    peer: (&str, u16),
+    token: &str,
     job: JobId,
 ) -> (
     Result<UpdateJobStateResult, CallFault>,
     Result<UpdateJobStateResult, CallFault>,
 )
     ensures { result.0 ≢ Err CallFault.Memory → result.1 ≢ Err CallFault.Memory
-        → ToldTwice (record { host = host; port = port; token = token }) job.0 JobState.Started JobState.Complete
-        result.0 result.1 (D.asked dialer.old) (D.asked dialer.new) }
+        → ToldTwice (record { host = peer.entry.0.now; port = peer.entry.1; token = token.now }) job.0
+        JobState.Started JobState.Complete result.0 result.1 (D.asked dialer.old) (D.asked dialer.new) }
 {
-    let alloc = host.alloc();
     let mut telling = Telling {
         alloc,
         dialer,
-        host,
-        port,
+        host: peer.0,
+        port: peer.1,
         token,
     };
     tell_both(&mut telling, job)
@@ -125,8 +122,7 @@ fn a_lent_dialer_keeps_the_record(rt: HostRuntime) -> Result<(), Fail> {
     let alloc = rt.alloc();
     let replies = vec![in alloc; Bytes::from_slice(alloc, b"ok")?]?;
     let mut dialer = MemDialer::new(alloc, replies, Vec::new(alloc));
-    let (host, token) = (Text::of(alloc, "scheduler")?, Text::of(alloc, "t")?);
-    let (first, second) = tell_through(&mut dialer, host, 10600, token, JobId(7));
+    let (first, second) = tell_through(alloc, &mut dialer, ("scheduler", 10600), "t", JobId(7));
     assert!(rt; first.is_ok());
     assert!(rt; second.err() == Some(CallFault::Lost));
     let rows = dialer.asked();
