@@ -1,6 +1,8 @@
-//! The state and the plain program beside it: each call goes to both, and then the entry, the answer and the
+//! The state and the reference beside it: each call goes to both, and then the entry, the answer and the
 //! books are compared.
 use crate::text::line;
+use core_reference::entries::rule;
+use core_reference::questions;
 use dist_token::job_token::JWTJobAuthorizer;
 use dist_types::ids::{JobId, ServerId, ServerNonce};
 use dist_types::results::JobState;
@@ -10,15 +12,13 @@ use sched_core::answers::{Committed, Picked, Undone};
 use sched_core::call::Call;
 use sched_core::entry::{CoreEntry, CoreKind, Reserved, UpdateAnswer};
 use sched_core::error::SchedError;
-use sched_core::plain;
 use sched_core::reservation::Reservation;
 use sched_core::rows::{HeldRow, JobRow, ServerRow};
-use sched_core::rules::rule;
 use sched_core::state::SchedState;
 use std::alloc::Global;
 use std::process::Abort;
 
-/// The state, the log that the plain program made of the same calls, and the reservations in hand.
+/// The state, the log that the reference made of the same calls, and the reservations in hand.
 pub(crate) struct Both {
     alloc: Global,
     state: SchedState<JWTJobAuthorizer>,
@@ -51,7 +51,7 @@ impl Both {
         self.held.len()
     }
 
-    /// The entries of the plain program.
+    /// The entries of the reference.
     pub(crate) fn log(&self) -> &[CoreEntry] {
         &self.log
     }
@@ -64,13 +64,13 @@ impl Both {
             .unwrap_or(0)
     }
 
-    /// The entry that the plain program makes of a call.
-    fn plain(&self, rt: &impl Abort, call: &Call) -> CoreEntry {
+    /// The entry that the reference makes of a call.
+    fn expected(&self, rt: &impl Abort, call: &Call) -> CoreEntry {
         let (base, count) = (self.state.base(), self.state.count());
         rule(self.alloc, base, count, &self.log, call).expect(rt, "memory")
     }
 
-    /// Compares the state with the plain program after a call that made this entry.
+    /// Compares the state with the reference after a call that made this entry.
     fn compare(&mut self, rt: &impl Abort, made: CoreEntry) {
         let alloc = self.alloc;
         let want = line(alloc, &made).expect(rt, "memory");
@@ -99,7 +99,7 @@ impl Both {
             cpus,
             key: bytes,
         };
-        let made = self.plain(rt, &call);
+        let made = self.expected(rt, &call);
         let answer = self
             .state
             .beat(now, server, nonce, cpus, key(rt, self.alloc))
@@ -109,7 +109,7 @@ impl Both {
     }
 
     pub(crate) fn status(&mut self, rt: &impl Abort, now: u64) {
-        let made = self.plain(rt, &Call::Status { now });
+        let made = self.expected(rt, &Call::Status { now });
         let answer = self.state.status(now).expect(rt, "a status");
         let numbers = (answer.num_servers, answer.num_cpus, answer.in_progress);
         assert!(rt; says_numbers(&made.kind, numbers));
@@ -117,14 +117,14 @@ impl Both {
     }
 
     pub(crate) fn reserve(&mut self, rt: &impl Abort, now: u64) {
-        let made = self.plain(rt, &Call::Reserve { now });
+        let made = self.expected(rt, &Call::Reserve { now });
         match self.state.reserve(now) {
             Ok(Picked::Reserved(r)) => {
                 assert!(rt; says_job(&made.kind, r.job_id(), r.registration()));
                 assert_eq!(rt; r.number(), self.len());
                 assert_eq!(rt;
                     Some(r.server_id()),
-                    plain::address(&self.log, r.registration())
+                    questions::address(&self.log, r.registration())
                 );
                 self.held.push(r).expect(rt, "memory");
             }
@@ -151,7 +151,7 @@ impl Both {
             job,
             state,
         };
-        let made = self.plain(rt, &call);
+        let made = self.expected(rt, &call);
         let answer = if ready {
             self.state.commit(now, r, JobState::Ready)
         } else {
@@ -169,7 +169,7 @@ impl Both {
         }
         let r = self.held.swap_remove(place);
         let (number, job) = (r.number(), r.job_id());
-        let made = self.plain(rt, &Call::Undo { now, number, job });
+        let made = self.expected(rt, &Call::Undo { now, number, job });
         let answer = self.state.undo(now, r);
         assert!(rt; says_undone(&made.kind, answer));
         self.compare(rt, made);
@@ -189,7 +189,7 @@ impl Both {
             job,
             state,
         };
-        let made = self.plain(rt, &call);
+        let made = self.expected(rt, &call);
         let answer = match self.state.update(now, server, job, state) {
             Ok(_) => UpdateAnswer::Accepted,
             Err(SchedError::UnknownJob) => UpdateAnswer::Unknown,
@@ -299,7 +299,7 @@ fn compare_servers(
     state: &SchedState<JWTJobAuthorizer>,
     log: &[CoreEntry],
 ) {
-    let rows = plain::servers(alloc, log).expect(rt, "memory");
+    let rows = questions::servers(alloc, log).expect(rt, "memory");
     assert_eq!(rt; state.servers().count(), rows.len());
     for (a, b) in state.servers().zip(&rows) {
         assert!(rt; same_server(&a, b));
@@ -312,14 +312,14 @@ fn same_job(a: &JobRow, b: &HeldRow, at: Option<ServerId>) -> bool {
         && at == Some(a.server)
 }
 
-/// The jobs are the reservations of the plain program, by rising id.
+/// The jobs are the reservations of the reference, by rising id.
 fn compare_jobs(
     rt: &impl Abort,
     alloc: Global,
     state: &SchedState<JWTJobAuthorizer>,
     log: &[CoreEntry],
 ) {
-    let rows = plain::reservations(alloc, log).expect(rt, "memory");
+    let rows = questions::reservations(alloc, log).expect(rt, "memory");
     assert_eq!(rt; state.jobs().count(), rows.len());
     let mut before = None;
     for a in state.jobs() {
@@ -328,7 +328,7 @@ fn compare_jobs(
             .copied()
             .find(|b| b.job == a.job)
             .expect(rt, "the job");
-        assert!(rt; same_job(&a, &found, plain::address(log, a.reg)));
+        assert!(rt; same_job(&a, &found, questions::address(log, a.reg)));
         assert!(rt; before < Some(a.job));
         before = Some(a.job);
     }

@@ -1,5 +1,5 @@
 //! Generated histories of all six calls: after each call the state has the entry, the answer and the books
-//! of the plain program.
+//! of the reference.
 use crate::both::Both;
 use dist_types::addr::Addr;
 use dist_types::ids::{JobId, ServerId, ServerNonce};
@@ -156,7 +156,7 @@ fn history(rt: &impl Abort, alloc: Global, seed: u64, base: u64, count: u64) -> 
 /// Three hundred histories of sixty calls: some whose ids wrap, some whose ids end. Every kind of answer
 /// comes.
 #[test]
-fn histories_match_the_plain_program(rt: HostRuntime) -> Result<(), Fail> {
+fn histories_match_the_reference(rt: HostRuntime) -> Result<(), Fail> {
     let alloc = rt.alloc();
     let mut seen = 0;
     for seed in 0..300u64 {

@@ -1,4 +1,4 @@
-//! Each worked run, on the state and on the plain program: its calls, the entry of each, and the books after
+//! Each worked run, on the state and on the reference: its calls, the entry of each, and the books after
 //! the last.
 use crate::both::Both;
 use crate::text::{books, line};

@@ -1,8 +1,8 @@
 //! The text of an entry and of the books, as a printed run has them.
+use core_reference::questions;
 use dist_types::ids::JobId;
 use dist_types::results::JobState;
 use sched_core::entry::{CoreEntry, CoreKind, Reserved, UpdateAnswer};
-use sched_core::plain;
 use sched_core::rows::{HeldRow, ServerRow};
 use std::alloc::{AllocError, Global};
 
@@ -149,13 +149,13 @@ fn job_line(alloc: Global, row: &HeldRow) -> Result<String, AllocError> {
 /// The registrations that stand and the unended reservations of a log, one a line.
 pub fn books(alloc: Global, log: &[CoreEntry]) -> Result<String, AllocError> {
     let mut out = String::new(alloc);
-    let servers = plain::servers(alloc, log)?;
+    let servers = questions::servers(alloc, log)?;
     for row in &servers {
         let line = server_line(alloc, row)?;
         out.push_str(line.as_str())?;
         out.push_str("\n")?;
     }
-    let held = plain::reservations(alloc, log)?;
+    let held = questions::reservations(alloc, log)?;
     for row in &held {
         let line = job_line(alloc, row)?;
         out.push_str(line.as_str())?;

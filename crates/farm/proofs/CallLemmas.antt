@@ -8,7 +8,7 @@ use Rattle.dist_types.specs.Addr.{◌>>=◌}
 use Rattle.sched_core.specs.Cuts.{Cut, cuts, cuts_behind}
 use Rattle.sched_core.proofs.Lists.{list_any-push, followed, cuts_behind-push, end_cut}
 use Rattle.sched_core.proofs.AllLemmas.{is_false}
-use Rattle.sched_core.proofs.PlainLemmas.{list_any-map}
+use Rattle.sched_core.proofs.Lists.{list_any-map}
 use Rattle.farm.specs.declared.entry.Entry.{Entry}
 use Rattle.farm.specs.declared.entry.OutCall.{OutCall}
 use Rattle.farm.specs.Calls.{settled_at, is_settled, waiting_at}

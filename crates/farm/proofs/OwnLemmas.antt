@@ -12,7 +12,7 @@ use Rattle.sched_core.specs.Reservation.{Booking, bookings, is_unspent, unspent,
 use Rattle.sched_core.specs.Rule.{is_among}
 use Rattle.sched_core.specs.Laws.{IsLegal, IsLegalBehind}
 use Rattle.sched_core.proofs.AllLemmas.{both, same_job-refl, same_job-sym, same_job-trans, same_job-eq, any-append, any-end, any-kept, any-all, found, own_only, not_false}
-use Rattle.sched_core.proofs.PlainLemmas.{list_any-map}
+use Rattle.sched_core.proofs.Lists.{list_any-map}
 use Rattle.sched_core.proofs.SoundLemmas.{legal_distinct}
 use Rattle.sched_core.proofs.StepLemmas.{bare, free, booked, free_stays, free-push}
 

@@ -22,7 +22,7 @@ use Rattle.sched_core.specs.Prune.{prune, left, is_expired, at_address}
 use Rattle.sched_core.specs.Rule.{replaced_by, says_new}
 use Rattle.sched_core.specs.Laws.{IsRule, IsLegal, AreDifferent}
 use Rattle.sched_core.proofs.LegalLemmas.{core_of, legal_has}
-use Rattle.sched_core.proofs.PlainLemmas.{list_any-map}
+use Rattle.sched_core.proofs.Lists.{list_any-map}
 use Rattle.sched_core.proofs.StandingLemmas.{standing-push}
 use Rattle.sched_core.proofs.AllLemmas.{both, and_left, and_right, or_left, or_right, or_true, not_true, not_false, true_false, is_false, all-weaker, all-both, all-filter, all-map, all-unmap}
 use Rattle.sched_core.proofs.RisingLemmas.{different-filter, different-push}

@@ -15,7 +15,7 @@ use Rattle.sched_core.specs.declared.books.Books.{Books}
 use Rattle.sched_core.specs.Log.{Core, same_job}
 use Rattle.sched_core.specs.Reservation.{booked_by, bookings, spends_by}
 use Rattle.sched_core.specs.Rows.{servers_of}
-use Rattle.sched_core.specs.Plain.{is_booked}
+use Rattle.sched_core.specs.Reservation.{is_booked}
 use Rattle.sched_core.specs.Laws.{IsRule, IsLegal}
 use Rattle.sched_core.specs.Books.{AreBooks, key_stays, key_by, one_more_if, unspent_stays, unspent_by, job_by, open_by, rows_next, held_next, jobs_next, open_next, unspent_next, made_next, SpendsOne}
 use Rattle.sched_core.proofs.AllLemmas.{same_job-sym}

@@ -19,7 +19,7 @@ use Rattle.sched_core.specs.Prune.{prune, left, is_expired}
 use Rattle.sched_core.specs.Rule.{replaced_by}
 use Rattle.sched_core.specs.Laws.{IsRule, IsLegal, AreDistinct, EndsOnce}
 use Rattle.sched_core.proofs.LegalLemmas.{core_of, legal_has}
-use Rattle.sched_core.proofs.PlainLemmas.{list_any-map}
+use Rattle.sched_core.proofs.Lists.{list_any-map}
 use Rattle.sched_core.proofs.StandingLemmas.{grown, registered-grown}
 use Rattle.sched_core.proofs.AllLemmas.{or_true, not_true, true_false, is_false, all-weaker, all-both, all-append, all-map, any-all, distinct-push, each_own}
 use Rattle.sched_core.proofs.FactLemmas.{Facts, facts, all_there}

@@ -9,8 +9,8 @@ use Rattle.sched_core.specs.Cuts.{Cut, cuts, lasting}
 use Rattle.sched_core.proofs.Lists.{map-map, filter-map, filter-filter, map-filter_agree, filter_map-map, followed, cuts_behind-push, cons_nil, and_left, end_cut}
 use Rattle.sched_core.specs.declared.entry.CoreEntry.{CoreEntry}
 use Rattle.sched_core.specs.Log.{newest, newer}
-use Rattle.sched_core.specs.Plain.{seen}
-use Rattle.sched_core.proofs.PlainLemmas.{newest-push}
+use Rattle.sched_core.specs.Cuts.{seen}
+use Rattle.sched_core.proofs.Lists.{newest-push}
 use Rattle.sched_core.proofs.AllLemmas.{is_false}
 use Rattle.sched_core.proofs.RoomLemmas.{lt_true, lt_false}
 

@@ -17,7 +17,7 @@ use Rattle.sched_core.specs.Job.{Committed, committed_by, places_by, place_of, c
 use Rattle.sched_core.specs.Rows.{row_of, servers_of}
 use Rattle.sched_core.specs.Laws.{IsRule, IsLegal, IsHeldOnce, HasStanding}
 use Rattle.sched_core.proofs.LegalLemmas.{core_of, legal_has}
-use Rattle.sched_core.proofs.PlainLemmas.{list_any-map}
+use Rattle.sched_core.proofs.Lists.{list_any-map}
 use Rattle.sched_core.proofs.AllLemmas.{and_left, and_right, both, or_left, or_right, neither, not_true, not_false, true_false, is_false, same_job-refl, same_job-sym, same_job-trans, same_job-eq, other_job-sym, all-weaker, all-both, all-append, all-filter, all-unmap, all-step, any-append, any-weaker, any-kept, any-end, none-kept, none-left, none-append, found, distinct-filter, only, names-filter}
 use Rattle.sched_core.proofs.StepLemmas.{bare, bare_commit, held, free, kept, begun, regs, booked, committed, held_stays, free_stays, begun_stays, held-push, free-push, kept-push, begun-push, place_of-push, regs-push}
 use Rattle.sched_core.proofs.FactLemmas.{Facts, SpendFacts, facts, pick_there}

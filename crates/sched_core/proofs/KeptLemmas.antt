@@ -25,11 +25,11 @@ use Rattle.sched_core.specs.Standing.{standing, address_of, key_at}
 use Rattle.sched_core.specs.Reservation.{Booking, booked_by, booked_at, is_unended, unended, unspent, claims_by, is_claimed, is_complete, spends_by, frees_by}
 use Rattle.sched_core.specs.Job.{Committed, committed_by, committed_at, commits, moves_by, moves_of, state_now, state_of, is_open, open_jobs, place_of}
 use Rattle.sched_core.specs.Rows.{row_of, servers_of, held_of, held_rows, placed, sorted_into, held_by_id, held_part, open_of, open_rows}
-use Rattle.sched_core.specs.Plain.{seen}
+use Rattle.sched_core.specs.Cuts.{seen}
 use Rattle.sched_core.specs.Rule.{is_among, begins, place_at}
 use Rattle.sched_core.specs.Books.{begins_by, state_after, held_stays, held_after, held_by, job_stays, job_after, job_over, job_by, job_placed, open_stays, open_after, open_over, open_by, unspent_stays, unspent_by, place_of_unspent, place_of_booking, IsAtRow}
 use Rattle.sched_core.proofs.StandingLemmas.{none-push}
-use Rattle.sched_core.proofs.PlainLemmas.{list_any-map, latest-push}
+use Rattle.sched_core.proofs.Lists.{list_any-map, latest-push}
 use Rattle.sched_core.proofs.AllLemmas.{same_job-eq, all-weaker, all-both, all-append, all-filter, all-map, all-unmap, and_right, any-weaker, found}
 use Rattle.sched_core.proofs.StepLemmas as step
 use Rattle.sched_core.proofs.FactLemmas.{Facts, SpendFacts, pick_there}

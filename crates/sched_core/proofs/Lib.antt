@@ -1,6 +1,7 @@
 pub mod AddressLemmas
 pub mod AllLemmas
 pub mod BookLemmas
+pub mod CallLemmas
 pub mod EndLemmas
 pub mod FactLemmas
 pub mod FreeLemmas
@@ -13,9 +14,9 @@ pub mod LawfulLemmas
 pub mod LegalLemmas
 pub mod Lists
 pub mod OnceLemmas
+pub mod OwnLemmas
 pub mod PickLemmas
 pub mod PlaceLemmas
-pub mod PlainLemmas
 pub mod RisingLemmas
 pub mod RoomLemmas
 pub mod RowLemmas

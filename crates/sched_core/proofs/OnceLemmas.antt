@@ -27,7 +27,7 @@ use Rattle.sched_core.specs.Advance.{follows, is_at, advance_by, advance}
 use Rattle.sched_core.specs.Rule.{reaped_by}
 use Rattle.sched_core.specs.Laws.{IsRule, IsLegal, AreDistinct, IsSpentOnce, IsEndedOnce, IsChain, HasOrder}
 use Rattle.sched_core.proofs.LegalLemmas.{core_of, legal_has}
-use Rattle.sched_core.proofs.PlainLemmas.{list_any-map}
+use Rattle.sched_core.proofs.Lists.{list_any-map}
 use Rattle.sched_core.proofs.AllLemmas.{and_left, and_right, both, or_left, or_right, not_true, true_false, is_false, same_job-sym, same_job-trans, all-weaker, all-both, all-append, all-map, all-unmap, any-weaker, any-all, any-kept, found, distinct-push, each_same, each_own}
 use Rattle.sched_core.proofs.StepLemmas.{bare, bare_commit, held, free, begun, booked, committed, grown, grown_commit, bookings-push, commits-push}
 use Rattle.sched_core.proofs.FactLemmas.{Facts, facts}

@@ -25,7 +25,8 @@ use Rattle.sched_core.specs.Reservation.{Booking, booked_by, booked_at, bookings
 use Rattle.sched_core.specs.Fault.{Noted, noted_by, noted_at, notes_by, forgives_by, is_remembered, error_of}
 use Rattle.sched_core.specs.Job.{Committed, open_jobs}
 use Rattle.sched_core.specs.Rows.{row_of, servers_of, held_of, held_rows, open_of, open_rows}
-use Rattle.sched_core.specs.Plain.{seen, is_booked}
+use Rattle.sched_core.specs.Cuts.{seen}
+use Rattle.sched_core.specs.Reservation.{is_booked}
 use Rattle.sched_core.specs.Prune.{at_address}
 use Rattle.sched_core.specs.Advance.{is_at, follows, advance_by, advance}
 use Rattle.dist_types.specs.Addr.{same_addr}
@@ -35,7 +36,7 @@ use Rattle.sched_core.specs.Rule.{rule, place_at, noted_over}
 use Rattle.sched_core.specs.Laws.{AreDistinct, IsRule, IsLegal}
 use Rattle.sched_core.specs.Books.{row_stays, place_if, served_by, freed_at, row_freed, takes_by, error_after, one_more_if, row_after, row_by}
 use Rattle.sched_core.proofs.StandingLemmas.{grown, last_sign-grown, standing-push, none-push}
-use Rattle.sched_core.proofs.PlainLemmas.{list_any-map}
+use Rattle.sched_core.proofs.Lists.{list_any-map}
 use Rattle.sched_core.proofs.AllLemmas.{and_left, and_right, both, or_true, true_false, is_false, same_job-refl, same_job-eq, all-weaker, all-map, all-unmap, any-all, any-weaker, found, own_only}
 use Rattle.sched_core.proofs.StepLemmas as step
 use Rattle.sched_core.proofs.LegalLemmas.{core_of, legal_has}

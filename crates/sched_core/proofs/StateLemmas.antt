@@ -30,7 +30,7 @@ use Rattle.sched_core.specs.Answers.{Leaves, verdict}
 use Rattle.sched_core.specs.Rule.{rule, is_among, place_at, noted_over, reserved_at}
 use Rattle.sched_core.specs.Books.{AreBooks, keys_of, key_of, IsAtRow, place_of_unspent, place_of_booking}
 use Rattle.sched_core.proofs.LegalLemmas.{core_of}
-use Rattle.sched_core.proofs.PlainLemmas.{list_any-map}
+use Rattle.sched_core.proofs.Lists.{list_any-map}
 use Rattle.sched_core.proofs.AllLemmas.{and_left, and_right, same_job-sym, any-weaker, all-weaker, all-map}
 use Rattle.sched_core.proofs.FactLemmas.{pick_there}
 use Rattle.sched_core.proofs.SortLemmas.{found_first}

@@ -1,24 +1,24 @@
 -- What one more entry does to the lists of reservations, commits and open jobs.
-use Rattle.std.proofs.Common.{◌≡◌, ℕ, List, [], ◌∷◌, ◌++◌, Bool, true, false, cond, not, ◌&&◌, map, filter, length, Option, None, refl, ap, ◌∙◌, sym}
-use Rattle.std.specs.Prelude.{option_to_list}
-use Rattle.std.specs.List.{list_any, filter_map}
+use Rattle.std.proofs.Common.{◌≡◌, ℕ, ◌+◌, List, [], ◌∷◌, ◌++◌, Bool, true, false, cond, not, ◌&&◌, map, filter, length, Option, None, refl, ap, ◌∙◌, sym, arith}
+use Rattle.std.specs.Prelude.{option_to_list, count_by}
+use Rattle.std.specs.List.{list_any, filter_map, cons_option}
 use Rattle.std.specs.Option.{option_map}
 use Rattle.std.proofs.lemmas.List.{map-append}
+use Rattle.std.proofs.lemmas.List.Sums.{sum_by-cons}
 use Rattle.std.proofs.lemmas.List.Elements.{filter-append, filter_map-append, filter_agree}
-use Rattle.sched_core.specs.Cuts.{cuts}
+use Rattle.sched_core.specs.Cuts.{cuts, cuts_behind}
 use Rattle.dist_types.specs.declared.ids.JobId.{JobId}
 use Rattle.dist_types.specs.declared.results.JobState.TheVariants.{Pending, Ready, Started, Complete}
-use Rattle.sched_core.proofs.Lists.{map-map, filter-map, filter-filter, map-same, followed, cuts_behind-push, filter_map-map, cons_nil, map-option, end_cut, Grows, lasting-push}
+use Rattle.sched_core.proofs.Lists.{newest-push, map-map, filter-map, filter-filter, map-same, followed, cuts_behind-push, filter_map-map, cons_nil, map-option, end_cut, Grows, lasting-push}
 use Rattle.sched_core.specs.declared.entry.CoreEntry.{CoreEntry}
 use Rattle.sched_core.specs.declared.entry.CoreKind.{CoreKind}
 use Rattle.sched_core.specs.declared.entry.CoreKind.TheVariants.{Beat, Reserve, Commit, Undo, Update, Status}
 use Rattle.sched_core.specs.declared.entry.Reserved.TheVariants.{Job, NoRoom, Spent}
 use Rattle.sched_core.specs.Log.{newest, newer}
 use Rattle.sched_core.specs.Standing.{registered_at, ends_by, standing}
-use Rattle.sched_core.specs.Reservation.{Booking, booked_by, booked_at, bookings, is_unspent, is_unended, unspent, unended, spends_by, frees_by, is_complete}
+use Rattle.sched_core.specs.Reservation.{is_booked, Booking, booked_by, booked_at, bookings, is_unspent, is_unended, unspent, unended, spends_by, frees_by, is_complete}
 use Rattle.sched_core.specs.Job.{Committed, committed_by, committed_at, commits, is_open, open_jobs, closes_by, places_by, place_of}
 use Rattle.sched_core.proofs.StandingLemmas.{none-push, standing-push}
-use Rattle.sched_core.proofs.PlainLemmas.{newest-push}
 
 -- without the entries after it
 abbrev pub bare : Booking → Booking
@@ -223,3 +223,21 @@ begun-push log e =
   where
     new : List Committed
     new = filter (λ c. not (is_complete c.state)) (option_to_list (committed log e))
+
+-- the reservations are as many as the entries that make one
+booked_step : (k : CoreKind) (number now : ℕ) (later : List CoreEntry) (n : ℕ) (bs : List Booking) → n ≡ length bs → cond (is_booked k) 1 0 + n ≡ length (cons_option (booked_by k number now later) bs)
+booked_step (Beat server nonce cpus key pruned reaped replaced is_new) number now later n bs e = omega (arith, e)
+booked_step (Reserve (Job job reg forgiven)) number now later n bs e = omega (arith, e)
+booked_step (Reserve (NoRoom m)) number now later n bs e = omega (arith, e)
+booked_step (Reserve Spent) number now later n bs e = omega (arith, e)
+booked_step (Commit job state kept) number now later n bs e = omega (arith, e)
+booked_step (Undo job noted was_ended) number now later n bs e = omega (arith, e)
+booked_step (Update server job state answer) number now later n bs e = omega (arith, e)
+booked_step (Status pruned servers cpus jobs) number now later n bs e = omega (arith, e)
+
+booked_from : (front xs : List CoreEntry) → count_by (λ e. is_booked e.kind) xs ≡ length (filter_map booked_at (cuts_behind front xs))
+booked_from front [] = refl
+booked_from front (x ∷ xs) = sum_by-cons (λ e. cond (is_booked e.kind) 1 0) x xs ∙ booked_step x.kind (length front) x.now xs (count_by (λ e. is_booked e.kind) xs) (filter_map booked_at (cuts_behind (front ++ x ∷ []) xs)) (booked_from (front ++ x ∷ []) xs)
+
+pub bookings-count : (log : List CoreEntry) → count_by (λ e. is_booked e.kind) log ≡ length (bookings log)
+bookings-count log = booked_from [] log

@@ -23,7 +23,7 @@ use Rattle.sched_core.specs.Fault.{notes_by, forgives_by}
 use Rattle.sched_core.specs.Job.{moves_by, closes_by}
 use Rattle.sched_core.specs.Rows.{servers_of, held_rows, open_rows, placed, held_part, held_by_id}
 use Rattle.sched_core.specs.Rule.{place_at}
-use Rattle.sched_core.specs.Plain.{is_booked}
+use Rattle.sched_core.specs.Reservation.{is_booked}
 use Rattle.sched_core.specs.Laws.{IsLegal}
 
 -- the rows of the registrations that stand

@@ -1,5 +1,5 @@
 -- Logs whose entries are each the core rule's over those before them, and what every such log has.
-use Rattle.std.specs.Prelude.{◌≡◌, ◌≢◌, ◌≤◌, ◌<◌, ℕ, ◌+◌, ◌/◌, List, [], ◌∷◌, length, map, filter, Bool, true, false, ◌==◌, count_by}
+use Rattle.std.specs.Prelude.{◌≡◌, ◌≢◌, ◌≤◌, ◌<◌, ℕ, ◌+◌, ◌/◌, ◌^◌, List, [], ◌∷◌, length, map, filter, Bool, true, false, ◌==◌, count_by}
 use Rattle.std.specs.List.{AllByRecursion, list_any, filter_map}
 use Rattle.std.specs.List.Sorted.{IsPermutation}
 use Rattle.sched_core.specs.Cuts.{cuts, cuts_behind}
@@ -32,6 +32,10 @@ IsLegalBehind base count front log = AllByRecursion (λ c. IsRule (record { base
 -- each entry is the rule's over the entries before it
 abbrev pub IsLegal : ℕ → ℕ → List CoreEntry → Type 0
 IsLegal base count log = IsLegalBehind base count [] log
+
+-- it holds of each legal log, whatever the first id is, and how many ids were given before
+abbrev pub InEachLegalLog : (List CoreEntry → Type 0) → Type 0
+InEachLegalLog Holds = (base count : ℕ) (log : List CoreEntry) → count < 2 ^ 64 → IsLegal base count log → Holds log
 
 -- no job stands twice among those
 abbrev pub AreDistinct : List JobId → Type 0

@@ -12,6 +12,6 @@ pub mod Prune
 pub mod Reap
 pub mod Advance
 pub mod Rule
+pub mod Calls
 pub mod Laws
 pub mod Books
-pub mod Plain

@@ -22,6 +22,11 @@ pub record Booking : Type 0 where
   pub reg : ℕ
   pub later : List CoreEntry
 
+-- whether an entry makes a reservation
+abbrev pub is_booked : CoreKind → Bool
+is_booked (Reserve (Job job reg forgiven)) = true
+is_booked other = false
+
 -- the reservation that an entry of this number makes, if it makes one
 abbrev pub booked_by : CoreKind → ℕ → ℕ → List CoreEntry → Option Booking
 booked_by (Reserve (Job job reg forgiven)) number now later = Some (record { number = number; now = now; job = job; reg = reg; later = later })

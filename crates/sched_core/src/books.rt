@@ -4,7 +4,7 @@ ghost use Rattle.sched_core.specs.Books.{MayMake, HasRoom, rows_next, held_next,
 
 use crate::entry::CoreEntry;
 use crate::held;
-use crate::plain::is_reservation;
+use crate::kind::is_reservation;
 use crate::rows::{HeldRow, JobRow, OpenRow, ServerRow};
 use crate::standing::{self, push_some};
 use dist_types::ids::{JobId, ServerId};
@@ -42,14 +42,16 @@ pub struct Books {
 /// Takes an entry of this number into the books. It takes no memory.
 pub fn absorb(books: &mut Books, step: &CoreEntry, number: u64)
     requires room { MayMake step.now.kind → HasRoom books.old }
-    requires open_room { vec_len books.old.open_ones + length (option_to_list (open_by step.now.kind books.old.jobs.items)) ≤ vec_capacity books.old.open_ones }
+    requires open_room { vec_len books.old.open_ones + length
+        (option_to_list (open_by step.now.kind books.old.jobs.items)) ≤ vec_capacity books.old.open_ones }
     ensures rows { books.new.rows.items ≡ rows_next books.old step.entry.now number }
     ensures held { books.new.held.items ≡ held_next books.old step.entry.now number }
     ensures jobs { books.new.jobs.items ≡ jobs_next books.old step.entry.now number }
     ensures open_ones { books.new.open_ones.items ≡ open_next books.old step.entry.now }
     ensures unspent { books.new.unspent.items ≡ unspent_next books.old step.entry.now number }
     ensures made { books.new.made ≡ made_next books.old step.entry.now }
-    ensures open_len { vec_len books.new.open_ones ≤ vec_len books.old.open_ones + length (option_to_list (open_by step.entry.now.kind books.old.jobs.items)) }
+    ensures open_len { vec_len books.new.open_ones ≤ vec_len books.old.open_ones +
+        length (option_to_list (open_by step.entry.now.kind books.old.jobs.items)) }
     ensures open_capacity { vec_capacity books.old.open_ones ≤ vec_capacity books.new.open_ones }
 {
     let served = standing::served(&step.kind, &books.open_ones);

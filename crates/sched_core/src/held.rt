@@ -358,7 +358,8 @@ fn address_of(found: &Option<UnspentRow>) -> Option<ServerId>
 
 /// The address of the unspent reservation of that number and job.
 pub fn unspent_address(unspent: &[UnspentRow], number: u64, job: JobId) -> Option<ServerId>
-    ensures { result ≡ option_map (λ u. u.server) (find (λ u. (u.number == number) && same_job u.job job) unspent.now) }
+    ensures { result ≡ option_map (λ u. u.server)
+        (find (λ u. (u.number == number) && same_job u.job job) unspent.now) }
 {
     let found = unspent_found(unspent, number, job);
     address_of(&found)

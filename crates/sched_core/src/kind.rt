@@ -1,10 +1,10 @@
 //! What one entry says of a registration, a job or a reservation.
 ghost use Rattle.std.specs.Prelude.{◌≡◌};
 ghost use Rattle.sched_core.specs.Log.{is_this, names_job};
-ghost use Rattle.sched_core.specs.Standing.{ends_by, renews_by, reserves_by, is_heard};
-ghost use Rattle.sched_core.specs.Reservation.{spends_by, is_accepted, is_started, is_complete, completes_by, reaps_by, undoes_by, ends_job_by, frees_by, claims_by};
+ghost use Rattle.sched_core.specs.Standing.{ends_by, renews_by, is_heard};
+ghost use Rattle.sched_core.specs.Reservation.{is_booked, spends_by, is_accepted, is_started, is_complete, completes_by, reaps_by, undoes_by, ends_job_by, frees_by, claims_by};
 ghost use Rattle.sched_core.specs.Fault.{notes_by, forgives_by};
-ghost use Rattle.sched_core.specs.Job.{places_by, moves_by, ends_place_by, closes_by};
+ghost use Rattle.sched_core.specs.Job.{moves_by, ends_place_by, closes_by};
 ghost use Rattle.sched_core.specs.Books.{takes_by, begins_by};
 
 use crate::entry::{CoreKind, Reserved, UpdateAnswer};
@@ -76,12 +76,12 @@ pub fn takes(kind: &CoreKind, r: u64) -> bool
     }
 }
 
-/// Whether an entry of this kind reserves the job at the registration.
-pub fn reserves(kind: &CoreKind, j: JobId, r: u64) -> bool
-    ensures { result ≡ reserves_by kind.now j r }
+/// Whether an entry of this kind makes a reservation.
+pub fn is_reservation(kind: &CoreKind) -> bool
+    ensures { result ≡ is_booked kind.now }
 {
     match kind {
-        CoreKind::Reserve(Reserved::Job { job, reg, .. }) => job.0 == j.0 && *reg == r,
+        CoreKind::Reserve(Reserved::Job { .. }) => true,
         CoreKind::Reserve(Reserved::NoRoom(_)) => false,
         CoreKind::Reserve(Reserved::Spent) => false,
         CoreKind::Commit { .. } => false,
@@ -261,24 +261,6 @@ pub fn forgives(kind: &CoreKind, reg: u64) -> bool
         CoreKind::Beat { .. } => false,
         CoreKind::Update { .. } => false,
         CoreKind::Status { .. } => false,
-    }
-}
-
-/// The registration at which an entry of this kind reserves the job.
-pub fn places(kind: &CoreKind, j: JobId) -> Option<u64>
-    ensures { result ≡ places_by kind.now j }
-{
-    match kind {
-        CoreKind::Reserve(Reserved::Job { job, reg, .. }) => {
-            if job.0 == j.0 { Some(*reg) } else { None }
-        }
-        CoreKind::Reserve(Reserved::NoRoom(_)) => None,
-        CoreKind::Reserve(Reserved::Spent) => None,
-        CoreKind::Commit { .. } => None,
-        CoreKind::Undo { .. } => None,
-        CoreKind::Beat { .. } => None,
-        CoreKind::Update { .. } => None,
-        CoreKind::Status { .. } => None,
     }
 }
 

@@ -1,51 +1,58 @@
 //! What every log has whose entries are each the core rule's over those before them. Each law is the
 //! contract of a function that does nothing.
-ghost use Rattle.std.specs.Prelude.{◌≡◌, ◌<◌, ◌^◌, ℕ, List, map};
+ghost use Rattle.std.specs.Prelude.{◌≡◌, ◌<◌, ◌^◌, ◌++◌, ◌∷◌, [], ℕ, List, Some, true, false, length, map};
 ghost use Rattle.std.specs.List.{AllByRecursion};
 ghost use Rattle.sched_core.specs.declared.entry.CoreEntry.{CoreEntry};
-ghost use Rattle.sched_core.specs.Reservation.{bookings, unended};
+ghost use Rattle.dist_types.specs.declared.ids.JobId.{JobId};
+ghost use Rattle.sched_core.specs.declared.entry.CoreKind.TheVariants.{Reserve};
+ghost use Rattle.sched_core.specs.declared.entry.Reserved.TheVariants.{Job};
+ghost use Rattle.sched_core.specs.declared.call.Call.{Call};
+ghost use Rattle.sched_core.specs.Log.{Core, same_job};
+ghost use Rattle.sched_core.specs.Reservation.{bookings, spends_by, unended, unspent};
+ghost use Rattle.sched_core.specs.Rule.{rule, IsCall, is_among};
+ghost use Rattle.sched_core.specs.Calls.{call_of};
 ghost use Rattle.sched_core.specs.Job.{commits, open_jobs};
-ghost use Rattle.sched_core.specs.Laws.{IsLegal, IsLawful, AreDistinct, AreDifferent, AreJobRows, IsHeldOnce, IsSpentOnce, IsEndedOnce, HasOrder, IsBounded, IsFairEntry, EndsOnce, HasStanding};
+ghost use Rattle.sched_core.specs.Laws.{IsLegal, InEachLegalLog, IsLawful, AreDistinct, AreDifferent, AreJobRows, IsHeldOnce, IsSpentOnce, IsEndedOnce, HasOrder, IsBounded, IsFairEntry, EndsOnce, HasStanding};
 ghost use Rattle.sched_core.specs.Rows.{jobs_of};
 ghost use Rattle.sched_core.specs.Standing.{registrations, standing};
 ghost use Rattle.sched_core.specs.Cuts.{cuts};
 
 /// The ids of different reservations differ, until the ids are spent.
 pub fn ids_differ()
-    ensures { (base count : ℕ) (log : List CoreEntry) → count < 2 ^ 64 → IsLegal base count log → AreDistinct (map (λ b. b.job) (bookings log)) }
+    ensures { InEachLegalLog (λ log. AreDistinct (map (λ b. b.job) (bookings log))) }
 {}
 
 /// Each open job has exactly one unended reservation, and its registration stands.
 pub fn open_jobs_are_held()
-    ensures { (base count : ℕ) (log : List CoreEntry) → count < 2 ^ 64 → IsLegal base count log → AllByRecursion (λ c. IsHeldOnce log c.job) (open_jobs log) }
+    ensures { InEachLegalLog (λ log. AllByRecursion (λ c. IsHeldOnce log c.job) (open_jobs log)) }
 {}
 
 /// A reservation is spent at most once: of the entries after it, at most one is a commit or an undo of
 /// its job.
 pub fn reservations_are_spent_once()
-    ensures { (base count : ℕ) (log : List CoreEntry) → count < 2 ^ 64 → IsLegal base count log → AllByRecursion IsSpentOnce (bookings log) }
+    ensures { InEachLegalLog (λ log. AllByRecursion IsSpentOnce (bookings log)) }
 {}
 
 /// A reservation ends at most once: no entry undoes it, reaps it or accepts that it is complete after
 /// one that ended it.
 pub fn reservations_end_once()
-    ensures { (base count : ℕ) (log : List CoreEntry) → count < 2 ^ 64 → IsLegal base count log → AllByRecursion IsEndedOnce (bookings log) }
+    ensures { InEachLegalLog (λ log. AllByRecursion IsEndedOnce (bookings log)) }
 {}
 
 /// No job is committed and kept twice.
 pub fn jobs_are_committed_once()
-    ensures { (base count : ℕ) (log : List CoreEntry) → count < 2 ^ 64 → IsLegal base count log → AreDistinct (map (λ c. c.job) (commits log)) }
+    ensures { InEachLegalLog (λ log. AreDistinct (map (λ c. c.job) (commits log))) }
 {}
 
 /// A job's states follow pending, ready, started and complete: the first is pending or ready, and none
 /// is left out after it.
 pub fn states_are_in_order()
-    ensures { (base count : ℕ) (log : List CoreEntry) → count < 2 ^ 64 → IsLegal base count log → AllByRecursion HasOrder (commits log) }
+    ensures { InEachLegalLog (λ log. AllByRecursion HasOrder (commits log)) }
 {}
 
 /// The load of a registration that stands is at most c + 1 + c/8, c being its processors.
 pub fn loads_are_bounded()
-    ensures { (base count : ℕ) (log : List CoreEntry) → count < 2 ^ 64 → IsLegal base count log → AllByRecursion (IsBounded log) (standing log) }
+    ensures { InEachLegalLog (λ log. AllByRecursion (IsBounded log) (standing log)) }
 {}
 
 /// A job is reserved at a registration that stands and has room. Against each with room and no
@@ -53,30 +60,62 @@ pub fn loads_are_bounded()
 /// least number. Where each with room has an error its own is the oldest, and of equals it has the least
 /// number. And a reserve says that none has room only where none has.
 pub fn reserves_are_fair()
-    ensures { (base count : ℕ) (log : List CoreEntry) → count < 2 ^ 64 → IsLegal base count log → AllByRecursion (λ c. IsFairEntry c.before c.at.kind) (cuts log) }
+    ensures { InEachLegalLog (λ log. AllByRecursion (λ c. IsFairEntry c.before c.at.kind) (cuts log)) }
 {}
 
 /// Each unended reservation is at a registration that stands; so one that has ended has no load.
 pub fn reservations_are_at_standing_servers()
-    ensures { (base count : ℕ) (log : List CoreEntry) → count < 2 ^ 64 → IsLegal base count log → AllByRecursion (HasStanding log) (unended log) }
+    ensures { InEachLegalLog (λ log. AllByRecursion (HasStanding log) (unended log)) }
 {}
 
 /// A registration ends at most once: no entry prunes or replaces it after one that did.
 pub fn registrations_end_once()
-    ensures { (base count : ℕ) (log : List CoreEntry) → count < 2 ^ 64 → IsLegal base count log → AllByRecursion EndsOnce (registrations log) }
+    ensures { InEachLegalLog (λ log. AllByRecursion EndsOnce (registrations log)) }
 {}
 
 /// An address has at most one registration that stands.
 pub fn addresses_are_registered_once()
-    ensures { (base count : ℕ) (log : List CoreEntry) → IsLegal base count log → AreDifferent (map (λ g. g.server) (standing log)) }
+    ensures { (base count : ℕ) (log : List CoreEntry) → IsLegal base count log →
+        AreDifferent (map (λ g. g.server) (standing log)) }
 {}
 
 /// The rows of the unended reservations have rising job ids, and are exactly those reservations.
 pub fn job_rows_are_exact()
-    ensures { (base count : ℕ) (log : List CoreEntry) → count < 2 ^ 64 → IsLegal base count log → AreJobRows log (jobs_of log) }
+    ensures { InEachLegalLog (λ log. AreJobRows log (jobs_of log)) }
 {}
 
 /// All of these laws, as one.
 pub fn legal_logs_are_lawful()
-    ensures { (base count : ℕ) (log : List CoreEntry) → count < 2 ^ 64 → IsLegal base count log → IsLawful log }
+    ensures { InEachLegalLog IsLawful }
+{}
+
+/// A reservation stays unspent until an entry spends its job.
+pub fn reservations_stay_unspent()
+    ensures { (log : List CoreEntry) (e : CoreEntry) (number : ℕ) (job : JobId) →
+        is_among (unspent log) number job ≡ true → spends_by e.kind job ≡ false →
+        is_among (unspent (log ++ e ∷ [])) number job ≡ true }
+{}
+
+/// A reservation that an entry makes is unspent, under the number of that entry.
+pub fn reservations_begin_unspent()
+    ensures { (log : List CoreEntry) (e : CoreEntry) (job : JobId) (reg : ℕ) (forgiven : List ℕ) →
+        e.kind ≡ Reserve (Job job reg forgiven) → is_among (unspent (log ++ e ∷ [])) (length log) job ≡ true }
+{}
+
+/// Unspent reservations of one job have one number.
+pub fn reservations_have_one_number()
+    ensures { (base count : ℕ) (log : List CoreEntry) (a b : ℕ) (j k : JobId) → count < 2 ^ 64 → IsLegal base count log →
+        is_among (unspent log) a j ≡ true → is_among (unspent log) b k ≡ true → same_job k j ≡ true → a ≡ b }
+{}
+
+/// Each front of a legal log is legal.
+pub fn fronts_are_legal()
+    ensures { (base count : ℕ) (front log : List CoreEntry) → IsLegal base count (front ++ log) →
+        IsLegal base count front }
+{}
+
+/// Over a legal log the entry of a call is of no other call: the entry tells which call it is of.
+pub fn entries_tell_their_calls()
+    ensures { (s : Core) (c : Call) → s.count < 2 ^ 64 → IsLegal s.base s.count s.log → IsCall s c →
+        call_of s.log (rule s c) ≡ Some c }
 {}

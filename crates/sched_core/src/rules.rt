@@ -1,24 +1,17 @@
-//! The rules over plain rows, and the one entry that a call makes over a log, computed the plain way.
+//! The rules: what a call decides over the rows of what stands, is unended and is open.
 ghost use Rattle.std.specs.Prelude.{◌≡◌, ◌==◌, ◌&&◌, ◌+◌, ◌<◌, ◌^◌, ◌*◌, ◌/◌, ◌++◌, ◌∷◌, [], IfOk, OnOk, Some, None, if◌then◌else◌, length, map, filter, nat_lt, is_none, unwrap_or, find, option_and_then};
 ghost use Rattle.std.specs.List.{list_any};
-ghost use Rattle.sched_core.specs.declared.call.Call.TheVariants as call;
 ghost use Rattle.sched_core.specs.Log.{names, same_job};
-ghost use Rattle.sched_core.specs.Standing.{address_of};
-ghost use Rattle.sched_core.specs.Reservation.{unended};
-ghost use Rattle.sched_core.specs.Rows.{servers_of, held_rows, open_rows};
 ghost use Rattle.sched_core.specs.Pick.{has_room, roomy, is_faultless, is_lighter, is_older, first_best, or_else, pick, is_stale, forgiven};
 ghost use Rattle.sched_core.specs.Prune.{prune};
 ghost use Rattle.sched_core.specs.Reap.{is_overdue, is_reaped, reap};
 ghost use Rattle.sched_core.specs.Advance.{follows, is_at, advance_by, advance};
-ghost use Rattle.sched_core.specs.Rule.{rule, is_among, place_at, noted_over, reserved_at, reaped_by, replaced_by, says_new, is_left, counts_over, beat_over, commit_by, undo_by, update_over, status_over};
+ghost use Rattle.sched_core.specs.Rule.{noted_over, reserved_at, reaped_by, is_left, counts_over, beat_over};
 
-use crate::call::Call;
 use crate::entry::{CoreEntry, CoreKind, Reserved, UpdateAnswer};
-use crate::plain::{
-    address_if, is_held, open_jobs, reservation_count, reservation_place, reservations, servers,
-};
 use crate::rows::{HeldRow, OpenRow, ServerRow};
 use crate::standing;
+pub use crate::standing::{pruned_numbers, status_entry};
 use dist_types::ids::{JobId, ServerId, ServerNonce};
 use dist_types::results::{JobState, SchedulerStatusResult};
 use dist_types::text::{Bytes, Items};
@@ -185,14 +178,6 @@ pub fn forgiven_numbers(alloc: Global, rows: &[ServerRow], now: u64) -> Result<V
 
 // Which registrations are pruned, and which reservations reaped.
 
-/// The registrations that a heartbeat or a status prunes. Refused for want of memory alone.
-pub fn pruned(alloc: Global, log: &[CoreEntry], now: u64) -> Result<Vec<u64>, AllocError>
-    ensures pruned { IfOk result (λ v. v.items ≡ prune now (servers_of log.now)) }
-{
-    let rows = servers(alloc, log)?;
-    standing::pruned_numbers(alloc, &rows, now)
-}
-
 /// Whether a job in this state has waited too long.
 fn overdue(state: Option<JobState>, waited: u64) -> bool
     ensures { result ≡ is_overdue waited state }
@@ -218,7 +203,7 @@ fn reapable(held: &HeldRow, reg: u64, now: u64) -> bool
 }
 
 /// The jobs among those rows that a heartbeat of the registration reaps.
-fn reaped_jobs(
+pub fn reaped_jobs(
     alloc: Global,
     held: &[HeldRow],
     reg: u64,
@@ -230,19 +215,6 @@ fn reaped_jobs(
         .filter(|h| reapable(h, reg, now))
         .map(|h| h.job)
         .collect(alloc)
-}
-
-/// The jobs that a heartbeat of the registration reaps. Refused for want of memory alone.
-pub fn reaped(
-    alloc: Global,
-    log: &[CoreEntry],
-    reg: u64,
-    now: u64,
-) -> Result<Vec<JobId>, AllocError>
-    ensures reaped { IfOk result (λ v. v.items ≡ reap now reg (held_rows log.now)) }
-{
-    let held = reservations(alloc, log)?;
-    reaped_jobs(alloc, &held, reg, now)
 }
 
 // What an update answers.
@@ -270,14 +242,14 @@ fn is_there(there: Option<ServerId>, server: ServerId) -> bool
 }
 
 /// The open job of that id.
-pub(crate) fn open_job(rows: &[OpenRow], job: JobId) -> Option<OpenRow>
+pub fn open_job(rows: &[OpenRow], job: JobId) -> Option<OpenRow>
     ensures { result ≡ find (λ o. same_job o.job job) rows.now }
 {
     rows.iter().copied().find(|o| o.job.0 == job.0)
 }
 
 /// What an update of that open job answers.
-pub(crate) fn answer_by(found: &Option<OpenRow>, server: ServerId, state: JobState) -> UpdateAnswer
+pub fn answer_by(found: &Option<OpenRow>, server: ServerId, state: JobState) -> UpdateAnswer
     ensures { result ≡ advance_by found.now server state }
 {
     match found {
@@ -297,6 +269,13 @@ pub(crate) fn answer_by(found: &Option<OpenRow>, server: ServerId, state: JobSta
 }
 
 // The entry of each call.
+
+/// Whether the reservation is among those.
+pub fn is_held(held: &[HeldRow], number: u64, job: JobId) -> bool
+    ensures { result ≡ list_any (λ h. (h.number == number) && same_job h.job job) held.now }
+{
+    held.iter().any(|h| h.number == number && h.job.0 == job.0)
+}
 
 /// What becomes of a reserve that picked that registration.
 fn reserved(
@@ -330,7 +309,7 @@ fn reserved(
 
 /// What becomes of a reserve over those rows, where so many ids were given before. Refused for want of
 /// memory alone.
-pub(crate) fn reserve_over_rows(
+pub fn reserve_over_rows(
     alloc: Global,
     rows: &[ServerRow],
     now: u64,
@@ -345,24 +324,8 @@ pub(crate) fn reserve_over_rows(
     Ok(reserved(rows, &row, numbers, now, base, given))
 }
 
-/// The entry of a reserve.
-fn reserve(
-    alloc: Global,
-    base: u64,
-    count: u64,
-    log: &[CoreEntry],
-    now: u64,
-) -> Result<CoreEntry, AllocError>
-    ensures { IfOk result (λ e. e ≡ rule (record { base = base; count = count; log = log.now }) (call.Reserve now)) }
-{
-    let rows = servers(alloc, log)?;
-    let given = u128::from(count) + u128::from(reservation_count(log));
-    let kind = CoreKind::Reserve(reserve_over_rows(alloc, &rows, now, base, given)?);
-    Ok(CoreEntry { now, kind })
-}
-
 /// The registration that stands at an address, if there is one.
-pub(crate) fn noted_number(rows: &[ServerRow], server: Option<ServerId>) -> Option<u64>
+pub fn noted_number(rows: &[ServerRow], server: Option<ServerId>) -> Option<u64>
     ensures { result ≡ noted_over rows.now server }
 {
     match server {
@@ -372,47 +335,6 @@ pub(crate) fn noted_number(rows: &[ServerRow], server: Option<ServerId>) -> Opti
         }
         None => None,
     }
-}
-
-/// Whether the reservation is unended. Refused for want of memory alone.
-fn still_held(alloc: Global, log: &[CoreEntry], number: u64, job: JobId) -> Result<bool, AllocError>
-    ensures { IfOk result (λ b. b ≡ is_among (unended log.now) number job) }
-{
-    let held = reservations(alloc, log)?;
-    Ok(is_held(&held, number, job))
-}
-
-/// The entry of a commit. Refused for want of memory alone.
-fn commit(
-    alloc: Global,
-    log: &[CoreEntry],
-    now: u64,
-    number: u64,
-    job: JobId,
-    state: JobState,
-) -> Result<CoreEntry, AllocError>
-    ensures { IfOk result (λ e. e ≡ commit_by (is_among (unended log.now) number job) now job state) }
-{
-    let kept = still_held(alloc, log, number, job)?;
-    let kind = CoreKind::Commit { job, state, kept };
-    Ok(CoreEntry { now, kind })
-}
-
-/// The entry of an undo. Refused for want of memory alone.
-fn undo(
-    alloc: Global,
-    log: &[CoreEntry],
-    now: u64,
-    number: u64,
-    job: JobId,
-) -> Result<CoreEntry, AllocError>
-    ensures { IfOk result (λ e. e ≡ undo_by (noted_over (servers_of log.now) (option_and_then (address_of log.now) (place_at log.now number))) (is_among (unended log.now) number job) now job) }
-{
-    let rows = servers(alloc, log)?;
-    let ended = still_held(alloc, log, number, job)?;
-    let noted = noted_number(&rows, address_if(log, reservation_place(log, number)));
-    let kind = CoreKind::Undo { job, noted, ended };
-    Ok(CoreEntry { now, kind })
 }
 
 /// The jobs that a heartbeat with this nonce reaps, where that registration stands at its address.
@@ -438,7 +360,7 @@ fn reaped_there(
 }
 
 /// The entry of a heartbeat over those rows. Refused for want of memory alone.
-pub(crate) fn beat_over_rows(
+pub fn beat_over_rows(
     alloc: Global,
     rows: &[ServerRow],
     held: &[HeldRow],
@@ -467,46 +389,6 @@ pub(crate) fn beat_over_rows(
     Ok(CoreEntry { now, kind })
 }
 
-/// The entry of a heartbeat. Refused for want of memory alone.
-fn beat(
-    alloc: Global,
-    log: &[CoreEntry],
-    now: u64,
-    server: ServerId,
-    nonce: ServerNonce,
-    cpus: u64,
-    key: &Bytes,
-) -> Result<CoreEntry, AllocError>
-    ensures { IfOk result (λ e. e ≡ beat_over (servers_of log.now) (held_rows log.now) now server nonce cpus key.now) }
-{
-    let rows = servers(alloc, log)?;
-    let held = reservations(alloc, log)?;
-    beat_over_rows(alloc, &rows, &held, now, server, nonce, cpus, key.get())
-}
-
-/// The entry of an update. Refused for want of memory alone.
-fn update(
-    alloc: Global,
-    log: &[CoreEntry],
-    now: u64,
-    server: ServerId,
-    job: JobId,
-    state: JobState,
-) -> Result<CoreEntry, AllocError>
-    ensures { IfOk result (λ e. e ≡ update_over (open_rows log.now) now server job state) }
-{
-    let rows = open_jobs(alloc, log)?;
-    let found = open_job(&rows, job);
-    let answer = answer_by(&found, server, state);
-    let kind = CoreKind::Update {
-        server,
-        job,
-        state,
-        answer,
-    };
-    Ok(CoreEntry { now, kind })
-}
-
 /// Whether the registration, if there is one, is not pruned.
 fn left_standing(pruned: &[u64], reg: Option<u64>) -> bool
     ensures { result ≡ is_left pruned.now reg }
@@ -525,7 +407,7 @@ fn jobs_left(pruned: &[u64], jobs: &[OpenRow]) -> u64
 }
 
 /// The numbers of a status.
-pub(crate) fn counts(
+pub fn counts(
     rows: &[ServerRow],
     jobs: &[OpenRow],
     pruned: &[u64],
@@ -539,53 +421,5 @@ pub(crate) fn counts(
         num_servers: idle.num_servers,
         num_cpus: idle.num_cpus,
         in_progress: jobs_left(pruned, jobs),
-    }
-}
-
-/// The entry of a status. Refused for want of memory alone.
-fn status(alloc: Global, log: &[CoreEntry], now: u64) -> Result<CoreEntry, AllocError>
-    ensures { IfOk result (λ e. e ≡ status_over (servers_of log.now) (open_rows log.now) now) }
-{
-    let rows = servers(alloc, log)?;
-    let jobs = open_jobs(alloc, log)?;
-    let pruned = standing::pruned_numbers(alloc, &rows, now)?;
-    let numbers = counts(&rows, &jobs, &pruned, now);
-    Ok(standing::status_entry(now, pruned, numbers))
-}
-
-/// The one entry that a call makes over the log before it, where `count` jobs were reserved before that
-/// log and the first id is `base`. Refused for want of memory alone.
-pub fn rule(
-    alloc: Global,
-    base: u64,
-    count: u64,
-    log: &[CoreEntry],
-    asked: &Call,
-) -> Result<CoreEntry, AllocError>
-    ensures rule { IfOk result (λ e. e ≡ rule (record { base = base; count = count; log = log.now }) asked.now) }
-{
-    match asked {
-        Call::Reserve { now } => reserve(alloc, base, count, log, *now),
-        Call::Commit {
-            now,
-            number,
-            job,
-            state,
-        } => commit(alloc, log, *now, *number, *job, *state),
-        Call::Undo { now, number, job } => undo(alloc, log, *now, *number, *job),
-        Call::Beat {
-            now,
-            server,
-            nonce,
-            cpus,
-            key,
-        } => beat(alloc, log, *now, *server, *nonce, *cpus, key),
-        Call::Update {
-            now,
-            server,
-            job,
-            state,
-        } => update(alloc, log, *now, *server, *job, *state),
-        Call::Status { now } => status(alloc, log, *now),
     }
 }

@@ -155,7 +155,8 @@ pub fn served(kind: &CoreKind, open_ones: &[OpenRow]) -> Option<u64>
 
 /// The moment of the last sign of a registration after an entry.
 fn seen_after(row: &ServerRow, step: &CoreEntry, served: Option<u64>) -> u64
-    ensures { result ≡ (if renews_by step.entry.now.kind row.now.server || is_this served row.now.reg then step.entry.now.now else row.now.seen) }
+    ensures { result ≡ (if renews_by step.entry.now.kind row.now.server || is_this served row.now.reg then
+        step.entry.now.now else row.now.seen) }
 {
     if renews(&step.kind, row.server) || is_number(served, row.reg) {
         step.now

@@ -17,7 +17,6 @@ use crate::entry::{CoreEntry, CoreKind};
 use crate::error::SchedError;
 use crate::held::{is_unspent, unspent_address};
 use crate::keys::{self, RegistrationKey};
-use crate::plain::is_held;
 use crate::reservation::Reservation;
 use crate::rows::{Jobs, Servers};
 use crate::{rules, spending, standing};
@@ -148,7 +147,8 @@ impl<A: JobAuthorizer> SchedState<A> {
     pub fn reserve(&mut self, now: u64) -> Result<Picked, SchedError>
         // It appends the one entry that the core rule gives, and answers what that entry says.
         ensures logged { OnOk result (self.new ≡ logged self.old (rule self.old (call.Reserve now))) }
-        ensures picked { IfOk result (IsPicked A.key_of A.token_for self.old.log (rule self.old (call.Reserve now)).kind) }
+        ensures picked { IfOk result (IsPicked A.key_of A.token_for self.old.log
+            (rule self.old (call.Reserve now)).kind) }
         ensures refused { IfErr result (RefusesReserve (rule self.old (call.Reserve now)).kind) }
         ensures err { IfErr result (λ e. Leaves e self.old self.new (rule self.old (call.Reserve now))) }
     {
@@ -181,8 +181,10 @@ impl<A: JobAuthorizer> SchedState<A> {
     /// no unspent reservation of that number and job; it changes nothing. It takes no memory.
     pub fn commit(&mut self, now: u64, r: Reservation, state: JobState) -> Committed
         requires begins { begins state ≡ true }
-        ensures logged { self.new ≡ (if is_among (unspent self.old.log) r.number r.job then logged self.old (rule self.old (call.Commit now r.number r.job state)) else self.old) }
-        ensures answer { result ≡ committed_by (is_among (unspent self.old.log) r.number r.job) (rule self.old (call.Commit now r.number r.job state)).kind r }
+        ensures logged { self.new ≡ (if is_among (unspent self.old.log) r.number r.job then
+            logged self.old (rule self.old (call.Commit now r.number r.job state)) else self.old) }
+        ensures answer { result ≡ committed_by (is_among (unspent self.old.log) r.number r.job)
+            (rule self.old (call.Commit now r.number r.job state)).kind r }
     {
         let number = r.number();
         let job = r.job_id();
@@ -190,7 +192,7 @@ impl<A: JobAuthorizer> SchedState<A> {
         if !is_unspent(&self.books.unspent, number, job) {
             return Committed::Foreign(job);
         }
-        let kept = is_held(&self.books.held, number, job);
+        let kept = rules::is_held(&self.books.held, number, job);
         let kind = CoreKind::Commit { job, state, kept };
         let entry = CoreEntry { now, kind };
         take(
@@ -210,8 +212,10 @@ impl<A: JobAuthorizer> SchedState<A> {
     /// Foreign comes exactly where this state has no unspent reservation of that number and job; it
     /// changes nothing. It takes no memory.
     pub fn undo(&mut self, now: u64, r: Reservation) -> Undone
-        ensures logged { self.new ≡ (if is_among (unspent self.old.log) r.number r.job then logged self.old (rule self.old (call.Undo now r.number r.job)) else self.old) }
-        ensures answer { result ≡ undo_answer (is_among (unspent self.old.log) r.number r.job) (rule self.old (call.Undo now r.number r.job)).kind }
+        ensures logged { self.new ≡ (if is_among (unspent self.old.log) r.number r.job then
+            logged self.old (rule self.old (call.Undo now r.number r.job)) else self.old) }
+        ensures answer { result ≡ undo_answer (is_among (unspent self.old.log) r.number r.job)
+            (rule self.old (call.Undo now r.number r.job)).kind }
     {
         let number = r.number();
         let job = r.job_id();
@@ -221,7 +225,7 @@ impl<A: JobAuthorizer> SchedState<A> {
         }
         let server = unspent_address(&self.books.unspent, number, job);
         let noted = rules::noted_number(&self.books.rows, server);
-        let ended = is_held(&self.books.held, number, job);
+        let ended = rules::is_held(&self.books.held, number, job);
         let kind = CoreKind::Undo { job, noted, ended };
         let entry = CoreEntry { now, kind };
         take(
@@ -250,8 +254,10 @@ impl<A: JobAuthorizer> SchedState<A> {
         key: A,
     ) -> Result<HeartbeatServerResult, SchedError>
         // It appends the one entry that the core rule gives, and answers what that entry says.
-        ensures logged { OnOk result (self.new ≡ logged self.old (rule self.old (call.Beat now server nonce cpus (A.key_of key)))) }
-        ensures answer { IfOk result (λ r. r.is_new ≡ says_new_entry (rule self.old (call.Beat now server nonce cpus (A.key_of key)))) }
+        ensures logged { OnOk result (self.new ≡ logged self.old
+            (rule self.old (call.Beat now server nonce cpus (A.key_of key)))) }
+        ensures answer { IfOk result (λ r. r.is_new ≡ says_new_entry
+            (rule self.old (call.Beat now server nonce cpus (A.key_of key)))) }
         ensures bad_cpus { (result ≡ Err (SchedError.BadCpus cpus)) ↔ ((cpus ≡ 0) ⊎ (4294967295 < cpus)) }
         ensures errors { IfErr result (λ e. (e ≡ SchedError.BadCpus cpus) ⊎ (e ≡ SchedError.Memory)) }
         ensures err { OnErr result (self.new ≡ self.old) }
@@ -295,9 +301,12 @@ impl<A: JobAuthorizer> SchedState<A> {
         job: JobId,
         state: JobState,
     ) -> Result<UpdateJobStateResult, SchedError>
-        ensures logged { OnOk result (self.new ≡ logged self.old (rule self.old (call.Update now server job state))) }
-        ensures answer { ¬ IsErrOf result SchedError.Memory → result ≡ updated_by (rule self.old (call.Update now server job state)).kind }
-        ensures err { IfErr result (λ e. Leaves e self.old self.new (rule self.old (call.Update now server job state))) }
+        ensures logged { OnOk result (self.new ≡ logged self.old
+            (rule self.old (call.Update now server job state))) }
+        ensures answer { ¬ IsErrOf result SchedError.Memory →
+            result ≡ updated_by (rule self.old (call.Update now server job state)).kind }
+        ensures err { IfErr result (λ e. Leaves e self.old self.new
+            (rule self.old (call.Update now server job state))) }
     {
         let found = rules::open_job(&self.books.open_ones, job);
         let answer = rules::answer_by(&found, server, state);
@@ -362,12 +371,17 @@ fn make_room<A: JobAuthorizer>(
     ensures same { SameBooks books.old books.new }
     ensures keys { keys.new.items ≡ keys.old.items }
     ensures log { log.new.items ≡ log.old.items }
-    ensures log_room { vec_len log.old + length books.old.unspent.items ≤ vec_capacity log.old → vec_len log.new + length books.new.unspent.items ≤ vec_capacity log.new }
-    ensures open_room { vec_len books.old.open_ones + length books.old.unspent.items ≤ vec_capacity books.old.open_ones → vec_len books.new.open_ones + length books.new.unspent.items ≤ vec_capacity books.new.open_ones }
+    ensures log_room { vec_len log.old + length books.old.unspent.items ≤ vec_capacity log.old →
+        vec_len log.new + length books.new.unspent.items ≤ vec_capacity log.new }
+    ensures open_room { vec_len books.old.open_ones + length books.old.unspent.items ≤
+        vec_capacity books.old.open_ones → vec_len books.new.open_ones + length books.new.unspent.items ≤
+        vec_capacity books.new.open_ones }
     ensures room { OnOk result (HasRoom books.new) }
     ensures keys_room { OnOk result (vec_len keys.new < vec_capacity keys.new) }
-    ensures log_spare { OnOk result (vec_len log.new + length books.new.unspent.items + 2 ≤ vec_capacity log.new) }
-    ensures open_spare { OnOk result (vec_len books.new.open_ones + length books.new.unspent.items + 2 ≤ vec_capacity books.new.open_ones) }
+    ensures log_spare { OnOk result (vec_len log.new + length books.new.unspent.items + 2 ≤
+        vec_capacity log.new) }
+    ensures open_spare { OnOk result (vec_len books.new.open_ones + length books.new.unspent.items + 2 ≤
+        vec_capacity books.new.open_ones) }
 {
     let spending = books.unspent.len();
     books.rows.reserve(1)?;
@@ -389,14 +403,19 @@ fn take<A: JobAuthorizer>(
     step: CoreEntry,
     key: Option<RegistrationKey<A>>,
 )
-    requires state { IsState base count books.old keys.old.items log.old.items (vec_len log.old) (vec_capacity log.old) }
+    requires state { IsState base count books.old keys.old.items log.old.items (vec_len log.old)
+        (vec_capacity log.old) }
     requires rule { IsRule (record { base = base; count = count; log = log.old.items }) step }
     requires key { key ≡ key_by step.kind (length log.old.items) }
     requires room { MayMake step.kind → HasRoom books.old }
     requires keys_room { MayMake step.kind → vec_len keys.old < vec_capacity keys.old }
-    requires log_room { vec_len log.old + 1 + length (unspent_next books.old step (length log.old.items)) ≤ vec_capacity log.old }
-    requires open_room { vec_len books.old.open_ones + length (option_to_list (open_by step.kind books.old.jobs.items)) + length (unspent_next books.old step (length log.old.items)) ≤ vec_capacity books.old.open_ones }
-    ensures state { IsState base count books.new keys.new.items log.new.items (vec_len log.new) (vec_capacity log.new) }
+    requires log_room { vec_len log.old + 1 + length (unspent_next books.old step (length log.old.items)) ≤
+        vec_capacity log.old }
+    requires open_room { vec_len books.old.open_ones + length
+        (option_to_list (open_by step.kind books.old.jobs.items)) +
+        length (unspent_next books.old step (length log.old.items)) ≤ vec_capacity books.old.open_ones }
+    ensures state { IsState base count books.new keys.new.items log.new.items (vec_len log.new)
+        (vec_capacity log.new) }
     ensures log { log.new.items ≡ log.old.items ++ step ∷ [] }
 {
     absorb(books, &step, log.len() as u64);
