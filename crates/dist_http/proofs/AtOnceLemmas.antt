@@ -7,16 +7,16 @@ use Rattle.dist_wire.specs.Codec.{IsBytes, IsCodec}
 use Rattle.dist_wire.specs.MessageLaws.{toolchain_codec, heartbeat_codec, state_codec}
 use Rattle.dist_wire.specs.Reading.{toolchain_at, heartbeat_at, state_at}
 use Rattle.dist_wire.specs.Spelling.{SpellsToolchain, SpellsHeartbeat, SpellsState}
-use Rattle.dist_http.specs.declared.error.HttpError.{HttpError}
-use Rattle.dist_http.specs.declared.error.HttpError.TheVariants.{BadHead, NoRoute}
+use Rattle.http_head.specs.declared.error.HttpError.{HttpError}
+use Rattle.http_head.specs.declared.error.HttpError.TheVariants.{BadHead, WrongContentType, ParseError, BadRealIp, NoRoute, Unauthorised, Status as OtherStatus, Memory}
 use Rattle.dist_http.specs.declared.reply.Response.{Response}
-use Rattle.dist_http.specs.declared.request.Request.{Request}
+use Rattle.http_head.specs.declared.request.Request.{Request}
 use Rattle.dist_http.specs.declared.route.Asked.{Asked}
 use Rattle.dist_http.specs.declared.route.SchedRouted.{SchedRouted}
 use Rattle.dist_http.specs.declared.route.SchedRouted.TheVariants.{Alloc, Beat, Update, Status, Done}
 use Rattle.dist_http.specs.Asked.{IsAsked}
-use Rattle.dist_http.specs.Fault.{reply_of}
-use Rattle.dist_http.specs.Head.{IsRequest, IsNoRequest}
+use Rattle.dist_http.specs.Fault.{IsRefusal, reply_of}
+use Rattle.http_head.specs.Head.{IsRequest, IsNoRequest}
 use Rattle.dist_http.specs.InOrder.{IsAt, InForm}
 use Rattle.dist_http.specs.Message.{message_in}
 use Rattle.dist_http.specs.Refused.{NamesJob, AllocRefused, TellingRefused, IsRefused}
@@ -144,6 +144,32 @@ refused_is r peer client token e fits (inr (inr (inr (none, same)))) =
       elsewhere r (codes "GET") (codes "/api/v1/scheduler/status") none.no_status,
       no_job_named r none.no_state,
     ) (ap Err (sym same))
+
+-- a route refuses for no other reason than one that its reply tells
+pub refusal_told : (r : Request) (peer : Addr) (client token : List ℕ) (e : HttpError) → asked_of r peer client token ≡ Err e → IsRefusal e
+refusal_told r peer client token e h = by_error e (is_refused r peer client token e h)
+  where
+    by_error : (e : HttpError) → IsRefused r peer client token e → IsRefusal e
+    by_error BadHead why = tt {0}
+    by_error WrongContentType why = tt {0}
+    by_error ParseError why = tt {0}
+    by_error BadRealIp why = tt {0}
+    by_error NoRoute why = tt {0}
+    by_error (Unauthorised word) why = tt {0}
+    by_error (OtherStatus code body) (inl (at, inl none)) = absurd none
+    by_error (OtherStatus code body) (inl (at, inr (shown, none))) = absurd none
+    by_error (OtherStatus code body) (inr (inl (at, inl none))) = absurd none
+    by_error (OtherStatus code body) (inr (inl (at, inr (server, from, none)))) = absurd none
+    by_error (OtherStatus code body) (inr (inr (inl (named, inl none)))) = absurd none
+    by_error (OtherStatus code body) (inr (inr (inl (named, inr (server, from, none))))) = absurd none
+    by_error (OtherStatus code body) (inr (inr (inr (none, same)))) = absurd cc
+    by_error Memory (inl (at, inl none)) = absurd none
+    by_error Memory (inl (at, inr (shown, none))) = absurd none
+    by_error Memory (inr (inl (at, inl none))) = absurd none
+    by_error Memory (inr (inl (at, inr (server, from, none)))) = absurd none
+    by_error Memory (inr (inr (inl (named, inl none)))) = absurd none
+    by_error Memory (inr (inr (inl (named, inr (server, from, none))))) = absurd none
+    by_error Memory (inr (inr (inr (none, same)))) = absurd cc
 
 -- ---- the bytes
 

@@ -3,13 +3,13 @@ use Rattle.std.proofs.Common.{◌≡◌, ℕ, Bool, true, false, cond, List, dro
 use Rattle.std.specs.Prelude.{codes, nat_eq, option_map}
 use Rattle.std.specs.List.{starts_with}
 use Rattle.dist_wire.specs.Codec.{IsBytes, IsCodec}
-use Rattle.dist_http.specs.declared.error.HttpError.{HttpError}
-use Rattle.dist_http.specs.declared.error.HttpError.TheVariants.{WrongContentType, ParseError}
-use Rattle.dist_http.specs.declared.request.Request.{Request}
-use Rattle.dist_http.specs.Fields.{header}
+use Rattle.http_head.specs.declared.error.HttpError.{HttpError}
+use Rattle.http_head.specs.declared.error.HttpError.TheVariants.{WrongContentType, ParseError}
+use Rattle.http_head.specs.declared.request.Request.{Request}
+use Rattle.http_head.specs.Fields.{header}
 use Rattle.dist_http.specs.Message.{BeginsWith, begins_in, is_binary, message_in, HasMessage}
 use Rattle.dist_http.specs.Steps.{unless_none}
-use Rattle.dist_http.proofs.BearerLemmas.{begins}
+use Rattle.http_head.proofs.BearerLemmas.{begins}
 use Rattle.dist_http.proofs.StepLemmas.{from_none}
 
 module _ {M : Type 0} (Spells : M → List ℕ → Type 0) (at : List ℕ → Option (M × List ℕ)) (codec : IsCodec Spells at) where

@@ -12,12 +12,12 @@ use Rattle.std.specs.Str.Pattern.{FindsTextPrefix, StripsPrefix}
 use Rattle.dist_types.specs.Addr.{is_digits}
 use Rattle.dist_types.specs.Ids.{SaysJob}
 use Rattle.dist_types.specs.declared.ids.JobId.{JobId}
-use Rattle.dist_http.specs.declared.request.Request.{Request}
-use Rattle.dist_http.specs.Fields.{header, path_of}
+use Rattle.http_head.specs.declared.request.Request.{Request}
+use Rattle.http_head.specs.Fields.{header, path_of}
 use Rattle.dist_http.specs.InOrder.{IsAt, InForm}
 use Rattle.dist_http.specs.Route.{is_at, stripped, job_in, given_job, job_of, is_text, wants_json}
-use Rattle.dist_http.proofs.BearerLemmas.{equal_texts, same_text, begins}
-use Rattle.dist_http.proofs.FieldLemmas.{digits}
+use Rattle.http_head.proofs.BearerLemmas.{equal_texts, same_text, begins}
+use Rattle.http_head.proofs.FieldLemmas.{digits}
 
 both : (a b : Bool) → (a && b) ≡ true → (a ≡ true) × (b ≡ true)
 both true b h = (refl, h)

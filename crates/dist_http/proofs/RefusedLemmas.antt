@@ -7,18 +7,20 @@ use Rattle.dist_types.specs.declared.addr.Ip.{Ip}
 use Rattle.dist_types.specs.Addr.{ip_in, ip_of}
 use Rattle.dist_types.proofs.AddrLemmas.{ip_of_text, ip_is}
 use Rattle.dist_wire.specs.Codec.{IsBytes, IsCodec}
-use Rattle.dist_http.specs.declared.error.HttpError.{HttpError}
-use Rattle.dist_http.specs.declared.error.HttpError.TheVariants.{BadHead, WrongContentType, ParseError, BadRealIp, NoRoute, Unauthorised, Status, Memory}
-use Rattle.dist_http.specs.declared.reply.Word.{Word}
-use Rattle.dist_http.specs.declared.reply.Word.TheVariants.{NoBearerAuth, BearerAuthFailed, InvalidBearerToken, MismatchedAddress, InvalidJwt, LinkFailed}
-use Rattle.dist_http.specs.declared.request.Request.{Request}
-use Rattle.dist_http.specs.Bearer.{token_in, server_in, IsServerToken}
-use Rattle.dist_http.specs.Fields.{header}
+use Rattle.http_head.specs.declared.error.HttpError.{HttpError}
+use Rattle.http_head.specs.declared.error.HttpError.TheVariants.{BadHead, WrongContentType, ParseError, BadRealIp, NoRoute, Unauthorised, Status, Memory}
+use Rattle.http_head.specs.declared.word.Word.{Word}
+use Rattle.http_head.specs.declared.word.Word.TheVariants.{NoBearerAuth, BearerAuthFailed, InvalidBearerToken, MismatchedAddress, InvalidJwt, LinkFailed}
+use Rattle.http_head.specs.declared.request.Request.{Request}
+use Rattle.http_head.specs.Bearer.{token_in}
+use Rattle.dist_http.specs.Bearer.{server_in, IsServerToken}
+use Rattle.http_head.specs.Fields.{header}
 use Rattle.dist_http.specs.Message.{begins_in, is_binary, message_in}
 use Rattle.dist_http.specs.Refused.{ShowsNone, ClientRefused, ShowsServer, HasNoIp, ServerRefused, IsBinary, MessageRefused}
 use Rattle.dist_http.specs.Sender.{token_of, client_test, same_ip, origin, server_of, Shows, CameFrom}
 use Rattle.dist_http.specs.Steps.{◌>>=◌, unless_none, unless_false}
-use Rattle.dist_http.proofs.BearerLemmas.{equal_texts, same_text, begins, token_shown, shown_token, server_shown, shown_server}
+use Rattle.http_head.proofs.BearerLemmas.{equal_texts, same_text, begins, token_shown, shown_token}
+use Rattle.dist_http.proofs.BearerLemmas.{server_shown, shown_server}
 use Rattle.dist_http.proofs.MessageLemmas.{read_begins, begins_read}
 use Rattle.dist_http.proofs.SenderLemmas.{equal_ips, one_ip, came_from, from_came, shows, shown, from_here, by_token}
 use Rattle.dist_http.proofs.StepLemmas.{err_step}

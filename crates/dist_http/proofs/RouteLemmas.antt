@@ -11,16 +11,16 @@ use Rattle.dist_wire.specs.Reading.{toolchain_at, heartbeat_at, state_at}
 use Rattle.dist_wire.specs.Spelling.{SpellsToolchain, SpellsHeartbeat, SpellsState}
 use Rattle.dist_wire.specs.declared.heartbeat.HeartbeatServerHttpRequest.{HeartbeatServerHttpRequest}
 use Rattle.httparse.specs.Grammar.{print_request}
-use Rattle.dist_http.specs.declared.error.HttpError.{HttpError}
-use Rattle.dist_http.specs.declared.error.HttpError.TheVariants.{BadHead}
+use Rattle.http_head.specs.declared.error.HttpError.{HttpError}
+use Rattle.http_head.specs.declared.error.HttpError.TheVariants.{BadHead}
 use Rattle.dist_http.specs.declared.reply.Response.{Response}
-use Rattle.dist_http.specs.declared.request.Request.{Request}
+use Rattle.http_head.specs.declared.request.Request.{Request}
 use Rattle.dist_http.specs.declared.route.Asked.{Asked}
 use Rattle.dist_http.specs.declared.route.SchedRouted.{SchedRouted}
 use Rattle.dist_http.specs.declared.route.SchedRouted.TheVariants.{Alloc, Beat, Update, Status, Done}
 use Rattle.dist_http.specs.Asked.{IsAsked}
 use Rattle.dist_http.specs.Fault.{reply_of}
-use Rattle.dist_http.specs.Head.{IsRequest}
+use Rattle.http_head.specs.Head.{IsRequest}
 use Rattle.dist_http.specs.InOrder.{IsAt, InForm, IsAllocation, IsHeartbeat, IsUpdate, IsStatus}
 use Rattle.dist_http.specs.Message.{message_in}
 use Rattle.dist_http.specs.Route.{is_at, job_of, alloc_of, beat_of, update_of, named_of, asked_of, answered}
@@ -214,7 +214,7 @@ never_done r peer client token reply e = by_route (route r peer client token (Do
 
 pub body_fits : (bytes : List ℕ) (r : Request) → IsBytes bytes → IsRequest bytes r → IsBytes r.body
 body_fits bytes r fits (h, x) i =
-    subst (λ n. n < 256) (ap (λ (t : List ℕ). get_or t (length (print_request h) + i) 0) x.reads.1 ∙ get_or-append-add (print_request h) r.body i 0) (fits (length (print_request h) + i))
+    subst (λ n. n < 256) (ap (λ (t : List ℕ). get_or t (length (print_request h) + i) 0) x.opens.reads.1 ∙ get_or-append-add (print_request h) r.body i 0) (fits (length (print_request h) + i))
 
 -- what is asked and is no reply known at once was asked by a request
 asks : (bytes : List ℕ) (peer : Addr) (client token : List ℕ) (w : SchedRouted) (json : Bool) → ((reply : Response) → w ≡ Done reply → ⊥)

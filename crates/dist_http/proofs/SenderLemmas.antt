@@ -6,16 +6,18 @@ use Rattle.dist_types.specs.declared.addr.Ip.{Ip}
 use Rattle.dist_types.specs.declared.addr.Ip.TheVariants.{V4, V6}
 use Rattle.dist_types.specs.Addr.{ip_in, ip_of}
 use Rattle.dist_types.proofs.AddrLemmas.{ip_of_text, ip_is}
-use Rattle.dist_http.specs.declared.error.HttpError.{HttpError}
-use Rattle.dist_http.specs.declared.error.HttpError.TheVariants.{BadRealIp, Unauthorised}
-use Rattle.dist_http.specs.declared.reply.Word.{Word}
-use Rattle.dist_http.specs.declared.reply.Word.TheVariants.{NoBearerAuth, BearerAuthFailed, InvalidBearerToken, MismatchedAddress}
-use Rattle.dist_http.specs.declared.request.Request.{Request}
-use Rattle.dist_http.specs.Bearer.{token_in, server_in, IsServerToken}
-use Rattle.dist_http.specs.Fields.{header}
+use Rattle.http_head.specs.declared.error.HttpError.{HttpError}
+use Rattle.http_head.specs.declared.error.HttpError.TheVariants.{BadRealIp, Unauthorised}
+use Rattle.http_head.specs.declared.word.Word.{Word}
+use Rattle.http_head.specs.declared.word.Word.TheVariants.{NoBearerAuth, BearerAuthFailed, InvalidBearerToken, MismatchedAddress}
+use Rattle.http_head.specs.declared.request.Request.{Request}
+use Rattle.http_head.specs.Bearer.{token_in}
+use Rattle.dist_http.specs.Bearer.{server_in, IsServerToken}
+use Rattle.http_head.specs.Fields.{header}
 use Rattle.dist_http.specs.Sender.{token_of, client_test, same_ip, origin, server_of, Shows, CameFrom, IsFrom}
 use Rattle.dist_http.specs.Steps.{◌>>=◌, unless_none, unless_false}
-use Rattle.dist_http.proofs.BearerLemmas.{equal_texts, same_text, token_shown, shown_token, server_shown, shown_server}
+use Rattle.http_head.proofs.BearerLemmas.{equal_texts, same_text, token_shown, shown_token}
+use Rattle.dist_http.proofs.BearerLemmas.{server_shown, shown_server}
 use Rattle.dist_http.proofs.StepLemmas.{ok_step, from_none, from_false}
 
 pub equal_ips : (a b : Ip) → same_ip a b ≡ true → a ≡ b

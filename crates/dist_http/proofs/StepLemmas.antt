@@ -1,6 +1,6 @@
 -- What a step that went well says of what it stood on.
 use Rattle.std.proofs.Common.{◌≡◌, Bool, true, false, Option, Some, None, Result, Ok, Err, refl, ap, ◌⊎◌, inl, inr}
-use Rattle.dist_http.specs.declared.error.HttpError.{HttpError}
+use Rattle.http_head.specs.declared.error.HttpError.{HttpError}
 use Rattle.dist_http.specs.Steps.{◌>>=◌, unless_none, unless_false}
 
 pub ok_step : {A B : Type 0} (x : Result A HttpError) (f : A → Result B HttpError) (y : B) → (x >>= f) ≡ Ok y → (a : A) × (x ≡ Ok a) × (f a ≡ Ok y)

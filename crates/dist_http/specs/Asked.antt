@@ -1,12 +1,12 @@
 -- What the bytes that a peer sent ask of the scheduler.
 use Rattle.std.specs.Prelude.{◌≡◌, ◌⊎◌, ℕ, List, false}
 use Rattle.dist_types.specs.declared.addr.Addr.{Addr}
-use Rattle.dist_http.specs.declared.error.HttpError.TheVariants.{BadHead}
-use Rattle.dist_http.specs.declared.request.Request.{Request}
+use Rattle.http_head.specs.declared.error.HttpError.TheVariants.{BadHead}
+use Rattle.http_head.specs.declared.request.Request.{Request}
 use Rattle.dist_http.specs.declared.route.Asked.{Asked}
 use Rattle.dist_http.specs.declared.route.SchedRouted.TheVariants.{Done}
 use Rattle.dist_http.specs.Fault.{reply_of}
-use Rattle.dist_http.specs.Head.{IsRequest, IsNoRequest}
+use Rattle.http_head.specs.Head.{IsRequest, IsNoRequest}
 use Rattle.dist_http.specs.Route.{question_of}
 
 -- what the bytes ask, as a request of that peer under the clients' and the servers' tokens, or as a bad head

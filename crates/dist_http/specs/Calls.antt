@@ -5,10 +5,10 @@ use Rattle.dist_types.specs.declared.outgoing.CallFault.TheVariants as call
 use Rattle.dist_types.specs.declared.results.AssignJobResult.{AssignJobResult}
 use Rattle.dist_wire.specs.Reading.{assign_at}
 use Rattle.sched_core.specs.Rule.{begins}
-use Rattle.dist_http.specs.declared.error.HttpError.{HttpError}
-use Rattle.dist_http.specs.declared.error.HttpError.TheVariants.{ParseError, Status, Memory}
-use Rattle.dist_http.specs.declared.reply.Reply.{Reply}
-use Rattle.dist_http.specs.Head.{IsReply, IsNoReply}
+use Rattle.http_head.specs.declared.error.HttpError.{HttpError}
+use Rattle.http_head.specs.declared.error.HttpError.TheVariants.{ParseError, Status, Memory}
+use Rattle.http_head.specs.declared.reply.Reply.{Reply}
+use Rattle.http_head.specs.Head.{IsReply, IsNoReply}
 use Rattle.dist_http.specs.Message.{begins_in}
 use Rattle.dist_http.specs.Steps.{unless_none}
 
@@ -24,6 +24,12 @@ Tells at bytes told =
 -- the answer is what the bytes say, unless memory ran out
 abbrev pub Reads : {M : Type 0} → (List ℕ → Option (M × List ℕ)) → List ℕ → Result M HttpError → Type 0
 Reads at bytes answer = MatchResult answer (λ m. Tells at bytes (Ok m)) (λ e. ¬ (e ≡ Memory) → Tells at bytes (Err e))
+
+-- why a reply tells no message: it is no reply, or holds none, or its status is another
+abbrev pub IsReplyFault : HttpError → Type 0
+IsReplyFault ParseError = Unit {0}
+IsReplyFault (Status code body) = Unit {0}
+IsReplyFault other = ⊥
 
 -- the answer to an assignment, if its state is one that an assignment may tell
 abbrev pub begun : AssignJobResult → Result AssignJobResult CallFault

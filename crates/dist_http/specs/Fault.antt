@@ -8,18 +8,18 @@ use Rattle.dist_types.specs.declared.outgoing.CallFault.{CallFault}
 use Rattle.dist_types.specs.declared.outgoing.CallFault.TheVariants.{Lost, Status, Unreadable, BadState, Memory as OutOfMemory}
 use Rattle.sched_core.specs.declared.answers.Undone.{Undone}
 use Rattle.sched_core.specs.declared.answers.Undone.TheVariants.{Unassigned, NotKnown, NoServer, Foreign}
-use Rattle.dist_http.specs.declared.error.HttpError.{HttpError}
-use Rattle.dist_http.specs.declared.error.HttpError.TheVariants.{BadHead, WrongContentType, ParseError, BadRealIp, Unauthorised}
+use Rattle.http_head.specs.declared.error.HttpError.{HttpError}
+use Rattle.http_head.specs.declared.error.HttpError.TheVariants.{BadHead, WrongContentType, ParseError, BadRealIp, Unauthorised, Status as OtherStatus, Memory}
 use Rattle.dist_http.specs.declared.fault.RouteFault.{RouteFault}
 use Rattle.dist_http.specs.declared.fault.RouteFault.TheVariants.{BadCpus, UnknownJob, WrongServer, BadTransition, IdsSpent, AssignFailed}
 use Rattle.dist_http.specs.declared.refusal.RouilleBincodeError.{RouilleBincodeError}
 use Rattle.dist_http.specs.declared.refusal.RouilleBincodeError.TheVariants as input
 use Rattle.dist_http.specs.declared.reply.Response as response
 use Rattle.dist_http.specs.declared.reply.Response.TheVariants as reply
-use Rattle.dist_http.specs.declared.reply.Word.{Word}
-use Rattle.dist_http.specs.declared.reply.Word.TheVariants.{BearerAuthFailed}
+use Rattle.http_head.specs.declared.word.Word.{Word}
+use Rattle.http_head.specs.declared.word.Word.TheVariants.{BearerAuthFailed}
 use Rattle.dist_http.specs.ErrJson.{err_text}
-use Rattle.dist_http.specs.Reply.{◌⧺◌}
+use Rattle.http_head.specs.Text.{◌⧺◌}
 
 -- why a call gave no answer
 abbrev pub call_text : CallFault → List ℕ
@@ -69,7 +69,13 @@ abbrev pub word_body : Word → List ℕ
 word_body BearerAuthFailed = codes "Fixed token mismatch"
 word_body other = []
 
--- the reply to a refusal; none is told want of memory
+-- a refusal that a route is told: neither want of memory, nor what a reply to a call says
+abbrev pub IsRefusal : HttpError → Type 0
+IsRefusal Memory = ⊥
+IsRefusal (OtherStatus code body) = ⊥
+IsRefusal other = Unit {0}
+
+-- the reply to a refusal
 abbrev pub reply_of : HttpError → response.Response
 reply_of BadHead = reply.BadRequest (err_text (codes "bad request head" ∷ []))
 reply_of WrongContentType = reply.BadRequest (err_text (input_text input.WrongContentType ∷ []))

@@ -6,8 +6,8 @@ use Rattle.dist_types.specs.declared.results.JobState.{JobState}
 use Rattle.dist_types.specs.Ids.{SaysJob}
 use Rattle.dist_wire.specs.Spelling.{SpellsToolchain, SpellsHeartbeat, SpellsState}
 use Rattle.dist_wire.specs.declared.heartbeat.HeartbeatServerHttpRequest.{HeartbeatServerHttpRequest}
-use Rattle.dist_http.specs.declared.request.Request.{Request}
-use Rattle.dist_http.specs.Fields.{header, path_of}
+use Rattle.http_head.specs.declared.request.Request.{Request}
+use Rattle.http_head.specs.Fields.{header, path_of}
 use Rattle.dist_http.specs.Message.{HasMessage}
 use Rattle.dist_http.specs.Sender.{Shows, IsFrom}
 

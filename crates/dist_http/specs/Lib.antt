@@ -1,6 +1,4 @@
 pub mod ErrJson
-pub mod Fields
-pub mod Head
 pub mod Reply
 pub mod ReadBack
 pub mod Steps

@@ -1,10 +1,10 @@
 -- The message that a body holds.
 use Rattle.std.specs.Prelude.{◌≡◌, ℕ, Bool, false, List, ◌++◌, nat_eq, if◌then◌else◌, Option, Some, None, option_map, Result, Err, codes}
 use Rattle.std.specs.List.{starts_with}
-use Rattle.dist_http.specs.declared.error.HttpError.{HttpError}
-use Rattle.dist_http.specs.declared.error.HttpError.TheVariants.{WrongContentType, ParseError}
-use Rattle.dist_http.specs.declared.request.Request.{Request}
-use Rattle.dist_http.specs.Fields.{header}
+use Rattle.http_head.specs.declared.error.HttpError.{HttpError}
+use Rattle.http_head.specs.declared.error.HttpError.TheVariants.{WrongContentType, ParseError}
+use Rattle.http_head.specs.declared.request.Request.{Request}
+use Rattle.http_head.specs.Fields.{header}
 use Rattle.dist_http.specs.Steps.{unless_none}
 
 -- a spelling of the message begins the bytes; others may follow it

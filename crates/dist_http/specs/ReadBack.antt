@@ -3,9 +3,10 @@ use Rattle.std.specs.Prelude.{ℕ, List, [], ◌∷◌, ◌++◌, length, codes}
 use Rattle.std.specs.Fmt.{decimal}
 use Rattle.dist_http.specs.declared.reply.Response.{Response}
 use Rattle.dist_http.specs.declared.reply.Response.TheVariants.{Binary, Json, BadRequest, ServerError, BadRealIp, Unauthorised, NotFound}
-use Rattle.dist_http.specs.declared.reply.Reply.{Reply}
-use Rattle.dist_http.specs.Fields.{Field}
-use Rattle.dist_http.specs.Reply.{word_text, body_of}
+use Rattle.http_head.specs.declared.reply.Reply.{Reply}
+use Rattle.http_head.specs.Fields.{Field}
+use Rattle.http_head.specs.Word.{word_text}
+use Rattle.dist_http.specs.Reply.{body_of}
 
 -- the code
 abbrev pub code_of : Response → ℕ

@@ -6,13 +6,13 @@ use Rattle.dist_types.specs.declared.ids.JobId.{JobId}
 use Rattle.dist_types.specs.Addr.{ip_of, IsIpText}
 use Rattle.dist_types.specs.Ids.{SaysJob}
 use Rattle.dist_wire.specs.Spelling.{SpellsToolchain, SpellsHeartbeat, SpellsState}
-use Rattle.dist_http.specs.declared.error.HttpError.{HttpError}
-use Rattle.dist_http.specs.declared.error.HttpError.TheVariants.{WrongContentType, ParseError, BadRealIp, NoRoute, Unauthorised}
-use Rattle.dist_http.specs.declared.reply.Word.{Word}
-use Rattle.dist_http.specs.declared.reply.Word.TheVariants.{NoBearerAuth, BearerAuthFailed, InvalidBearerToken, MismatchedAddress}
-use Rattle.dist_http.specs.declared.request.Request.{Request}
+use Rattle.http_head.specs.declared.error.HttpError.{HttpError}
+use Rattle.http_head.specs.declared.error.HttpError.TheVariants.{WrongContentType, ParseError, BadRealIp, NoRoute, Unauthorised}
+use Rattle.http_head.specs.declared.word.Word.{Word}
+use Rattle.http_head.specs.declared.word.Word.TheVariants.{NoBearerAuth, BearerAuthFailed, InvalidBearerToken, MismatchedAddress}
+use Rattle.http_head.specs.declared.request.Request.{Request}
 use Rattle.dist_http.specs.Bearer.{IsServerToken}
-use Rattle.dist_http.specs.Fields.{header}
+use Rattle.http_head.specs.Fields.{header}
 use Rattle.dist_http.specs.InOrder.{IsAt, IsStatus}
 use Rattle.dist_http.specs.Message.{BeginsWith}
 use Rattle.dist_http.specs.Sender.{Shows, CameFrom, IsFrom}

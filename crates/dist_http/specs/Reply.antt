@@ -3,24 +3,10 @@ use Rattle.std.specs.Prelude.{ℕ, Bool, List, [], ◌++◌, length, if◌then�
 use Rattle.std.specs.Fmt.{decimal}
 use Rattle.json.specs.Json as tree
 use Rattle.dist_wire.specs.Json.{json_text}
-use Rattle.dist_http.specs.declared.reply.Word.{Word}
-use Rattle.dist_http.specs.declared.reply.Word.TheVariants.{NoBearerAuth, BearerAuthFailed, InvalidBearerToken, MismatchedAddress, InvalidJwt, LinkFailed}
+use Rattle.http_head.specs.Text.{◌⧺◌}
+use Rattle.http_head.specs.Word.{word_text}
 use Rattle.dist_http.specs.declared.reply.Response.{Response}
 use Rattle.dist_http.specs.declared.reply.Response.TheVariants.{Binary, Json, BadRequest, ServerError, BadRealIp, Unauthorised, NotFound}
-
--- ++ nested to the right
-infixr 20 ◌⧺◌
-abbrev pub ◌⧺◌ : List ℕ → List ℕ → List ℕ
-a ⧺ b = a ++ b
-
--- the word of a refusal
-abbrev pub word_text : Word → List ℕ
-word_text NoBearerAuth = codes "no_bearer_auth"
-word_text BearerAuthFailed = codes "bearer_auth_failed"
-word_text InvalidBearerToken = codes "invalid_bearer_token"
-word_text MismatchedAddress = codes "invalid_bearer_token_mismatched_address"
-word_text InvalidJwt = codes "invalid_jwt"
-word_text LinkFailed = codes "bearer_auth_failed"
 
 -- the status line, and the fields before the length
 abbrev pub opening_text : Response → List ℕ

@@ -6,14 +6,14 @@ use Rattle.dist_types.specs.declared.addr.Addr.{Addr}
 use Rattle.dist_types.specs.declared.ids.JobId.{JobId}
 use Rattle.dist_types.specs.Addr.{is_digits}
 use Rattle.dist_wire.specs.Reading.{toolchain_at, heartbeat_at, state_at}
-use Rattle.dist_http.specs.declared.error.HttpError.{HttpError}
-use Rattle.dist_http.specs.declared.error.HttpError.TheVariants.{NoRoute}
-use Rattle.dist_http.specs.declared.request.Request.{Request}
+use Rattle.http_head.specs.declared.error.HttpError.{HttpError}
+use Rattle.http_head.specs.declared.error.HttpError.TheVariants.{NoRoute}
+use Rattle.http_head.specs.declared.request.Request.{Request}
 use Rattle.dist_http.specs.declared.route.Asked.{Asked}
 use Rattle.dist_http.specs.declared.route.SchedRouted.{SchedRouted}
 use Rattle.dist_http.specs.declared.route.SchedRouted.TheVariants.{Alloc, Beat, Update, Status, Done}
 use Rattle.dist_http.specs.Fault.{reply_of}
-use Rattle.dist_http.specs.Fields.{header, path_of}
+use Rattle.http_head.specs.Fields.{header, path_of}
 use Rattle.dist_http.specs.Message.{message_in}
 use Rattle.dist_http.specs.Sender.{client_test, server_of}
 use Rattle.dist_http.specs.Steps.{◌>>=◌}

@@ -4,13 +4,14 @@ use Rattle.dist_types.specs.declared.addr.Addr.{Addr}
 use Rattle.dist_types.specs.declared.addr.Ip.{Ip}
 use Rattle.dist_types.specs.declared.addr.Ip.TheVariants.{V4, V6}
 use Rattle.dist_types.specs.Addr.{ip_in, ip_of, IsIpText}
-use Rattle.dist_http.specs.declared.error.HttpError.{HttpError}
-use Rattle.dist_http.specs.declared.error.HttpError.TheVariants.{BadRealIp, Unauthorised}
-use Rattle.dist_http.specs.declared.reply.Word.{Word}
-use Rattle.dist_http.specs.declared.reply.Word.TheVariants.{NoBearerAuth, BearerAuthFailed, InvalidBearerToken, MismatchedAddress}
-use Rattle.dist_http.specs.declared.request.Request.{Request}
-use Rattle.dist_http.specs.Bearer.{token_in, server_in, IsServerToken}
-use Rattle.dist_http.specs.Fields.{header}
+use Rattle.http_head.specs.declared.error.HttpError.{HttpError}
+use Rattle.http_head.specs.declared.error.HttpError.TheVariants.{BadRealIp, Unauthorised}
+use Rattle.http_head.specs.declared.word.Word.{Word}
+use Rattle.http_head.specs.declared.word.Word.TheVariants.{NoBearerAuth, BearerAuthFailed, InvalidBearerToken, MismatchedAddress}
+use Rattle.http_head.specs.declared.request.Request.{Request}
+use Rattle.http_head.specs.Bearer.{token_in}
+use Rattle.dist_http.specs.Bearer.{server_in, IsServerToken}
+use Rattle.http_head.specs.Fields.{header}
 use Rattle.dist_http.specs.Steps.{◌>>=◌, unless_none, unless_false}
 
 -- the token that the request shows, or the refusal of that word where it shows none

@@ -27,13 +27,19 @@ pub fn asked(
             let what = scheduler_route(alloc, &request, peer, client_token, server_token)?;
             Ok(Asked { what, json })
         }
-        Err(HttpError::Memory) => Err(HttpError::Memory),
-        Err(refusal) => {
-            let reply = reply_of(alloc, refusal)?;
+        Err(HttpError::BadHead) => {
+            let reply = reply_of(alloc, HttpError::BadHead)?;
             Ok(Asked {
                 what: SchedRouted::Done(reply),
                 json: false,
             })
         }
+        Err(HttpError::Memory) => Err(HttpError::Memory),
+        Err(HttpError::WrongContentType) => unreachable!(),
+        Err(HttpError::ParseError) => unreachable!(),
+        Err(HttpError::BadRealIp) => unreachable!(),
+        Err(HttpError::NoRoute) => unreachable!(),
+        Err(HttpError::Unauthorised(_)) => unreachable!(),
+        Err(HttpError::Status(_, _)) => unreachable!(),
     }
 }

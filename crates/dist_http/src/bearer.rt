@@ -1,22 +1,9 @@
-//! The token that a request shows (RFC 6750, section 2.1), and the server whose token it is.
-ghost use Rattle.std.specs.Prelude.{◌≡◌, option_copied};
+//! The server whose token a text is.
+ghost use Rattle.std.specs.Prelude.{◌≡◌};
 ghost use Rattle.dist_types.specs.Addr.{addr_in};
-ghost use Rattle.dist_http.specs.Bearer.{token_in, server_in};
+ghost use Rattle.dist_http.specs.Bearer.{server_in};
 
 use dist_types::addr::{Addr, cut_at};
-
-/// The token of an Authorization: what follows `Bearer` and a space.
-#[tactic(auto, unfolding(crate::specs::Bearer::token_in))]
-pub(crate) fn token_in(text: Option<&str>) -> Option<&str>
-    ensures { option_copied result ≡ token_in (option_copied text.entry) }
-{
-    let (scheme, token) = cut_at(text?, ' ')?;
-    if scheme == "Bearer" {
-        Some(token)
-    } else {
-        None
-    }
-}
 
 fn addr_in(text: &str) -> Option<Addr>
     ensures { result ≡ addr_in text.now }

@@ -1,10 +1,10 @@
 //! What the reply to a call says.
 ghost use Rattle.std.specs.Prelude.{◌≡◌, IfOk, IfErr, true};
-ghost use Rattle.dist_http.specs.Calls.{told_by, Reads, begun, call_fault, IsAssigned};
+ghost use Rattle.dist_http.specs.Calls.{told_by, Reads, begun, IsAssigned};
 ghost use Rattle.dist_http.specs.Steps.{Gives};
 ghost use Rattle.sched_core.specs.Rule.{begins};
 
-use crate::error::HttpError;
+use crate::error::{HttpError, of_wire};
 use crate::head::read_reply_head;
 use crate::reply::Reply;
 use dist_types::outgoing::CallFault;
@@ -20,8 +20,10 @@ fn told_by<M: Message>(alloc: Global, reply: Reply) -> Result<M, HttpError>
     if reply.code != 200 {
         return Err(HttpError::Status(reply.code, reply.body));
     }
-    let (message, _) = M::read(alloc, reply.body.get())?;
-    Ok(message)
+    match M::read(alloc, reply.body.get()) {
+        Ok((message, _)) => Ok(message),
+        Err(e) => Err(of_wire(e)),
+    }
 }
 
 /// The message that the bytes of a reply tell: it has status 200, and the message begins its body. ParseError
@@ -59,21 +61,6 @@ fn begun(answer: AssignJobResult) -> Result<AssignJobResult, CallFault>
     }
 }
 
-fn call_fault(e: HttpError) -> CallFault
-    ensures { result ≡ call_fault e }
-{
-    match e {
-        HttpError::Status(code, _) => CallFault::Status(code),
-        HttpError::BadHead => CallFault::Unreadable,
-        HttpError::WrongContentType => CallFault::Unreadable,
-        HttpError::ParseError => CallFault::Unreadable,
-        HttpError::BadRealIp => CallFault::Unreadable,
-        HttpError::NoRoute => CallFault::Unreadable,
-        HttpError::Unauthorised(_) => CallFault::Unreadable,
-        HttpError::Memory => CallFault::Unreadable,
-    }
-}
-
 /// What the reply to an assignment says: the answer of a server that takes the job, Pending or Ready; or
 /// BadState where it tells another state, Status where its status is not 200, Unreadable where the bytes are no
 /// reply or no answer begins its body. Refused for want of memory alone.
@@ -88,6 +75,12 @@ pub fn assigned(
     match read_reply(alloc, reply) {
         Ok(answer) => Ok(begun(answer)),
         Err(HttpError::Memory) => Err(HttpError::Memory),
-        Err(e) => Ok(Err(call_fault(e))),
+        Err(HttpError::ParseError) => Ok(Err(CallFault::Unreadable)),
+        Err(HttpError::Status(code, _)) => Ok(Err(CallFault::Status(code))),
+        Err(HttpError::BadHead) => unreachable!(),
+        Err(HttpError::WrongContentType) => unreachable!(),
+        Err(HttpError::BadRealIp) => unreachable!(),
+        Err(HttpError::NoRoute) => unreachable!(),
+        Err(HttpError::Unauthorised(_)) => unreachable!(),
     }
 }

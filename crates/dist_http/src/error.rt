@@ -1,71 +1,16 @@
 //! Why a call or a route refuses.
-use crate::reply::Word;
-use dist_types::text::Bytes;
+ghost use Rattle.std.specs.Prelude.{◌≡◌};
+ghost use Rattle.dist_http.specs.Steps.{of_wire};
+
 use dist_wire::error::WireError;
-use std::alloc::{AllocError, AllocFailed};
-use thiserror::Error;
+pub use http_head::error::HttpError;
 
-/// Why a call or a route refuses. A route's refusal is answered to the peer, and by no call.
-#[derive(Debug, Drop, Error)]
-pub enum HttpError {
-    /// The bytes are no request.
-    #[error("bad request head")]
-    BadHead,
-    /// A message is due, and the content type is another.
-    #[error("the request didn't have a binary content type")]
-    WrongContentType,
-    /// A message is due, and no spelling of one begins the body; or the bytes are no reply.
-    #[error("no message begins the body")]
-    ParseError,
-    /// The header X-Real-IP does not say where the request came from.
-    #[error("bad X-Real-IP")]
-    BadRealIp,
-    /// There is no such route.
-    #[error("no route")]
-    NoRoute,
-    /// The request does not show who sent it.
-    #[error("unauthorised: {0}")]
-    Unauthorised(Word),
-    /// A reply has this status, and not 200, and this body.
-    #[error("status {0}")]
-    Status(u16, Bytes),
-    /// Memory ran out.
-    #[error("out of memory")]
-    Memory,
-}
-
-impl From<AllocError> for HttpError {
-    ghost use Rattle.std.specs.Prelude.{◌≡◌};
-    ghost use Rattle.dist_http.specs.declared.error.HttpError.TheVariants.{Memory};
-
-    ghost from_gives = { λ _ e. e ≡ Memory };
-
-    fn from(_: AllocError) -> Self {
-        HttpError::Memory
-    }
-}
-
-impl<T: Drop> From<AllocFailed<T>> for HttpError {
-    ghost use Rattle.std.specs.Prelude.{◌≡◌};
-    ghost use Rattle.dist_http.specs.declared.error.HttpError.TheVariants.{Memory};
-
-    ghost from_gives = { λ _ e. e ≡ Memory };
-
-    fn from(_: AllocFailed<T>) -> Self {
-        HttpError::Memory
-    }
-}
-
-impl From<WireError> for HttpError {
-    ghost use Rattle.std.specs.Prelude.{◌≡◌};
-    ghost use Rattle.dist_http.specs.Steps.{of_wire};
-
-    ghost from_gives = { λ w e. e ≡ of_wire w };
-
-    fn from(e: WireError) -> Self {
-        match e {
-            WireError::ParseError => HttpError::ParseError,
-            WireError::Memory => HttpError::Memory,
-        }
+/// Why a message was not read or written.
+pub(crate) fn of_wire(e: WireError) -> HttpError
+    ensures { result ≡ of_wire e }
+{
+    match e {
+        WireError::ParseError => HttpError::ParseError,
+        WireError::Memory => HttpError::Memory,
     }
 }

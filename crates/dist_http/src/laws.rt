@@ -8,34 +8,24 @@ ghost use Rattle.dist_types.specs.declared.results.JobState.{JobState};
 ghost use Rattle.dist_wire.specs.Codec.{IsBytes};
 ghost use Rattle.dist_wire.specs.declared.heartbeat.HeartbeatServerHttpRequest.{HeartbeatServerHttpRequest};
 ghost use Rattle.sched_core.specs.Rule.{begins};
-ghost use Rattle.dist_http.specs.declared.error.HttpError.{HttpError};
-ghost use Rattle.dist_http.specs.declared.error.HttpError.TheVariants.{BadHead};
-ghost use Rattle.dist_http.specs.declared.reply.Reply.{Reply};
+ghost use Rattle.http_head.specs.declared.error.HttpError.{HttpError};
+ghost use Rattle.http_head.specs.declared.error.HttpError.TheVariants.{BadHead};
+ghost use Rattle.http_head.specs.declared.reply.Reply.{Reply};
 ghost use Rattle.dist_http.specs.declared.reply.Response.{Response};
-ghost use Rattle.dist_http.specs.declared.request.Request.{Request};
+ghost use Rattle.http_head.specs.declared.request.Request.{Request};
 ghost use Rattle.dist_http.specs.declared.route.Asked.{Asked};
 ghost use Rattle.dist_http.specs.declared.route.SchedRouted.TheVariants.{Alloc, Beat, Update, Status, Done};
 ghost use Rattle.dist_http.specs.Asked.{IsAsked};
 ghost use Rattle.dist_http.specs.Calls.{Tells, IsAssigned};
 ghost use Rattle.dist_http.specs.Message.{BeginsWith};
 ghost use Rattle.dist_http.specs.Fault.{reply_of};
-ghost use Rattle.dist_http.specs.Head.{IsRequest, IsNoRequest, IsReply};
+ghost use Rattle.http_head.specs.Head.{IsRequest, IsNoRequest, IsReply};
 ghost use Rattle.dist_http.specs.InOrder.{InForm, IsAllocation, IsHeartbeat, IsUpdate, IsStatus};
 ghost use Rattle.dist_http.specs.ReadBack.{seen};
 ghost use Rattle.dist_http.specs.Reply.{body_of, reply_text};
 ghost use Rattle.dist_http.specs.Refused.{IsRefused};
 
 use dist_wire::message::Message;
-
-/// Bytes are one request at most.
-pub fn one_request()
-    ensures { (bytes : List ℕ) (r q : Request) → IsRequest bytes r → IsRequest bytes q → r ≡ q }
-{}
-
-/// Bytes are one reply at most.
-pub fn one_reply()
-    ensures { (bytes : List ℕ) (r q : Reply) → IsReply bytes r → IsReply bytes q → r ≡ q }
-{}
 
 /// A reply that was written is read as it was meant.
 pub fn replies_read_back()

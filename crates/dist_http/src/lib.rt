@@ -18,15 +18,12 @@ pub mod calls;
 pub mod err_json;
 pub mod error;
 pub mod fault;
-mod fields;
-pub mod head;
 pub mod laws;
 mod message;
 pub mod refusal;
 pub mod reply;
-pub mod request;
 pub mod route;
 mod sender;
-#[cfg(test)]
-mod tests;
 pub mod written;
+
+pub use http_head::{head, request};

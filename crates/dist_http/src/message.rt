@@ -3,7 +3,7 @@ ghost use Rattle.std.specs.Prelude.{◌≡◌, option_copied};
 ghost use Rattle.dist_http.specs.Message.{is_binary, message_in};
 ghost use Rattle.dist_http.specs.Steps.{Gives};
 
-use crate::error::HttpError;
+use crate::error::{HttpError, of_wire};
 use crate::request::Request;
 use dist_wire::message::Message;
 use std::alloc::Global;
@@ -25,6 +25,8 @@ pub(crate) fn message_in<M: Message>(alloc: Global, request: &Request) -> Result
     if !is_binary(request.header("content-type")) {
         return Err(HttpError::WrongContentType);
     }
-    let (message, _) = M::read(alloc, request.body.get())?;
-    Ok(message)
+    match M::read(alloc, request.body.get()) {
+        Ok((message, _)) => Ok(message),
+        Err(e) => Err(of_wire(e)),
+    }
 }

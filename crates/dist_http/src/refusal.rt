@@ -1,7 +1,7 @@
 //! The replies to requests that are refused before their route is known, or by its tests.
 ghost use Rattle.std.specs.Prelude.{◌≡◌, [], ◌∷◌, IfOk, IfErr};
 ghost use Rattle.dist_http.specs.ErrJson.{texts_of, err_text};
-ghost use Rattle.dist_http.specs.Fault.{input_text, word_body, reply_of};
+ghost use Rattle.dist_http.specs.Fault.{input_text, word_body, IsRefusal, reply_of};
 ghost use Rattle.dist_http.specs.declared.reply.Response.TheVariants.{BadRequest};
 
 use crate::err_json::ErrJson;
@@ -117,6 +117,7 @@ fn unauthorised(alloc: Global, word: Word) -> Result<Response, HttpError>
 
 /// The reply to a refusal. Refused for want of memory alone.
 pub(crate) fn reply_of(alloc: Global, refusal: HttpError) -> Result<Response, HttpError>
+    requires { IsRefusal refusal }
     ensures ok { IfOk result (λ reply. reply ≡ reply_of refusal) }
     ensures err { IfErr result (λ e. e ≡ HttpError.Memory) }
 {
@@ -127,7 +128,7 @@ pub(crate) fn reply_of(alloc: Global, refusal: HttpError) -> Result<Response, Ht
         HttpError::BadRealIp => Ok(Response::BadRealIp),
         HttpError::NoRoute => Ok(Response::NotFound),
         HttpError::Unauthorised(word) => unauthorised(alloc, word),
-        HttpError::Status(_, _) => Ok(Response::NotFound),
-        HttpError::Memory => Err(HttpError::Memory),
+        HttpError::Status(_, _) => unreachable!(),
+        HttpError::Memory => unreachable!(),
     }
 }

@@ -4,30 +4,15 @@ ghost use Rattle.dist_http.specs.Reply.{body_of, reply_text, response_of};
 ghost use Rattle.dist_http.specs.Route.{wants_json};
 ghost use Rattle.dist_http.specs.declared.reply.Response.TheVariants.{Binary};
 
-use crate::error::HttpError;
+use crate::error::{HttpError, of_wire};
 use crate::request::Request;
 use crate::route::wants_json;
-use dist_types::text::{Bytes, Items, Text};
+use dist_types::text::{Bytes, Text};
 use dist_wire::message::Message;
+pub use http_head::reply::Reply;
+pub use http_head::word::Word;
 use std::alloc::Global;
 use std::fmt;
-
-/// The word of a 401 reply, which says why a request was refused as unauthorised.
-#[derive(Clone, Copy, Debug, PartialEq, Eq)]
-pub enum Word {
-    /// A client shows no `Authorization: Bearer TOKEN`.
-    NoBearerAuth,
-    /// Another token than the client's.
-    BearerAuthFailed,
-    /// A server shows no token, or one that is no server's.
-    InvalidBearerToken,
-    /// The token of a server with another IP.
-    MismatchedAddress,
-    /// A token that is not the job's.
-    InvalidJwt,
-    /// The token could not be checked. It prints as BearerAuthFailed.
-    LinkFailed,
-}
 
 /// A reply that is written, by its kind.
 #[derive(Debug, Drop)]
@@ -46,35 +31,6 @@ pub enum Response {
     Unauthorised(Word, Text),
     /// 404 with no body.
     NotFound,
-}
-
-/// A reply as its reader sees it.
-#[derive(Debug, Drop)]
-pub struct Reply {
-    /// The status code, three digits.
-    pub code: u16,
-    /// Each field's name and value, in the order of the head.
-    pub headers: Items<(Text, Bytes)>,
-    /// All bytes after the head.
-    pub body: Bytes,
-}
-
-impl fmt::Display for Word {
-    ghost use Rattle.std.specs.Prelude.{Some};
-    ghost use Rattle.dist_http.specs.Reply.{word_text};
-
-    ghost output = { λ w. Some (word_text w) };
-
-    fn fmt<W: fmt::Write>(&self, f: &mut fmt::Formatter<W>) -> fmt::Result {
-        match self {
-            Word::NoBearerAuth => write!(f, "no_bearer_auth"),
-            Word::BearerAuthFailed => write!(f, "bearer_auth_failed"),
-            Word::InvalidBearerToken => write!(f, "invalid_bearer_token"),
-            Word::MismatchedAddress => write!(f, "invalid_bearer_token_mismatched_address"),
-            Word::InvalidJwt => write!(f, "invalid_jwt"),
-            Word::LinkFailed => write!(f, "bearer_auth_failed"),
-        }
-    }
 }
 
 /// The status line and the fields before the length.
@@ -158,8 +114,10 @@ pub fn respond<M: Message>(alloc: Global, json: bool, content: &M) -> Result<Res
     ensures err { IfErr result (λ e. e ≡ HttpError.Memory) }
 {
     if json {
-        let text = content.to_json(alloc)?;
-        return Ok(Response::Json(Text::new(text)));
+        return match content.to_json(alloc) {
+            Ok(text) => Ok(Response::Json(Text::new(text))),
+            Err(e) => Err(of_wire(e)),
+        };
     }
     bincode_response(alloc, content)
 }
@@ -169,8 +127,10 @@ pub fn bincode_response<M: Message>(alloc: Global, content: &M) -> Result<Respon
     ensures ok { IfOk result (λ response. response ≡ Binary (M.text content.now)) }
     ensures err { IfErr result (λ e. e ≡ HttpError.Memory) }
 {
-    let bytes = content.write(alloc)?;
-    Ok(Response::Binary(Bytes::new(bytes)))
+    match content.write(alloc) {
+        Ok(bytes) => Ok(Response::Binary(Bytes::new(bytes))),
+        Err(e) => Err(of_wire(e)),
+    }
 }
 
 /// The reply 200 with a message, in the form that the request asks for. Refused for want of memory alone.

@@ -159,6 +159,7 @@ fn asked_of(
 
 /// What a request of that peer asks of the scheduler, under the tokens of its clients and of its servers;
 /// a request that is refused gets its reply. Refused for want of memory alone.
+#[tactic(auto, using(crate::proofs::AtOnceLemmas::refusal_told))]
 pub fn scheduler_route(
     alloc: Global,
     request: &Request,

@@ -2,11 +2,12 @@
 ghost use Rattle.std.specs.Prelude.{◌≡◌, option_copied};
 ghost use Rattle.dist_http.specs.Sender.{client_test, same_ip, origin, server_of};
 
-use crate::bearer::{server_in, token_in};
+use crate::bearer::server_in;
 use crate::error::HttpError;
 use crate::reply::Word;
 use crate::request::Request;
 use dist_types::addr::{Addr, Ip, read_ip};
+use http_head::bearer::token_in;
 
 /// Whether the request shows the clients' token.
 #[tactic(auto, unfolding(crate::specs::Sender::client_test))]
@@ -52,10 +53,10 @@ fn origin(real_ip: Option<&str>, peer: Addr) -> Result<Ip, HttpError>
 pub(crate) fn server_of(request: &Request, peer: Addr, expected: &str) -> Result<Addr, HttpError>
     ensures { result ≡ server_of request.now peer expected.now }
 {
-    let Some(token) = token_in(request.header("authorization")) else {
+    let Some(shown) = token_in(request.header("authorization")) else {
         return Err(HttpError::Unauthorised(Word::InvalidBearerToken));
     };
-    let Some(server) = server_in(expected, token) else {
+    let Some(server) = server_in(expected, shown) else {
         return Err(HttpError::Unauthorised(Word::InvalidBearerToken));
     };
     let ip = origin(request.header("x-real-ip"), peer)?;

@@ -1,6 +1,6 @@
 -- Where the dialer tells its record, the new row says what the check answers.
-use Rattle.std.proofs.Common.{◌≡◌, ◌≢◌, ℕ, List, [], ◌∷◌, ◌++◌, get_or, Bool, true, false, cond, Option, Some, Ok, Err, refl, ap, sym, ◌∙◌, subst}
-use Rattle.std.specs.Prelude.{⊤, Result}
+use Rattle.std.proofs.Common.{◌≡◌, ℕ, List, [], ◌∷◌, ◌++◌, get_or, Bool, true, false, cond, Option, Some, Ok, Err, refl, ap, sym, ◌∙◌, subst}
+use Rattle.std.specs.Prelude.{⊤, Result, unwrap_or}
 use Rattle.std.specs.Bool.{MatchBool}
 use Rattle.std.specs.Option.{option_map}
 use Rattle.std.proofs.lemmas.List.{append_cancel_left}
@@ -11,19 +11,22 @@ use Rattle.dist_types.specs.declared.dialer.AskFault.{AskFault}
 use Rattle.dist_types.specs.declared.dialer.AskFault.TheVariants.{Failed}
 use Rattle.dist_types.specs.declared.token_error.TokenError.{TokenError}
 use Rattle.dist_types.specs.declared.token_error.TokenError.TheVariants.{BadToken, BadMac, MismatchedClaims, FixedMismatch, ForwardRefused, LinkFault, Memory}
-use Rattle.dist_token.specs.Forwarded.{Forwarding, MayAnswer, Asks, HasStatus, is_success, is_fresh, question}
-use Rattle.dist_token.proofs.Heads.{one_status}
+use Rattle.dist_token.specs.Forwarded.{Forwarding, MayAnswer, Asks, HasCode, is_success, is_fresh, question}
+use Rattle.http_head.proofs.ReplyLemmas as heads
 
 abbrev by_status : ℕ → Result ⊤ TokenError
 by_status code = cond (is_success code) (Ok tt) (Err (ForwardRefused code))
 
+pub one_code : (reply : List ℕ) (a b : ℕ) → HasCode reply a → HasCode reply b → a ≡ b
+one_code reply a b (s, x, e) (t, y, f) = e ∙ (ap (λ o. unwrap_or o 0) (heads.one_status reply s t x y) ∙ sym f)
+
 -- what the answer of a row means for the token
 abbrev Means : Result (List ℕ) AskFault → Result ⊤ TokenError → Type 0
-Means (Ok reply) answer = (code : ℕ) × HasStatus reply code × (answer ≡ by_status code)
+Means (Ok reply) answer = (code : ℕ) × HasCode reply code × (answer ≡ by_status code)
 Means (Err e) answer = answer ≡ Err LinkFault
 
 same_meaning : (r : Result (List ℕ) AskFault) (a b : Result ⊤ TokenError) → Means r a → Means r b → a ≡ b
-same_meaning (Ok reply) a b (c, status, e) (d, other, f) = e ∙ ap by_status (one_status reply c d status other) ∙ sym f
+same_meaning (Ok reply) a b (c, status, e) (d, other, f) = e ∙ ap by_status (one_code reply c d status other) ∙ sym f
 same_meaning (Err x) a b e f = e ∙ sym f
 
 -- the row that an answer leaves

@@ -7,7 +7,6 @@ pub mod Dotless
 pub mod Bytes
 pub mod Claims
 pub mod MadeTokens
-pub mod Heads
 pub mod Inversions
 pub mod Exact
 pub mod ServerTokens

@@ -1,12 +1,15 @@
 -- The rule of forwarded tokens: a token is accepted where a peer that is asked with it answers with a success.
-use Rattle.std.specs.Prelude.{◌≡◌, ℕ, ◌*◌, ◌-◌, ◌≤◌, ◌⊎◌, min, nat_lt, nat_le, ◌&&◌, List, [], ◌∷◌, ◌++◌, length, codes, decimal, Bool, true, false, if◌then◌else◌, Option, Some, None, option_map, unwrap_or, Result, Ok, Err, ⊤}
+use Rattle.std.specs.Prelude.{◌≡◌, ℕ, ◌*◌, ◌-◌, ◌⊎◌, min, nat_lt, nat_le, ◌&&◌, List, [], ◌∷◌, ◌++◌, codes, decimal, Bool, true, false, if◌then◌else◌, Option, Some, None, option_map, unwrap_or, Result, Ok, Err, ⊤}
 use Rattle.std.specs.Option.{option_or}
 use Rattle.std.specs.Bool.{MatchBool}
 use Rattle.std.specs.Str.{bytes_eq}
-use Rattle.httparse.specs.Grammar.{ResponseHead, ReadsResponse, print_response, status_code}
 use Rattle.url.specs.Parts.{Parts, nonempty_host}
 use Rattle.url.specs.Host.{host_text}
 use Rattle.url.specs.Scheme.{default_port}
+use Rattle.http_head.specs.declared.written_request.Method.TheVariants.{Get}
+use Rattle.http_head.specs.declared.written_request.WrittenRequest.{WrittenRequest}
+use Rattle.http_head.specs.Head.{HasStatus}
+use Rattle.http_head.specs.WrittenRequest.{request_text}
 use Rattle.dist_types.specs.Cause.{Rose}
 use Rattle.dist_types.specs.Content.{Recorded, KeptOrRecorded}
 use Rattle.dist_types.specs.declared.dialer.Asked.{Asked}
@@ -35,34 +38,24 @@ unfoldable pub target_of : Parts → List ℕ
 target_of url = url.path ++ query_text url.query
 
 -- a GET of the URL with the token
-unfoldable pub forwarded_text : Parts → List ℕ → List ℕ
-forwarded_text url token =
-    codes "GET " ++ (target_of url ++ (codes " HTTP/1.1\r\nHost: " ++ (host_of url ++ (58 ∷ decimal (port_of url)
-    ++ (codes "\r\nAuthorization: Bearer " ++ (token ++ codes "\r\nConnection: close\r\n\r\n"))))))
+abbrev pub forwarded : Parts → List ℕ → WrittenRequest
+forwarded url token = record {
+  method = Get;
+  target = target_of url;
+  host = host_of url ++ (58 ∷ decimal (port_of url));
+  token = Some token;
+  body = None;
+}
 
 -- the row of one question
 abbrev pub question : Parts → List ℕ → Result (List ℕ) AskFault → Asked
-question url token answer = record { host = host_of url; port = port_of url; request = forwarded_text url token; answer = answer }
+question url token answer = record { host = host_of url; port = port_of url; request = request_text (forwarded url token); answer = answer }
 
 -- ---- the answer
 
--- the reply begins with this head, of at most 100 fields and 65,536 bytes, and then has the rest
-pub record IsHeadOf (reply : List ℕ) (h : ResponseHead) (rest : List ℕ) : Type 0 where
-  pub reads : ReadsResponse reply h rest
-  pub few : length h.fields ≤ 100
-  pub short : length (print_response h) ≤ 65536
-
--- a head with this status begins the reply, within the limits on fields and bytes
-abbrev pub HasHead : List ℕ → ℕ → Type 0
-HasHead reply code = (h : ResponseHead) × (rest : List ℕ) × IsHeadOf reply h rest × (code ≡ status_code h)
-
--- no status is that of a head that begins the reply
-abbrev pub HasNoHead : List ℕ → Type 0
-HasNoHead reply = (h : ResponseHead) (rest : List ℕ) → ¬ (IsHeadOf reply h rest)
-
--- the status of the reply's head, or 0 where it begins with none
-abbrev pub HasStatus : List ℕ → ℕ → Type 0
-HasStatus reply code = HasHead reply code ⊎ (HasNoHead reply × (code ≡ 0))
+-- the code is the status of the reply's head, or 0 where the reply begins with none
+abbrev pub HasCode : List ℕ → ℕ → Type 0
+HasCode reply code = (status : Option ℕ) × HasStatus reply status × (code ≡ unwrap_or status 0)
 
 -- a status from 200 to 299
 abbrev pub is_success : ℕ → Bool
@@ -108,7 +101,7 @@ pub record Stays (old new : Forwarding) : Type 0 where
 
 -- what the record gained shows the answer: exactly one row, or where memory ran out none, or one that says so
 abbrev pub Shows : Parts → List ℕ → Result ℕ TokenError → Option (List Asked) → Option (List Asked) → Type 0
-Shows url token (Ok code) old new = (reply : List ℕ) × Recorded (question url token (Ok reply)) old new × HasStatus reply code
+Shows url token (Ok code) old new = (reply : List ℕ) × Recorded (question url token (Ok reply)) old new × HasCode reply code
 Shows url token (Err LinkFault) old new = Recorded (question url token (Err Failed)) old new
 Shows url token (Err Memory) old new = KeptOrRecorded (question url token (Err AskedMemory)) old new
 Shows url token (Err other) old new = ⊥

@@ -6,7 +6,7 @@ ghost use Rattle.dist_token.specs.Accepted.{IsTokenFor, IsServerTokenFor};
 ghost use Rattle.dist_types.specs.declared.dialer.Asked.{Asked};
 ghost use Rattle.dist_types.specs.declared.token_error.TokenError.{TokenError as Refusal};
 ghost use Rattle.dist_types.specs.declared.token_error.TokenError.TheVariants.{Memory as OutOfMemory};
-ghost use Rattle.dist_token.specs.Forwarded.{Forwarding, HasStatus, MayAnswer};
+ghost use Rattle.dist_token.specs.Forwarded.{Forwarding, HasCode, MayAnswer};
 ghost use Rattle.dist_token.specs.Token.{token_text, job_claims_text, server_claims_text, plain_text};
 ghost use Rattle.dist_token.specs.Verdict.{job_verdict, server_verdict, plain_server};
 ghost use Rattle.dist_types.specs.Addr.{addr_text, IsAddr};
@@ -44,9 +44,9 @@ pub fn servers_accepted_exactly()
     ensures { (key : List ℕ) (server : Addr) (token : List ℕ) → IsBytes token → (server_verdict key token ≡ Ok server) ↔ IsServerTokenFor key server token }
 {}
 
-/// A reply has one status.
-pub fn one_status()
-    ensures { (reply : List ℕ) (first second : ℕ) → HasStatus reply first → HasStatus reply second → first ≡ second }
+/// A reply has one code.
+pub fn one_code()
+    ensures { (reply : List ℕ) (first second : ℕ) → HasCode reply first → HasCode reply second → first ≡ second }
 {}
 
 /// Where the dialer tells its record, a forwarded token gets one answer, unless memory runs out: the new

@@ -1,23 +1,20 @@
 //! The check that forwards a client's token to a peer, and lets in whom that peer lets in.
-ghost use Rattle.std.specs.Prelude.{◌≡◌, ℕ, IfOk, IfErr, IfSome, IfNone, OnOk, Ok, codes, string_bytes};
+ghost use Rattle.std.specs.Prelude.{◌≡◌, IfOk, OnOk, string_bytes};
+ghost use Rattle.http_head.specs.WrittenRequest.{request_text};
 ghost use Rattle.dist_types.specs.Cause.{Rose};
 ghost use Rattle.dist_types.specs.declared.token_error.TokenError.TheVariants.{LinkFault, Memory as OutOfMemory};
-ghost use Rattle.dist_token.specs.Forwarded.{target_of, forwarded_text, HasHead, HasNoHead, HasStatus, is_success, is_fresh, Shows, host_of, port_of};
+ghost use Rattle.dist_token.specs.Forwarded.{target_of, forwarded, HasCode, is_success, is_fresh, Shows, host_of, port_of};
 
 use crate::checks::{ClientAuthCheck, ClientVisibleMsg};
 use crate::kept::{Kept, forget, keep, moment_of, none_kept};
 use dist_types::dialer::{AskFault, Dialer};
 use dist_types::fault::Memory;
+use dist_types::text::{Bytes, Text};
 use dist_types::token_error::TokenError;
-use httparse::{EMPTY_HEADER, Header, Status};
+use http_head::head::status_of;
+use http_head::written_request::{Method, WrittenRequest};
 use std::alloc::Global;
 use url::Url;
-
-/// How many fields the head of a reply has at most.
-const MAX_HEADERS: usize = 100;
-
-/// How many bytes the head of a reply has at most.
-const MAX_HEAD_BYTES: usize = 65536;
 
 /// Milliseconds of a second.
 const MS: u64 = 1000;
@@ -46,46 +43,32 @@ fn port_of(url: &Url) -> u16
     url.port_or_known_default().unwrap_or(80)
 }
 
-// A GET of the URL with the token.
-#[tactic(auto, unfolding(crate::specs::Forwarded::forwarded_text))]
-fn request_for(alloc: Global, url: &Url, token: &str) -> Result<String, Memory>
-    ensures { IfOk result (λ request. string_bytes request ≡ forwarded_text url.now token.now) }
+// The bytes of a GET of the URL with the token.
+fn request_for(alloc: Global, url: &Url, token: &str) -> Result<Bytes, Memory>
+    ensures { IfOk result (λ request. request ≡ request_text (forwarded url.now token.now)) }
 {
     let target = target_of(alloc, url)?;
     let host = host_of(url);
     let port = port_of(url);
-    Ok(format!(in alloc;
-        "GET {target} HTTP/1.1\r\nHost: {host}:{port}\r\nAuthorization: Bearer {token}\r\nConnection: close\r\n\r\n"
-    )?)
-}
-
-// The status of the reply's head, where it begins with one.
-fn head_status(reply: &[u8]) -> Option<u16>
-    ensures some { IfSome result (HasHead reply.now) }
-    ensures none { IfNone result (HasNoHead reply.now) }
-{
-    let mut room = [EMPTY_HEADER; MAX_HEADERS];
-    let mut head = httparse::Response::new(&mut room);
-    let Ok(Status::Complete(len)) = head.parse(reply) else {
-        return None;
+    let host = format!(in alloc; "{host}:{port}")?;
+    let token = Text::of(alloc, token)?;
+    let request = WrittenRequest {
+        method: Method::Get,
+        target: Text::new(target),
+        host: Text::new(host),
+        token: Some(token),
+        body: None,
     };
-    let code = head.code.unwrap();
-    let headers: &[Header<'_>] = head.headers;
-    if headers.len() > MAX_HEADERS {
-        return None;
-    }
-    if len > MAX_HEAD_BYTES {
-        return None;
-    }
-    Some(code)
+    let bytes = request.bytes(alloc)?;
+    Ok(bytes)
 }
 
 // The status of the reply, or 0 where it has no head.
-fn status_of(reply: &[u8]) -> u16
-    ensures { HasStatus reply.now result }
+fn code_of(reply: &[u8]) -> u16
+    ensures { HasCode reply.now result }
 {
-    match head_status(reply) {
-        Some(code) => code,
+    match status_of(reply) {
+        Some(status) => status,
         None => 0,
     }
 }
@@ -123,10 +106,10 @@ fn asked_status<D: Dialer>(
 {
     let request = match request_for(alloc, url, token) {
         Ok(request) => request,
-        Err(_) => return Err(TokenError::Memory),
+        Err(Memory) => return Err(TokenError::Memory),
     };
-    match dialer.ask(host_of(url), port_of(url), request.as_bytes()) {
-        Ok(reply) => Ok(status_of(&reply)),
+    match dialer.ask(host_of(url), port_of(url), request.get()) {
+        Ok(reply) => Ok(code_of(&reply)),
         Err(AskFault::Failed) => Err(TokenError::LinkFault),
         Err(AskFault::Memory) => Err(TokenError::Memory),
     }
@@ -194,8 +177,8 @@ impl<D: Dialer + Send> ClientAuthCheck for ProxyTokenCheck<D> {
                 }
                 match self.cache_secs {
                     Some(_) => match keep(self.alloc, &mut self.kept, token, now) {
-                        Ok(_) => Ok(()),
-                        Err(_) => Err(TokenError::Memory),
+                        Ok(()) => Ok(()),
+                        Err(Memory) => Err(TokenError::Memory),
                     },
                     None => Ok(()),
                 }

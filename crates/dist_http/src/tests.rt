@@ -1,5 +1,0 @@
-mod calls;
-mod heads;
-mod refusals;
-mod replies;
-mod routes;

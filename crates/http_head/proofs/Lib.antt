@@ -1,0 +1,7 @@
+pub mod BearerLemmas
+pub mod CutLemmas
+pub mod FieldLemmas
+pub mod HeadLemmas
+pub mod LineLemmas
+pub mod ReplyLemmas
+pub mod WrittenRequestLemmas

@@ -1,0 +1,160 @@
+//! The heads of requests and replies (RFC 9112, sections 2 to 6, as the crate `httparse` reads them).
+ghost use Rattle.std.specs.Prelude.{◌≡◌, ◌≤◌, IfOk, IfErr, map, length, drop};
+ghost use Rattle.httparse.specs.Borrowed.{header_parts};
+ghost use Rattle.http_head.specs.Head.{IsRequest, Refuses, FindsHead, IsReply, RefusesReply, FindsReplyHead, HasStatus};
+
+use crate::error::HttpError;
+use crate::fields::{allows, is_body};
+use crate::reply::Reply;
+use crate::request::Request;
+use dist_types::text::{Bytes, Items, Text};
+use httparse::{EMPTY_HEADER, Header, Status};
+use std::alloc::{AllocError, Global};
+
+/// How many fields a head has at most.
+pub const MAX_HEADERS: usize = 100;
+
+/// How many bytes a head has at most.
+pub const MAX_HEAD_BYTES: usize = 65536;
+
+/// Parses the request's head that begins the bytes, within the limits: how many bytes it has. None exactly where
+/// none begins them.
+fn parse_head<'b>(head: &mut httparse::Request<'_, 'b>, bytes: &'b [u8]) -> Option<usize>
+    requires { length head.now.headers.now ≡ 100 }
+    ensures { FindsHead bytes.now head.new result }
+{
+    let Ok(Status::Complete(len)) = head.parse(bytes) else {
+        return None;
+    };
+    if head.headers.len() > MAX_HEADERS {
+        return None;
+    }
+    if len > MAX_HEAD_BYTES {
+        return None;
+    }
+    Some(len)
+}
+
+/// Parses the reply's head that begins the bytes, within the limits: how many bytes it has. None exactly where none
+/// begins them.
+fn parse_reply_head<'b>(head: &mut httparse::Response<'_, 'b>, bytes: &'b [u8]) -> Option<usize>
+    requires { length head.now.headers.now ≡ 100 }
+    ensures { FindsReplyHead bytes.now head.new result }
+{
+    let Ok(Status::Complete(len)) = head.parse(bytes) else {
+        return None;
+    };
+    if head.headers.len() > MAX_HEADERS {
+        return None;
+    }
+    if len > MAX_HEAD_BYTES {
+        return None;
+    }
+    Some(len)
+}
+
+fn copy_headers(alloc: Global, headers: &[Header<'_>]) -> Result<Items<(Text, Bytes)>, AllocError>
+    ensures { IfOk result (λ h. h ≡ map header_parts headers.now) }
+{
+    let mut copies = Vec::with_capacity(alloc, headers.len())?;
+    for h in headers {
+        let name = Text::of(alloc, h.name)?;
+        let value = Bytes::from_slice(alloc, h.value)?;
+        copies.push((name, value))?;
+    }
+    Ok(Items::new(copies))
+}
+
+fn copy_request(
+    alloc: Global,
+    method: &str,
+    target: &str,
+    headers: &[Header<'_>],
+    body: &[u8],
+) -> Result<Request, AllocError>
+    ensures { IfOk result (λ r. r ≡ record { method = method.now; target = target.now; headers = map header_parts headers.now; body = body.now }) }
+{
+    Ok(Request {
+        method: Text::of(alloc, method)?,
+        target: Text::of(alloc, target)?,
+        headers: copy_headers(alloc, headers)?,
+        body: Bytes::from_slice(alloc, body)?,
+    })
+}
+
+fn copy_reply(
+    alloc: Global,
+    code: u16,
+    headers: &[Header<'_>],
+    body: &[u8],
+) -> Result<Reply, AllocError>
+    ensures { IfOk result (λ r. r ≡ record { code = code; headers = map header_parts headers.now; body = body.now }) }
+{
+    Ok(Reply {
+        code,
+        headers: copy_headers(alloc, headers)?,
+        body: Bytes::from_slice(alloc, body)?,
+    })
+}
+
+fn after(bytes: &[u8], len: usize) -> &[u8]
+    requires { len ≤ length bytes.now }
+    ensures { result.now ≡ drop len bytes.now }
+{
+    &bytes[len..]
+}
+
+/// The request that the bytes are: a head, and exactly as many bytes after it as its one
+/// Content-Length says, or none. BadHead exactly where they are no request; else refused for want of
+/// memory alone.
+pub fn read_head(alloc: Global, bytes: &[u8]) -> Result<Request, HttpError>
+    ensures ok { IfOk result (IsRequest bytes.now) }
+    ensures err { IfErr result (Refuses bytes.now) }
+{
+    let mut room = [EMPTY_HEADER; MAX_HEADERS];
+    let mut head = httparse::Request::new(&mut room);
+    let Some(len) = parse_head(&mut head, bytes) else {
+        return Err(HttpError::BadHead);
+    };
+    let method = head.method.unwrap();
+    let target = head.path.unwrap();
+    let headers: &[Header<'_>] = head.headers;
+    let body = after(bytes, len);
+    if !is_body(headers, body) {
+        return Err(HttpError::BadHead);
+    }
+    let request = copy_request(alloc, method, target, headers, body)?;
+    Ok(request)
+}
+
+/// The reply that the bytes are: a head, and all bytes after it, which a Content-Length counts if
+/// there is one. ParseError exactly where they are no reply; else refused for want of memory alone.
+pub fn read_reply_head(alloc: Global, bytes: &[u8]) -> Result<Reply, HttpError>
+    ensures ok { IfOk result (IsReply bytes.now) }
+    ensures err { IfErr result (RefusesReply bytes.now) }
+{
+    let mut room = [EMPTY_HEADER; MAX_HEADERS];
+    let mut head = httparse::Response::new(&mut room);
+    let Some(len) = parse_reply_head(&mut head, bytes) else {
+        return Err(HttpError::ParseError);
+    };
+    let code = head.code.unwrap();
+    let headers: &[Header<'_>] = head.headers;
+    let body = after(bytes, len);
+    if !allows(headers, body) {
+        return Err(HttpError::ParseError);
+    }
+    let reply = copy_reply(alloc, code, headers, body)?;
+    Ok(reply)
+}
+
+/// The status of the reply's head that begins the bytes, whatever it says of its body; None exactly where none
+/// begins them. It takes no memory.
+pub fn status_of(bytes: &[u8]) -> Option<u16>
+    ensures { HasStatus bytes.now result }
+{
+    let mut room = [EMPTY_HEADER; MAX_HEADERS];
+    let mut head = httparse::Response::new(&mut room);
+    let _len = parse_reply_head(&mut head, bytes)?;
+    head.code
+}

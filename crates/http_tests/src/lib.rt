@@ -1,0 +1,16 @@
+//! Tests of requests and replies: heads by their rule, what each route asks and refuses, replies and faults to the
+//! byte, what the reply to a call says, and requests that are written.
+#![tactic(auto)]
+
+#[cfg(test)]
+mod calls;
+#[cfg(test)]
+mod heads;
+#[cfg(test)]
+mod refusals;
+#[cfg(test)]
+mod replies;
+#[cfg(test)]
+mod routes;
+#[cfg(test)]
+mod written;
