@@ -1,14 +1,14 @@
 -- The command's clauses in the words of the grammar.
 use Rattle.std.proofs.Common.{◌≡◌, ◌⊎◌, inl, inr, ℕ, Bool, true, cond, List, Option, Some, None, Result, Ok, Err, ap, ◌∙◌, refl}
 use Rattle.std.specs.Prelude.{IfSome}
-use Rattle.farm.specs.declared.setup.Setup.{Setup}
-use Rattle.farm.specs.declared.event.Event.{Event}
-use Rattle.farm.specs.Script.{script}
-use Rattle.farm.specs.FirstFaulty.{IsFirstFaulty}
+use Rattle.farm_script.specs.declared.setup.Setup.{Setup}
+use Rattle.farm_script.specs.declared.event.Event.{Event}
+use Rattle.farm_script.specs.Script.{script}
+use Rattle.farm_script.specs.FirstFaulty.{IsFirstFaulty}
 use Rattle.dist_types.specs.Content.{Added}
 use Rattle.farm.specs.Command.{names_farm, script_status, status_of, IsRunText, IsReadText, WroteFront}
-use Rattle.farm.proofs.FirstFaultyLemmas.{first_faulty}
-use Rattle.farm.proofs.SpelledLemmas.{script_is_said}
+use Rattle.farm_script.proofs.FirstFaultyLemmas.{first_faulty}
+use Rattle.farm_script.proofs.SpelledLemmas.{script_is_said}
 
 farm_status : (words : List (List ℕ)) (bytes : List ℕ) → names_farm words ≡ true → status_of words bytes ≡ script_status (script bytes)
 farm_status words bytes named = ap (λ (v : Bool). cond v (script_status (script bytes)) 2) named

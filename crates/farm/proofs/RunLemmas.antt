@@ -4,13 +4,13 @@ use Rattle.std.specs.Prelude.{option_to_list, IfOk}
 use Rattle.std.specs.List.{cons_option}
 use Rattle.std.proofs.lemmas.List.Elements.{filter_map-append}
 use Rattle.sched_core.specs.declared.entry.CoreEntry.{CoreEntry}
-use Rattle.farm.specs.declared.setup.SetupScheduler.{SetupScheduler}
-use Rattle.farm.specs.declared.event.Event.{Event}
+use Rattle.farm_script.specs.declared.setup.SetupScheduler.{SetupScheduler}
+use Rattle.farm_script.specs.declared.event.Event.{Event}
 use Rattle.farm.specs.declared.entry.Entry.{Entry}
-use Rattle.farm.specs.declared.fault.FarmFault.{FarmFault}
+use Rattle.farm_script.specs.declared.fault.FarmFault.{FarmFault}
 use Rattle.farm.specs.Next.{core_log, core_of, IsNext, EachNext}
-use Rattle.farm.specs.declared.setup.Setup.{Setup}
-use Rattle.farm.specs.Script.{script}
+use Rattle.farm_script.specs.declared.setup.Setup.{Setup}
+use Rattle.farm_script.specs.Script.{script}
 use Rattle.farm.specs.Printed.{run_text}
 use Rattle.farm.specs.Command.{IsReadText}
 use Rattle.farm.specs.Farm.{Farmed, with_entries, with_core, Runs, AreLawful}

@@ -30,11 +30,11 @@ use Rattle.sched_core.specs.declared.entry.CoreKind.TheVariants as core
 use Rattle.sched_core.specs.declared.entry.Reserved.TheVariants.{Job, NoRoom, Spent}
 use Rattle.sched_core.specs.declared.entry.UpdateAnswer.{UpdateAnswer}
 use Rattle.sched_core.specs.declared.entry.UpdateAnswer.TheVariants.{Accepted, Unknown, Wrong, Transition}
-use Rattle.farm.specs.declared.setup.SetupScheduler.{SetupScheduler}
-use Rattle.farm.specs.declared.event.Event.{Event}
+use Rattle.farm_script.specs.declared.setup.SetupScheduler.{SetupScheduler}
+use Rattle.farm_script.specs.declared.event.Event.{Event}
 use Rattle.farm.specs.declared.entry.Entry.{Entry}
 use Rattle.farm.specs.declared.entry.Reply.{Reply}
-use Rattle.farm.specs.declared.fault.FarmFault.{FarmFault}
+use Rattle.farm_script.specs.declared.fault.FarmFault.{FarmFault}
 use Rattle.farm.specs.declared.waiting.Waiting.{Waiting}
 use Rattle.farm.specs.declared.waiting.Made.{Made}
 use Rattle.farm.specs.Replies.{alloc_response, update_response}

@@ -2,7 +2,7 @@
 ghost use Rattle.std.specs.Prelude.{◌≡◌, Some};
 ghost use Rattle.farm.specs.Next.{worded, replied, asking};
 
-use crate::event::Event;
+use farm_script::event::Event;
 use dist_types::addr::Addr;
 use dist_types::ids::JobId;
 use dist_types::text::{Bytes, Items};

@@ -9,21 +9,20 @@
 //! `Farm::new`, `Farm::run`, `Farm::history` and `print_run`.
 #![tactic(auto)]
 
+pub use farm_script::event as event;
+pub use farm_script::fault as fault;
+pub use farm_script::lines as lines;
+pub use farm_script::pieces as pieces;
+pub use farm_script::script as script;
+pub use farm_script::setup as setup;
+
 pub mod command;
 pub mod entry;
-pub mod event;
-pub mod fault;
-mod fields;
 pub mod laws;
-pub mod lines;
-pub mod pieces;
 pub mod print;
 mod replies;
 pub mod run;
-pub mod script;
 mod serve;
 mod settle;
-pub mod setup;
 mod text;
 mod waiting;
-mod words;

@@ -5,11 +5,11 @@ ghost use Rattle.sched_core.specs.Rule.{is_among, begins};
 ghost use Rattle.farm.specs.Next.{commit_response, continued};
 ghost use Rattle.farm.specs.Farm.{with_core};
 ghost use Rattle.dist_http.specs.Calls.{IsAssigned};
-ghost use Rattle.farm.specs.declared.fault.FarmFault.TheVariants as fault;
+ghost use Rattle.farm_script.specs.declared.fault.FarmFault.TheVariants as fault;
 
 use crate::entry::Entry;
-use crate::event::Event;
-use crate::fault::FarmFault;
+use farm_script::event::Event;
+use farm_script::fault::FarmFault;
 use crate::replies::to_allocation;
 use crate::serve::{last_copy, reply};
 use crate::waiting::Waiting;

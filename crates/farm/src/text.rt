@@ -5,7 +5,7 @@ ghost use Rattle.farm.specs.Printed.{numbers_text, jobs_text, number_text, hex_t
 ghost use Rattle.sched_core.specs.Rows.{held_part};
 
 use crate::entry::{EntryWord, HeardAs, OutCall, Reply, Step, StepKind};
-use crate::event::EventKind;
+use farm_script::event::EventKind;
 use dist_types::ids::JobId;
 use dist_types::results::JobState;
 use dist_types::toolchain::Toolchain;
