@@ -1,5 +1,5 @@
 pub mod CallLemmas
-pub mod ExactLemmas
+pub mod CommandLemmas
 pub mod HexLemmas
 pub mod IdLemmas
 pub mod MadeLemmas

@@ -121,7 +121,12 @@ IsTold f answer before after = IsSaid (fault_text f) (fault_status f) answer bef
 
 -- What is told of a fault: the fault, or want of memory, where memory ran out for the text of a bad line.
 abbrev pub StandsFor : FarmFault → FarmFault → Type 0
-StandsFor met told = (told ≡ met) ⊎ ((told ≡ Memory) × ((n : ℕ) × (met ≡ BadLine n)))
+StandsFor met told = (told ≡ met) ⊎ ((told ≡ Memory) × (n : ℕ) × (met ≡ BadLine n))
+
+-- 0 where there is no fault, and errs is as it was; else the fault is told.
+abbrev pub IsReported : {A : Type 0} → Result A FarmFault → ℕ → Side → Side → Type 0
+IsReported (Ok x) answer before after = (answer ≡ 0) × (after ≡ before)
+IsReported (Err met) answer before after = (told : FarmFault) × StandsFor met told × IsTold told answer before after
 
 -- What the status answers: 0 where the run was printed, and then errs is as it was; else a fault that has its cause is told.
 pub record IsAnswered (answer : ℕ) (c : Called) (errs errs_after : Side) : Type 0 where

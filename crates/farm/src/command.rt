@@ -1,10 +1,12 @@
 //! The command.
 ghost use Rattle.std.specs.Prelude.{◌≡◌, ◌≤◌, ◌⊎◌, ℕ, drop, map, string_bytes, IfOk, IfErr, IfSome, OnOk, true, false};
 ghost use Rattle.std.specs.Option.{option_map};
+ghost use Rattle.std_alloc.specs.Vec.Iter.{into_iter_items};
+ghost use Rattle.std_io.specs.IoError.{error_kind};
 ghost use Rattle.dist_types.specs.Cause.{Rose};
 ghost use Rattle.farm_script.specs.Script.{script};
 ghost use Rattle.farm_script.specs.FirstFaulty.{IsFirstFaulty};
-ghost use Rattle.farm.specs.Command.{names_farm, IsReadText, HasNoRun, fault_text, IsDone, IsSaid, IsTold, StandsFor, IsAnswered};
+ghost use Rattle.farm.specs.Command.{names_farm, IsReadText, HasNoRun, fault_text, IsDone, IsSaid, IsTold, IsReported, IsAnswered, words_fault};
 ghost use Rattle.farm_script.specs.declared.fault.FarmFault.TheVariants as fault;
 
 use crate::print::print_run;
@@ -14,6 +16,8 @@ use dist_types::source::{ReadError, Source, read_up_to};
 use farm_script::fault::FarmFault;
 use farm_script::script::{MAX_SCRIPT_BYTES, read_script};
 use std::alloc::{AllocError, Global};
+use std::env::Args;
+use std::io::{self, ErrorKind};
 
 const USAGE: &[u8] = b"sccache-dist: these words name no command\n";
 
@@ -115,22 +119,23 @@ fn line_text(alloc: Global, n: u64) -> Result<String, AllocError>
     format!(in alloc; "sccache-dist: bad line {n}\n")
 }
 
-/// Tells a fault on errs, and answers its status, or 5 where errs failed. Want of memory is told in place
-/// of a bad line where memory runs out for that line's text.
-fn tell<E: Sink>(alloc: Global, met: FarmFault, errs: &mut E) -> u8
-    ensures told { (f : fault.FarmFault) × StandsFor met f × IsTold f result
+/// Answers 0 where all was done; else tells the fault on errs, and answers its status, or 5 where errs
+/// failed. Want of memory is told in place of a bad line where memory runs out for that line's text.
+fn report<E: Sink>(alloc: Global, done: Result<(), FarmFault>, errs: &mut E) -> u8
+    ensures reported { IsReported done result
         (record { content = E.held errs.old; faults = E.faults errs.old })
         (record { content = E.held errs.new; faults = E.faults errs.new }) }
 {
-    match met {
-        FarmFault::Usage => say(errs, USAGE, 2),
-        FarmFault::BadLine(n) => match line_text(alloc, n) {
+    match done {
+        Ok(()) => 0,
+        Err(FarmFault::Usage) => say(errs, USAGE, 2),
+        Err(FarmFault::BadLine(n)) => match line_text(alloc, n) {
             Ok(text) => say(errs, text.as_bytes(), 1),
             Err(_) => say(errs, MEMORY, 3),
         },
-        FarmFault::ReadFault => say(errs, READ_FAULT, 4),
-        FarmFault::WriteFault => say(errs, WRITE_FAULT, 5),
-        FarmFault::Memory => say(errs, MEMORY, 3),
+        Err(FarmFault::ReadFault) => say(errs, READ_FAULT, 4),
+        Err(FarmFault::WriteFault) => say(errs, WRITE_FAULT, 5),
+        Err(FarmFault::Memory) => say(errs, MEMORY, 3),
     }
 }
 
@@ -172,8 +177,60 @@ pub fn dist_main<S: Source, K: Sink, E: Sink>(
     // Without the words of a command it is 2, or 5 where errs failed.
     ensures no_command { names_farm (map string_bytes words.now) ≡ false → (result ≡ 2) ⊎ (result ≡ 5) }
 {
-    match run_words(alloc, words, input, out) {
-        Ok(()) => 0,
-        Err(fault) => tell(alloc, fault, errs),
+    let done = run_words(alloc, words, input, out);
+    report(alloc, done, errs)
+}
+
+/// The words of the command line, as the system gave them. A word that is not UTF-8 names no command;
+/// memory may run out.
+fn words_of(alloc: Global, given: io::Result<Args>) -> Result<Vec<String>, FarmFault>
+    ensures ok { IfOk result (λ words. IfOk given (λ args. words.items ≡ into_iter_items args)) }
+    ensures err { IfErr result (λ f. IfErr given (λ e. f ≡ words_fault (error_kind e))) }
+    ensures memory { IfErr result (λ f. IfOk given (λ args. f ≡ fault.Memory)) }
+{
+    match given {
+        Ok(args) => {
+            let words = args.collect(alloc)?;
+            Ok(words)
+        }
+        Err(error) => match error.kind() {
+            ErrorKind::OutOfMemory => Err(FarmFault::Memory),
+            _ => Err(FarmFault::Usage),
+        },
+    }
+}
+
+/// The command over the words that the system gave, or did not give: a word that is not UTF-8 is told as
+/// words that name no command, and want of memory as that; then neither input nor out is touched.
+pub fn run_command_line<S: Source, K: Sink, E: Sink>(
+    alloc: Global,
+    given: io::Result<Args>,
+    input: &mut S,
+    out: &mut K,
+    errs: &mut E,
+) -> u8
+    // What `dist_main` answers of the words, unless memory ran out for them.
+    ensures given { IfOk given (λ args. IsAnswered result (record {
+      words = map string_bytes (into_iter_items args);
+      input = record { content = S.left input.old; faults = S.faults input.old };
+      input_after = record { content = S.left input.new; faults = S.faults input.new };
+      out = record { content = K.held out.old; faults = K.faults out.old };
+      out_after = record { content = K.held out.new; faults = K.faults out.new };
+    })
+        (record { content = E.held errs.old; faults = E.faults errs.old })
+        (record { content = E.held errs.new; faults = E.faults errs.new })
+        ⊎ (IsTold fault.Memory result
+        (record { content = E.held errs.old; faults = E.faults errs.old })
+        (record { content = E.held errs.new; faults = E.faults errs.new })
+        × (input.new ≡ input.old) × (out.new ≡ out.old))) }
+    // The fault of words that the system did not give is told.
+    ensures refused { IfErr given (λ e. IsTold (words_fault (error_kind e)) result
+        (record { content = E.held errs.old; faults = E.faults errs.old })
+        (record { content = E.held errs.new; faults = E.faults errs.new })
+        × (input.new ≡ input.old) × (out.new ≡ out.old)) }
+{
+    match words_of(alloc, given) {
+        Ok(words) => dist_main(alloc, &words, input, out, errs),
+        Err(fault) => report(alloc, Err(fault), errs),
     }
 }

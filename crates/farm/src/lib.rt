@@ -9,12 +9,7 @@
 //! `Farm::new`, `Farm::run`, `Farm::history` and `print_run`.
 #![tactic(auto)]
 
-pub use farm_script::event as event;
-pub use farm_script::fault as fault;
-pub use farm_script::lines as lines;
-pub use farm_script::pieces as pieces;
-pub use farm_script::script as script;
-pub use farm_script::setup as setup;
+pub use farm_script::{event, fault, lines, pieces, script, setup};
 
 pub mod command;
 pub mod entry;

@@ -7,9 +7,9 @@ ghost use Rattle.sched_core.specs.Rows.{held_by_id};
 ghost use Rattle.farm_script.specs.declared.fault.FarmFault.TheVariants as fault;
 
 use crate::entry::Entry;
-use farm_script::fault::FarmFault;
 use crate::run::Farm;
 use crate::text::{CallLine, CoreLine, JobLine, Kind, ReplyLine, RowLine, StepLine, WordLine};
+use farm_script::fault::FarmFault;
 use sched_core::rows::Servers;
 use std::alloc::{AllocError, Global};
 

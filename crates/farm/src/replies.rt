@@ -5,11 +5,13 @@ ghost use Rattle.dist_http.specs.Fault.{fault_response_of, no_room_text, dropped
 ghost use Rattle.farm.specs.Replies.{heard_response, status_response, alloc_response, update_response};
 
 use dist_http::error::HttpError;
-use dist_http::fault::{self, RouteFault};
+use dist_http::fault::{RouteFault, dropped_text, fault_response, no_room_text};
 use dist_http::reply::{Response, respond};
+use dist_types::ids::JobId;
 use dist_types::results::{
     AllocJobResult, HeartbeatServerResult, SchedulerStatusResult, UpdateJobStateResult,
 };
+use dist_types::text::Text;
 use dist_wire::alloc::AllocJobHttpResponse;
 use std::alloc::{AllocError, Global};
 
@@ -86,6 +88,36 @@ pub fn to_report(
 {
     match respond(alloc, json, answer) {
         Ok(response) => Ok(response),
+        Err(error) => Err(want_of_memory(error)),
+    }
+}
+
+/// The reply to what faults.
+pub fn to_fault(alloc: Global, fault: &RouteFault) -> Result<Response, AllocError>
+    ensures ok { IfOk result (λ r. r ≡ fault_response_of fault.now) }
+{
+    match fault_response(alloc, fault) {
+        Ok(response) => Ok(response),
+        Err(error) => Err(want_of_memory(error)),
+    }
+}
+
+/// Why no job was allocated: no server has room, of so many that stand.
+pub fn no_room(alloc: Global, standing: u64) -> Result<Text, AllocError>
+    ensures ok { IfOk result (λ text. text ≡ no_room_text standing) }
+{
+    match no_room_text(alloc, standing) {
+        Ok(text) => Ok(text),
+        Err(error) => Err(want_of_memory(error)),
+    }
+}
+
+/// Why no job was allocated: its reservation ended before the server answered.
+pub fn dropped(alloc: Global, job: JobId) -> Result<Text, AllocError>
+    ensures ok { IfOk result (λ text. text ≡ dropped_text job) }
+{
+    match dropped_text(alloc, job) {
+        Ok(text) => Ok(text),
         Err(error) => Err(want_of_memory(error)),
     }
 }

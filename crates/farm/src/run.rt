@@ -13,17 +13,17 @@ ghost use Rattle.farm_script.specs.declared.event.EventKind.TheVariants as kind;
 ghost use Rattle.farm_script.specs.declared.fault.FarmFault.TheVariants as fault;
 
 use crate::entry::{Entry, EntryWord, OutCall};
-use farm_script::event::{Event, EventKind};
-use farm_script::fault::FarmFault;
 use crate::serve::serve;
 use crate::settle::{go_on, outcome};
-use farm_script::setup::{Setup, SetupAuth, SetupScheduler};
 use crate::waiting::{Made, Waiting, release, take_at, undo_last};
 use dist_token::job_token::JWTJobAuthorizer;
 use dist_types::addr::Addr;
 use dist_types::outgoing::CallFault;
 use dist_types::results::AssignJobResult;
 use dist_types::text::Items;
+use farm_script::event::{Event, EventKind};
+use farm_script::fault::FarmFault;
+use farm_script::setup::{Setup, SetupAuth, SetupScheduler};
 use sched_core::entry::{CoreEntry, CoreKind, Reserved};
 use sched_core::rows::{Jobs, Servers};
 use sched_core::state::SchedState;
@@ -134,6 +134,7 @@ impl Farm {
     fn step(self, event: &Event) -> Result<Farm, Stopped>
         ensures ok { IfOk result (Steps self event.now) }
         ensures err { IfErr result (λ s. s.entries ≡ self.entries) }
+        ensures laws { OnErr result (AreLawful self.scheduler self.entries) }
     {
         let Farm {
             alloc,
@@ -183,9 +184,10 @@ impl Farm {
         // have different jobs, each open job has exactly one unended reservation, at a registration that
         // stands, and no load is over its bound.
         ensures laws { IfOk result (λ farm. AreLawful farm.scheduler farm.entries) }
-        // The same for the events before the one that memory ran out in.
+        // Both hold also of the events before the one that memory ran out in.
         ensures err { IfErr result (λ s. (n : ℕ) × (n < length events.now)
             × Runs self (take n events.now) (record { scheduler = self.scheduler; entries = s.entries })) }
+        ensures stopped_laws { IfErr result (λ s. AreLawful self.scheduler s.entries) }
     {
         let mut farm = self;
         for event in events {
