@@ -5,7 +5,6 @@ pub mod Cause
 pub mod Clock
 pub mod Command
 pub mod Content
-pub mod Cuts
 pub mod Dialer
 pub mod Ids
 pub mod InMemory

@@ -5,8 +5,8 @@ use Rattle.std.specs.List.{list_any}
 use Rattle.std.proofs.lemmas.Bool.{ltb-true}
 use Rattle.std.proofs.lemmas.List.{length-append}
 use Rattle.dist_types.specs.Addr.{◌>>=◌}
-use Rattle.dist_types.specs.Cuts.{Cut, cuts, cuts_behind}
-use Rattle.dist_types.proofs.Lists.{list_any-push, followed, cuts_behind-push, end_cut}
+use Rattle.sched_core.specs.Cuts.{Cut, cuts, cuts_behind}
+use Rattle.sched_core.proofs.Lists.{list_any-push, followed, cuts_behind-push, end_cut}
 use Rattle.sched_core.proofs.AllLemmas.{is_false}
 use Rattle.sched_core.proofs.PlainLemmas.{list_any-map}
 use Rattle.farm.specs.declared.entry.Entry.{Entry}

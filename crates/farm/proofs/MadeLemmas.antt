@@ -7,7 +7,7 @@ use Rattle.dist_types.specs.Addr.{◌>>=◌}
 use Rattle.dist_types.specs.declared.addr.Addr.{Addr}
 use Rattle.dist_types.specs.declared.outgoing.CallFault.{CallFault}
 use Rattle.dist_types.specs.declared.results.AssignJobResult.{AssignJobResult}
-use Rattle.dist_types.proofs.Lists.{end_cut}
+use Rattle.sched_core.proofs.Lists.{end_cut}
 use Rattle.sched_core.specs.Log.{Core}
 use Rattle.sched_core.specs.Ticket.{Ticket}
 use Rattle.sched_core.specs.Reservation.{unspent}

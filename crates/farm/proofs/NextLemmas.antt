@@ -10,7 +10,7 @@ use Rattle.dist_types.specs.declared.ids.JobId.{JobId}
 use Rattle.dist_types.specs.declared.outgoing.CallFault.{CallFault}
 use Rattle.dist_types.specs.declared.results.AssignJobResult.{AssignJobResult}
 use Rattle.dist_types.proofs.AddrLemmas.{bind_some}
-use Rattle.dist_types.proofs.Lists.{end_cut}
+use Rattle.sched_core.proofs.Lists.{end_cut}
 use Rattle.sched_core.specs.Reservation.{bookings, spends_by}
 use Rattle.sched_core.specs.Rule.{rule, reserve_at, begins}
 use Rattle.sched_core.specs.Pick.{pick}

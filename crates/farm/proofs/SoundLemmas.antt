@@ -7,7 +7,7 @@ use Rattle.std.proofs.lemmas.Option.{same_Some, slice_get_within}
 use Rattle.dist_types.specs.Addr.{◌>>=◌}
 use Rattle.dist_types.specs.declared.ids.JobId.{JobId}
 use Rattle.dist_types.proofs.AddrLemmas.{bind_some}
-use Rattle.dist_types.proofs.Lists.{end_cut}
+use Rattle.sched_core.proofs.Lists.{end_cut}
 use Rattle.sched_core.specs.Log.{same_job}
 use Rattle.sched_core.specs.Ticket.{Ticket}
 use Rattle.sched_core.specs.Standing.{address_of, key_at}

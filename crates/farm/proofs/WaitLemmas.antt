@@ -6,7 +6,7 @@ use Rattle.std.proofs.lemmas.List.{length-append}
 use Rattle.std.proofs.lemmas.Option.{slice_get_past}
 use Rattle.dist_types.specs.Addr.{◌>>=◌}
 use Rattle.dist_types.specs.declared.addr.Addr.{Addr}
-use Rattle.dist_types.proofs.Lists.{end_cut}
+use Rattle.sched_core.proofs.Lists.{end_cut}
 use Rattle.farm_script.specs.declared.setup.SetupScheduler.{SetupScheduler}
 use Rattle.farm.specs.declared.entry.Entry.{Entry}
 use Rattle.farm.specs.declared.waiting.Waiting.{Waiting}

@@ -3,7 +3,7 @@ use Rattle.std.specs.Prelude.{ℕ, List, length, slice_get, nat_lt, Bool, true, 
 use Rattle.std.specs.List.{list_any}
 use Rattle.std.specs.Option.{option_map}
 use Rattle.dist_types.specs.Addr.{◌>>=◌}
-use Rattle.dist_types.specs.Cuts.{Cut, cuts}
+use Rattle.sched_core.specs.Cuts.{Cut, cuts}
 use Rattle.farm_script.specs.declared.event.EventKind.{EventKind}
 use Rattle.farm_script.specs.declared.event.EventKind.TheVariants.{Request, Deliver, Fail, Return, Answer, Beat, Restart}
 use Rattle.farm.specs.declared.entry.Entry.{Entry}

@@ -5,8 +5,8 @@ use Rattle.std.specs.List.{AllByRecursion, filter_map}
 use Rattle.std.specs.Option.{option_map}
 use Rattle.std.proofs.lemmas.List.{map-append}
 use Rattle.std.proofs.lemmas.List.Elements.{filter-append, filter_map-append, filter_agree}
-use Rattle.dist_types.specs.Cuts.{Cut, cuts, lasting}
-use Rattle.dist_types.proofs.Lists.{map-map, filter-map, filter-filter, map-filter_agree, filter_map-map, followed, cuts_behind-push, cons_nil, and_left, end_cut}
+use Rattle.sched_core.specs.Cuts.{Cut, cuts, lasting}
+use Rattle.sched_core.proofs.Lists.{map-map, filter-map, filter-filter, map-filter_agree, filter_map-map, followed, cuts_behind-push, cons_nil, and_left, end_cut}
 use Rattle.sched_core.specs.declared.entry.CoreEntry.{CoreEntry}
 use Rattle.sched_core.specs.Log.{newest, newer}
 use Rattle.sched_core.specs.Plain.{seen}

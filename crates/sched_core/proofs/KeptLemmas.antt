@@ -10,7 +10,7 @@ use Rattle.dist_types.specs.declared.addr.Addr.{Addr}
 use Rattle.dist_types.specs.declared.ids.JobId.{JobId}
 use Rattle.dist_types.specs.declared.results.JobState.{JobState}
 use Rattle.dist_types.specs.declared.results.JobState.TheVariants.{Pending, Ready, Started, Complete}
-use Rattle.dist_types.proofs.Lists.{map-map, filter-map, filter-filter, list_any-push, cons_nil, map-option, end_cut, Grows, lasting-push}
+use Rattle.sched_core.proofs.Lists.{map-map, filter-map, filter-filter, list_any-push, cons_nil, map-option, end_cut, Grows, lasting-push}
 use Rattle.sched_core.specs.declared.entry.CoreEntry.{CoreEntry}
 use Rattle.sched_core.specs.declared.entry.CoreKind.{CoreKind}
 use Rattle.sched_core.specs.declared.entry.CoreKind.TheVariants.{Beat, Reserve, Commit, Undo, Update, Status}

@@ -5,8 +5,10 @@ pub mod FactLemmas
 pub mod FreeLemmas
 pub mod GrowLemmas
 pub mod HeldLemmas
+pub mod InLog
 pub mod KeptLemmas
 pub mod LegalLemmas
+pub mod Lists
 pub mod OnceLemmas
 pub mod PlaceLemmas
 pub mod PlainLemmas

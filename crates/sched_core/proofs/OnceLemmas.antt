@@ -6,11 +6,11 @@ use Rattle.std.proofs.lemmas.Bool.{false≢true}
 use Rattle.std.proofs.lemmas.List.{map-append}
 use Rattle.std.proofs.lemmas.List.Sums.{sum_by-cons, sum_by_push}
 use Rattle.std.proofs.lemmas.List.Elements.{filter_map-append}
-use Rattle.dist_types.specs.Cuts.{Cut, cuts}
+use Rattle.sched_core.specs.Cuts.{Cut, cuts}
 use Rattle.dist_types.specs.declared.addr.Addr.{Addr}
 use Rattle.dist_types.specs.declared.ids.JobId.{JobId}
 use Rattle.dist_types.specs.declared.results.JobState.{JobState}
-use Rattle.dist_types.proofs.Lists.{map-map, followed, cuts_behind-push, end_cut, cons_nil}
+use Rattle.sched_core.proofs.Lists.{map-map, followed, cuts_behind-push, end_cut, cons_nil}
 use Rattle.sched_core.specs.declared.entry.CoreEntry.{CoreEntry}
 use Rattle.sched_core.specs.declared.entry.CoreKind.{CoreKind}
 use Rattle.sched_core.specs.declared.entry.CoreKind.TheVariants.{Beat, Reserve, Commit, Undo, Update, Status}

@@ -5,8 +5,8 @@ use Rattle.std.specs.List.{filter_map, cons_option, list_any}
 use Rattle.std.proofs.lemmas.List.{take_all, take_more, map-append}
 use Rattle.std.proofs.lemmas.List.Elements.{filter-append, filter_map-append}
 use Rattle.std.proofs.lemmas.List.Sums.{sum_by-cons}
-use Rattle.dist_types.specs.Cuts.{Cut, cuts, cuts_behind, lasting}
-use Rattle.dist_types.proofs.Lists.{cons_nil}
+use Rattle.sched_core.specs.Cuts.{Cut, cuts, cuts_behind, lasting}
+use Rattle.sched_core.proofs.Lists.{cons_nil}
 use Rattle.sched_core.specs.declared.entry.CoreEntry.{CoreEntry}
 use Rattle.sched_core.specs.declared.entry.CoreKind.{CoreKind}
 use Rattle.sched_core.specs.declared.entry.CoreKind.TheVariants.{Beat, Reserve, Commit, Undo, Update, Status}

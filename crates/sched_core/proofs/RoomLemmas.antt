@@ -7,9 +7,9 @@ use Rattle.std.proofs.Math.Nat.{mul-lt-mul_of_pos_right, lt_of_mul-lt-mul_right}
 use Rattle.std.proofs.lemmas.Nat.{mul-le}
 use Rattle.std.proofs.lemmas.Bool.Decides.{nat_tests}
 use Rattle.std.proofs.lemmas.List.Sums.{sum_by-cons, sum_by-append}
-use Rattle.dist_types.specs.Cuts.{cuts}
+use Rattle.sched_core.specs.Cuts.{cuts}
 use Rattle.dist_types.specs.declared.ids.JobId.{JobId}
-use Rattle.dist_types.proofs.Lists.{map-map, map-same, followed, cuts_behind-push, end_cut}
+use Rattle.sched_core.proofs.Lists.{map-map, map-same, followed, cuts_behind-push, end_cut}
 use Rattle.sched_core.specs.declared.entry.CoreEntry.{CoreEntry}
 use Rattle.sched_core.specs.declared.entry.CoreKind.{CoreKind}
 use Rattle.sched_core.specs.declared.entry.CoreKind.TheVariants.{Beat, Reserve, Commit, Undo, Update, Status}

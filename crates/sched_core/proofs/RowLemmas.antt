@@ -6,10 +6,10 @@ use Rattle.std.specs.Option.{option_map}
 use Rattle.std.proofs.lemmas.Bool.{false≢true}
 use Rattle.std.proofs.lemmas.List.{length-map}
 use Rattle.std.proofs.lemmas.List.Sums.{sum_by-cons, sum_by-append}
-use Rattle.dist_types.specs.Cuts.{Cut, cuts, cuts_behind, lasting}
+use Rattle.sched_core.specs.Cuts.{Cut, cuts, cuts_behind, lasting}
 use Rattle.dist_types.specs.declared.addr.Addr.{Addr}
 use Rattle.dist_types.specs.declared.ids.JobId.{JobId}
-use Rattle.dist_types.proofs.Lists.{map-map, filter-map, end_cut, followed}
+use Rattle.sched_core.proofs.Lists.{map-map, filter-map, end_cut, followed}
 use Rattle.sched_core.specs.declared.entry.CoreEntry.{CoreEntry}
 use Rattle.sched_core.specs.declared.entry.CoreKind.{CoreKind}
 use Rattle.sched_core.specs.declared.entry.CoreKind.TheVariants.{Beat, Reserve, Commit, Undo, Update, Status}

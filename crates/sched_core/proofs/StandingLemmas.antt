@@ -5,9 +5,9 @@ use Rattle.std.specs.List.{list_any}
 use Rattle.std.specs.Option.{option_map}
 use Rattle.std.proofs.lemmas.List.Elements.{filter-append}
 use Rattle.std.proofs.lemmas.Option.{cond_some}
-use Rattle.dist_types.specs.Cuts.{Cut, cuts}
-use Rattle.dist_types.proofs.Lists.{filter-map, list_any-push, map-same, followed, cuts_behind-push, end_cut}
-use Rattle.dist_types.proofs.InLog.{GrowsIn, lasting_in-push}
+use Rattle.sched_core.specs.Cuts.{Cut, cuts}
+use Rattle.sched_core.proofs.Lists.{filter-map, list_any-push, map-same, followed, cuts_behind-push, end_cut}
+use Rattle.sched_core.proofs.InLog.{GrowsIn, lasting_in-push}
 use Rattle.sched_core.specs.declared.entry.CoreEntry.{CoreEntry}
 use Rattle.sched_core.specs.declared.entry.CoreKind.{CoreKind}
 use Rattle.sched_core.specs.declared.entry.CoreKind.TheVariants.{Beat, Reserve, Commit, Undo, Update, Status}

@@ -5,10 +5,10 @@ use Rattle.std.specs.List.{list_any, filter_map}
 use Rattle.std.specs.Option.{option_map}
 use Rattle.std.proofs.lemmas.List.{map-append}
 use Rattle.std.proofs.lemmas.List.Elements.{filter-append, filter_map-append, filter_agree}
-use Rattle.dist_types.specs.Cuts.{cuts}
+use Rattle.sched_core.specs.Cuts.{cuts}
 use Rattle.dist_types.specs.declared.ids.JobId.{JobId}
 use Rattle.dist_types.specs.declared.results.JobState.TheVariants.{Pending, Ready, Started, Complete}
-use Rattle.dist_types.proofs.Lists.{map-map, filter-map, filter-filter, map-same, followed, cuts_behind-push, filter_map-map, cons_nil, map-option, end_cut, Grows, lasting-push}
+use Rattle.sched_core.proofs.Lists.{map-map, filter-map, filter-filter, map-same, followed, cuts_behind-push, filter_map-map, cons_nil, map-option, end_cut, Grows, lasting-push}
 use Rattle.sched_core.specs.declared.entry.CoreEntry.{CoreEntry}
 use Rattle.sched_core.specs.declared.entry.CoreKind.{CoreKind}
 use Rattle.sched_core.specs.declared.entry.CoreKind.TheVariants.{Beat, Reserve, Commit, Undo, Update, Status}

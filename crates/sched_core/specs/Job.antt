@@ -1,7 +1,7 @@
 -- Which jobs are committed and open, and in which state, asked of the whole log.
 use Rattle.std.specs.Prelude.{ℕ, List, map, Bool, false, not, ◌&&◌, ◌||◌, Option, Some, None, if◌then◌else◌}
 use Rattle.std.specs.List.{filter_map, list_any}
-use Rattle.dist_types.specs.Cuts.{Cut, cuts, lasting}
+use Rattle.sched_core.specs.Cuts.{Cut, cuts, lasting}
 use Rattle.dist_types.specs.declared.ids.JobId.{JobId}
 use Rattle.dist_types.specs.declared.results.JobState.{JobState}
 use Rattle.sched_core.specs.declared.entry.CoreEntry.{CoreEntry}

@@ -1,7 +1,7 @@
 -- Logs whose entries are each the core rule's over those before them, and what every such log has.
 use Rattle.std.specs.Prelude.{◌≡◌, ◌≤◌, ℕ, ◌+◌, ◌/◌, List, [], ◌∷◌, filter, true, false, ◌==◌, count_by}
 use Rattle.std.specs.List.{AllByRecursion, list_any}
-use Rattle.dist_types.specs.Cuts.{cuts, cuts_behind}
+use Rattle.sched_core.specs.Cuts.{cuts, cuts_behind}
 use Rattle.dist_types.specs.declared.ids.JobId.{JobId}
 use Rattle.dist_types.specs.declared.results.JobState.{JobState}
 use Rattle.sched_core.specs.declared.entry.CoreEntry.{CoreEntry}

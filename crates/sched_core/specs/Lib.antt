@@ -1,3 +1,4 @@
+pub mod Cuts
 pub mod Log
 pub mod Standing
 pub mod Reservation

@@ -1,6 +1,6 @@
 -- A question to the log, asked at each place in turn.
 use Rattle.std.specs.Prelude.{Bool, true, false, Option, Some, None, option_and_then, if◌then◌else◌}
-use Rattle.dist_types.specs.Cuts.{Cut}
+use Rattle.sched_core.specs.Cuts.{Cut}
 use Rattle.sched_core.specs.declared.entry.CoreKind.{CoreKind}
 use Rattle.sched_core.specs.declared.entry.CoreKind.TheVariants.{Reserve}
 use Rattle.sched_core.specs.declared.entry.Reserved.TheVariants.{Job}

@@ -1,7 +1,7 @@
 -- Which reservations are unspent, unended and claimed, asked of the whole log.
 use Rattle.std.specs.Prelude.{ℕ, List, length, Bool, false, true, not, ◌&&◌, ◌||◌, ◌==◌, Option, Some, None, count_by}
 use Rattle.std.specs.List.{filter_map, list_any}
-use Rattle.dist_types.specs.Cuts.{Cut, cuts, lasting}
+use Rattle.sched_core.specs.Cuts.{Cut, cuts, lasting}
 use Rattle.dist_types.specs.declared.ids.JobId.{JobId}
 use Rattle.dist_types.specs.declared.results.JobState.{JobState}
 use Rattle.dist_types.specs.declared.results.JobState.TheVariants.{Started, Complete}

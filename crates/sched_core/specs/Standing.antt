@@ -3,7 +3,7 @@ use Rattle.std.specs.Prelude.{ℕ, List, [], ◌∷◌, ◌++◌, length, map, f
 use Rattle.std.specs.List.{list_any, filter_map}
 use Rattle.dist_types.specs.declared.addr.Addr.{Addr}
 use Rattle.dist_types.specs.declared.ids.JobId.{JobId}
-use Rattle.dist_types.specs.Cuts.{Cut, cuts, lasting}
+use Rattle.sched_core.specs.Cuts.{Cut, cuts, lasting}
 use Rattle.sched_core.specs.declared.entry.CoreEntry.{CoreEntry}
 use Rattle.sched_core.specs.declared.entry.CoreKind.{CoreKind}
 use Rattle.sched_core.specs.declared.entry.CoreKind.TheVariants.{Beat, Reserve, Update, Status}

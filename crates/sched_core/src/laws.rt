@@ -7,7 +7,7 @@ ghost use Rattle.sched_core.specs.Reservation.{bookings, unended};
 ghost use Rattle.sched_core.specs.Job.{commits, open_jobs};
 ghost use Rattle.sched_core.specs.Laws.{IsLegal, AreDistinct, IsHeldOnce, IsSpentOnce, IsEndedOnce, HasOrder, IsBounded, IsFairEntry, EndsOnce, HasStanding};
 ghost use Rattle.sched_core.specs.Standing.{registrations, standing};
-ghost use Rattle.dist_types.specs.Cuts.{cuts};
+ghost use Rattle.sched_core.specs.Cuts.{cuts};
 
 /// The ids of different reservations differ, until the ids are spent.
 pub fn ids_differ()

@@ -2,7 +2,7 @@
 //! faster body is compared with.
 ghost use Rattle.std.specs.Prelude.{◌≡◌, drop, ◌==◌, ◌&&◌, ◌+◌, ◌<◌, ◌^◌, ◌*◌, ◌++◌, ◌∷◌, [], IfOk, OnOk, Some, None, if◌then◌else◌, length, map, filter, count_by, nat_lt, option_and_then, option_to_list, is_none, unwrap_or, List};
 ghost use Rattle.std.specs.List.{list_any, filter_map};
-ghost use Rattle.dist_types.specs.Cuts.{cuts};
+ghost use Rattle.sched_core.specs.Cuts.{cuts};
 ghost use Rattle.sched_core.specs.declared.entry.CoreEntry.{CoreEntry};
 ghost use Rattle.sched_core.specs.Log.{same_job, latest, newest, newer};
 ghost use Rattle.sched_core.specs.Standing.{registered_by, ended, stands, reserves_by, serves, is_sign, address_of};

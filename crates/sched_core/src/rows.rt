@@ -92,7 +92,7 @@ impl<'a> Model for Servers<'a> {
 
 impl<'a> Servers<'a> {
     /// The rows of a slice.
-    pub fn new(rest: &'a [ServerRow]) -> Self
+    pub(crate) fn new(rest: &'a [ServerRow]) -> Self
         ensures rows { result ≡ rest.now }
     {
         Servers { rest }
@@ -131,7 +131,7 @@ impl<'a> Model for Jobs<'a> {
 
 impl<'a> Jobs<'a> {
     /// The rows of a slice.
-    pub fn new(rest: &'a [JobRow]) -> Self
+    pub(crate) fn new(rest: &'a [JobRow]) -> Self
         ensures rows { result ≡ rest.now }
     {
         Jobs { rest }

@@ -3,7 +3,7 @@ ghost use Rattle.std.specs.Prelude.{◌≡◌, ◌↔◌, ◌⊎◌, ◌<◌, �
 ghost use Rattle.std.specs.List.{AllByRecursion};
 ghost use Rattle.sched_core.specs.Log.{Core, logged};
 ghost use Rattle.sched_core.specs.Standing.{address_of};
-ghost use Rattle.sched_core.specs.Reservation.{unspent};
+ghost use Rattle.sched_core.specs.Reservation.{bookings, unspent};
 ghost use Rattle.sched_core.specs.Rule.{rule, says_new_entry, counts_of, is_among, begins};
 ghost use Rattle.sched_core.specs.Rows.{servers_of, jobs_of, held_by_id, held_part};
 ghost use Rattle.sched_core.specs.Answers.{Leaves, IsPicked, RefusesReserve, committed_by, undo_answer, updated_by};
@@ -99,6 +99,14 @@ impl<A: JobAuthorizer> SchedState<A> {
         ensures count { result ≡ self.now.count }
     {
         self.count
+    }
+
+    /// How many reservations the log makes: one for each id that was given since it began. It takes no
+    /// memory, and does not go through the log.
+    pub fn reservation_count(&self) -> u64
+        ensures made { result ≡ length (bookings self.now.log) }
+    {
+        self.books.made
     }
 
     /// The log, oldest entry first: each entry is the core rule's over those before it. It takes no

@@ -1,5 +1,5 @@
 use Rattle.std.proofs.Common.{◌≡◌, ◌++◌, ◌∷◌, [], take, map, filter}
-use Rattle.dist_types.specs.Cuts.{cuts}
+use Rattle.sched_core.specs.Cuts.{cuts}
 use Rattle.sched_core.specs.Log.{latest}
 use Rattle.sched_core.specs.Standing.{is_sign}
 use Rattle.sched_core.proofs.plain.last_seen.Given as goal

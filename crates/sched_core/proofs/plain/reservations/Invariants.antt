@@ -1,6 +1,6 @@
 use Rattle.std.proofs.Common.{◌≡◌, take}
 use Rattle.std.specs.List.{filter_map}
-use Rattle.dist_types.specs.Cuts.{cuts}
+use Rattle.sched_core.specs.Cuts.{cuts}
 use Rattle.sched_core.specs.Plain.{seen_at}
 use Rattle.sched_core.specs.Reservation.{booked_at, is_unended}
 use Rattle.sched_core.specs.Rows.{held_of}

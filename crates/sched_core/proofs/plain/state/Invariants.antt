@@ -1,6 +1,6 @@
 use Rattle.std.proofs.Common.{◌≡◌, take, None}
 use Rattle.std.specs.List.{filter_map}
-use Rattle.dist_types.specs.Cuts.{cuts}
+use Rattle.sched_core.specs.Cuts.{cuts}
 use Rattle.sched_core.specs.Plain.{seen_at}
 use Rattle.sched_core.specs.Log.{newest, same_job}
 use Rattle.sched_core.specs.Job.{committed_at, state_now}

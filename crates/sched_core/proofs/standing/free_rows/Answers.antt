@@ -1,5 +1,5 @@
 use Rattle.std.proofs.Common.{[], ap, ◌∙◌, sym, arith}
-use Rattle.dist_types.proofs.Lists.{map-same}
+use Rattle.sched_core.proofs.Lists.{map-same}
 use Rattle.sched_core.specs.Books.{row_freed}
 use Rattle.sched_core.proofs.FreeLemmas.{freed-more}
 use Rattle.sched_core.proofs.standing.free_rows.Goals as goal
