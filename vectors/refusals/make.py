@@ -4,7 +4,7 @@
     make.py script > examples/refusals.script
     make.py out > examples/refusals.out
 
-A model of its own, by the tables of docs/FORMATS.md: it shares nothing with the program. Each route's tests stand in
+A model of its own, by the tables of docs/PROTOCOL.md: it shares nothing with the program. Each route's tests stand in
 their order; a request is told apart from one that is in order by one or two of its parts, and the first test that fails
 decides. Heartbeats that are taken make a core entry, as do reports on a job, which no open job has.
 """

@@ -8,10 +8,10 @@ use Rattle.url.specs.Parts.{Parts, nonempty_host}
 use Rattle.url.specs.Host.{host_text}
 use Rattle.url.specs.Scheme.{default_port}
 use Rattle.dist_types.specs.Cause.{Rose}
-use Rattle.dist_types.specs.Content.{Recorded}
+use Rattle.dist_types.specs.Content.{Recorded, KeptOrRecorded}
 use Rattle.dist_types.specs.declared.dialer.Asked.{Asked}
 use Rattle.dist_types.specs.declared.dialer.AskFault.{AskFault}
-use Rattle.dist_types.specs.declared.dialer.AskFault.TheVariants.{Failed}
+use Rattle.dist_types.specs.declared.dialer.AskFault.TheVariants.{Failed, Memory as AskedMemory}
 use Rattle.dist_types.specs.declared.token_error.TokenError.{TokenError}
 use Rattle.dist_types.specs.declared.token_error.TokenError.TheVariants.{ForwardRefused, LinkFault, Memory}
 
@@ -106,11 +106,11 @@ pub record Stays (old new : Forwarding) : Type 0 where
   pub asked : new.asked ≡ old.asked
   pub faults : new.faults ≡ old.faults
 
--- what the record gained shows the answer: exactly one row, or where memory ran out none or one
+-- what the record gained shows the answer: exactly one row, or where memory ran out none, or one that says so
 abbrev pub Shows : Parts → List ℕ → Result ℕ TokenError → Option (List Asked) → Option (List Asked) → Type 0
 Shows url token (Ok code) old new = (reply : List ℕ) × Recorded (question url token (Ok reply)) old new × HasStatus reply code
 Shows url token (Err LinkFault) old new = Recorded (question url token (Err Failed)) old new
-Shows url token (Err Memory) old new = new ≡ old
+Shows url token (Err Memory) old new = KeptOrRecorded (question url token (Err AskedMemory)) old new
 Shows url token (Err other) old new = ⊥
 
 -- the peer is asked, and its answer decides; the token's entry is gone unless it is accepted
@@ -125,8 +125,9 @@ Asks old now token (Err LinkFault) new =
     Shows old.url token (Err LinkFault) old.asked new.asked × Rose old.faults new.faults
     × Moves old.moment_of new.moment_of token None
 Asks old now token (Err Memory) new =
-    ((new.asked ≡ old.asked) ⊎ ((code : ℕ) × Shows old.url token (Ok code) old.asked new.asked × (is_success code ≡ true)))
-    × Moves old.moment_of new.moment_of token None
+    (Shows old.url token (Err Memory) old.asked new.asked
+    ⊎ ((code : ℕ) × Shows old.url token (Ok code) old.asked new.asked × (is_success code ≡ true)))
+    × Moves old.moment_of new.moment_of token None × (new.faults ≡ old.faults)
 Asks old now token (Err other) new = ⊥
 
 -- the answer that a check may give: a token that is kept and fresh is accepted, and the peer is asked

@@ -118,6 +118,7 @@ fn asked_status<D: Dialer>(
 ) -> Result<u16, TokenError>
     ensures shown { Shows url.now token.now result (D.asked dialer.old) (D.asked dialer.new) }
     ensures steady { OnOk result (D.faults dialer.new ≡ D.faults dialer.old) }
+    ensures uncounted { result ≡ Err OutOfMemory → D.faults dialer.new ≡ D.faults dialer.old }
     ensures cause { result ≡ Err LinkFault → Rose (D.faults dialer.old) (D.faults dialer.new) }
 {
     let request = match request_for(alloc, url, token) {

@@ -12,3 +12,14 @@ pub record Built : Type 0 where
   pub outputs : List (List ℕ)
   pub inputs : List ℕ
   pub answer : Result BuildResult BuildFault
+
+-- the row of a build, whatever its answer
+abbrev pub built_row : List ℕ → List ℕ → CompileCommand → List (List ℕ) → List ℕ → Result BuildResult BuildFault → Built
+built_row toolchain digest command outputs inputs answer = record {
+  toolchain = toolchain;
+  digest = digest;
+  command = command;
+  outputs = outputs;
+  inputs = inputs;
+  answer = answer;
+}

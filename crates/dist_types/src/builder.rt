@@ -2,8 +2,8 @@
 ghost use Rattle.std.specs.Prelude.{◌≡◌, ◌≤◌, ◌≢◌, List, ℕ, OnOk, Option, Err};
 ghost use Rattle.sha2.specs.Sha256.{sha256};
 ghost use Rattle.dist_types.specs.Cause.{Rose};
-ghost use Rattle.dist_types.specs.Content.{Recorded};
-ghost use Rattle.dist_types.specs.Builder.{Built};
+ghost use Rattle.dist_types.specs.Content.{Recorded, KeptOrRecorded};
+ghost use Rattle.dist_types.specs.Builder.{Built, built_row};
 
 use crate::command::CompileCommand;
 use crate::fault::Memory;
@@ -46,7 +46,7 @@ impl From<Memory> for BuildFault {
 
 /// Runs builds, each in the toolchain of an archive.
 pub trait BuilderIncoming {
-    /// The record: a row for each build that did not run out of memory, in order, where it is told.
+    /// The record: a row for each build in order, where it is told. A build that ran out of memory may have none.
     ghost built: { Self → Option (List Built) };
 
     /// How often it refused.
@@ -61,9 +61,14 @@ pub trait BuilderIncoming {
         outputs: &[Text],
         inputs: &[u8],
     ) -> Result<BuildResult, BuildFault>
-        ensures row { result ≢ Err BuildFault.Memory → Recorded (record { toolchain = toolchain.now; digest = sha256 archive.now; command = command.now; outputs = outputs.now; inputs = inputs.now; answer = result }) (built self.old) (built self.new) }
-        ensures memory { result ≡ Err BuildFault.Memory → built self.new ≡ built self.old }
+        ensures row { result ≢ Err BuildFault.Memory
+            → Recorded (built_row toolchain.now (sha256 archive.now) command.now outputs.now inputs.now result)
+            (built self.old) (built self.new) }
+        ensures memory { result ≡ Err BuildFault.Memory
+            → KeptOrRecorded (built_row toolchain.now (sha256 archive.now) command.now outputs.now inputs.now result)
+            (built self.old) (built self.new) }
         ensures steady { OnOk result (refusals self.new ≡ refusals self.old) }
+        ensures uncounted { result ≡ Err BuildFault.Memory → refusals self.new ≡ refusals self.old }
         ensures later { refusals self.old ≤ refusals self.new }
         ensures cause { result ≡ Err BuildFault.Refused → Rose (refusals self.old) (refusals self.new) };
 }

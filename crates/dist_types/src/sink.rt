@@ -109,7 +109,7 @@ impl Sink for MemSink {
 }
 
 /// One write to a writer of std, tried again where a signal interrupted it. A write of nothing fails.
-pub fn write_some<W: Write>(writer: &mut W, bytes: &[u8]) -> Result<usize, Failed>
+pub(crate) fn write_some<W: Write>(writer: &mut W, bytes: &[u8]) -> Result<usize, Failed>
     ensures within { IfOk result (λ n. n ≤ length bytes.now) }
     ensures some { IfOk result (λ n. 0 < length bytes.now → 0 < n) }
 {
@@ -170,6 +170,7 @@ pub fn write_all<K: Sink>(out: &mut K, text: &[u8]) -> Result<(), Failed>
     ensures ok { OnOk result (Added text.now (K.held out.old) (K.held out.new)) }
     ensures began { OnErr result (Began text.now (K.held out.old) (K.held out.new)) }
     ensures steady { OnOk result (K.faults out.new ≡ K.faults out.old) }
+    ensures apart { K.apart out.new ≡ K.apart out.old }
     ensures later { K.faults out.old ≤ K.faults out.new }
     ensures cause { OnErr result (Rose (K.faults out.old) (K.faults out.new)) }
 {

@@ -1,8 +1,8 @@
 //! What is read: the trait, the source in memory, the one of the system, and reading to a limit.
-ghost use Rattle.std.specs.Prelude.{◌≡◌, ◌≤◌, ◌<◌, ◌⊎◌, List, ℕ, length, take, drop, IfOk, IfErr, IfSome, OnOk, OnErr, Option, Some, None, Err};
+ghost use Rattle.std.specs.Prelude.{◌≡◌, ◌≤◌, ◌<◌, ◌+◌, ◌≢◌, ◌⊎◌, List, ℕ, length, take, drop, IfOk, IfErr, IfSome, OnOk, OnErr, Option, Some, None, Err};
 ghost use Rattle.dist_types.specs.Cause.{Rose};
 ghost use Rattle.dist_types.specs.Real.{std_source_faults};
-ghost use Rattle.dist_types.specs.Content.{Taken, TookFront, IsAtEnd};
+ghost use Rattle.dist_types.specs.Content.{Taken, TookFront, IsAtEnd, left_behind};
 ghost use Rattle.dist_types.specs.declared.source.ReadError.TheVariants.{Failed, Memory};
 
 use crate::fault::{Failed, raise};
@@ -105,7 +105,7 @@ impl Source for MemSource {
 }
 
 /// One read from a reader of std, tried again where a signal interrupted it.
-pub fn read_some<R: Read>(reader: &mut R, buf: &mut [u8]) -> Result<usize, Failed>
+pub(crate) fn read_some<R: Read>(reader: &mut R, buf: &mut [u8]) -> Result<usize, Failed>
     ensures within { IfOk result (λ n. n ≤ length buf.old) }
 {
     for _ in 0..u64::MAX {
@@ -183,8 +183,9 @@ impl From<Failed> for ReadError {
     }
 }
 
-/// Reads to the end, or as many bytes as the limit says. Each turn reads a byte or ends.
-#[tactic(auto, using(crate::proofs::Contents::taken_then, crate::proofs::Contents::taken_none))]
+/// Reads to the end, or as many bytes as the limit says: what is left is what stands behind the limit. Each turn
+/// reads a byte or ends.
+#[tactic(auto, using(crate::proofs::Contents::taken_then, crate::proofs::Contents::taken_none, crate::proofs::Contents::behind_limit))]
 pub fn read_up_to<S: Source>(
     alloc: Global,
     input: &mut S,
@@ -193,7 +194,10 @@ pub fn read_up_to<S: Source>(
     ensures taken { IfOk result (λ v. Taken v.items (S.left input.old) (S.left input.new)) }
     ensures within { IfOk result (λ v. length v.items ≤ limit) }
     ensures whole { IfOk result (λ v. (length v.items ≡ limit) ⊎ IsAtEnd (S.left input.new)) }
+    ensures rest { OnOk result (S.left input.new ≡ left_behind limit (S.left input.old)) }
     ensures steady { OnOk result (S.faults input.new ≡ S.faults input.old) }
+    ensures uncounted { result ≢ Err ReadError.Failed → S.faults input.new ≡ S.faults input.old }
+    ensures apart { S.apart input.new ≡ S.apart input.old }
     ensures later { S.faults input.old ≤ S.faults input.new }
     ensures cause { result ≡ Err ReadError.Failed → Rose (S.faults input.old) (S.faults input.new) }
     ensures front { OnErr result (TookFront (S.left input.old) (S.left input.new)) }
@@ -216,14 +220,17 @@ pub fn read_up_to<S: Source>(
 }
 
 /// All that a source has left. Failed only where the source's count of faults rose, TooLong exactly where more
-/// bytes than the limit came. After an error a front was read.
+/// bytes than the limit came: then one byte past it was read. After another error a front was read.
 pub fn read_whole<S: Source>(alloc: Global, input: &mut S, limit: u32) -> Result<Vec<u8>, ReadError>
     ensures all { IfOk result (λ v. Taken v.items (S.left input.old) (S.left input.new)) }
     ensures at_end { OnOk result (IsAtEnd (S.left input.new)) }
     ensures short { IfOk result (λ v. length v.items ≤ limit) }
     ensures too_long { result ≡ Err ReadError.TooLong → IfSome (S.left input.old) (λ left. limit < length left) }
+    ensures rest { result ≡ Err ReadError.TooLong → S.left input.new ≡ left_behind (limit + 1) (S.left input.old) }
     ensures front { OnErr result (TookFront (S.left input.old) (S.left input.new)) }
     ensures steady { OnOk result (S.faults input.new ≡ S.faults input.old) }
+    ensures uncounted { result ≢ Err ReadError.Failed → S.faults input.new ≡ S.faults input.old }
+    ensures apart { S.apart input.new ≡ S.apart input.old }
     ensures later { S.faults input.old ≤ S.faults input.new }
     ensures cause { result ≡ Err ReadError.Failed → Rose (S.faults input.old) (S.faults input.new) }
 {

@@ -1,7 +1,8 @@
 //! The network's own connections. They tell no content.
-ghost use Rattle.std.specs.Prelude.{◌≡◌, ◌≤◌, length, IfOk, OnOk, None, Ok, Err};
-ghost use Rattle.dist_types.specs.Cause.{Rose};
-ghost use Rattle.dist_types.specs.Content.{Recorded};
+ghost use Rattle.std.specs.Prelude.{◌≡◌, ◌≤◌, ◌↔◌, length, IfOk, OnOk, None, Ok, Err};
+ghost use Rattle.dist_types.specs.Cause.{Rose, counted};
+ghost use Rattle.dist_types.specs.Content.{Recorded, KeptOrRecorded};
+ghost use Rattle.dist_types.specs.Dialer.{asked_row};
 ghost use Rattle.dist_types.specs.Real.{link_read_faults, link_write_faults, real_asked, real_dialer_faults};
 
 use crate::dialer::{AskFault, Dialer};
@@ -10,7 +11,7 @@ use crate::link::Link;
 use crate::sink::{Sink, write_all, write_some};
 use crate::source::{ReadError, Source, read_some, read_whole};
 use std::alloc::Global;
-use std::io::{Read, Write};
+use std::io::{ErrorKind, Read, Write};
 use std::net::{Net, TcpStream};
 
 /// The most bytes of one reply.
@@ -114,6 +115,16 @@ fn unbracketed(host: &str) -> &str {
     }
 }
 
+/// Why there is no connection. Want of memory is no fault.
+fn connect_fault(kind: ErrorKind) -> AskFault
+    ensures { (result ≡ AskFault.Memory) ↔ (kind ≡ ErrorKind.OutOfMemory) }
+{
+    if kind == ErrorKind::OutOfMemory {
+        return AskFault::Memory;
+    }
+    AskFault::Failed
+}
+
 /// One request and its reply, over a connection of its own. A reply past 2,147,483,648 bytes is a fault.
 fn fetch<N: Net>(
     alloc: Global,
@@ -124,15 +135,16 @@ fn fetch<N: Net>(
 ) -> Result<Vec<u8>, AskFault>
     ensures short { IfOk result (λ reply. length reply.items ≤ 2147483648) }
 {
-    let Ok(stream) = TcpStream::connect(net, (unbracketed(host), port)) else {
-        return Err(AskFault::Failed);
+    let mut link = match TcpStream::connect(net, (unbracketed(host), port)) {
+        Ok(stream) => TcpLink::new(stream),
+        Err(e) => return Err(connect_fault(e.kind())),
     };
-    let mut link = TcpLink::new(stream);
     write_all(&mut link, request)?;
     match read_whole(alloc, &mut link, MAX_REPLY) {
         Ok(reply) => Ok(reply),
         Err(ReadError::Memory) => Err(AskFault::Memory),
-        Err(_) => Err(AskFault::Failed),
+        Err(ReadError::Failed) => Err(AskFault::Failed),
+        Err(ReadError::TooLong) => Err(AskFault::Failed),
     }
 }
 
@@ -143,14 +155,20 @@ impl<N: Net + Drop> Dialer for TcpDialer<N> {
 
     /// The reply to its end, at most 2,147,483,648 bytes; a longer one is a fault.
     fn ask(&mut self, host: &str, port: u16, request: &[u8]) -> Result<Vec<u8>, AskFault>
-        ensures ok { IfOk result (λ reply. Recorded (record { host = host.now; port = port; request = request.now; answer = Ok reply.items }) (real_asked self.old) (real_asked self.new)) }
-        ensures failed { result ≡ Err AskFault.Failed → Recorded (record { host = host.now; port = port; request = request.now; answer = Err AskFault.Failed }) (real_asked self.old) (real_asked self.new) }
-        ensures memory { result ≡ Err AskFault.Memory → real_asked self.new ≡ real_asked self.old }
+        ensures ok { IfOk result (λ reply. Recorded (asked_row host.now port request.now (Ok reply.items))
+            (real_asked self.old) (real_asked self.new)) }
+        ensures failed { result ≡ Err AskFault.Failed
+            → Recorded (asked_row host.now port request.now (Err AskFault.Failed)) (real_asked self.old) (real_asked self.new) }
+        ensures memory { result ≡ Err AskFault.Memory
+            → KeptOrRecorded (asked_row host.now port request.now (Err AskFault.Memory))
+            (real_asked self.old) (real_asked self.new) }
         ensures steady { OnOk result (real_dialer_faults self.new ≡ real_dialer_faults self.old) }
+        ensures uncounted { result ≡ Err AskFault.Memory → real_dialer_faults self.new ≡ real_dialer_faults self.old }
         ensures later { real_dialer_faults self.old ≤ real_dialer_faults self.new }
         ensures cause { result ≡ Err AskFault.Failed → Rose (real_dialer_faults self.old) (real_dialer_faults self.new) }
 
         ensures short { IfOk result (λ reply. length reply.items ≤ 2147483648) }
+        ensures counted { result ≡ Err AskFault.Failed → real_dialer_faults self.new ≡ counted (real_dialer_faults self.old) }
     {
         match fetch(self.alloc, &self.net, host, port, request) {
             Ok(reply) => Ok(reply),
