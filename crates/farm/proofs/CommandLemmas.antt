@@ -1,11 +1,8 @@
 -- The command's clauses, from what its steps did.
-use Rattle.std.proofs.Common.{◌≡◌, ◌⊎◌, inl, inr, ℕ, zero, suc, ◌+◌, ◌<◌, ◌≤◌, Bool, true, false, List, ◌++◌, length, drop, Option, Some, None, Result, Ok, Err, refl, sym, ap, subst, ◌∙◌, arith}
+use Rattle.std.proofs.Common.{◌≡◌, ◌⊎◌, inl, inr, ℕ, zero, suc, ◌<◌, ◌≤◌, Bool, true, false, List, Option, Some, None, Result, Ok, Err, refl, sym, ap, subst, ◌∙◌, arith}
 use Rattle.std.specs.Prelude.{IfSome}
-use Rattle.std.specs.Option.{option_map}
-use Rattle.std.proofs.Math.Seq.{drop-append_seam}
-use Rattle.std.proofs.lemmas.List.{drop_all, append-nil}
 use Rattle.std.proofs.lemmas.Option.{IfSome_then}
-use Rattle.dist_types.specs.Content.{Taken, Added, Began, IsAtEnd}
+use Rattle.dist_types.specs.Content.{Added, Began, left_behind}
 use Rattle.farm_script.specs.declared.fault.FarmFault.{FarmFault}
 use Rattle.farm_script.specs.declared.fault.FarmFault.TheVariants.{Usage, BadLine, ReadFault, WriteFault, Memory}
 use Rattle.farm_script.specs.Script.{script}
@@ -13,20 +10,6 @@ use Rattle.farm_script.specs.FirstFaulty.{IsFirstFaulty}
 use Rattle.farm_script.proofs.FirstFaultyLemmas.{first_faulty}
 use Rattle.farm_script.proofs.SpelledLemmas.{script_is_said}
 use Rattle.farm.specs.Command.{names_farm, IsRunText, IsReadText, fault_status, HasNoRun, Side, Called, IsReadWhole, IsPrinted, IsCause, IsDone, IsTold, StandsFor, IsReported, IsAnswered}
-
--- ---- input
-
-drop_front : (n : ℕ) (v rest : List ℕ) → length v ≡ n → drop n (v ++ rest) ≡ rest
-drop_front n v rest e = subst (λ (k : ℕ). drop k (v ++ rest) ≡ rest) e (drop-append_seam v rest)
-
-drop_whole : (n : ℕ) (v rest : List ℕ) → length v ≤ n → rest ≡ [] → drop n (v ++ rest) ≡ rest
-drop_whole n v rest le none = ap (λ (x : List ℕ). drop n (v ++ x)) none ∙ ap (drop n) (append-nil v) ∙ drop_all n v le ∙ sym none
-
--- what is left of input that was read to a limit
-pub left_behind : (n : ℕ) (v : List ℕ) (old new : Option (List ℕ)) → Taken v old new → length v ≤ n → (length v ≡ n) ⊎ IsAtEnd new → new ≡ option_map (drop n) old
-left_behind n v old (Some rest) taken le (inl full) = sym (ap (option_map (drop n)) taken ∙ ap (λ (x : List ℕ). Some x) (drop_front n v rest full))
-left_behind n v old (Some rest) taken le (inr none) = sym (ap (option_map (drop n)) taken ∙ ap (λ (x : List ℕ). Some x) (drop_whole n v rest le none))
-left_behind n v old None taken le whole = sym (ap (option_map (drop n)) taken)
 
 -- ---- what was read is the script of what input told
 
@@ -47,7 +30,7 @@ text_began o v text old new same r began = IfSome_then o same (λ bytes e. (text
 pub no_run : (f : FarmFault) (c : Called) (v : List ℕ) → names_farm c.words ≡ true → IsReadWhole c.input c.input_after → c.out_after ≡ c.out
     → IfSome c.input.content (λ bytes. script v ≡ script bytes) → HasNoRun f v → IsCause f c
 no_run (BadLine n) c v named read same whole no = (named, read, same, IfSome_then c.input.content whole (λ bytes e. (first_faulty bytes n).0 (sym e ∙ no)))
-no_run Memory c v named read same whole no = (named, same)
+no_run Memory c v named read same whole no = (named, read.1, same)
 no_run Usage c v named read same whole no = absurd no
 no_run ReadFault c v named read same whole no = absurd no
 no_run WriteFault c v named read same whole no = absurd no
@@ -69,7 +52,7 @@ told_cause : (met told : FarmFault) (c : Called) → StandsFor met told → IsCa
 told_cause met told c (inl same) cause = subst (λ (f : FarmFault). IsCause f c) (sym same) cause
 told_cause met told c (inr p) cause =
     let bad : IsCause (BadLine p.1) c = subst (λ (f : FarmFault). IsCause f c) p.2 cause in
-    let memory : IsCause Memory c = (bad.0, bad.2) in
+    let memory : IsCause Memory c = (bad.0, bad.1.1, bad.2) in
     subst (λ (f : FarmFault). IsCause f c) (sym p.0) memory
 
 -- what was done, and the answer that reports it
@@ -105,25 +88,25 @@ pub statuses_of : (answer : ℕ) (c : Called) (e x : Side) → IsAnswered answer
 statuses_of zero c e x a = omega arith
 statuses_of (suc n) c e x a = let t = a.told (omega arith) in told_at_most_5 t.0 (suc n) e x t.2
 
-left_by : (f : FarmFault) (answer : ℕ) (c : Called) → IsCause f c → answer ≡ fault_status f → answer ≤ 1 → c.input_after.content ≡ option_map (drop 67108865) c.input.content
+left_by : (f : FarmFault) (answer : ℕ) (c : Called) → IsCause f c → answer ≡ fault_status f → answer ≤ 1 → c.input_after.content ≡ left_behind 67108865 c.input.content
 left_by (BadLine n) answer c cause is h = cause.1.0
 left_by Usage answer c cause is h = absurd (omega (arith, is))
 left_by ReadFault answer c cause is h = absurd (omega (arith, is))
 left_by WriteFault answer c cause is h = absurd (omega (arith, is))
 left_by Memory answer c cause is h = absurd (omega (arith, is))
 
-pub left_of : (answer : ℕ) (c : Called) (e x : Side) → IsAnswered answer c e x → answer ≤ 1 → c.input_after.content ≡ option_map (drop 67108865) c.input.content
+pub left_of : (answer : ℕ) (c : Called) (e x : Side) → IsAnswered answer c e x → answer ≤ 1 → c.input_after.content ≡ left_behind 67108865 c.input.content
 left_of zero c e x a h = (a.printed refl).0.1.0
 left_of (suc n) c e x a h = let t = a.told (omega arith) in left_by t.0 (suc n) c t.1 (own t.0 (suc n) e x t.2 (omega arith)).0 h
 
-steady_by : (f : FarmFault) (answer : ℕ) (c : Called) → IsCause f c → answer ≡ fault_status f → answer ≤ 2 → c.input_after.faults ≡ c.input.faults
+steady_by : (f : FarmFault) (answer : ℕ) (c : Called) → IsCause f c → answer ≡ fault_status f → answer ≤ 3 → c.input_after.faults ≡ c.input.faults
 steady_by (BadLine n) answer c cause is h = cause.1.1
 steady_by Usage answer c cause is h = ap (λ (s : Side). s.faults) cause.1
 steady_by ReadFault answer c cause is h = absurd (omega (arith, is))
 steady_by WriteFault answer c cause is h = absurd (omega (arith, is))
-steady_by Memory answer c cause is h = absurd (omega (arith, is))
+steady_by Memory answer c cause is h = cause.1
 
-pub order_of : (answer : ℕ) (c : Called) (e x : Side) → IsAnswered answer c e x → answer ≤ 2 → c.input_after.faults ≡ c.input.faults
+pub order_of : (answer : ℕ) (c : Called) (e x : Side) → IsAnswered answer c e x → answer ≤ 3 → c.input_after.faults ≡ c.input.faults
 order_of zero c e x a h = (a.printed refl).0.1.1
 order_of (suc n) c e x a h = let t = a.told (omega arith) in steady_by t.0 (suc n) c t.1 (own t.0 (suc n) e x t.2 (omega arith)).0 h
 
@@ -132,7 +115,7 @@ out_by (BadLine n) answer c cause is h = ap (λ (s : Side). s.faults) cause.2
 out_by Usage answer c cause is h = ap (λ (s : Side). s.faults) cause.2
 out_by ReadFault answer c cause is h = ap (λ (s : Side). s.faults) cause.2
 out_by WriteFault answer c cause is h = absurd (omega (arith, is))
-out_by Memory answer c cause is h = ap (λ (s : Side). s.faults) cause.1
+out_by Memory answer c cause is h = ap (λ (s : Side). s.faults) cause.2
 
 pub counts_of : (answer : ℕ) (c : Called) (e x : Side) → IsAnswered answer c e x → answer ≤ 4 → (c.out_after.faults ≡ c.out.faults) × (x.faults ≡ e.faults)
 counts_of zero c e x a h = let p = a.printed refl in (p.0.2, ap (λ (s : Side). s.faults) p.1)

@@ -1,12 +1,9 @@
 -- What the command has to do: print the text of a run, or tell a fault.
-use Rattle.std.specs.Prelude.{◌≡◌, ◌⊎◌, ℕ, ◌<◌, nat_eq, Bool, true, false, List, [], ◌∷◌, drop, Option, IfSome, Result, Ok, Err, codes}
-use Rattle.std.specs.Option.{option_map}
+use Rattle.std.specs.Prelude.{◌≡◌, ◌⊎◌, ℕ, ◌<◌, nat_eq, Bool, true, false, List, [], ◌∷◌, Option, IfSome, Result, Ok, Err, codes}
 use Rattle.std.specs.Fmt.{decimal}
 use Rattle.std.specs.Cmp.Lexicographic.{pointwise}
-use Rattle.std_io.specs.declared.io.kind.ErrorKind.{ErrorKind}
-use Rattle.std_io.specs.declared.io.kind.ErrorKind.TheVariants.{OutOfMemory}
 use Rattle.dist_types.specs.Cause.{Rose}
-use Rattle.dist_types.specs.Content.{Added, Began}
+use Rattle.dist_types.specs.Content.{Added, Began, left_behind}
 use Rattle.farm_script.specs.declared.setup.Setup.{Setup}
 use Rattle.farm_script.specs.declared.event.Event.{Event}
 use Rattle.farm.specs.declared.entry.Entry.{Entry}
@@ -87,7 +84,7 @@ pub record Called : Type 0 where
 
 -- Input was read to its end, or to one byte past the limit of scripts: it has left what stands behind that, and did not fail.
 abbrev pub IsReadWhole : Side → Side → Type 0
-IsReadWhole before after = (after.content ≡ option_map (drop 67108865) before.content) × (after.faults ≡ before.faults)
+IsReadWhole before after = (after.content ≡ left_behind 67108865 before.content) × (after.faults ≡ before.faults)
 
 -- The text of the script's run was written.
 abbrev pub IsPrinted : Called → Type 0
@@ -102,7 +99,7 @@ IsCause (BadLine n) c = (names_farm c.words ≡ true) × IsReadWhole c.input c.i
 IsCause ReadFault c = (names_farm c.words ≡ true) × Rose c.input.faults c.input_after.faults × (c.out_after ≡ c.out)
 IsCause WriteFault c = (names_farm c.words ≡ true) × IsReadWhole c.input c.input_after × Rose c.out.faults c.out_after.faults
     × IfSome c.input.content (λ bytes. (text : List ℕ) × IsRunText bytes text × Began text c.out.content c.out_after.content)
-IsCause Memory c = (names_farm c.words ≡ true) × (c.out_after ≡ c.out)
+IsCause Memory c = (names_farm c.words ≡ true) × (c.input_after.faults ≡ c.input.faults) × (c.out_after ≡ c.out)
 
 -- The run was printed, or a fault met.
 abbrev pub IsDone : {A : Type 0} → Result A FarmFault → Called → Type 0
@@ -132,8 +129,3 @@ IsReported (Err met) answer before after = (told : FarmFault) × StandsFor met t
 pub record IsAnswered (answer : ℕ) (c : Called) (errs errs_after : Side) : Type 0 where
   pub printed : answer ≡ 0 → IsPrinted c × (errs_after ≡ errs)
   pub told : 0 < answer → (f : FarmFault) × IsCause f c × IsTold f answer errs errs_after
-
--- the fault of a command line that the system did not give as text: memory ran out, or a word is not UTF-8
-abbrev pub words_fault : ErrorKind → FarmFault
-words_fault OutOfMemory = Memory
-words_fault other = Usage

@@ -1,12 +1,12 @@
 //! The command.
-ghost use Rattle.std.specs.Prelude.{◌≡◌, ◌≤◌, ◌⊎◌, ℕ, drop, map, string_bytes, IfOk, IfErr, IfSome, OnOk, true, false};
-ghost use Rattle.std.specs.Option.{option_map};
-ghost use Rattle.std_alloc.specs.Vec.Iter.{into_iter_items};
-ghost use Rattle.std_io.specs.IoError.{error_kind};
+ghost use Rattle.std.specs.Prelude.{◌≡◌, ◌≢◌, ◌≤◌, ◌⊎◌, ℕ, map, string_bytes, IfOk, IfErr, IfSome, OnOk, OnErr, true, false};
+ghost use Rattle.std.specs.Vec.Iter.{into_iter_items};
+ghost use Rattle.std.specs.IoError.{error_kind};
 ghost use Rattle.dist_types.specs.Cause.{Rose};
+ghost use Rattle.dist_types.specs.Content.{left_behind};
 ghost use Rattle.farm_script.specs.Script.{script};
 ghost use Rattle.farm_script.specs.FirstFaulty.{IsFirstFaulty};
-ghost use Rattle.farm.specs.Command.{names_farm, IsReadText, HasNoRun, fault_text, IsDone, IsSaid, IsTold, IsReported, IsAnswered, words_fault};
+ghost use Rattle.farm.specs.Command.{names_farm, IsReadText, HasNoRun, fault_text, IsDone, IsSaid, IsTold, IsReported, IsAnswered};
 ghost use Rattle.farm_script.specs.declared.fault.FarmFault.TheVariants as fault;
 
 use crate::print::print_run;
@@ -41,8 +41,9 @@ fn is_farm(words: &[String]) -> bool
 /// Reads the input, to its end or to one byte past the limit of scripts.
 fn read_input<S: Source>(alloc: Global, input: &mut S) -> Result<Vec<u8>, FarmFault>
     ensures ok { IfOk result (λ v. IfSome (S.left input.old) (λ bytes. script v.items ≡ script bytes)) }
-    ensures left { OnOk result (S.left input.new ≡ option_map (drop 67108865) (S.left input.old)) }
-    ensures err { IfErr result (λ f. (f ≡ fault.Memory) ⊎ ((f ≡ fault.ReadFault) × Rose (S.faults input.old) (S.faults input.new))) }
+    ensures left { OnOk result (S.left input.new ≡ left_behind 67108865 (S.left input.old)) }
+    ensures err { IfErr result (λ f. ((f ≡ fault.Memory) × (S.faults input.new ≡ S.faults input.old))
+        ⊎ ((f ≡ fault.ReadFault) × Rose (S.faults input.old) (S.faults input.new))) }
     ensures steady { OnOk result (S.faults input.new ≡ S.faults input.old) }
 {
     match read_up_to(alloc, input, MAX_SCRIPT_BYTES + 1) {
@@ -170,9 +171,9 @@ pub fn dist_main<S: Source, K: Sink, E: Sink>(
     ensures faultless { names_farm (map string_bytes words.now) ≡ true → IfSome (S.left input.old) (λ bytes.
         ((n : ℕ) → IsFirstFaulty bytes n → ⊥) → (result ≡ 0) ⊎ (result ≡ 3) ⊎ (result ≡ 4) ⊎ (result ≡ 5)) }
     // Where the lines were judged, input has left what stands behind one byte past the limit, and no more.
-    ensures left { result ≤ 1 → S.left input.new ≡ option_map (drop 67108865) (S.left input.old) }
+    ensures left { result ≤ 1 → S.left input.new ≡ left_behind 67108865 (S.left input.old) }
     // A fault of input comes before what its bytes say, and out and errs fail in no status but 5.
-    ensures order { result ≤ 2 → S.faults input.new ≡ S.faults input.old }
+    ensures order { result ≤ 3 → S.faults input.new ≡ S.faults input.old }
     ensures counts { result ≤ 4 → (K.faults out.new ≡ K.faults out.old) × (E.faults errs.new ≡ E.faults errs.old) }
     // Without the words of a command it is 2, or 5 where errs failed.
     ensures no_command { names_farm (map string_bytes words.now) ≡ false → (result ≡ 2) ⊎ (result ≡ 5) }
@@ -181,22 +182,15 @@ pub fn dist_main<S: Source, K: Sink, E: Sink>(
     report(alloc, done, errs)
 }
 
-/// The words of the command line, as the system gave them. A word that is not UTF-8 names no command;
-/// memory may run out.
-fn words_of(alloc: Global, given: io::Result<Args>) -> Result<Vec<String>, FarmFault>
-    ensures ok { IfOk result (λ words. IfOk given (λ args. words.items ≡ into_iter_items args)) }
-    ensures err { IfErr result (λ f. IfErr given (λ e. f ≡ words_fault (error_kind e))) }
-    ensures memory { IfErr result (λ f. IfOk given (λ args. f ≡ fault.Memory)) }
+/// The fault of a command line that the system did not give as words.
+fn words_fault(kind: ErrorKind) -> FarmFault
+    ensures memory { kind ≡ ErrorKind.OutOfMemory → result ≡ fault.Memory }
+    ensures usage { kind ≢ ErrorKind.OutOfMemory → result ≡ fault.Usage }
 {
-    match given {
-        Ok(args) => {
-            let words = args.collect(alloc)?;
-            Ok(words)
-        }
-        Err(error) => match error.kind() {
-            ErrorKind::OutOfMemory => Err(FarmFault::Memory),
-            _ => Err(FarmFault::Usage),
-        },
+    if kind == ErrorKind::OutOfMemory {
+        FarmFault::Memory
+    } else {
+        FarmFault::Usage
     }
 }
 
@@ -209,7 +203,7 @@ pub fn run_command_line<S: Source, K: Sink, E: Sink>(
     out: &mut K,
     errs: &mut E,
 ) -> u8
-    // What `dist_main` answers of the words, unless memory ran out for them.
+    // What `dist_main` answers of these words, unless memory ran out before.
     ensures given { IfOk given (λ args. IsAnswered result (record {
       words = map string_bytes (into_iter_items args);
       input = record { content = S.left input.old; faults = S.faults input.old };
@@ -219,18 +213,26 @@ pub fn run_command_line<S: Source, K: Sink, E: Sink>(
     })
         (record { content = E.held errs.old; faults = E.faults errs.old })
         (record { content = E.held errs.new; faults = E.faults errs.new })
-        ⊎ (IsTold fault.Memory result
+        ⊎ ((input.new ≡ input.old) × (out.new ≡ out.old) × IsTold fault.Memory result
         (record { content = E.held errs.old; faults = E.faults errs.old })
-        (record { content = E.held errs.new; faults = E.faults errs.new })
-        × (input.new ≡ input.old) × (out.new ≡ out.old))) }
-    // The fault of words that the system did not give is told.
-    ensures refused { IfErr given (λ e. IsTold (words_fault (error_kind e)) result
+        (record { content = E.held errs.new; faults = E.faults errs.new }))) }
+    // Where the system gave no words, memory ran out, or a word is not UTF-8.
+    ensures memory { IfErr given (λ e. error_kind e ≡ ErrorKind.OutOfMemory → IsTold fault.Memory result
         (record { content = E.held errs.old; faults = E.faults errs.old })
-        (record { content = E.held errs.new; faults = E.faults errs.new })
-        × (input.new ≡ input.old) × (out.new ≡ out.old)) }
+        (record { content = E.held errs.new; faults = E.faults errs.new })) }
+    ensures usage { IfErr given (λ e. error_kind e ≢ ErrorKind.OutOfMemory → IsTold fault.Usage result
+        (record { content = E.held errs.old; faults = E.faults errs.old })
+        (record { content = E.held errs.new; faults = E.faults errs.new })) }
+    ensures untouched { OnErr given ((input.new ≡ input.old) × (out.new ≡ out.old)) }
 {
-    match words_of(alloc, given) {
-        Ok(words) => dist_main(alloc, &words, input, out, errs),
-        Err(fault) => report(alloc, Err(fault), errs),
+    match given {
+        Ok(args) => {
+            let words: Result<Vec<String>, AllocError> = args.collect(alloc);
+            match words {
+                Ok(words) => dist_main(alloc, &words, input, out, errs),
+                Err(_) => report(alloc, Err(FarmFault::Memory), errs),
+            }
+        }
+        Err(error) => report(alloc, Err(words_fault(error.kind())), errs),
     }
 }

@@ -1,8 +1,7 @@
 //! A farm, and its runs.
-ghost use Rattle.std.specs.Prelude.{◌≡◌, ◌++◌, ◌∷◌, [], ◌<◌, ◌≤◌, ◌-◌, ℕ, length, take, IfOk, IfErr, OnOk, OnErr, map, count_by, Some, None, true, Ok, Err, List, Option};
+ghost use Rattle.std.specs.Prelude.{◌≡◌, ◌++◌, ◌∷◌, [], ◌<◌, ◌≤◌, ◌-◌, ℕ, length, take, IfOk, IfErr, OnOk, OnErr, map, Some, None, true, Ok, Err, List, Option};
 ghost use Rattle.sched_core.specs.Rule.{begins};
 ghost use Rattle.sched_core.specs.Rows.{servers_of, jobs_of, held_by_id, held_part};
-ghost use Rattle.sched_core.specs.Plain.{is_booked};
 ghost use Rattle.std.specs.Option.{option_map};
 ghost use Rattle.farm.specs.Calls.{call_at, delivery_at, settles_by};
 ghost use Rattle.farm.specs.Next.{core_log, worded, is_inside, IsOutcome, IsNext, EachNext};
@@ -24,7 +23,6 @@ use dist_types::text::Items;
 use farm_script::event::{Event, EventKind};
 use farm_script::fault::FarmFault;
 use farm_script::setup::{Setup, SetupAuth, SetupScheduler};
-use sched_core::entry::{CoreEntry, CoreKind, Reserved};
 use sched_core::rows::{Jobs, Servers};
 use sched_core::state::SchedState;
 use std::alloc::{AllocError, AllocFailed, Global};
@@ -121,13 +119,12 @@ impl Farm {
     }
 
     /// How many ids are given: those before the script, and one for each job that was reserved. It takes
-    /// no memory, and goes through the scheduler's log once.
-    #[tactic(auto, using(crate::proofs::IdLemmas::ids_fit, crate::proofs::IdLemmas::ids_counted))]
+    /// no memory, and does not go through the log.
+    #[tactic(auto, using(crate::proofs::IdLemmas::ids_fit))]
     pub fn ids_given(&self) -> u64
         ensures given { result ≡ ids_given self.now.scheduler (core_log self.now.entries) }
     {
-        let reserved = reserved_count(self.state.history()) as u64;
-        self.state.count() + reserved
+        self.state.count() + self.state.reservation_count()
     }
 
     /// One event.
@@ -225,20 +222,6 @@ fn copy_scheduler(alloc: Global, scheduler: &SetupScheduler) -> Result<SetupSche
         client,
         auth,
     })
-}
-
-/// Whether an entry reserves a job.
-fn is_booking(entry: &CoreEntry) -> bool
-    ensures { result ≡ is_booked entry.entry.now.kind }
-{
-    matches!(entry.kind, CoreKind::Reserve(Reserved::Job { .. }))
-}
-
-/// How many entries reserve a job.
-fn reserved_count(log: &[CoreEntry]) -> usize
-    ensures { result ≡ count_by (λ e. is_booked e.kind) log.now }
-{
-    log.iter().filter(|e| is_booking(e)).count()
 }
 
 /// An event that does nothing but say a word.

@@ -1,0 +1,30 @@
+use Rattle.farm.proofs.CommandLemmas.{answered, statuses_of, faulty_of, faultless_of, left_of, order_of, counts_of, no_command_of}
+use Rattle.farm.proofs.command.dist_main.Goals as goal
+
+-- what was done, reported
+told : goal.returns-clause-answered
+told g c = answered c.run_words-done.result c.report.result _ _ _ c.run_words-done.ensures.done c.report.ensures.reported
+
+pub returns-clause-answered : goal.returns-clause-answered
+returns-clause-answered g c = told g c
+
+pub returns-clause-statuses : goal.returns-clause-statuses
+returns-clause-statuses g c = statuses_of c.report.result _ _ _ (told g c)
+
+pub returns-clause-faulty : goal.returns-clause-faulty
+returns-clause-faulty g c = faulty_of c.report.result _ _ _ (told g c)
+
+pub returns-clause-faultless : goal.returns-clause-faultless
+returns-clause-faultless g c = faultless_of c.report.result _ _ _ (told g c)
+
+pub returns-clause-left : goal.returns-clause-left
+returns-clause-left g c = left_of c.report.result _ _ _ (told g c)
+
+pub returns-clause-order : goal.returns-clause-order
+returns-clause-order g c = order_of c.report.result _ _ _ (told g c)
+
+pub returns-clause-counts : goal.returns-clause-counts
+returns-clause-counts g c = counts_of c.report.result _ _ _ (told g c)
+
+pub returns-clause-no_command : goal.returns-clause-no_command
+returns-clause-no_command g c = no_command_of c.report.result _ _ _ (told g c)
