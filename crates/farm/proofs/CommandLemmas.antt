@@ -29,11 +29,11 @@ text_began o v text old new same r began = IfSome_then o same (λ bytes e. (text
 -- why there was no run of what was read
 pub no_run : (f : FarmFault) (c : Called) (v : List ℕ) → names_farm c.words ≡ true → IsReadWhole c.input c.input_after → c.out_after ≡ c.out
     → IfSome c.input.content (λ bytes. script v ≡ script bytes) → HasNoRun f v → IsCause f c
-no_run (BadLine n) c v named read same whole no = (named, read, same, IfSome_then c.input.content whole (λ bytes e. (first_faulty bytes n).0 (sym e ∙ no)))
-no_run Memory c v named read same whole no = (named, read.1, same)
-no_run Usage c v named read same whole no = absurd no
-no_run ReadFault c v named read same whole no = absurd no
-no_run WriteFault c v named read same whole no = absurd no
+no_run (BadLine n) c v named read same whole none_is = (named, read, same, IfSome_then c.input.content whole (λ bytes e. (first_faulty bytes n).0 (sym e ∙ none_is)))
+no_run Memory c v named read same whole none_is = (named, read.1, same)
+no_run Usage c v named read same whole none_is = absurd none_is
+no_run ReadFault c v named read same whole none_is = absurd none_is
+no_run WriteFault c v named read same whole none_is = absurd none_is
 
 -- ---- statuses
 

@@ -194,6 +194,13 @@ fn words_fault(kind: ErrorKind) -> FarmFault
     }
 }
 
+/// The words of the command line.
+fn words_in(alloc: Global, args: Args) -> Result<Vec<String>, AllocError>
+    ensures words { IfOk result (λ words. words.items ≡ into_iter_items args) }
+{
+    args.collect(alloc)
+}
+
 /// The command over the words that the system gave, or did not give: a word that is not UTF-8 is told as
 /// words that name no command, and want of memory as that; then neither input nor out is touched.
 pub fn run_command_line<S: Source, K: Sink, E: Sink>(
@@ -226,13 +233,10 @@ pub fn run_command_line<S: Source, K: Sink, E: Sink>(
     ensures untouched { OnErr given ((input.new ≡ input.old) × (out.new ≡ out.old)) }
 {
     match given {
-        Ok(args) => {
-            let words: Result<Vec<String>, AllocError> = args.collect(alloc);
-            match words {
-                Ok(words) => dist_main(alloc, &words, input, out, errs),
-                Err(_) => report(alloc, Err(FarmFault::Memory), errs),
-            }
-        }
+        Ok(args) => match words_in(alloc, args) {
+            Ok(words) => dist_main(alloc, &words, input, out, errs),
+            Err(_) => report(alloc, Err(FarmFault::Memory), errs),
+        },
         Err(error) => report(alloc, Err(words_fault(error.kind())), errs),
     }
 }

@@ -9,6 +9,8 @@ mod answers;
 #[cfg(test)]
 mod calls;
 #[cfg(test)]
+mod command_line;
+#[cfg(test)]
 mod first_run;
 #[cfg(test)]
 mod limits;
