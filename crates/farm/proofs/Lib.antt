@@ -10,4 +10,5 @@ pub mod OwnLemmas
 pub mod RunLemmas
 pub mod ServeLemmas
 pub mod SoundLemmas
+pub mod ThereLemmas
 pub mod WaitLemmas

@@ -55,6 +55,12 @@ pub Runs-entries : (old : Farmed) (events : List Event) (mid : Farmed) (entries 
 Runs-entries old events mid entries run same =
     (run.0, run.1, ap (λ (es : List Entry). record { scheduler = old.scheduler; entries = es }) (same ∙ ap (λ (m : Farmed). m.entries) run.2))
 
+-- their laws
+pub Runs-lawful : (old : Farmed) (events : List Event) (mid : Farmed) (entries : List Entry)
+    → Runs old events mid → entries ≡ mid.entries → AreLawful mid.scheduler mid.entries → AreLawful old.scheduler entries
+Runs-lawful old events mid entries run same laws =
+    subst (λ (s : SetupScheduler). AreLawful s entries) (ap (λ (m : Farmed). m.scheduler) run.2) (subst (λ (es : List Entry). AreLawful mid.scheduler es) (sym same) laws)
+
 -- the text of a farm that ran a script's events is that of the script's run
 pub run_text_is : {X : Type 0} (view : X → List ℕ) (r : Result X FarmFault) (bytes : List ℕ) (setup : Setup) (events run_events : List Event) (start farm : Farmed)
     → script bytes ≡ Ok (setup, events) → start ≡ record { scheduler = setup.scheduler; entries = [] } → run_events ≡ events → Runs start run_events farm → AreLawful farm.scheduler farm.entries

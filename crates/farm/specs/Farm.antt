@@ -101,6 +101,10 @@ pub record IsLawful (base count : ℕ) (log : List CoreEntry) : Type 0 where
 abbrev pub AreLawful : SetupScheduler → List Entry → Type 0
 AreLawful farm entries = (n : ℕ) → IsLawful farm.base farm.count (core_log (take n entries))
 
+-- No event is without a next entry: that there is none is refuted. (Nothing computes whether bytes are a request, so the entry itself is not shown.)
+abbrev pub HasNext : SetupScheduler → List Entry → Type 0
+HasNext farm log = (event : Event) → ((e : Entry) → IsNext farm log event e → ⊥) → ⊥
+
 -- ---- farms
 
 -- what the scheduler has seen is the core log of the entries, and what is kept of the calls that wait is theirs

@@ -6,7 +6,7 @@ ghost use Rattle.std.specs.Option.{option_map};
 ghost use Rattle.farm.specs.Calls.{call_at, delivery_at, settles_by};
 ghost use Rattle.farm.specs.Next.{core_log, worded, is_inside, IsOutcome, IsNext, EachNext};
 ghost use Rattle.farm_script.specs.Built.{IsBuilt};
-ghost use Rattle.farm.specs.Farm.{IsFarm, IsMadeSo, IsSettledSo, AreLawful, with_core, AddsNext, Steps, Runs};
+ghost use Rattle.farm.specs.Farm.{IsFarm, IsMadeSo, IsSettledSo, AreLawful, HasNext, with_core, AddsNext, Steps, Runs};
 ghost use Rattle.farm.specs.Printed.{ids_given};
 ghost use Rattle.farm_script.specs.declared.event.EventKind.TheVariants as kind;
 ghost use Rattle.farm_script.specs.declared.fault.FarmFault.TheVariants as fault;
@@ -168,6 +168,14 @@ impl Farm {
     #[tactic(auto, using(crate::proofs::NextLemmas::are_lawful))]
     fn obey(&self)
         ensures { AreLawful self.now.scheduler self.now.entries }
+    {
+        let _ = self.entries.len();
+    }
+
+    /// That over the entries no event is without a next one.
+    #[tactic(auto, using(crate::proofs::ThereLemmas::has_next))]
+    pub fn goes_on(&self)
+        ensures { HasNext self.now.scheduler self.now.entries }
     {
         let _ = self.entries.len();
     }
