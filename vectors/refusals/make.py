@@ -4,9 +4,24 @@
     make.py script > examples/refusals.script
     make.py out > examples/refusals.out
 
-A model of its own, by the tables of docs/PROTOCOL.md: it shares nothing with the program. Each route's tests stand in
-their order; a request is told apart from one that is in order by one or two of its parts, and the first test that fails
-decides. Heartbeats that are taken make a core entry, as do reports on a job, which no open job has.
+A model of its own: it shares nothing with the program. Each route's tests stand in their order; a request is told apart
+from one that is in order by one or two of its parts, and the first test that fails decides. Heartbeats that are taken
+make a core entry, as do reports on a job, which no open job has. What the model holds:
+
+    route             tests in their order                         word of a 401
+    alloc_job         a Bearer token is shown                      no_bearer_auth
+                      it is the clients'                           bearer_auth_failed, body `Fixed token mismatch`
+                      a message: Toolchain
+    heartbeat_server  a server's token is accepted                 invalid_bearer_token
+    job_state/ID      X-Real-IP, where there is one, is an IP      (an empty 400)
+                      the token's IP is that one, else the peer's  invalid_bearer_token_mismatched_address
+                      a message: a heartbeat; a state
+
+Authorization is cut at its first space: the first part is exactly `Bearer`, the rest is the token. So no_bearer_auth is
+the word of alloc_job alone: a server that shows no token shows none that is accepted. A message is due where
+Content-Type begins with `application/octet-stream` (else 400), and the body begins with it (else 400). A heartbeat of 0
+or of more than 4294967295 processors is a 500. A header whose value is not UTF-8 counts as absent. Bytes that are no
+request are a 400 (`bad request head`); all else is a 404.
 """
 import itertools
 import sys
@@ -41,6 +56,7 @@ def word(name, body=b""):
 
 NOT_FOUND = reply("404 Not Found", [], b"")
 BAD_IP = reply("400 Bad Request", [], b"")
+BAD_HEAD = refused("400 Bad Request", "bad request head")
 NO_BINARY = refused("400 Bad Request", "the request didn't have a binary content type")
 NO_MESSAGE = refused("400 Bad Request", "error while parsing the bincode body", "no message begins the body")
 UNKNOWN = refused("500 Internal Server Error", "Unknown job")
@@ -57,26 +73,31 @@ def beat(cpus):
 # The parts of a request that may differ: a name, what it changes, and the test that then fails with its reply.
 # Tests of a route are numbered in their order.
 TYPES = [("type", None, NO_BINARY), ("type", "text/plain", NO_BINARY), ("type", "Application/octet-stream", NO_BINARY)]
-CLIENT = [
-    ("auth", None, word("no_bearer_auth")),
-    ("auth", "bearer c1", word("no_bearer_auth")),
-    ("auth", "Bearer c2", word("bearer_auth_failed", b"Fixed token mismatch")),
-    ("auth", "Bearer c1x", word("bearer_auth_failed", b"Fixed token mismatch")),
-]
-SERVERS = [
-    ("auth", None, word("no_bearer_auth")),
-    ("auth", "Basic x", word("no_bearer_auth")),
-    ("auth", f"Bearer {SERVER} s2", word("invalid_bearer_token")),
-    ("auth", "Bearer s1", word("invalid_bearer_token")),
-    ("auth", "Bearer 127.0.0.1 s1", word("invalid_bearer_token")),
-]
+UNSHOWN = [None, "Basic x", "Bearer"]
+CLIENT = [("auth", shown, word("no_bearer_auth")) for shown in UNSHOWN + ["bearer c1", "Bearer c1\xff"]]
+CLIENT += [("auth", f"Bearer {token}", word("bearer_auth_failed", b"Fixed token mismatch")) for token in ["c2", "c1x", " c1"]]
+UNACCEPTED = [f"bearer {SERVER} s1", f"Bearer {SERVER} s1\xff", f"Bearer {SERVER} s2", "Bearer s1", "Bearer 127.0.0.1 s1"]
+SERVERS = [("auth", shown, word("invalid_bearer_token")) for shown in UNSHOWN + UNACCEPTED]
 IPS = [("ip", "here", BAD_IP), ("ip", "127.0.0.1:1", BAD_IP)]
-OTHERS = [("peer", FAR, word("invalid_bearer_token_mismatched_address")), ("ip", "127.0.0.2", word("invalid_bearer_token_mismatched_address"))]
+MISMATCHED = word("invalid_bearer_token_mismatched_address")
+OTHERS = [("peer", FAR, MISMATCHED), ("ip", "127.0.0.2", MISMATCHED)]
+TOOLCHAINS = [("body", body, NO_MESSAGE) for body in [b"", le(64, 8) + b"g" * 64, le(63, 8) + b"a" * 63]]
+BEATS = [("body", beat(8)[:-1], NO_MESSAGE)]
+CPUS = [("body", beat(cpus), cpus_fault(cpus)) for cpus in [0, 4294967296]]
+STATES = [("body", body, NO_MESSAGE) for body in [le(4, 4), b"\x01\x00\x00"]]
 ROUTES = {
-    "alloc_job": ([CLIENT, TYPES, [("body", b"", NO_MESSAGE), ("body", le(64, 8) + b"g" * 64, NO_MESSAGE), ("body", le(63, 8) + b"a" * 63, NO_MESSAGE)]], le(64, 8) + b"ba" * 32, "Bearer c1"),
-    "heartbeat_server": ([SERVERS, IPS, OTHERS, TYPES, [("body", beat(8)[:-1], NO_MESSAGE)], [("body", beat(0), cpus_fault(0)), ("body", beat(4294967296), cpus_fault(4294967296))]], beat(8), f"Bearer {SERVER} s1"),
-    "job_state/55": ([SERVERS, IPS, OTHERS, TYPES, [("body", le(4, 4), NO_MESSAGE), ("body", b"\x01\x00\x00", NO_MESSAGE)]], le(1, 4), f"Bearer {SERVER} s1"),
+    "alloc_job": ([CLIENT, TYPES, TOOLCHAINS], le(64, 8) + b"ba" * 32, "Bearer c1"),
+    "heartbeat_server": ([SERVERS, IPS, OTHERS, TYPES, BEATS, CPUS], beat(8), f"Bearer {SERVER} s1"),
+    "job_state/55": ([SERVERS, IPS, OTHERS, TYPES, STATES], le(1, 4), f"Bearer {SERVER} s1"),
 }
+STATUS = b"GET /api/v1/scheduler/status HTTP/1.1\r\n"
+NO_REQUESTS = [
+    b"", b"GET", STATUS, STATUS + b"\r\nx", STATUS + b"Content-Length: 1\r\n\r\n", STATUS + b"Content-Length: 1\r\n\r\nxy",
+    STATUS + b"Content-Length: 0\r\nContent-Length: 0\r\n\r\n", STATUS + b"Content-Length: x\r\n\r\n",
+    STATUS + b"Content-Length: \r\n\r\n", STATUS + b"Content-Length: +0\r\n\r\n", STATUS + b"Content-Length: \xff\r\n\r\n",
+    STATUS + b"Content-Length: 00000000000000000000\r\n\r\n", STATUS + b"Content-Length: 1073741825\r\n\r\n",
+    STATUS + b"Transfer-Encoding: chunked\r\n\r\n0\r\n\r\n", STATUS + b"transfer-encoding: \xff\r\n\r\n",
+]
 
 
 def request(path, body, parts):
@@ -85,7 +106,8 @@ def request(path, body, parts):
     names = [("auth", "Authorization"), ("type", "Content-Type"), ("ip", "X-Real-IP"), ("accept", "Accept")]
     head = f"{fields['method']} /api/v1/scheduler/{path} HTTP/1.1\r\n"
     head += "".join(f"{name}: {fields[key]}\r\n" for key, name in names if fields[key] is not None)
-    return fields["peer"], (head + f"Content-Length: {len(fields['body'])}\r\n\r\n").encode() + fields["body"]
+    # A value may hold the byte 0xff, which is no UTF-8.
+    return fields["peer"], (head + f"Content-Length: {len(fields['body'])}\r\n\r\n").encode("latin-1") + fields["body"]
 
 
 def cases():
@@ -117,6 +139,8 @@ def cases():
         ("heartbeat_server/", base), ("heartbeat_server", {**base, "method": "post"}), ("status", base), ("statu", {"auth": None, "type": None}),
     ]:
         yield request(path, le(1, 4), parts), ("reply", NOT_FOUND)
+    for data in NO_REQUESTS:
+        yield (PEER, data), ("reply", BAD_HEAD)
 
 
 def taken(is_new, json):
@@ -127,7 +151,7 @@ def taken(is_new, json):
 
 def main():
     all_cases = list(cases())
-    lines = [f"{n} request {SCHED} {peer} {data.hex()}" for n, ((peer, data), _) in enumerate(all_cases)]
+    lines = [f"{n} request {SCHED} {peer} {data.hex() or '-'}" for n, ((peer, data), _) in enumerate(all_cases)]
     if sys.argv[1:] == ["script"]:
         print(f"scheduler {SCHED} base 4096 count 0 client c1 plain s1")
         print("\n".join(lines))

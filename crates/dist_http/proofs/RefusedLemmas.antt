@@ -9,6 +9,7 @@ use Rattle.dist_types.proofs.AddrLemmas.{ip_of_text, ip_is}
 use Rattle.dist_wire.specs.Codec.{IsBytes, IsCodec}
 use Rattle.dist_http.specs.declared.error.HttpError.{HttpError}
 use Rattle.dist_http.specs.declared.error.HttpError.TheVariants.{BadHead, WrongContentType, ParseError, BadRealIp, NoRoute, Unauthorised, Status, Memory}
+use Rattle.dist_http.specs.declared.reply.Word.{Word}
 use Rattle.dist_http.specs.declared.reply.Word.TheVariants.{NoBearerAuth, BearerAuthFailed, InvalidBearerToken, MismatchedAddress, InvalidJwt, LinkFailed}
 use Rattle.dist_http.specs.declared.request.Request.{Request}
 use Rattle.dist_http.specs.Bearer.{token_in, server_in, IsServerToken}
@@ -24,18 +25,18 @@ use Rattle.dist_http.proofs.StepLemmas.{err_step}
 
 -- ---- the token
 
-none_shown : (r : Request) (e : HttpError) → token_of r ≡ Err e → (e ≡ Unauthorised NoBearerAuth) × ShowsNone r
-none_shown r e h = by_option (token_in (header (codes "authorization") r.headers)) refl h
+none_shown : (word : Word) (r : Request) (e : HttpError) → token_of word r ≡ Err e → (e ≡ Unauthorised word) × ShowsNone r
+none_shown word r e h = by_option (token_in (header (codes "authorization") r.headers)) refl h
   where
-    by_option : (o : Option (List ℕ)) → token_in (header (codes "authorization") r.headers) ≡ o → unless_none (Unauthorised NoBearerAuth) o ≡ Err e
-        → (e ≡ Unauthorised NoBearerAuth) × ShowsNone r
+    by_option : (o : Option (List ℕ)) → token_in (header (codes "authorization") r.headers) ≡ o → unless_none (Unauthorised word) o ≡ Err e
+        → (e ≡ Unauthorised word) × ShowsNone r
     by_option None is k = (cc, λ token s. absurd (let both = sym is ∙ (ap token_in s ∙ shown_token token) in cc))
     by_option (Some t) is k = absurd cc
 
-shown_none : (r : Request) → ShowsNone r → token_of r ≡ Err (Unauthorised NoBearerAuth)
-shown_none r none = by_option (token_in (header (codes "authorization") r.headers)) refl
+shown_none : (word : Word) (r : Request) → ShowsNone r → token_of word r ≡ Err (Unauthorised word)
+shown_none word r none = by_option (token_in (header (codes "authorization") r.headers)) refl
   where
-    by_option : (o : Option (List ℕ)) → token_in (header (codes "authorization") r.headers) ≡ o → unless_none (Unauthorised NoBearerAuth) o ≡ Err (Unauthorised NoBearerAuth)
+    by_option : (o : Option (List ℕ)) → token_in (header (codes "authorization") r.headers) ≡ o → unless_none (Unauthorised word) o ≡ Err (Unauthorised word)
     by_option None is = refl
     by_option (Some t) is = absurd (none t (token_shown (header (codes "authorization") r.headers) t is))
 
@@ -53,7 +54,7 @@ unequal token client other = by_test (bytes_eq token client) refl
 
 pub client_refused : (r : Request) (client : List ℕ) (e : HttpError) → client_test r client ≡ Err e → ClientRefused r client e
 unfolding client_test
-client_refused r client e h = by_step (err_step (token_of r) (equals client) e h)
+client_refused r client e h = by_step (err_step (token_of NoBearerAuth r) (equals client) e h)
   where
     by_test : (token : List ℕ) → Shows r token → (b : Bool) → bytes_eq token client ≡ b → unless_false (Unauthorised BearerAuthFailed) b (tt {0}) ≡ Err e → ClientRefused r client e
     by_test token s true is k = absurd cc
@@ -61,14 +62,14 @@ client_refused r client e h = by_step (err_step (token_of r) (equals client) e h
         subst (λ (d : HttpError). ClientRefused r client d) (let same : Unauthorised BearerAuthFailed ≡ e = cc in same)
         (token, s, λ same. absurd (let yes = subst (λ (t : List ℕ). bytes_eq t client ≡ true) (sym same) (same_text client) in cc))
 
-    by_step : (token_of r ≡ Err e) ⊎ ((token : List ℕ) × (token_of r ≡ Ok token) × (equals client token ≡ Err e)) → ClientRefused r client e
-    by_step (inl none) = let n = none_shown r e none in subst (λ (d : HttpError). ClientRefused r client d) (sym n.0) n.1
-    by_step (inr (token, is, k)) = by_test token (shows r token is) (bytes_eq token client) refl k
+    by_step : (token_of NoBearerAuth r ≡ Err e) ⊎ ((token : List ℕ) × (token_of NoBearerAuth r ≡ Ok token) × (equals client token ≡ Err e)) → ClientRefused r client e
+    by_step (inl none) = let n = none_shown NoBearerAuth r e none in subst (λ (d : HttpError). ClientRefused r client d) (sym n.0) n.1
+    by_step (inr (token, is, k)) = by_test token (shows NoBearerAuth r token is) (bytes_eq token client) refl k
 
 pub refused_client : (r : Request) (client : List ℕ) (e : HttpError) → ClientRefused r client e → client_test r client ≡ Err e
 unfolding client_test
-refused_client r client (Unauthorised NoBearerAuth) none = rw (shown_none r none) refl
-refused_client r client (Unauthorised BearerAuthFailed) (token, s, other) = rw (shown r token s, unequal token client other) refl
+refused_client r client (Unauthorised NoBearerAuth) none = rw (shown_none NoBearerAuth r none) refl
+refused_client r client (Unauthorised BearerAuthFailed) (token, s, other) = rw (shown NoBearerAuth r token s, unequal token client other) refl
 refused_client r client (Unauthorised InvalidBearerToken) h = absurd h
 refused_client r client (Unauthorised MismatchedAddress) h = absurd h
 refused_client r client (Unauthorised InvalidJwt) h = absurd h
@@ -118,9 +119,15 @@ no_server token text none = by_option (server_in token text) refl
     by_option None is = refl
     by_option (Some server) is = absurd (none server (server_shown token text server is))
 
+no_server_shown : (r : Request) (token text : List ℕ) (server : Addr) → Shows r text → server_in token text ≡ None → ¬ (ShowsServer r token server)
+no_server_shown r token text server s is (other, t, own) =
+    let same : text ≡ other = (let both = sym (shown InvalidBearerToken r text s) ∙ shown InvalidBearerToken r other t in cc) in
+    let there = sym is ∙ (ap (server_in token) same ∙ shown_server token other server own) in
+    cc
+
 pub server_refused : (r : Request) (peer : Addr) (token : List ℕ) (e : HttpError) → server_of r peer token ≡ Err e → ServerRefused r peer token e
 unfolding server_of
-server_refused r peer token e h = by_first (err_step (token_of r) (by_token r peer token) e h)
+server_refused r peer token e h = by_first (err_step (token_of InvalidBearerToken r) (by_token r peer token) e h)
   where
     told : (d : HttpError) → ServerRefused r peer token d → d ≡ e → ServerRefused r peer token e
     told d x same = subst (λ (c : HttpError). ServerRefused r peer token c) same x
@@ -141,22 +148,31 @@ server_refused r peer token e h = by_first (err_step (token_of r) (by_token r pe
 
     by_second : (text : List ℕ) → Shows r text → (o : Option Addr) → server_in token text ≡ o → (unless_none (Unauthorised InvalidBearerToken) o >>= from_here r peer) ≡ Err e → ServerRefused r peer token e
     by_second text s None is k =
-        told (Unauthorised InvalidBearerToken) (text, s, λ server t. absurd (let both = sym is ∙ shown_server token text server t in cc)) cc
+        told (Unauthorised InvalidBearerToken) (λ server other. absurd (no_server_shown r token text server s is other)) cc
     by_second text s (Some server) is k =
         by_third server (text, s, server_shown token text server is)
         (err_step (origin (real r) peer) (λ ip. unless_false (Unauthorised MismatchedAddress) (same_ip ip (ip_of server)) server) e k)
 
-    by_first : (token_of r ≡ Err e) ⊎ ((text : List ℕ) × (token_of r ≡ Ok text) × (by_token r peer token text ≡ Err e)) → ServerRefused r peer token e
-    by_first (inl none) = let n = none_shown r e none in told (Unauthorised NoBearerAuth) n.1 (sym n.0)
-    by_first (inr (text, is, k)) = by_second text (shows r text is) (server_in token text) refl k
+    by_first : (token_of InvalidBearerToken r ≡ Err e) ⊎ ((text : List ℕ) × (token_of InvalidBearerToken r ≡ Ok text) × (by_token r peer token text ≡ Err e)) → ServerRefused r peer token e
+    by_first (inl none) =
+        let n = none_shown InvalidBearerToken r e none in
+        told (Unauthorised InvalidBearerToken) (λ server other. absurd (n.1 other.0 other.1)) (sym n.0)
+    by_first (inr (text, is, k)) = by_second text (shows InvalidBearerToken r text is) (server_in token text) refl k
 
 pub refused_server : (r : Request) (peer : Addr) (token : List ℕ) (e : HttpError) → ServerRefused r peer token e → server_of r peer token ≡ Err e
 unfolding server_of
-refused_server r peer token (Unauthorised NoBearerAuth) none = rw (shown_none r none) refl
-refused_server r peer token (Unauthorised InvalidBearerToken) (text, s, none) = rw (shown r text s, no_server token text none) refl
+refused_server r peer token (Unauthorised NoBearerAuth) h = absurd h
+refused_server r peer token (Unauthorised InvalidBearerToken) none = by_header (token_in (header (codes "authorization") r.headers)) refl
+  where
+    by_header : (o : Option (List ℕ)) → token_in (header (codes "authorization") r.headers) ≡ o
+        → (unless_none (Unauthorised InvalidBearerToken) o >>= by_token r peer token) ≡ Err (Unauthorised InvalidBearerToken)
+    by_header None is = refl
+    by_header (Some text) is =
+        let s = token_shown (header (codes "authorization") r.headers) text is in
+        rw (no_server token text (λ server own. none server (text, s, own))) refl
 refused_server r peer token (Unauthorised MismatchedAddress) (server, (text, s, own), ip, at, other) =
-    rw (shown r text s, shown_server token text server own, from_came (real r) peer ip at, other_ip ip (ip_of server) other) refl
-refused_server r peer token BadRealIp (server, (text, s, own), none) = rw (shown r text s, shown_server token text server own, origin_none r peer none) refl
+    rw (shown InvalidBearerToken r text s, shown_server token text server own, from_came (real r) peer ip at, other_ip ip (ip_of server) other) refl
+refused_server r peer token BadRealIp (server, (text, s, own), none) = rw (shown InvalidBearerToken r text s, shown_server token text server own, origin_none r peer none) refl
 refused_server r peer token (Unauthorised BearerAuthFailed) h = absurd h
 refused_server r peer token (Unauthorised InvalidJwt) h = absurd h
 refused_server r peer token (Unauthorised LinkFailed) h = absurd h

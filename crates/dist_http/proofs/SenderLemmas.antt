@@ -8,6 +8,7 @@ use Rattle.dist_types.specs.Addr.{ip_in, ip_of}
 use Rattle.dist_types.proofs.AddrLemmas.{ip_of_text, ip_is}
 use Rattle.dist_http.specs.declared.error.HttpError.{HttpError}
 use Rattle.dist_http.specs.declared.error.HttpError.TheVariants.{BadRealIp, Unauthorised}
+use Rattle.dist_http.specs.declared.reply.Word.{Word}
 use Rattle.dist_http.specs.declared.reply.Word.TheVariants.{NoBearerAuth, BearerAuthFailed, InvalidBearerToken, MismatchedAddress}
 use Rattle.dist_http.specs.declared.request.Request.{Request}
 use Rattle.dist_http.specs.Bearer.{token_in, server_in, IsServerToken}
@@ -37,24 +38,24 @@ from_came (Some text) peer ip h = rw (ip_of_text text ip h) refl
 
 -- ---- tokens
 
-pub shows : (r : Request) (token : List ℕ) → token_of r ≡ Ok token → Shows r token
-shows r token e =
+pub shows : (word : Word) (r : Request) (token : List ℕ) → token_of word r ≡ Ok token → Shows r token
+shows word r token e =
     token_shown (header (codes "authorization") r.headers) token
-    (from_none (Unauthorised NoBearerAuth) (token_in (header (codes "authorization") r.headers)) token e)
+    (from_none (Unauthorised word) (token_in (header (codes "authorization") r.headers)) token e)
 
-pub shown : (r : Request) (token : List ℕ) → Shows r token → token_of r ≡ Ok token
-shown r token h = rw (h, shown_token token) refl
+pub shown : (word : Word) (r : Request) (token : List ℕ) → Shows r token → token_of word r ≡ Ok token
+shown word r token h = rw (h, shown_token token) refl
 
 pub client_shown : (r : Request) (token : List ℕ) → client_test r token ≡ Ok tt → Shows r token
 unfolding client_test
 client_shown r token e =
-    let s = ok_step (token_of r) (λ t. unless_false (Unauthorised BearerAuthFailed) (bytes_eq t token) tt) tt e in
+    let s = ok_step (token_of NoBearerAuth r) (λ t. unless_false (Unauthorised BearerAuthFailed) (bytes_eq t token) tt) tt e in
     let same = from_false (Unauthorised BearerAuthFailed) (bytes_eq s.0 token) tt tt s.2 in
-    subst (λ (t : List ℕ). Shows r t) (equal_texts s.0 token same.0) (shows r s.0 s.1)
+    subst (λ (t : List ℕ). Shows r t) (equal_texts s.0 token same.0) (shows NoBearerAuth r s.0 s.1)
 
 pub shown_client : (r : Request) (token : List ℕ) → Shows r token → client_test r token ≡ Ok tt
 unfolding client_test
-shown_client r token h = rw (shown r token h, same_text token) refl
+shown_client r token h = rw (shown NoBearerAuth r token h, same_text token) refl
 
 -- ---- servers
 
@@ -67,13 +68,13 @@ by_token r peer expected token = unless_none (Unauthorised InvalidBearerToken) (
 pub sender_shown : (r : Request) (peer : Addr) (token : List ℕ) (server : Addr) → server_of r peer token ≡ Ok server → IsFrom r peer token server
 unfolding server_of
 sender_shown r peer token server e =
-    let a = ok_step (token_of r) (by_token r peer token) server e in
+    let a = ok_step (token_of InvalidBearerToken r) (by_token r peer token) server e in
     let b = ok_step (unless_none (Unauthorised InvalidBearerToken) (server_in token a.0)) (from_here r peer) server a.2 in
     let c = ok_step (origin (header (codes "x-real-ip") r.headers) peer) (λ ip. unless_false (Unauthorised MismatchedAddress) (same_ip ip (ip_of b.0)) b.0) server b.2 in
     let d = from_false (Unauthorised MismatchedAddress) (same_ip c.0 (ip_of b.0)) b.0 server c.2 in
     record {
       shown = a.0;
-      bearer = shows r a.0 a.1;
+      bearer = shows InvalidBearerToken r a.0 a.1;
       own = subst (λ (s : Addr). IsServerToken a.0 s token) d.1 (server_shown token a.0 b.0 (from_none (Unauthorised InvalidBearerToken) (server_in token a.0) b.0 b.1));
       ip = came_from (header (codes "x-real-ip") r.headers) peer (ip_of server) (c.1 ∙ ap Ok (equal_ips c.0 (ip_of b.0) d.0 ∙ ap ip_of d.1));
     }
@@ -81,4 +82,4 @@ sender_shown r peer token server e =
 pub shown_sender : (r : Request) (peer : Addr) (token : List ℕ) (server : Addr) → IsFrom r peer token server → server_of r peer token ≡ Ok server
 unfolding server_of
 shown_sender r peer token server f =
-    rw (shown r f.shown f.bearer, shown_server token f.shown server f.own, from_came (header (codes "x-real-ip") r.headers) peer (ip_of server) f.ip, one_ip (ip_of server)) refl
+    rw (shown InvalidBearerToken r f.shown f.bearer, shown_server token f.shown server f.own, from_came (header (codes "x-real-ip") r.headers) peer (ip_of server) f.ip, one_ip (ip_of server)) refl

@@ -40,8 +40,7 @@ ShowsServer r token server = (shown : List ℕ) × Shows r shown × IsServerToke
 
 -- by its word, why a request is from no server
 abbrev pub ServerWord : Request → Addr → List ℕ → Word → Type 0
-ServerWord r peer token NoBearerAuth = ShowsNone r
-ServerWord r peer token InvalidBearerToken = (shown : List ℕ) × Shows r shown × ((server : Addr) → ¬ (IsServerToken shown server token))
+ServerWord r peer token InvalidBearerToken = (server : Addr) → ¬ (ShowsServer r token server)
 ServerWord r peer token MismatchedAddress =
     (server : Addr) × ShowsServer r token server × (ip : Ip) × CameFrom (header (codes "x-real-ip") r.headers) peer ip × (ip ≢ ip_of server)
 ServerWord r peer token other = ⊥

@@ -6,20 +6,21 @@ use Rattle.dist_types.specs.declared.addr.Ip.TheVariants.{V4, V6}
 use Rattle.dist_types.specs.Addr.{ip_in, ip_of, IsIpText}
 use Rattle.dist_http.specs.declared.error.HttpError.{HttpError}
 use Rattle.dist_http.specs.declared.error.HttpError.TheVariants.{BadRealIp, Unauthorised}
+use Rattle.dist_http.specs.declared.reply.Word.{Word}
 use Rattle.dist_http.specs.declared.reply.Word.TheVariants.{NoBearerAuth, BearerAuthFailed, InvalidBearerToken, MismatchedAddress}
 use Rattle.dist_http.specs.declared.request.Request.{Request}
 use Rattle.dist_http.specs.Bearer.{token_in, server_in, IsServerToken}
 use Rattle.dist_http.specs.Fields.{header}
 use Rattle.dist_http.specs.Steps.{◌>>=◌, unless_none, unless_false}
 
--- the token that the request shows
-abbrev pub token_of : Request → Result (List ℕ) HttpError
-token_of r = unless_none (Unauthorised NoBearerAuth) (token_in (header (codes "authorization") r.headers))
+-- the token that the request shows, or the refusal of that word where it shows none
+abbrev pub token_of : Word → Request → Result (List ℕ) HttpError
+token_of word r = unless_none (Unauthorised word) (token_in (header (codes "authorization") r.headers))
 
 -- whether the request shows the clients' token
 unfoldable pub client_test : Request → List ℕ → Result (Unit {0}) HttpError
 client_test r expected = do
-  token ← token_of r
+  token ← token_of NoBearerAuth r
   unless_false (Unauthorised BearerAuthFailed) (bytes_eq token expected) tt
 
 -- whether two are one
@@ -37,7 +38,7 @@ origin (Some text) peer = unless_none BadRealIp (ip_in text)
 -- the server that sent the request: it shows its token, from its own IP
 unfoldable pub server_of : Request → Addr → List ℕ → Result Addr HttpError
 server_of r peer expected = do
-  token ← token_of r
+  token ← token_of InvalidBearerToken r
   server ← unless_none (Unauthorised InvalidBearerToken) (server_in expected token)
   ip ← origin (header (codes "x-real-ip") r.headers) peer
   unless_false (Unauthorised MismatchedAddress) (same_ip ip (ip_of server)) server

@@ -15,11 +15,11 @@ use std::fmt;
 /// The word of a 401 reply, which says why a request was refused as unauthorised.
 #[derive(Clone, Copy, Debug, PartialEq, Eq)]
 pub enum Word {
-    /// No `Authorization: Bearer TOKEN`.
+    /// A client shows no `Authorization: Bearer TOKEN`.
     NoBearerAuth,
     /// Another token than the client's.
     BearerAuthFailed,
-    /// A token that is no server's.
+    /// A server shows no token, or one that is no server's.
     InvalidBearerToken,
     /// The token of a server with another IP.
     MismatchedAddress,

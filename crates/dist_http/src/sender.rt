@@ -53,7 +53,7 @@ pub(crate) fn server_of(request: &Request, peer: Addr, expected: &str) -> Result
     ensures { result ≡ server_of request.now peer expected.now }
 {
     let Some(token) = token_in(request.header("authorization")) else {
-        return Err(HttpError::Unauthorised(Word::NoBearerAuth));
+        return Err(HttpError::Unauthorised(Word::InvalidBearerToken));
     };
     let Some(server) = server_in(expected, token) else {
         return Err(HttpError::Unauthorised(Word::InvalidBearerToken));
