@@ -27,10 +27,10 @@ use Rattle.sched_core.proofs.HeldLemmas.{legal_once}
 use Rattle.sched_core.proofs.RoomLemmas.{legal_bounded}
 use Rattle.sched_core.proofs.SoundLemmas.{legal_distinct}
 use Rattle.sched_core.proofs.OnceLemmas.{legal_all}
-use Rattle.farm.specs.declared.setup.SetupScheduler.{SetupScheduler}
-use Rattle.farm.specs.declared.event.Event.{Event}
-use Rattle.farm.specs.declared.event.EventKind.{EventKind}
-use Rattle.farm.specs.declared.event.EventKind.TheVariants.{Request, Deliver, Fail, Return, Answer, Beat, Restart}
+use Rattle.farm_script.specs.declared.setup.SetupScheduler.{SetupScheduler}
+use Rattle.farm_script.specs.declared.event.Event.{Event}
+use Rattle.farm_script.specs.declared.event.EventKind.{EventKind}
+use Rattle.farm_script.specs.declared.event.EventKind.TheVariants.{Request, Deliver, Fail, Return, Answer, Beat, Restart}
 use Rattle.farm.specs.declared.entry.Entry.{Entry}
 use Rattle.farm.specs.declared.entry.OutCall.{OutCall}
 use Rattle.farm.specs.Calls.{call_at, settles_by, settled_at, waiting_at}
@@ -40,7 +40,7 @@ use Rattle.sched_core.specs.Ticket.{Ticket}
 use Rattle.dist_http.specs.declared.route.SchedRouted.{SchedRouted}
 use Rattle.dist_http.specs.declared.route.SchedRouted.TheVariants as asked
 use Rattle.dist_http.proofs.CallLemmas.{begins_assigned}
-use Rattle.farm.proofs.WordLemmas.{guard_off}
+use Rattle.farm_script.proofs.WordLemmas.{guard_off}
 use Rattle.farm.proofs.OwnLemmas.{legal_front}
 use Rattle.farm.proofs.SoundLemmas.{Adds, sound-step}
 

@@ -8,18 +8,18 @@ use Rattle.sched_core.specs.Ticket.{Ticket}
 use Rattle.dist_http.specs.declared.route.Asked.{Asked}
 use Rattle.dist_http.proofs.HeadLemmas.{one_question}
 use Rattle.dist_http.proofs.CallLemmas.{one_assignment}
-use Rattle.farm.specs.declared.setup.Setup.{Setup}
-use Rattle.farm.specs.declared.setup.SetupScheduler.{SetupScheduler}
-use Rattle.farm.specs.declared.event.Event.{Event}
-use Rattle.farm.specs.declared.event.EventKind.{EventKind}
-use Rattle.farm.specs.declared.event.EventKind.TheVariants.{Request, Deliver, Fail, Return, Answer, Beat, Restart}
+use Rattle.farm_script.specs.declared.setup.Setup.{Setup}
+use Rattle.farm_script.specs.declared.setup.SetupScheduler.{SetupScheduler}
+use Rattle.farm_script.specs.declared.event.Event.{Event}
+use Rattle.farm_script.specs.declared.event.EventKind.{EventKind}
+use Rattle.farm_script.specs.declared.event.EventKind.TheVariants.{Request, Deliver, Fail, Return, Answer, Beat, Restart}
 use Rattle.farm.specs.declared.entry.Entry.{Entry}
 use Rattle.farm.specs.declared.entry.OutCall.{OutCall}
 use Rattle.farm.specs.Calls.{call_at, waiting_at}
 use Rattle.farm.specs.Next.{core_of, token_of, ticket_at, brought_to, brought_at, Wants, answer, IsOutcome, continued, GoesOn, IsSettled, to_settle, IsServed, IsDelivered, Settles, IsMade, IsNext, EachNext}
 use Rattle.farm.specs.Printed.{run_text}
 use Rattle.farm.specs.Command.{IsRunText}
-use Rattle.farm.proofs.SpelledLemmas.{one_script}
+use Rattle.farm_script.proofs.SpelledLemmas.{one_script}
 
 one_served : (farm : SetupScheduler) (core : Core) (number : ℕ) (event : Event) (o : Option (Addr × List ℕ)) (a b : Entry) → IsServed farm core number event o a → IsServed farm core number event o b → a ≡ b
 one_served farm core number event None a b p q = p ∙ sym q

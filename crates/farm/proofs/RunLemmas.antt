@@ -4,13 +4,13 @@ use Rattle.std.specs.Prelude.{option_to_list, IfOk}
 use Rattle.std.specs.List.{cons_option}
 use Rattle.std.proofs.lemmas.List.Elements.{filter_map-append}
 use Rattle.sched_core.specs.declared.entry.CoreEntry.{CoreEntry}
-use Rattle.farm.specs.declared.setup.SetupScheduler.{SetupScheduler}
-use Rattle.farm.specs.declared.event.Event.{Event}
+use Rattle.farm_script.specs.declared.setup.SetupScheduler.{SetupScheduler}
+use Rattle.farm_script.specs.declared.event.Event.{Event}
 use Rattle.farm.specs.declared.entry.Entry.{Entry}
-use Rattle.farm.specs.declared.fault.FarmFault.{FarmFault}
+use Rattle.farm_script.specs.declared.fault.FarmFault.{FarmFault}
 use Rattle.farm.specs.Next.{core_log, core_of, IsNext, EachNext}
-use Rattle.farm.specs.declared.setup.Setup.{Setup}
-use Rattle.farm.specs.Script.{script}
+use Rattle.farm_script.specs.declared.setup.Setup.{Setup}
+use Rattle.farm_script.specs.Script.{script}
 use Rattle.farm.specs.Printed.{run_text}
 use Rattle.farm.specs.Command.{IsReadText}
 use Rattle.farm.specs.Farm.{Farmed, with_entries, with_core, Runs, AreLawful}
@@ -54,6 +54,12 @@ pub Runs-entries : (old : Farmed) (events : List Event) (mid : Farmed) (entries 
     → Runs old events mid → entries ≡ mid.entries → Runs old events (record { scheduler = old.scheduler; entries = entries })
 Runs-entries old events mid entries run same =
     (run.0, run.1, ap (λ (es : List Entry). record { scheduler = old.scheduler; entries = es }) (same ∙ ap (λ (m : Farmed). m.entries) run.2))
+
+-- their laws
+pub Runs-lawful : (old : Farmed) (events : List Event) (mid : Farmed) (entries : List Entry)
+    → Runs old events mid → entries ≡ mid.entries → AreLawful mid.scheduler mid.entries → AreLawful old.scheduler entries
+Runs-lawful old events mid entries run same laws =
+    subst (λ (s : SetupScheduler). AreLawful s entries) (ap (λ (m : Farmed). m.scheduler) run.2) (subst (λ (es : List Entry). AreLawful mid.scheduler es) (sym same) laws)
 
 -- the text of a farm that ran a script's events is that of the script's run
 pub run_text_is : {X : Type 0} (view : X → List ℕ) (r : Result X FarmFault) (bytes : List ℕ) (setup : Setup) (events run_events : List Event) (start farm : Farmed)

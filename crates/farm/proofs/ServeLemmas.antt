@@ -30,11 +30,11 @@ use Rattle.sched_core.specs.declared.entry.CoreKind.TheVariants as core
 use Rattle.sched_core.specs.declared.entry.Reserved.TheVariants.{Job, NoRoom, Spent}
 use Rattle.sched_core.specs.declared.entry.UpdateAnswer.{UpdateAnswer}
 use Rattle.sched_core.specs.declared.entry.UpdateAnswer.TheVariants.{Accepted, Unknown, Wrong, Transition}
-use Rattle.farm.specs.declared.setup.SetupScheduler.{SetupScheduler}
-use Rattle.farm.specs.declared.event.Event.{Event}
+use Rattle.farm_script.specs.declared.setup.SetupScheduler.{SetupScheduler}
+use Rattle.farm_script.specs.declared.event.Event.{Event}
 use Rattle.farm.specs.declared.entry.Entry.{Entry}
 use Rattle.farm.specs.declared.entry.Reply.{Reply}
-use Rattle.farm.specs.declared.fault.FarmFault.{FarmFault}
+use Rattle.farm_script.specs.declared.fault.FarmFault.{FarmFault}
 use Rattle.farm.specs.declared.waiting.Waiting.{Waiting}
 use Rattle.farm.specs.declared.waiting.Made.{Made}
 use Rattle.farm.specs.Replies.{alloc_response, update_response}
@@ -155,3 +155,23 @@ undone_is s new t n json event f x undone response reply e log at undone-is resp
     let made = rule s (call.Undo event.at t.number t.job) in
     same ∙ ap (λ (y : CoreEntry). replied event (Some y) reply) (last_is s new made x log at)
     ∙ ap (replied event (Some made)) (reply-is ∙ ap (reply_to n) (response-is ∙ ap (λ (u : Undone). fault_response_of (fault.AssignFailed u f)) undone-is))
+
+-- ---- what a report never meets
+
+no_cpus : (a : UpdateAnswer) (to : JobState) (n : ℕ) → verdict a to ≡ Err (error.BadCpus n) → ⊥
+no_cpus Accepted to n e = absurd cc
+no_cpus Unknown to n e = absurd cc
+no_cpus Wrong to n e = absurd cc
+no_cpus (Transition from) to n e = absurd cc
+
+no_end : (a : UpdateAnswer) (to : JobState) → verdict a to ≡ Err error.IdsSpent → ⊥
+no_end Accepted to e = absurd cc
+no_end Unknown to e = absurd cc
+no_end Wrong to e = absurd cc
+no_end (Transition from) to e = absurd cc
+
+pub never_cpus : (to : JobState) (e : SchedError) (n : ℕ) → (e ≢ error.Memory → (a : UpdateAnswer) × (verdict a to ≡ Err e)) → e ≡ error.BadCpus n → ⊥
+never_cpus to e n told is = let t = told (λ h. absurd cc) in no_cpus t.0 to n (t.1 ∙ ap (λ (x : SchedError). Err x) is)
+
+pub never_spent : (to : JobState) (e : SchedError) → (e ≢ error.Memory → (a : UpdateAnswer) × (verdict a to ≡ Err e)) → e ≡ error.IdsSpent → ⊥
+never_spent to e told is = let t = told (λ h. absurd cc) in no_end t.0 to (t.1 ∙ ap (λ (x : SchedError). Err x) is)

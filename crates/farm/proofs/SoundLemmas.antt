@@ -20,12 +20,12 @@ use Rattle.sched_core.specs.declared.entry.CoreKind.TheVariants.{Reserve, Commit
 use Rattle.sched_core.specs.declared.entry.Reserved.TheVariants.{Job, NoRoom, Spent}
 use Rattle.sched_core.proofs.AllLemmas.{is_false, true_false, same_job-sym}
 use Rattle.sched_core.proofs.LegalLemmas.{legal-push}
-use Rattle.farm.specs.declared.setup.SetupScheduler.{SetupScheduler}
+use Rattle.farm_script.specs.declared.setup.SetupScheduler.{SetupScheduler}
 use Rattle.farm.specs.declared.entry.Entry.{Entry}
 use Rattle.farm.specs.Calls.{settled_at, waiting_at}
 use Rattle.farm.specs.Next.{core_log, core_of, ticket_by, ticket_of, ticket_at}
 use Rattle.farm.specs.Farm.{IsSound}
-use Rattle.farm.proofs.WordLemmas.{guard_off}
+use Rattle.farm_script.proofs.WordLemmas.{guard_off}
 use Rattle.farm.proofs.CallLemmas.{get_left, get_end, waiting-push, waiting-end}
 use Rattle.farm.proofs.NumberLemmas.{numbers_rise, take_left, take_end}
 use Rattle.farm.proofs.OwnLemmas.{own-kept, own-made, one_number}

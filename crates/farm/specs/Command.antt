@@ -1,21 +1,21 @@
 -- What the command has to do: print the text of a run, or tell a fault.
-use Rattle.std.specs.Prelude.{◌≡◌, ◌⊎◌, ℕ, nat_eq, Bool, true, false, if◌then◌else◌, List, [], ◌∷◌, Option, IfSome, Result, Ok, Err, codes}
+use Rattle.std.specs.Prelude.{◌≡◌, ◌⊎◌, ℕ, ◌<◌, nat_eq, Bool, true, false, List, [], ◌∷◌, Option, IfSome, Result, Ok, Err, codes}
 use Rattle.std.specs.Fmt.{decimal}
 use Rattle.std.specs.Cmp.Lexicographic.{pointwise}
 use Rattle.dist_types.specs.Cause.{Rose}
-use Rattle.dist_types.specs.Content.{Began}
-use Rattle.farm.specs.declared.setup.Setup.{Setup}
-use Rattle.farm.specs.declared.event.Event.{Event}
+use Rattle.dist_types.specs.Content.{Added, Began, left_behind}
+use Rattle.farm_script.specs.declared.setup.Setup.{Setup}
+use Rattle.farm_script.specs.declared.event.Event.{Event}
 use Rattle.farm.specs.declared.entry.Entry.{Entry}
-use Rattle.farm.specs.declared.fault.FarmFault.{FarmFault}
-use Rattle.farm.specs.declared.fault.FarmFault.TheVariants.{Usage, BadLine, ReadFault, WriteFault, Memory}
+use Rattle.farm_script.specs.declared.fault.FarmFault.{FarmFault}
+use Rattle.farm_script.specs.declared.fault.FarmFault.TheVariants.{Usage, BadLine, ReadFault, WriteFault, Memory}
 use Rattle.farm.specs.Next.{EachNext}
 use Rattle.farm.specs.Farm.{AreLawful}
 use Rattle.farm.specs.Printed.{run_text}
-use Rattle.farm.specs.Script.{script}
-use Rattle.farm.specs.FirstFaulty.{IsFirstFaulty}
-use Rattle.farm.specs.Spelled.{Says}
-use Rattle.farm.specs.Texts.{◌⧺◌}
+use Rattle.farm_script.specs.Script.{script}
+use Rattle.farm_script.specs.FirstFaulty.{IsFirstFaulty}
+use Rattle.farm_script.specs.Spelled.{Says}
+use Rattle.farm_script.specs.Texts.{◌⧺◌}
 
 -- the program's name and the word farm
 abbrev pub names_farm : List (List ℕ) → Bool
@@ -55,42 +55,77 @@ fault_text ReadFault = codes "sccache-dist: read fault\n"
 fault_text WriteFault = codes "sccache-dist: write fault\n"
 fault_text Memory = codes "sccache-dist: out of memory\n"
 
+-- the status of a fault that is told
+abbrev pub fault_status : FarmFault → ℕ
+fault_status (BadLine n) = 1
+fault_status Usage = 2
+fault_status Memory = 3
+fault_status ReadFault = 4
+fault_status WriteFault = 5
+
 -- why a script has no run: a line is faulty, or memory ran out
 abbrev pub HasNoRun : FarmFault → List ℕ → Type 0
 HasNoRun (BadLine n) bytes = script bytes ≡ Err n
 HasNoRun Memory bytes = Unit {0}
 HasNoRun other bytes = ⊥
 
--- nothing was written, or a front of a text that is such
-abbrev pub WroteFront : (List ℕ → Type 0) → Option (List ℕ) → Option (List ℕ) → Type 0
-WroteFront IsText old new = (new ≡ old) ⊎ ((text : List ℕ) × IsText text × Began text old new)
+-- input, out or errs, as a moment finds it: what input has left, or what the other two hold, where that is told, and the count of faults
+pub record Side : Type 0 where
+  pub content : Option (List ℕ)
+  pub faults : ℕ
 
--- the status of a script that is read
-abbrev pub script_status : Result (Setup × List Event) ℕ → ℕ
-script_status (Ok x) = 0
-script_status (Err n) = 1
-
--- the status of the words over this input, without want of memory and faults: the words are judged first
-abbrev pub status_of : List (List ℕ) → List ℕ → ℕ
-status_of words bytes = if names_farm words then script_status (script bytes) else 2
-
--- what a call was given (what input told, and has left), and what it did to counts and contents
+-- a call of the command: its words, and input and out before and after it
 pub record Called : Type 0 where
   pub words : List (List ℕ)
-  pub told : Option (List ℕ)
-  pub left : Option (List ℕ)
-  pub read_before : ℕ
-  pub read_after : ℕ
-  pub wrote_before : ℕ
-  pub wrote_after : ℕ
-  pub held_before : Option (List ℕ)
-  pub held_after : Option (List ℕ)
+  pub input : Side
+  pub input_after : Side
+  pub out : Side
+  pub out_after : Side
 
--- why a call met a fault, and what it left: the words are judged first, then input is read to its end, before a line is judged or a byte written
+-- Input was read to its end, or to one byte past the limit of scripts: it has left what stands behind that, and did not fail.
+abbrev pub IsReadWhole : Side → Side → Type 0
+IsReadWhole before after = (after.content ≡ left_behind 67108865 before.content) × (after.faults ≡ before.faults)
+
+-- The text of the script's run was written.
+abbrev pub IsPrinted : Called → Type 0
+IsPrinted c = (names_farm c.words ≡ true) × IsReadWhole c.input c.input_after × (c.out_after.faults ≡ c.out.faults)
+    × IfSome c.input.content (λ bytes. (text : List ℕ) × IsRunText bytes text × Added text c.out.content c.out_after.content)
+
+-- Why a call met a fault, and what it left: the words are judged first; then input is read whole, before a line is judged; nothing is written before
+-- every line was, and then a front of the run's text.
 abbrev pub IsCause : FarmFault → Called → Type 0
-IsCause Usage c = (names_farm c.words ≡ false) × (c.left ≡ c.told) × (c.read_after ≡ c.read_before) × (c.held_after ≡ c.held_before)
-IsCause (BadLine n) c = (names_farm c.words ≡ true) × IfSome c.told (λ bytes. script bytes ≡ Err n) × (c.read_after ≡ c.read_before) × (c.held_after ≡ c.held_before)
-IsCause ReadFault c = (names_farm c.words ≡ true) × Rose c.read_before c.read_after × (c.held_after ≡ c.held_before)
-IsCause WriteFault c = (names_farm c.words ≡ true) × (c.read_after ≡ c.read_before) × Rose c.wrote_before c.wrote_after
-    × IfSome c.told (λ bytes. (text : List ℕ) × IsReadText bytes text × Began text c.held_before c.held_after)
-IsCause Memory c = (names_farm c.words ≡ true) × (c.held_after ≡ c.held_before)
+IsCause Usage c = (names_farm c.words ≡ false) × (c.input_after ≡ c.input) × (c.out_after ≡ c.out)
+IsCause (BadLine n) c = (names_farm c.words ≡ true) × IsReadWhole c.input c.input_after × (c.out_after ≡ c.out) × IfSome c.input.content (λ bytes. IsFirstFaulty bytes n)
+IsCause ReadFault c = (names_farm c.words ≡ true) × Rose c.input.faults c.input_after.faults × (c.out_after ≡ c.out)
+IsCause WriteFault c = (names_farm c.words ≡ true) × IsReadWhole c.input c.input_after × Rose c.out.faults c.out_after.faults
+    × IfSome c.input.content (λ bytes. (text : List ℕ) × IsRunText bytes text × Began text c.out.content c.out_after.content)
+IsCause Memory c = (names_farm c.words ≡ true) × (c.input_after.faults ≡ c.input.faults) × (c.out_after ≡ c.out)
+
+-- The run was printed, or a fault met.
+abbrev pub IsDone : {A : Type 0} → Result A FarmFault → Called → Type 0
+IsDone (Ok x) c = IsPrinted c
+IsDone (Err f) c = IsCause f c
+
+-- A text was written on errs, and the answer is its status; or errs failed, has a front of it, and the answer is 5.
+abbrev pub IsSaid : List ℕ → ℕ → ℕ → Side → Side → Type 0
+IsSaid text status answer before after =
+    ((answer ≡ status) × Added text before.content after.content × (after.faults ≡ before.faults))
+    ⊎ ((answer ≡ 5) × Began text before.content after.content × Rose before.faults after.faults)
+
+-- The fault is said so.
+abbrev pub IsTold : FarmFault → ℕ → Side → Side → Type 0
+IsTold f answer before after = IsSaid (fault_text f) (fault_status f) answer before after
+
+-- What is told of a fault: the fault, or want of memory, where memory ran out for the text of a bad line.
+abbrev pub StandsFor : FarmFault → FarmFault → Type 0
+StandsFor met told = (told ≡ met) ⊎ ((told ≡ Memory) × (n : ℕ) × (met ≡ BadLine n))
+
+-- 0 where there is no fault, and errs is as it was; else the fault is told.
+abbrev pub IsReported : {A : Type 0} → Result A FarmFault → ℕ → Side → Side → Type 0
+IsReported (Ok x) answer before after = (answer ≡ 0) × (after ≡ before)
+IsReported (Err met) answer before after = (told : FarmFault) × StandsFor met told × IsTold told answer before after
+
+-- What the status answers: 0 where the run was printed, and then errs is as it was; else a fault that has its cause is told.
+pub record IsAnswered (answer : ℕ) (c : Called) (errs errs_after : Side) : Type 0 where
+  pub printed : answer ≡ 0 → IsPrinted c × (errs_after ≡ errs)
+  pub told : 0 < answer → (f : FarmFault) × IsCause f c × IsTold f answer errs errs_after

@@ -10,18 +10,16 @@ use Rattle.sched_core.specs.Standing.{standing}
 use Rattle.sched_core.specs.Rule.{is_among}
 use Rattle.sched_core.specs.Laws.{IsLegal, AreDistinct, IsHeldOnce, HasOrder, IsBounded}
 use Rattle.sched_core.specs.declared.entry.CoreEntry.{CoreEntry}
-use Rattle.farm.specs.declared.setup.Setup.{Setup}
-use Rattle.farm.specs.declared.setup.SetupScheduler.{SetupScheduler}
-use Rattle.farm.specs.declared.setup.SetupAuth.{SetupAuth}
-use Rattle.farm.specs.declared.setup.SetupAuth.TheVariants.{Plain, Jwt}
-use Rattle.farm.specs.declared.event.Event.{Event}
+use Rattle.farm_script.specs.declared.setup.SetupScheduler.{SetupScheduler}
+use Rattle.farm_script.specs.Built.{IsPlain}
+use Rattle.farm_script.specs.declared.event.Event.{Event}
 use Rattle.farm.specs.declared.entry.Entry.{Entry}
 use Rattle.farm.specs.declared.entry.OutCall.{OutCall}
 use Rattle.farm.specs.Calls.{waiting_at}
 use Rattle.farm.specs.Next.{core_log, core_of, ticket_of, ticket_at, brought_at, Wants, IsSettled, IsMade, IsNext, EachNext}
 use Rattle.farm.specs.declared.waiting.Waiting.{Waiting}
 use Rattle.farm.specs.declared.waiting.Made.{Made}
-use Rattle.farm.specs.declared.event.EventKind.{EventKind}
+use Rattle.farm_script.specs.declared.event.EventKind.{EventKind}
 use Rattle.sched_core.specs.Ticket.{Ticket}
 
 -- the scheduler as it was set up, and the entries so far
@@ -32,16 +30,6 @@ pub record Farmed : Type 0 where
 -- the farm with more entries
 abbrev pub with_entries : Farmed → List Entry → Farmed
 with_entries farm more = record { scheduler = farm.scheduler; entries = farm.entries ++ more }
-
--- one token for all build servers
-abbrev pub IsPlain : SetupAuth → Type 0
-IsPlain (Plain token) = Unit {0}
-IsPlain (Jwt key) = ⊥
-
--- farms that are built so far: one token for all build servers, of which there are none
-pub record IsBuilt (s : Setup) : Type 0 where
-  pub plain : IsPlain s.scheduler.auth
-  pub alone : s.servers ≡ []
 
 -- ---- the calls that wait
 
@@ -112,6 +100,10 @@ pub record IsLawful (base count : ℕ) (log : List CoreEntry) : Type 0 where
 -- after each front of the entries
 abbrev pub AreLawful : SetupScheduler → List Entry → Type 0
 AreLawful farm entries = (n : ℕ) → IsLawful farm.base farm.count (core_log (take n entries))
+
+-- No event is without a next entry: that there is none is refuted. (Nothing computes whether bytes are a request, so the entry itself is not shown.)
+abbrev pub HasNext : SetupScheduler → List Entry → Type 0
+HasNext farm log = (event : Event) → ((e : Entry) → IsNext farm log event e → ⊥) → ⊥
 
 -- ---- farms
 

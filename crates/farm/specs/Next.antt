@@ -30,12 +30,12 @@ use Rattle.sched_core.specs.declared.entry.Reserved.TheVariants.{Job, NoRoom, Sp
 use Rattle.sched_core.specs.declared.entry.UpdateAnswer.{UpdateAnswer}
 use Rattle.sched_core.specs.declared.entry.UpdateAnswer.TheVariants.{Accepted, Unknown, Wrong, Transition}
 use Rattle.farm.specs.Calls.{call_at, settles_by, waiting_at}
-use Rattle.farm.specs.declared.setup.SetupScheduler.{SetupScheduler}
-use Rattle.farm.specs.declared.setup.SetupAuth.{SetupAuth}
-use Rattle.farm.specs.declared.setup.SetupAuth.TheVariants.{Plain, Jwt}
-use Rattle.farm.specs.declared.event.Event.{Event}
-use Rattle.farm.specs.declared.event.EventKind.{EventKind}
-use Rattle.farm.specs.declared.event.EventKind.TheVariants.{Request, Deliver, Fail, Return, Answer, Beat, Restart}
+use Rattle.farm_script.specs.declared.setup.SetupScheduler.{SetupScheduler}
+use Rattle.farm_script.specs.declared.setup.SetupAuth.{SetupAuth}
+use Rattle.farm_script.specs.declared.setup.SetupAuth.TheVariants.{Plain, Jwt}
+use Rattle.farm_script.specs.declared.event.Event.{Event}
+use Rattle.farm_script.specs.declared.event.EventKind.{EventKind}
+use Rattle.farm_script.specs.declared.event.EventKind.TheVariants.{Request, Deliver, Fail, Return, Answer, Beat, Restart}
 use Rattle.farm.specs.declared.entry.Entry.{Entry}
 use Rattle.farm.specs.declared.entry.OutCall.{OutCall}
 use Rattle.farm.specs.declared.entry.Reply.{Reply}

@@ -18,9 +18,9 @@ use Rattle.sched_core.specs.declared.entry.Reserved.{Reserved}
 use Rattle.sched_core.specs.declared.entry.Reserved.TheVariants.{Job, NoRoom, Spent}
 use Rattle.sched_core.specs.declared.entry.UpdateAnswer.{UpdateAnswer}
 use Rattle.sched_core.specs.declared.entry.UpdateAnswer.TheVariants.{Accepted, Unknown, Wrong, Transition}
-use Rattle.farm.specs.declared.setup.SetupScheduler.{SetupScheduler}
-use Rattle.farm.specs.declared.event.EventKind.{EventKind}
-use Rattle.farm.specs.declared.event.EventKind.TheVariants as event
+use Rattle.farm_script.specs.declared.setup.SetupScheduler.{SetupScheduler}
+use Rattle.farm_script.specs.declared.event.EventKind.{EventKind}
+use Rattle.farm_script.specs.declared.event.EventKind.TheVariants as event
 use Rattle.farm.specs.declared.entry.Entry.{Entry}
 use Rattle.farm.specs.declared.entry.HeardAs.{HeardAs}
 use Rattle.farm.specs.declared.entry.HeardAs.TheVariants.{New, Old, Lost}
@@ -31,7 +31,7 @@ use Rattle.farm.specs.declared.entry.OutCall.{OutCall}
 use Rattle.farm.specs.declared.entry.Reply.{Reply}
 use Rattle.farm.specs.declared.entry.EntryWord.{EntryWord}
 use Rattle.farm.specs.declared.entry.EntryWord.TheVariants.{Void, Down, Waiting, Died}
-use Rattle.farm.specs.Texts.{◌⧺◌}
+use Rattle.farm_script.specs.Texts.{◌⧺◌}
 use Rattle.farm.specs.Next.{core_log}
 
 -- ---- fields

@@ -2,11 +2,11 @@
 ghost use Rattle.std.specs.Prelude.{◌≡◌, Some};
 ghost use Rattle.farm.specs.Next.{worded, replied, asking};
 
-use crate::event::Event;
 use dist_types::addr::Addr;
 use dist_types::ids::JobId;
 use dist_types::text::{Bytes, Items};
 use dist_types::toolchain::Toolchain;
+use farm_script::event::Event;
 use sched_core::entry::CoreEntry;
 
 /// How a heartbeat's call was settled.

@@ -1,34 +1,11 @@
-//! Laws of the formats, each a clause that quantifies over every input.
-ghost use Rattle.std.specs.Prelude.{◌≡◌, ◌↔◌, ◌<◌, ◌^◌, List, [], ℕ, Some, Err};
-ghost use Rattle.farm.specs.Lines.{line_at};
-ghost use Rattle.farm.specs.Grammar.{IsLine};
-ghost use Rattle.farm.specs.Script.{script};
-ghost use Rattle.farm.specs.FirstFaulty.{IsFirstFaulty};
+//! Laws of runs, each a clause that quantifies over every input.
+ghost use Rattle.std.specs.Prelude.{◌≡◌, ◌<◌, ◌^◌, List, [], ℕ};
 ghost use Rattle.farm.specs.Next.{IsNext, EachNext};
 ghost use Rattle.farm.specs.Farm.{AreLawful};
 ghost use Rattle.farm.specs.Command.{IsRunText};
-ghost use Rattle.farm.specs.Spelled.{Says};
-ghost use Rattle.farm.specs.declared.setup.Setup.{Setup};
-ghost use Rattle.farm.specs.declared.lines.Line.{Line};
-ghost use Rattle.farm.specs.declared.setup.SetupScheduler.{SetupScheduler};
-ghost use Rattle.farm.specs.declared.event.Event.{Event};
+ghost use Rattle.farm_script.specs.declared.setup.SetupScheduler.{SetupScheduler};
+ghost use Rattle.farm_script.specs.declared.event.Event.{Event};
 ghost use Rattle.farm.specs.declared.entry.Entry.{Entry};
-
-/// A line is read as a value exactly where it is one of the value's spellings.
-pub fn lines_are_spelled()
-    ensures { (t : List ℕ) (l : Line) → (line_at t ≡ Some l) ↔ IsLine t l }
-{}
-
-/// A script is refused with a number exactly where that is the number of its first faulty line.
-pub fn first_faulty_lines_are_named()
-    ensures { (bytes : List ℕ) (n : ℕ) → (script bytes ≡ Err n) ↔ IsFirstFaulty bytes n }
-{}
-
-/// A script is read as a setup and events exactly where no line of it is faulty and its lines say them.
-pub fn scripts_are_spelled()
-    ensures { (bytes : List ℕ) (setup : Setup) (events : List Event)
-        → (script bytes ≡ Ok (setup, events)) ↔ (((n : ℕ) → IsFirstFaulty bytes n → ⊥) × Says bytes setup events) }
-{}
 
 /// Over the same entries an event makes one entry at most.
 pub fn next_entries_are_one()

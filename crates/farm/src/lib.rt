@@ -9,21 +9,15 @@
 //! `Farm::new`, `Farm::run`, `Farm::history` and `print_run`.
 #![tactic(auto)]
 
+pub use farm_script::{event, fault, lines, pieces, script, setup};
+
 pub mod command;
 pub mod entry;
-pub mod event;
-pub mod fault;
-mod fields;
 pub mod laws;
-pub mod lines;
-pub mod pieces;
 pub mod print;
 mod replies;
 pub mod run;
-pub mod script;
 mod serve;
 mod settle;
-pub mod setup;
 mod text;
 mod waiting;
-mod words;

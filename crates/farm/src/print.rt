@@ -4,12 +4,12 @@ ghost use Rattle.std.specs.List.{flat_map};
 ghost use Rattle.farm.specs.Printed.{entry_text, entries_text, core_count, row_text, job_text, books_text, run_text};
 ghost use Rattle.farm.specs.Next.{core_log};
 ghost use Rattle.sched_core.specs.Rows.{held_by_id};
-ghost use Rattle.farm.specs.declared.fault.FarmFault.TheVariants as fault;
+ghost use Rattle.farm_script.specs.declared.fault.FarmFault.TheVariants as fault;
 
 use crate::entry::Entry;
-use crate::fault::FarmFault;
 use crate::run::Farm;
 use crate::text::{CallLine, CoreLine, JobLine, Kind, ReplyLine, RowLine, StepLine, WordLine};
+use farm_script::fault::FarmFault;
 use sched_core::rows::Servers;
 use std::alloc::{AllocError, Global};
 

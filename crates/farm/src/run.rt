@@ -5,24 +5,24 @@ ghost use Rattle.sched_core.specs.Rows.{servers_of, jobs_of, held_by_id, held_pa
 ghost use Rattle.std.specs.Option.{option_map};
 ghost use Rattle.farm.specs.Calls.{call_at, delivery_at, settles_by};
 ghost use Rattle.farm.specs.Next.{core_log, worded, is_inside, IsOutcome, IsNext, EachNext};
-ghost use Rattle.farm.specs.Farm.{IsBuilt, IsFarm, IsMadeSo, IsSettledSo, AreLawful, with_core, AddsNext, Steps, Runs};
+ghost use Rattle.farm_script.specs.Built.{IsBuilt};
+ghost use Rattle.farm.specs.Farm.{IsFarm, IsMadeSo, IsSettledSo, AreLawful, HasNext, with_core, AddsNext, Steps, Runs};
 ghost use Rattle.farm.specs.Printed.{ids_given};
-ghost use Rattle.farm.specs.declared.event.EventKind.TheVariants as kind;
-ghost use Rattle.farm.specs.declared.fault.FarmFault.TheVariants as fault;
+ghost use Rattle.farm_script.specs.declared.event.EventKind.TheVariants as kind;
+ghost use Rattle.farm_script.specs.declared.fault.FarmFault.TheVariants as fault;
 
 use crate::entry::{Entry, EntryWord, OutCall};
-use crate::event::{Event, EventKind};
-use crate::fault::FarmFault;
 use crate::serve::serve;
 use crate::settle::{go_on, outcome};
-use crate::setup::{Setup, SetupAuth, SetupScheduler};
 use crate::waiting::{Made, Waiting, release, take_at, undo_last};
 use dist_token::job_token::JWTJobAuthorizer;
 use dist_types::addr::Addr;
 use dist_types::outgoing::CallFault;
 use dist_types::results::AssignJobResult;
 use dist_types::text::Items;
-use sched_core::entry::{CoreEntry, CoreKind, Reserved};
+use farm_script::event::{Event, EventKind};
+use farm_script::fault::FarmFault;
+use farm_script::setup::{Setup, SetupAuth, SetupScheduler};
 use sched_core::rows::{Jobs, Servers};
 use sched_core::state::SchedState;
 use std::alloc::{AllocError, AllocFailed, Global};
@@ -131,6 +131,7 @@ impl Farm {
     fn step(self, event: &Event) -> Result<Farm, Stopped>
         ensures ok { IfOk result (Steps self event.now) }
         ensures err { IfErr result (λ s. s.entries ≡ self.entries) }
+        ensures laws { OnErr result (AreLawful self.scheduler self.entries) }
     {
         let Farm {
             alloc,
@@ -171,6 +172,14 @@ impl Farm {
         let _ = self.entries.len();
     }
 
+    /// That over the entries no event is without a next one.
+    #[tactic(auto, using(crate::proofs::ThereLemmas::has_next))]
+    pub fn goes_on(&self)
+        ensures { HasNext self.now.scheduler self.now.entries }
+    {
+        let _ = self.entries.len();
+    }
+
     /// Runs events in order. Stopped for want of memory alone, with the entries of the events that were
     /// done whole.
     pub fn run(self, events: &[Event]) -> Result<Farm, Stopped>
@@ -180,9 +189,10 @@ impl Farm {
         // have different jobs, each open job has exactly one unended reservation, at a registration that
         // stands, and no load is over its bound.
         ensures laws { IfOk result (λ farm. AreLawful farm.scheduler farm.entries) }
-        // The same for the events before the one that memory ran out in.
+        // Both hold also of the events before the one that memory ran out in.
         ensures err { IfErr result (λ s. (n : ℕ) × (n < length events.now)
             × Runs self (take n events.now) (record { scheduler = self.scheduler; entries = s.entries })) }
+        ensures stopped_laws { IfErr result (λ s. AreLawful self.scheduler s.entries) }
     {
         let mut farm = self;
         for event in events {

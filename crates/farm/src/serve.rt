@@ -9,21 +9,20 @@ ghost use Rattle.sched_core.specs.declared.entry.UpdateAnswer.{UpdateAnswer};
 ghost use Rattle.dist_types.specs.declared.results.AllocJobResult.TheVariants as alloc_result;
 ghost use Rattle.dist_http.specs.declared.route.SchedRouted.TheVariants as asked;
 ghost use Rattle.farm.specs.Next.{token_of, hears, heard, update_by, update_reply, assign_call, answer_to, replied, asking, reply_to, brought_to, IsServed};
-ghost use Rattle.farm.specs.Farm.{IsPlain, with_core, Begins, IsBegun};
+ghost use Rattle.farm_script.specs.Built.{IsPlain};
+ghost use Rattle.farm.specs.Farm.{with_core, Begins, IsBegun};
 ghost use Rattle.farm.specs.Replies as response;
 ghost use Rattle.dist_http.specs.Fault as told;
 ghost use Rattle.dist_http.specs.declared.fault.RouteFault.TheVariants as route_fault;
-ghost use Rattle.farm.specs.declared.fault.FarmFault.TheVariants as fault;
+ghost use Rattle.farm_script.specs.declared.fault.FarmFault.TheVariants as fault;
 
 use crate::entry::{Entry, EntryWord, OutCall, Reply};
-use crate::event::Event;
-use crate::fault::FarmFault;
-use crate::replies::{to_allocation, to_heartbeat, to_report, to_status};
-use crate::setup::{SetupAuth, SetupScheduler};
+use crate::replies::{
+    no_room, to_allocation, to_fault, to_heartbeat, to_report, to_status, want_of_memory,
+};
 use crate::waiting::{Made, Waiting};
 use dist_http::asked::asked;
-use dist_http::error::HttpError;
-use dist_http::fault::{RouteFault, fault_response, no_room_text};
+use dist_http::fault::RouteFault;
 use dist_http::reply::Response;
 use dist_http::route::{Asked, SchedRouted};
 use dist_http::written::assign_request;
@@ -35,6 +34,9 @@ use dist_types::roles::JobAuthorizer;
 use dist_types::text::Bytes;
 use dist_types::toolchain::Toolchain;
 use dist_wire::heartbeat::HeartbeatServerHttpRequest;
+use farm_script::event::Event;
+use farm_script::fault::FarmFault;
+use farm_script::setup::{SetupAuth, SetupScheduler};
 use sched_core::answers::Picked;
 use sched_core::entry::CoreEntry;
 use sched_core::error::SchedError;
@@ -54,15 +56,16 @@ pub fn last_copy(alloc: Global, log: &[CoreEntry]) -> Result<CoreEntry, AllocErr
 }
 
 /// The reply of an entry.
-pub fn reply(alloc: Global, number: u64, response: &Response) -> Result<Reply, HttpError>
+pub fn reply(alloc: Global, number: u64, response: &Response) -> Result<Reply, AllocError>
     ensures ok { IfOk result (λ r. r ≡ reply_to number response.now) }
-    ensures err { IfErr result (λ e. e ≡ HttpError.Memory) }
 {
-    let bytes = response.bytes(alloc)?;
-    Ok(Reply {
-        to: number,
-        bytes: Bytes::new(bytes),
-    })
+    match response.bytes(alloc) {
+        Ok(bytes) => Ok(Reply {
+            to: number,
+            bytes: Bytes::new(bytes),
+        }),
+        Err(error) => Err(want_of_memory(error)),
+    }
 }
 
 /// The token of all build servers.
@@ -98,7 +101,15 @@ fn take_beat(
         server_nonce,
     } = beat;
     let key = JWTJobAuthorizer::of_key(jwt_key.into_inner());
-    let answer = state.beat(now, server, server_nonce, num_cpus, key)?;
+    let answer = match state.beat(now, server, server_nonce, num_cpus, key) {
+        Ok(answer) => answer,
+        Err(SchedError::Memory) => return Err(FarmFault::Memory),
+        Err(SchedError::BadCpus(_)) => unreachable!(),
+        Err(SchedError::IdsSpent) => unreachable!(),
+        Err(SchedError::UnknownJob) => unreachable!(),
+        Err(SchedError::WrongServer) => unreachable!(),
+        Err(SchedError::BadTransition(_, _)) => unreachable!(),
+    };
     let entry = last_copy(alloc, state.history())?;
     let response = to_heartbeat(alloc, json, &answer)?;
     Ok((entry, response))
@@ -126,7 +137,7 @@ fn hear(
     ensures err { IfErr result (λ e. e ≡ fault.Memory) }
 {
     if !hears(beat.num_cpus) {
-        let response = fault_response(alloc, &RouteFault::BadCpus(beat.num_cpus))?;
+        let response = to_fault(alloc, &RouteFault::BadCpus(beat.num_cpus))?;
         let reply = reply(alloc, number, &response)?;
         return Ok(Entry::replied(event, None, reply));
     }
@@ -148,7 +159,15 @@ fn count(
     ensures logged { OnOk result (state.new ≡ logged state.old (rule state.old (call.Status now))) }
     ensures err { IfErr result (λ e. e ≡ fault.Memory) }
 {
-    let answer = state.status(now)?;
+    let answer = match state.status(now) {
+        Ok(answer) => answer,
+        Err(SchedError::Memory) => return Err(FarmFault::Memory),
+        Err(SchedError::BadCpus(_)) => unreachable!(),
+        Err(SchedError::IdsSpent) => unreachable!(),
+        Err(SchedError::UnknownJob) => unreachable!(),
+        Err(SchedError::WrongServer) => unreachable!(),
+        Err(SchedError::BadTransition(_, _)) => unreachable!(),
+    };
     let entry = last_copy(alloc, state.history())?;
     let response = to_status(alloc, json, &answer)?;
     Ok((entry, response))
@@ -162,25 +181,26 @@ fn refuse(
     job: JobId,
     to: JobState,
 ) -> Result<Response, FarmFault>
+    requires { error ≢ SchedError.Memory → (answer : UpdateAnswer) × (verdict answer to ≡ Err error) }
     ensures ok { IfOk result (λ r. (json : Bool) (answer : UpdateAnswer) → verdict answer to ≡ Err error → r ≡ update_reply json answer server job to) }
     ensures known { OnOk result (error ≢ SchedError.Memory) }
     ensures err { IfErr result (λ e. e ≡ fault.Memory) }
 {
     match error {
         SchedError::UnknownJob => {
-            let response = fault_response(alloc, &RouteFault::UnknownJob)?;
+            let response = to_fault(alloc, &RouteFault::UnknownJob)?;
             Ok(response)
         }
         SchedError::WrongServer => {
-            let response = fault_response(alloc, &RouteFault::WrongServer(job, server))?;
+            let response = to_fault(alloc, &RouteFault::WrongServer(job, server))?;
             Ok(response)
         }
         SchedError::BadTransition(from, _) => {
-            let response = fault_response(alloc, &RouteFault::BadTransition(from, to))?;
+            let response = to_fault(alloc, &RouteFault::BadTransition(from, to))?;
             Ok(response)
         }
-        SchedError::BadCpus(_) => Err(FarmFault::Memory),
-        SchedError::IdsSpent => Err(FarmFault::Memory),
+        SchedError::BadCpus(_) => unreachable!(),
+        SchedError::IdsSpent => unreachable!(),
         SchedError::Memory => Err(FarmFault::Memory),
     }
 }
@@ -215,7 +235,7 @@ fn take_report(
 }
 
 /// The entry of an allocation that no registration has room for.
-fn no_room(
+fn crowded(
     alloc: Global,
     state: &SchedState<JWTJobAuthorizer>,
     number: u64,
@@ -229,7 +249,7 @@ fn no_room(
     ensures err { IfErr result (λ e. e ≡ fault.Memory) }
 {
     let core = last_copy(alloc, state.history())?;
-    let msg = no_room_text(alloc, standing)?;
+    let msg = no_room(alloc, standing)?;
     let response = to_allocation(alloc, json, AllocJobResult::Fail { msg })?;
     let reply = reply(alloc, number, &response)?;
     Ok(Entry::replied(event, Some(core), reply))
@@ -248,7 +268,7 @@ fn ids_spent(
     ensures err { IfErr result (λ e. e ≡ fault.Memory) }
 {
     let core = last_copy(alloc, state.history())?;
-    let response = fault_response(alloc, &RouteFault::IdsSpent)?;
+    let response = to_fault(alloc, &RouteFault::IdsSpent)?;
     let reply = reply(alloc, number, &response)?;
     Ok(Entry::replied(event, Some(core), reply))
 }
@@ -268,9 +288,11 @@ fn ask(
     let core = last_copy(alloc, log)?;
     let server = reservation.server_id();
     let job = reservation.job_id();
-    let bytes = assign_request(alloc, server, job, reservation.auth(), tc)?;
     let target = server.addr();
-    Ok((core, OutCall { target, bytes }))
+    match assign_request(alloc, server, job, reservation.auth(), tc) {
+        Ok(bytes) => Ok((core, OutCall { target, bytes })),
+        Err(error) => Err(FarmFault::from(want_of_memory(error))),
+    }
 }
 
 /// What is made of a reservation: the call that asks its server to take the job. Where memory runs out
@@ -319,7 +341,7 @@ fn allocate(
     match state.reserve(event.at) {
         Ok(Picked::Reserved(reservation)) => reserved(alloc, state, event, json, tc, reservation),
         Ok(Picked::NoRoom(standing)) => {
-            let entry = no_room(alloc, state, number, event, json, standing)?;
+            let entry = crowded(alloc, state, number, event, json, standing)?;
             Ok(Made::whole(entry))
         }
         Err(SchedError::IdsSpent) => {
@@ -327,10 +349,10 @@ fn allocate(
             Ok(Made::whole(entry))
         }
         Err(SchedError::Memory) => Err(FarmFault::Memory),
-        Err(SchedError::BadCpus(_)) => Err(FarmFault::Memory),
-        Err(SchedError::UnknownJob) => Err(FarmFault::Memory),
-        Err(SchedError::WrongServer) => Err(FarmFault::Memory),
-        Err(SchedError::BadTransition(_, _)) => Err(FarmFault::Memory),
+        Err(SchedError::BadCpus(_)) => unreachable!(),
+        Err(SchedError::UnknownJob) => unreachable!(),
+        Err(SchedError::WrongServer) => unreachable!(),
+        Err(SchedError::BadTransition(_, _)) => unreachable!(),
     }
 }
 
@@ -395,7 +417,10 @@ pub fn serve(
     }
     let client = scheduler.client.get();
     let token = token(&scheduler.auth);
-    let question = asked(alloc, bytes, peer, client, token)?;
+    let question = match asked(alloc, bytes, peer, client, token) {
+        Ok(question) => question,
+        Err(error) => return Err(FarmFault::from(want_of_memory(error))),
+    };
     let Asked { what, json } = question;
     serve_asked(alloc, state, number, event, json, what)
 }

@@ -5,20 +5,20 @@ ghost use Rattle.sched_core.specs.Rule.{is_among, begins};
 ghost use Rattle.farm.specs.Next.{commit_response, continued};
 ghost use Rattle.farm.specs.Farm.{with_core};
 ghost use Rattle.dist_http.specs.Calls.{IsAssigned};
-ghost use Rattle.farm.specs.declared.fault.FarmFault.TheVariants as fault;
+ghost use Rattle.farm_script.specs.declared.fault.FarmFault.TheVariants as fault;
 
 use crate::entry::Entry;
-use crate::event::Event;
-use crate::fault::FarmFault;
-use crate::replies::to_allocation;
+use crate::replies::{dropped, to_allocation, to_fault, want_of_memory};
 use crate::serve::{last_copy, reply};
 use crate::waiting::Waiting;
 use dist_http::calls::assigned;
-use dist_http::fault::{RouteFault, dropped_text, fault_response};
+use dist_http::fault::RouteFault;
 use dist_http::reply::Response;
 use dist_token::job_token::JWTJobAuthorizer;
 use dist_types::outgoing::CallFault;
 use dist_types::results::{AllocJobResult, AssignJobResult};
+use farm_script::event::Event;
+use farm_script::fault::FarmFault;
 use sched_core::answers::Committed;
 use sched_core::state::SchedState;
 use std::alloc::Global;
@@ -30,8 +30,10 @@ pub fn outcome(alloc: Global, reply: &[u8]) -> Result<Result<AssignJobResult, Ca
     ensures begins { IfOk result (λ r. IfOk r (λ a. begins a.state ≡ true)) }
     ensures err { IfErr result (λ e. e ≡ fault.Memory) }
 {
-    let assigned = assigned(alloc, reply)?;
-    Ok(assigned)
+    match assigned(alloc, reply) {
+        Ok(outcome) => Ok(outcome),
+        Err(error) => Err(FarmFault::from(want_of_memory(error))),
+    }
 }
 
 /// The reply to who asked for a job, by what became of the commit.
@@ -54,12 +56,12 @@ fn told(
             Ok(response)
         }
         Committed::Dropped(job) => {
-            let msg = dropped_text(alloc, job)?;
+            let msg = dropped(alloc, job)?;
             let response = to_allocation(alloc, json, AllocJobResult::Fail { msg })?;
             Ok(response)
         }
         Committed::Foreign(job) => {
-            let msg = dropped_text(alloc, job)?;
+            let msg = dropped(alloc, job)?;
             let response = to_allocation(alloc, json, AllocJobResult::Fail { msg })?;
             Ok(response)
         }
@@ -109,7 +111,7 @@ fn undo(
     } = waiting;
     let undone = state.undo(event.at, reservation);
     let core = last_copy(alloc, state.history())?;
-    let response = fault_response(alloc, &RouteFault::AssignFailed(undone, cause))?;
+    let response = to_fault(alloc, &RouteFault::AssignFailed(undone, cause))?;
     let reply = reply(alloc, call, &response)?;
     Ok(Entry::replied(event, Some(core), reply))
 }

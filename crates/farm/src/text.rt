@@ -5,10 +5,10 @@ ghost use Rattle.farm.specs.Printed.{numbers_text, jobs_text, number_text, hex_t
 ghost use Rattle.sched_core.specs.Rows.{held_part};
 
 use crate::entry::{EntryWord, HeardAs, OutCall, Reply, Step, StepKind};
-use crate::event::EventKind;
 use dist_types::ids::JobId;
 use dist_types::results::JobState;
 use dist_types::toolchain::Toolchain;
+use farm_script::event::EventKind;
 use sched_core::entry::{CoreEntry, CoreKind, Reserved, UpdateAnswer};
 use sched_core::rows::{JobRow, ServerRow};
 use std::{fmt, str};

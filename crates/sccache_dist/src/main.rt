@@ -1,17 +1,17 @@
-//! The program `sccache-dist`: it makes the real objects, and all that it does is in `dist_main`.
+//! The program `sccache-dist`: it makes the real objects, and all that it does is in `run_command_line`.
 #![tactic(auto)]
 
 use dist_types::sink::StdSink;
 use dist_types::source::StdSource;
-use farm::command::dist_main;
+use farm::command::run_command_line;
+use std::env;
 use std::process::ExitCode;
-use std::{env, io};
 
-fn main(rt: HostRuntime) -> io::Result<ExitCode> {
-    let words: Vec<String> = env::args(&rt)?.collect(rt.alloc())?;
+fn main(rt: HostRuntime) -> ExitCode {
+    let words = env::args(&rt);
     let mut input = StdSource::new(rt.stdin());
     let mut out = StdSink::new(rt.stdout());
     let mut errs = StdSink::new(rt.stderr());
-    let status = dist_main(rt.alloc(), &words, &mut input, &mut out, &mut errs);
-    Ok(ExitCode::from(status))
+    let status = run_command_line(rt.alloc(), words, &mut input, &mut out, &mut errs);
+    ExitCode::from(status)
 }

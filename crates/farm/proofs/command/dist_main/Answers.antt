@@ -1,19 +1,30 @@
-use Rattle.std.proofs.Common.{map, string_bytes}
-use Rattle.farm.proofs.ExactLemmas.{exact_faulty, exact_faultless, printed_said, begun_said}
+use Rattle.farm.proofs.CommandLemmas.{answered, statuses_of, faulty_of, faultless_of, left_of, order_of, counts_of, no_command_of}
 use Rattle.farm.proofs.command.dist_main.Goals as goal
 
+-- what was done, reported
+told : goal.returns-clause-answered
+told g c = answered c.run_words-done.result c.report.result _ _ _ c.run_words-done.ensures.done c.report.ensures.reported
+
+pub returns-clause-answered : goal.returns-clause-answered
+returns-clause-answered g c = told g c
+
+pub returns-clause-statuses : goal.returns-clause-statuses
+returns-clause-statuses g c = statuses_of c.report.result _ _ _ (told g c)
+
 pub returns-clause-faulty : goal.returns-clause-faulty
-returns-clause-faulty g c = exact_faulty (g.S.Source.left c.args.input.now) (map string_bytes c.args.words.now) c.run_and_tell.result c.run_and_tell.ensures.exact
+returns-clause-faulty g c = faulty_of c.report.result _ _ _ (told g c)
 
 pub returns-clause-faultless : goal.returns-clause-faultless
-returns-clause-faultless g c = exact_faultless (g.S.Source.left c.args.input.now) (map string_bytes c.args.words.now) c.run_and_tell.result c.run_and_tell.ensures.exact
+returns-clause-faultless g c = faultless_of c.report.result _ _ _ (told g c)
 
-pub returns-clause-printed : goal.returns-clause-printed
-returns-clause-printed g c = λ e.
-    let h = c.run_and_tell.ensures.printed e in
-    (printed_said (g.S.Source.left c.args.input.now) (g.K.Sink.held c.args.out.now) (g.K.Sink.held c.run_and_tell.new.out) h.0, h.1)
+pub returns-clause-left : goal.returns-clause-left
+returns-clause-left g c = left_of c.report.result _ _ _ (told g c)
 
-pub returns-clause-write_fault : goal.returns-clause-write_fault
-returns-clause-write_fault g c = λ e.
-    let h = c.run_and_tell.ensures.write_fault e in
-    (h.0, begun_said (g.S.Source.left c.args.input.now) (g.K.Sink.held c.args.out.now) (g.K.Sink.held c.run_and_tell.new.out) h.1)
+pub returns-clause-order : goal.returns-clause-order
+returns-clause-order g c = order_of c.report.result _ _ _ (told g c)
+
+pub returns-clause-counts : goal.returns-clause-counts
+returns-clause-counts g c = counts_of c.report.result _ _ _ (told g c)
+
+pub returns-clause-no_command : goal.returns-clause-no_command
+returns-clause-no_command g c = no_command_of c.report.result _ _ _ (told g c)

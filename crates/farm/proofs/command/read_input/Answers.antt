@@ -1,4 +1,4 @@
-use Rattle.farm.proofs.LimitLemmas.{read_enough}
+use Rattle.farm_script.proofs.LimitLemmas.{read_enough}
 use Rattle.farm.proofs.command.read_input.Goals as goal
 
 pub returns-in-Ok-clause-ok : goal.returns-in-Ok-clause-ok

@@ -1,7 +1,7 @@
 use Rattle.std.proofs.Common.{◌≡◌, true, false, Some, refl, rules}
 use Rattle.farm.specs.Calls.{call_at}
 use Rattle.farm.specs.Next.{is_inside}
-use Rattle.farm.specs.declared.event.EventKind.TheVariants.{Answer}
+use Rattle.farm_script.specs.declared.event.EventKind.TheVariants.{Answer}
 use Rattle.farm.proofs.MadeLemmas.{settling_ok, settling_void}
 use Rattle.farm.proofs.run.answer.Goals as goal
 

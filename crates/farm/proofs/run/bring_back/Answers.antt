@@ -1,6 +1,6 @@
 use Rattle.std.proofs.Common.{◌≡◌, Some, None, refl, rules}
 use Rattle.farm.specs.Calls.{delivery_at}
-use Rattle.farm.specs.declared.event.EventKind.TheVariants.{Return}
+use Rattle.farm_script.specs.declared.event.EventKind.TheVariants.{Return}
 use Rattle.farm.proofs.MadeLemmas.{settling_ok, settling_void}
 use Rattle.farm.proofs.run.bring_back.Goals as goal
 

@@ -1,6 +1,6 @@
 use Rattle.std.proofs.Common.{None, Err, refl}
 use Rattle.dist_types.specs.declared.outgoing.CallFault.TheVariants.{Lost}
-use Rattle.farm.specs.declared.event.EventKind.TheVariants.{Fail}
+use Rattle.farm_script.specs.declared.event.EventKind.TheVariants.{Fail}
 use Rattle.farm.proofs.MadeLemmas.{settling_ok}
 use Rattle.farm.proofs.run.fail.Goals as goal
 

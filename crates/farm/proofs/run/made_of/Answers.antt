@@ -1,5 +1,5 @@
 use Rattle.std.proofs.Common.{refl}
-use Rattle.farm.specs.declared.event.EventKind.TheVariants.{Beat, Restart}
+use Rattle.farm_script.specs.declared.event.EventKind.TheVariants.{Beat, Restart}
 use Rattle.farm.proofs.MadeLemmas.{void_made}
 use Rattle.farm.proofs.run.made_of.Goals as goal
 

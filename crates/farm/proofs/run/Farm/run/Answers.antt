@@ -1,7 +1,7 @@
 use Rattle.std.proofs.Common.{◌≡◌, ◌+◌, ◌++◌, ◌∷◌, [], take, ap, ◌∙◌, sym}
 use Rattle.std.proofs.lemmas.List.{take_more}
 use Rattle.std.proofs.lemmas.Result.{err_from_is_err_and}
-use Rattle.farm.proofs.RunLemmas.{Runs-push, Runs-entries}
+use Rattle.farm.proofs.RunLemmas.{Runs-push, Runs-entries, Runs-lawful}
 use Rattle.farm.proofs.run.Farm.run.Goals as goal
 
 pub loop-event-preserved : goal.loop-event-preserved
@@ -18,4 +18,12 @@ returns-in_err-farm-clause-err c =
       c.loop-event.event-index,
       c.loop-event-test.true,
       Runs-entries c.args.self (take c.loop-event.event-index c.args.events.now) c.loop-event.farm c.in_err-farm.field-0.0.entries c.loop-event.invariant c.in_err-farm.ensures.err,
+    )
+
+pub returns-in_err-farm-clause-stopped_laws : goal.returns-in_err-farm-clause-stopped_laws
+returns-in_err-farm-clause-stopped_laws c =
+    let p = err_from_is_err_and c.from_residual.result c.from_residual.ensures.1 in
+    rw (p.1, p.2) (
+      Runs-lawful c.args.self (take c.loop-event.event-index c.args.events.now) c.loop-event.farm c.in_err-farm.field-0.0.entries c.loop-event.invariant c.in_err-farm.ensures.err
+          c.in_err-farm.ensures.laws
     )

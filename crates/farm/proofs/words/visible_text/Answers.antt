@@ -1,5 +1,0 @@
-use Rattle.farm.proofs.VisibleLemmas.{IsUtf8-visible}
-use Rattle.farm.proofs.words.visible_text.Goals as goal
-
-pub unreachable-requires : goal.unreachable-requires
-unreachable-requires c = c.in-Err.ensures.cases.0 (IsUtf8-visible c.args.word.now c.requires)

@@ -1,0 +1,11 @@
+pub mod BuiltLemmas
+pub mod DigitLemmas
+pub mod FieldLemmas
+pub mod FirstFaultyLemmas
+pub mod LimitLemmas
+pub mod LineLemmas
+pub mod PieceLemmas
+pub mod ScriptLemmas
+pub mod SpelledLemmas
+pub mod VisibleLemmas
+pub mod WordLemmas

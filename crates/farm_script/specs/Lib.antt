@@ -1,0 +1,11 @@
+pub mod Built
+pub mod Fields
+pub mod FirstFaulty
+pub mod Grammar
+pub mod Lines
+pub mod Pieces
+pub mod Reading
+pub mod Script
+pub mod Spelled
+pub mod Texts
+pub mod Words
