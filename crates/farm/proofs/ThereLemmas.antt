@@ -12,7 +12,7 @@ use Rattle.dist_http.specs.declared.route.SchedRouted.TheVariants.{Done}
 use Rattle.dist_http.specs.Asked.{IsAsked}
 use Rattle.dist_http.specs.Calls.{told_by, assigned_by, IsAssigned}
 use Rattle.dist_http.specs.Fault.{reply_of}
-use Rattle.dist_http.specs.Head.{IsNoRequest, IsNoReply}
+use Rattle.http_head.specs.Head.{IsNoRequest, IsNoReply}
 use Rattle.dist_http.specs.Route.{question_of}
 use Rattle.farm_script.specs.declared.setup.SetupScheduler.{SetupScheduler}
 use Rattle.farm_script.specs.declared.event.Event.{Event}
