@@ -18,13 +18,15 @@ two_rows : (P Q : Asked → Type 0) (old mid new : Option (List Asked)) → Gain
 two_rows P Q None mid new first second = tt
 two_rows P Q (Some rows) mid new (a, e, p) second =
     let then : Gained Q (Some (rows ++ a ∷ [])) new = subst (λ m. Gained Q m new) e second in
-    (a, then.0, then.1 ∙ ap (λ (xs : List Asked). Some xs) (append_assoc rows (a ∷ []) (then.0 ∷ [])), p, then.2)
+    let joined = ap (λ (xs : List Asked). Some xs) (append_assoc rows (a ∷ []) (then.0 ∷ [])) in
+    (a, then.0, then.1 ∙ joined, p, then.2)
 
-pub told_twice : (job : ℕ) (first second : JobState) (a b : Result UpdateJobStateResult CallFault) (old new : Lent)
-    → CallsTwice IsTold job first second a b old new → a ≢ Err Memory → b ≢ Err Memory
+pub told_twice : (job : ℕ) (first second : JobState) (a b : Result UpdateJobStateResult CallFault)
+    (old new : Lent) → CallsTwice IsTold job first second a b old new → a ≢ Err Memory → b ≢ Err Memory
     → ToldTwice old.peer job first second a b old.asked new.asked
 told_twice job first second a b old new (between, one, other) heard answered =
     let s : Sends (IsTold old.peer (updated_row job first a)) old between = one.sent heard in
     let t : Sends (IsTold old.peer (updated_row job second b)) between new =
     subst (λ p. Sends (IsTold p (updated_row job second b)) between new) s.same_peer (other.sent answered) in
-    two_rows (IsTold old.peer (updated_row job first a)) (IsTold old.peer (updated_row job second b)) old.asked between.asked new.asked s.one t.one
+    two_rows (IsTold old.peer (updated_row job first a)) (IsTold old.peer (updated_row job second b))
+    old.asked between.asked new.asked s.one t.one

@@ -26,7 +26,8 @@ answer_heard (Ok reply) = answer_in reply
 answer_heard (Err Failed) = Err Lost
 answer_heard (Err Memory) = Err OutOfMemory
 
--- the dialer's row is the call of that row: its request to the peer under the peer's token, and what the reply says
+-- the dialer's row is the call of that row: its request to the peer under the peer's token, and what the
+-- reply says
 pub record IsTold (peer : Peer) (row : Updated) (a : Asked) : Type 0 where
   pub host : a.host ≡ peer.host
   pub port : a.port ≡ peer.port

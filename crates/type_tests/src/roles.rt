@@ -32,8 +32,10 @@ struct MemServers {
 
 impl SchedulerOutgoing for MemServers {
     ghost use Rattle.std.specs.Prelude.{Some, map};
+    ghost use Rattle.dist_types.specs.Outgoing.{assigned_row};
 
-    ghost assigned = { λ s. Some (map (λ r. record { server = r.server; job = r.job.0; toolchain = r.toolchain; token = r.token; answer = r.answer }) s.rows.items) };
+    ghost assigned = { λ s.
+        Some (map (λ r. assigned_row r.server r.job.0 r.toolchain r.token r.answer) s.rows.items) };
 
     ghost faults = { λ s. s.faults };
 
@@ -114,8 +116,9 @@ struct MemScheduler {
 
 impl ServerOutgoing for MemScheduler {
     ghost use Rattle.std.specs.Prelude.{Some, map};
+    ghost use Rattle.dist_types.specs.Outgoing.{updated_row};
 
-    ghost updated = { λ s. Some (map (λ r. record { job = r.job.0; state = r.state; answer = r.answer }) s.rows.items) };
+    ghost updated = { λ s. Some (map (λ r. updated_row r.job.0 r.state r.answer) s.rows.items) };
 
     ghost faults = { λ s. s.faults };
 
