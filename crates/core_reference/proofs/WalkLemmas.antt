@@ -1,7 +1,7 @@
 -- Walks over a list: what the steps so far have made, with one more.
-use Rattle.std.proofs.Common.{◌≡◌, ℕ, ◌+◌, ◌<◌, ◌≤◌, zero, suc, List, [], ◌∷◌, ◌++◌, Bool, true, false, cond, ◌||◌, map, filter, length, take, drop, get_or, Option, Some, None, refl, ap, ◌∙◌, sym, arith, append-nil, append_assoc, unwrap_or}
-use Rattle.std.specs.Prelude.{option_to_list, option_and_then, count_by, if◌then◌else◌}
-use Rattle.std.specs.List.{filter_map, cons_option, list_any}
+use Rattle.std.proofs.Common.{◌≡◌, ℕ, ◌+◌, ◌<◌, ◌≤◌, zero, suc, List, [], ◌∷◌, ◌++◌, Bool, true, false, cond, map, filter, length, take, drop, get_or, Option, Some, None, refl, ap, ◌∙◌, sym, arith, append-nil, append_assoc, unwrap_or}
+use Rattle.std.specs.Prelude.{option_to_list, option_and_then, if◌then◌else◌}
+use Rattle.std.specs.List.{filter_map, cons_option}
 use Rattle.std.proofs.lemmas.List.{take_all, take_more, map-append}
 use Rattle.std.proofs.lemmas.List.Elements.{filter-append, filter_map-append}
 use Rattle.sched_core.specs.Cuts.{Cut, cuts, cuts_behind, lasting}

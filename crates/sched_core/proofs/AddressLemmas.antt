@@ -1,7 +1,7 @@
 -- In each legal log an address has at most one registration that stands.
-use Rattle.std.proofs.Common.{◌≡◌, ◌≢◌, ℕ, ◌+◌, ◌<◌, List, [], ◌∷◌, ◌++◌, Bool, true, false, cond, not, ◌&&◌, ◌||◌, map, filter, length, Option, Some, None, refl, ap, ◌∙◌, sym, subst, arith, append-nil, eq-eqb, eqb-true}
+use Rattle.std.proofs.Common.{◌≡◌, ◌≢◌, ℕ, List, [], ◌∷◌, ◌++◌, Bool, true, false, cond, not, ◌||◌, map, filter, length, Option, Some, None, refl, ap, ◌∙◌, sym, subst, append-nil, eq-eqb, eqb-true}
 use Rattle.std.specs.Prelude.{◌==◌, option_to_list, if◌then◌else◌, nat_eq}
-use Rattle.std.specs.List.{AllByRecursion, list_any, find}
+use Rattle.std.specs.List.{AllByRecursion, list_any}
 use Rattle.std.specs.Option.{option_map}
 use Rattle.std.specs.Cmp.Lexicographic.{pointwise, same_text}
 use Rattle.std.proofs.lemmas.Bool.{false≢true}
@@ -10,7 +10,7 @@ use Rattle.std.proofs.lemmas.List.{map-append}
 use Rattle.dist_types.specs.declared.addr.Addr.{Addr}
 use Rattle.dist_types.specs.declared.addr.Addr.TheVariants.{V4, V6}
 use Rattle.dist_types.specs.Addr.{same_addr}
-use Rattle.sched_core.proofs.Lists.{map-map, map-same, map-option, end_cut}
+use Rattle.sched_core.proofs.Lists.{map-map, map-same, end_cut}
 use Rattle.sched_core.specs.declared.entry.CoreEntry.{CoreEntry}
 use Rattle.sched_core.specs.declared.entry.CoreKind.{CoreKind}
 use Rattle.sched_core.specs.declared.entry.CoreKind.TheVariants.{Beat, Reserve, Commit, Undo, Update, Status}
@@ -26,7 +26,7 @@ use Rattle.sched_core.proofs.Lists.{list_any-map}
 use Rattle.sched_core.proofs.StandingLemmas.{standing-push}
 use Rattle.sched_core.proofs.AllLemmas.{both, and_left, and_right, or_left, or_right, or_true, not_true, not_false, true_false, is_false, all-weaker, all-both, all-filter, all-map, all-unmap}
 use Rattle.sched_core.proofs.RisingLemmas.{different-filter, different-push}
-use Rattle.sched_core.proofs.FactLemmas.{Facts, BeatFacts, facts}
+use Rattle.sched_core.proofs.FactLemmas.{Facts, facts}
 
 -- the test on addresses is equality
 

@@ -1,6 +1,6 @@
 -- The books after one more legal entry are those of the longer log, and there is room for what spends the reservations.
-use Rattle.std.proofs.Common.{◌≡◌, ℕ, ◌+◌, ◌^◌, ◌<◌, ◌≤◌, List, [], ◌∷◌, ◌++◌, Bool, true, false, cond, not, ◌||◌, map, filter, length, Option, Some, None, refl, ap, ◌∙◌, sym, subst, arith, append-nil, length-append, eq-eqb, eqb-true}
-use Rattle.std.specs.Prelude.{◌==◌, option_to_list, vec_len, vec_capacity}
+use Rattle.std.proofs.Common.{◌≡◌, ℕ, ◌+◌, ◌^◌, ◌<◌, ◌≤◌, List, [], ◌∷◌, ◌++◌, Bool, true, false, cond, not, ◌||◌, map, filter, length, Option, Some, None, refl, ap, ◌∙◌, sym, subst, arith, append-nil, length-append}
+use Rattle.std.specs.Prelude.{◌==◌, option_to_list}
 use Rattle.std.specs.List.{list_any}
 use Rattle.std.proofs.lemmas.Bool.{false≢true}
 use Rattle.std.proofs.lemmas.List.{length-map}
@@ -9,16 +9,14 @@ use Rattle.sched_core.specs.declared.entry.CoreEntry.{CoreEntry}
 use Rattle.sched_core.specs.declared.entry.CoreKind.{CoreKind}
 use Rattle.sched_core.specs.declared.entry.CoreKind.TheVariants.{Beat, Reserve, Commit, Undo, Update, Status}
 use Rattle.sched_core.specs.declared.entry.Reserved.TheVariants.{Job, NoRoom, Spent}
-use Rattle.sched_core.specs.declared.rows.OpenRow.{OpenRow}
 use Rattle.sched_core.specs.declared.books.UnspentRow.{UnspentRow}
 use Rattle.sched_core.specs.declared.books.Books.{Books}
 use Rattle.sched_core.specs.Log.{Core, same_job}
-use Rattle.sched_core.specs.Reservation.{booked_by, bookings, spends_by}
+use Rattle.sched_core.specs.Reservation.{booked_by, bookings}
 use Rattle.sched_core.specs.Rows.{servers_of}
 use Rattle.sched_core.specs.Reservation.{is_booked}
 use Rattle.sched_core.specs.Laws.{IsRule, IsLegal}
 use Rattle.sched_core.specs.Books.{AreBooks, key_stays, key_by, one_more_if, unspent_stays, unspent_by, job_by, open_by, rows_next, held_next, jobs_next, open_next, unspent_next, made_next, SpendsOne}
-use Rattle.sched_core.proofs.AllLemmas.{same_job-sym}
 use Rattle.sched_core.proofs.StandingLemmas.{keys-absorb}
 use Rattle.sched_core.proofs.StepLemmas as step
 use Rattle.sched_core.proofs.LegalLemmas.{core_of, legal-push}

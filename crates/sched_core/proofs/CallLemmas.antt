@@ -1,6 +1,6 @@
 -- Over a legal log an entry of the core rule is that of one call alone.
-use Rattle.std.proofs.Common.{◌≡◌, ℕ, ◌<◌, ◌^◌, List, Bool, true, false, Option, Some, refl, ap, ◌∙◌, sym, eqb-true}
-use Rattle.std.specs.Prelude.{◌==◌, ◌&&◌, find}
+use Rattle.std.proofs.Common.{◌≡◌, ℕ, ◌<◌, ◌^◌, List, Bool, true, Some, refl, ap, ◌∙◌, eqb-true}
+use Rattle.std.specs.Prelude.{◌==◌, ◌&&◌}
 use Rattle.std.specs.List.{AllByRecursion, list_any}
 use Rattle.std.specs.Option.{option_map}
 use Rattle.std.proofs.lemmas.Bool.{and_parts}
@@ -8,7 +8,7 @@ use Rattle.dist_types.specs.declared.ids.JobId.{JobId}
 use Rattle.sched_core.specs.declared.entry.CoreEntry.{CoreEntry}
 use Rattle.sched_core.specs.declared.call.Call.{Call}
 use Rattle.sched_core.specs.declared.call.Call.TheVariants as call
-use Rattle.sched_core.specs.Log.{Core, same_job}
+use Rattle.sched_core.specs.Log.{same_job}
 use Rattle.sched_core.specs.Reservation.{Booking, bookings, is_unspent, unspent}
 use Rattle.sched_core.specs.Rule.{rule, IsCall, is_among}
 use Rattle.sched_core.specs.Calls.{number_of, call_of}

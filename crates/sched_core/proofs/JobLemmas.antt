@@ -1,7 +1,7 @@
 -- In each legal log the rows of the unended reservations have rising ids, and are all of them.
-use Rattle.std.proofs.Common.{◌≡◌, ℕ, ◌<◌, ◌≤◌, ◌^◌, List, [], ◌∷◌, ◌++◌, Bool, true, false, cond, map, filter, length, Option, Some, None, refl, ap, ◌∙◌, sym, subst, arith, append-nil, eq-eqb, eqb-true}
+use Rattle.std.proofs.Common.{◌≡◌, ℕ, ◌<◌, ◌≤◌, ◌^◌, List, [], ◌∷◌, ◌++◌, Bool, true, false, cond, map, length, Some, refl, ap, ◌∙◌, sym, subst, arith, append-nil, eq-eqb, eqb-true}
 use Rattle.std.specs.Prelude.{◌==◌, nat_lt, unwrap_or}
-use Rattle.std.specs.List.{AllByRecursion, list_any, filter_map, cons_option}
+use Rattle.std.specs.List.{AllByRecursion, filter_map, cons_option}
 use Rattle.std.specs.List.Sorted.{IsPermutation}
 use Rattle.std.specs.Option.{option_map}
 use Rattle.std.proofs.lemmas.List.{length-map}
@@ -18,7 +18,7 @@ use Rattle.sched_core.specs.Standing.{Registered, standing, address_of}
 use Rattle.sched_core.specs.Reservation.{Booking, bookings, is_unended, unended}
 use Rattle.sched_core.specs.Rows.{placed, sorted_into, held_of, held_rows, held_by_id, job_at, jobs_of, job_row}
 use Rattle.sched_core.specs.Laws.{IsLegal, AreDistinct, AreRising, AreJobRows, HasStanding}
-use Rattle.sched_core.proofs.AllLemmas.{is_false, true_false, other_job-sym, all-weaker, all-both, all-map, all-unmap, found, distinct-filter}
+use Rattle.sched_core.proofs.AllLemmas.{true_false, other_job-sym, all-weaker, all-both, all-map, all-unmap, found, distinct-filter}
 use Rattle.sched_core.proofs.RoomLemmas.{lt_true, lt_false}
 use Rattle.sched_core.proofs.SortLemmas.{all-placed, sorted-all, sorted-map}
 use Rattle.sched_core.proofs.SoundLemmas.{legal_distinct}

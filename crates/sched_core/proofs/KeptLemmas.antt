@@ -1,7 +1,7 @@
 -- What one more entry does to the rows of reservations and open jobs.
-use Rattle.std.proofs.Common.{◌≡◌, ℕ, ◌+◌, ◌^◌, ◌<◌, List, [], ◌∷◌, ◌++◌, Bool, true, false, cond, not, ◌&&◌, ◌||◌, map, filter, length, Option, Some, None, refl, ap, ◌∙◌, sym, subst, append-nil, eq-eqb, eqb-true}
+use Rattle.std.proofs.Common.{◌≡◌, ℕ, List, [], ◌∷◌, ◌++◌, Bool, true, false, not, ◌&&◌, map, filter, length, Option, Some, None, refl, ap, ◌∙◌, sym, subst, append-nil, eqb-true}
 use Rattle.std.specs.Prelude.{◌==◌, option_to_list, option_and_then, unwrap_or}
-use Rattle.std.specs.List.{AllByRecursion, list_any, filter_map, find}
+use Rattle.std.specs.List.{AllByRecursion, list_any, find}
 use Rattle.std.specs.Option.{option_map}
 use Rattle.std.proofs.lemmas.Bool.{false≢true}
 use Rattle.std.proofs.lemmas.List.{map-append}
@@ -10,7 +10,7 @@ use Rattle.dist_types.specs.declared.addr.Addr.{Addr}
 use Rattle.dist_types.specs.declared.ids.JobId.{JobId}
 use Rattle.dist_types.specs.declared.results.JobState.{JobState}
 use Rattle.dist_types.specs.declared.results.JobState.TheVariants.{Pending, Ready, Started, Complete}
-use Rattle.sched_core.proofs.Lists.{map-map, filter-map, filter-filter, list_any-push, cons_nil, map-option, end_cut, Grows, lasting-push}
+use Rattle.sched_core.proofs.Lists.{map-map, filter-map, filter-filter, list_any-push, cons_nil, map-option, Grows, lasting-push}
 use Rattle.sched_core.specs.declared.entry.CoreEntry.{CoreEntry}
 use Rattle.sched_core.specs.declared.entry.CoreKind.{CoreKind}
 use Rattle.sched_core.specs.declared.entry.CoreKind.TheVariants.{Beat, Reserve, Commit, Undo, Update, Status}
@@ -20,20 +20,20 @@ use Rattle.sched_core.specs.declared.rows.HeldRow.{HeldRow}
 use Rattle.sched_core.specs.declared.rows.JobRow.{JobRow}
 use Rattle.sched_core.specs.declared.rows.OpenRow.{OpenRow}
 use Rattle.sched_core.specs.declared.books.UnspentRow.{UnspentRow}
-use Rattle.sched_core.specs.Log.{Core, same_job, is_this, names, newer, latest}
+use Rattle.sched_core.specs.Log.{same_job, is_this, names, newer, latest}
 use Rattle.sched_core.specs.Standing.{standing, address_of, key_at}
-use Rattle.sched_core.specs.Reservation.{Booking, booked_by, booked_at, is_unended, unended, unspent, claims_by, is_claimed, is_complete, spends_by, frees_by}
+use Rattle.sched_core.specs.Reservation.{Booking, booked_by, booked_at, is_unended, unended, unspent, claims_by, is_claimed, spends_by, frees_by}
 use Rattle.sched_core.specs.Job.{Committed, committed_by, committed_at, commits, moves_by, moves_of, state_now, state_of, is_open, open_jobs, place_of}
 use Rattle.sched_core.specs.Rows.{row_of, servers_of, held_of, held_rows, placed, sorted_into, held_by_id, held_part, open_of, open_rows}
 use Rattle.sched_core.specs.Cuts.{seen}
-use Rattle.sched_core.specs.Rule.{is_among, begins, place_at}
+use Rattle.sched_core.specs.Rule.{begins, place_at}
 use Rattle.sched_core.specs.Books.{begins_by, state_after, held_stays, held_after, held_by, job_stays, job_after, job_over, job_by, job_placed, open_stays, open_after, open_over, open_by, unspent_stays, unspent_by, place_of_unspent, place_of_booking, IsAtRow}
 use Rattle.sched_core.proofs.StandingLemmas.{none-push}
 use Rattle.sched_core.proofs.Lists.{list_any-map, latest-push}
 use Rattle.sched_core.proofs.AllLemmas.{same_job-eq, all-weaker, all-both, all-append, all-filter, all-map, all-unmap, and_right, any-weaker, found}
 use Rattle.sched_core.proofs.StepLemmas as step
-use Rattle.sched_core.proofs.FactLemmas.{Facts, SpendFacts, pick_there}
-use Rattle.sched_core.proofs.HeldLemmas.{Sound, IsPast, IsHeldAt, is_this-eq}
+use Rattle.sched_core.proofs.FactLemmas.{Facts}
+use Rattle.sched_core.proofs.HeldLemmas.{Sound, IsHeldAt, is_this-eq}
 use Rattle.sched_core.proofs.LegalLemmas.{core_of}
 use Rattle.sched_core.proofs.GrowLemmas.{newest-grown, and_true, map-agree, map-all_agree}
 use Rattle.sched_core.proofs.SortLemmas.{sorted-push, map-placed, sorted-map, sorted-filter, all-placed, sorted-all, sorted-any, found_first}

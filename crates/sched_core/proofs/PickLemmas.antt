@@ -1,10 +1,9 @@
 -- In each legal log each reserve goes to the first of the registrations with room: the lightest without a remembered error, else that whose error is oldest, and of equals that of the least number.
-use Rattle.std.proofs.Common.{◌≡◌, ℕ, ◌*◌, ◌<◌, ◌≤◌, ◌^◌, List, [], ◌∷◌, ◌++◌, Bool, true, false, cond, map, filter, length, Option, Some, None, refl, ap, ◌∙◌, sym, subst, arith, eqb-true}
+use Rattle.std.proofs.Common.{◌≡◌, ℕ, ◌*◌, ◌<◌, ◌≤◌, ◌^◌, List, [], ◌∷◌, ◌++◌, Bool, true, false, cond, map, filter, Option, Some, None, refl, ap, ◌∙◌, sym, subst, arith}
 use Rattle.std.specs.Prelude.{◌==◌, unwrap_or}
 use Rattle.std.specs.List.{AllByRecursion, list_any, best_of}
 use Rattle.std.proofs.Math.Nat.{mul-lt-mul_of_pos_right, lt_of_mul-lt-mul_right}
 use Rattle.std.proofs.lemmas.Nat.{mul-le}
-use Rattle.std.proofs.lemmas.Bool.{false≢true}
 use Rattle.sched_core.specs.Cuts.{cuts}
 use Rattle.sched_core.proofs.Lists.{map-map, followed, cuts_behind-push, end_cut}
 use Rattle.sched_core.specs.declared.entry.CoreEntry.{CoreEntry}

@@ -1,6 +1,6 @@
 -- The address and the key of a registration, and the place of a reservation: once known, they stay.
-use Rattle.std.proofs.Common.{◌≡◌, ℕ, List, [], ◌∷◌, ◌++◌, Bool, true, false, not, map, filter, length, Option, Some, None, refl, ap, ◌∙◌, sym, subst}
-use Rattle.std.specs.Prelude.{◌==◌, option_to_list}
+use Rattle.std.proofs.Common.{◌≡◌, ℕ, List, [], ◌∷◌, ◌++◌, Bool, not, map, filter, length, Option, Some, None, refl, ap, ◌∙◌, sym, subst}
+use Rattle.std.specs.Prelude.{option_to_list}
 use Rattle.std.specs.List.{AllByRecursion}
 use Rattle.std.specs.Option.{option_map}
 use Rattle.std.proofs.lemmas.Option.{cond_some}
@@ -16,7 +16,7 @@ use Rattle.sched_core.specs.Rule.{place_at}
 use Rattle.sched_core.proofs.StandingLemmas.{grown, registered-grown, standing-push}
 use Rattle.sched_core.proofs.StepLemmas as step
 use Rattle.sched_core.proofs.AllLemmas.{all-step}
-use Rattle.sched_core.proofs.GrowLemmas.{Numbered, asked-within, asked-stays, asked-new, grow_has}
+use Rattle.sched_core.proofs.GrowLemmas.{Numbered, asked-stays, asked-new, grow_has}
 
 pub registration_number : (k : CoreKind) (now : ℕ) (log : List CoreEntry) (at : CoreEntry) (g : Registered) → registered_by k now log at [] ≡ Some g → g.reg ≡ length log
 registration_number (Beat server nonce cpus key pruned reaped replaced is_new) now log at g e = let h = cond_some is_new _ _ e in ap (λ (x : Registered). x.reg) (sym h.1)

@@ -1,5 +1,5 @@
 -- Numbers that rise, and elements of which no two are equal: what a filter and one more do to them.
-use Rattle.std.proofs.Common.{◌≡◌, ◌≢◌, ℕ, ◌<◌, List, [], ◌∷◌, ◌++◌, Bool, true, false, cond, map, filter}
+use Rattle.std.proofs.Common.{◌≢◌, ℕ, ◌<◌, List, [], ◌∷◌, ◌++◌, Bool, true, false, cond, map, filter}
 use Rattle.std.specs.List.{AllByRecursion}
 use Rattle.sched_core.specs.Laws.{AreRising, AreDifferent}
 use Rattle.sched_core.proofs.AllLemmas.{all-append, all-filter, all-map, all-unmap}

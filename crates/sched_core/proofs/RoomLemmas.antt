@@ -1,16 +1,13 @@
 -- In each legal log no registration has more than its share.
-use Rattle.std.proofs.Common.{◌≡◌, ℕ, ◌+◌, ◌*◌, ◌/◌, ◌^◌, ◌<◌, ◌≤◌, List, [], ◌∷◌, ◌++◌, Bool, true, false, cond, not, ◌||◌, map, filter, length, Option, Some, None, refl, ap, ◌∙◌, sym, subst, arith, append-nil, eq-eqb, eqb-true, length-append}
+use Rattle.std.proofs.Common.{◌≡◌, ℕ, ◌+◌, ◌/◌, ◌^◌, ◌<◌, ◌≤◌, List, [], ◌∷◌, ◌++◌, Bool, true, false, cond, not, ◌||◌, map, filter, length, Option, Some, None, refl, ap, ◌∙◌, sym, subst, arith, append-nil, eq-eqb, eqb-true, length-append}
 use Rattle.std.specs.Prelude.{◌==◌, option_to_list, count_by, nat_lt}
-use Rattle.std.specs.List.{AllByRecursion, list_any, best_of}
+use Rattle.std.specs.List.{AllByRecursion, list_any}
 use Rattle.std.specs.Option.{option_map}
-use Rattle.std.proofs.Math.Nat.{mul-lt-mul_of_pos_right, lt_of_mul-lt-mul_right}
-use Rattle.std.proofs.lemmas.Nat.{mul-le}
 use Rattle.std.proofs.lemmas.Bool.Decides.{nat_tests}
 use Rattle.std.proofs.lemmas.List.{map-append}
 use Rattle.std.proofs.lemmas.List.Sums.{sum_by-cons, sum_by-append}
-use Rattle.sched_core.specs.Cuts.{cuts}
 use Rattle.dist_types.specs.declared.ids.JobId.{JobId}
-use Rattle.sched_core.proofs.Lists.{map-map, map-same, followed, cuts_behind-push, end_cut}
+use Rattle.sched_core.proofs.Lists.{map-map, map-same, end_cut}
 use Rattle.sched_core.specs.declared.entry.CoreEntry.{CoreEntry}
 use Rattle.sched_core.specs.declared.entry.CoreKind.{CoreKind}
 use Rattle.sched_core.specs.declared.entry.CoreKind.TheVariants.{Beat, Reserve, Commit, Undo, Update, Status}
@@ -20,14 +17,14 @@ use Rattle.sched_core.specs.Log.{same_job, names}
 use Rattle.sched_core.specs.Standing.{Registered, registered_by, registered_at, standing, ends_by}
 use Rattle.sched_core.specs.Reservation.{Booking, booked_by, unended, load_of}
 use Rattle.sched_core.specs.Rows.{row_of, servers_of}
-use Rattle.sched_core.specs.Pick.{pick, first_best, or_else, is_lighter, is_older, is_faultless, roomy, has_room}
+use Rattle.sched_core.specs.Pick.{has_room}
 use Rattle.sched_core.specs.Laws.{IsRule, IsLegal, AreDistinct, AreRising, IsBounded}
 use Rattle.sched_core.proofs.LegalLemmas.{core_of, legal_has}
 use Rattle.sched_core.proofs.StandingLemmas.{standing-push}
-use Rattle.sched_core.proofs.AllLemmas.{or_left, or_right, true_false, is_false, all-weaker, all-both, all-append, all-filter, all-map, all-unmap, all-step, found, distinct-push, distinct-filter, each_same, own_only}
+use Rattle.sched_core.proofs.AllLemmas.{or_left, or_right, is_false, all-weaker, all-both, all-filter, all-map, all-unmap, all-step, found, distinct-push, distinct-filter, each_same}
 use Rattle.sched_core.proofs.RisingLemmas.{rising-filter, rising-push}
 use Rattle.sched_core.proofs.StepLemmas.{bare, held, regs, booked, held_stays, held-push}
-use Rattle.sched_core.proofs.FactLemmas.{Facts, JobFacts, facts, first_has, pick_has, pick_there, all_there}
+use Rattle.sched_core.proofs.FactLemmas.{Facts, JobFacts, facts, pick_has, all_there}
 use Rattle.sched_core.proofs.HeldLemmas.{Sound, no_sound, sound-step}
 
 -- tests on numbers

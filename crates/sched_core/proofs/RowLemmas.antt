@@ -1,47 +1,41 @@
 -- What one more entry does to the rows of the registrations that stand.
 use Rattle.std.proofs.Common.{◌≡◌, ℕ, ◌+◌, ◌-◌, ◌^◌, ◌<◌, ◌≤◌, List, [], ◌∷◌, ◌++◌, Bool, true, false, cond, not, ◌&&◌, ◌||◌, map, filter, length, min, Option, Some, None, refl, ap, ◌∙◌, sym, subst, arith, eq-eqb, eqb-true, length-append}
-use Rattle.std.specs.Prelude.{◌==◌, option_to_list, option_and_then, count_by, nat_lt, find}
+use Rattle.std.specs.Prelude.{◌==◌, option_to_list, option_and_then, count_by, find}
 use Rattle.std.specs.List.{AllByRecursion, list_any, filter_map, cons_option}
 use Rattle.std.specs.Option.{option_map}
 use Rattle.std.proofs.lemmas.Bool.{false≢true}
-use Rattle.std.proofs.lemmas.List.{length-map}
 use Rattle.std.proofs.lemmas.List.Sums.{sum_by-cons, sum_by-append}
-use Rattle.sched_core.specs.Cuts.{Cut, cuts, cuts_behind, lasting}
+use Rattle.sched_core.specs.Cuts.{cuts_behind}
 use Rattle.dist_types.specs.declared.addr.Addr.{Addr}
 use Rattle.dist_types.specs.declared.ids.JobId.{JobId}
-use Rattle.sched_core.proofs.Lists.{map-map, filter-map, end_cut, followed}
+use Rattle.sched_core.proofs.Lists.{map-map, filter-map}
 use Rattle.sched_core.specs.declared.entry.CoreEntry.{CoreEntry}
 use Rattle.sched_core.specs.declared.entry.CoreKind.{CoreKind}
 use Rattle.sched_core.specs.declared.entry.CoreKind.TheVariants.{Beat, Reserve, Commit, Undo, Update, Status}
 use Rattle.sched_core.specs.declared.entry.Reserved.TheVariants.{Job, NoRoom, Spent}
-use Rattle.sched_core.specs.declared.entry.UpdateAnswer.{UpdateAnswer}
-use Rattle.sched_core.specs.declared.entry.UpdateAnswer.TheVariants.{Accepted, Unknown, Wrong, Transition}
 use Rattle.sched_core.specs.declared.rows.ServerRow.{ServerRow}
-use Rattle.sched_core.specs.declared.rows.HeldRow.{HeldRow}
 use Rattle.sched_core.specs.declared.rows.OpenRow.{OpenRow}
-use Rattle.sched_core.specs.Log.{same_job, is_this, names, newest, newer}
-use Rattle.sched_core.specs.Standing.{Registered, registered_by, registered_at, standing, stands, ends_by, renews_by, reserves_by, is_heard, serves, last_sign, address_of}
+use Rattle.sched_core.specs.Log.{same_job, is_this, newer}
+use Rattle.sched_core.specs.Standing.{Registered, registered_by, standing, renews_by, reserves_by, is_heard, serves, last_sign, address_of}
 use Rattle.sched_core.specs.Reservation.{Booking, booked_by, booked_at, bookings, unended, is_unended, load_of, frees_by}
 use Rattle.sched_core.specs.Fault.{Noted, noted_by, noted_at, notes_by, forgives_by, is_remembered, error_of}
 use Rattle.sched_core.specs.Job.{Committed, open_jobs}
 use Rattle.sched_core.specs.Rows.{row_of, servers_of, held_of, held_rows, open_of, open_rows}
 use Rattle.sched_core.specs.Cuts.{seen}
-use Rattle.sched_core.specs.Reservation.{is_booked}
 use Rattle.sched_core.specs.Prune.{at_address}
-use Rattle.sched_core.specs.Advance.{is_at, follows, advance_by, advance}
+use Rattle.sched_core.specs.Advance.{advance_by}
 use Rattle.dist_types.specs.Addr.{same_addr}
 use Rattle.sched_core.specs.declared.call.Call.{Call}
 use Rattle.sched_core.specs.declared.call.Call.TheVariants as call
 use Rattle.sched_core.specs.Rule.{rule, place_at, noted_over}
-use Rattle.sched_core.specs.Laws.{AreDistinct, IsRule, IsLegal}
+use Rattle.sched_core.specs.Laws.{IsRule, IsLegal}
 use Rattle.sched_core.specs.Books.{row_stays, place_if, served_by, freed_at, row_freed, takes_by, error_after, one_more_if, row_after, row_by}
-use Rattle.sched_core.proofs.StandingLemmas.{grown, last_sign-grown, standing-push, none-push}
+use Rattle.sched_core.proofs.StandingLemmas.{last_sign-grown, standing-push, none-push}
 use Rattle.sched_core.proofs.Lists.{list_any-map}
-use Rattle.sched_core.proofs.AllLemmas.{and_left, and_right, both, or_true, true_false, is_false, same_job-refl, same_job-eq, all-weaker, all-map, all-unmap, any-all, any-weaker, found, own_only}
+use Rattle.sched_core.proofs.AllLemmas.{and_left, and_right, both, true_false, is_false, same_job-eq, all-weaker, all-map, all-unmap, any-all, any-weaker, found, own_only}
 use Rattle.sched_core.proofs.StepLemmas as step
 use Rattle.sched_core.proofs.LegalLemmas.{core_of, legal_has}
-use Rattle.sched_core.proofs.FactLemmas.{Facts, facts}
-use Rattle.sched_core.proofs.SoundLemmas.{HasIds, jobs}
+use Rattle.sched_core.proofs.FactLemmas.{Facts}
 use Rattle.sched_core.proofs.HeldLemmas.{Sound, sound-step}
 use Rattle.sched_core.proofs.RoomLemmas.{Roomy, Fits, legal_fits, roomy-step, count-map, count_none, load_held, none_next}
 use Rattle.sched_core.proofs.GrowLemmas.{newest-grown, map-agree}

@@ -1,35 +1,26 @@
 -- What is decided over the books is what the rule gives over their log.
-use Rattle.std.proofs.Common.{◌≡◌, ℕ, ◌-◌, List, [], ◌∷◌, ◌++◌, Bool, true, false, cond, ◌&&◌, map, take, drop, filter, length, Option, Some, None, refl, ap, ◌∙◌, sym, subst, arith, eq-eqb, eqb-true}
+use Rattle.std.proofs.Common.{◌≡◌, ℕ, ◌-◌, List, [], ◌∷◌, true, false, ◌&&◌, map, Option, Some, None, refl, ap, ◌∙◌, sym, subst, eqb-true}
 use Rattle.std.specs.Prelude.{◌==◌, ◌+◌, ◌^◌, ◌%◌, option_and_then, if◌then◌else◌, Result, Ok, Err, OnOk, IfErr}
 use Rattle.std.specs.List.{AllByRecursion, list_any, filter_map, cons_option, find}
 use Rattle.std.specs.Option.{option_map}
-use Rattle.std.proofs.lemmas.Bool.{false≢true}
-use Rattle.dist_types.specs.declared.addr.Addr.{Addr}
 use Rattle.dist_types.specs.declared.ids.JobId.{JobId}
 use Rattle.dist_types.specs.declared.results.JobState.{JobState}
-use Rattle.sched_core.proofs.Lists.{map-map, map-same}
 use Rattle.sched_core.specs.declared.entry.CoreEntry.{CoreEntry}
-use Rattle.sched_core.specs.declared.entry.CoreKind.{CoreKind}
-use Rattle.sched_core.specs.declared.entry.CoreKind.TheVariants.{Reserve, Commit, Undo, Update}
 use Rattle.sched_core.specs.declared.entry.Reserved.TheVariants.{Job, Spent}
 use Rattle.sched_core.specs.declared.rows.ServerRow.{ServerRow}
 use Rattle.sched_core.specs.declared.rows.HeldRow.{HeldRow}
 use Rattle.sched_core.specs.declared.rows.JobRow.{JobRow}
-use Rattle.sched_core.specs.declared.rows.OpenRow.{OpenRow}
 use Rattle.sched_core.specs.declared.books.UnspentRow.{UnspentRow}
-use Rattle.sched_core.specs.declared.books.Books.{Books}
-use Rattle.sched_core.specs.declared.call.Call.TheVariants as call
 use Rattle.sched_core.specs.declared.entry.UpdateAnswer.{UpdateAnswer}
 use Rattle.sched_core.specs.declared.entry.UpdateAnswer.TheVariants.{Accepted, Unknown, Wrong, Transition}
 use Rattle.sched_core.specs.Log.{Core, logged, same_job}
-use Rattle.sched_core.specs.Standing.{Registered, standing, address_of, key_at}
-use Rattle.sched_core.specs.Reservation.{Booking, unspent, unended}
+use Rattle.sched_core.specs.Standing.{standing, address_of, key_at}
+use Rattle.sched_core.specs.Reservation.{unspent, unended}
 use Rattle.sched_core.specs.Rows.{row_of, servers_of, held_of, held_rows, held_by_id, held_part, job_at, jobs_of}
 use Rattle.sched_core.specs.Pick.{pick, forgiven}
 use Rattle.sched_core.specs.Answers.{Leaves, verdict}
-use Rattle.sched_core.specs.Rule.{rule, is_among, place_at, noted_over, reserved_at}
-use Rattle.sched_core.specs.Books.{AreBooks, keys_of, key_of, IsAtRow, place_of_unspent, place_of_booking}
-use Rattle.sched_core.proofs.LegalLemmas.{core_of}
+use Rattle.sched_core.specs.Rule.{is_among, place_at, reserved_at}
+use Rattle.sched_core.specs.Books.{keys_of, key_of, IsAtRow, place_of_unspent, place_of_booking}
 use Rattle.sched_core.proofs.Lists.{list_any-map}
 use Rattle.sched_core.proofs.AllLemmas.{and_left, and_right, same_job-sym, any-weaker, all-weaker, all-map}
 use Rattle.sched_core.proofs.FactLemmas.{pick_there}

@@ -1,5 +1,4 @@
-use Rattle.std.proofs.Common.{◌≡◌, ◌+◌, ◌≤◌, [], length, refl, ap, ◌∙◌, arith}
-use Rattle.std.specs.Prelude.{vec_len, vec_capacity}
+use Rattle.std.proofs.Common.{◌≡◌, [], length, refl, ap, ◌∙◌, arith}
 use Rattle.sched_core.specs.Books.{unspent_next}
 use Rattle.sched_core.proofs.LegalLemmas.{legal-push}
 use Rattle.sched_core.proofs.BookLemmas.{Absorbs, absorbed}

@@ -1,20 +1,16 @@
-use Rattle.std.proofs.Common.{◌≡◌, ◌==◌, ◌&&◌, ◌++◌, ◌∷◌, [], true, false, length, refl, ap, ◌∙◌, sym}
-use Rattle.std.specs.Prelude.{vec_len, vec_capacity, option_and_then, if◌then◌else◌}
+use Rattle.std.proofs.Common.{◌≡◌, ◌==◌, ◌&&◌, length, refl, ap, ◌∙◌, sym}
+use Rattle.std.specs.Prelude.{vec_len, vec_capacity, if◌then◌else◌}
 use Rattle.std.specs.List.{list_any}
 use Rattle.dist_types.specs.declared.ids.JobId.{JobId}
-use Rattle.sched_core.specs.declared.entry.CoreKind.TheVariants.{Commit, Undo}
+use Rattle.sched_core.specs.declared.entry.CoreKind.TheVariants.{Commit}
 use Rattle.sched_core.specs.Log.{same_job, logged}
-use Rattle.sched_core.specs.Standing.{address_of}
 use Rattle.sched_core.specs.Reservation.{unspent, unended}
-use Rattle.sched_core.specs.Rows.{servers_of}
-use Rattle.sched_core.specs.Rule.{is_among, place_at, noted_over, undo_by, commit_by}
-use Rattle.sched_core.specs.Answers.{unended_by}
+use Rattle.sched_core.specs.Rule.{is_among, commit_by}
 use Rattle.sched_core.specs.declared.answers.Committed.TheVariants as committed
-use Rattle.sched_core.specs.declared.answers.Undone.TheVariants as undone
 use Rattle.sched_core.specs.declared.call.Call.TheVariants as call
 use Rattle.sched_core.proofs.LegalLemmas.{core_of}
 use Rattle.sched_core.proofs.BookLemmas.{log_room-spent, open_room-spent}
-use Rattle.sched_core.proofs.StateLemmas.{spent_among, held_among, spent_address, spends_one}
+use Rattle.sched_core.proofs.StateLemmas.{spent_among, held_among, spends_one}
 use Rattle.sched_core.proofs.state.SchedState.commit.Goals as goal
 
 pub returns-then-not-is_unspent-clause-logged : goal.returns-then-not-is_unspent-clause-logged

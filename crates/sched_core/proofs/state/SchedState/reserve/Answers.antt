@@ -3,7 +3,6 @@ use Rattle.std.specs.Prelude.{vec_len, vec_capacity}
 use Rattle.sched_core.specs.declared.entry.CoreEntry.{CoreEntry}
 use Rattle.sched_core.specs.declared.entry.CoreKind.TheVariants.{Reserve}
 use Rattle.sched_core.specs.Laws.{IsRule}
-use Rattle.sched_core.specs.Books.{IsAtRow}
 use Rattle.sched_core.specs.declared.call.Call.TheVariants as call
 use Rattle.sched_core.proofs.LegalLemmas.{core_of}
 use Rattle.sched_core.proofs.BookLemmas.{log_room-one, open_room-one}

@@ -1,4 +1,4 @@
-use Rattle.std.proofs.Common.{◌≡◌, ◌++◌, ◌∷◌, [], length, ap, ◌∙◌, sym, subst}
+use Rattle.std.proofs.Common.{◌≡◌, length, ap, ◌∙◌, sym, subst}
 use Rattle.std.specs.Prelude.{vec_len, vec_capacity}
 use Rattle.sched_core.specs.declared.entry.CoreEntry.{CoreEntry}
 use Rattle.sched_core.specs.declared.entry.CoreKind.TheVariants.{Update}
