@@ -62,14 +62,20 @@ fn request(alloc: Global, row: &Row) -> Result<WrittenRequest, AllocError> {
     })
 }
 
+fn is_same(made: &[u8], want: &[u8]) -> bool {
+    made == want
+}
+
 fn check(rt: &impl Abort, alloc: Global, row: &Row) -> Result<(), Fail> {
     let (name, _, token, body, want) = row;
     let bytes = request(alloc, row)?.bytes(alloc)?;
-    assert_eq!(rt; bytes.get(), *want, "{name}");
+    assert!(rt; is_same(bytes.get(), want), "{name}");
     let read = read_head(alloc, bytes.get())?;
     assert_eq!(rt; read.target.get(), "/a?b=c", "{name}");
-    assert_eq!(rt; token_in(read.header("authorization")), *token, "{name}");
-    assert_eq!(rt; read.body.get(), *body, "{name}");
+    let shown = token_in(read.header("authorization")).unwrap_or("");
+    let token = token.unwrap_or("");
+    assert!(rt; is_same(shown.as_bytes(), token.as_bytes()), "{name}");
+    assert!(rt; is_same(read.body.get(), body), "{name}");
     Ok(())
 }
 
