@@ -103,7 +103,8 @@ impl fmt::Display for RouteFault {
 
 /// What went wrong, in a call that asked a server to take a job.
 fn assign_failed(alloc: Global, text: Text, call: &CallFault) -> Result<ErrJson, HttpError>
-    ensures texts { IfOk result (λ e. texts_of e ≡ text ∷ codes "POST to scheduler assign_job failed" ∷ call_text call.now ∷ []) }
+    ensures texts { IfOk result (λ e. texts_of e
+        ≡ text ∷ codes "POST to scheduler assign_job failed" ∷ call_text call.now ∷ []) }
     ensures memory { IfErr result (λ e. e ≡ HttpError.Memory) }
 {
     let call = CallText(call);

@@ -49,14 +49,16 @@ pub fn allocations_asked()
 /// Bytes ask for a heartbeat to be noted exactly where they are a request that is that heartbeat of
 /// that server.
 pub fn heartbeats_asked()
-    ensures { (bytes : List ℕ) (peer : Addr) (client token : List ℕ) (server : Addr) (m : HeartbeatServerHttpRequest) (json : Bool) → IsBytes bytes
+    ensures { (bytes : List ℕ) (peer : Addr) (client token : List ℕ) (server : Addr)
+        (m : HeartbeatServerHttpRequest) (json : Bool) → IsBytes bytes
         → IsAsked bytes peer client token (record { what = Beat server m; json = json })
         ↔ ((r : Request) × IsRequest bytes r × IsHeartbeat r peer token server m × InForm r json) }
 {}
 
 /// Bytes ask for a state of a job to be taken exactly where they are a request that tells it, of that server.
 pub fn updates_asked()
-    ensures { (bytes : List ℕ) (peer : Addr) (client token : List ℕ) (server : Addr) (job : JobId) (state : JobState) (json : Bool) → IsBytes bytes
+    ensures { (bytes : List ℕ) (peer : Addr) (client token : List ℕ) (server : Addr) (job : JobId)
+        (state : JobState) (json : Bool) → IsBytes bytes
         → IsAsked bytes peer client token (record { what = Update server job state; json = json })
         ↔ ((r : Request) × IsRequest bytes r × IsUpdate r peer token server job state × InForm r json) }
 {}
@@ -71,9 +73,11 @@ pub fn statuses_asked()
 /// A reply is known at once exactly where the bytes are a request that one test of its route refuses, in the
 /// tests' order, and it is the reply to that refusal; or they are no request, and it is the reply to a bad head.
 pub fn replies_at_once()
-    ensures { (bytes : List ℕ) (peer : Addr) (client token : List ℕ) (reply : Response) (json : Bool) → IsBytes bytes
+    ensures { (bytes : List ℕ) (peer : Addr) (client token : List ℕ) (reply : Response) (json : Bool)
+        → IsBytes bytes
         → IsAsked bytes peer client token (record { what = Done reply; json = json })
-        ↔ (((r : Request) × (refusal : HttpError) × IsRequest bytes r × IsRefused r peer client token refusal × (reply ≡ reply_of refusal) × InForm r json)
+        ↔ (((r : Request) × (refusal : HttpError) × IsRequest bytes r
+        × IsRefused r peer client token refusal × (reply ≡ reply_of refusal) × InForm r json)
         ⊎ (IsNoRequest bytes × (reply ≡ reply_of BadHead) × (json ≡ false))) }
 {}
 
@@ -81,12 +85,14 @@ pub fn replies_at_once()
 /// begins.
 pub fn replies_told<M: Message>()
     ensures { (bytes : List ℕ) (m : M) → IsBytes bytes
-        → Tells M.at bytes (Ok m) ↔ ((r : Reply) × IsReply bytes r × (r.code ≡ 200) × BeginsWith M.spells r.body m) }
+        → Tells M.at bytes (Ok m) ↔ ((r : Reply) × IsReply bytes r × (r.code ≡ 200)
+        × BeginsWith M.spells r.body m) }
 {}
 
 /// The bytes of a reply to an assignment say one thing at most.
 pub fn one_assignment()
-    ensures { (bytes : List ℕ) (a b : Result AssignJobResult CallFault) → IsAssigned bytes a → IsAssigned bytes b → a ≡ b }
+    ensures { (bytes : List ℕ) (a b : Result AssignJobResult CallFault) → IsAssigned bytes a
+        → IsAssigned bytes b → a ≡ b }
 {}
 
 /// An answer to an assignment that is taken tells a state that an assignment may tell.

@@ -139,7 +139,8 @@ pub fn prepare_response<M: Message>(
     request: &Request,
     content: &M,
 ) -> Result<Response, HttpError>
-    ensures ok { IfOk result (λ response. response ≡ response_of M.text M.json (wants_json request.now) content.now) }
+    ensures ok { IfOk result (λ response. response
+        ≡ response_of M.text M.json (wants_json request.now) content.now) }
     ensures err { IfErr result (λ e. e ≡ HttpError.Memory) }
 {
     respond(alloc, wants_json(request), content)

@@ -167,7 +167,8 @@ pub fn scheduler_route(
     client_token: &str,
     server_token: &str,
 ) -> Result<SchedRouted, HttpError>
-    ensures ok { IfOk result (λ routed. routed ≡ answered (asked_of request.now peer client_token.now server_token.now)) }
+    ensures ok { IfOk result (λ routed. routed
+        ≡ answered (asked_of request.now peer client_token.now server_token.now)) }
     ensures err { IfErr result (λ e. e ≡ HttpError.Memory) }
 {
     match asked_of(alloc, request, peer, client_token, server_token) {

@@ -16,43 +16,51 @@ use crate::server_token::{INSECURE_DIST_CLIENT_TOKEN, INSECURE_DIST_SERVER_TOKEN
 
 /// The token for a job is accepted for it under the same key.
 pub fn tokens_are_accepted()
-    ensures { (key : List ℕ) (id : ℕ) → id < 2 ^ 64 → job_verdict key id (token_text key (job_claims_text id)) ≡ Ok tt }
+    ensures { (key : List ℕ) (id : ℕ) → id < 2 ^ 64
+        → job_verdict key id (token_text key (job_claims_text id)) ≡ Ok tt }
 {}
 
 /// A text is accepted for a job exactly where it is a token for it: bytes, as every text is.
 pub fn accepted_exactly()
-    ensures { (key : List ℕ) (id : ℕ) (token : List ℕ) → IsBytes token → (job_verdict key id token ≡ Ok tt) ↔ IsTokenFor key id token }
+    ensures { (key : List ℕ) (id : ℕ) (token : List ℕ) → IsBytes token
+        → (job_verdict key id token ≡ Ok tt) ↔ IsTokenFor key id token }
 {}
 
 /// No text is a token for two jobs.
 pub fn one_job_each()
-    ensures { (key : List ℕ) (first second : ℕ) (token : List ℕ) → job_verdict key first token ≡ Ok tt → job_verdict key second token ≡ Ok tt → first ≡ second }
+    ensures { (key : List ℕ) (first second : ℕ) (token : List ℕ) → job_verdict key first token ≡ Ok tt
+        → job_verdict key second token ≡ Ok tt → first ≡ second }
 {}
 
 /// The signed token for a server is accepted for it under the same key.
 pub fn server_tokens_are_accepted()
-    ensures { (key : List ℕ) (server : Addr) → IsAddr server → server_verdict key (token_text key (server_claims_text (addr_text server))) ≡ Ok server }
+    ensures { (key : List ℕ) (server : Addr) → IsAddr server
+        → server_verdict key (token_text key (server_claims_text (addr_text server))) ≡ Ok server }
 {}
 
 /// The plain token for a server is accepted for it where the shared token is the same.
 pub fn plain_tokens_are_accepted()
-    ensures { (server : Addr) (shared : List ℕ) → IsAddr server → plain_server shared (plain_text (addr_text server) shared) ≡ Some server }
+    ensures { (server : Addr) (shared : List ℕ) → IsAddr server
+        → plain_server shared (plain_text (addr_text server) shared) ≡ Some server }
 {}
 
 /// A text is accepted for a server exactly where it is a signed token for it: bytes, as every text is.
 pub fn servers_accepted_exactly()
-    ensures { (key : List ℕ) (server : Addr) (token : List ℕ) → IsBytes token → (server_verdict key token ≡ Ok server) ↔ IsServerTokenFor key server token }
+    ensures { (key : List ℕ) (server : Addr) (token : List ℕ) → IsBytes token
+        → (server_verdict key token ≡ Ok server) ↔ IsServerTokenFor key server token }
 {}
 
 /// A reply has one code.
 pub fn one_code()
-    ensures { (reply : List ℕ) (first second : ℕ) → HasCode reply first → HasCode reply second → first ≡ second }
+    ensures { (reply : List ℕ) (first second : ℕ) → HasCode reply first → HasCode reply second
+        → first ≡ second }
 {}
 
 /// Where the dialer tells its record, a forwarded token gets one answer, unless memory runs out: the new
 /// row says it, or the moment that is kept of the token.
 pub fn one_answer()
-    ensures { (old new : Forwarding) (now : ℕ) (token : List ℕ) (first second : Result ⊤ Refusal) (rows : List Asked)
+    ensures { (old new : Forwarding) (now : ℕ) (token : List ℕ) (first second : Result ⊤ Refusal)
+        (rows : List Asked)
         → old.asked ≡ Some rows → MayAnswer old now token first new → MayAnswer old now token second new
         → ¬ (first ≡ Err OutOfMemory) → ¬ (second ≡ Err OutOfMemory) → first ≡ second }
 {}

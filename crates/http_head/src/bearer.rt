@@ -4,7 +4,7 @@ ghost use Rattle.http_head.specs.Bearer.{token_in};
 
 use dist_types::addr::cut_at;
 
-/// The token of an Authorization: what follows `Bearer` and a space; None where it is none, or shows no token.
+/// The token of an Authorization: what follows `Bearer` and a space. None where there is no such text.
 #[tactic(auto, unfolding(crate::specs::Bearer::token_in))]
 pub fn token_in(text: Option<&str>) -> Option<&str>
     ensures { option_copied result ≡ token_in (option_copied text.entry) }

@@ -17,8 +17,8 @@ pub const MAX_HEADERS: usize = 100;
 /// How many bytes a head has at most.
 pub const MAX_HEAD_BYTES: usize = 65536;
 
-/// Parses the request's head that begins the bytes, within the limits: how many bytes it has. None exactly where
-/// none begins them.
+/// Parses the request's head that begins the bytes, within the limits: how many bytes it has. None exactly
+/// where none begins them.
 fn parse_head<'b>(head: &mut httparse::Request<'_, 'b>, bytes: &'b [u8]) -> Option<usize>
     requires { length head.now.headers.now ≡ 100 }
     ensures { FindsHead bytes.now head.new result }
@@ -35,8 +35,8 @@ fn parse_head<'b>(head: &mut httparse::Request<'_, 'b>, bytes: &'b [u8]) -> Opti
     Some(len)
 }
 
-/// Parses the reply's head that begins the bytes, within the limits: how many bytes it has. None exactly where none
-/// begins them.
+/// Parses the reply's head that begins the bytes, within the limits: how many bytes it has. None exactly where
+/// none begins them.
 fn parse_reply_head<'b>(head: &mut httparse::Response<'_, 'b>, bytes: &'b [u8]) -> Option<usize>
     requires { length head.now.headers.now ≡ 100 }
     ensures { FindsReplyHead bytes.now head.new result }
@@ -72,7 +72,12 @@ fn copy_request(
     headers: &[Header<'_>],
     body: &[u8],
 ) -> Result<Request, AllocError>
-    ensures { IfOk result (λ r. r ≡ record { method = method.now; target = target.now; headers = map header_parts headers.now; body = body.now }) }
+    ensures { IfOk result (λ r. r ≡ record {
+      method = method.now;
+      target = target.now;
+      headers = map header_parts headers.now;
+      body = body.now;
+    }) }
 {
     Ok(Request {
         method: Text::of(alloc, method)?,
@@ -88,7 +93,11 @@ fn copy_reply(
     headers: &[Header<'_>],
     body: &[u8],
 ) -> Result<Reply, AllocError>
-    ensures { IfOk result (λ r. r ≡ record { code = code; headers = map header_parts headers.now; body = body.now }) }
+    ensures { IfOk result (λ r. r ≡ record {
+      code = code;
+      headers = map header_parts headers.now;
+      body = body.now;
+    }) }
 {
     Ok(Reply {
         code,
@@ -148,8 +157,8 @@ pub fn read_reply_head(alloc: Global, bytes: &[u8]) -> Result<Reply, HttpError>
     Ok(reply)
 }
 
-/// The status of the reply's head that begins the bytes, whatever it says of its body; None exactly where none
-/// begins them. It takes no memory.
+/// The status of the reply's head that begins the bytes, whatever it says of its body; None exactly where
+/// none begins them. It takes no memory.
 pub fn status_of(bytes: &[u8]) -> Option<u16>
     ensures { HasStatus bytes.now result }
 {

@@ -28,7 +28,8 @@ pub fn one_status()
 /// target, the token, the content type and the body that were written, and nothing that a route looks for
 /// beside them.
 pub fn requests_read_back()
-    ensures { (w : WrittenRequest) → IsSendable w → (r : Request) × IsRequest (request_text w) r × Carries w r }
+    ensures { (w : WrittenRequest) → IsSendable w
+        → (r : Request) × IsRequest (request_text w) r × Carries w r }
 {}
 
 /// The stop is the shortest front that is one, or all of the bytes.
@@ -50,5 +51,6 @@ pub fn cut_begins()
 /// Where the cut is not all of the bytes, other bytes behind it change nothing.
 #[tactic(auto, using(crate::proofs::CutLemmas::cut_stays))]
 pub fn cut_stays()
-    ensures { (cut rest other : List ℕ) → 0 < length rest → IsCut (cut ++ rest) cut → IsCut (cut ++ other) cut }
+    ensures { (cut rest other : List ℕ) → 0 < length rest
+        → IsCut (cut ++ rest) cut → IsCut (cut ++ other) cut }
 {}

@@ -2,8 +2,8 @@
 //! connection is read for one.
 //!
 //! The contract: bytes are one request at most, and `read_head` answers it exactly where they are one; of
-//! replies `read_reply_head` alike, and `status_of` their status alone. `WrittenRequest::bytes` gives the text
-//! of a written request, and the law `requests_read_back` says that a sendable one is read with exactly its
+//! replies `read_reply_head` alike, and `status_of` their status alone. `WrittenRequest::bytes` gives the
+//! text of a written request, and the law `requests_read_back` says that a sendable one is read with exactly its
 //! method, target, token, content type and body. Bytes have one stop and one cut. Want of memory is the one
 //! other answer.
 //!

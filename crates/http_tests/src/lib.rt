@@ -1,5 +1,5 @@
 //! Tests of requests and replies: heads by their rule, what each route asks and refuses, replies and faults to the
-//! byte, what the reply to a call says, and requests that are written.
+//! byte, and what the reply to a call says.
 #![tactic(auto)]
 
 #[cfg(test)]
@@ -12,5 +12,3 @@ mod refusals;
 mod replies;
 #[cfg(test)]
 mod routes;
-#[cfg(test)]
-mod written;
