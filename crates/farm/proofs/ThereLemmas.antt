@@ -6,7 +6,7 @@ use Rattle.dist_types.specs.declared.outgoing.CallFault.TheVariants.{Lost}
 use Rattle.dist_types.specs.declared.results.AssignJobResult.{AssignJobResult}
 use Rattle.sched_core.specs.Log.{Core}
 use Rattle.sched_core.specs.Ticket.{Ticket}
-use Rattle.dist_http.specs.declared.error.HttpError.TheVariants.{BadHead, ParseError}
+use Rattle.http_head.specs.declared.error.HttpError.TheVariants.{BadHead, ParseError}
 use Rattle.dist_http.specs.declared.route.Asked.{Asked}
 use Rattle.dist_http.specs.declared.route.SchedRouted.TheVariants.{Done}
 use Rattle.dist_http.specs.Asked.{IsAsked}

@@ -133,6 +133,7 @@ impl Farm {
         ensures err { IfErr result (λ s. s.entries ≡ self.entries) }
         ensures laws { OnErr result (AreLawful self.scheduler self.entries) }
     {
+        self.obey();
         let Farm {
             alloc,
             scheduler,

@@ -17,6 +17,8 @@ mod limits;
 #[cfg(test)]
 mod ran;
 #[cfg(test)]
+mod replay;
+#[cfg(test)]
 mod script_lines;
 #[cfg(test)]
 mod turns;

@@ -24,6 +24,6 @@ pub returns-in_err-farm-clause-stopped_laws : goal.returns-in_err-farm-clause-st
 returns-in_err-farm-clause-stopped_laws c =
     let p = err_from_is_err_and c.from_residual.result c.from_residual.ensures.1 in
     rw (p.1, p.2) (
-      Runs-lawful c.args.self (take c.loop-event.event-index c.args.events.now) c.loop-event.farm c.in_err-farm.field-0.0.entries c.loop-event.invariant c.in_err-farm.ensures.err
-          c.in_err-farm.ensures.laws
+    Runs-lawful c.args.self (take c.loop-event.event-index c.args.events.now) c.loop-event.farm c.in_err-farm.field-0.0.entries c.loop-event.invariant c.in_err-farm.ensures.err
+    c.in_err-farm.ensures.laws
     )
