@@ -15,11 +15,9 @@ mod fault;
 mod iter;
 pub mod laws;
 mod meter;
+mod table;
 
 pub use cache::{DefaultHasher, LruCache};
 pub use fault::{InsertFault, Memory};
 pub use iter::{IntoIter, Iter};
 pub use meter::{Count, CountableMeter, CountableMeterWithMeasure, Meter};
-
-#[cfg(test)]
-mod tests;
