@@ -1,9 +1,9 @@
 -- Cuts of a chain: what is left where one node is taken out, and where one is put at the end.
-use Rattle.std.proofs.Common.{◌≡◌, ◌≢◌, ℕ, zero, suc, ◌+◌, ◌<◌, ◌≤◌, ◌⊎◌, inl, inr, Bool, true, false, cond, List, [], ◌∷◌, ◌++◌, length, Option, Some, None, is_some, refl, sym, ap, ◌∙◌, subst, true≢false, unwrap_or, arith, nat_eq, get_or, set, count_by, Contains, append-nil, map, IfSome}
+use Rattle.std.proofs.Common.{◌≡◌, ◌≢◌, ℕ, zero, suc, ◌+◌, ◌<◌, ◌≤◌, ◌⊎◌, inl, inr, Bool, true, false, cond, List, [], ◌∷◌, ◌++◌, length, Option, Some, None, is_some, refl, sym, ap, ◌∙◌, subst, true≢false, unwrap_or, arith, nat_eq, get_or, set, count_by, Contains, append-nil, map, IfSome, slice_get}
 use Rattle.std.specs.Option.{option_map, option_map_or}
 use Rattle.std.proofs.lemmas.Bool.{cases_eq, eq-eqb, ne_eqb}
 use Rattle.std.proofs.lemmas.List.{get_or-set_same, get_or-set_other, get_or_past}
-use Rattle.std.proofs.lemmas.List.Sums.{sum_by-set, count_by-le-length}
+use Rattle.std.proofs.lemmas.List.Sums.{sum_by-set, sum_by-cons, count_by-le-length}
 use Rattle.slab.specs.Slab.{Slab, get, ContainsKey, with_value, Updates}
 use Rattle.std.proofs.Math.Seq.{map-set_same}
 use Rattle.slab.proofs.SlabLemmas.{Contains-cons, Contains-cons_cases, ContainsKey-within}
@@ -375,6 +375,7 @@ module _ (at one mid new : ℕ → Option Ends) (first last : Option ℕ) (order
       not-first : (xs : List ℕ) (k : ℕ) → Avoids (Some k) xs → first_or xs None ≢ Some k
       not-first [] k h is = some≢none k (sym is)
       not-first (x ∷ xs) k h is = h.0 (sym is)
+
       not-last : (xs : List ℕ) (k : ℕ) → Avoids (Some k) xs → last_or None xs ≢ Some k
       not-last [] k h is = some≢none k (sym is)
       not-last (x ∷ xs) k h is = last-avoids k x xs h is
@@ -491,3 +492,42 @@ some-ends (Some n) = refl
 -- a key has a node where it has an item
 pub links-item : {T : Type 0} (s : Slab (Node T)) (key : ℕ) → is_some (links s key) ≡ is_some (get (items_of s) key)
 links-item s key = some-ends (get s key) ∙ ap is_some (sym (get-items s.slots key))
+
+-- links that are the same at each key
+pub linked-same : (at new : ℕ → Option Ends) → ((x : ℕ) → new x ≡ at x) → (before : Option ℕ) (xs : List ℕ) (after : Option ℕ) → Linked at before xs after → Linked new before xs after
+linked-same at new same before [] after k = tt
+linked-same at new same before (x ∷ xs) after k = (same x ∙ k.0, linked-same at new same (Some x) xs after k.1)
+
+mapped-same : (o : Option Ends) → option_map (λ e. e) o ≡ o
+mapped-same None = refl
+mapped-same (Some e) = refl
+
+-- a chain stays where an item changes
+pub chain-item : {T : Type 0} (s : Slab (Node T)) (key : ℕ) (n m : Node T) (first last : Option ℕ) (order : List ℕ) → get s key ≡ Some n → ends_of m ≡ ends_of n → IsChain (links s) first last order → IsChain (links (with_value s key m)) first last order
+chain-item s key n m first last order found ends chain =
+    let within = ContainsKey-within s key (ap is_some found) in
+    record {
+      linked = linked-same (links s) (links (with_value s key m)) (λ x. elim (cases_eq x key) [
+        | inl same ↦ subst (λ y. links (with_value s key m) y ≡ links s y) (sym same) (ap (option_map ends_of) (get_or-set_same s.slots key (Some m) None within) ∙ (ap (λ e. Some e) ends ∙ sym (ap (option_map ends_of) found)))
+        | inr differs ↦ ap (option_map ends_of) (get_or-set_other s.slots key x (Some m) None differs)
+      ]) None order None chain.linked;
+      apart = chain.apart;
+      starts = chain.starts;
+      ends = chain.ends;
+    }
+
+-- the first key of a list
+pub first-got : (xs : List ℕ) → first_or xs None ≡ slice_get xs 0
+first-got [] = refl
+first-got (x ∷ xs) = refl
+
+-- as many items as nodes
+pub count-items : {T : Type 0} (slots : List (Option (Node T))) → count_by is_some (map (option_map item_of) slots) ≡ count_by is_some slots
+count-items [] = refl
+count-items (None ∷ rest) = omega (arith, count-items rest, sum_by-cons (λ o. cond (is_some o) 1 0) None (map (option_map item_of) rest), sum_by-cons (λ o. cond (is_some o) 1 0) None rest)
+count-items (Some n ∷ rest) = omega (arith, count-items rest, sum_by-cons (λ o. cond (is_some o) 1 0) (Some n.item) (map (option_map item_of) rest), sum_by-cons (λ o. cond (is_some o) 1 0) (Some n) rest)
+
+-- the links of a key where the list is cut
+pub links-cut : (at : ℕ → Option Ends) (first last : Option ℕ) (order : List ℕ) (key : ℕ) (front back : List ℕ) → IsChain at first last order → order ≡ front ++ key ∷ back → at key ≡ Some (last_or None front, first_or back None)
+links-cut at first last order key front back chain is =
+    (linked-right at None front (key ∷ back) None (subst (λ l. Linked at None l None) is chain.linked)).0

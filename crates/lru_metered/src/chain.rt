@@ -1,12 +1,12 @@
 //! `Chain`: items in a slab, some of them in a list that is linked through their keys.
-ghost use Rattle.std.specs.Prelude.{◌≡◌, ◌+◌, ◌≤◌, [], ◌∷◌, ◌++◌, Some, None, drop, slice_get, IfErr, IfOk, IfSome, IsSome, OnErr, option_copied, is_some, true, false, ◌≢◌, if◌then◌else◌, Contains};
+ghost use Rattle.std.specs.Prelude.{◌≡◌, ◌+◌, ◌≤◌, [], ◌∷◌, ◌++◌, Some, None, drop, slice_get, IfErr, IfOk, IfSome, IsSome, IsOk, List, ℕ, OnErr, OnOk, option_copied, is_some, true, false, ◌≢◌, if◌then◌else◌, Contains};
 ghost use Rattle.std.specs.Borrow.{sem};
-ghost use Rattle.slab.specs.Slab.{get, ContainsKey, Updates};
-ghost use Rattle.lru_metered.specs.Chain.{Changes, links, items_of, with_ends, with_previous, with_next, without, Joins};
+ghost use Rattle.slab.specs.Slab.{get, ContainsKey, HasRoomFor, Updates, slab_len};
+ghost use Rattle.lru_metered.specs.Chain.{Changes, links, items_of, with_ends, with_previous, with_next, without, Joins, first_or, last_or};
 
 use crate::steps::Steps;
 use slab::Slab;
-use std::alloc::{AllocFailed, Allocator, Global};
+use std::alloc::{AllocError, AllocFailed, Allocator, Global};
 use std::marker::Model;
 use std::mem;
 use std::sync::ledger::Ledger;
@@ -127,6 +127,8 @@ impl<T> Model for Chain<T> {
 }
 
 impl<T> Chain<T> {
+    ghost use Rattle.lru_metered.specs.ChainLends.{lends_item};
+
     /// A chain of no item, which takes no memory.
     pub fn new(alloc: Global) -> Chain<T>
         ensures items { result.items.slots ≡ [] }
@@ -177,6 +179,75 @@ impl<T> Chain<T> {
             Some(node) => Some(&node.item),
             None => None,
         }
+    }
+
+    /// The number of items, in the list or not.
+    pub fn len(&self) -> usize
+        ensures { result ≡ slab_len self.now.items }
+    {
+        self.nodes.len()
+    }
+
+    /// Room for more items, so that as many calls of `insert` take no memory.
+    pub fn reserve(&mut self, additional: usize) -> Result<(), AllocError>
+        ensures room { OnOk result (HasRoomFor self.new.items additional) }
+        ensures succeeds { HasRoomFor self.old.items additional → IsOk result }
+        ensures items { self.new.items ≡ record self.old.items { capacity = self.new.items.capacity } }
+        ensures order { self.new.order ≡ self.old.order }
+    {
+        self.nodes.reserve(additional)
+    }
+
+    /// The first key of the list.
+    pub fn first(&self) -> Option<usize>
+        ensures { result ≡ slice_get self.now.order 0 }
+    {
+        self.first
+    }
+
+    /// The last key of the list.
+    pub fn last(&self) -> Option<usize>
+        ensures { result ≡ last_or None self.now.order }
+    {
+        self.last
+    }
+
+    /// The key after one of the list.
+    pub fn after(&self, key: usize) -> Option<usize>
+        requires { Contains self.now.order key }
+        ensures { (front back : List ℕ) → self.now.order ≡ front ++ key ∷ back → result ≡ first_or back None }
+    {
+        self.nodes[key].next
+    }
+
+    /// The key before one of the list.
+    pub fn before(&self, key: usize) -> Option<usize>
+        requires { Contains self.now.order key }
+        ensures { (front back : List ℕ) → self.now.order ≡ front ++ key ∷ back → result ≡ last_or None front }
+    {
+        self.nodes[key].previous
+    }
+
+    /// The item of a key, to write.
+    pub fn item_mut(&mut self, key: usize) -> &mut T
+        requires { ContainsKey self.old.items key }
+        ensures* writes_back { sem 𝓛 (lends_item T.row self.entry key result) }
+        ensures value { get self.old.items key ≡ Some result.now }
+    {
+        let node = &mut self.nodes[key];
+        &mut node.item
+    }
+
+    /// Takes out all items, and keeps the memory.
+    pub fn clear(&mut self)
+    where
+        T: Drop,
+        ensures items { self.new.items.slots ≡ [] }
+        ensures order { self.new.order ≡ [] }
+    {
+        self.nodes.clear();
+        self.first = None;
+        self.last = None;
     }
 
     /// Takes out the item of a key that is not in the list.
