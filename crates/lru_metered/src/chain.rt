@@ -151,6 +151,8 @@ impl<T> Chain<T> {
         ensures order { self.new.order ≡ self.old.order }
         ensures handed_back { IfErr result (λ back. back ≡ item) }
         ensures err { OnErr result (self.new.items.slots ≡ self.old.items.slots) }
+        ensures succeeds { HasRoomFor self.old.items 1 → IsOk result }
+        ensures len { OnOk result (slab_len self.new.items ≡ slab_len self.old.items + 1) }
     {
         let node = Node {
             item,
@@ -255,6 +257,8 @@ impl<T> Chain<T> {
         requires held { ContainsKey self.old.items key }
         requires apart { ¬ (Contains self.old.order key) }
         ensures item { get self.old.items key ≡ Some result }
+        ensures len { slab_len self.new.items + 1 ≡ slab_len self.old.items }
+        ensures room { HasRoomFor self.new.items 1 }
         ensures updates { Updates self.old.items self.new.items key None }
         ensures order { self.new.order ≡ self.old.order }
     {
