@@ -1,8 +1,6 @@
-//! Tests of the metered cache: worked orders, meters of one's own, each call beside a plain list of pairs, and items of a chain.
+//! Tests of the metered cache: worked orders, meters of one's own, and each call beside a plain list of pairs.
 #![tactic(auto)]
 
-#[cfg(test)]
-mod chains;
 #[cfg(test)]
 mod meters;
 #[cfg(test)]
