@@ -11,15 +11,16 @@
 #![tactic(auto)]
 
 mod cache;
+pub mod chain;
 mod fault;
 mod iter;
 pub mod laws;
 mod meter;
+mod steps;
+mod table;
 
 pub use cache::{DefaultHasher, LruCache};
 pub use fault::{InsertFault, Memory};
 pub use iter::{IntoIter, Iter};
 pub use meter::{Count, CountableMeter, CountableMeterWithMeasure, Meter};
-
-#[cfg(test)]
-mod tests;
+pub use steps::Steps;

@@ -1,6 +1,6 @@
 //! Worked orders: what a cache answers and holds after each call.
-use super::meters::{KeyBytes, Lengths, Weights};
-use crate::{CountableMeter, DefaultHasher, InsertFault, IntoIter, LruCache};
+use crate::meters::{KeyBytes, Lengths, Weights};
+use lru_metered::{CountableMeter, DefaultHasher, InsertFault, IntoIter, LruCache};
 use std::alloc::Global;
 use std::collections::hash_map::RandomState;
 use std::string::String;

@@ -2,7 +2,7 @@
 ghost use Rattle.std.specs.Prelude.{◌≡◌, vec_len, true, false};
 ghost use Rattle.std.specs.String.{string_len};
 
-use crate::{CountableMeter, CountableMeterWithMeasure, DefaultHasher, LruCache, Meter};
+use lru_metered::{CountableMeter, CountableMeterWithMeasure, DefaultHasher, LruCache, Meter};
 use std::string::String;
 use std::test::*;
 use std::vec::Vec;

@@ -1,6 +1,6 @@
 //! Each call beside a plain list of pairs, over steps that a fixed generator makes.
-use super::meters::{Tally, Weights};
-use crate::{Count, CountableMeter, DefaultHasher, InsertFault, LruCache};
+use crate::meters::{Tally, Weights};
+use lru_metered::{Count, CountableMeter, DefaultHasher, InsertFault, LruCache};
 use std::alloc::{AllocError, Global};
 use std::mem;
 use std::process::Abort;

@@ -1,0 +1,9 @@
+//! Tests of the metered cache: worked orders, meters of one's own, and each call beside a plain list of pairs.
+#![tactic(auto)]
+
+#[cfg(test)]
+mod meters;
+#[cfg(test)]
+mod orders;
+#[cfg(test)]
+mod plain;
