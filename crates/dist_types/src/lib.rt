@@ -25,6 +25,7 @@ pub mod tcp;
 #[cfg(test)]
 mod tests;
 pub mod text;
+mod text_key;
 pub mod token_error;
 pub mod toolchain;
 pub mod try_clone;
