@@ -24,6 +24,7 @@ pub mod sink;
 pub mod source;
 pub mod tcp;
 pub mod text;
+mod text_key;
 pub mod token_error;
 pub mod toolchain;
 pub mod try_clone;

@@ -1,0 +1,30 @@
+-- Which texts are keys.
+use Rattle.std.specs.Prelude.{ℕ, Bool, not, ◌&&◌, ◌==◌, List, [], ◌∷◌, ◌++◌, codes, nat_eq}
+use Rattle.std.specs.Fmt.{decimal}
+use Rattle.std.specs.List.{list_all, list_any, slice_split, starts_with}
+use Rattle.std.specs.Str.{bytes_eq}
+
+-- a part of a key: not empty, not `.` or `..`, and without a NUL byte
+unfoldable pub is_plain : List ℕ → Bool
+is_plain part = not (bytes_eq part []) && not (bytes_eq part (codes ".")) && not (bytes_eq part (codes "..")) && not (list_any (λ b. b == 0) part)
+
+-- the last of some parts, which stand behind another
+abbrev pub last_behind : List ℕ → List (List ℕ) → List ℕ
+last_behind part [] = part
+last_behind part (p ∷ ps) = last_behind p ps
+
+-- a temporary file's name begins so
+unfoldable pub is_temporary : List ℕ → Bool
+is_temporary name = starts_with nat_eq name (codes ".sccachetmp")
+
+-- whether these parts, with a `/` between each two, are a key
+abbrev pub are_key : List (List ℕ) → Bool
+are_key parts = list_all is_plain parts && not (is_temporary (last_behind [] parts))
+
+-- A relative path of plain parts, the last of which is not the name of a temporary file.
+unfoldable pub is_key : List ℕ → Bool
+is_key text = are_key (slice_split (λ b. b == 47) text)
+
+-- the name of the temporary file of a number
+unfoldable pub temp_name : ℕ → List ℕ
+temp_name number = codes ".sccachetmp" ++ decimal number

@@ -1,0 +1,10 @@
+pub mod Files
+pub mod Held
+pub mod InMemory
+pub mod Numbers
+pub mod Entries
+pub mod Key
+pub mod Disk
+pub mod Store
+pub mod Opened
+pub mod Reserved

@@ -1,0 +1,29 @@
+//! Folders that may fail, and caches of files in them.
+//!
+//! A folder is seen as what it tells (`specs/Held.antt`): its files in order of recency, where it tells
+//! them, and its count of faults. Each call that changes a folder says what it does and what a fault may
+//! leave of it, by one relation, `Changes`. `MemFolder` is the folder in memory.
+//!
+//! A disk cache is seen as its disk and its folder (`specs/Store.antt`): the disk is a list of keys with
+//! sizes, least recent first, under a path and within a capacity, beside its open reservations. Whatever
+//! fails, each listed key has a file of its size, where the folder tells its files.
+#![tactic(auto)]
+
+mod cache;
+pub mod calls;
+mod entry;
+mod error;
+pub mod fault;
+pub mod folder;
+mod key;
+pub mod laws;
+pub mod mem_folder;
+mod opening;
+mod reservations;
+mod rows;
+mod steps;
+mod table;
+
+pub use cache::LruDiskCache;
+pub use error::{Error, Result};
+pub use key::is_key;
