@@ -13,3 +13,7 @@ pub mod WindowsLemmas
 pub mod LastLemmas
 pub mod RestoreLemmas
 pub mod OrderLemmas
+pub mod WalkLemmas
+pub mod NameLemmas
+pub mod SimpleLemmas
+pub mod OutlineLemmas

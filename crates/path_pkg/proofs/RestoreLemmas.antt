@@ -14,6 +14,7 @@ use Rattle.std.specs.Option.{option_map}
 use Rattle.std.specs.String.{string_cmp}
 use Rattle.std.proofs.lemmas.Cmp.{nat_list_cmp_total}
 use Rattle.path_pkg.proofs.LastLemmas.{put_found}
+use Rattle.path_pkg.proofs.NodeLemmas.{texts_in_order}
 use Rattle.path_pkg.specs.Written.{Entry, put}
 use Rattle.path_pkg.specs.Windows.{local_of, pairs_of}
 
@@ -82,14 +83,8 @@ undo_old (e ∷ es) k v w sorted h = by_order (slice_cmp nat_cmp k e.0) refl (λ
         let found : local_of es k ≡ Some w = sym (ap (λ b. cond b (Some e.1) (lookup (λ x. bytes_eq k x) es)) differ) ∙ h in
         rw ho (rw ho (ap (λ l. e ∷ l) (later found)))
 
-heads : {A B : Type 0} (k : String A) (fs : List (String A × String B)) → AllByRecursion (λ y. string_cmp k y ≡ Less) (map (λ f. f.0) fs) → AllByRecursion (λ y. slice_cmp nat_cmp (string_bytes k) y ≡ Less) (map (λ f. f.0) (pairs_of fs))
-heads k [] all = tt
-heads k (f ∷ fs) all = (all.0, heads k fs all.1)
-
 pub keys_in_order : {A B : Type 0} (es : List (String A × String B)) → IsStrictlySortedBy string_cmp (map (λ e. e.0) es) → InOrder (pairs_of es)
-unfolding IsStrictlySortedBy
-keys_in_order [] sorted = tt
-keys_in_order (e ∷ es) sorted = (heads e.0 es sorted.0, keys_in_order es sorted.1)
+keys_in_order es sorted = texts_in_order string_bytes es sorted
 
 pub removed_pairs : {A B : Type 0} (es : List (String A × String B)) (k : List ℕ) → pairs_of (remove_entry (λ x. is_eq (slice_cmp nat_cmp k (string_bytes x))) es) ≡ remove_entry (λ x. bytes_eq k x) (pairs_of es)
 removed_pairs [] k = refl

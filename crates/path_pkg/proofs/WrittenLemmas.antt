@@ -54,9 +54,9 @@ unwritten e told f f2 le h = (record { nodes = refl; faults = omega arith; misna
 
 -- a refusal of the tree, before anything was written
 pub unread : (f : TreeFault) (old new : Told) (n : ℕ) → Refused (TreeCause f) old new → Refused (WriteCause (pack_error f) n n) old new × (n ≤ n)
-unread Failed old new n h = (record { nodes = h.nodes; faults = h.faults; misnamed = h.misnamed; caused = h.caused }, omega arith)
-unread NotUtf8 old new n h = (record { nodes = h.nodes; faults = h.faults; misnamed = h.misnamed; caused = h.caused }, omega arith)
-unread Memory old new n h = (record { nodes = h.nodes; faults = h.faults; misnamed = h.misnamed; caused = tt }, omega arith)
+unread Failed old new n h = (record { nodes = h.nodes; faults = h.faults; misnamed = h.misnamed; caused = (h.caused.0, h.caused.1, refl) }, omega arith)
+unread NotUtf8 old new n h = (record { nodes = h.nodes; faults = h.faults; misnamed = h.misnamed; caused = (h.caused.0, h.caused.1, refl) }, omega arith)
+unread Memory old new n h = (record { nodes = h.nodes; faults = h.faults; misnamed = h.misnamed; caused = (h.caused, refl) }, omega arith)
 
 -- the same for a map from texts to texts
 pub put_pairs : {A B : Type 0} (es : List (String A × String B)) (k : String A) (v : String B) → pairs_of (insert_entry string_cmp es k v) ≡ put (pairs_of es) (string_bytes k, string_bytes v)

@@ -35,14 +35,14 @@ abbrev pub Gives : {T U : Type 0} → (T → U) → Result U PackError → Resul
 Gives seen verdict (Ok x) = verdict ≡ Ok (seen x)
 Gives seen verdict (Err e) = is_decided e ≡ true → verdict ≡ Err e
 
--- the cause of a refusal: a count of the tree that rose
+-- the cause of a refusal: one count of the tree rose and the other stayed; all else leaves the tree as it was
 abbrev pub PackCause : PackError → Told → Told → Type 0
-PackCause Packs.TreeFault old new = Rose old.faults new.faults
-PackCause Packs.NotUtf8 old new = Rose old.misnamed new.misnamed
+PackCause Packs.TreeFault old new = Rose old.faults new.faults × (new.misnamed ≡ old.misnamed)
+PackCause Packs.NotUtf8 old new = Rose old.misnamed new.misnamed × (new.faults ≡ old.faults)
 PackCause Packs.SinkFault old new = ⊥
-PackCause _ old new = Unit {0}
+PackCause _ old new = new ≡ old
 
 -- an answer leaves the tree as it was, and a refusal has its cause
-abbrev pub PackLeaves : {T : Type 0} → Result T PackError → Told → Told → Type 0
-PackLeaves (Ok x) old new = new ≡ old
-PackLeaves (Err e) old new = Refused (PackCause e) old new
+abbrev pub PackLeavesTree : {T : Type 0} → Result T PackError → Told → Told → Type 0
+PackLeavesTree (Ok x) old new = new ≡ old
+PackLeavesTree (Err e) old new = Refused (PackCause e) old new

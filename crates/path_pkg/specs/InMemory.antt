@@ -1,10 +1,12 @@
 -- What a tree in memory shows, and what it answers.
-use Rattle.std.specs.Prelude.{◌≡◌, ℕ, List, Bool, if◌then◌else◌, Option, Some, None, Result, Ok, Err}
+use Rattle.std.specs.Prelude.{◌≡◌, ℕ, List, [], Bool, if◌then◌else◌, Option, Some, None, Result, Ok, Err}
+use Rattle.std.proofs.Common.{ap, subst}
 use Rattle.std.specs.List.{list_any}
+use Rattle.std.specs.Option.{unwrap_or}
 use Rattle.std.specs.Str.{bytes_eq}
 use Rattle.dist_types.specs.InMemory.{is_listed}
-use Rattle.path_pkg.specs.Told.{Told, Nodes}
-use Rattle.path_pkg.specs.Tree.{node_at, kind_at, link_of}
+use Rattle.path_pkg.specs.Told.{Told, Nodes, WhereTold, IsInByteOrder}
+use Rattle.path_pkg.specs.Tree.{kind_at, link_at}
 use Rattle.path_pkg.specs.Resolved.{target_kind_at, content_at, is_below, paths_below}
 use Rattle.path_pkg.specs.MapNodes.{nodes_of}
 use Rattle.path_pkg.specs.declared.node.Kind.{Kind}
@@ -56,7 +58,7 @@ link_answer misnames path None = Err Failed
 -- the answer to `read_link`
 abbrev pub link_verdict : MemTree → List ℕ → Result (List ℕ) TreeFault
 link_verdict t path =
-    if is_to_fail t then Err Failed else link_answer (tree_misnames t) path (link_of (node_at (tree_nodes t) path))
+    if is_to_fail t then Err Failed else link_answer (tree_misnames t) path (link_at (tree_nodes t) path)
 
 -- the answer to `target_kind`
 abbrev pub target_kind_verdict : MemTree → List ℕ → Result Kind TreeFault
@@ -81,3 +83,9 @@ walk_verdict t path =
 abbrev pub Answers : {T U : Type 0} → (T → U) → Result U TreeFault → Result T TreeFault → Type 0
 Answers seen verdict (Ok x) = verdict ≡ Ok (seen x)
 Answers seen verdict (Err e) = ¬ (e ≡ Memory) → verdict ≡ Err e
+
+-- what it tells is in byte order
+pub told_in_byte_order : (tree : MemTree) → WhereTold (tree_told tree) IsInByteOrder
+told_in_byte_order tree t told =
+    let same : tree_nodes tree ≡ t = ap (λ o. unwrap_or o []) told in
+    subst IsInByteOrder same tree.in_byte_order

@@ -3,14 +3,17 @@ pub mod Fault
 pub mod Framed
 pub mod InMemory
 pub mod MapNodes
+pub mod Outline
 pub mod Path
 pub mod Place
 pub mod Real
 pub mod Recorded
 pub mod Records
 pub mod Resolved
+pub mod Simple
 pub mod Simplified
 pub mod Spot
+pub mod SystemFault
 pub mod Told
 pub mod Tree
 pub mod Unix

@@ -1,8 +1,9 @@
 -- Paths made simple.
 use Rattle.std.specs.Prelude.{ℕ, zero, suc, List, [], ◌∷◌, ◌++◌, Bool, ◌&&◌, if◌then◌else◌, Result, Ok, Err}
+use Rattle.std.specs.Option.{unwrap_or}
 use Rattle.path_pkg.specs.Told.{Nodes}
 use Rattle.path_pkg.specs.Path.{steps_of}
-use Rattle.path_pkg.specs.Tree.{is_link, target_at}
+use Rattle.path_pkg.specs.Tree.{is_link, link_at}
 use Rattle.path_pkg.specs.declared.path.Step.{Step}
 use Rattle.path_pkg.specs.declared.path.Step.TheVariants.{Up, Name, Linked}
 use Rattle.path_pkg.specs.declared.fault.PackError.{PackError}
@@ -15,7 +16,7 @@ is_met t recording s = recording && is_link t (spot_text s)
 
 -- the target of the link where one is
 abbrev pub link_target : Nodes → Spot → List ℕ
-link_target t s = target_at t (spot_text s)
+link_target t s = unwrap_or (link_at t (spot_text s)) []
 
 -- The steps, taken from a spot on. Without recording, a link is a part as any other, and one below which `..`
 -- stands is refused. With recording, a link is replaced by its target, taken from beside it, and the pair is noted once

@@ -1,5 +1,5 @@
 -- What stands at a path of a tree.
-use Rattle.std.specs.Prelude.{ℕ, List, [], Bool, true, false, Option, Some, None}
+use Rattle.std.specs.Prelude.{ℕ, List, Bool, true, false, Option, Some, None}
 use Rattle.std.specs.Map.{lookup}
 use Rattle.std.specs.Str.{bytes_eq}
 use Rattle.path_pkg.specs.Told.{Nodes}
@@ -36,14 +36,9 @@ abbrev pub link_of : Option Node → Option (List ℕ)
 link_of (Some (Nodes.Link target)) = Some target
 link_of _ = None
 
--- the target of a link
-abbrev pub target_of : Option Node → List ℕ
-target_of (Some (Nodes.Link target)) = target
-target_of _ = []
-
--- the target of the link there
-abbrev pub target_at : Nodes → List ℕ → List ℕ
-target_at t path = target_of (node_at t path)
+-- the target of the link there, where there is one
+abbrev pub link_at : Nodes → List ℕ → Option (List ℕ)
+link_at t path = link_of (node_at t path)
 
 -- the content of a file
 abbrev pub content_of : Option Node → Option (List ℕ)

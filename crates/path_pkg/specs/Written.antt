@@ -71,12 +71,12 @@ frames t records =
 unfoldable pub framed : Nodes → List Record → List ℕ
 framed t records = spelled (frames t records)
 
--- the cause of a refusal: a count of the tree or of the sink that rose
+-- the cause of a refusal: one count of the tree or of the sink rose and the others stayed; want of memory raises none
 abbrev pub WriteCause : PackError → ℕ → ℕ → Told → Told → Type 0
-WriteCause Packs.TreeFault f f2 old new = Rose old.faults new.faults
-WriteCause Packs.NotUtf8 f f2 old new = Rose old.misnamed new.misnamed
-WriteCause Packs.SinkFault f f2 old new = Rose f f2
-WriteCause Packs.Memory f f2 old new = Unit {0}
+WriteCause Packs.TreeFault f f2 old new = Rose old.faults new.faults × (new.misnamed ≡ old.misnamed) × (f2 ≡ f)
+WriteCause Packs.NotUtf8 f f2 old new = Rose old.misnamed new.misnamed × (new.faults ≡ old.faults) × (f2 ≡ f)
+WriteCause Packs.SinkFault f f2 old new = Rose f f2 × (new ≡ old)
+WriteCause Packs.Memory f f2 old new = (new ≡ old) × (f2 ≡ f)
 WriteCause _ f f2 old new = ⊥
 
 -- an answer leaves the tree and the sink's count as they were, and a refusal is a fault or want of memory and has its cause

@@ -1,13 +1,13 @@
 //! What each call adds to a package, asked of a tree.
 ghost use Rattle.std.specs.Prelude.{◌≡◌, ◌↔◌, true, false, map, string_bytes, Err, IfOk, IfErr};
 ghost use Rattle.std.specs.List.{list_all};
-ghost use Rattle.path_pkg.specs.Fault.{is_decided, is_simplify_error, Gives, PackLeaves};
+ghost use Rattle.path_pkg.specs.Fault.{is_decided, is_simplify_error, Gives, PackLeavesTree};
 ghost use Rattle.path_pkg.specs.Path.{is_absolute};
 ghost use Rattle.path_pkg.specs.Records.{record_fits, is_wanted, unwanted, then_checked, added, is_packed, found, onto, all_found, found_at, contents_records};
 ghost use Rattle.path_pkg.specs.Place.{spot_of};
 ghost use Rattle.path_pkg.specs.Resolved.{target_kind_at};
 ghost use Rattle.path_pkg.specs.Simplified.{simplified};
-ghost use Rattle.path_pkg.specs.Told.{Holds};
+ghost use Rattle.path_pkg.specs.Told.{WhereTold};
 
 use crate::fault::PackError;
 use crate::node::Kind;
@@ -48,10 +48,10 @@ fn is_wanted(what: Packed, kind: Kind) -> bool
 /// Whether a path leads to what is wanted.
 #[tactic(auto, using(crate::proofs::FaultLemmas::undecided, crate::proofs::FaultLemmas::of_simplify, crate::proofs::FaultLemmas::pack_refused, crate::proofs::FaultLemmas::untouched))]
 fn leads_to<T: Tree>(tree: &mut T, path: &str, what: Packed) -> Result<bool, PackError>
-    ensures leads { IfOk result (λ b. Holds (T.told tree.old) (λ t. b ≡ is_wanted what (target_kind_at t path.now))) }
+    ensures leads { IfOk result (λ b. WhereTold (T.told tree.old) (λ t. b ≡ is_wanted what (target_kind_at t path.now))) }
     ensures decided { IfErr result (λ e. is_decided e ≡ false) }
     ensures reasons { IfErr result (λ e. is_simplify_error e ≡ true) }
-    ensures leaves { PackLeaves result (T.told tree.old) (T.told tree.new) }
+    ensures leaves { PackLeavesTree result (T.told tree.old) (T.told tree.new) }
 {
     let kind = tree.target_kind(path)?;
     Ok(is_wanted(what, kind))
@@ -65,10 +65,10 @@ fn records_to<T: Links>(
     path: &str,
     what: Packed,
 ) -> Result<Vec<Record>, PackError>
-    ensures records { Holds (T.told tree.old) (λ t. Gives (λ v. v.items) (then_checked what (simplified true t path.now)) result) }
+    ensures records { WhereTold (T.told tree.old) (λ t. Gives (λ v. v.items) (then_checked what (simplified true t path.now)) result) }
     ensures reasons { IfErr result (λ e. ¬ (e ≡ PackError.NotAbsolute)) }
     ensures fit { IfOk result (λ v. list_all record_fits v.items ≡ true) }
-    ensures leaves { PackLeaves result (T.told tree.old) (T.told tree.new) }
+    ensures leaves { PackLeavesTree result (T.told tree.old) (T.told tree.new) }
 {
     match simplified(alloc, tree, true, path) {
         Ok(place) => {
@@ -87,10 +87,10 @@ pub(crate) fn added<T: Tree>(
     path: &str,
     what: Packed,
 ) -> Result<Vec<Record>, PackError>
-    ensures records { Holds (T.told tree.old) (λ t. Gives (λ v. v.items) (added what t path.now) result) }
+    ensures records { WhereTold (T.told tree.old) (λ t. Gives (λ v. v.items) (added what t path.now) result) }
     ensures not_absolute { (result ≡ Err PackError.NotAbsolute) ↔ (is_absolute path.now ≡ false) }
     ensures fit { IfOk result (λ v. list_all record_fits v.items ≡ true) }
-    ensures leaves { PackLeaves result (T.told tree.old) (T.told tree.new) }
+    ensures leaves { PackLeavesTree result (T.told tree.old) (T.told tree.new) }
 {
     if !is_absolute(path) {
         return Err(PackError::NotAbsolute);
@@ -113,10 +113,10 @@ fn unwanted(what: Packed) -> PackError
 /// Whether a path in a directory is packed: a file, or a link that leads to one.
 #[tactic(auto, using(crate::proofs::FaultLemmas::undecided, crate::proofs::FaultLemmas::of_simplify, crate::proofs::FaultLemmas::pack_refused, crate::proofs::FaultLemmas::untouched))]
 fn is_packed<T: Tree>(tree: &mut T, path: &str) -> Result<bool, PackError>
-    ensures packed { IfOk result (λ b. Holds (T.told tree.old) (λ t. b ≡ is_packed t path.now)) }
+    ensures packed { IfOk result (λ b. WhereTold (T.told tree.old) (λ t. b ≡ is_packed t path.now)) }
     ensures decided { IfErr result (λ e. is_decided e ≡ false) }
     ensures reasons { IfErr result (λ e. is_simplify_error e ≡ true) }
-    ensures leaves { PackLeaves result (T.told tree.old) (T.told tree.new) }
+    ensures leaves { PackLeavesTree result (T.told tree.old) (T.told tree.new) }
 {
     let kind = tree.kind(path)?;
     match kind {
@@ -131,9 +131,9 @@ fn is_packed<T: Tree>(tree: &mut T, path: &str) -> Result<bool, PackError>
 /// What a path in a directory adds.
 #[tactic(auto, using(crate::proofs::FaultLemmas::untouched), unfolding(crate::specs::Records::found))]
 fn found<T: Tree>(alloc: Global, tree: &mut T, path: &str) -> Result<Vec<Record>, PackError>
-    ensures records { Holds (T.told tree.old) (λ t. Gives (λ v. v.items) (found t path.now) result) }
+    ensures records { WhereTold (T.told tree.old) (λ t. Gives (λ v. v.items) (found t path.now) result) }
     ensures reasons { IfErr result (λ e. is_simplify_error e ≡ true) }
-    ensures leaves { PackLeaves result (T.told tree.old) (T.told tree.new) }
+    ensures leaves { PackLeavesTree result (T.told tree.old) (T.told tree.new) }
 {
     if !is_packed(tree, path)? {
         return Ok(Vec::new(alloc));
@@ -155,9 +155,9 @@ fn all_found<T: Tree>(
     before: Vec<Record>,
     paths: &[String],
 ) -> Result<Vec<Record>, PackError>
-    ensures records { Holds (T.told tree.old) (λ t. Gives (λ v. v.items) (onto before.items (all_found t (map string_bytes paths.now))) result) }
+    ensures records { WhereTold (T.told tree.old) (λ t. Gives (λ v. v.items) (onto before.items (all_found t (map string_bytes paths.now))) result) }
     ensures reasons { IfErr result (λ e. is_simplify_error e ≡ true) }
-    ensures leaves { PackLeaves result (T.told tree.old) (T.told tree.new) }
+    ensures leaves { PackLeavesTree result (T.told tree.old) (T.told tree.new) }
 {
     let mut records = before;
     for path in paths {
@@ -176,10 +176,10 @@ pub(crate) fn contents<T: Tree>(
     tree: &mut T,
     path: &str,
 ) -> Result<Vec<Record>, PackError>
-    ensures records { Holds (T.told tree.old) (λ t. Gives (λ v. v.items) (contents_records t path.now) result) }
+    ensures records { WhereTold (T.told tree.old) (λ t. Gives (λ v. v.items) (contents_records t path.now) result) }
     ensures not_absolute { (result ≡ Err PackError.NotAbsolute) ↔ (is_absolute path.now ≡ false) }
     ensures fit { IfOk result (λ v. list_all record_fits v.items ≡ true) }
-    ensures leaves { PackLeaves result (T.told tree.old) (T.told tree.new) }
+    ensures leaves { PackLeavesTree result (T.told tree.old) (T.told tree.new) }
 {
     if !is_absolute(path) {
         return Err(PackError::NotAbsolute);
@@ -200,10 +200,10 @@ fn contents_at<T: Tree>(
     tree: &mut T,
     place: &Place,
 ) -> Result<Vec<Record>, PackError>
-    ensures records { Holds (T.told tree.old) (λ t. Gives (λ v. v.items) (found_at t (spot_of place.now)) result) }
+    ensures records { WhereTold (T.told tree.old) (λ t. Gives (λ v. v.items) (found_at t (spot_of place.now)) result) }
     ensures reasons { IfErr result (λ e. ¬ (e ≡ PackError.NotAbsolute)) }
     ensures fit { IfOk result (λ v. list_all record_fits v.items ≡ true) }
-    ensures leaves { PackLeaves result (T.told tree.old) (T.told tree.new) }
+    ensures leaves { PackLeavesTree result (T.told tree.old) (T.told tree.new) }
 {
     let path = text(alloc, place)?;
     let links = link_records(alloc, &place.links)?;

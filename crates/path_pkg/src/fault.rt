@@ -1,4 +1,5 @@
 //! The refusals of trees, of packing and of packagers.
+use dist_types::fault::Failed;
 use std::alloc::AllocError;
 use thiserror::Error;
 
@@ -14,6 +15,17 @@ pub enum TreeFault {
     /// Memory ran out.
     #[error("out of memory")]
     Memory,
+}
+
+impl From<Failed> for TreeFault {
+    ghost use Rattle.std.specs.Prelude.{◌≡◌};
+    ghost use Rattle.path_pkg.specs.declared.fault.TreeFault.TheVariants as Faults;
+
+    ghost from_gives = { λ _ e. e ≡ Faults.Failed };
+
+    fn from(_: Failed) -> Self {
+        TreeFault::Failed
+    }
 }
 
 impl From<AllocError> for TreeFault {

@@ -1,7 +1,10 @@
-//! What holds of every framed list and of every run of a transformer of Windows paths.
-ghost use Rattle.std.specs.Prelude.{◌≡◌, ◌++◌, ◌<◌, ◌^◌, [], length, List, ℕ, Option, None};
+//! What holds of every framed list, of every path made simple, and of every run of a transformer of Windows paths.
+ghost use Rattle.std.specs.Prelude.{◌≡◌, ◌++◌, ◌<◌, ◌≤◌, ◌^◌, [], length, true, Bool, List, ℕ, Ok, Option, None};
 ghost use Rattle.path_pkg.specs.Framed.{Frame, IsFramedList};
 ghost use Rattle.path_pkg.specs.Records.{RecordsFit};
+ghost use Rattle.path_pkg.specs.Simple.{IsSimple, IsFreeOfLinks};
+ghost use Rattle.path_pkg.specs.Simplified.{simplified, simple_path};
+ghost use Rattle.path_pkg.specs.Spot.{Spot};
 ghost use Rattle.path_pkg.specs.Told.{Nodes};
 ghost use Rattle.path_pkg.specs.Written.{content_in, frames, framed};
 ghost use Rattle.path_pkg.specs.declared.record.Record.{Record};
@@ -20,4 +23,24 @@ pub fn the_last_path_is_given()
 /// What a package is written as is a framed list, of directories, then files, then links, each by path in byte order.
 pub fn packages_are_framed_lists()
     ensures list { (t : Nodes) (records : List Record) → RecordsFit records → ((path : List ℕ) → length (content_in t path) < 2 ^ 64) → IsFramedList (framed t records) (frames t records) }
+{}
+
+/// A path made simple has no empty part, no `.` and no `..`.
+pub fn simple_paths_are_names()
+    ensures simple { (recording : Bool) (t : Nodes) (path text : List ℕ) → simple_path recording t path ≡ Ok text → IsSimple text }
+{}
+
+/// With recording no link stands at a path made simple, nor at a front of it.
+pub fn recorded_paths_have_no_link()
+    ensures free { (t : Nodes) (path text : List ℕ) → simple_path true t path ≡ Ok text → IsFreeOfLinks t text }
+{}
+
+/// A path made simple is made so to itself.
+pub fn simple_paths_stay()
+    ensures same { (recording : Bool) (t : Nodes) (path text : List ℕ) → simple_path recording t path ≡ Ok text → simple_path recording t text ≡ Ok text }
+{}
+
+/// On one path at most forty links are noted.
+pub fn at_most_forty_links_are_noted()
+    ensures noted { (recording : Bool) (t : Nodes) (path : List ℕ) (s : Spot) → simplified recording t path ≡ Ok s → length s.links ≤ 40 }
 {}

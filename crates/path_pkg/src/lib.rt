@@ -12,6 +12,8 @@ mod collect;
 pub mod fault;
 pub mod framed;
 pub mod laws;
+mod link_lookup;
+pub mod listed_calls;
 pub mod mem_tree;
 pub mod node;
 pub mod package;

@@ -1,16 +1,21 @@
 //! The tree in memory.
-ghost use Rattle.std.specs.Prelude.{◌≡◌, ◌≤◌, IfOk, IfErr, if◌then◌else◌, is_err, string_bytes};
+ghost use Rattle.std.specs.Prelude.{◌≡◌, IfOk, map, string_bytes};
 ghost use Rattle.std.specs.List.{list_any};
 ghost use Rattle.std.specs.Option.{option_copied};
 ghost use Rattle.std.specs.Str.{bytes_eq};
 ghost use Rattle.dist_types.specs.Cause.{counted};
-ghost use Rattle.dist_types.specs.InMemory.{is_listed};
+ghost use Rattle.std.proofs.Props.{props};
+ghost use Rattle.path_pkg.specs.MapNodes.{nodes_of};
 ghost use Rattle.path_pkg.specs.Resolved.{is_within};
-ghost use Rattle.path_pkg.specs.Tree.{link_of, content_of};
+ghost use Rattle.path_pkg.specs.Told.{IsInByteOrder};
+ghost use Rattle.path_pkg.specs.Tree.{content_of};
 
 use crate::fault::TreeFault;
+use crate::listed_calls::begin_call;
 use crate::node::{Kind, Node};
-use crate::plain_tree::{dir_prefix, is_within, kind_of, node, paths_below, target_node};
+use crate::plain_tree::{
+    dir_prefix, in_byte_order, is_within, kind_of, link_of, node, paths_below, target_node,
+};
 use crate::tree::{Links, Tree};
 use dist_types::fault::raise;
 use dist_types::text::Text;
@@ -28,11 +33,11 @@ pub struct MemTree {
     calls: u64,
     faults: u64,
     misnamed: u64,
+    ghost in_byte_order: { IsInByteOrder (nodes_of nodes.entries) } by { Prim.hlevel props },
 }
 
 impl MemTree {
     ghost use Rattle.path_pkg.specs.InMemory.{tree_nodes, tree_fails, tree_misnames, tree_calls, tree_faults, tree_misnamed};
-    ghost use Rattle.path_pkg.specs.MapNodes.{nodes_of};
 
     /// A tree of which nothing was asked so far. It takes no memory.
     pub fn new(
@@ -48,6 +53,7 @@ impl MemTree {
         ensures faults { tree_faults result ≡ 0 }
         ensures misnamed { tree_misnamed result ≡ 0 }
     {
+        in_byte_order(&nodes);
         MemTree {
             alloc,
             nodes,
@@ -60,55 +66,39 @@ impl MemTree {
     }
 }
 
-/// One more call, which fails where it is listed.
-fn begin(fails: &[u64], calls: &mut u64, faults: &mut u64) -> Result<(), TreeFault>
-    ensures fails { is_err result ≡ is_listed fails.now calls.old }
-    ensures failed { IfErr result (λ e. e ≡ TreeFault.Failed) }
-    ensures calls { calls.new ≡ counted calls.old }
-    ensures counted { faults.new ≡ (if is_err result then counted faults.old else faults.old) }
-    ensures later { faults.old ≤ faults.new }
-{
-    let number = *calls;
-    *calls = calls.saturating_add(1);
-    let _ = *faults;
-    if fails.contains(&number) {
-        raise(faults);
-        return Err(TreeFault::Failed);
-    }
-    Ok(())
-}
-
 impl Links for MemTree {
-    ghost use Rattle.path_pkg.specs.Told.{Holds, Leaves};
-    ghost use Rattle.path_pkg.specs.Tree.{kind_at, target_at};
-    ghost use Rattle.path_pkg.specs.InMemory.{tree_told, tree_nodes, tree_fails, tree_misnames, tree_calls, kind_verdict, link_verdict, Answers};
+    ghost use Rattle.std.specs.Prelude.{Some, None, Err};
+    ghost use Rattle.path_pkg.specs.Told.{WhereTold, LeavesTree};
+    ghost use Rattle.path_pkg.specs.Tree.{kind_at, link_at};
+    ghost use Rattle.path_pkg.specs.InMemory.{tree_told, tree_nodes, tree_fails, tree_misnames, tree_calls, kind_verdict, link_verdict, Answers, told_in_byte_order};
 
     ghost told = { tree_told };
 
     /// Failed exactly where this call is listed.
     fn kind(&mut self, path: &str) -> Result<Kind, TreeFault>
-        ensures kind { IfOk result (λ k. Holds (tree_told self.old) (λ t. k ≡ kind_at t path.now)) }
-        ensures leaves { Leaves result (tree_told self.old) (tree_told self.new) }
+        ensures kind { IfOk result (λ k. WhereTold (tree_told self.old) (λ t. k ≡ kind_at t path.now)) }
+        ensures leaves { LeavesTree result (tree_told self.old) (tree_told self.new) }
 
         ensures exact { result ≡ kind_verdict self.old path.now }
         ensures calls { tree_calls self.new ≡ counted (tree_calls self.old) }
         ensures kept { (tree_nodes self.new ≡ tree_nodes self.old) × (tree_fails self.new ≡ tree_fails self.old) × (tree_misnames self.new ≡ tree_misnames self.old) }
     {
-        begin(&self.fails, &mut self.calls, &mut self.faults)?;
+        begin_call(&self.fails, &mut self.calls, &mut self.faults)?;
         Ok(kind_of(node(&self.nodes, path)))
     }
 
     /// Failed exactly where this call is listed or there is no link, and else NotUtf8 exactly where its path is listed.
     fn read_link(&mut self, path: &str) -> Result<String, TreeFault>
-        ensures target { IfOk result (λ s. Holds (tree_told self.old) (λ t. string_bytes s ≡ target_at t path.now)) }
-        ensures leaves { Leaves result (tree_told self.old) (tree_told self.new) }
+        ensures target { IfOk result (λ s. WhereTold (tree_told self.old) (λ t. link_at t path.now ≡ Some (string_bytes s))) }
+        ensures no_link { WhereTold (tree_told self.old) (λ t. link_at t path.now ≡ None → result ≡ Err TreeFault.Failed) }
+        ensures leaves { LeavesTree result (tree_told self.old) (tree_told self.new) }
 
         ensures exact { Answers string_bytes (link_verdict self.old path.now) result }
         ensures calls { tree_calls self.new ≡ counted (tree_calls self.old) }
         ensures kept { (tree_nodes self.new ≡ tree_nodes self.old) × (tree_fails self.new ≡ tree_fails self.old) × (tree_misnames self.new ≡ tree_misnames self.old) }
     {
-        begin(&self.fails, &mut self.calls, &mut self.faults)?;
-        match link_target(node(&self.nodes, path)) {
+        begin_call(&self.fails, &mut self.calls, &mut self.faults)?;
+        match link_of(node(&self.nodes, path)) {
             None => {
                 raise(&mut self.faults);
                 Err(TreeFault::Failed)
@@ -123,18 +113,8 @@ impl Links for MemTree {
             }
         }
     }
-}
 
-fn link_target(node: Option<&Node>) -> Option<&str>
-    ensures { option_copied result ≡ link_of (option_copied node.entry) }
-{
-    match node {
-        None => None,
-        Some(Node::Dir) => None,
-        Some(Node::File(_)) => None,
-        Some(Node::Link(target)) => Some(target.get()),
-        Some(Node::Other) => None,
-    }
+    ghost in_byte_order = { told_in_byte_order };
 }
 
 fn is_listed_path(paths: &[Text], path: &str) -> bool
@@ -162,35 +142,35 @@ fn has_path_below(prefix: &str, paths: &[Text]) -> bool
 }
 
 impl Tree for MemTree {
-    ghost use Rattle.std.specs.Prelude.{Some, map};
-    ghost use Rattle.path_pkg.specs.Told.{Holds, Leaves};
+    ghost use Rattle.std.specs.Prelude.{Some};
+    ghost use Rattle.path_pkg.specs.Told.{WhereTold, LeavesTree};
     ghost use Rattle.path_pkg.specs.Resolved.{target_kind_at, content_at, paths_below};
     ghost use Rattle.path_pkg.specs.InMemory.{tree_told, tree_nodes, tree_fails, tree_misnames, tree_calls, target_kind_verdict, read_verdict, walk_verdict, Answers};
 
     /// Failed exactly where this call is listed.
     fn target_kind(&mut self, path: &str) -> Result<Kind, TreeFault>
-        ensures kind { IfOk result (λ k. Holds (tree_told self.old) (λ t. k ≡ target_kind_at t path.now)) }
-        ensures leaves { Leaves result (tree_told self.old) (tree_told self.new) }
+        ensures kind { IfOk result (λ k. WhereTold (tree_told self.old) (λ t. k ≡ target_kind_at t path.now)) }
+        ensures leaves { LeavesTree result (tree_told self.old) (tree_told self.new) }
 
         ensures exact { Answers (λ k. k) (target_kind_verdict self.old path.now) result }
         ensures calls { tree_calls self.new ≡ counted (tree_calls self.old) }
         ensures kept { (tree_nodes self.new ≡ tree_nodes self.old) × (tree_fails self.new ≡ tree_fails self.old) × (tree_misnames self.new ≡ tree_misnames self.old) }
     {
-        begin(&self.fails, &mut self.calls, &mut self.faults)?;
+        begin_call(&self.fails, &mut self.calls, &mut self.faults)?;
         let node = target_node(self.alloc, &self.nodes, path)?;
         Ok(kind_of(node))
     }
 
     /// Failed exactly where this call is listed or the path leads to no file.
     fn read(&mut self, path: &str) -> Result<Vec<u8>, TreeFault>
-        ensures content { IfOk result (λ v. Holds (tree_told self.old) (λ t. content_at t path.now ≡ Some v.items)) }
-        ensures leaves { Leaves result (tree_told self.old) (tree_told self.new) }
+        ensures content { IfOk result (λ v. WhereTold (tree_told self.old) (λ t. content_at t path.now ≡ Some v.items)) }
+        ensures leaves { LeavesTree result (tree_told self.old) (tree_told self.new) }
 
         ensures exact { Answers (λ v. v.items) (read_verdict self.old path.now) result }
         ensures calls { tree_calls self.new ≡ counted (tree_calls self.old) }
         ensures kept { (tree_nodes self.new ≡ tree_nodes self.old) × (tree_fails self.new ≡ tree_fails self.old) × (tree_misnames self.new ≡ tree_misnames self.old) }
     {
-        begin(&self.fails, &mut self.calls, &mut self.faults)?;
+        begin_call(&self.fails, &mut self.calls, &mut self.faults)?;
         let node = target_node(self.alloc, &self.nodes, path)?;
         match content_of(node) {
             None => {
@@ -206,14 +186,14 @@ impl Tree for MemTree {
 
     /// Failed exactly where this call is listed, and else NotUtf8 exactly where a listed path lies below.
     fn walk(&mut self, path: &str) -> Result<Vec<String>, TreeFault>
-        ensures paths { IfOk result (λ v. Holds (tree_told self.old) (λ t. map string_bytes v.items ≡ paths_below t path.now)) }
-        ensures leaves { Leaves result (tree_told self.old) (tree_told self.new) }
+        ensures paths { IfOk result (λ v. WhereTold (tree_told self.old) (λ t. map string_bytes v.items ≡ paths_below t path.now)) }
+        ensures leaves { LeavesTree result (tree_told self.old) (tree_told self.new) }
 
         ensures exact { Answers (λ v. map string_bytes v.items) (walk_verdict self.old path.now) result }
         ensures calls { tree_calls self.new ≡ counted (tree_calls self.old) }
         ensures kept { (tree_nodes self.new ≡ tree_nodes self.old) × (tree_fails self.new ≡ tree_fails self.old) × (tree_misnames self.new ≡ tree_misnames self.old) }
     {
-        begin(&self.fails, &mut self.calls, &mut self.faults)?;
+        begin_call(&self.fails, &mut self.calls, &mut self.faults)?;
         let prefix = dir_prefix(self.alloc, path)?;
         if has_path_below(prefix.as_str(), &self.misnames) {
             raise(&mut self.misnamed);

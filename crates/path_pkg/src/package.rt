@@ -1,10 +1,11 @@
 //! Packages of directories, files and links.
 ghost use Rattle.std.specs.Prelude.{◌≡◌, ◌↔◌, ◌++◌, [], true, false, codes, Err, OnErr, IfErr, OnOk};
 ghost use Rattle.std.specs.List.{list_all};
-ghost use Rattle.path_pkg.specs.Fault.{Gives, PackLeaves};
+ghost use Rattle.path_pkg.specs.Fault.{Gives, PackLeavesTree};
+ghost use Rattle.path_pkg.specs.Outline.{written_order, PutsPackage};
 ghost use Rattle.path_pkg.specs.Path.{is_absolute};
 ghost use Rattle.path_pkg.specs.Records.{record_fits, onto, added, contents_records};
-ghost use Rattle.path_pkg.specs.Told.{Holds};
+ghost use Rattle.path_pkg.specs.Told.{WhereTold};
 ghost use Rattle.path_pkg.specs.Written.{framed, Puts, Writes};
 ghost use Rattle.path_pkg.specs.declared.record.Packed.TheVariants.{Dir, File};
 
@@ -49,10 +50,10 @@ impl ToolchainPackageBuilder {
 
     /// Adds the directory `/tmp`.
     pub fn add_common<T: Tree>(&mut self, tree: &mut T) -> Result<(), PackError>
-        ensures records { Holds (T.told tree.old) (λ t. Gives (λ _. self.new) (onto self.old (added Dir t (codes "/tmp"))) result) }
+        ensures records { WhereTold (T.told tree.old) (λ t. Gives (λ _. self.new) (onto self.old (added Dir t (codes "/tmp"))) result) }
         ensures absolute { IfErr result (λ e. ¬ (e ≡ PackError.NotAbsolute)) }
         ensures err { OnErr result (self.new ≡ self.old) }
-        ensures leaves { PackLeaves result (T.told tree.old) (T.told tree.new) }
+        ensures leaves { PackLeavesTree result (T.told tree.old) (T.told tree.new) }
     {
         self.add_dir(tree, "/tmp")
     }
@@ -61,10 +62,10 @@ impl ToolchainPackageBuilder {
     /// where the path does not begin with `/`; NotDir where it leads to no directory; TooManyLinks past forty
     /// links; PathTooLong where a packed path, or the path or target of a link, is longer than 65,535 bytes.
     pub fn add_dir<T: Tree>(&mut self, tree: &mut T, path: &str) -> Result<(), PackError>
-        ensures records { Holds (T.told tree.old) (λ t. Gives (λ _. self.new) (onto self.old (added Dir t path.now)) result) }
+        ensures records { WhereTold (T.told tree.old) (λ t. Gives (λ _. self.new) (onto self.old (added Dir t path.now)) result) }
         ensures not_absolute { (result ≡ Err PackError.NotAbsolute) ↔ (is_absolute path.now ≡ false) }
         ensures err { OnErr result (self.new ≡ self.old) }
-        ensures leaves { PackLeaves result (T.told tree.old) (T.told tree.new) }
+        ensures leaves { PackLeavesTree result (T.told tree.old) (T.told tree.new) }
     {
         match added(self.alloc, tree, path, Packed::Dir) {
             Ok(mut more) => {
@@ -77,10 +78,10 @@ impl ToolchainPackageBuilder {
 
     /// Adds a file and the links on its way, and is refused as `add_dir`, with NotFile in place of NotDir.
     pub fn add_file<T: Tree>(&mut self, tree: &mut T, path: &str) -> Result<(), PackError>
-        ensures records { Holds (T.told tree.old) (λ t. Gives (λ _. self.new) (onto self.old (added File t path.now)) result) }
+        ensures records { WhereTold (T.told tree.old) (λ t. Gives (λ _. self.new) (onto self.old (added File t path.now)) result) }
         ensures not_absolute { (result ≡ Err PackError.NotAbsolute) ↔ (is_absolute path.now ≡ false) }
         ensures err { OnErr result (self.new ≡ self.old) }
-        ensures leaves { PackLeaves result (T.told tree.old) (T.told tree.new) }
+        ensures leaves { PackLeavesTree result (T.told tree.old) (T.told tree.new) }
     {
         match added(self.alloc, tree, path, Packed::File) {
             Ok(mut more) => {
@@ -94,10 +95,10 @@ impl ToolchainPackageBuilder {
     /// Adds each file below a directory and each link there that leads to a file, with the links on their way, and
     /// skips all else. It is refused as `add_dir`, and then adds nothing.
     pub fn add_dir_contents<T: Tree>(&mut self, tree: &mut T, path: &str) -> Result<(), PackError>
-        ensures records { Holds (T.told tree.old) (λ t. Gives (λ _. self.new) (onto self.old (contents_records t path.now)) result) }
+        ensures records { WhereTold (T.told tree.old) (λ t. Gives (λ _. self.new) (onto self.old (contents_records t path.now)) result) }
         ensures not_absolute { (result ≡ Err PackError.NotAbsolute) ↔ (is_absolute path.now ≡ false) }
         ensures err { OnErr result (self.new ≡ self.old) }
-        ensures leaves { PackLeaves result (T.told tree.old) (T.told tree.new) }
+        ensures leaves { PackLeavesTree result (T.told tree.old) (T.told tree.new) }
     {
         match contents(self.alloc, tree, path) {
             Ok(mut more) => {
@@ -109,14 +110,16 @@ impl ToolchainPackageBuilder {
     }
 
     /// Writes the package as a framed list: its directories, then its files, then its links, each by path in byte
-    /// order, of each path the last. TreeFault, NotUtf8 and SinkFault come only where a count rose. After a refusal a
-    /// front of the list was written.
+    /// order, of each path the last. Over a tree that does not tell what stands where, its paths and links are these, with
+    /// some content for each file. TreeFault, NotUtf8 and SinkFault come only where a count rose. After a refusal a front
+    /// of the list was written.
     pub fn into_framed_list<T: Tree, W: Sink>(
         self,
         tree: &mut T,
         out: &mut W,
     ) -> Result<(), PackError>
-        ensures puts { Holds (T.told tree.old) (λ t. Puts result (framed t self) (W.held out.old) (W.held out.new)) }
+        ensures puts { WhereTold (T.told tree.old) (λ t. Puts result (framed t self) (W.held out.old) (W.held out.new)) }
+        ensures outline { PutsPackage result (written_order self) (W.held out.old) (W.held out.new) }
         ensures writes { Writes result (T.told tree.old) (T.told tree.new) (W.faults out.old) (W.faults out.new) }
     {
         let alloc = self.alloc;

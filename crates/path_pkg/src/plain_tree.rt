@@ -4,13 +4,14 @@ ghost use Rattle.path_pkg.specs.Fault.{is_decided};
 ghost use Rattle.std.specs.Option.{option_copied};
 ghost use Rattle.path_pkg.specs.MapNodes.{nodes_of};
 ghost use Rattle.path_pkg.specs.Resolved.{target_node, dir_prefix, is_within, paths_below};
-ghost use Rattle.path_pkg.specs.Tree.{node_at, kind_of, target_of};
+ghost use Rattle.path_pkg.specs.Told.{IsInByteOrder};
+ghost use Rattle.path_pkg.specs.Tree.{node_at, kind_of, link_of};
 
 use crate::fault::{PackError, TreeFault};
+use crate::link_lookup::LinkLookup;
 use crate::node::{Kind, Node};
 use crate::place::text;
 use crate::simplify::simplified;
-use crate::tree::Links;
 use std::alloc::{AllocError, Global};
 use std::collections::BTreeMap;
 
@@ -34,17 +35,24 @@ pub(crate) fn kind_of(node: Option<&Node>) -> Kind
     }
 }
 
-/// The target of a link, and of all else the empty text.
-fn target_of<'a>(node: Option<&'a Node>) -> &'a str
-    ensures { result.now ≡ target_of (option_copied node.entry) }
+/// The target, where the node is a link.
+pub(crate) fn link_of<'a>(node: Option<&'a Node>) -> Option<&'a str>
+    ensures { option_copied result ≡ link_of (option_copied node.entry) }
 {
     match node {
-        None => "",
-        Some(Node::Dir) => "",
-        Some(Node::File(_)) => "",
-        Some(Node::Link(target)) => target.get(),
-        Some(Node::Other) => "",
+        None => None,
+        Some(Node::Dir) => None,
+        Some(Node::File(_)) => None,
+        Some(Node::Link(target)) => Some(target.get()),
+        Some(Node::Other) => None,
     }
+}
+
+/// The paths of a map are in byte order. It does nothing when it runs.
+pub(crate) fn in_byte_order(nodes: &BTreeMap<String, Node>)
+    ensures { IsInByteOrder (nodes_of nodes.now.entries) }
+{
+    let _ = nodes.len();
 }
 
 /// A map of nodes, of which as much may be asked as one likes.
@@ -54,20 +62,24 @@ struct PlainTree<'a> {
     nodes: &'a BTreeMap<String, Node>,
 }
 
-impl Links for PlainTree<'_> {
+impl LinkLookup for PlainTree<'_> {
     ghost use Rattle.std.specs.Prelude.{Some};
     ghost use Rattle.path_pkg.specs.MapNodes.{nodes_of};
 
     ghost told = { λ s. record { nodes = Some (nodes_of s.nodes.now.entries); faults = 0; misnamed = 0 } };
 
-    fn kind(&mut self, path: &str) -> Result<Kind, TreeFault> {
-        Ok(kind_of(node(self.nodes, path)))
+    fn is_link(&mut self, path: &str) -> Result<bool, TreeFault> {
+        Ok(kind_of(node(self.nodes, path)) == Kind::Link)
     }
 
-    fn read_link(&mut self, path: &str) -> Result<String, TreeFault> {
-        let target = target_of(node(self.nodes, path));
-        let copy = String::from_str(self.alloc, target)?;
-        Ok(copy)
+    fn link_target(&mut self, path: &str) -> Result<String, TreeFault> {
+        match link_of(node(self.nodes, path)) {
+            Some(target) => {
+                let copy = String::from_str(self.alloc, target)?;
+                Ok(copy)
+            }
+            None => unreachable!(),
+        }
     }
 }
 

@@ -4,10 +4,10 @@ ghost use Rattle.std.specs.Cmp.Lexicographic.{slice_cmp};
 ghost use Rattle.std.specs.List.Sorted.{IsStrictlySortedBy};
 ghost use Rattle.std.specs.Option.{option_map, is_some};
 ghost use Rattle.std.specs.Ordering.{nat_cmp};
-ghost use Rattle.path_pkg.specs.Fault.{is_simplify_error, Gives, PackLeaves};
+ghost use Rattle.path_pkg.specs.Fault.{is_simplify_error, Gives, PackLeavesTree};
 ghost use Rattle.path_pkg.specs.Recorded.{recorded, recorded_with, IsSameMap};
 ghost use Rattle.path_pkg.specs.Simplified.{simplified, simple_path};
-ghost use Rattle.path_pkg.specs.Told.{Holds};
+ghost use Rattle.path_pkg.specs.Told.{WhereTold};
 ghost use Rattle.path_pkg.specs.Windows.{local_of, pairs_of};
 ghost use Rattle.path_pkg.specs.Written.{Entry, put, put_all};
 
@@ -81,11 +81,11 @@ fn simplify_recorded<T: Links>(
     path: &str,
     links: &mut BTreeMap<String, String>,
 ) -> Result<String, PackError>
-    ensures simplified { Holds (T.told tree.old) (λ t. Gives string_bytes (simple_path true t path.now) result) }
-    ensures links { OnOk result (Holds (T.told tree.old) (λ t. pairs_of links.new.entries ≡ recorded_with (pairs_of links.old.entries) (simplified true t path.now))) }
+    ensures simplified { WhereTold (T.told tree.old) (λ t. Gives string_bytes (simple_path true t path.now) result) }
+    ensures links { OnOk result (WhereTold (T.told tree.old) (λ t. pairs_of links.new.entries ≡ recorded_with (pairs_of links.old.entries) (simplified true t path.now))) }
     ensures err { OnErr result (pairs_of links.new.entries ≡ pairs_of links.old.entries) }
     ensures reasons { IfErr result (λ e. is_simplify_error e ≡ true) }
-    ensures leaves { PackLeaves result (T.told tree.old) (T.told tree.new) }
+    ensures leaves { PackLeavesTree result (T.told tree.old) (T.told tree.new) }
 {
     match simplified(alloc, tree, true, path) {
         Ok(place) => {
@@ -115,12 +115,12 @@ impl SimplifyPath<'_> {
         tree: &mut T,
         path: &str,
     ) -> Result<String, PackError>
-        ensures simplified { Holds (T.told tree.old) (λ t. Gives string_bytes (simple_path (is_some (recorded self.old.resolved_symlinks)) t path.now) result) }
-        ensures links { OnOk result (Holds (T.told tree.old) (λ t. recorded self.new.resolved_symlinks ≡ option_map (λ links. recorded_with links (simplified true t path.now)) (recorded self.old.resolved_symlinks))) }
+        ensures simplified { WhereTold (T.told tree.old) (λ t. Gives string_bytes (simple_path (is_some (recorded self.old.resolved_symlinks)) t path.now) result) }
+        ensures links { OnOk result (WhereTold (T.told tree.old) (λ t. recorded self.new.resolved_symlinks ≡ option_map (λ links. recorded_with links (simplified true t path.now)) (recorded self.old.resolved_symlinks))) }
         ensures err { OnErr result (recorded self.new.resolved_symlinks ≡ recorded self.old.resolved_symlinks) }
         ensures reasons { IfErr result (λ e. is_simplify_error e ≡ true) }
         ensures same_map { IsSameMap self.old.resolved_symlinks self.new.resolved_symlinks }
-        ensures leaves { PackLeaves result (T.told tree.old) (T.told tree.new) }
+        ensures leaves { PackLeavesTree result (T.told tree.old) (T.told tree.new) }
     {
         match &mut self.resolved_symlinks {
             Some(links) => simplify_recorded(alloc, tree, path, links),

@@ -1,16 +1,16 @@
 //! Paths made simple: without empty parts, `.` and `..`, and with recording without links.
 ghost use Rattle.std.specs.Prelude.{◌≡◌, ◌++◌, ◌∷◌, [], ℕ, true, false, IfOk, IfErr, OnOk, string_bytes};
-ghost use Rattle.path_pkg.specs.Fault.{is_decided, is_simplify_error, Gives, PackLeaves};
+ghost use Rattle.path_pkg.specs.Fault.{is_decided, is_simplify_error, Gives, PackLeavesTree};
 ghost use Rattle.path_pkg.specs.Path.{steps_of};
 ghost use Rattle.path_pkg.specs.Place.{spot_of};
 ghost use Rattle.path_pkg.specs.Simplified.{is_met, link_target, taken, simplified, simple_path};
 ghost use Rattle.path_pkg.specs.Spot.{spot_text, above, below, beside};
-ghost use Rattle.path_pkg.specs.Told.{Holds};
+ghost use Rattle.path_pkg.specs.Told.{WhereTold};
 ghost use Rattle.path_pkg.specs.declared.path.Step.TheVariants.{Linked};
 ghost use Rattle.path_pkg.specs.Tree.{is_link};
 
 use crate::fault::PackError;
-use crate::node::Kind;
+use crate::link_lookup::LinkLookup;
 use crate::path::{Step, steps_of};
 use crate::place::{Place, above, below, beside, noted, start, text};
 use crate::tree::Links;
@@ -22,31 +22,25 @@ use std::collections::VecDeque;
 pub const MAX_LINKS: u32 = 40;
 
 #[tactic(auto, using(crate::proofs::FaultLemmas::undecided, crate::proofs::FaultLemmas::of_simplify, crate::proofs::FaultLemmas::pack_refused, crate::proofs::FaultLemmas::untouched))]
-fn is_link_at<T: Links>(alloc: Global, tree: &mut T, place: &Place) -> Result<bool, PackError>
-    ensures link { IfOk result (λ b. Holds (T.told tree.old) (λ t. b ≡ is_link t (spot_text (spot_of place.now)))) }
+fn is_link_at<T: LinkLookup>(alloc: Global, tree: &mut T, place: &Place) -> Result<bool, PackError>
+    ensures link { IfOk result (λ b. WhereTold (T.told tree.old) (λ t. b ≡ is_link t (spot_text (spot_of place.now)))) }
     ensures decided { IfErr result (λ e. is_decided e ≡ false) }
     ensures reasons { IfErr result (λ e. is_simplify_error e ≡ true) }
-    ensures leaves { PackLeaves result (T.told tree.old) (T.told tree.new) }
+    ensures leaves { PackLeavesTree result (T.told tree.old) (T.told tree.new) }
 {
     let path = text(alloc, place)?;
-    let kind = tree.kind(path.as_str())?;
-    match kind {
-        Kind::Link => Ok(true),
-        Kind::Dir => Ok(false),
-        Kind::File => Ok(false),
-        Kind::Other => Ok(false),
-        Kind::None => Ok(false),
-    }
+    let is_link = tree.is_link(path.as_str())?;
+    Ok(is_link)
 }
 
 /// To the directory above, unless one is at a link.
 #[tactic(auto, using(crate::proofs::FaultLemmas::untouched))]
-fn go_up<T: Links>(alloc: Global, tree: &mut T, place: Place) -> Result<Place, PackError>
+fn go_up<T: LinkLookup>(alloc: Global, tree: &mut T, place: Place) -> Result<Place, PackError>
     ensures up { IfOk result (λ p. spot_of p ≡ above (spot_of place)) }
-    ensures free { OnOk result (Holds (T.told tree.old) (λ t. is_link t (spot_text (spot_of place)) ≡ false)) }
+    ensures free { OnOk result (WhereTold (T.told tree.old) (λ t. is_link t (spot_text (spot_of place)) ≡ false)) }
     ensures reasons { IfErr result (λ e. is_simplify_error e ≡ true) }
-    ensures at_link { IfErr result (λ e. is_decided e ≡ true → (e ≡ PackError.LinkInParent) × Holds (T.told tree.old) (λ t. is_link t (spot_text (spot_of place)) ≡ true)) }
-    ensures leaves { PackLeaves result (T.told tree.old) (T.told tree.new) }
+    ensures at_link { IfErr result (λ e. is_decided e ≡ true → (e ≡ PackError.LinkInParent) × WhereTold (T.told tree.old) (λ t. is_link t (spot_text (spot_of place)) ≡ true)) }
+    ensures leaves { PackLeavesTree result (T.told tree.old) (T.told tree.new) }
 {
     if is_link_at(alloc, tree, &place)? {
         return Err(PackError::LinkInParent);
@@ -55,16 +49,16 @@ fn go_up<T: Links>(alloc: Global, tree: &mut T, place: Place) -> Result<Place, P
 }
 
 /// Whether one is at a link that is to be replaced.
-fn is_met<T: Links>(
+fn is_met<T: LinkLookup>(
     alloc: Global,
     tree: &mut T,
     recording: bool,
     place: &Place,
 ) -> Result<bool, PackError>
-    ensures met { IfOk result (λ b. Holds (T.told tree.old) (λ t. b ≡ is_met t recording (spot_of place.now))) }
+    ensures met { IfOk result (λ b. WhereTold (T.told tree.old) (λ t. b ≡ is_met t recording (spot_of place.now))) }
     ensures decided { IfErr result (λ e. is_decided e ≡ false) }
     ensures reasons { IfErr result (λ e. is_simplify_error e ≡ true) }
-    ensures leaves { PackLeaves result (T.told tree.old) (T.told tree.new) }
+    ensures leaves { PackLeavesTree result (T.told tree.old) (T.told tree.new) }
 {
     if !recording {
         return Ok(false);
@@ -74,21 +68,22 @@ fn is_met<T: Links>(
 
 /// From the link where one is: the place that its target is taken from, the steps of the target, and then the others.
 #[tactic(auto, using(crate::proofs::FaultLemmas::undecided, crate::proofs::FaultLemmas::of_simplify, crate::proofs::FaultLemmas::pack_refused, crate::proofs::FaultLemmas::untouched))]
-fn follow<T: Links>(
+fn follow<T: LinkLookup>(
     alloc: Global,
     tree: &mut T,
     place: Place,
     others: VecDeque<Step>,
 ) -> Result<(Place, VecDeque<Step>), PackError>
-    ensures place { IfOk result (λ r. Holds (T.told tree.old) (λ t. spot_of r.0 ≡ beside (above (spot_of place)) (link_target t (spot_of place)))) }
-    ensures steps { IfOk result (λ r. Holds (T.told tree.old) (λ t. r.1.items ≡ steps_of (link_target t (spot_of place)) ++ Linked (spot_text (spot_of place)) ∷ others.items)) }
+    requires { WhereTold (T.told tree.old) (λ t. is_link t (spot_text (spot_of place)) ≡ true) }
+    ensures place { IfOk result (λ r. WhereTold (T.told tree.old) (λ t. spot_of r.0 ≡ beside (above (spot_of place)) (link_target t (spot_of place)))) }
+    ensures steps { IfOk result (λ r. WhereTold (T.told tree.old) (λ t. r.1.items ≡ steps_of (link_target t (spot_of place)) ++ Linked (spot_text (spot_of place)) ∷ others.items)) }
     ensures decided { IfErr result (λ e. is_decided e ≡ false) }
     ensures reasons { IfErr result (λ e. is_simplify_error e ≡ true) }
-    ensures leaves { PackLeaves result (T.told tree.old) (T.told tree.new) }
+    ensures leaves { PackLeavesTree result (T.told tree.old) (T.told tree.new) }
 {
     let mut others = others;
     let path = text(alloc, &place)?;
-    let target = tree.read_link(path.as_str())?;
+    let target = tree.link_target(path.as_str())?;
     let next = beside(alloc, above(place), target.as_str());
     let mut steps = steps_of(alloc, target.as_str())?;
     push(&mut steps, Step::Linked(Text::new(path)))?;
@@ -104,7 +99,7 @@ fn push(steps: &mut VecDeque<Step>, step: Step) -> Result<(), AllocError>
 }
 
 /// Takes the steps, and replaces at most so many links.
-fn take<T: Links>(
+fn take<T: LinkLookup>(
     alloc: Global,
     tree: &mut T,
     recording: bool,
@@ -112,9 +107,9 @@ fn take<T: Links>(
     place: Place,
     todo: VecDeque<Step>,
 ) -> Result<Place, PackError>
-    ensures taken { Holds (T.told tree.old) (λ t. Gives spot_of (taken left t recording (spot_of place) todo.items) result) }
+    ensures taken { WhereTold (T.told tree.old) (λ t. Gives spot_of (taken left t recording (spot_of place) todo.items) result) }
     ensures reasons { IfErr result (λ e. is_simplify_error e ≡ true) }
-    ensures leaves { PackLeaves result (T.told tree.old) (T.told tree.new) }
+    ensures leaves { PackLeavesTree result (T.told tree.old) (T.told tree.new) }
 {
     let mut place = place;
     let mut todo = todo;
@@ -144,15 +139,15 @@ fn take<T: Links>(
 
 /// A path made simple, with the links that were replaced on it.
 #[tactic(auto, using(crate::proofs::FaultLemmas::untouched), unfolding(crate::specs::Simplified::simplified))]
-pub(crate) fn simplified<T: Links>(
+pub(crate) fn simplified<T: LinkLookup>(
     alloc: Global,
     tree: &mut T,
     recording: bool,
     path: &str,
 ) -> Result<Place, PackError>
-    ensures simplified { Holds (T.told tree.old) (λ t. Gives spot_of (simplified recording t path.now) result) }
+    ensures simplified { WhereTold (T.told tree.old) (λ t. Gives spot_of (simplified recording t path.now) result) }
     ensures reasons { IfErr result (λ e. is_simplify_error e ≡ true) }
-    ensures leaves { PackLeaves result (T.told tree.old) (T.told tree.new) }
+    ensures leaves { PackLeavesTree result (T.told tree.old) (T.told tree.new) }
 {
     let steps = steps_of(alloc, path)?;
     take(alloc, tree, recording, MAX_LINKS, start(alloc, path), steps)
@@ -163,9 +158,9 @@ pub(crate) fn simplified<T: Links>(
 /// TreeFault and NotUtf8 come only where the tree's count of them rose.
 #[tactic(auto, using(crate::proofs::FaultLemmas::untouched))]
 pub fn simplify_path<T: Links>(alloc: Global, tree: &mut T, path: &str) -> Result<String, PackError>
-    ensures simplified { Holds (T.told tree.old) (λ t. Gives string_bytes (simple_path false t path.now) result) }
+    ensures simplified { WhereTold (T.told tree.old) (λ t. Gives string_bytes (simple_path false t path.now) result) }
     ensures reasons { IfErr result (λ e. is_simplify_error e ≡ true) }
-    ensures leaves { PackLeaves result (T.told tree.old) (T.told tree.new) }
+    ensures leaves { PackLeavesTree result (T.told tree.old) (T.told tree.new) }
 {
     match simplified(alloc, tree, false, path) {
         Ok(place) => {

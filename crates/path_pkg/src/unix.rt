@@ -1,5 +1,5 @@
 //! Paths of Unix, as they are sent and as they are read again.
-ghost use Rattle.std.specs.Prelude.{◌≡◌, [], Some, IfOk, IfErr, string_bytes};
+ghost use Rattle.std.specs.Prelude.{◌≡◌, [], Some, IfOk, IfErr, IsOkAnd, string_bytes};
 ghost use Rattle.std.specs.Option.{option_map};
 ghost use Rattle.path_pkg.specs.Path.{is_absolute};
 ghost use Rattle.path_pkg.specs.Unix.{unix_dist, unix_dist_abs};
@@ -70,9 +70,9 @@ impl PathTransformer {
         Ok(copy)
     }
 
-    /// The disks that were mapped: there are none.
+    /// The disks that were mapped: there are none. It is never refused.
     pub fn disk_mappings(&self) -> Result<Vec<(String, String)>, PackError>
-        ensures { IfOk result (λ v. v.items ≡ []) }
+        ensures { IsOkAnd result (λ v. v.items ≡ []) }
     {
         Ok(Vec::new(self.alloc))
     }

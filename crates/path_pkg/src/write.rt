@@ -1,9 +1,10 @@
 //! Writing a package.
-ghost use Rattle.std.specs.Prelude.{◌≡◌, ◌≤◌, ◌++◌, ◌∷◌, [], length, string_bytes, IfOk, IfErr, OnErr, OnOk};
+ghost use Rattle.std.specs.Prelude.{◌≡◌, ◌≤◌, ◌++◌, ◌∷◌, [], length, map, string_bytes, IfOk, IfErr, OnErr, OnOk};
 ghost use Rattle.dist_types.specs.Cause.{Rose};
 ghost use Rattle.path_pkg.specs.Framed.{frame_bytes};
 ghost use Rattle.path_pkg.specs.Framed.Frame.{FileFrame};
-ghost use Rattle.path_pkg.specs.Told.{Holds};
+ghost use Rattle.path_pkg.specs.Outline.{record_at, written_order, PutsFrames, PutsPackage};
+ghost use Rattle.path_pkg.specs.Told.{WhereTold};
 ghost use Rattle.path_pkg.specs.Written.{content_in, frame_at, texts_of, group_bytes, framed, EntriesFit, Puts, Writes};
 ghost use Rattle.path_pkg.specs.Records.{RecordsFit};
 
@@ -53,7 +54,7 @@ fn rooted(alloc: Global, path: &str) -> Result<String, AllocError>
 }
 
 /// Reads a file and writes its record.
-#[tactic(auto, using(crate::proofs::WrittenLemmas::began_none, crate::proofs::WrittenLemmas::unwritten, crate::proofs::WrittenLemmas::unread))]
+#[tactic(auto, using(crate::proofs::WrittenLemmas::began_none, crate::proofs::WrittenLemmas::unwritten, crate::proofs::WrittenLemmas::unread, crate::proofs::OutlineLemmas::no_frames))]
 fn write_file<T: Tree, W: Sink>(
     alloc: Global,
     tree: &mut T,
@@ -61,7 +62,8 @@ fn write_file<T: Tree, W: Sink>(
     path: &str,
 ) -> Result<(), PackError>
     requires { length path.now ≤ 65535 }
-    ensures puts { Holds (T.told tree.old) (λ t. Puts result (frame_bytes (FileFrame path.now (content_in t path.now))) (W.held out.old) (W.held out.new)) }
+    ensures puts { WhereTold (T.told tree.old) (λ t. Puts result (frame_bytes (FileFrame path.now (content_in t path.now))) (W.held out.old) (W.held out.new)) }
+    ensures outline { PutsFrames result (Record.File path.now ∷ []) (W.held out.old) (W.held out.new) }
     ensures writes { Writes result (T.told tree.old) (T.told tree.new) (W.faults out.old) (W.faults out.new) }
 {
     let rooted = rooted(alloc, path)?;
@@ -71,7 +73,7 @@ fn write_file<T: Tree, W: Sink>(
 }
 
 /// Writes the record of one entry.
-#[tactic(auto, using(crate::proofs::WrittenLemmas::began_none, crate::proofs::WrittenLemmas::unwritten))]
+#[tactic(auto, using(crate::proofs::WrittenLemmas::began_none, crate::proofs::WrittenLemmas::unwritten, crate::proofs::OutlineLemmas::no_frames, crate::proofs::OutlineLemmas::none_so_far))]
 fn write_frame<T: Tree, W: Sink>(
     alloc: Global,
     tree: &mut T,
@@ -82,7 +84,8 @@ fn write_frame<T: Tree, W: Sink>(
 ) -> Result<(), PackError>
     requires path { length path.now ≤ 65535 }
     requires target { length target.now ≤ 65535 }
-    ensures puts { Holds (T.told tree.old) (λ t. Puts result (frame_bytes (frame_at t rank (path.now, target.now))) (W.held out.old) (W.held out.new)) }
+    ensures puts { WhereTold (T.told tree.old) (λ t. Puts result (frame_bytes (frame_at t rank (path.now, target.now))) (W.held out.old) (W.held out.new)) }
+    ensures outline { PutsFrames result (record_at rank (path.now, target.now) ∷ []) (W.held out.old) (W.held out.new) }
     ensures writes { Writes result (T.told tree.old) (T.told tree.new) (W.faults out.old) (W.faults out.new) }
 {
     if rank == 0 {
@@ -97,7 +100,7 @@ fn write_frame<T: Tree, W: Sink>(
 }
 
 /// Writes the records of one kind.
-#[tactic(auto, using(crate::proofs::WrittenLemmas::began_none, crate::proofs::WrittenLemmas::unwritten))]
+#[tactic(auto, using(crate::proofs::WrittenLemmas::began_none, crate::proofs::WrittenLemmas::unwritten, crate::proofs::OutlineLemmas::no_frames, crate::proofs::OutlineLemmas::none_so_far))]
 fn write_group<T: Tree, W: Sink>(
     alloc: Global,
     tree: &mut T,
@@ -106,7 +109,8 @@ fn write_group<T: Tree, W: Sink>(
     entries: &Entries,
 ) -> Result<(), PackError>
     requires { EntriesFit (texts_of entries.now.entries) }
-    ensures puts { Holds (T.told tree.old) (λ t. Puts result (group_bytes t rank (texts_of entries.now.entries)) (W.held out.old) (W.held out.new)) }
+    ensures puts { WhereTold (T.told tree.old) (λ t. Puts result (group_bytes t rank (texts_of entries.now.entries)) (W.held out.old) (W.held out.new)) }
+    ensures outline { PutsFrames result (map (record_at rank) (texts_of entries.now.entries)) (W.held out.old) (W.held out.new) }
     ensures writes { Writes result (T.told tree.old) (T.told tree.new) (W.faults out.old) (W.faults out.new) }
 {
     for (path, target) in entries {
@@ -119,7 +123,7 @@ fn write_group<T: Tree, W: Sink>(
 }
 
 /// Writes the links and the byte at the end.
-#[tactic(auto, using(crate::proofs::WrittenLemmas::puts_then, crate::proofs::WrittenLemmas::began_front))]
+#[tactic(auto, using(crate::proofs::WrittenLemmas::puts_then, crate::proofs::WrittenLemmas::began_front, crate::proofs::OutlineLemmas::end_package, crate::proofs::OutlineLemmas::stopped_end))]
 fn write_links<T: Tree, W: Sink>(
     alloc: Global,
     tree: &mut T,
@@ -127,7 +131,8 @@ fn write_links<T: Tree, W: Sink>(
     links: &Entries,
 ) -> Result<(), PackError>
     requires { EntriesFit (texts_of links.now.entries) }
-    ensures puts { Holds (T.told tree.old) (λ t. Puts result (group_bytes t 2 (texts_of links.now.entries) ++ 69 ∷ []) (W.held out.old) (W.held out.new)) }
+    ensures puts { WhereTold (T.told tree.old) (λ t. Puts result (group_bytes t 2 (texts_of links.now.entries) ++ 69 ∷ []) (W.held out.old) (W.held out.new)) }
+    ensures outline { PutsPackage result (map (record_at 2) (texts_of links.now.entries)) (W.held out.old) (W.held out.new) }
     ensures writes { Writes result (T.told tree.old) (T.told tree.new) (W.faults out.old) (W.faults out.new) }
 {
     match write_group(alloc, tree, out, 2, links) {
@@ -137,7 +142,7 @@ fn write_links<T: Tree, W: Sink>(
 }
 
 /// Writes the files, the links and the byte at the end.
-#[tactic(auto, using(crate::proofs::WrittenLemmas::puts_then, crate::proofs::WrittenLemmas::began_front))]
+#[tactic(auto, using(crate::proofs::WrittenLemmas::puts_then, crate::proofs::WrittenLemmas::began_front, crate::proofs::OutlineLemmas::then_package, crate::proofs::OutlineLemmas::stopped_package))]
 fn write_files<T: Tree, W: Sink>(
     alloc: Global,
     tree: &mut T,
@@ -147,7 +152,8 @@ fn write_files<T: Tree, W: Sink>(
 ) -> Result<(), PackError>
     requires files { EntriesFit (texts_of files.now.entries) }
     requires links { EntriesFit (texts_of links.now.entries) }
-    ensures puts { Holds (T.told tree.old) (λ t. Puts result (group_bytes t 1 (texts_of files.now.entries) ++ (group_bytes t 2 (texts_of links.now.entries) ++ 69 ∷ [])) (W.held out.old) (W.held out.new)) }
+    ensures puts { WhereTold (T.told tree.old) (λ t. Puts result (group_bytes t 1 (texts_of files.now.entries) ++ (group_bytes t 2 (texts_of links.now.entries) ++ 69 ∷ [])) (W.held out.old) (W.held out.new)) }
+    ensures outline { PutsPackage result (map (record_at 1) (texts_of files.now.entries) ++ map (record_at 2) (texts_of links.now.entries)) (W.held out.old) (W.held out.new) }
     ensures writes { Writes result (T.told tree.old) (T.told tree.new) (W.faults out.old) (W.faults out.new) }
 {
     match write_group(alloc, tree, out, 1, files) {
@@ -157,7 +163,7 @@ fn write_files<T: Tree, W: Sink>(
 }
 
 /// Writes the directories, the files, the links and the byte at the end.
-#[tactic(auto, using(crate::proofs::WrittenLemmas::puts_then, crate::proofs::WrittenLemmas::began_front))]
+#[tactic(auto, using(crate::proofs::WrittenLemmas::puts_then, crate::proofs::WrittenLemmas::began_front, crate::proofs::OutlineLemmas::then_package, crate::proofs::OutlineLemmas::stopped_package))]
 fn write_entries<T: Tree, W: Sink>(
     alloc: Global,
     tree: &mut T,
@@ -169,7 +175,8 @@ fn write_entries<T: Tree, W: Sink>(
     requires dirs { EntriesFit (texts_of dirs.now.entries) }
     requires files { EntriesFit (texts_of files.now.entries) }
     requires links { EntriesFit (texts_of links.now.entries) }
-    ensures puts { Holds (T.told tree.old) (λ t. Puts result (group_bytes t 0 (texts_of dirs.now.entries) ++ (group_bytes t 1 (texts_of files.now.entries) ++ (group_bytes t 2 (texts_of links.now.entries) ++ 69 ∷ []))) (W.held out.old) (W.held out.new)) }
+    ensures puts { WhereTold (T.told tree.old) (λ t. Puts result (group_bytes t 0 (texts_of dirs.now.entries) ++ (group_bytes t 1 (texts_of files.now.entries) ++ (group_bytes t 2 (texts_of links.now.entries) ++ 69 ∷ []))) (W.held out.old) (W.held out.new)) }
+    ensures outline { PutsPackage result (map (record_at 0) (texts_of dirs.now.entries) ++ (map (record_at 1) (texts_of files.now.entries) ++ map (record_at 2) (texts_of links.now.entries))) (W.held out.old) (W.held out.new) }
     ensures writes { Writes result (T.told tree.old) (T.told tree.new) (W.faults out.old) (W.faults out.new) }
 {
     match write_group(alloc, tree, out, 0, dirs) {
@@ -179,7 +186,7 @@ fn write_entries<T: Tree, W: Sink>(
 }
 
 /// Writes the framed list of a package.
-#[tactic(auto, using(crate::proofs::WrittenLemmas::began_none, crate::proofs::WrittenLemmas::unwritten))]
+#[tactic(auto, using(crate::proofs::WrittenLemmas::began_none, crate::proofs::WrittenLemmas::unwritten, crate::proofs::OutlineLemmas::no_package))]
 pub(crate) fn write_package<T: Tree, W: Sink>(
     alloc: Global,
     tree: &mut T,
@@ -187,7 +194,8 @@ pub(crate) fn write_package<T: Tree, W: Sink>(
     records: &[Record],
 ) -> Result<(), PackError>
     requires { RecordsFit records.now }
-    ensures puts { Holds (T.told tree.old) (λ t. Puts result (framed t records.now) (W.held out.old) (W.held out.new)) }
+    ensures puts { WhereTold (T.told tree.old) (λ t. Puts result (framed t records.now) (W.held out.old) (W.held out.new)) }
+    ensures outline { PutsPackage result (written_order records.now) (W.held out.old) (W.held out.new) }
     ensures writes { Writes result (T.told tree.old) (T.told tree.new) (W.faults out.old) (W.faults out.new) }
 {
     let dirs = sorted(alloc, records, 0)?;

@@ -2,6 +2,7 @@ use Rattle.std.proofs.Common.{◌≡◌, ℕ, List, ◌++◌, Some}
 use Rattle.dist_types.specs.Content.{Added}
 use Rattle.path_pkg.specs.Told.{Nodes}
 use Rattle.path_pkg.specs.Written.{texts_of, group_bytes, EntriesFit}
+use Rattle.path_pkg.proofs.OutlineLemmas.{FramesSoFar}
 use Rattle.path_pkg.proofs.write.write_group.Given as goal
 
 abbrev pub invariant-loop-path : goal.invariant-loop-path
@@ -11,4 +12,5 @@ invariant-loop-path g l = record {
   fit : EntriesFit (texts_of l.path-iterator);
   so_far : (t : Nodes) → (g.T.Links.told l.tree).nodes ≡ Some t
       → (done : List ℕ) × (done ++ group_bytes t l.rank (texts_of l.path-iterator) ≡ group_bytes t l.rank (texts_of l.entries.entries)) × Added done (g.W.Sink.held l.initial.out) (g.W.Sink.held l.out);
+  some : FramesSoFar l.rank (texts_of l.path-iterator) (texts_of l.entries.entries) (g.W.Sink.held l.initial.out) (g.W.Sink.held l.out);
 }

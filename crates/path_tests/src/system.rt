@@ -86,7 +86,7 @@ fn wanted_len(top: usize) -> usize {
 fn a_folder_of_the_system(rt: HostRuntime) -> Result<(), Fail> {
     let alloc = rt.alloc();
     let dir = env::temp_dir(&rt)?;
-    let top = format!(in alloc; "{}/path_rows_tree", dir.as_path().as_str())?;
+    let top = format!(in alloc; "{}/path_tests_tree", dir.as_path().as_str())?;
     let _ = fs::remove_dir_all(&rt, top.as_str());
     write_folder(&rt, top.as_str())?;
     let mut tree = RealTree::new(&rt);

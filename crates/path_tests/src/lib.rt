@@ -1,4 +1,4 @@
-//! The worked rows of path_pkg: paths made simple, mapped paths, packages, the tree of the system. Tests alone;
+//! The tests of path_pkg: paths made simple, mapped paths, packages, the tree of the system. Tests alone;
 //! nothing above uses this crate.
 #![tactic(auto)]
 
@@ -8,6 +8,8 @@ mod disks;
 mod packages;
 #[cfg(test)]
 mod paths;
+#[cfg(test)]
+mod refusals;
 #[cfg(test)]
 mod system;
 #[cfg(test)]
