@@ -15,3 +15,4 @@ pub mod Rule
 pub mod Calls
 pub mod Laws
 pub mod Books
+pub mod Texts

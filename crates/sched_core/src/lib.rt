@@ -23,3 +23,4 @@ pub mod rules;
 mod spending;
 mod standing;
 pub mod state;
+pub mod texts;

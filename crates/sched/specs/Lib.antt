@@ -1,0 +1,5 @@
+pub mod Pass
+pub mod Desk
+pub mod Outside
+pub mod Course
+pub mod Heard
