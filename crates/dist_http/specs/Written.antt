@@ -10,7 +10,7 @@ use Rattle.http_head.specs.declared.written_request.WrittenRequest.{WrittenReque
 use Rattle.http_head.specs.WrittenRequest.{request_text}
 
 -- the request that asks a server to take a job, under the job's token and with that body
-abbrev pub assign_with : Addr → JobId → List ℕ → List ℕ → WrittenRequest
+unfoldable pub assign_with : Addr → JobId → List ℕ → List ℕ → WrittenRequest
 assign_with server job token body = record {
   method = Post;
   target = codes "/api/v1/distserver/assign_job/" ++ decimal job.0;

@@ -11,6 +11,7 @@ use http_head::written_request::{Method, WrittenRequest};
 use std::alloc::Global;
 
 /// The request that asks a server to take a job, under the job's token and with that body.
+#[tactic(auto, unfolding(crate::specs::Written::assign_with))]
 fn assign_with(
     alloc: Global,
     server: ServerId,
