@@ -9,7 +9,8 @@ use Rattle.farm_script.specs.Script.{script}
 use Rattle.farm_script.specs.FirstFaulty.{IsFirstFaulty}
 use Rattle.farm_script.proofs.FirstFaultyLemmas.{first_faulty}
 use Rattle.farm_script.proofs.SpelledLemmas.{script_is_said}
-use Rattle.farm.specs.Command.{names_farm, IsRunText, IsReadText, fault_status, HasNoRun, Side, Called, IsReadWhole, IsPrinted, IsCause, IsDone, IsTold, StandsFor, IsReported, IsAnswered}
+use Rattle.farm_run.specs.RunText.{IsRunText, IsReadText}
+use Rattle.farm.specs.Command.{names_farm, fault_status, HasNoRun, Side, Called, IsReadWhole, IsPrinted, IsCause, IsDone, IsTold, StandsFor, IsReported, IsAnswered}
 
 -- ---- what was read is the script of what input told
 

@@ -1,14 +1,1 @@
-pub mod CallLemmas
 pub mod CommandLemmas
-pub mod HexLemmas
-pub mod IdLemmas
-pub mod MadeLemmas
-pub mod NextLemmas
-pub mod NumberLemmas
-pub mod OneLemmas
-pub mod OwnLemmas
-pub mod RunLemmas
-pub mod ServeLemmas
-pub mod SoundLemmas
-pub mod ThereLemmas
-pub mod WaitLemmas

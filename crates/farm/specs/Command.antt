@@ -4,17 +4,11 @@ use Rattle.std.specs.Fmt.{decimal}
 use Rattle.std.specs.Cmp.Lexicographic.{pointwise}
 use Rattle.dist_types.specs.Cause.{Rose}
 use Rattle.dist_types.specs.Content.{Added, Began, left_behind}
-use Rattle.farm_script.specs.declared.setup.Setup.{Setup}
-use Rattle.farm_script.specs.declared.event.Event.{Event}
-use Rattle.farm.specs.declared.entry.Entry.{Entry}
 use Rattle.farm_script.specs.declared.fault.FarmFault.{FarmFault}
 use Rattle.farm_script.specs.declared.fault.FarmFault.TheVariants.{Usage, BadLine, ReadFault, WriteFault, Memory}
-use Rattle.farm.specs.Next.{EachNext}
-use Rattle.farm.specs.Farm.{AreLawful}
-use Rattle.farm.specs.Printed.{run_text}
+use Rattle.farm_run.specs.RunText.{IsRunText}
 use Rattle.farm_script.specs.Script.{script}
 use Rattle.farm_script.specs.FirstFaulty.{IsFirstFaulty}
-use Rattle.farm_script.specs.Spelled.{Says}
 use Rattle.farm_script.specs.Texts.{◌⧺◌}
 
 -- the program's name and the word farm
@@ -23,29 +17,6 @@ names_farm [] = false
 names_farm (name ∷ []) = false
 names_farm (name ∷ word ∷ []) = pointwise nat_eq word (codes "farm")
 names_farm (name ∷ word ∷ more ∷ others) = false
-
--- The text is that of a script's run: no line of the script is faulty, its lines say a setup and events, and the text is that of
--- the farm that is set up so and of a list that has one entry for each event, each next over those before it. After each front of the
--- entries the laws of the scheduler hold.
-pub record IsRunText (bytes text : List ℕ) : Type 0 where
-  pub setup : Setup
-  pub events : List Event
-  pub entries : List Entry
-  pub fine : (n : ℕ) → IsFirstFaulty bytes n → ⊥
-  pub says : Says bytes setup events
-  pub each : EachNext setup.scheduler [] events entries
-  pub lawful : AreLawful setup.scheduler entries
-  pub is : text ≡ run_text setup.scheduler entries
-
--- the same, where the script is what reading it gives
-pub record IsReadText (bytes text : List ℕ) : Type 0 where
-  pub setup : Setup
-  pub events : List Event
-  pub entries : List Entry
-  pub read : script bytes ≡ Ok (setup, events)
-  pub each : EachNext setup.scheduler [] events entries
-  pub lawful : AreLawful setup.scheduler entries
-  pub is : text ≡ run_text setup.scheduler entries
 
 -- what stands on errs
 abbrev pub fault_text : FarmFault → List ℕ

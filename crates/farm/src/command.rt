@@ -6,13 +6,14 @@ ghost use Rattle.dist_types.specs.Cause.{Rose};
 ghost use Rattle.dist_types.specs.Content.{left_behind};
 ghost use Rattle.farm_script.specs.Script.{script};
 ghost use Rattle.farm_script.specs.FirstFaulty.{IsFirstFaulty};
-ghost use Rattle.farm.specs.Command.{names_farm, IsReadText, HasNoRun, fault_text, IsDone, IsSaid, IsTold, IsReported, IsAnswered};
+ghost use Rattle.farm_run.specs.RunText.{IsReadText};
+ghost use Rattle.farm.specs.Command.{names_farm, HasNoRun, fault_text, IsDone, IsSaid, IsTold, IsReported, IsAnswered};
 ghost use Rattle.farm_script.specs.declared.fault.FarmFault.TheVariants as fault;
 
-use crate::print::print_run;
-use crate::run::Farm;
 use dist_types::sink::{Sink, write_all};
 use dist_types::source::{ReadError, Source, read_up_to};
+use farm_run::print::print_run;
+use farm_run::run::Farm;
 use farm_script::fault::FarmFault;
 use farm_script::script::{MAX_SCRIPT_BYTES, read_script};
 use std::alloc::{AllocError, Global};

@@ -1,7 +1,7 @@
 //! What is written to a server, and what its replies say.
-use dist_http::calls::{assigned, read_reply};
-use dist_http::error::HttpError;
-use dist_http::written::assign_request;
+use http_routes::calls::{assigned, read_reply};
+use http_routes::error::HttpError;
+use http_routes::written::assign_request;
 use dist_types::addr::Addr;
 use dist_types::ids::{JobId, ServerId};
 use dist_types::outgoing::CallFault;

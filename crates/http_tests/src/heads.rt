@@ -1,5 +1,5 @@
-use dist_http::error::HttpError;
-use dist_http::head::read_head;
+use http_routes::error::HttpError;
+use http_routes::head::read_head;
 use std::alloc::{AllocError, Global};
 use std::process::Abort;
 use std::test::Fail;

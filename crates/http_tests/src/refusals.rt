@@ -1,7 +1,7 @@
 //! What each refusal of a request is told, one at a time.
-use dist_http::asked::asked;
-use dist_http::error::HttpError;
-use dist_http::route::SchedRouted;
+use http_routes::asked::asked;
+use http_routes::error::HttpError;
+use http_routes::route::SchedRouted;
 use dist_types::addr::Addr;
 use std::alloc::{AllocError, Global};
 use std::process::Abort;

@@ -1,9 +1,9 @@
 //! The bytes of replies.
-use dist_http::err_json::ErrJson;
-use dist_http::fault::{RouteFault, dropped_text, fault_response, no_room_text};
-use dist_http::head::{read_head, read_reply_head};
-use dist_http::refusal::RouilleBincodeError;
-use dist_http::reply::{Response, Word, bincode_response, prepare_response, respond};
+use http_routes::err_json::ErrJson;
+use http_routes::fault::{RouteFault, dropped_text, fault_response, no_room_text};
+use http_routes::head::{read_head, read_reply_head};
+use http_routes::refusal::RouilleBincodeError;
+use http_routes::reply::{Response, Word, bincode_response, prepare_response, respond};
 use dist_types::addr::Addr;
 use dist_types::ids::{JobId, ServerId};
 use dist_types::outgoing::CallFault;

@@ -1,6 +1,6 @@
 //! What requests in order ask.
-use dist_http::asked::asked;
-use dist_http::route::{Asked, SchedRouted};
+use http_routes::asked::asked;
+use http_routes::route::{Asked, SchedRouted};
 use dist_types::addr::Addr;
 use dist_types::results::JobState;
 use std::alloc::Global;

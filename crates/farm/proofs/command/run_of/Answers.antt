@@ -1,5 +1,5 @@
 use Rattle.std.proofs.Common.{string_bytes}
-use Rattle.farm.proofs.RunLemmas.{run_text_is}
+use Rattle.farm_run.proofs.RunLemmas.{run_text_is}
 use Rattle.farm.proofs.command.run_of.Goals as goal
 
 pub returns-in-Ok-run-clause-ok : goal.returns-in-Ok-run-clause-ok

@@ -1,5 +1,0 @@
-use Rattle.farm.proofs.ThereLemmas.{has_next}
-use Rattle.farm.proofs.run.Farm.goes_on.Goals as goal
-
-pub returns : goal.returns
-returns c = rw (← c.self.view_is) (has_next c.self.inside.scheduler c.self.inside.entries.items c.self.inside.kept.items c.self.invariant.kept)

@@ -1,5 +1,0 @@
-use Rattle.farm.proofs.NextLemmas.{are_lawful}
-use Rattle.farm.proofs.run.Farm.obey.Goals as goal
-
-pub returns : goal.returns
-returns c = rw (← c.self.view_is) (are_lawful c.self.inside.scheduler c.self.inside.entries.items c.self.invariant.fits c.self.invariant.sound)

@@ -1,7 +1,0 @@
-use Rattle.std.proofs.Common.{take}
-use Rattle.farm.specs.Farm.{Runs}
-use Rattle.farm.proofs.run.Farm.run.Given as goal
-
--- the events so far were run
-abbrev pub invariant-loop-event : goal.invariant-loop-event
-invariant-loop-event l = Runs l.fn.self (take l.event-index l.events) l.farm

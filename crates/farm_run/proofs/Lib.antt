@@ -1,0 +1,13 @@
+pub mod CallLemmas
+pub mod HexLemmas
+pub mod IdLemmas
+pub mod MadeLemmas
+pub mod NextLemmas
+pub mod NumberLemmas
+pub mod OneLemmas
+pub mod OwnLemmas
+pub mod RunLemmas
+pub mod ServeLemmas
+pub mod SoundLemmas
+pub mod ThereLemmas
+pub mod WaitLemmas

@@ -1,0 +1,177 @@
+-- What the scheduler answers, over any core entry that it made.
+use Rattle.std.proofs.Common.{◌≡◌, ◌≢◌, ℕ, ◌-◌, Bool, true, List, [], ◌∷◌, ◌++◌, length, Option, Some, None, Result, Ok, Err, refl, sym, ap, subst, ◌∙◌, arith}
+use Rattle.std.specs.Prelude.{slice_get, IfOk}
+use Rattle.std.proofs.lemmas.List.{length-append}
+use Rattle.std.proofs.lemmas.Option.{same_Some}
+use Rattle.dist_types.specs.declared.addr.Addr.{Addr}
+use Rattle.dist_types.specs.declared.ids.JobId.{JobId}
+use Rattle.dist_types.specs.declared.outgoing.CallFault.{CallFault}
+use Rattle.dist_types.specs.declared.results.AllocJobResult.TheVariants as alloc
+use Rattle.dist_types.specs.declared.results.AssignJobResult.{AssignJobResult}
+use Rattle.dist_types.specs.declared.results.JobState.{JobState}
+use Rattle.dist_types.specs.declared.results.UpdateJobStateResult.{UpdateJobStateResult}
+use Rattle.http_routes.specs.Fault.{fault_response_of, no_room_text}
+use Rattle.http_routes.specs.declared.fault.RouteFault.TheVariants as fault
+use Rattle.http_routes.specs.declared.reply.Response.{Response}
+use Rattle.http_routes.specs.declared.route.Asked.{Asked}
+use Rattle.sched_core.specs.Log.{Core, logged}
+use Rattle.sched_core.specs.Rule.{rule}
+use Rattle.sched_core.specs.Ticket.{Ticket}
+use Rattle.sched_core.specs.Answers.{Leaves, IsPicked, committed_by, undone_by, verdict}
+use Rattle.sched_core.specs.declared.answers.Committed.{Committed}
+use Rattle.sched_core.specs.declared.answers.Picked.TheVariants as picked
+use Rattle.sched_core.specs.declared.answers.Undone.{Undone}
+use Rattle.sched_core.specs.declared.call.Call.TheVariants as call
+use Rattle.sched_core.specs.declared.error.SchedError.{SchedError}
+use Rattle.sched_core.specs.declared.error.SchedError.TheVariants as error
+use Rattle.sched_core.specs.declared.entry.CoreEntry.{CoreEntry}
+use Rattle.sched_core.specs.declared.entry.CoreKind.{CoreKind}
+use Rattle.sched_core.specs.declared.entry.CoreKind.TheVariants as core
+use Rattle.sched_core.specs.declared.entry.Reserved.TheVariants.{Job, NoRoom, Spent}
+use Rattle.sched_core.specs.declared.entry.UpdateAnswer.{UpdateAnswer}
+use Rattle.sched_core.specs.declared.entry.UpdateAnswer.TheVariants.{Accepted, Unknown, Wrong, Transition}
+use Rattle.farm_script.specs.declared.setup.SetupScheduler.{SetupScheduler}
+use Rattle.farm_script.specs.declared.event.Event.{Event}
+use Rattle.farm_run.specs.declared.entry.Entry.{Entry}
+use Rattle.farm_run.specs.declared.entry.Reply.{Reply}
+use Rattle.farm_script.specs.declared.fault.FarmFault.{FarmFault}
+use Rattle.farm_run.specs.declared.waiting.Waiting.{Waiting}
+use Rattle.farm_run.specs.declared.waiting.Made.{Made}
+use Rattle.farm_run.specs.Replies.{alloc_response, update_response}
+use Rattle.farm_run.specs.Next.{Asks, replied, reply_to, allocated, update_reply, commit_response, continued}
+use Rattle.farm_run.specs.Farm.{with_core, Begins, IsBegun}
+use Rattle.farm_run.proofs.CallLemmas.{get_end}
+
+-- the last entry of a log that one was added to
+pub last_is : (s new : Core) (made x : CoreEntry) → new ≡ logged s made → slice_get new.log (length new.log - 1) ≡ Some x → x ≡ made
+last_is s new made x is at =
+    let moved : slice_get (s.log ++ made ∷ []) (length (s.log ++ made ∷ []) - 1) ≡ Some x = ap (λ (c : Core). slice_get c.log (length c.log - 1)) (sym is) ∙ at in
+    let index : length (s.log ++ made ∷ []) - 1 ≡ length s.log = omega (arith, length-append s.log (made ∷ [])) in
+    same_Some x made (sym moved ∙ ap (slice_get (s.log ++ made ∷ [])) index ∙ get_end s.log made)
+
+-- an entry that tells what the scheduler did has its core entry
+pub told_core : (s new : Core) (made x : CoreEntry) (event : Event) (r : Reply) (e : Entry) → new ≡ logged s made → slice_get new.log (length new.log - 1) ≡ Some x
+    → e ≡ replied event (Some x) r → new ≡ with_core s e.core
+told_core s new made x event r e is at same =
+    is ∙ ap (λ (y : CoreEntry). with_core s (Some y)) (sym (last_is s new made x is at)) ∙ ap (λ (d : Entry). with_core s d.core) (sym same)
+
+-- ---- reports
+
+pub leaves_logged : (e : SchedError) (old new : Core) (made : CoreEntry) → e ≢ error.Memory → Leaves e old new made → new ≡ logged old made
+leaves_logged error.Memory old new made other is = absurd (other refl)
+leaves_logged (error.BadCpus cpus) old new made other is = is
+leaves_logged error.IdsSpent old new made other is = is
+leaves_logged error.UnknownJob old new made other is = is
+leaves_logged error.WrongServer old new made other is = is
+leaves_logged (error.BadTransition from to) old new made other is = is
+
+pub told_taken : (json : Bool) (a : UpdateAnswer) (server : Addr) (job : JobId) (to : JobState) (answer : UpdateJobStateResult) → Ok answer ≡ verdict a to
+    → update_response json answer ≡ update_reply json a server job to
+told_taken json Accepted server job to answer e = ap (update_response json) cc
+told_taken json Unknown server job to answer e = absurd cc
+told_taken json Wrong server job to answer e = absurd cc
+told_taken json (Transition from) server job to answer e = absurd cc
+
+pub told_unknown : (json : Bool) (a : UpdateAnswer) (server : Addr) (job : JobId) (to : JobState) → verdict a to ≡ Err error.UnknownJob
+    → fault_response_of fault.UnknownJob ≡ update_reply json a server job to
+told_unknown json Accepted server job to e = absurd cc
+told_unknown json Unknown server job to e = refl
+told_unknown json Wrong server job to e = absurd cc
+told_unknown json (Transition from) server job to e = absurd cc
+
+pub told_wrong : (json : Bool) (a : UpdateAnswer) (server : Addr) (job : JobId) (to : JobState) → verdict a to ≡ Err error.WrongServer
+    → fault_response_of (fault.WrongServer job server) ≡ update_reply json a server job to
+told_wrong json Accepted server job to e = absurd cc
+told_wrong json Unknown server job to e = absurd cc
+told_wrong json Wrong server job to e = refl
+told_wrong json (Transition from) server job to e = absurd cc
+
+pub told_transition : (json : Bool) (a : UpdateAnswer) (server : Addr) (job : JobId) (to from other : JobState) → verdict a to ≡ Err (error.BadTransition from other)
+    → fault_response_of (fault.BadTransition from to) ≡ update_reply json a server job to
+told_transition json Accepted server job to from other e = absurd cc
+told_transition json Unknown server job to from other e = absurd cc
+told_transition json Wrong server job to from other e = absurd cc
+told_transition json (Transition before) server job to from other e =
+    let same : from ≡ before = cc in
+    ap (λ (s : JobState). fault_response_of (fault.BadTransition s to)) same
+
+-- ---- allocations
+
+-- the entry of an allocation that no registration has room for
+no_room_by : {A : Type 0} (key_of : A → List ℕ) (token_for : A → ℕ → List ℕ) (s : Core) (number : ℕ) (event : Event) (json : Bool) (tc : List ℕ) (made : CoreEntry) (standing : ℕ) (k : CoreKind)
+    → IsPicked key_of token_for s.log k (picked.NoRoom standing)
+    → replied event (Some made) (reply_to number (alloc_response json (alloc.Fail (no_room_text standing)))) ≡ allocated s number event json tc made k
+no_room_by key_of token_for s number event json tc made standing (core.Reserve (NoRoom n)) is =
+    ap (λ (m : ℕ). replied event (Some made) (reply_to number (alloc_response json (alloc.Fail (no_room_text m))))) is
+no_room_by key_of token_for s number event json tc made standing (core.Reserve (Job job reg forgiven)) is = absurd is
+no_room_by key_of token_for s number event json tc made standing (core.Reserve Spent) is = absurd is
+no_room_by key_of token_for s number event json tc made standing (core.Commit job state kept) is = absurd is
+no_room_by key_of token_for s number event json tc made standing (core.Undo job noted ended) is = absurd is
+no_room_by key_of token_for s number event json tc made standing (core.Beat server nonce cpus key pruned reaped replaced is_new) is = absurd is
+no_room_by key_of token_for s number event json tc made standing (core.Update server job state answer) is = absurd is
+no_room_by key_of token_for s number event json tc made standing (core.Status pruned servers cpus jobs) is = absurd is
+
+pub no_room_told : {A : Type 0} (key_of : A → List ℕ) (token_for : A → ℕ → List ℕ) (s new : Core) (number : ℕ) (event : Event) (json : Bool) (tc : List ℕ) (made x : CoreEntry) (standing : ℕ) (e : Entry)
+    → IsPicked key_of token_for s.log made.kind (picked.NoRoom standing) → new ≡ logged s made → slice_get new.log (length new.log - 1) ≡ Some x
+    → e ≡ replied event (Some x) (reply_to number (alloc_response json (alloc.Fail (no_room_text standing)))) → e ≡ allocated s number event json tc made made.kind
+no_room_told key_of token_for s new number event json tc made x standing e is log at same =
+    same ∙ ap (λ (y : CoreEntry). replied event (Some y) (reply_to number (alloc_response json (alloc.Fail (no_room_text standing))))) (last_is s new made x log at)
+    ∙ no_room_by key_of token_for s number event json tc made standing made.kind is
+
+pub spent_told : (s new : Core) (number : ℕ) (event : Event) (json : Bool) (tc : List ℕ) (made x : CoreEntry) (e : Entry)
+    → made.kind ≡ core.Reserve Spent → new ≡ logged s made → slice_get new.log (length new.log - 1) ≡ Some x
+    → e ≡ replied event (Some x) (reply_to number (fault_response_of fault.IdsSpent)) → e ≡ allocated s number event json tc made made.kind
+spent_told s new number event json tc made x e is log at same =
+    same ∙ ap (λ (y : CoreEntry). replied event (Some y) (reply_to number (fault_response_of fault.IdsSpent))) (last_is s new made x log at)
+    ∙ ap (allocated s number event json tc made) (sym is)
+
+-- ---- what was asked
+
+begun_for : (farm : SetupScheduler) (s : Core) (p : Addr × List ℕ) (a : Asked) (e : Entry) (x : Option Waiting) → Asks farm (Some p) a → Begins s a.json e x → IsBegun farm s (Some p) e x
+begun_for farm s p a e None asks is = is
+begun_for farm s p a e (Some w) asks is = (is.0, (a, asks, is.1), is.2)
+
+pub begun_served : (farm : SetupScheduler) (s : Core) (p : Addr × List ℕ) (a : Asked) (o : Option (Addr × List ℕ)) (r : Result Made FarmFault) → o ≡ Some p → Asks farm (Some p) a
+    → IfOk r (λ m. Begins s a.json m.entry m.waiting) → IfOk r (λ m. IsBegun farm s o m.entry m.waiting)
+begun_served farm s p a o (Ok m) there asks is = subst (λ (q : Option (Addr × List ℕ)). IsBegun farm s q m.entry m.waiting) (sym there) (begun_for farm s p a m.entry m.waiting asks is)
+begun_served farm s p a o (Err f) there asks is = tt
+
+-- ---- what follows a settlement
+
+pub committed_is : (s new : Core) (t : Ticket) (n : ℕ) (json : Bool) (event : Event) (a : AssignJobResult) (x : CoreEntry) (committed : Committed) (response : Response) (reply : Reply) (e : Entry)
+    → new ≡ logged s (rule s (call.Commit event.at t.number t.job a.state)) → slice_get new.log (length new.log - 1) ≡ Some x
+    → committed ≡ committed_by true (rule s (call.Commit event.at t.number t.job a.state)).kind t → response ≡ commit_response json a.need_toolchain committed → reply ≡ reply_to n response
+    → e ≡ replied event (Some x) reply → e ≡ continued s t n json event (Ok a)
+committed_is s new t n json event a x committed response reply e log at committed-is response-is reply-is same =
+    let made = rule s (call.Commit event.at t.number t.job a.state) in
+    same ∙ ap (λ (y : CoreEntry). replied event (Some y) reply) (last_is s new made x log at)
+    ∙ ap (replied event (Some made)) (reply-is ∙ ap (reply_to n) (response-is ∙ ap (commit_response json a.need_toolchain) committed-is))
+
+pub undone_is : (s new : Core) (t : Ticket) (n : ℕ) (json : Bool) (event : Event) (f : CallFault) (x : CoreEntry) (undone : Undone) (response : Response) (reply : Reply) (e : Entry)
+    → new ≡ logged s (rule s (call.Undo event.at t.number t.job)) → slice_get new.log (length new.log - 1) ≡ Some x
+    → undone ≡ undone_by (rule s (call.Undo event.at t.number t.job)).kind → response ≡ fault_response_of (fault.AssignFailed undone f) → reply ≡ reply_to n response
+    → e ≡ replied event (Some x) reply → e ≡ continued s t n json event (Err f)
+undone_is s new t n json event f x undone response reply e log at undone-is response-is reply-is same =
+    let made = rule s (call.Undo event.at t.number t.job) in
+    same ∙ ap (λ (y : CoreEntry). replied event (Some y) reply) (last_is s new made x log at)
+    ∙ ap (replied event (Some made)) (reply-is ∙ ap (reply_to n) (response-is ∙ ap (λ (u : Undone). fault_response_of (fault.AssignFailed u f)) undone-is))
+
+-- ---- what a report never meets
+
+no_cpus : (a : UpdateAnswer) (to : JobState) (n : ℕ) → verdict a to ≡ Err (error.BadCpus n) → ⊥
+no_cpus Accepted to n e = absurd cc
+no_cpus Unknown to n e = absurd cc
+no_cpus Wrong to n e = absurd cc
+no_cpus (Transition from) to n e = absurd cc
+
+no_end : (a : UpdateAnswer) (to : JobState) → verdict a to ≡ Err error.IdsSpent → ⊥
+no_end Accepted to e = absurd cc
+no_end Unknown to e = absurd cc
+no_end Wrong to e = absurd cc
+no_end (Transition from) to e = absurd cc
+
+pub never_cpus : (to : JobState) (e : SchedError) (n : ℕ) → (e ≢ error.Memory → (a : UpdateAnswer) × (verdict a to ≡ Err e)) → e ≡ error.BadCpus n → ⊥
+never_cpus to e n told is = let t = told (λ h. absurd cc) in no_cpus t.0 to n (t.1 ∙ ap (λ (x : SchedError). Err x) is)
+
+pub never_spent : (to : JobState) (e : SchedError) → (e ≢ error.Memory → (a : UpdateAnswer) × (verdict a to ≡ Err e)) → e ≡ error.IdsSpent → ⊥
+never_spent to e told is = let t = told (λ h. absurd cc) in no_end t.0 to (t.1 ∙ ap (λ (x : SchedError). Err x) is)

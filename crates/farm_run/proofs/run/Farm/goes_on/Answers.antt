@@ -1,0 +1,5 @@
+use Rattle.farm_run.proofs.ThereLemmas.{has_next}
+use Rattle.farm_run.proofs.run.Farm.goes_on.Goals as goal
+
+pub returns : goal.returns
+returns c = rw (← c.self.view_is) (has_next c.self.inside.scheduler c.self.inside.entries.items c.self.inside.kept.items c.self.invariant.kept)

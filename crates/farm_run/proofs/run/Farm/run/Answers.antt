@@ -1,0 +1,29 @@
+use Rattle.std.proofs.Common.{◌≡◌, ◌+◌, ◌++◌, ◌∷◌, [], take, ap, ◌∙◌, sym}
+use Rattle.std.proofs.lemmas.List.{take_more}
+use Rattle.std.proofs.lemmas.Result.{err_from_is_err_and}
+use Rattle.farm_run.proofs.RunLemmas.{Runs-push, Runs-entries, Runs-lawful}
+use Rattle.farm_run.proofs.run.Farm.run.Goals as goal
+
+pub loop-event-preserved : goal.loop-event-preserved
+loop-event-preserved c =
+    let more : take (c.loop-event.event-index + 1) c.args.events.now ≡ take c.loop-event.event-index c.args.events.now ++ c.event-item.result ∷ [] =
+    take_more c.args.events.now c.loop-event.event-index c.event-item.result c.loop-event-test.true ∙ ap (λ x. take c.loop-event.event-index c.args.events.now ++ x ∷ []) (sym c.event-item.is) in
+    rw more (Runs-push _ _ _ _ _ c.in_ok-farm.ensures.ok.0 c.loop-event.invariant c.in_ok-farm.ensures.ok.1 c.in_ok-farm.ensures.ok.2)
+
+-- the entries before the event that memory ran out in
+pub returns-in_err-farm-clause-err : goal.returns-in_err-farm-clause-err
+returns-in_err-farm-clause-err c =
+    let p = err_from_is_err_and c.from_residual.result c.from_residual.ensures.1 in
+    rw (p.1, p.2) (
+      c.loop-event.event-index,
+      c.loop-event-test.true,
+      Runs-entries c.args.self (take c.loop-event.event-index c.args.events.now) c.loop-event.farm c.in_err-farm.field-0.0.entries c.loop-event.invariant c.in_err-farm.ensures.err,
+    )
+
+pub returns-in_err-farm-clause-stopped_laws : goal.returns-in_err-farm-clause-stopped_laws
+returns-in_err-farm-clause-stopped_laws c =
+    let p = err_from_is_err_and c.from_residual.result c.from_residual.ensures.1 in
+    rw (p.1, p.2) (
+    Runs-lawful c.args.self (take c.loop-event.event-index c.args.events.now) c.loop-event.farm c.in_err-farm.field-0.0.entries c.loop-event.invariant c.in_err-farm.ensures.err
+    c.in_err-farm.ensures.laws
+    )

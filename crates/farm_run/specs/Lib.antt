@@ -1,0 +1,12 @@
+pub mod Calls
+pub mod Farm
+pub mod Next
+pub mod Printed
+pub mod Replies
+pub mod RunText
+pub use Rattle.farm_script.specs.Built
+pub use Rattle.farm_script.specs.FirstFaulty
+pub use Rattle.farm_script.specs.Grammar
+pub use Rattle.farm_script.specs.Pieces
+pub use Rattle.farm_script.specs.Script
+pub use Rattle.farm_script.specs.Spelled

@@ -1,0 +1,34 @@
+-- The text of a script's run.
+use Rattle.std.specs.Prelude.{◌≡◌, ℕ, List, [], Ok, ⊥}
+use Rattle.farm_script.specs.declared.setup.Setup.{Setup}
+use Rattle.farm_script.specs.declared.event.Event.{Event}
+use Rattle.farm_script.specs.Script.{script}
+use Rattle.farm_script.specs.FirstFaulty.{IsFirstFaulty}
+use Rattle.farm_script.specs.Spelled.{Says}
+use Rattle.farm_run.specs.declared.entry.Entry.{Entry}
+use Rattle.farm_run.specs.Next.{EachNext}
+use Rattle.farm_run.specs.Farm.{AreLawful}
+use Rattle.farm_run.specs.Printed.{run_text}
+
+-- The text is that of a script's run: no line of the script is faulty, its lines say a setup and events, and the text is that of
+-- the farm that is set up so and of a list that has one entry for each event, each next over those before it. After each front of the
+-- entries the laws of the scheduler hold.
+pub record IsRunText (bytes text : List ℕ) : Type 0 where
+  pub setup : Setup
+  pub events : List Event
+  pub entries : List Entry
+  pub fine : (n : ℕ) → IsFirstFaulty bytes n → ⊥
+  pub says : Says bytes setup events
+  pub each : EachNext setup.scheduler [] events entries
+  pub lawful : AreLawful setup.scheduler entries
+  pub is : text ≡ run_text setup.scheduler entries
+
+-- the same, where the script is what reading it gives
+pub record IsReadText (bytes text : List ℕ) : Type 0 where
+  pub setup : Setup
+  pub events : List Event
+  pub entries : List Entry
+  pub read : script bytes ≡ Ok (setup, events)
+  pub each : EachNext setup.scheduler [] events entries
+  pub lawful : AreLawful setup.scheduler entries
+  pub is : text ≡ run_text setup.scheduler entries

@@ -1,0 +1,134 @@
+//! What an event did.
+ghost use Rattle.std.specs.Prelude.{◌≡◌, Some};
+ghost use Rattle.farm_run.specs.Next.{worded, replied, asking};
+
+use dist_types::addr::Addr;
+use dist_types::ids::JobId;
+use dist_types::text::{Bytes, Items};
+use dist_types::toolchain::Toolchain;
+use farm_script::event::Event;
+use sched_core::entry::CoreEntry;
+
+/// How a heartbeat's call was settled.
+#[derive(Clone, Copy, Debug, PartialEq, Eq)]
+pub enum HeardAs {
+    /// It made a registration.
+    New,
+    /// It renewed one.
+    Old,
+    /// No reply came.
+    Lost,
+}
+
+/// What a build server did. What became of a submit and of a run comes with the build servers.
+#[derive(Debug, Drop)]
+pub enum StepKind {
+    /// Its heartbeat was settled.
+    Heard(HeardAs),
+    /// A job was assigned; ready where the archive of its toolchain is there.
+    Assigned {
+        job: JobId,
+        tc: Toolchain,
+        ready: bool,
+    },
+    /// A build was reported as complete.
+    Finished {
+        job: JobId,
+    },
+    /// A report on a job was not accepted.
+    Unreported {
+        job: JobId,
+    },
+    /// It opened its cache, with these archives and their sizes in bytes, least recent first.
+    Opened(Items<(Toolchain, u64)>),
+}
+
+/// A step of a build server.
+#[derive(Debug, Drop)]
+pub struct Step {
+    pub server: Addr,
+    pub kind: StepKind,
+}
+
+/// A request that went out of the scheduler or of a build server.
+#[derive(Debug, Drop)]
+pub struct OutCall {
+    pub target: Addr,
+    pub bytes: Bytes,
+}
+
+/// A reply.
+#[derive(Debug, Drop)]
+pub struct Reply {
+    /// The number of the entry that is answered.
+    pub to: u64,
+    pub bytes: Bytes,
+}
+
+/// What an entry says beside its lines.
+#[derive(Clone, Copy, Debug, PartialEq, Eq)]
+pub enum EntryWord {
+    /// There was nothing to do.
+    Void,
+    /// Nobody listens at the address.
+    Down,
+    /// A call was made, and its reply is waited for.
+    Waiting,
+    /// Who had asked is gone.
+    Died,
+}
+
+/// What an event did.
+#[derive(Debug, Drop)]
+pub struct Entry {
+    pub event: Event,
+    pub core: Option<CoreEntry>,
+    pub step: Option<Step>,
+    pub call: Option<OutCall>,
+    pub reply: Option<Reply>,
+    pub word: Option<EntryWord>,
+}
+
+impl Entry {
+    /// An entry that says a word alone.
+    pub(crate) fn worded(event: Event, word: EntryWord) -> Self
+        ensures { result ≡ worded event word }
+    {
+        Entry {
+            event,
+            core: None,
+            step: None,
+            call: None,
+            reply: None,
+            word: Some(word),
+        }
+    }
+
+    /// An entry that is answered at once.
+    pub(crate) fn replied(event: Event, core: Option<CoreEntry>, reply: Reply) -> Self
+        ensures { result ≡ replied event core reply }
+    {
+        Entry {
+            event,
+            core,
+            step: None,
+            call: None,
+            reply: Some(reply),
+            word: None,
+        }
+    }
+
+    /// An entry that makes a call, whose settlement is waited for.
+    pub(crate) fn asking(event: Event, core: CoreEntry, call: OutCall) -> Self
+        ensures { result ≡ asking event core (Some call) }
+    {
+        Entry {
+            event,
+            core: Some(core),
+            step: None,
+            call: Some(call),
+            reply: None,
+            word: Some(EntryWord::Waiting),
+        }
+    }
+}

@@ -1,0 +1,19 @@
+//! Farms that scripts set up, their runs, and the printed text of a run.
+//!
+//! The contract: a run has one entry for each event, each *next* over the entries before it, and there is
+//! one such list; after each front of it the scheduler's laws hold; what is printed is the text of the
+//! farm and of that list.
+//!
+//! The layer above is `farm`, whose command reads a script, runs it and writes the text. Tests and replays
+//! use `Farm::new`, `Farm::run`, `Farm::history` and `print_run`.
+#![tactic(auto)]
+
+pub mod entry;
+pub mod laws;
+pub mod print;
+mod replies;
+pub mod run;
+mod serve;
+mod settle;
+mod text;
+mod waiting;

@@ -1,0 +1,111 @@
+//! The printed run.
+ghost use Rattle.std.specs.Prelude.{◌≡◌, ◌+◌, ◌++◌, ◌<◌, ◌^◌, OnOk, IfOk, IfErr, string_bytes};
+ghost use Rattle.std.specs.List.{flat_map};
+ghost use Rattle.farm_run.specs.Printed.{entry_text, entries_text, core_count, row_text, job_text, books_text, run_text};
+ghost use Rattle.farm_run.specs.Next.{core_log};
+ghost use Rattle.sched_core.specs.Rows.{held_by_id};
+ghost use Rattle.farm_script.specs.declared.fault.FarmFault.TheVariants as fault;
+
+use crate::entry::Entry;
+use crate::run::Farm;
+use crate::text::{CallLine, CoreLine, JobLine, Kind, ReplyLine, RowLine, StepLine, WordLine};
+use farm_script::fault::FarmFault;
+use sched_core::rows::Servers;
+use std::alloc::{AllocError, Global};
+
+/// Writes the lines of an entry.
+fn push_entry(
+    out: &mut String,
+    number: u64,
+    core_number: u64,
+    entry: &Entry,
+) -> Result<(), AllocError>
+    ensures { OnOk result (string_bytes out.new ≡ string_bytes out.old ++ entry_text number core_number entry.entry.now) }
+{
+    let at = entry.event.at;
+    let kind = Kind(&entry.event.kind);
+    let core = CoreLine {
+        number: core_number,
+        core: &entry.core,
+    };
+    let step = StepLine(&entry.step);
+    let call = CallLine(&entry.call);
+    let reply = ReplyLine(&entry.reply);
+    let word = WordLine(entry.word);
+    write!(
+        out,
+        "entry {number} {at} {kind}\n{core}{step}{call}{reply}{word}"
+    )
+}
+
+/// How many core entries there are after an entry.
+fn core_numbers(core_number: u64, entry: &Entry) -> u64
+    requires { core_number + 1 < 2 ^ 64 }
+    ensures { result ≡ core_number + core_count entry.entry.now.core }
+{
+    match &entry.core {
+        Some(_) => core_number + 1,
+        None => core_number,
+    }
+}
+
+/// Writes the lines of all entries.
+fn push_entries(out: &mut String, entries: &[Entry]) -> Result<(), AllocError>
+    ensures { OnOk result (string_bytes out.new ≡ string_bytes out.old ++ entries_text 0 0 entries.now) }
+{
+    let mut core_number = 0u64;
+    for (number, entry) in entries.iter().enumerate() {
+        push_entry(out, number as u64, core_number, entry)?;
+        core_number = core_numbers(core_number, entry);
+    }
+    Ok(())
+}
+
+/// Writes the lines of the registrations that stand.
+fn push_rows(out: &mut String, servers: Servers<'_>) -> Result<(), AllocError>
+    ensures { OnOk result (string_bytes out.new ≡ string_bytes out.old ++ flat_map row_text servers.entry) }
+{
+    for row in servers {
+        let line = RowLine(row);
+        write!(out, "{line}")?;
+    }
+    Ok(())
+}
+
+/// Writes the lines of the reservations that are unended.
+fn push_jobs(out: &mut String, farm: &Farm) -> Result<(), AllocError>
+    ensures { OnOk result (string_bytes out.new ≡ string_bytes out.old ++ flat_map job_text (held_by_id (core_log farm.now.entries))) }
+{
+    for row in farm.jobs() {
+        let line = JobLine(row);
+        write!(out, "{line}")?;
+    }
+    Ok(())
+}
+
+/// Writes the books of a farm.
+fn push_books(out: &mut String, farm: &Farm) -> Result<(), AllocError>
+    ensures { OnOk result (string_bytes out.new ≡ string_bytes out.old ++ books_text farm.now.scheduler (core_log farm.now.entries)) }
+{
+    let base = farm.scheduler().base;
+    let count = farm.ids_given();
+    write!(out, "books\nids base {base} count {count}\n")?;
+    push_rows(out, farm.servers())?;
+    push_jobs(out, farm)?;
+    out.push_str("end\n")?;
+    Ok(())
+}
+
+/// The text of a run: a farm, its entries, and its books after them. Refused for want of memory alone.
+pub fn print_run(alloc: Global, farm: &Farm) -> Result<String, FarmFault>
+    ensures ok { IfOk result (λ text. string_bytes text ≡ run_text farm.now.scheduler farm.now.entries) }
+    ensures err { IfErr result (λ e. e ≡ fault.Memory) }
+{
+    let mut out = String::new(alloc);
+    let entries = farm.history();
+    let number = entries.len();
+    write!(out, "run 1 entries {number}\n")?;
+    push_entries(&mut out, entries)?;
+    push_books(&mut out, farm)?;
+    Ok(out)
+}

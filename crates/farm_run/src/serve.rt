@@ -1,0 +1,426 @@
+//! What the scheduler does with what comes to it.
+ghost use Rattle.std.specs.Prelude.{◌≡◌, ◌≢◌, ◌<◌, ◌-◌, Bool, IsTrue, length, IfOk, IfErr, OnOk, slice_get, Some, None, Err};
+ghost use Rattle.sched_core.specs.Log.{logged};
+ghost use Rattle.sched_core.specs.Rule.{rule, says_new_entry, counts_of};
+ghost use Rattle.sched_core.specs.declared.call.Call.TheVariants as call;
+ghost use Rattle.sched_core.specs.Answers.{verdict};
+ghost use Rattle.sched_core.specs.declared.entry.CoreEntry.{CoreEntry as Core};
+ghost use Rattle.sched_core.specs.declared.entry.UpdateAnswer.{UpdateAnswer};
+ghost use Rattle.dist_types.specs.declared.results.AllocJobResult.TheVariants as alloc_result;
+ghost use Rattle.http_routes.specs.declared.route.SchedRouted.TheVariants as asked;
+ghost use Rattle.farm_run.specs.Next.{token_of, hears, heard, update_by, update_reply, assign_call, answer_to, replied, asking, reply_to, brought_to, IsServed};
+ghost use Rattle.farm_script.specs.Built.{IsPlain};
+ghost use Rattle.farm_run.specs.Farm.{with_core, Begins, IsBegun};
+ghost use Rattle.farm_run.specs.Replies as response;
+ghost use Rattle.http_routes.specs.Fault as told;
+ghost use Rattle.http_routes.specs.declared.fault.RouteFault.TheVariants as route_fault;
+ghost use Rattle.farm_script.specs.declared.fault.FarmFault.TheVariants as fault;
+
+use crate::entry::{Entry, EntryWord, OutCall, Reply};
+use crate::replies::{
+    no_room, to_allocation, to_fault, to_heartbeat, to_report, to_status, want_of_memory,
+};
+use crate::waiting::{Made, Waiting};
+use http_routes::asked::asked;
+use http_routes::fault::RouteFault;
+use http_routes::reply::Response;
+use http_routes::route::{Asked, SchedRouted};
+use http_routes::written::assign_request;
+use dist_token::job_token::JWTJobAuthorizer;
+use dist_types::addr::Addr;
+use dist_types::ids::{JobId, ServerId};
+use dist_types::results::{AllocJobResult, JobState};
+use dist_types::roles::JobAuthorizer;
+use dist_types::text::Bytes;
+use dist_types::toolchain::Toolchain;
+use dist_wire::heartbeat::HeartbeatServerHttpRequest;
+use farm_script::event::Event;
+use farm_script::fault::FarmFault;
+use farm_script::setup::{SetupAuth, SetupScheduler};
+use sched_core::answers::Picked;
+use sched_core::entry::CoreEntry;
+use sched_core::error::SchedError;
+use sched_core::reservation::Reservation;
+use sched_core::state::SchedState;
+use std::alloc::{AllocError, Global};
+
+/// The most processors that a heartbeat may tell.
+const MOST_CPUS: u64 = 4294967295;
+
+/// A copy of the last entry of a log.
+pub fn last_copy(alloc: Global, log: &[CoreEntry]) -> Result<CoreEntry, AllocError>
+    requires { 0 < length log.now }
+    ensures { IfOk result (λ e. slice_get log.now (length log.now - 1) ≡ Some e) }
+{
+    log[log.len() - 1].copy(alloc)
+}
+
+/// The reply of an entry.
+pub fn reply(alloc: Global, number: u64, response: &Response) -> Result<Reply, AllocError>
+    ensures ok { IfOk result (λ r. r ≡ reply_to number response.now) }
+{
+    match response.bytes(alloc) {
+        Ok(bytes) => Ok(Reply {
+            to: number,
+            bytes: Bytes::new(bytes),
+        }),
+        Err(error) => Err(want_of_memory(error)),
+    }
+}
+
+/// The token of all build servers.
+fn token(auth: &SetupAuth) -> &str
+    requires { IsPlain auth.now }
+    ensures { result.now ≡ token_of auth.now }
+{
+    match auth {
+        SetupAuth::Plain(token) => token.get(),
+        SetupAuth::Jwt(_) => unreachable!(),
+    }
+}
+
+/// Takes a heartbeat: the scheduler's entry, and the reply that says the same.
+fn take_beat(
+    alloc: Global,
+    state: &mut SchedState<JWTJobAuthorizer>,
+    now: u64,
+    json: bool,
+    server: ServerId,
+    beat: HeartbeatServerHttpRequest,
+) -> Result<(CoreEntry, Response), FarmFault>
+    requires { IsTrue (hears beat.num_cpus) }
+    ensures made { let made = rule state.old (call.Beat now server beat.server_nonce beat.num_cpus beat.jwt_key) in
+        IfOk result (λ r. (r.0 ≡ made) × (r.1 ≡ response.heard_response json (record { is_new = says_new_entry made }))) }
+    ensures logged { let made = rule state.old (call.Beat now server beat.server_nonce beat.num_cpus beat.jwt_key) in
+        OnOk result (state.new ≡ logged state.old made) }
+    ensures err { IfErr result (λ e. e ≡ fault.Memory) }
+{
+    let HeartbeatServerHttpRequest {
+        jwt_key,
+        num_cpus,
+        server_nonce,
+    } = beat;
+    let key = JWTJobAuthorizer::of_key(jwt_key.into_inner());
+    let answer = match state.beat(now, server, server_nonce, num_cpus, key) {
+        Ok(answer) => answer,
+        Err(SchedError::Memory) => return Err(FarmFault::Memory),
+        Err(SchedError::BadCpus(_)) => unreachable!(),
+        Err(SchedError::IdsSpent) => unreachable!(),
+        Err(SchedError::UnknownJob) => unreachable!(),
+        Err(SchedError::WrongServer) => unreachable!(),
+        Err(SchedError::BadTransition(_, _)) => unreachable!(),
+    };
+    let entry = last_copy(alloc, state.history())?;
+    let response = to_heartbeat(alloc, json, &answer)?;
+    Ok((entry, response))
+}
+
+/// Whether a heartbeat with so many processors is taken.
+fn hears(cpus: u64) -> bool
+    ensures { result ≡ hears cpus }
+{
+    cpus >= 1 && cpus <= MOST_CPUS
+}
+
+/// The entry of a heartbeat.
+fn hear(
+    alloc: Global,
+    state: &mut SchedState<JWTJobAuthorizer>,
+    number: u64,
+    event: Event,
+    json: bool,
+    server: ServerId,
+    beat: HeartbeatServerHttpRequest,
+) -> Result<Entry, FarmFault>
+    ensures made { IfOk result (λ e. e ≡ heard state.old number event json server beat) }
+    ensures core { IfOk result (λ e. state.new ≡ with_core state.old e.core) }
+    ensures err { IfErr result (λ e. e ≡ fault.Memory) }
+{
+    if !hears(beat.num_cpus) {
+        let response = to_fault(alloc, &RouteFault::BadCpus(beat.num_cpus))?;
+        let reply = reply(alloc, number, &response)?;
+        return Ok(Entry::replied(event, None, reply));
+    }
+    let at = event.at;
+    let (core, response) = take_beat(alloc, state, at, json, server, beat)?;
+    let reply = reply(alloc, number, &response)?;
+    Ok(Entry::replied(event, Some(core), reply))
+}
+
+/// Takes a status request: the scheduler's entry, and the reply that says the same.
+fn count(
+    alloc: Global,
+    state: &mut SchedState<JWTJobAuthorizer>,
+    now: u64,
+    json: bool,
+) -> Result<(CoreEntry, Response), FarmFault>
+    ensures made { let made = rule state.old (call.Status now) in
+        IfOk result (λ r. (r.0 ≡ made) × (r.1 ≡ response.status_response json (counts_of made))) }
+    ensures logged { OnOk result (state.new ≡ logged state.old (rule state.old (call.Status now))) }
+    ensures err { IfErr result (λ e. e ≡ fault.Memory) }
+{
+    let answer = match state.status(now) {
+        Ok(answer) => answer,
+        Err(SchedError::Memory) => return Err(FarmFault::Memory),
+        Err(SchedError::BadCpus(_)) => unreachable!(),
+        Err(SchedError::IdsSpent) => unreachable!(),
+        Err(SchedError::UnknownJob) => unreachable!(),
+        Err(SchedError::WrongServer) => unreachable!(),
+        Err(SchedError::BadTransition(_, _)) => unreachable!(),
+    };
+    let entry = last_copy(alloc, state.history())?;
+    let response = to_status(alloc, json, &answer)?;
+    Ok((entry, response))
+}
+
+/// The reply to a report that the scheduler does not take.
+fn refuse(
+    alloc: Global,
+    error: SchedError,
+    server: ServerId,
+    job: JobId,
+    to: JobState,
+) -> Result<Response, FarmFault>
+    requires { error ≢ SchedError.Memory → (answer : UpdateAnswer) × (verdict answer to ≡ Err error) }
+    ensures ok { IfOk result (λ r. (json : Bool) (answer : UpdateAnswer) → verdict answer to ≡ Err error → r ≡ update_reply json answer server job to) }
+    ensures known { OnOk result (error ≢ SchedError.Memory) }
+    ensures err { IfErr result (λ e. e ≡ fault.Memory) }
+{
+    match error {
+        SchedError::UnknownJob => {
+            let response = to_fault(alloc, &RouteFault::UnknownJob)?;
+            Ok(response)
+        }
+        SchedError::WrongServer => {
+            let response = to_fault(alloc, &RouteFault::WrongServer(job, server))?;
+            Ok(response)
+        }
+        SchedError::BadTransition(from, _) => {
+            let response = to_fault(alloc, &RouteFault::BadTransition(from, to))?;
+            Ok(response)
+        }
+        SchedError::BadCpus(_) => unreachable!(),
+        SchedError::IdsSpent => unreachable!(),
+        SchedError::Memory => Err(FarmFault::Memory),
+    }
+}
+
+/// Takes a server's report: the scheduler's entry, and the reply that says the same.
+fn take_report(
+    alloc: Global,
+    state: &mut SchedState<JWTJobAuthorizer>,
+    now: u64,
+    json: bool,
+    server: ServerId,
+    job: JobId,
+    to: JobState,
+) -> Result<(CoreEntry, Response), FarmFault>
+    ensures made { let made = rule state.old (call.Update now server job to) in
+        IfOk result (λ r. (r.0 ≡ made) × (r.1 ≡ update_reply json (update_by made.kind) server job to)) }
+    ensures logged { OnOk result (state.new ≡ logged state.old (rule state.old (call.Update now server job to))) }
+    ensures err { IfErr result (λ e. e ≡ fault.Memory) }
+{
+    match state.update(now, server, job, to) {
+        Ok(answer) => {
+            let entry = last_copy(alloc, state.history())?;
+            let response = to_report(alloc, json, &answer)?;
+            Ok((entry, response))
+        }
+        Err(error) => {
+            let response = refuse(alloc, error, server, job, to)?;
+            let entry = last_copy(alloc, state.history())?;
+            Ok((entry, response))
+        }
+    }
+}
+
+/// The entry of an allocation that no registration has room for.
+fn crowded(
+    alloc: Global,
+    state: &SchedState<JWTJobAuthorizer>,
+    number: u64,
+    event: Event,
+    json: bool,
+    standing: u64,
+) -> Result<Entry, FarmFault>
+    requires { 0 < length state.now.log }
+    ensures made { IfOk result (λ e. (made : Core) × (slice_get state.now.log (length state.now.log - 1) ≡ Some made)
+        × (e ≡ replied event (Some made) (reply_to number (response.alloc_response json (alloc_result.Fail (told.no_room_text standing)))))) }
+    ensures err { IfErr result (λ e. e ≡ fault.Memory) }
+{
+    let core = last_copy(alloc, state.history())?;
+    let msg = no_room(alloc, standing)?;
+    let response = to_allocation(alloc, json, AllocJobResult::Fail { msg })?;
+    let reply = reply(alloc, number, &response)?;
+    Ok(Entry::replied(event, Some(core), reply))
+}
+
+/// The entry of an allocation where the job ids are spent.
+fn ids_spent(
+    alloc: Global,
+    state: &SchedState<JWTJobAuthorizer>,
+    number: u64,
+    event: Event,
+) -> Result<Entry, FarmFault>
+    requires { 0 < length state.now.log }
+    ensures made { IfOk result (λ e. (made : Core) × (slice_get state.now.log (length state.now.log - 1) ≡ Some made)
+        × (e ≡ replied event (Some made) (reply_to number (told.fault_response_of route_fault.IdsSpent)))) }
+    ensures err { IfErr result (λ e. e ≡ fault.Memory) }
+{
+    let core = last_copy(alloc, state.history())?;
+    let response = to_fault(alloc, &RouteFault::IdsSpent)?;
+    let reply = reply(alloc, number, &response)?;
+    Ok(Entry::replied(event, Some(core), reply))
+}
+
+/// The scheduler's last entry, and the call that asks the reservation's server to take the job.
+fn ask(
+    alloc: Global,
+    log: &[CoreEntry],
+    reservation: &Reservation,
+    tc: &Toolchain,
+) -> Result<(CoreEntry, OutCall), FarmFault>
+    requires { 0 < length log.now }
+    ensures core { IfOk result (λ r. slice_get log.now (length log.now - 1) ≡ Some r.0) }
+    ensures asks { IfOk result (λ r. r.1 ≡ assign_call tc.now reservation.now) }
+    ensures err { IfErr result (λ e. e ≡ fault.Memory) }
+{
+    let core = last_copy(alloc, log)?;
+    let server = reservation.server_id();
+    let job = reservation.job_id();
+    let target = server.addr();
+    match assign_request(alloc, server, job, reservation.auth(), tc) {
+        Ok(bytes) => Ok((core, OutCall { target, bytes })),
+        Err(error) => Err(FarmFault::from(want_of_memory(error))),
+    }
+}
+
+/// What is made of a reservation: the call that asks its server to take the job. Where memory runs out
+/// the reservation is undone.
+fn reserved(
+    alloc: Global,
+    state: &mut SchedState<JWTJobAuthorizer>,
+    event: Event,
+    json: bool,
+    tc: &Toolchain,
+    reservation: Reservation,
+) -> Result<Made, FarmFault>
+    requires { 0 < length state.old.log }
+    ensures made { IfOk result (λ m. (made : Core) × (slice_get state.old.log (length state.old.log - 1) ≡ Some made)
+        × (m.entry ≡ asking event made (Some (assign_call tc.now reservation)))) }
+    ensures waiting { IfOk result (λ m. m.waiting ≡ Some (record { reservation = reservation; json = json })) }
+    ensures same { OnOk result (state.new ≡ state.old) }
+    ensures err { IfErr result (λ e. e ≡ fault.Memory) }
+{
+    match ask(alloc, state.history(), &reservation, tc) {
+        Ok((core, call)) => Ok(Made {
+            entry: Entry::asking(event, core, call),
+            waiting: Some(Waiting { reservation, json }),
+        }),
+        Err(fault) => {
+            state.undo(event.at, reservation);
+            Err(fault)
+        }
+    }
+}
+
+/// Allocates a job: the call that asks the picked server to take it, or the reply where none is picked.
+fn allocate(
+    alloc: Global,
+    state: &mut SchedState<JWTJobAuthorizer>,
+    number: u64,
+    event: Event,
+    json: bool,
+    tc: &Toolchain,
+) -> Result<Made, FarmFault>
+    ensures answer { IfOk result (λ m. m.entry ≡ answer_to state.old number event json (asked.Alloc tc.now)) }
+    ensures begins { IfOk result (λ m. Begins state.old json m.entry m.waiting) }
+    ensures core { IfOk result (λ m. state.new ≡ with_core state.old m.entry.core) }
+    ensures err { IfErr result (λ e. e ≡ fault.Memory) }
+{
+    match state.reserve(event.at) {
+        Ok(Picked::Reserved(reservation)) => reserved(alloc, state, event, json, tc, reservation),
+        Ok(Picked::NoRoom(standing)) => {
+            let entry = crowded(alloc, state, number, event, json, standing)?;
+            Ok(Made::whole(entry))
+        }
+        Err(SchedError::IdsSpent) => {
+            let entry = ids_spent(alloc, state, number, event)?;
+            Ok(Made::whole(entry))
+        }
+        Err(SchedError::Memory) => Err(FarmFault::Memory),
+        Err(SchedError::BadCpus(_)) => unreachable!(),
+        Err(SchedError::UnknownJob) => unreachable!(),
+        Err(SchedError::WrongServer) => unreachable!(),
+        Err(SchedError::BadTransition(_, _)) => unreachable!(),
+    }
+}
+
+/// What is made of what is asked of the scheduler.
+fn serve_asked(
+    alloc: Global,
+    state: &mut SchedState<JWTJobAuthorizer>,
+    number: u64,
+    event: Event,
+    json: bool,
+    what: SchedRouted,
+) -> Result<Made, FarmFault>
+    ensures answer { IfOk result (λ m. m.entry ≡ answer_to state.old number event json what) }
+    ensures begins { IfOk result (λ m. Begins state.old json m.entry m.waiting) }
+    ensures core { IfOk result (λ m. state.new ≡ with_core state.old m.entry.core) }
+    ensures err { IfErr result (λ e. e ≡ fault.Memory) }
+{
+    let at = event.at;
+    match what {
+        SchedRouted::Alloc(tc) => allocate(alloc, state, number, event, json, &tc),
+        SchedRouted::Beat(server, beat) => {
+            let entry = hear(alloc, state, number, event, json, server, beat)?;
+            Ok(Made::whole(entry))
+        }
+        SchedRouted::Update(server, job, to) => {
+            let (core, response) = take_report(alloc, state, at, json, server, job, to)?;
+            let reply = reply(alloc, number, &response)?;
+            Ok(Made::whole(Entry::replied(event, Some(core), reply)))
+        }
+        SchedRouted::Status => {
+            let (core, response) = count(alloc, state, at, json)?;
+            let reply = reply(alloc, number, &response)?;
+            Ok(Made::whole(Entry::replied(event, Some(core), reply)))
+        }
+        SchedRouted::Done(response) => {
+            let reply = reply(alloc, number, &response)?;
+            Ok(Made::whole(Entry::replied(event, None, reply)))
+        }
+    }
+}
+
+/// What is made of bytes that come to an address: what the scheduler does with what they ask, or the word
+/// that nobody listens there.
+pub fn serve(
+    alloc: Global,
+    scheduler: &SetupScheduler,
+    state: &mut SchedState<JWTJobAuthorizer>,
+    number: u64,
+    event: Event,
+    target: Addr,
+    peer: Addr,
+    bytes: &[u8],
+) -> Result<Made, FarmFault>
+    requires plain { IsPlain scheduler.now.auth }
+    ensures served { IfOk result (λ m. IsServed scheduler.now state.old number event (brought_to scheduler.now target peer bytes.now) m.entry) }
+    ensures begun { IfOk result (λ m. IsBegun scheduler.now state.old (brought_to scheduler.now target peer bytes.now) m.entry m.waiting) }
+    ensures core { IfOk result (λ m. state.new ≡ with_core state.old m.entry.core) }
+    ensures err { IfErr result (λ e. e ≡ fault.Memory) }
+{
+    if target != scheduler.addr {
+        return Ok(Made::whole(Entry::worded(event, EntryWord::Down)));
+    }
+    let client = scheduler.client.get();
+    let token = token(&scheduler.auth);
+    let question = match asked(alloc, bytes, peer, client, token) {
+        Ok(question) => question,
+        Err(error) => return Err(FarmFault::from(want_of_memory(error))),
+    };
+    let Asked { what, json } = question;
+    serve_asked(alloc, state, number, event, json, what)
+}

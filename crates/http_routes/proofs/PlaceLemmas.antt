@@ -1,0 +1,139 @@
+-- The place of a request, the job that it names and the form that it asks for, in the words of its parts.
+use Rattle.std.proofs.Common.{◌≡◌, ℕ, ◌&&◌, ◌<◌, Bool, true, false, cond, List, ◌++◌, length, drop, Option, Some, None, refl, sym, ap, subst, ◌∙◌, arith}
+use Rattle.std.specs.Prelude.{codes, bytes_eq, nat_eq, nat_lt, option_copied, MatchOption}
+use Rattle.std.specs.List.{starts_with, list_all}
+use Rattle.std.specs.Char.{is_ascii_digit}
+use Rattle.std.specs.Str.Parse.{without_leading_plus, digits_value}
+use Rattle.std.proofs.lemmas.Bool.Decides.{nat_tests}
+use Rattle.std.proofs.lemmas.Option.{cond_some}
+use Rattle.std.proofs.Math.Seq.{take-append_seam}
+use Rattle.std.specs.Borrow.{Bor}
+use Rattle.std.specs.Str.Pattern.{FindsTextPrefix, StripsPrefix}
+use Rattle.dist_types.specs.Addr.{is_digits}
+use Rattle.dist_types.specs.Ids.{SaysJob}
+use Rattle.dist_types.specs.declared.ids.JobId.{JobId}
+use Rattle.http_head.specs.declared.request.Request.{Request}
+use Rattle.http_head.specs.Fields.{header, path_of}
+use Rattle.http_routes.specs.InOrder.{IsAt, InForm}
+use Rattle.http_routes.specs.Route.{is_at, stripped, job_in, given_job, job_of, is_text, wants_json}
+use Rattle.http_head.proofs.BearerLemmas.{equal_texts, same_text, begins}
+use Rattle.http_head.proofs.FieldLemmas.{digits}
+
+both : (a b : Bool) → (a && b) ≡ true → (a ≡ true) × (b ≡ true)
+both true b h = (refl, h)
+both false b h = absurd cc
+
+-- ---- places
+
+pub at_place : (r : Request) (method path : List ℕ) → is_at method path r ≡ true → IsAt r method path
+unfolding is_at
+at_place r method path h =
+    let parts = both (bytes_eq r.method method) (bytes_eq (path_of r.target) path) h in
+    record { sent_by = equal_texts r.method method parts.0; sent_to = equal_texts (path_of r.target) path parts.1 }
+
+pub place_at : (r : Request) (method path : List ℕ) → IsAt r method path → is_at method path r ≡ true
+unfolding is_at
+place_at r method path h = rw (h.sent_by, h.sent_to, same_text method, same_text path) refl
+
+-- ---- forms
+
+pub in_form : (r : Request) (json : Bool) → json ≡ wants_json r → InForm r json
+unfolding wants_json
+in_form r json e = by_header (header (codes "accept") r.headers) refl json e
+  where
+    by_header : (o : Option (List ℕ)) → header (codes "accept") r.headers ≡ o → (b : Bool) → b ≡ is_text (codes "application/json") o → InForm r b
+    by_header None is true h = absurd cc
+    by_header None is false h = λ k. absurd (let none = sym is ∙ k in cc)
+    by_header (Some text) is true h = is ∙ ap Some (equal_texts text (codes "application/json") (sym h))
+    by_header (Some text) is false h = λ k.
+        let same : text ≡ codes "application/json" = let e = sym is ∙ k in cc in
+        absurd (let yes = subst (λ (t : List ℕ). false ≡ bytes_eq t (codes "application/json")) same h ∙ same_text (codes "application/json") in cc)
+
+pub form_in : (r : Request) (json : Bool) → InForm r json → json ≡ wants_json r
+unfolding wants_json
+form_in r true h = rw h (sym (same_text (codes "application/json")))
+form_in r false h = by_header (header (codes "accept") r.headers) refl
+  where
+    by_header : (o : Option (List ℕ)) → header (codes "accept") r.headers ≡ o → false ≡ is_text (codes "application/json") o
+    by_header None is = refl
+    by_header (Some text) is = by_test (bytes_eq text (codes "application/json")) refl
+      where
+        by_test : (b : Bool) → bytes_eq text (codes "application/json") ≡ b → false ≡ b
+        by_test false e = refl
+        by_test true e = absurd (h (is ∙ ap Some (equal_texts text (codes "application/json") e)))
+
+-- ---- jobs
+
+pub job_said : (text : List ℕ) (job : JobId) → job_in text ≡ Some job → SaysJob text job.0
+unfolding job_in
+job_said text job e =
+    let ds = without_leading_plus text in
+    let found = cond_some (is_digits ds && nat_lt (digits_value 10 ds) 18446744073709551616) (record { 0 = digits_value 10 ds }) job e in
+    let tests = both (is_digits ds) (nat_lt (digits_value 10 ds) 18446744073709551616) found.0 in
+    let digit = both (nat_lt 0 (length ds)) (list_all is_ascii_digit ds) tests.0 in
+    ((less 0 (length ds) digit.0, digits.to ds digit.1), less (digits_value 10 ds) 18446744073709551616 tests.1, sym (ap (λ (j : JobId). j.0) found.1))
+  where
+    less : (a b : ℕ) → nat_lt a b ≡ true → a < b
+    less a b h = grind (arith, nat_tests)
+
+pub said_job : (text : List ℕ) (job : JobId) → SaysJob text job.0 → job_in text ≡ Some job
+unfolding job_in
+said_job text job s =
+    let ds = without_leading_plus text in
+    rw (less 0 (length ds) s.0.0, digits.from ds s.0.1, less (digits_value 10 ds) 18446744073709551616 s.1) (λ i. Some (record { 0 = sym s.2 i }))
+  where
+    less : (a b : ℕ) → a < b → nat_lt a b ≡ true
+    less a b h = grind (arith, nat_tests)
+
+pub no_job : (text : List ℕ) → ((n : ℕ) → ¬ (SaysJob text n)) → job_in text ≡ None
+no_job text none = by_option (job_in text) refl
+  where
+    by_option : (o : Option JobId) → job_in text ≡ o → o ≡ None
+    by_option None e = refl
+    by_option (Some job) e = absurd (none job.0 (job_said text job e))
+
+-- what `strip_prefix` gives
+pub strips : (front text : List ℕ) (o : Option (Bor (List ℕ)))
+    → MatchOption o (FindsTextPrefix front text None) (λ x. StripsPrefix (FindsTextPrefix front) text x.now)
+    → option_copied o ≡ stripped front text
+strips front text None lacks = by_test (starts_with nat_eq text front) refl
+  where
+    by_test : (b : Bool) → starts_with nat_eq text front ≡ b → None ≡ cond b (Some (drop (length front) text)) None
+    by_test false e = refl
+    by_test true e = absurd (lacks (drop (length front) text) (begins text front e))
+strips front text (Some x) (n, finds, is, len) =
+    let stands : starts_with nat_eq text front ≡ true =
+    subst (λ (t : List ℕ). starts_with nat_eq t front ≡ true) (sym finds.1) (subst (λ (t : List ℕ). bytes_eq front t ≡ true) (sym (take-append_seam front (drop n text))) (same_text front)) in
+    rw (stands, is, finds.0) refl
+
+behind_front : (front text rest : List ℕ) → stripped front text ≡ Some rest → text ≡ front ++ rest
+behind_front front text rest e =
+    let found = cond_some (starts_with nat_eq text front) (drop (length front) text) rest e in
+    begins text front found.0 ∙ ap (λ (t : List ℕ). front ++ t) found.1
+
+abbrev place : List ℕ
+place = codes "/api/v1/scheduler/job_state/"
+
+pub job_named : (r : Request) (job : JobId) → job_of r ≡ Some job
+    → (id : List ℕ) × IsAt r (codes "POST") (place ++ id) × SaysJob id job.0
+unfolding job_of
+job_named r job e =
+    let found = by_test (bytes_eq r.method (codes "POST")) (given_job (stripped place (path_of r.target))) e in
+    by_id (stripped place (path_of r.target)) refl found.0 found.1
+  where
+    by_test : (b : Bool) (o : Option JobId) → cond b o None ≡ Some job → (b ≡ true) × (o ≡ Some job)
+    by_test true o h = (refl, h)
+    by_test false o h = absurd cc
+
+    by_id : (o : Option (List ℕ)) → stripped place (path_of r.target) ≡ o → bytes_eq r.method (codes "POST") ≡ true → given_job o ≡ Some job
+        → (id : List ℕ) × IsAt r (codes "POST") (place ++ id) × SaysJob id job.0
+    by_id None is post h = absurd cc
+    by_id (Some id) is post h = (
+      id,
+      record { sent_by = equal_texts r.method (codes "POST") post; sent_to = behind_front place (path_of r.target) id is },
+      job_said id job h,
+    )
+
+pub named_job : (r : Request) (job : JobId) (id : List ℕ) → IsAt r (codes "POST") (place ++ id) → SaysJob id job.0 → job_of r ≡ Some job
+unfolding job_of
+named_job r job id at names = rw (at.sent_by, at.sent_to) (said_job id job names)

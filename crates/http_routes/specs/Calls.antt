@@ -1,0 +1,50 @@
+-- What the reply to a call says.
+use Rattle.std.specs.Prelude.{◌≡◌, ◌⊎◌, ◌==◌, ℕ, List, if◌then◌else◌, Option, Result, Ok, Err, MatchResult}
+use Rattle.dist_types.specs.declared.outgoing.CallFault.{CallFault}
+use Rattle.dist_types.specs.declared.outgoing.CallFault.TheVariants as call
+use Rattle.dist_types.specs.declared.results.AssignJobResult.{AssignJobResult}
+use Rattle.dist_wire.specs.Reading.{assign_at}
+use Rattle.sched_core.specs.Rule.{begins}
+use Rattle.http_head.specs.declared.error.HttpError.{HttpError}
+use Rattle.http_head.specs.declared.error.HttpError.TheVariants.{ParseError, Status, Memory}
+use Rattle.http_head.specs.declared.reply.Reply.{Reply}
+use Rattle.http_head.specs.Head.{IsReply, IsNoReply}
+use Rattle.http_routes.specs.Message.{begins_in}
+use Rattle.http_routes.specs.Steps.{unless_none}
+
+-- the message of a reply: its status is 200, and the message begins its body
+unfoldable pub told_by : {M : Type 0} → (List ℕ → Option (M × List ℕ)) → Reply → Result M HttpError
+told_by at r = if r.code == 200 then unless_none ParseError (begins_in at r.body) else Err (Status r.code r.body)
+
+-- what the bytes say, as a reply or as none
+abbrev pub Tells : {M : Type 0} → (List ℕ → Option (M × List ℕ)) → List ℕ → Result M HttpError → Type 0
+Tells at bytes told =
+    ((r : Reply) × IsReply bytes r × (told ≡ told_by at r)) ⊎ (IsNoReply bytes × (told ≡ Err ParseError))
+
+-- the answer is what the bytes say, unless memory ran out
+abbrev pub Reads : {M : Type 0} → (List ℕ → Option (M × List ℕ)) → List ℕ → Result M HttpError → Type 0
+Reads at bytes answer = MatchResult answer (λ m. Tells at bytes (Ok m)) (λ e. ¬ (e ≡ Memory) → Tells at bytes (Err e))
+
+-- why a reply tells no message: it is no reply, or holds none, or its status is another
+abbrev pub IsReplyFault : HttpError → Type 0
+IsReplyFault ParseError = Unit {0}
+IsReplyFault (Status code body) = Unit {0}
+IsReplyFault other = ⊥
+
+-- the answer to an assignment, if its state is one that an assignment may tell
+abbrev pub begun : AssignJobResult → Result AssignJobResult CallFault
+begun answer = if begins answer.state then Ok answer else Err (call.BadState answer.state)
+
+-- why a reply is no answer to a call
+abbrev pub call_fault : HttpError → CallFault
+call_fault (Status code body) = call.Status code
+call_fault other = call.Unreadable
+
+-- the answer to an assignment, by what its reply says
+abbrev pub assigned_by : Result AssignJobResult HttpError → Result AssignJobResult CallFault
+assigned_by (Ok answer) = begun answer
+assigned_by (Err e) = Err (call_fault e)
+
+-- what the bytes of the reply to an assignment say
+abbrev pub IsAssigned : List ℕ → Result AssignJobResult CallFault → Type 0
+IsAssigned bytes answer = (told : Result AssignJobResult HttpError) × Tells assign_at bytes told × (answer ≡ assigned_by told)

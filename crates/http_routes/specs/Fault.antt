@@ -1,0 +1,93 @@
+-- What a fault of a request is told as.
+use Rattle.std.specs.Prelude.{ℕ, List, [], ◌∷◌, ◌++◌, codes}
+use Rattle.std.specs.Fmt.{decimal}
+use Rattle.dist_types.specs.Addr.{addr_text}
+use Rattle.dist_types.specs.Ids.{state_text}
+use Rattle.dist_types.specs.declared.ids.JobId.{JobId}
+use Rattle.dist_types.specs.declared.outgoing.CallFault.{CallFault}
+use Rattle.dist_types.specs.declared.outgoing.CallFault.TheVariants.{Lost, Status, Unreadable, BadState, Memory as OutOfMemory}
+use Rattle.sched_core.specs.declared.answers.Undone.{Undone}
+use Rattle.sched_core.specs.declared.answers.Undone.TheVariants.{Unassigned, NotKnown, NoServer, Foreign}
+use Rattle.http_head.specs.declared.error.HttpError.{HttpError}
+use Rattle.http_head.specs.declared.error.HttpError.TheVariants.{BadHead, WrongContentType, ParseError, BadRealIp, Unauthorised, Status as OtherStatus, Memory}
+use Rattle.http_routes.specs.declared.fault.RouteFault.{RouteFault}
+use Rattle.http_routes.specs.declared.fault.RouteFault.TheVariants.{BadCpus, UnknownJob, WrongServer, BadTransition, IdsSpent, AssignFailed}
+use Rattle.http_routes.specs.declared.refusal.RouilleBincodeError.{RouilleBincodeError}
+use Rattle.http_routes.specs.declared.refusal.RouilleBincodeError.TheVariants as input
+use Rattle.http_routes.specs.declared.reply.Response as response
+use Rattle.http_routes.specs.declared.reply.Response.TheVariants as reply
+use Rattle.http_head.specs.declared.word.Word.{Word}
+use Rattle.http_head.specs.declared.word.Word.TheVariants.{BearerAuthFailed}
+use Rattle.http_routes.specs.ErrJson.{err_text}
+use Rattle.http_head.specs.Text.{◌⧺◌}
+
+-- why a call gave no answer
+abbrev pub call_text : CallFault → List ℕ
+call_text Lost = codes "no reply"
+call_text (Status code) = codes "Error " ++ decimal code
+call_text Unreadable = codes "unreadable reply"
+call_text (BadState state) = codes "state " ⧺ state_text state ⧺ codes " in an assignment"
+call_text OutOfMemory = codes "out of memory"
+
+-- what became of a reservation whose call failed
+abbrev pub undone_text : Undone → List ℕ
+undone_text Unassigned = codes "assign job failed, job un-assigned from the server"
+undone_text NotKnown = codes "assign job failed and job not known to the server"
+undone_text NoServer = codes "assign job failed and server not known"
+undone_text Foreign = codes "assign job failed and job not known to the server"
+
+-- what went wrong
+abbrev pub fault_text : RouteFault → List ℕ
+fault_text (BadCpus cpus) = codes "Invalid number of CPUs (" ⧺ decimal cpus ⧺ codes ") specified in heartbeat"
+fault_text UnknownJob = codes "Unknown job"
+fault_text (WrongServer job server) = codes "Job id " ⧺ decimal job.0 ⧺ codes " is not registered on server ServerId(" ⧺ addr_text server ⧺ codes ")"
+fault_text (BadTransition old new) = codes "Invalid job state transition from " ⧺ state_text old ⧺ codes " to " ⧺ state_text new
+fault_text IdsSpent = codes "No job ids left"
+fault_text (AssignFailed undone call) = undone_text undone
+
+-- why, outermost first
+abbrev pub causes_of : RouteFault → List (List ℕ)
+causes_of (AssignFailed undone call) = codes "POST to scheduler assign_job failed" ∷ call_text call ∷ []
+causes_of other = []
+
+-- what went wrong and why, outermost first
+abbrev pub fault_texts : RouteFault → List (List ℕ)
+fault_texts fault = fault_text fault ∷ causes_of fault
+
+-- the reply to a fault
+abbrev pub fault_response_of : RouteFault → response.Response
+fault_response_of fault = reply.ServerError (err_text (fault_texts fault))
+
+-- why a message is not taken from a request
+abbrev pub input_text : RouilleBincodeError → List ℕ
+input_text input.BodyAlreadyExtracted = codes "the body of the request was already extracted"
+input_text input.WrongContentType = codes "the request didn't have a binary content type"
+input_text input.ParseError = codes "error while parsing the bincode body"
+
+-- what a reply says beside the word of its refusal
+abbrev pub word_body : Word → List ℕ
+word_body BearerAuthFailed = codes "Fixed token mismatch"
+word_body other = []
+
+-- a refusal that a route is told: neither want of memory, nor what a reply to a call says
+abbrev pub IsRefusal : HttpError → Type 0
+IsRefusal Memory = ⊥
+IsRefusal (OtherStatus code body) = ⊥
+IsRefusal other = Unit {0}
+
+-- the reply to a refusal
+abbrev pub reply_of : HttpError → response.Response
+reply_of BadHead = reply.BadRequest (err_text (codes "bad request head" ∷ []))
+reply_of WrongContentType = reply.BadRequest (err_text (input_text input.WrongContentType ∷ []))
+reply_of ParseError = reply.BadRequest (err_text (input_text input.ParseError ∷ codes "no message begins the body" ∷ []))
+reply_of BadRealIp = reply.BadRealIp
+reply_of (Unauthorised word) = reply.Unauthorised word (word_body word)
+reply_of other = reply.NotFound
+
+-- no server has room, of so many that stand
+abbrev pub no_room_text : ℕ → List ℕ
+no_room_text standing = codes "Insufficient capacity across " ⧺ decimal standing ⧺ codes " available servers"
+
+-- the job's reservation ended before its server answered
+abbrev pub dropped_text : JobId → List ℕ
+dropped_text job = codes "Job " ⧺ decimal job.0 ⧺ codes " assignment was cleaned up before allocation completed"

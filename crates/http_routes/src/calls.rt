@@ -1,0 +1,86 @@
+//! What the reply to a call says.
+ghost use Rattle.std.specs.Prelude.{◌≡◌, IfOk, IfErr, true};
+ghost use Rattle.http_routes.specs.Calls.{told_by, Reads, begun, IsAssigned};
+ghost use Rattle.http_routes.specs.Steps.{Gives};
+ghost use Rattle.sched_core.specs.Rule.{begins};
+
+use crate::error::{HttpError, of_wire};
+use crate::head::read_reply_head;
+use crate::reply::Reply;
+use dist_types::outgoing::CallFault;
+use dist_types::results::{AssignJobResult, JobState};
+use dist_wire::message::Message;
+use std::alloc::Global;
+
+/// The message of a reply.
+#[tactic(auto, unfolding(crate::specs::Calls::told_by))]
+fn told_by<M: Message>(alloc: Global, reply: Reply) -> Result<M, HttpError>
+    ensures { Gives (told_by M.at reply) result }
+{
+    if reply.code != 200 {
+        return Err(HttpError::Status(reply.code, reply.body));
+    }
+    match M::read(alloc, reply.body.get()) {
+        Ok((message, _)) => Ok(message),
+        Err(e) => Err(of_wire(e)),
+    }
+}
+
+/// The message that the bytes of a reply tell: it has status 200, and the message begins its body. ParseError
+/// exactly where the bytes are no reply, or one with status 200 that begins with no message; Status, with the
+/// body, exactly where they are a reply with another status; else refused for want of memory alone.
+pub fn read_reply<M: Message>(alloc: Global, bytes: &[u8]) -> Result<M, HttpError>
+    ensures { Reads M.at bytes.now result }
+{
+    match read_reply_head(alloc, bytes) {
+        Ok(reply) => told_by(alloc, reply),
+        Err(e) => Err(e),
+    }
+}
+
+/// Whether an assignment may tell that state.
+fn begins(state: JobState) -> bool
+    ensures { result ≡ begins state }
+{
+    match state {
+        JobState::Pending => true,
+        JobState::Ready => true,
+        JobState::Started => false,
+        JobState::Complete => false,
+    }
+}
+
+fn begun(answer: AssignJobResult) -> Result<AssignJobResult, CallFault>
+    ensures begun { result ≡ begun answer }
+    ensures begins { IfOk result (λ a. begins a.state ≡ true) }
+{
+    if begins(answer.state) {
+        Ok(answer)
+    } else {
+        Err(CallFault::BadState(answer.state))
+    }
+}
+
+/// What the reply to an assignment says: the answer of a server that takes the job, Pending or Ready; or
+/// BadState where it tells another state, Status where its status is not 200, Unreadable where the bytes are no
+/// reply or no answer begins its body. Refused for want of memory alone.
+pub fn assigned(
+    alloc: Global,
+    reply: &[u8],
+) -> Result<Result<AssignJobResult, CallFault>, HttpError>
+    ensures ok { IfOk result (IsAssigned reply.now) }
+    ensures begins { IfOk result (λ answer. IfOk answer (λ a. begins a.state ≡ true)) }
+    ensures err { IfErr result (λ e. e ≡ HttpError.Memory) }
+{
+    match read_reply(alloc, reply) {
+        Ok(answer) => Ok(begun(answer)),
+        Err(HttpError::Memory) => Err(HttpError::Memory),
+        Err(HttpError::ParseError) => Ok(Err(CallFault::Unreadable)),
+        Err(HttpError::Status(code, _)) => Ok(Err(CallFault::Status(code))),
+        Err(HttpError::BadHead) => unreachable!(),
+        Err(HttpError::WrongContentType) => unreachable!(),
+        Err(HttpError::BadRealIp) => unreachable!(),
+        Err(HttpError::NoRoute) => unreachable!(),
+        Err(HttpError::Unauthorised(_)) => unreachable!(),
+    }
+}

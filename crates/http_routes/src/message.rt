@@ -1,0 +1,32 @@
+//! The message that a body holds.
+ghost use Rattle.std.specs.Prelude.{◌≡◌, option_copied};
+ghost use Rattle.http_routes.specs.Message.{is_binary, message_in};
+ghost use Rattle.http_routes.specs.Steps.{Gives};
+
+use crate::error::{HttpError, of_wire};
+use crate::request::Request;
+use dist_wire::message::Message;
+use std::alloc::Global;
+
+fn is_binary(text: Option<&str>) -> bool
+    ensures { result ≡ is_binary (option_copied text.entry) }
+{
+    match text {
+        Some(text) => text.as_bytes().starts_with(b"application/octet-stream"),
+        None => false,
+    }
+}
+
+/// The message in the request's body, whose content type begins with `application/octet-stream`.
+#[tactic(auto, unfolding(crate::specs::Message::message_in))]
+pub(crate) fn message_in<M: Message>(alloc: Global, request: &Request) -> Result<M, HttpError>
+    ensures { Gives (message_in M.at request.now) result }
+{
+    if !is_binary(request.header("content-type")) {
+        return Err(HttpError::WrongContentType);
+    }
+    match M::read(alloc, request.body.get()) {
+        Ok((message, _)) => Ok(message),
+        Err(e) => Err(of_wire(e)),
+    }
+}
