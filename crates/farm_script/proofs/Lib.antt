@@ -1,5 +1,9 @@
 pub mod DigitLemmas
 pub mod FieldLemmas
+pub mod HexLemmas
+pub mod LineLemmas
+pub mod OutputLemmas
 pub mod PieceLemmas
+pub mod PlaceLemmas
 pub mod VisibleLemmas
 pub mod WordLemmas

@@ -135,10 +135,10 @@ fn outputs(alloc: Global, behind: Option<&[u8]>) -> Result<Vec<(Text, Bytes)>, L
     let mut left = behind;
     while let Some(text) = left {
         match output(alloc, text) {
-            Ok((output, rest)) => {
-                outputs.push(output)?;
-                left = rest;
-            }
+            Ok((output, rest)) => match outputs.push(output) {
+                Ok(()) => left = rest,
+                Err(_) => return Err(LineFault::Memory),
+            },
             Err(fault) => return Err(fault),
         }
     }

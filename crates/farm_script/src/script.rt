@@ -1,5 +1,5 @@
 //! Scripts, read line by line.
-ghost use Rattle.std.specs.Prelude.{◌≡◌, ◌≤◌, ◌++◌, ◌∷◌, [], ℕ, length, map, option_to_list, IfOk, IfErr, OnOk, IsTrue, ◌⊎◌, ◌==◌, position};
+ghost use Rattle.std.specs.Prelude.{◌≡◌, ◌≤◌, ◌++◌, ◌∷◌, [], ℕ, length, map, option_to_list, IfOk, IfErr, OnOk, IsTrue, ◌⊎◌, ◌||◌, position};
 ghost use Rattle.dist_types.specs.Addr.{same_addr};
 ghost use Rattle.farm_script.specs.Lines.{line_at};
 ghost use Rattle.farm_script.specs.Place.{misplaced, duplicate, has_addr};
@@ -47,6 +47,13 @@ fn place_of(servers: &[SetupServer], addr: &Addr) -> Option<usize>
     servers.iter().position(|server| server.addr == *addr)
 }
 
+/// Whether a server is at an address.
+fn has_server(servers: &[SetupServer], addr: &Addr) -> bool
+    ensures { result ≡ has_addr addr.now (map (λ s. s.addr) servers.now) }
+{
+    place_of(servers, addr).is_some()
+}
+
 fn is_at(scheduler: &Option<SetupScheduler>, addr: &Addr) -> bool
     ensures { result ≡ has_addr addr.now (map (λ s. s.addr) (option_to_list scheduler.now)) }
 {
@@ -65,7 +72,7 @@ fn is_misplaced_setup(reading: &Reading, line: &SetupLine) -> bool
     match line {
         SetupLine::Scheduler(_) => reading.scheduler.is_some(),
         SetupLine::Server(_) => reading.scheduler.is_none() || reading.servers.len() >= MAX_SERVERS,
-        SetupLine::Builder(addr, _) => place_of(&reading.servers, addr).is_none(),
+        SetupLine::Builder(addr, _) => !has_server(&reading.servers, addr),
     }
 }
 
@@ -80,15 +87,19 @@ fn is_misplaced(reading: &Reading, line: &Line) -> bool
     }
 }
 
+/// Whether the scheduler or a server is at an address.
+fn is_taken(reading: &Reading, addr: &Addr) -> bool
+    ensures { result ≡ (has_addr addr.now (before (read_of reading.now)).schedulers || has_addr addr.now (before (read_of reading.now)).servers) }
+{
+    is_at(&reading.scheduler, addr) || has_server(&reading.servers, addr)
+}
+
 fn is_duplicate_setup(reading: &Reading, line: &SetupLine) -> bool
     ensures { result ≡ duplicate (before (read_of reading.now)) (Line.Setup line.now) }
 {
     match line {
         SetupLine::Scheduler(_) => false,
-        SetupLine::Server(server) => {
-            is_at(&reading.scheduler, &server.addr)
-                || place_of(&reading.servers, &server.addr).is_some()
-        }
+        SetupLine::Server(server) => is_taken(reading, &server.addr),
         SetupLine::Builder(_, _) => false,
     }
 }
