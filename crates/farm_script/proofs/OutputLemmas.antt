@@ -66,16 +66,16 @@ first_from : (t : List ℕ) (o : Option ℕ) → position (λ b. b == 32) t ≡ 
 unfolding outputs_at output_at
 first_from t None e =
     ap outputs_at (words_cut t None e) ∙ sym (ap (λ (o : Option ℕ). (option_map {U = List ℕ × List ℕ} (λ i. (take i t, drop (i + 1) t)) o >>= λ word.
-      name_at word.0 >>= λ n. hex_at (next_word word.1).0 >>= λ b. Some ((n, b), (next_word word.1).1))
-      >>= λ (x : Output × Option (List ℕ)). outputs_behind x.1 >>= λ os. Some (x.0 ∷ os)) e)
+    name_at word.0 >>= λ n. hex_at (next_word word.1).0 >>= λ b. Some ((n, b), (next_word word.1).1))
+    >>= λ (x : Output × Option (List ℕ)). outputs_behind x.1 >>= λ os. Some (x.0 ∷ os)) e)
 first_from t (Some i) e =
     let rest : List ℕ = drop (i + 1) t in
     ap outputs_at (words_cut t (Some i) e)
     ∙ ap (λ (ws : List (List ℕ)). outputs_at (take i t ∷ ws)) (words_cut rest (position (λ b. b == 32) rest) refl)
     ∙ pair_first (take i t) (next_word rest).0 (next_word rest).1
     ∙ sym (ap (λ (o : Option ℕ). (option_map {U = List ℕ × List ℕ} (λ i. (take i t, drop (i + 1) t)) o >>= λ word.
-      name_at word.0 >>= λ n. hex_at (next_word word.1).0 >>= λ b. Some ((n, b), (next_word word.1).1))
-      >>= λ (x : Output × Option (List ℕ)). outputs_behind x.1 >>= λ os. Some (x.0 ∷ os)) e)
+    name_at word.0 >>= λ n. hex_at (next_word word.1).0 >>= λ b. Some ((n, b), (next_word word.1).1))
+    >>= λ (x : Output × Option (List ℕ)). outputs_behind x.1 >>= λ os. Some (x.0 ∷ os)) e)
 
 pub outputs_first : (t : List ℕ) → outputs_behind (Some t) ≡ (output_at t >>= λ (x : Output × Option (List ℕ)). outputs_behind x.1 >>= λ os. Some (x.0 ∷ os))
 outputs_first t = first_from t (position (λ b. b == 32) t) refl

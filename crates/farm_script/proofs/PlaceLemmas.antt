@@ -1,5 +1,5 @@
 -- Places of elements, tests of lists, and equal addresses.
-use Rattle.std.proofs.Common.{◌≡◌, ℕ, ◌+◌, ◌<◌, ◌==◌, Bool, true, false, cond, not, ◌||◌, ◌&&◌, List, [], ◌∷◌, ◌++◌, map, Option, Some, None, is_some, refl, sym, ap, subst, ◌∙◌, eqb-true, nat_eq, get_or, suc, ◌⊎◌, inl, inr, arith}
+use Rattle.std.proofs.Common.{◌≡◌, ℕ, ◌+◌, ◌<◌, ◌==◌, Bool, true, false, cond, not, ◌||◌, ◌&&◌, List, [], ◌∷◌, ◌++◌, map, Option, Some, None, is_some, refl, sym, ap, subst, ◌∙◌, eqb-true, eq-eqb, nat_eq, get_or, suc, ◌⊎◌, inl, inr, arith}
 use Rattle.std.specs.Option.{is_none}
 use Rattle.std.proofs.Math.ListN.{set}
 use Rattle.std.specs.List.{list_any, position, position_from}
@@ -57,6 +57,14 @@ same_is (V6 a p) (V6 b q) e =
 same_is (V4 a p) (V6 b q) e = absurd cc
 same_is (V6 a p) (V4 b q) e = absurd cc
 
+both_true : (a b : Bool) → a ≡ true → b ≡ true → (a && b) ≡ true
+both_true true b e f = f
+both_true false b e f = absurd cc
+
+pub same_self : (a : Addr) → same_addr a a ≡ true
+same_self (V4 a p) = both_true (pointwise nat_eq a a) (p == p) (nat_list_eq_equiv.refl a) (eq-eqb p p refl)
+same_self (V6 a p) = both_true (pointwise nat_eq a a) (p == p) (nat_list_eq_equiv.refl a) (eq-eqb p p refl)
+
 -- ---- the answer of the first server at an address
 
 abbrev with_answer : BuilderLine → SetupServer → SetupServer
@@ -88,16 +96,23 @@ some_answered : (addr : Addr) (answer : BuilderLine) (k i : ℕ) (ss : List Setu
     → (j : ℕ) × (i ≡ k + j) × IsAnswered addr answer ss j
 some_answered addr answer k i [] e = absurd cc
 some_answered addr answer k i (s ∷ ss) e = elim (some_cond (same_addr s.addr addr) k i (position_from (λ x. same_addr x.addr addr) (k + 1) ss) e) [
-  | inl p ↦ (0, omega (arith, p.1), record {
-    put = λ d y at is. ap (λ (x : SetupServer). x ∷ ss) (is ∙ ap (with_answer answer) at)
-        ∙ sym (cond_is (same_addr s.addr addr) (with_answer answer s ∷ ss) (s ∷ answered addr answer ss) p.0);
-  })
+  | inl p ↦ (
+    0,
+    omega (arith, p.1),
+    record {
+      put = λ d y at is. ap (λ (x : SetupServer). x ∷ ss) (is ∙ ap (with_answer answer) at)
+          ∙ sym (cond_is (same_addr s.addr addr) (with_answer answer s ∷ ss) (s ∷ answered addr answer ss) p.0);
+    },
+  )
   | inr p ↦
-      let r = some_answered addr answer (k + 1) i ss p.1 in
-      (suc r.0, omega (arith, r.1), record {
-        put = λ d y at is. ap (λ (xs : List SetupServer). s ∷ xs) (r.2.put d y at is)
-            ∙ sym (cond_off (same_addr s.addr addr) (with_answer answer s ∷ ss) (s ∷ answered addr answer ss) p.0);
-      })
+      let r = some_answered addr answer (k + 1) i ss p.1 in (
+        suc r.0,
+        omega (arith, r.1),
+        record {
+          put = λ d y at is. ap (λ (xs : List SetupServer). s ∷ xs) (r.2.put d y at is)
+              ∙ sym (cond_off (same_addr s.addr addr) (with_answer answer s ∷ ss) (s ∷ answered addr answer ss) p.0);
+        },
+      )
 ]
 
 pub answered_some : (addr : Addr) (answer : BuilderLine) (ss : List SetupServer) (i : ℕ) (d s : SetupServer) → position (λ x. same_addr x.addr addr) ss ≡ Some i

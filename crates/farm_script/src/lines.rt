@@ -114,10 +114,7 @@ fn server(alloc: Global, scopes: Scopes, text: &[u8]) -> Result<SetupServer, Lin
 
 /// The name and the bytes of an output, and what stands behind the space behind them, where there is one.
 #[tactic(auto, unfolding(crate::specs::Lines::output_at))]
-fn output(
-    alloc: Global,
-    text: &[u8],
-) -> Result<((Text, Bytes), Option<&[u8]>), LineFault>
+fn output(alloc: Global, text: &[u8]) -> Result<((Text, Bytes), Option<&[u8]>), LineFault>
     ensures { Gives (λ x. (x.0, option_map (λ rest. rest.now) x.1)) result (output_at text.now) }
 {
     let (word, rest) = first_word(text)?;
