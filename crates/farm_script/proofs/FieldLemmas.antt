@@ -15,7 +15,7 @@ use Rattle.std.proofs.lemmas.Slice.Eq.{bytes_eq-Decides}
 use Rattle.std.proofs.lemmas.Str.Parse.{IsNumeralModel, numerals_by_fold, tells_all_ascii_digits}
 use Rattle.std.proofs.lemmas.Fmt.{decimal_nonempty, length-decimal-le, first_decimal, digits_decimal, digits_value-decimal, decimal-digits_value}
 use Rattle.hex.specs.Hex.{decode_of}
-use Rattle.dist_types.specs.Addr.{◌>>=◌, addr_in, is_scoped, IsScoped, IsAddrText}
+use Rattle.dist_types.specs.Addr.{◌>>=◌, addr_in, is_scoped}
 use Rattle.dist_types.specs.declared.addr.Addr.{Addr}
 use Rattle.dist_types.proofs.AddrLemmas.{bind_some, addr_of, addr_is, scoped_of, scoped_is, scoped_none}
 use Rattle.farm_script.specs.Words.{is_visible}

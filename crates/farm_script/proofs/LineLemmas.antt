@@ -1,5 +1,5 @@
 -- What a line says is spelled so, and what is spelled so is said.
-use Rattle.std.proofs.Common.{◌≡◌, ℕ, ◌^◌, ◌<◌, ◌≤◌, ◌⊎◌, Bool, true, false, cond, List, [], ◌∷◌, ◌++◌, length, Option, Some, None, codes, refl, sym, ap, subst, ◌∙◌, inl, inr, arith, nat_eq}
+use Rattle.std.proofs.Common.{◌≡◌, ℕ, ◌^◌, ◌<◌, ◌≤◌, ◌⊎◌, true, false, cond, List, [], ◌∷◌, ◌++◌, length, Option, Some, None, codes, refl, sym, ap, subst, ◌∙◌, inl, inr, arith, nat_eq}
 use Rattle.std.specs.Prelude.{ℤ}
 use Rattle.std.specs.Char.{is_ascii_digit}
 use Rattle.std.specs.List.{list_all}
@@ -17,7 +17,7 @@ use Rattle.dist_types.proofs.AddrLemmas.{bind_some}
 use Rattle.farm_script.specs.Texts.{◌⧺◌}
 use Rattle.farm_script.specs.Words.{first_word, next_word, strip, field, named, last, behind, is_visible}
 use Rattle.farm_script.specs.Fields.{addr_at, host_at, number_at, code_at, token_at, hex_at, key_at}
-use Rattle.farm_script.specs.Grammar.{IsNumber, IsCode, IsAddrWord, IsHost, IsToken, IsHex, IsKey, IsAuth, IsSchedulerLine, IsServerLine, AreOutputs, IsListed, IsAnswerLine, IsBuilderLine, IsSetupLine, IsRequest, IsAnswer, IsNumbered, IsBeat, IsRestart, IsKind, IsEventLine, Spells}
+use Rattle.farm_script.specs.Grammar.{IsNumber, IsCode, IsAddrWord, IsHost, IsToken, IsHex, IsKey, IsAuth, IsSchedulerLine, IsServerLine, IsListed, IsAnswerLine, IsBuilderLine, IsSetupLine, IsRequest, IsAnswer, IsNumbered, IsBeat, IsRestart, IsKind, IsEventLine, Spells}
 use Rattle.farm_script.specs.Lines.{auth_at, scheduler_at, server_at, outputs_behind, listed_at, answer_line_at, builder_at, request_at, answer_at, restart_at, kind_behind, kind_at, event_at, is_skipped, said_at, line_at}
 use Rattle.farm_script.specs.declared.setup.BuilderLine.{BuilderLine}
 use Rattle.farm_script.specs.declared.setup.BuilderLine.TheVariants.{Listed, Refuse}
@@ -29,7 +29,7 @@ use Rattle.farm_script.specs.declared.event.Event.{Event}
 use Rattle.farm_script.specs.declared.event.EventKind.{EventKind}
 use Rattle.farm_script.specs.declared.event.EventKind.TheVariants.{Request, Deliver, Fail, Return, Answer, Beat, Restart}
 use Rattle.farm_script.specs.declared.lines.Scopes.{Scopes}
-use Rattle.farm_script.specs.declared.lines.Scopes.TheVariants.{Refused, Taken}
+use Rattle.farm_script.specs.declared.lines.Scopes.TheVariants.{Taken}
 use Rattle.farm_script.specs.declared.lines.SetupLine.{SetupLine}
 use Rattle.farm_script.specs.declared.lines.SetupLine.TheVariants.{Scheduler, Server, Builder}
 use Rattle.farm_script.specs.declared.lines.Line.{Line}

@@ -1,5 +1,5 @@
 -- Outputs, read one after the other.
-use Rattle.std.proofs.Common.{◌≡◌, ℕ, ◌+◌, ◌-◌, ◌<◌, ◌≤◌, ◌==◌, Bool, true, false, cond, List, [], ◌∷◌, ◌++◌, length, take, drop, Option, Some, None, refl, sym, ap, subst, ◌∙◌, append_assoc, append-nil, arith}
+use Rattle.std.proofs.Common.{◌≡◌, ℕ, ◌+◌, ◌<◌, ◌≤◌, ◌==◌, Bool, true, false, cond, List, [], ◌∷◌, ◌++◌, length, take, drop, Option, Some, None, refl, sym, ap, subst, ◌∙◌, append_assoc, append-nil, arith}
 use Rattle.std.specs.List.{position, onto_first}
 use Rattle.std.proofs.lemmas.Bool.{eqb-true}
 use Rattle.std.proofs.lemmas.Option.{same_Some}
@@ -14,7 +14,7 @@ use Rattle.farm_script.specs.Reading.{Fails}
 use Rattle.farm_script.specs.Words.{first_word, words, parted, next_word}
 use Rattle.farm_script.specs.Fields.{hex_at, name_at}
 use Rattle.farm_script.specs.Lines.{output_at, outputs_at, outputs_behind}
-use Rattle.farm_script.specs.Grammar.{IsName, IsHex, AreOutputs}
+use Rattle.farm_script.specs.Grammar.{AreOutputs}
 use Rattle.farm_script.proofs.FieldLemmas.{name_law, hex_law, name_lacks, hex_lacks}
 use Rattle.farm_script.proofs.WordLemmas.{Lacks, bind_is, words_end, words_at, none_lacks, some_lacks, first_place, first_word_sound, spaced}
 

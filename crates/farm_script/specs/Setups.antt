@@ -1,11 +1,10 @@
 -- What each setup has that was read from a script.
-use Rattle.std.specs.Prelude.{◌≡◌, ◌≢◌, ◌≤◌, true, List, [], ◌∷◌, length, map}
+use Rattle.std.specs.Prelude.{◌≢◌, ◌≤◌, List, [], ◌∷◌, length, map}
 use Rattle.std.specs.List.{AllByRecursion}
 use Rattle.dist_types.specs.declared.addr.Addr.{Addr}
 use Rattle.farm_script.specs.Grammar.{IsToken, HasKeyLength}
 use Rattle.farm_script.specs.declared.setup.SetupAuth.{SetupAuth}
 use Rattle.farm_script.specs.declared.setup.SetupAuth.TheVariants.{Plain, Jwt}
-use Rattle.farm_script.specs.declared.setup.SetupServer.{SetupServer}
 use Rattle.farm_script.specs.declared.setup.Setup.{Setup}
 
 -- no address stands twice

@@ -1,7 +1,6 @@
-use Rattle.std.proofs.Common.{◌≡◌, List, ℕ, Some, None, ap, ◌∙◌, sym, Bool, true, false, subst}
+use Rattle.std.proofs.Common.{◌≡◌, List, ℕ, Some, None, ap, ◌∙◌, sym, true, false, subst}
 use Rattle.std.specs.Str.{is_utf8, IsUtf8}
 use Rattle.std.proofs.lemmas.Str.{is_utf8-from_IsUtf8, IsUtf8-from_is_utf8, IsUtf8-had}
-use Rattle.farm_script.specs.Fields.{as_name}
 use Rattle.farm_script.proofs.FieldLemmas.{cond_is, cond_off, off_by}
 use Rattle.farm_script.proofs.fields.as_name.Goals as goal
 

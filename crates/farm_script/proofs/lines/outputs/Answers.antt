@@ -1,4 +1,4 @@
-use Rattle.std.proofs.Common.{◌≡◌, ◌<◌, ◌∙◌, ap, sym, subst, Some, List, ℕ, Option}
+use Rattle.std.proofs.Common.{◌≡◌, ◌<◌, ◌∙◌, ap, sym, subst, Some, List}
 use Rattle.std.specs.Option.{option_map}
 use Rattle.farm_script.specs.Lines.{outputs_behind}
 use Rattle.farm_script.proofs.OutputLemmas.{Output, put_before, room_of, outputs_step, outputs_stop, output_room}

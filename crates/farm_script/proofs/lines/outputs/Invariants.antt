@@ -1,4 +1,4 @@
-use Rattle.std.proofs.Common.{◌≡◌, ℕ, ◌+◌, length}
+use Rattle.std.proofs.Common.{◌≡◌}
 use Rattle.std.specs.Option.{option_map}
 use Rattle.farm_script.specs.Lines.{outputs_behind}
 use Rattle.farm_script.proofs.OutputLemmas.{put_before, room_of}

@@ -1,4 +1,4 @@
-use Rattle.std.proofs.Common.{◌≡◌, ◌∙◌, sym, ap, Some, None}
+use Rattle.std.proofs.Common.{◌≡◌, ◌∙◌, sym}
 use Rattle.std.specs.List.{position}
 use Rattle.std.proofs.lemmas.Result.{on_ok_weaker}
 use Rattle.dist_types.specs.Addr.{same_addr}
