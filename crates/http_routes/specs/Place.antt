@@ -47,3 +47,8 @@ submit_job r = job_of (codes "/api/v1/distserver/submit_toolchain/") r
 -- the job that a request asks a server to run
 unfoldable pub run_job : Request → Option JobId
 run_job r = job_of (codes "/api/v1/distserver/run_job/") r
+
+-- what is asked of the job, or what comes next where none is named
+abbrev pub of_job : {A : Type 0} → (JobId → A) → A → Option JobId → A
+of_job asks next None = next
+of_job asks next (Some job) = asks job

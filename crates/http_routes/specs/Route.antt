@@ -15,7 +15,7 @@ use Rattle.http_routes.specs.declared.route.SchedRouted.{SchedRouted}
 use Rattle.http_routes.specs.declared.route.SchedRouted.TheVariants.{Alloc, Beat, Update, Status, Done}
 use Rattle.http_routes.specs.Admission.{client_token, Admits, equal_admission}
 use Rattle.http_routes.specs.Message.{message_in}
-use Rattle.http_routes.specs.Place.{is_at, state_job}
+use Rattle.http_routes.specs.Place.{is_at, state_job, of_job}
 use Rattle.http_routes.specs.Refusal.{refusal_response}
 use Rattle.http_routes.specs.Sender.{client_test, server_of}
 use Rattle.http_routes.specs.Steps.{◌>>=◌}
@@ -54,10 +54,9 @@ update_of serves r peer job = do
   state ← message_in state_at r
   Ok (Update server job state)
 
--- a state of that job, where one is named
-abbrev pub named_of : (List ℕ → Option Addr) → Request → Addr → Option JobId → Result SchedRouted Refusal
-named_of serves r peer None = Err NoRoute
-named_of serves r peer (Some job) = update_of serves r peer job
+-- the report of a job's state, where the request names one
+unfoldable pub report_of : (List ℕ → Option Addr) → Request → Addr → Result SchedRouted Refusal
+report_of serves r peer = of_job (update_of serves r peer) (Err NoRoute) (state_job r)
 
 -- what the request asks, or why it is refused
 unfoldable pub asked_of : (List ℕ → Option Addr) → Request → Addr → Option Admission → Result SchedRouted Refusal
@@ -65,7 +64,7 @@ asked_of serves r peer said =
     if is_at (codes "POST") (codes "/api/v1/scheduler/alloc_job") r then alloc_of r said
     else if is_at (codes "POST") (codes "/api/v1/scheduler/heartbeat_server") r then beat_of serves r peer
     else if is_at (codes "GET") (codes "/api/v1/scheduler/status") r then Ok Status
-    else named_of serves r peer (state_job r)
+    else report_of serves r peer
 
 -- what is asked, or the reply to the refusal
 abbrev pub answered : Result SchedRouted Refusal → SchedRouted

@@ -12,7 +12,7 @@ use Rattle.http_routes.specs.declared.server_route.ServerAsked.{ServerAsked}
 use Rattle.http_routes.specs.declared.server_route.ServerRouted.{ServerRouted}
 use Rattle.http_routes.specs.declared.server_route.ServerRouted.TheVariants.{Assign, Submit, Run, Done}
 use Rattle.http_routes.specs.Message.{message_in}
-use Rattle.http_routes.specs.Place.{assign_job, submit_job, run_job}
+use Rattle.http_routes.specs.Place.{assign_job, submit_job, run_job, of_job}
 use Rattle.http_routes.specs.Refusal.{refusal_response}
 use Rattle.http_routes.specs.Route.{wants_json}
 use Rattle.http_routes.specs.RunHead.{run_in}
@@ -40,11 +40,6 @@ run_of verdict r job = do
   shown ← job_test verdict r job
   run ← run_in r.body
   Ok (Run job run.0 run.1)
-
--- what is asked of the job, or what comes after it where none is named
-abbrev pub of_job : {A : Type 0} → (JobId → A) → A → Option JobId → A
-of_job asks next None = next
-of_job asks next (Some job) = asks job
 
 -- what the request asks, or why it is refused
 unfoldable pub server_asked_of : (ℕ → List ℕ → Result ⊤ TokenError) → Request → Result ServerRouted Refusal

@@ -56,6 +56,7 @@ pub fn asked_of_checks<K: ClientAuthCheck, V: ServerAuthCheck>(
 
 /// The same of a scheduler whose clients all have one token. The check stays as it was. Refused for want of memory
 /// alone.
+#[tactic(auto, using(crate::proofs::AskLemmas::asked_equal))]
 pub fn asked_under<V: ServerAuthCheck>(
     alloc: Global,
     bytes: &[u8],

@@ -2,7 +2,7 @@
 //! refused for want of memory alone.
 ghost use Rattle.std.specs.Prelude.{◌≡◌, IfOk, Some};
 ghost use Rattle.http_routes.specs.Fault.{fault_response_of};
-ghost use Rattle.http_routes.specs.Replies.{heard_response, status_response, alloc_response, update_response, commit_response, report_response, assign_response, submit_response, run_response};
+ghost use Rattle.http_routes.specs.Replies.{heard_response, status_response, alloc_response, update_response, commit_response, core_fault, report_response, assign_response, submit_response, run_response};
 ghost use Rattle.sched_core.specs.Texts.{no_room_text, dropped_text};
 
 use crate::error::HttpError;
@@ -157,6 +157,20 @@ pub fn to_commit(
     }
 }
 
+/// What the scheduler's refusal of a server's request about a job is told as; want of memory is told by no reply.
+pub fn core_fault(server: ServerId, job: JobId, error: SchedError) -> Option<RouteFault>
+    ensures { result ≡ core_fault server job error }
+{
+    match error {
+        SchedError::BadCpus(cpus) => Some(RouteFault::BadCpus(cpus)),
+        SchedError::IdsSpent => Some(RouteFault::IdsSpent),
+        SchedError::UnknownJob => Some(RouteFault::UnknownJob),
+        SchedError::WrongServer => Some(RouteFault::WrongServer(job, server)),
+        SchedError::BadTransition(from, to) => Some(RouteFault::BadTransition(from, to)),
+        SchedError::Memory => None,
+    }
+}
+
 /// The reply to a report of that server on that job, by what the scheduler answers; none to want of memory.
 pub fn to_report(
     alloc: Global,
@@ -169,14 +183,10 @@ pub fn to_report(
 {
     match answer {
         Ok(answer) => to_update(alloc, json, &answer),
-        Err(SchedError::BadCpus(cpus)) => to_fault(alloc, &RouteFault::BadCpus(cpus)),
-        Err(SchedError::IdsSpent) => to_fault(alloc, &RouteFault::IdsSpent),
-        Err(SchedError::UnknownJob) => to_fault(alloc, &RouteFault::UnknownJob),
-        Err(SchedError::WrongServer) => to_fault(alloc, &RouteFault::WrongServer(job, server)),
-        Err(SchedError::BadTransition(from, to)) => {
-            to_fault(alloc, &RouteFault::BadTransition(from, to))
-        }
-        Err(SchedError::Memory) => Err(AllocError),
+        Err(error) => match core_fault(server, job, error) {
+            Some(fault) => to_fault(alloc, &fault),
+            None => Err(AllocError),
+        },
     }
 }
 

@@ -1,7 +1,7 @@
 //! The routes of the scheduler: what a request asks of it.
 ghost use Rattle.std.specs.Prelude.{◌≡◌, IfOk, IfErr};
 ghost use Rattle.http_routes.specs.Admission.{client_token, MayBeAsked};
-ghost use Rattle.http_routes.specs.Route.{wants_json, alloc_of, beat_of, update_of, asked_of, answered, IsRouted};
+ghost use Rattle.http_routes.specs.Route.{wants_json, alloc_of, beat_of, update_of, report_of, asked_of, answered, IsRouted};
 ghost use Rattle.http_routes.specs.Steps.{Decides};
 
 use crate::admission::{Admission, said_of};
@@ -100,6 +100,22 @@ fn update_of<V: ServerAuthCheck>(
     Ok(SchedRouted::Update(ServerId::new(server), job, state))
 }
 
+/// The report of a job's state, where the request names one.
+#[tactic(auto, unfolding(crate::specs::Route::report_of))]
+fn report_of<V: ServerAuthCheck>(
+    alloc: Global,
+    request: &Request,
+    peer: Addr,
+    check: &V,
+) -> Result<SchedRouted, Unrouted>
+    ensures { Decides (report_of (V.server_of check.now) request.now peer) result }
+{
+    match state_job(request) {
+        Some(job) => update_of(alloc, request, peer, check, job),
+        None => Err(Unrouted::Refused(Refusal::NoRoute)),
+    }
+}
+
 /// What a request asks, of whose token the check of clients says that; or why it is refused.
 #[tactic(auto, unfolding(crate::specs::Route::asked_of))]
 fn asked_of<V: ServerAuthCheck>(
@@ -120,10 +136,7 @@ fn asked_of<V: ServerAuthCheck>(
     if is_at(request, "GET", "/api/v1/scheduler/status") {
         return Ok(SchedRouted::Status);
     }
-    match state_job(request) {
-        Some(job) => update_of(alloc, request, peer, check, job),
-        None => Err(Unrouted::Refused(Refusal::NoRoute)),
-    }
+    report_of(alloc, request, peer, check)
 }
 
 /// What a request asks, or the reply to its refusal.

@@ -1,0 +1,113 @@
+-- What the reply to a call says, in the words of its parts.
+use Rattle.std.proofs.Common.{◌≡◌, ◌↔◌, inl, inr, ◌==◌, ℕ, ◌+◌, ◌<◌, get_or, Bool, true, false, cond, List, length, Option, Some, None, Result, Ok, Err, refl, sym, ap, subst, ◌∙◌, arith}
+use Rattle.std.proofs.lemmas.Bool.Decides.{nat_tests}
+use Rattle.std.proofs.lemmas.List.{get_or-append-add}
+use Rattle.httparse.specs.Grammar.{print_response}
+use Rattle.dist_types.specs.declared.outgoing.CallFault.{CallFault}
+use Rattle.dist_types.specs.declared.outgoing.CallFault.TheVariants.{BadState}
+use Rattle.sched_core.specs.Rule.{begins}
+use Rattle.dist_types.specs.declared.results.AssignJobResult.{AssignJobResult}
+use Rattle.dist_wire.specs.Codec.{IsBytes, IsCodec}
+use Rattle.dist_wire.specs.Reading.{assign_at}
+use Rattle.http_head.specs.declared.error.HttpError.{HttpError}
+use Rattle.http_head.specs.declared.error.HttpError.TheVariants.{BadHead, WrongContentType, ParseError, BadRealIp, NoRoute, Unauthorised, Status, Memory}
+use Rattle.http_head.specs.declared.reply.Reply.{Reply}
+use Rattle.http_routes.specs.Calls.{told_by, Tells, Reads, IsReplyFault, answer_by, IsAnswer, assigned_by, IsAssigned}
+use Rattle.http_head.specs.Head.{IsReply}
+use Rattle.http_routes.specs.Message.{BeginsWith, begins_in}
+use Rattle.http_routes.specs.Steps.{unless_none}
+use Rattle.http_routes.proofs.MessageLemmas.{read_begins, begins_read}
+use Rattle.http_head.proofs.ReplyLemmas.{one_reply}
+use Rattle.http_routes.proofs.StepLemmas.{from_none}
+
+module _ {M : Type 0} (at : List ℕ → Option (M × List ℕ)) (bytes : List ℕ) where
+  -- the bytes say one thing
+  pub one_telling : (a b : Result M HttpError) → Tells at bytes a → Tells at bytes b → a ≡ b
+  one_telling a b (inl (r, x, e)) (inl (q, y, f)) = e ∙ (ap (told_by at) (one_reply bytes r q x y) ∙ sym f)
+  one_telling a b (inl (r, x, e)) (inr (none, f)) = absurd (none r x)
+  one_telling a b (inr (none, e)) (inl (q, y, f)) = absurd (none q y)
+  one_telling a b (inr (none, e)) (inr (nothing, f)) = e ∙ sym f
+
+module _ {M : Type 0} (at : List ℕ → Option (M × List ℕ)) where
+  pub one_answer : (bytes : List ℕ) (a b : Result M CallFault) → IsAnswer at bytes a → IsAnswer at bytes b → a ≡ b
+  one_answer bytes a b (s, x, e) (t, y, f) = e ∙ (ap answer_by (one_telling at bytes s t x y) ∙ sym f)
+
+pub one_assignment : (bytes : List ℕ) (a b : Result AssignJobResult CallFault) → IsAssigned bytes a → IsAssigned bytes b → a ≡ b
+one_assignment bytes a b (s, x, e) (t, y, f) = e ∙ (ap assigned_by (one_telling assign_at bytes s t x y) ∙ sym f)
+
+-- what bytes say is no message for one of three reasons
+pub told_fault : {M : Type 0} (at : List ℕ → Option (M × List ℕ)) (bytes : List ℕ) (e : HttpError) → Tells at bytes (Err e) → IsReplyFault e
+unfolding told_by
+told_fault {M = M} at bytes e (inr (none, h)) = let same : ParseError ≡ e = cc in subst (λ (d : HttpError). IsReplyFault d) same (tt {0})
+told_fault {M = M} at bytes e (inl (r, x, h)) = by_test (r.code == 200) (begins_in at r.body) (sym h)
+  where
+    by_test : (b : Bool) (o : Option M) → cond b (unless_none ParseError o) (Err (Status r.code r.body)) ≡ Err e → IsReplyFault e
+    by_test true (Some m) k = absurd cc
+    by_test true None k = let same : ParseError ≡ e = cc in subst (λ (d : HttpError). IsReplyFault d) same (tt {0})
+    by_test false o k = let same : Status r.code r.body ≡ e = cc in subst (λ (d : HttpError). IsReplyFault d) same (tt {0})
+
+-- an error that no reply means
+abbrev pub IsOther : HttpError → Type 0
+IsOther ParseError = ⊥
+IsOther (Status code body) = ⊥
+IsOther Memory = ⊥
+IsOther other = Unit {0}
+
+pub none_other : {M : Type 0} (at : List ℕ → Option (M × List ℕ)) (bytes : List ℕ) (r : Result M HttpError) (e d : HttpError)
+    → Reads at bytes r → r ≡ Err e → e ≡ d → IsOther d → ⊥
+none_other {M = M} at bytes r e d reads is same other =
+    by_kind d (subst (λ (x : Result M HttpError). Reads at bytes x) (is ∙ ap Err same) reads) other
+  where
+    by_kind : (d : HttpError) → Reads at bytes (Err d) → IsOther d → ⊥
+    by_kind BadHead h o = told_fault at bytes BadHead (h (λ s. absurd cc))
+    by_kind WrongContentType h o = told_fault at bytes WrongContentType (h (λ s. absurd cc))
+    by_kind BadRealIp h o = told_fault at bytes BadRealIp (h (λ s. absurd cc))
+    by_kind NoRoute h o = told_fault at bytes NoRoute (h (λ s. absurd cc))
+    by_kind (Unauthorised word) h o = told_fault at bytes (Unauthorised word) (h (λ s. absurd cc))
+    by_kind ParseError h o = o
+    by_kind (Status code body) h o = o
+    by_kind Memory h o = o
+
+-- an answer that is taken tells a state that an assignment may tell
+pub begins_assigned : (bytes : List ℕ) (a : AssignJobResult) → IsAssigned bytes (Ok a) → begins a.state ≡ true
+begins_assigned bytes a (told, x, e) = by_told told e
+  where
+    by_test : (answer : AssignJobResult) (b : Bool) → begins answer.state ≡ b → Ok a ≡ cond b (Ok answer) (Err (BadState answer.state)) → begins a.state ≡ true
+    by_test answer true is h = let same : answer ≡ a = cc in subst (λ (r : AssignJobResult). begins r.state ≡ true) same is
+    by_test answer false is h = absurd cc
+
+    by_told : (t : Result AssignJobResult HttpError) → Ok a ≡ assigned_by t → begins a.state ≡ true
+    by_told (Ok answer) h = by_test answer (begins answer.state) refl h
+    by_told (Err d) h = absurd cc
+
+body_fits : (bytes : List ℕ) (r : Reply) → IsBytes bytes → IsReply bytes r → IsBytes r.body
+body_fits bytes r fits (h, x) i =
+    subst (λ n. n < 256) (ap (λ (t : List ℕ). get_or t (length (print_response h) + i) 0) x.opens.reads.1 ∙ get_or-append-add (print_response h) r.body i 0) (fits (length (print_response h) + i))
+
+module _ {M : Type 0} (Spells : M → List ℕ → Type 0) (at : List ℕ → Option (M × List ℕ)) (codec : IsCodec Spells at) where
+  told : (r : Reply) (m : M) → IsBytes r.body → told_by at r ≡ Ok m → (r.code ≡ 200) × BeginsWith Spells r.body m
+  unfolding told_by
+  told r m fits e =
+      let t = by_test (r.code == 200) (unless_none ParseError (begins_in at r.body)) (Status r.code r.body) e in
+      (same r.code t.0, read_begins Spells at codec r.body m fits (from_none ParseError (begins_in at r.body) m t.1))
+    where
+      by_test : (b : Bool) (x : Result M HttpError) (d : HttpError) → cond b x (Err d) ≡ Ok m → (b ≡ true) × (x ≡ Ok m)
+      by_test true x d k = (refl, k)
+      by_test false x d k = absurd cc
+
+      same : (n : ℕ) → (n == 200) ≡ true → n ≡ 200
+      same n h = grind (arith, nat_tests)
+
+  tell : (r : Reply) (m : M) → r.code ≡ 200 → BeginsWith Spells r.body m → told_by at r ≡ Ok m
+  unfolding told_by
+  tell r m code b = let read = begins_read Spells at codec r.body m b in rw (code, read) refl
+
+  pub replies_told : (bytes : List ℕ) (m : M) → IsBytes bytes → Tells at bytes (Ok m) ↔ ((r : Reply) × IsReply bytes r × (r.code ≡ 200) × BeginsWith Spells r.body m)
+  replies_told bytes m fits = (to, from)
+    where
+      to : Tells at bytes (Ok m) → (r : Reply) × IsReply bytes r × (r.code ≡ 200) × BeginsWith Spells r.body m
+      to (inl (r, x, e)) = let t = told r m (body_fits bytes r fits x) (sym e) in (r, x, t.0, t.1)
+      to (inr (none, e)) = absurd cc
+
+      from : ((r : Reply) × IsReply bytes r × (r.code ≡ 200) × BeginsWith Spells r.body m) → Tells at bytes (Ok m)
+      from (r, x, code, b) = inl (r, x, sym (tell r m code b))
