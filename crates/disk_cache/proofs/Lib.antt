@@ -17,3 +17,4 @@ pub mod Numbers
 pub mod KeyParts
 pub mod Stores
 pub mod KeyLemmas
+pub mod Unkeyed

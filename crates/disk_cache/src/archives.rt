@@ -50,7 +50,6 @@ impl<'a> Iterator for Archives<'a> {
 }
 
 // The toolchain that the key of an archive names.
-#[tactic(auto, using(crate::proofs::KeyLemmas::id_is_text, crate::proofs::KeyLemmas::id_said))]
 fn toolchain_of(key: &Text) -> Toolchain
     requires { IsArchiveKey key.now }
     ensures { result ≡ id_in key.now }

@@ -70,7 +70,8 @@ impl<F: Folder> TcCache<F> {
         ensures listed { result ≡ is_some (lookup (bytes_eq tc.now) self.now.archives) }
         ensures stands { IsArchiveStore self.now.path self.now.capacity self.now.archives (F.held self.now.folder) }
     {
-        let _size = self.cache.size();
+        let _len = self.cache.len();
+        let _sum = self.cache.size();
         for (id, _size) in self.archives() {
             if tc.archive_id() == id.archive_id() {
                 return true;
@@ -134,6 +135,7 @@ impl<F: Folder> TcCache<F> {
         ensures later { (F.held self.old.folder).faults ≤ (F.held self.new.folder).faults }
         ensures stands { IsArchiveStore self.new.path self.new.capacity self.new.archives (F.held self.new.folder) }
     {
+        let _len = self.cache.len();
         let _size = self.cache.size();
         let _tc = tc;
         let _bytes = bytes;
@@ -159,6 +161,7 @@ impl<F: Folder> TcCache<F> {
         ensures later { (F.held self.old.folder).faults ≤ (F.held self.new.folder).faults }
         ensures stands { IsArchiveStore self.new.path self.new.capacity self.new.archives (F.held self.new.folder) }
     {
+        let _len = self.cache.len();
         let _size = self.cache.size();
         let _tc = tc;
         Err(Error::Memory)
@@ -179,6 +182,7 @@ impl<F: Folder> TcCache<F> {
         ensures later { (F.held self.old.folder).faults ≤ (F.held self.new.folder).faults }
         ensures stands { IsArchiveStore self.new.path self.new.capacity self.new.archives (F.held self.new.folder) }
     {
+        let _len = self.cache.len();
         let _size = self.cache.size();
         let _tc = tc;
         Err(Error::Memory)
