@@ -171,7 +171,6 @@ all_judged root capacity i found (Some f) new found_is long h =
     none [] = refl
     none (x ∷ xs) = ap (λ l. x ∷ l) (none xs)
 
-
 -- a file that is still to be judged is there
 pub still_there : (root : List ℕ) (capacity i : ℕ) (found : List Found) (file : Found) (old now : Held) → Holds old (λ f. found ≡ map found_of (under root f)) → i < length found → file ≡ get_or found i file → Became (SoFar root capacity i) old.files now.files → Holds now (λ f. ¬ (Lacks file.path f))
 still_there root capacity i found file old now found_is below file_is so_far files told lacks =

@@ -13,3 +13,4 @@ pub mod Archiving
 pub mod Keyed
 pub mod Cleaned
 pub mod Reliable
+pub mod Real
