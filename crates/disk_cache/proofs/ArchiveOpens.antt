@@ -1,25 +1,22 @@
 -- What an opening of a cache of archives lists, and what stands behind it.
-use Rattle.std.proofs.Common.{◌≡◌, ℕ, ◌≤◌, ◌⊎◌, ◌==◌, Bool, true, false, cond, ◌&&◌, nat_le, List, [], ◌∷◌, ◌++◌, length, take, drop, map, filter, filter_map, is_some, Option, Some, None, inl, inr, refl, sym, ap, subst, ◌∙◌, true≢false, append_assoc, arith, le-leb}
-use Rattle.std.specs.List.{AllByRecursion, IsDistinct, list_all, cons_option}
+use Rattle.std.proofs.Common.{◌≡◌, ℕ, ◌≤◌, ◌⊎◌, Bool, true, false, cond, ◌&&◌, nat_le, List, [], ◌∷◌, ◌++◌, length, drop, map, filter, is_some, Option, Some, None, inl, inr, refl, sym, ap, subst, ◌∙◌, true≢false, append_assoc, arith, le-leb}
+use Rattle.std.specs.List.{AllByRecursion, IsDistinct}
 use Rattle.std.specs.Map.{keys_of, lookup}
-use Rattle.std.specs.Option.{option_map, option_or}
+use Rattle.std.specs.Option.{option_map}
 use Rattle.std.specs.Str.{bytes_eq}
 use Rattle.std.proofs.Math.Seq.{take-append_seam, drop-append_seam}
 use Rattle.std.proofs.lemmas.List.Sums.{sum_by-cons}
 use Rattle.std.proofs.lemmas.Slice.Eq.{bytes_eq-Decides}
-use Rattle.disk_cache.specs.Files.{Files, file_at, size_at, front, is_behind}
-use Rattle.disk_cache.specs.Held.{Held, Holds, Became}
-use Rattle.disk_cache.specs.declared.folder.Found.{Found}
+use Rattle.disk_cache.specs.Files.{Files, file_at, front, is_behind}
 use Rattle.disk_cache.specs.Key.{is_key}
-use Rattle.disk_cache.specs.Entries.{Entries, total, trim}
+use Rattle.disk_cache.specs.Entries.{Entries, trim}
 use Rattle.disk_cache.specs.Disk.{Backed, OnlyRemoved, dropped}
-use Rattle.disk_cache.specs.Opened.{stripped, with_key, keyed, is_kept, listing, opened, Shows}
-use Rattle.disk_cache.specs.Archives.{Archives, id_of, is_id, archive_of, archive_key, archive_path, archive_at, AllVerified, archives_in, sound_archives, opened_archives, paths_under}
-use Rattle.disk_cache.specs.Archiving.{IsListed, Relists}
-use Rattle.disk_cache.specs.Keyed.{id_in, unkeyed, IsArchiveKey, AllArchiveKeys, AllHold}
+use Rattle.disk_cache.specs.Opened.{stripped, with_key, keyed, is_kept, listing, opened}
+use Rattle.disk_cache.specs.Archives.{Archives, id_of, is_id, archive_of, archive_key, archive_path, archive_at, archives_in, sound_archives, opened_archives, paths_under}
+use Rattle.disk_cache.specs.Archiving.{Relists}
+use Rattle.disk_cache.specs.Keyed.{id_in, unkeyed, AllArchiveKeys, AllHold}
 use Rattle.disk_cache.specs.Cleaned.{found_of, under, is_sound, Cleaned, is_archive_key, are_archive_keys}
 use Rattle.disk_cache.proofs.ArchiveKeys.{id_is_key}
-use Rattle.disk_cache.proofs.Became.{became_from}
 use Rattle.disk_cache.proofs.Distinct.{apart}
 use Rattle.disk_cache.proofs.Ids.{id_length, digest_is_id}
 use Rattle.disk_cache.proofs.InStep.{path_once, in_more, dropped_and_rest}
@@ -28,7 +25,7 @@ use Rattle.disk_cache.proofs.Listings.{listing_more, all_listing}
 use Rattle.disk_cache.proofs.Lookups.{itself}
 use Rattle.disk_cache.proofs.Standing.{all_both}
 use Rattle.disk_cache.proofs.Strips.{begins}
-use Rattle.disk_cache.proofs.Unkeyed.{un, id_of_key, trim_un, keys_trimmed, key_is_archive}
+use Rattle.disk_cache.proofs.Unkeyed.{id_of_key, trim_un, keys_trimmed}
 
 -- ---- sound files as entries
 

@@ -5,12 +5,12 @@ use Rattle.std.specs.Str.{bytes_eq}
 use Rattle.std.proofs.lemmas.Slice.Eq.{bytes_eq-Decides}
 use Rattle.disk_cache.proofs.Became.{became_map, became_same, became_then}
 use Rattle.disk_cache.proofs.Lookups.{without_other, without_same}
-use Rattle.disk_cache.specs.Files.{Files, file_at, put, without, moved, touched, PartWritten, DoneOrNot, Same}
+use Rattle.disk_cache.specs.Files.{Files, file_at, put, without, moved, touched, PartWritten, DoneOrNot}
 use Rattle.disk_cache.specs.Held.{Held, Lacks, Never, Became, Made, Changes}
 use Rattle.disk_cache.specs.declared.fault.FolderFault.{FolderFault}
 use Rattle.disk_cache.specs.declared.fault.FolderFault.TheVariants.{Missing, Failed, Memory}
 use Rattle.disk_cache.specs.Entries.{Entries, Listed, total}
-use Rattle.disk_cache.specs.Disk.{Counts, OnlyRemoved, SameAt, dropped, without_each, files_placed, files_stored}
+use Rattle.disk_cache.specs.Disk.{Counts, OnlyRemoved, SameAt, dropped, without_each}
 
 -- ---- functions on told files
 

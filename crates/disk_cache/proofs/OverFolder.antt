@@ -1,15 +1,14 @@
 -- The opening of a cache of archives: cleaned, then opened, then seen as archives.
-use Rattle.std.proofs.Common.{◌≡◌, ℕ, ◌⊎◌, true, false, List, [], ◌++◌, map, is_some, Option, Some, None, Result, Ok, Err, IfOk, IfErr, OnOk, inl, inr, refl, sym, ap, subst, ◌∙◌, true≢false}
-use Rattle.std.specs.List.{IsDistinct}
+use Rattle.std.proofs.Common.{◌≡◌, ℕ, ◌⊎◌, true, false, List, map, is_some, Option, Some, None, Result, Ok, Err, IfOk, IfErr, OnOk, inl, inr, refl, sym, ap, subst, ◌∙◌, true≢false}
 use Rattle.disk_cache.specs.Files.{Files, front}
 use Rattle.disk_cache.specs.Held.{Held, Holds, Became}
 use Rattle.disk_cache.specs.declared.fault.FolderFault.TheVariants.{Missing}
 use Rattle.disk_cache.specs.declared.error.Error.{Error}
 use Rattle.disk_cache.specs.declared.error.Error.TheVariants.{Io, Memory as NoMemory}
 use Rattle.disk_cache.specs.Disk.{Backed, OnlyRemoved}
-use Rattle.disk_cache.specs.Opened.{listing, opened, Shows}
+use Rattle.disk_cache.specs.Opened.{opened, Shows}
 use Rattle.disk_cache.specs.Store.{Disk, IsStore, opened_disk, OpenFails}
-use Rattle.disk_cache.specs.Archives.{archives_in, archive_path, opened_archives, paths_under, IsInStep}
+use Rattle.disk_cache.specs.Archives.{archive_path, opened_archives, paths_under, IsInStep}
 use Rattle.disk_cache.specs.Archiving.{Relists}
 use Rattle.disk_cache.specs.Keyed.{unkeyed, AllArchiveKeys, AllHold}
 use Rattle.disk_cache.specs.Cleaned.{Cleaned, are_archive_keys}

@@ -1,13 +1,12 @@
 -- What a cache is behind each call.
-use Rattle.std.proofs.Common.{◌≡◌, ℕ, ◌+◌, ◌-◌, ◌≤◌, List, [], ◌∷◌, ◌++◌, length, Option, None, Result, Ok, Err, OnOk, OnErr, inl, inr, refl, sym, ap, subst, ◌∙◌, arith}
-use Rattle.std.proofs.lemmas.List.Sums.{sum_by-append, sum_by-cons}
+use Rattle.std.proofs.Common.{◌≡◌, ℕ, ◌+◌, ◌≤◌, List, ◌++◌, length, None, Result, Ok, Err, OnOk, OnErr, inl, inr, sym, ap, subst, ◌∙◌, arith}
+use Rattle.std.proofs.lemmas.List.Sums.{sum_by-append}
 use Rattle.std.specs.Map.{lookup, remove_entry}
 use Rattle.std.specs.Str.{bytes_eq}
 use Rattle.lru_metered.proofs.Lookups.{size-others, total-promoted}
-use Rattle.disk_cache.specs.Files.{front}
 use Rattle.disk_cache.specs.Held.{Held, Became, Made}
 use Rattle.disk_cache.specs.declared.fault.FolderFault.{FolderFault}
-use Rattle.disk_cache.specs.Entries.{Entries, Listed, total, sizes, trim, promoted_key, IsEnd}
+use Rattle.disk_cache.specs.Entries.{Entries, Listed, total, sizes, promoted_key, IsEnd}
 use Rattle.disk_cache.specs.Disk.{Stands, ButAt, SameAt, IsTemp, Left, staying, stored, dropped, files_stored, without_key}
 use Rattle.disk_cache.specs.Reserved.{Reservation, held_size}
 use Rattle.disk_cache.specs.Store.{Disk, Store, IsStore, room_beside}

@@ -1,5 +1,5 @@
 use Rattle.std.proofs.Common.{◌∙◌, arith}
-use Rattle.disk_cache.proofs.Judged.{cleaned_more, still_there, none_judged, all_judged}
+use Rattle.disk_cache.proofs.Judged.{cleaned_more, still_there}
 use Rattle.disk_cache.proofs.cleaning.clean_all.Goals as goal
 
 pub clean_one-requires : goal.clean_one-requires

@@ -1,4 +1,4 @@
-use Rattle.std.proofs.Common.{◌≡◌, ◌+◌, ◌∙◌, length, sym, ap, arith}
+use Rattle.std.proofs.Common.{◌+◌, ◌∙◌, length, sym, ap}
 use Rattle.disk_cache.proofs.Judged.{wrong_length}
 use Rattle.disk_cache.proofs.cleaning.is_sound.Goals as goal
 

@@ -1,7 +1,7 @@
 use Rattle.std.proofs.Common.{◌≡◌, ◌∙◌, List, ℕ, true, false, map, ap}
 use Rattle.disk_cache.specs.Files.{front}
 use Rattle.disk_cache.specs.Held.{Holds}
-use Rattle.disk_cache.specs.Archives.{ArchiveStore, archive_path, opened_archives, paths_under, IsInStep}
+use Rattle.disk_cache.specs.Archives.{archive_path, opened_archives, paths_under, IsInStep}
 use Rattle.disk_cache.specs.Archiving.{Relists}
 use Rattle.disk_cache.specs.Cleaned.{are_archive_keys}
 use Rattle.disk_cache.specs.Keyed.{unkeyed}
