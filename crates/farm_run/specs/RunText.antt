@@ -1,5 +1,5 @@
 -- The text of a script's run.
-use Rattle.std.specs.Prelude.{◌≡◌, ℕ, List, [], Ok, ⊥}
+use Rattle.std.specs.Prelude.{◌≡◌, ℕ, List, [], Ok}
 use Rattle.farm_script.specs.declared.setup.Setup.{Setup}
 use Rattle.farm_script.specs.declared.event.Event.{Event}
 use Rattle.farm_script.specs.Script.{script}
