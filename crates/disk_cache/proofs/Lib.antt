@@ -16,3 +16,15 @@ pub mod Trims
 pub mod Numbers
 pub mod KeyParts
 pub mod Stores
+pub mod KeyLemmas
+pub mod Unkeyed
+pub mod Reliably
+pub mod Archived
+pub mod Exactly
+pub mod InStep
+pub mod TcSteps
+pub mod ArchiveKeys
+pub mod Ids
+pub mod Judged
+pub mod ArchiveOpens
+pub mod OverFolder

@@ -20,10 +20,10 @@ use Rattle.disk_cache.proofs.Standing.{all_both}
 use Rattle.disk_cache.proofs.Strips.{begins}
 
 -- the entry that a file gives
-abbrev entry : List ℕ → List ℕ × List ℕ → List ℕ × ℕ
+abbrev pub entry : List ℕ → List ℕ × List ℕ → List ℕ × ℕ
 entry root f = (drop (length root) f.0, length f.1)
 
-listing_more : (root : List ℕ) (f : List ℕ × List ℕ) (fs : Files) (b : Bool) → is_behind root f.0 ≡ b → listing root (f ∷ fs) ≡ cond b (entry root f ∷ listing root fs) (listing root fs)
+pub listing_more : (root : List ℕ) (f : List ℕ × List ℕ) (fs : Files) (b : Bool) → is_behind root f.0 ≡ b → listing root (f ∷ fs) ≡ cond b (entry root f ∷ listing root fs) (listing root fs)
 listing_more root f fs true is =
     ap (λ b. keyed root (map (λ (x : List ℕ × List ℕ). let made : Found = record { path = x.0; size = length x.1 } in made) (cond b (f ∷ filter (λ x. is_behind root x.0) fs) (filter (λ x. is_behind root x.0) fs)))) is
     ∙ ap (λ b. with_key (cond b (Some (drop (length root) f.0)) None) (length f.1) (listing root fs)) is
@@ -31,7 +31,7 @@ listing_more root f fs false is =
     ap (λ b. keyed root (map (λ (x : List ℕ × List ℕ). let made : Found = record { path = x.0; size = length x.1 } in made) (cond b (f ∷ filter (λ x. is_behind root x.0) fs) (filter (λ x. is_behind root x.0) fs)))) is
 
 -- what holds of each path holds of each listed one
-all_listing : (P : List ℕ → Type 0) (root : List ℕ) (fs : Files) → AllByRecursion P (keys_of fs) → AllByRecursion (λ e. P (root ++ e.0)) (listing root fs)
+pub all_listing : (P : List ℕ → Type 0) (root : List ℕ) (fs : Files) → AllByRecursion P (keys_of fs) → AllByRecursion (λ e. P (root ++ e.0)) (listing root fs)
 all_listing P root [] h = tt
 all_listing P root (f ∷ fs) h = by (is_behind root f.0) refl (all_listing P root fs h.1)
   where
@@ -82,13 +82,13 @@ backed_listing root (f ∷ fs) h = by (is_behind root f.0) refl (backed_listing 
 
 -- ---- taking a file out
 
-abbrev but_key : List ℕ → Entries → Entries
+abbrev pub but_key : List ℕ → Entries → Entries
 but_key k es = filter (λ e. not (bytes_eq k e.0)) es
 
-out_kept : (k : List ℕ) (e : List ℕ × ℕ) (es : Entries) → bytes_eq k e.0 ≡ false → but_key k (e ∷ es) ≡ e ∷ but_key k es
+pub out_kept : (k : List ℕ) (e : List ℕ × ℕ) (es : Entries) → bytes_eq k e.0 ≡ false → but_key k (e ∷ es) ≡ e ∷ but_key k es
 out_kept k e es other = ap (λ b. cond (not b) (e ∷ but_key k es) (but_key k es)) other
 
-out_gone : (k : List ℕ) (e : List ℕ × ℕ) (es : Entries) → bytes_eq k e.0 ≡ true → but_key k (e ∷ es) ≡ but_key k es
+pub out_gone : (k : List ℕ) (e : List ℕ × ℕ) (es : Entries) → bytes_eq k e.0 ≡ true → but_key k (e ∷ es) ≡ but_key k es
 out_gone k e es same = ap (λ b. cond (not b) (e ∷ but_key k es) (but_key k es)) same
 
 listing_without : (root k : List ℕ) (fs : Files) → listing root (without (root ++ k) fs) ≡ but_key k (listing root fs)
@@ -113,7 +113,7 @@ listing_without root k (f ∷ fs) = by (bytes_eq (root ++ k) f.0) (is_behind roo
     by false false other is rest =
         listing_more root f (without (root ++ k) fs) false is ∙ (rest ∙ sym (ap (but_key k) (listing_more root f fs false is)))
 
-none_out : (k : List ℕ) (es : Entries) → AllByRecursion (λ q. bytes_eq k q ≡ false) (keys_of es) → but_key k es ≡ es
+pub none_out : (k : List ℕ) (es : Entries) → AllByRecursion (λ q. bytes_eq k q ≡ false) (keys_of es) → but_key k es ≡ es
 none_out k [] h = refl
 none_out k (e ∷ es) h = out_kept k e es h.0 ∙ ap (λ l. e ∷ l) (none_out k es h.1)
 

@@ -1,7 +1,8 @@
 //! The list of a disk cache: a cache of sizes, measured by these.
 ghost use Rattle.std.specs.Prelude.{◌≡◌, ℕ, List, ◌+◌, ◌≤◌, [], ◌∷◌, ◌++◌, drop, length, slice_get, is_some, IfOk, IfSome, OnOk, OnErr, OnSome, IsSome, Some, None};
 ghost use Rattle.std.specs.Map.Iter.{ShowsInOrder, deref_pair};
-ghost use Rattle.std.specs.Map.{lookup, remove_entry};
+ghost use Rattle.std.specs.List.{IsDistinct};
+ghost use Rattle.std.specs.Map.{keys_of, lookup, remove_entry};
 ghost use Rattle.std.specs.Str.{bytes_eq};
 ghost use Rattle.disk_cache.specs.Entries.{total, promoted_key, IsTable};
 
@@ -73,7 +74,8 @@ impl Table {
 
     /// How many keys are listed.
     pub fn len(&self) -> usize
-        ensures { result ≡ length self.now.entries }
+        ensures len { result ≡ length self.now.entries }
+        ensures distinct { IsDistinct bytes_eq (keys_of self.now.entries) }
     {
         self.list.len()
     }
