@@ -187,9 +187,8 @@ stored_un id size limit es fit keys =
 pub left_un : (id : List ℕ) (limit : ℕ) (es new : Entries) → is_id id ≡ true → AllArchiveKeys es → Left (archive_key id) limit es new → Left id limit (unkeyed es) (unkeyed new)
 left_un id limit es new fit keys left = elim left [
   | inl same ↦ inl (ap unkeyed same)
-  | inr less ↦ inr
-      (
-      (unkeyed less.0.0, without_un id es fit keys ∙ (ap unkeyed less.0.1 ∙ map-append un less.0.0 new)),
-      trim_un limit new ∙ (ap unkeyed less.1 ∙ sym (ap (trim limit) (without_un id es fit keys) ∙ trim_un limit (without_key (archive_key id) es))),
-      )
+  | inr less ↦ inr (
+    (unkeyed less.0.0, without_un id es fit keys ∙ (ap unkeyed less.0.1 ∙ map-append un less.0.0 new)),
+    trim_un limit new ∙ (ap unkeyed less.1 ∙ sym (ap (trim limit) (without_un id es fit keys) ∙ trim_un limit (without_key (archive_key id) es))),
+  )
 ]
