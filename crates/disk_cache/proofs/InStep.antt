@@ -67,7 +67,7 @@ temp_no_key n id = slash_differs n (archive_key id) (slash_second id)
 
 -- ---- one file more or less
 
-in_more : (path : List ℕ) (f : List ℕ × List ℕ) (fs : Files) (b : Bool) → bytes_eq f.0 (archive_path path (id_of f.1)) ≡ b → archives_in path (f ∷ fs) ≡ cond b (archive_of f.1 ∷ archives_in path fs) (archives_in path fs)
+pub in_more : (path : List ℕ) (f : List ℕ × List ℕ) (fs : Files) (b : Bool) → bytes_eq f.0 (archive_path path (id_of f.1)) ≡ b → archives_in path (f ∷ fs) ≡ cond b (archive_of f.1 ∷ archives_in path fs) (archives_in path fs)
 in_more path f fs true is = ap (λ b. cons_option (cond b (Some (archive_of f.1)) None) (archives_in path fs)) is
 in_more path f fs false is = ap (λ b. cons_option (cond b (Some (archive_of f.1)) None) (archives_in path fs)) is
 

@@ -46,7 +46,7 @@ key_is_archive id fit =
 
 -- ---- lists of keys, read by a test
 
-abbrev un : List ℕ × ℕ → List ℕ × ℕ
+abbrev pub un : List ℕ × ℕ → List ℕ × ℕ
 un e = (id_in e.0, e.1)
 
 module _ (test other : List ℕ → Bool) where
@@ -113,7 +113,7 @@ trim_un limit (e ∷ es) =
 
 -- ---- what keys all have stays
 
-keys_trimmed : (P : List ℕ × ℕ → Type 0) (limit : ℕ) (es : Entries) → AllByRecursion P es → AllByRecursion P (trim limit es)
+pub keys_trimmed : (P : List ℕ × ℕ → Type 0) (limit : ℕ) (es : Entries) → AllByRecursion P es → AllByRecursion P (trim limit es)
 keys_trimmed P limit [] h = tt
 keys_trimmed P limit (e ∷ es) h =
     elim (nat_le (total (e ∷ es)) limit) as (λ b. AllByRecursion P (cond b (e ∷ es) (trim limit es))) [ true ↦ h | false ↦ keys_trimmed P limit es h.1 ]

@@ -12,6 +12,7 @@
 mod archives;
 mod cache;
 pub mod calls;
+mod cleaning;
 mod digest;
 mod entry;
 mod error;
