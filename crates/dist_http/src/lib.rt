@@ -4,5 +4,8 @@
 //! theirs, exported again, so that each item has one path for who stands above.
 #![tactic(auto)]
 
+mod scan;
+mod stop;
+pub mod take;
+
 pub use http_head::{head, request};
-pub use http_routes::{asked, calls, err_json, error, fault, laws, refusal, reply, route, written};
