@@ -4,8 +4,14 @@
 //! theirs, exported again, so that each item has one path for who stands above.
 #![tactic(auto)]
 
+pub mod asking;
+pub mod checks;
+mod host;
 mod scan;
+pub mod served;
 mod stop;
+pub mod stream;
 pub mod take;
+pub mod tasks;
 
 pub use http_head::{head, request};
