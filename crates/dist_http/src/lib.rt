@@ -4,14 +4,18 @@
 //! theirs, exported again, so that each item has one path for who stands above.
 #![tactic(auto)]
 
+pub mod answer;
 pub mod asking;
 pub mod checks;
+pub mod connection;
 mod host;
+mod route;
 mod scan;
 pub mod served;
 mod stop;
 pub mod stream;
 pub mod take;
 pub mod tasks;
+pub mod workers;
 
 pub use http_head::{head, request};
