@@ -4,6 +4,9 @@ use dist_types::ids::{JobId, ServerId};
 use dist_types::outgoing::{CallFault, SchedulerOutgoing};
 use dist_types::results::{AllocJobResult, AssignJobResult, JobState};
 use dist_types::toolchain::Toolchain;
+use sched::pass::Pass;
+use std::alloc::Global;
+use std::sync::Wait;
 use std::sync::atomic::{AtomicBool, Ordering};
 use std::test::Fail;
 use std::thread;
@@ -24,12 +27,16 @@ fn is_set(flag: &AtomicBool) -> bool {
     false
 }
 
-/// Holds each assignment until the flag `answered` is set, and gives up with status 504.
+/// Whether the first call has begun, and whether the second was answered.
 #[derive(Drop)]
-struct Held<'a> {
-    begun: &'a AtomicBool,
-    answered: &'a AtomicBool,
+struct Gate {
+    begun: AtomicBool,
+    answered: AtomicBool,
 }
+
+/// Holds each assignment until the second call was answered, and gives up with status 504.
+#[derive(Drop)]
+struct Held<'a>(&'a Gate);
 
 impl SchedulerOutgoing for Held<'_> {
     ghost use Rattle.std.specs.Prelude.{None};
@@ -45,8 +52,8 @@ impl SchedulerOutgoing for Held<'_> {
         _tc: &Toolchain,
         _auth: &str,
     ) -> Result<AssignJobResult, CallFault> {
-        self.begun.store(true, Ordering::SeqCst);
-        if is_set(self.answered) {
+        self.0.begun.store(true, Ordering::SeqCst);
+        if is_set(&self.0.answered) {
             Ok(AssignJobResult {
                 state: JobState::Ready,
                 need_toolchain: false,
@@ -57,6 +64,20 @@ impl SchedulerOutgoing for Held<'_> {
     }
 }
 
+/// Waits until the first call has begun, makes a heartbeat, and says so.
+fn second<R: Wait>(
+    rt: &R,
+    alloc: Global,
+    scheduler: &TestScheduler,
+    pass: &mut Pass,
+    gate: &Gate,
+) -> bool {
+    let waited = is_set(&gate.begun);
+    let heard = beat(rt, alloc, scheduler, pass).is_ok();
+    gate.answered.store(true, Ordering::SeqCst);
+    waited && heard
+}
+
 /// A heartbeat is answered while an assignment is asked.
 #[test]
 fn gate_assign(rt: HostRuntime) -> Result<(), Fail> {
@@ -65,31 +86,24 @@ fn gate_assign(rt: HostRuntime) -> Result<(), Fail> {
     beat(&rt, alloc, &scheduler, &mut pass)?;
     let mut other = scheduler.split(&rt, &mut pass)?;
     let tc = Toolchain::new(ABC)?;
-    let begun = AtomicBool::new(false);
-    let answered = AtomicBool::new(false);
-    let mut held = Held {
-        begun: &begun,
-        answered: &answered,
+    let gate = Gate {
+        begun: AtomicBool::new(false),
+        answered: AtomicBool::new(false),
     };
+    let mut held = Held(&gate);
     let mut clock = still(alloc);
     let (given, heard) = thread::join(
         &rt,
         || scheduler.handle_alloc_job(&rt, &mut pass, &mut clock, &mut held, &tc),
-        || {
-            let waited = is_set(&begun);
-            let heard = beat(&rt, alloc, &scheduler, &mut other).is_ok();
-            answered.store(true, Ordering::SeqCst);
-            waited && heard
-        },
+        || second(&rt, alloc, &scheduler, &mut other, &gate),
     );
     assert!(&rt; heard);
-    match &given {
-        Ok(AllocJobResult::Success {
-            job_alloc: _,
-            need_toolchain: _,
-        }) => {}
-        _ => return Err(Fail::from("the assignment was not let go")),
-    }
+    let let_go = match &given {
+        Ok(AllocJobResult::Success { .. }) => true,
+        Ok(AllocJobResult::Fail { .. }) => false,
+        Err(_) => false,
+    };
+    assert!(&rt; let_go, "the assignment was not let go");
     scheduler.join(&mut pass, other);
     assert_eq!(&rt; pass.count(), 4);
     Ok(())

@@ -48,13 +48,14 @@ fn refused_assignment(rt: HostRuntime) -> Result<(), Fail> {
         status: Some(503),
     };
     let tc = Toolchain::new(ABC)?;
-    let answer =
-        scheduler.handle_alloc_job(&rt, &mut pass, &mut still(alloc), &mut refuses, &tc);
+    let answer = scheduler.handle_alloc_job(&rt, &mut pass, &mut still(alloc), &mut refuses, &tc);
     let cause = match answer {
         Ok(_) => None,
         Err(fault) => Some(fault),
     };
-    assert!(&rt; cause == Some(SchedFault::AssignFailed(Undone::Unassigned, CallFault::Status(503))));
+    assert!(&rt;
+        cause == Some(SchedFault::AssignFailed(Undone::Unassigned, CallFault::Status(503)))
+    );
     assert_eq!(&rt; pass.count(), 3);
     Ok(())
 }
@@ -86,11 +87,23 @@ fn one_job(rt: HostRuntime) -> Result<(), Fail> {
     let ready = JobState::Ready;
     let other = server(10502);
     let mut clock = still(alloc);
-    let first =
-        scheduler.handle_update_job_state(&rt, &mut pass, &mut clock, job, server(10501), ready)?;
+    let first = scheduler.handle_update_job_state(
+        &rt,
+        &mut pass,
+        &mut clock,
+        job,
+        server(10501),
+        ready,
+    )?;
     assert!(&rt; matches!(first, UpdateJobStateResult::Success));
-    let again =
-        scheduler.handle_update_job_state(&rt, &mut pass, &mut clock, job, server(10501), ready);
+    let again = scheduler.handle_update_job_state(
+        &rt,
+        &mut pass,
+        &mut clock,
+        job,
+        server(10501),
+        ready,
+    );
     assert!(&rt; again.err() == Some(SchedFault::Core(SchedError::BadTransition(ready, ready))));
     let wrong = scheduler.handle_update_job_state(&rt, &mut pass, &mut clock, job, other, ready);
     assert!(&rt; wrong.err() == Some(SchedFault::Core(SchedError::WrongServer)));
