@@ -51,6 +51,6 @@ took_and_replied (Some bytes) last held now request reply took added = (took.0, 
 pub told : {K : Type 0} (routes : Request → ℕ → K → SchedRouted → K → Type 0) (old new : Shown) (before after : Around K) (served : Served)
     → IsServedBy routes old new before after served → IsServed old new served
 told routes old new before after Answered (request, reply, took, replied, added) = took_and_replied old.left new.left old.held new.held request reply took added
-told routes old new before after WriteFault (rose, more) = rose
-told routes old new before after ReadFault (rose, kept, same) = (rose, kept)
+told routes old new before after WriteFault s = s.0
+told routes old new before after ReadFault s = (s.0, s.1)
 told routes old new before after Memory kept = kept

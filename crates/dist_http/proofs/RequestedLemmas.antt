@@ -11,8 +11,9 @@ use Rattle.dist_types.specs.declared.outgoing.CallFault.{CallFault}
 use Rattle.dist_types.specs.declared.outgoing.CallFault.TheVariants.{Memory}
 use Rattle.dist_types.specs.declared.results.AssignJobResult.{AssignJobResult}
 use Rattle.dist_wire.specs.Reading.{assign_at}
+use Rattle.http_routes.specs.Calls.{IsAnswer}
 use Rattle.http_routes.specs.Written.{assign_request_text}
-use Rattle.dist_http.specs.Requested.{host_text, port_of, Says, Hears, IsAskedFor, lent_of}
+use Rattle.dist_http.specs.Requested.{host_text, port_of, Hears, IsAskedFor, lent_of}
 
 one_more : (old new : Option (List Asked)) (a : Asked) (Is : Asked → Type 0) → Recorded a old new → Is a
     → IfSome old (λ rows. (b : Asked) × (new ≡ Some (rows ++ b ∷ [])) × Is b)
@@ -23,7 +24,7 @@ pub replied : (name : ℕ) (old new : Option (List Asked)) (server addr : Addr) 
     (heard : Result AssignJobResult CallFault)
     → Recorded (asked_row host port request (Ok reply)) old new
     → addr ≡ server → host ≡ host_text addr → port ≡ port_of addr → request ≡ assign_request_text server job auth tc
-    → (heard ≢ Err Memory → Says assign_at reply heard)
+    → (heard ≢ Err Memory → IsAnswer assign_at reply heard)
     → Calls IsAskedFor (assigned_row server job.0 tc auth) heard (lent_of name old) (lent_of name new)
 replied name old new server addr job tc auth host request reply port heard row is_server is_host is_port is_request says = record {
   sent = λ some. record {
@@ -38,7 +39,7 @@ replied name old new server addr job tc auth host request reply port heard row i
   });
 }
   where
-    is_asked : (answer : Result AssignJobResult CallFault) → (answer ≢ Err Memory → Says assign_at reply answer)
+    is_asked : (answer : Result AssignJobResult CallFault) → (answer ≢ Err Memory → IsAnswer assign_at reply answer)
         → IsAskedFor (assigned_row server job.0 tc auth answer) (asked_row host port request (Ok reply))
     is_asked answer means = record {
       host = is_host ∙ ap host_text is_server;

@@ -2,11 +2,11 @@
 use Rattle.std.specs.Prelude.{◌≡◌, ℕ, List, Bool, false, Option, Some, None, IfSome}
 use Rattle.dist_types.specs.Cause.{Rose}
 use Rattle.dist_types.specs.Content.{Added, Began}
-use Rattle.http_head.specs.declared.error.HttpError.TheVariants.{BadHead}
 use Rattle.http_head.specs.declared.request.Request.{Request}
-use Rattle.http_routes.specs.Fault.{reply_of}
+use Rattle.http_routes.specs.Refusal.{refusal_response}
 use Rattle.http_routes.specs.Reply.{reply_text}
 use Rattle.http_routes.specs.Route.{wants_json}
+use Rattle.http_routes.specs.declared.refusal.Refusal.TheVariants.{BadHead}
 use Rattle.http_routes.specs.declared.reply.Response.{Response}
 use Rattle.http_routes.specs.declared.route.SchedRouted.{SchedRouted}
 use Rattle.http_routes.specs.declared.route.SchedRouted.TheVariants.{Done}
@@ -24,7 +24,7 @@ pub record Around (K : Type 0) : Type 0 where
 
 -- What was taken asks that at a moment, by a relation that routes requests; what is no request gets the reply to a bad head.
 abbrev pub Asks : {K : Type 0} → (Request → ℕ → K → SchedRouted → K → Type 0) → Option Request → ℕ → K → SchedRouted → K → Type 0
-Asks routes None now old routed new = (routed ≡ Done (reply_of BadHead)) × (new ≡ old)
+Asks routes None now old routed new = (routed ≡ Done (refusal_response BadHead)) × (new ≡ old)
 Asks routes (Some request) now old routed new = routes request now old routed new
 
 -- the form of the reply

@@ -2,7 +2,6 @@ pub mod Checks
 pub mod Connection
 pub mod Replied
 pub mod Requested
-pub mod Routing
 pub mod Scan
 pub mod Served
 pub mod Taking

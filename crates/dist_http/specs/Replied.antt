@@ -8,9 +8,6 @@ use Rattle.dist_types.specs.declared.results.HeartbeatServerResult.{HeartbeatSer
 use Rattle.dist_types.specs.declared.results.JobState.{JobState}
 use Rattle.dist_types.specs.declared.results.SchedulerStatusResult.{SchedulerStatusResult}
 use Rattle.dist_types.specs.declared.results.UpdateJobStateResult.{UpdateJobStateResult}
-use Rattle.dist_wire.specs.Json.{heard_json, status_json, response_json, update_json}
-use Rattle.dist_wire.specs.Response as sent
-use Rattle.dist_wire.specs.Written.{heard_text, status_text, response_text, update_text}
 use Rattle.dist_wire.specs.declared.heartbeat.HeartbeatServerHttpRequest.{HeartbeatServerHttpRequest}
 use Rattle.sched_core.specs.declared.error.SchedError.TheVariants as error
 use Rattle.sched.specs.Course.{IsAllocation}
@@ -18,9 +15,9 @@ use Rattle.sched.specs.Heard.{IsHeard, IsUpdated, IsCounted}
 use Rattle.sched.specs.Outside.{Moments, Requests}
 use Rattle.sched.specs.Pass.{Told}
 use Rattle.sched.specs.declared.fault.SchedFault.{SchedFault}
-use Rattle.sched.specs.declared.fault.SchedFault.TheVariants.{Core, AssignFailed}
+use Rattle.sched.specs.declared.fault.SchedFault.TheVariants.{Core, AssignFailed, Memory}
 use Rattle.http_routes.specs.Fault.{fault_response_of}
-use Rattle.http_routes.specs.Reply.{response_of}
+use Rattle.http_routes.specs.Replies.{heard_response, status_response, alloc_response, update_response, core_fault}
 use Rattle.http_routes.specs.declared.fault.RouteFault.{RouteFault}
 use Rattle.http_routes.specs.declared.fault.RouteFault.TheVariants as fault
 use Rattle.http_routes.specs.declared.reply.Response.{Response}
@@ -30,22 +27,6 @@ use Rattle.dist_http.specs.Requested.{IsAskedFor, lent_of}
 
 -- ---- replies
 
--- to a heartbeat
-unfoldable pub heard_response : Bool → HeartbeatServerResult → Response
-heard_response json answer = response_of heard_text heard_json json answer
-
--- to a status request
-unfoldable pub status_response : Bool → SchedulerStatusResult → Response
-status_response json answer = response_of status_text status_json json answer
-
--- to an allocation
-unfoldable pub alloc_response : Bool → AllocJobResult → Response
-alloc_response json answer = response_of response_text response_json json (sent.response_of answer)
-
--- to a report on a job
-unfoldable pub update_response : Bool → UpdateJobStateResult → Response
-update_response json answer = response_of update_text update_json json answer
-
 -- why a heartbeat or an allocation is refused, as it is told; want of memory is not told
 abbrev pub fault_of : SchedFault → Option RouteFault
 fault_of (Core (error.BadCpus cpus)) = Some (fault.BadCpus cpus)
@@ -54,11 +35,22 @@ fault_of (AssignFailed undone cause) = Some (fault.AssignFailed undone cause)
 fault_of other = None
 
 -- why a server's report on a job is refused, as it is told
-abbrev pub report_fault : JobId → Addr → SchedFault → Option RouteFault
-report_fault job server (Core error.UnknownJob) = Some fault.UnknownJob
-report_fault job server (Core error.WrongServer) = Some (fault.WrongServer job server)
-report_fault job server (Core (error.BadTransition from to)) = Some (fault.BadTransition from to)
-report_fault job server other = None
+abbrev pub report_fault : Addr → JobId → SchedFault → Option RouteFault
+report_fault server job (Core e) = core_fault server job e
+report_fault server job other = None
+
+-- why a heartbeat, a status request or an allocation may be refused
+abbrev pub IsTellable : SchedFault → Type 0
+IsTellable (Core (error.BadCpus cpus)) = Unit {0}
+IsTellable (Core error.IdsSpent) = Unit {0}
+IsTellable (AssignFailed undone cause) = Unit {0}
+IsTellable Memory = Unit {0}
+IsTellable other = ⊥
+
+-- why a report may be refused
+abbrev pub IsReportable : SchedFault → Type 0
+IsReportable (AssignFailed undone cause) = ⊥
+IsReportable other = Unit {0}
 
 -- the reply tells that fault
 abbrev pub IsTold : Option RouteFault → Response → Type 0
@@ -98,7 +90,7 @@ pub record IsHeardAndTold (json : Bool) (server : Addr) (beat : HeartbeatServerH
 pub record IsUpdatedAndTold (json : Bool) (server : Addr) (job : JobId) (state : JobState) (old new : Told) (clock ticked : Moments) (reply : Response) : Type 0 where
   pub answer : Result UpdateJobStateResult SchedFault
   pub updated : IsUpdated job server state old new clock ticked answer
-  pub told : Replies (update_response json) (report_fault job server) answer reply
+  pub told : Replies (update_response json) (report_fault server job) answer reply
 
 pub record IsCountedAndTold (json : Bool) (old new : Told) (clock ticked : Moments) (reply : Response) : Type 0 where
   pub answer : Result SchedulerStatusResult SchedFault

@@ -11,8 +11,7 @@ use Rattle.dist_types.specs.declared.dialer.AskFault.TheVariants.{Failed, Memory
 use Rattle.dist_types.specs.declared.outgoing.CallFault.{CallFault}
 use Rattle.dist_types.specs.declared.outgoing.CallFault.TheVariants.{Lost, Memory as OutOfMemory}
 use Rattle.dist_wire.specs.Reading.{assign_at}
-use Rattle.http_head.specs.declared.error.HttpError.{HttpError}
-use Rattle.http_routes.specs.Calls.{Tells, call_fault}
+use Rattle.http_routes.specs.Calls.{IsAnswer}
 use Rattle.http_routes.specs.Written.{assign_request_text}
 
 -- the text of an address without its port, eight groups in brackets
@@ -24,18 +23,9 @@ abbrev pub port_of : Addr → ℕ
 port_of (V4 octets port) = port
 port_of (V6 groups port) = port
 
--- what is heard of a call by what its reply tells: a message, or why there is none
-abbrev pub heard_by : {M : Type 0} → Result M HttpError → Result M CallFault
-heard_by (Ok message) = Ok message
-heard_by (Err e) = Err (call_fault e)
-
--- the bytes of the reply say that
-abbrev pub Says : {M : Type 0} → (List ℕ → Option (M × List ℕ)) → List ℕ → Result M CallFault → Type 0
-Says {M = M} at reply heard = (told : Result M HttpError) × Tells at reply told × (heard ≡ heard_by told)
-
 -- what is heard of a dialer's answer: what the reply says, unless memory ran out; a call that failed is lost
 abbrev pub Hears : {M : Type 0} → (List ℕ → Option (M × List ℕ)) → Result (List ℕ) AskFault → Result M CallFault → Type 0
-Hears at (Ok reply) heard = heard ≢ Err OutOfMemory → Says at reply heard
+Hears at (Ok reply) heard = heard ≢ Err OutOfMemory → IsAnswer at reply heard
 Hears at (Err Failed) heard = heard ≡ Err Lost
 Hears at (Err Memory) heard = heard ≡ Err OutOfMemory
 

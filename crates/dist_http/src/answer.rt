@@ -2,8 +2,7 @@
 ghost use Rattle.std.specs.Prelude.{◌≡◌, IfOk, Some, None, Ok, Err};
 ghost use Rattle.sched.specs.Outside.{moments};
 ghost use Rattle.http_routes.specs.Fault.{fault_response_of};
-ghost use Rattle.http_routes.specs.Reply.{response_of};
-ghost use Rattle.dist_http.specs.Replied.{fault_of, report_fault, IsTold, IsHeardAndTold, IsUpdatedAndTold, IsCountedAndTold, IsAllocatedAndTold, IsDone};
+ghost use Rattle.dist_http.specs.Replied.{fault_of, report_fault, IsTold, IsTellable, IsReportable, IsHeardAndTold, IsUpdatedAndTold, IsCountedAndTold, IsAllocatedAndTold, IsDone};
 
 use crate::asking::Asking;
 use dist_token::job_token::JWTJobAuthorizer;
@@ -14,11 +13,12 @@ use dist_types::ids::{JobId, ServerId};
 use dist_types::results::JobState;
 use dist_types::roles::JobAuthorizer;
 use dist_types::toolchain::Toolchain;
-use dist_wire::alloc::AllocJobHttpResponse;
 use dist_wire::heartbeat::HeartbeatServerHttpRequest;
-use dist_wire::message::Message;
-use http_routes::fault::{RouteFault, fault_response};
-use http_routes::reply::{Response, respond};
+use http_routes::fault::RouteFault;
+use http_routes::replies::{
+    core_fault, to_allocation, to_fault, to_heartbeat, to_status, to_update,
+};
+use http_routes::reply::Response;
 use http_routes::route::SchedRouted;
 use sched::fault::SchedFault;
 use sched::pass::Pass;
@@ -27,28 +27,17 @@ use sched_core::error::SchedError;
 use std::alloc::Global;
 use std::sync::Wait;
 
-/// The reply with a message.
-fn reply_with<M: Message>(alloc: Global, json: bool, message: &M) -> Result<Response, Memory>
-    ensures { IfOk result (λ r. r ≡ response_of M.text M.json json message.now) }
-{
-    match respond(alloc, json, message) {
-        Ok(response) => Ok(response),
-        Err(_) => Err(Memory),
-    }
-}
-
 /// The reply that tells a fault.
 fn reply_fault(alloc: Global, fault: &RouteFault) -> Result<Response, Memory>
     ensures { IfOk result (λ r. r ≡ fault_response_of fault.now) }
 {
-    match fault_response(alloc, fault) {
-        Ok(response) => Ok(response),
-        Err(_) => Err(Memory),
-    }
+    let response = to_fault(alloc, fault)?;
+    Ok(response)
 }
 
-/// The reply to a refusal of a heartbeat, a status request or an allocation, if there is one.
+/// The reply to a refusal of a heartbeat, a status request or an allocation; none to want of memory.
 fn reply_refusal(alloc: Global, fault: SchedFault) -> Result<Response, Memory>
+    requires { IsTellable fault }
     ensures { IfOk result (IsTold (fault_of fault)) }
 {
     match fault {
@@ -56,10 +45,10 @@ fn reply_refusal(alloc: Global, fault: SchedFault) -> Result<Response, Memory>
             reply_fault(alloc, &RouteFault::BadCpus(cpus))
         }
         SchedFault::Core(SchedError::IdsSpent) => reply_fault(alloc, &RouteFault::IdsSpent),
-        SchedFault::Core(SchedError::UnknownJob) => Err(Memory),
-        SchedFault::Core(SchedError::WrongServer) => Err(Memory),
-        SchedFault::Core(SchedError::BadTransition(_, _)) => Err(Memory),
-        SchedFault::Core(SchedError::Memory) => Err(Memory),
+        SchedFault::Core(SchedError::UnknownJob) => unreachable!(),
+        SchedFault::Core(SchedError::WrongServer) => unreachable!(),
+        SchedFault::Core(SchedError::BadTransition(_, _)) => unreachable!(),
+        SchedFault::Core(SchedError::Memory) => unreachable!(),
         SchedFault::AssignFailed(undone, cause) => {
             reply_fault(alloc, &RouteFault::AssignFailed(undone, cause))
         }
@@ -67,33 +56,28 @@ fn reply_refusal(alloc: Global, fault: SchedFault) -> Result<Response, Memory>
     }
 }
 
-/// The reply to a refusal of a report on a job, if there is one.
+/// The reply to a refusal of that server's report on that job; none to want of memory.
 fn reply_report(
     alloc: Global,
-    fault: SchedFault,
-    job: JobId,
     server: ServerId,
+    job: JobId,
+    fault: SchedFault,
 ) -> Result<Response, Memory>
-    ensures { IfOk result (IsTold (report_fault job server fault)) }
+    requires { IsReportable fault }
+    ensures { IfOk result (IsTold (report_fault server job fault)) }
 {
     match fault {
-        SchedFault::Core(SchedError::BadCpus(_)) => Err(Memory),
-        SchedFault::Core(SchedError::IdsSpent) => Err(Memory),
-        SchedFault::Core(SchedError::UnknownJob) => reply_fault(alloc, &RouteFault::UnknownJob),
-        SchedFault::Core(SchedError::WrongServer) => {
-            reply_fault(alloc, &RouteFault::WrongServer(job, server))
-        }
-        SchedFault::Core(SchedError::BadTransition(from, to)) => {
-            reply_fault(alloc, &RouteFault::BadTransition(from, to))
-        }
-        SchedFault::Core(SchedError::Memory) => Err(Memory),
-        SchedFault::AssignFailed(_, _) => Err(Memory),
+        SchedFault::Core(error) => match core_fault(server, job, error) {
+            Some(fault) => reply_fault(alloc, &fault),
+            None => Err(Memory),
+        },
+        SchedFault::AssignFailed(_, _) => unreachable!(),
         SchedFault::Memory => Err(Memory),
     }
 }
 
 /// Takes a heartbeat.
-#[tactic(auto, unfolding(crate::specs::Replied::heard_response))]
+#[tactic(auto, using(crate::proofs::RepliedLemmas::heard_tellable))]
 fn hear<R: Wait, C: Clock>(
     rt: &R,
     alloc: Global,
@@ -114,13 +98,16 @@ fn hear<R: Wait, C: Clock>(
     } = beat;
     let key = JWTJobAuthorizer::of_key(jwt_key.into_inner());
     match scheduler.handle_heartbeat_server(rt, pass, clock, server, server_nonce, num_cpus, key) {
-        Ok(answer) => reply_with(alloc, json, &answer),
+        Ok(answer) => {
+            let response = to_heartbeat(alloc, json, &answer)?;
+            Ok(response)
+        }
         Err(fault) => reply_refusal(alloc, fault),
     }
 }
 
 /// Takes a server's report on a job.
-#[tactic(auto, unfolding(crate::specs::Replied::update_response))]
+#[tactic(auto, using(crate::proofs::RepliedLemmas::updated_reportable))]
 fn update<R: Wait, C: Clock>(
     rt: &R,
     alloc: Global,
@@ -136,13 +123,16 @@ fn update<R: Wait, C: Clock>(
         (moments C.moments C.last clock.old) (moments C.moments C.last clock.new)) }
 {
     match scheduler.handle_update_job_state(rt, pass, clock, job, server, state) {
-        Ok(answer) => reply_with(alloc, json, &answer),
-        Err(fault) => reply_report(alloc, fault, job, server),
+        Ok(answer) => {
+            let response = to_update(alloc, json, &answer)?;
+            Ok(response)
+        }
+        Err(fault) => reply_report(alloc, server, job, fault),
     }
 }
 
 /// Counts servers, processors and jobs.
-#[tactic(auto, unfolding(crate::specs::Replied::status_response))]
+#[tactic(auto, using(crate::proofs::RepliedLemmas::counted_tellable))]
 fn count<R: Wait, C: Clock>(
     rt: &R,
     alloc: Global,
@@ -155,13 +145,16 @@ fn count<R: Wait, C: Clock>(
         (moments C.moments C.last clock.old) (moments C.moments C.last clock.new)) }
 {
     match scheduler.handle_status(rt, pass, clock) {
-        Ok(answer) => reply_with(alloc, json, &answer),
+        Ok(answer) => {
+            let response = to_status(alloc, json, &answer)?;
+            Ok(response)
+        }
         Err(fault) => reply_refusal(alloc, fault),
     }
 }
 
 /// Allocates a job, and asks its server through the dialer.
-#[tactic(auto, unfolding(crate::specs::Replied::alloc_response))]
+#[tactic(auto, using(crate::proofs::RepliedLemmas::allocated_tellable))]
 fn allocate<R: Wait, D: Dialer, C: Clock>(
     rt: &R,
     alloc: Global,
@@ -179,8 +172,8 @@ fn allocate<R: Wait, D: Dialer, C: Clock>(
     let mut asking = Asking::new(alloc, dialer);
     match scheduler.handle_alloc_job(rt, pass, clock, &mut asking, tc) {
         Ok(answer) => {
-            let sent = AllocJobHttpResponse::from_alloc_job_result(answer);
-            reply_with(alloc, json, &sent)
+            let response = to_allocation(alloc, json, answer)?;
+            Ok(response)
         }
         Err(fault) => reply_refusal(alloc, fault),
     }

@@ -1,6 +1,6 @@
 //! A requester that asks build servers to take jobs, over a dialer that its caller lends it.
-ghost use Rattle.std.specs.Prelude.{◌≡◌, ◌≢◌, IfErr, Err};
-ghost use Rattle.dist_http.specs.Requested.{Says};
+ghost use Rattle.std.specs.Prelude.{◌≡◌, ◌≢◌, Err};
+ghost use Rattle.http_routes.specs.Calls.{IsAnswer};
 
 use crate::host::{Host, port_of};
 use dist_types::dialer::{AskFault, Dialer};
@@ -9,44 +9,18 @@ use dist_types::outgoing::{CallFault, SchedulerOutgoing};
 use dist_types::results::AssignJobResult;
 use dist_types::toolchain::Toolchain;
 use dist_wire::message::Message;
-use http_routes::calls::read_reply;
-use http_routes::error::HttpError;
+use http_routes::calls::answer;
 use http_routes::written::assign_request;
-use std::alloc::{AllocError, Global};
+use std::alloc::Global;
 
-/// What the reply to a call says: its message, Status where its status is not 200, Unreadable where the bytes are
-/// no reply or no message begins its body; Memory where memory ran out.
+/// What the reply to a call says; Memory where memory ran out.
 pub(crate) fn heard<M: Message>(alloc: Global, reply: &[u8]) -> Result<M, CallFault>
-    ensures says { result ≢ Err CallFault.Memory → Says M.at reply.now result }
+    ensures says { result ≢ Err CallFault.Memory → IsAnswer M.at reply.now result }
     ensures came { result ≢ Err CallFault.Lost }
 {
-    match read_reply(alloc, reply) {
-        Ok(message) => Ok(message),
-        Err(HttpError::Memory) => Err(CallFault::Memory),
-        Err(HttpError::ParseError) => Err(CallFault::Unreadable),
-        Err(HttpError::Status(code, _)) => Err(CallFault::Status(code)),
-        Err(HttpError::BadHead) => unreachable!(),
-        Err(HttpError::WrongContentType) => unreachable!(),
-        Err(HttpError::BadRealIp) => unreachable!(),
-        Err(HttpError::NoRoute) => unreachable!(),
-        Err(HttpError::Unauthorised(_)) => unreachable!(),
-    }
-}
-
-/// Want of memory, which is the one refusal of a request that is written.
-fn want_of_memory(error: HttpError) -> CallFault
-    requires { error ≡ HttpError.Memory }
-    ensures { result ≡ CallFault.Memory }
-{
-    match error {
-        HttpError::Memory => CallFault::Memory,
-        HttpError::BadHead => unreachable!(),
-        HttpError::WrongContentType => unreachable!(),
-        HttpError::ParseError => unreachable!(),
-        HttpError::BadRealIp => unreachable!(),
-        HttpError::NoRoute => unreachable!(),
-        HttpError::Unauthorised(_) => unreachable!(),
-        HttpError::Status(_, _) => unreachable!(),
+    match answer(alloc, reply) {
+        Ok(answer) => answer,
+        Err(_) => Err(CallFault::Memory),
     }
 }
 
@@ -88,7 +62,7 @@ impl<'d, D: Dialer> SchedulerOutgoing for Asking<'d, D> {
     ) -> Result<AssignJobResult, CallFault> {
         let request = match assign_request(self.alloc, server_id, job_id, auth, tc) {
             Ok(request) => request,
-            Err(error) => return Err(want_of_memory(error)),
+            Err(_) => return Err(CallFault::Memory),
         };
         let addr = server_id.addr();
         let host = format!(in self.alloc; "{}", Host(addr))?;

@@ -5,7 +5,7 @@ ghost use Rattle.dist_types.specs.Content.{Added, Began};
 ghost use Rattle.sched.specs.Outside.{moments};
 ghost use Rattle.http_routes.specs.Reply.{reply_text};
 ghost use Rattle.dist_http.specs.Connection.{IsReplied, IsServedBy};
-ghost use Rattle.dist_http.specs.Routing.{Routes};
+ghost use Rattle.http_routes.specs.Route.{IsRouted};
 ghost use Rattle.dist_http.specs.declared.served.Served.TheVariants as served;
 
 use crate::answer::answer;
@@ -41,7 +41,7 @@ fn reply_to<R: Wait, D: Dialer, C: Clock, K: ClientAuthCheck, V: ServerAuthCheck
     server: &V,
     request: &Option<Request>,
 ) -> Result<Response, Memory>
-    ensures { IfOk result (IsReplied (Routes K.may_answer K.shown (V.server_of server.now) peer) request.now
+    ensures { IfOk result (IsReplied (λ r. IsRouted K.may_answer K.shown (V.server_of server.now) r peer) request.now
         (record {
           means = record { pass = pass.old; clock = moments C.moments C.last clock.old; asked = D.asked dialer.old; faults = D.faults dialer.old };
           client = client.old;
@@ -96,7 +96,7 @@ pub fn serve_scheduler_connection<
     client: &mut K,
     server: &V,
 ) -> Served
-    ensures served { IsServedBy (Routes K.may_answer K.shown (V.server_of server.now) peer)
+    ensures served { IsServedBy (λ r. IsRouted K.may_answer K.shown (V.server_of server.now) r peer)
         (record { left = L.left link.old; held = L.held link.old; reads = L.Source.faults link.old; writes = L.Sink.faults link.old })
         (record { left = L.left link.new; held = L.held link.new; reads = L.Source.faults link.new; writes = L.Sink.faults link.new })
         (record {

@@ -1,17 +1,13 @@
 //! What was taken of a connection asks of the scheduler.
 ghost use Rattle.std.specs.Prelude.{◌≡◌, IfOk};
 ghost use Rattle.dist_http.specs.Connection.{Asks, form_of};
-ghost use Rattle.dist_http.specs.Routing.{Routes};
-ghost use Rattle.http_head.specs.declared.error.HttpError.TheVariants as HttpError;
-ghost use Rattle.http_routes.specs.Fault.{reply_of};
+ghost use Rattle.http_routes.specs.Route.{IsRouted};
 
 use dist_token::checks::{ClientAuthCheck, ServerAuthCheck};
 use dist_types::addr::Addr;
 use dist_types::fault::Memory;
-use dist_types::text::Text;
 use http_head::request::Request;
-use http_routes::err_json::ErrJson;
-use http_routes::reply::Response;
+use http_routes::refusal::{Refusal, refusal_response};
 use http_routes::route::{SchedRouted, scheduler_route, wants_json};
 use std::alloc::Global;
 
@@ -25,17 +21,6 @@ pub(crate) fn form_of(request: &Option<Request>) -> bool
     }
 }
 
-/// The reply to what is no request.
-fn bad_head(alloc: Global) -> Result<Response, Memory>
-    ensures { IfOk result (λ r. r ≡ reply_of HttpError.BadHead) }
-{
-    let text = Text::of(alloc, "bad request head")?;
-    match ErrJson::of(text).into_data(alloc) {
-        Ok(json) => Ok(Response::BadRequest(Text::new(json))),
-        Err(_) => Err(Memory),
-    }
-}
-
 /// What is asked at a moment, or the reply where there is nothing more to do. Refused for want of memory alone.
 pub(crate) fn route<K: ClientAuthCheck, V: ServerAuthCheck>(
     alloc: Global,
@@ -45,15 +30,16 @@ pub(crate) fn route<K: ClientAuthCheck, V: ServerAuthCheck>(
     client: &mut K,
     server: &V,
 ) -> Result<SchedRouted, Memory>
-    ensures { IfOk result (λ routed. Asks (Routes K.may_answer K.shown (V.server_of server.now) peer)
+    ensures { IfOk result (λ routed.
+        Asks (λ r. IsRouted K.may_answer K.shown (V.server_of server.now) r peer)
         request.now now client.old routed client.new) }
 {
     match request {
-        None => {
-            let reply = bad_head(alloc)?;
-            Ok(SchedRouted::Done(reply))
-        }
-        Some(request) => match scheduler_route(alloc, request, peer, "c1", "s1") {
+        None => match refusal_response(alloc, Refusal::BadHead) {
+            Ok(reply) => Ok(SchedRouted::Done(reply)),
+            Err(_) => Err(Memory),
+        },
+        Some(request) => match scheduler_route(alloc, request, peer, now, client, server) {
             Ok(routed) => Ok(routed),
             Err(_) => Err(Memory),
         },

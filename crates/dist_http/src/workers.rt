@@ -41,8 +41,8 @@ struct Worker<T, D, C, K> {
 fn work<
     R: Wait,
     T: Tasks,
-    D: Dialer + Drop + Send,
-    C: Clock + Drop + Send,
+    D: Dialer + Drop,
+    C: Clock + Drop,
     K: ClientAuthCheck + Drop,
     V: ServerAuthCheck,
 >(

@@ -7,5 +7,5 @@ loop-init g c = none_yet _ _
 
 pub loop-preserved : goal.loop-preserved
 loop-preserved g c =
-    one_more _ _ _ _ _ (c.in-Some.link, c.in-Some.peer) c.serve_scheduler_connection-served.new.link c.serve_scheduler_connection-served.result
-    c.loop.invariant c.in-Some.ensures.some c.done.ensures (told _ _ _ _ _ _ c.serve_scheduler_connection-served.ensures.served)
+    one_more _ _ _ _ _ (c.in-Some-take.link, c.in-Some-take.peer) c.serve_scheduler_connection-served.new.link c.serve_scheduler_connection-served.result
+    c.loop.invariant c.in-Some-take.ensures.some c.done.ensures (told _ _ _ _ _ _ c.serve_scheduler_connection-served.ensures.served)
