@@ -53,7 +53,16 @@ fn reply_to<R: Wait, D: Dialer, C: Clock, K: ClientAuthCheck, V: ServerAuthCheck
 {
     let now = clock.now();
     let routed = route(alloc, request, peer, now, client, server)?;
-    answer(rt, alloc, scheduler, pass, dialer, clock, form_of(request), routed)
+    answer(
+        rt,
+        alloc,
+        scheduler,
+        pass,
+        dialer,
+        clock,
+        form_of(request),
+        routed,
+    )
 }
 
 /// Writes the reply, whose bytes are all made before the first is written.

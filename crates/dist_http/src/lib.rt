@@ -4,14 +4,18 @@
 //! theirs, exported again, so that each item has one path for who stands above.
 #![tactic(auto)]
 
+pub mod accepting;
 pub mod answer;
 pub mod asking;
 pub mod checks;
 pub mod connection;
 mod host;
+pub mod real_serve;
 mod route;
+pub mod run_scheduler;
 mod scan;
 pub mod served;
+pub mod start;
 mod stop;
 pub mod stream;
 pub mod take;
