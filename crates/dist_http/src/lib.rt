@@ -4,5 +4,22 @@
 //! theirs, exported again, so that each item has one path for who stands above.
 #![tactic(auto)]
 
+pub mod accepting;
+pub mod answer;
+pub mod asking;
+pub mod checks;
+pub mod connection;
+mod host;
+pub mod real_serve;
+mod route;
+pub mod run_scheduler;
+mod scan;
+pub mod served;
+pub mod start;
+mod stop;
+pub mod stream;
+pub mod take;
+pub mod tasks;
+pub mod workers;
+
 pub use http_head::{head, request};
-pub use http_routes::{asked, calls, err_json, error, fault, laws, refusal, reply, route, written};
