@@ -1,11 +1,5 @@
-pub mod BuiltLemmas
 pub mod DigitLemmas
 pub mod FieldLemmas
-pub mod FirstFaultyLemmas
-pub mod LimitLemmas
-pub mod LineLemmas
 pub mod PieceLemmas
-pub mod ScriptLemmas
-pub mod SpelledLemmas
 pub mod VisibleLemmas
 pub mod WordLemmas

