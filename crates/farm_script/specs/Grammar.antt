@@ -1,9 +1,8 @@
 -- The grammar of lines: which bytes spell which value.
-use Rattle.std.specs.Prelude.{◌≡◌, ℕ, ◌^◌, ◌<◌, ◌≤◌, ◌⊎◌, true, List, [], ◌∷◌, ◌++◌, length, Ok, codes, ℤ, FitsSigned}
-use Rattle.std.specs.Int.{w32}
+use Rattle.std.specs.Prelude.{◌≡◌, ℕ, ◌^◌, ◌<◌, ◌≤◌, ◌⊎◌, true, List, [], ◌∷◌, ◌++◌, length, Ok, codes, ℤ, pos, negsuc, suc}
 use Rattle.std.specs.List.{list_all}
 use Rattle.std.specs.Str.{IsUtf8}
-use Rattle.std.specs.Fmt.{decimal, signed_decimal}
+use Rattle.std.specs.Fmt.{decimal}
 use Rattle.hex.specs.Hex.{decode_of}
 use Rattle.dist_types.specs.Addr.{IsAddrText, IsScoped}
 use Rattle.dist_types.specs.declared.addr.Addr.{Addr}
@@ -30,9 +29,10 @@ use Rattle.farm_script.specs.declared.lines.Line.TheVariants as lines
 abbrev pub IsNumber : List ℕ → ℕ → Type 0
 IsNumber t n = (t ≡ decimal n) × (n < 2 ^ 64)
 
--- an exit code has one spelling, with a dash before it where it is below 0
+-- an exit code from -2 ^ 31 to 2 ^ 31 - 1 has one spelling, with a dash before it where it is below 0
 abbrev pub IsCode : List ℕ → ℤ → Type 0
-IsCode t code = (t ≡ signed_decimal code) × FitsSigned w32 code
+IsCode t (pos n) = (t ≡ decimal n) × (n < 2 ^ 31)
+IsCode t (negsuc n) = (t ≡ codes "-" ++ decimal (suc n)) × (n < 2 ^ 31)
 
 -- visible bytes that are a text of the address
 abbrev pub IsAddrWord : List ℕ → Addr → Type 0

@@ -48,9 +48,9 @@ before_of said = record {
 }
 
 -- whether there is nothing
-abbrev pub is_none : {A : Type 0} → List A → Bool
-is_none [] = true
-is_none (x ∷ xs) = false
+abbrev pub is_nil : {A : Type 0} → List A → Bool
+is_nil [] = true
+is_nil (x ∷ xs) = false
 
 -- whether the address is among them
 abbrev pub has_addr : Addr → List Addr → Bool
@@ -59,9 +59,9 @@ has_addr addr addrs = list_any (λ a. same_addr a addr) addrs
 -- Setup lines stand before all events: one scheduler, behind it at most 1,000 servers, and behind a server the answers of its builder.
 abbrev pub misplaced : Before → Line → Bool
 misplaced b lines.Skip = false
-misplaced b (lines.Setup (Scheduler s)) = not (is_none b.events) || not (is_none b.schedulers)
-misplaced b (lines.Setup (Server s)) = not (is_none b.events) || is_none b.schedulers || nat_le 1000 (length b.servers)
-misplaced b (lines.Setup (Builder addr answer)) = not (is_none b.events) || not (has_addr addr b.servers)
+misplaced b (lines.Setup (Scheduler s)) = not (is_nil b.events) || not (is_nil b.schedulers)
+misplaced b (lines.Setup (Server s)) = not (is_nil b.events) || is_nil b.schedulers || nat_le 1000 (length b.servers)
+misplaced b (lines.Setup (Builder addr answer)) = not (is_nil b.events) || not (has_addr addr b.servers)
 misplaced b (lines.Event e) = false
 
 -- a server at the address of the scheduler or of another server

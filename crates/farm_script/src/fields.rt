@@ -179,8 +179,10 @@ pub fn key(alloc: Global, word: &[u8]) -> Result<Bytes, LineFault>
 fn as_name(bytes: Bytes) -> Result<Text, LineFault>
     ensures { Gives (λ x. x) result (as_name bytes) }
 {
-    let _ = bytes;
-    Err(LineFault::Memory)
+    match String::from_utf8(bytes.into_inner()) {
+        Ok(text) => Ok(Text::new(text)),
+        Err(_) => Err(LineFault::Bad),
+    }
 }
 
 /// A name, which is hex of bytes in UTF-8.

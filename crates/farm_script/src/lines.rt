@@ -114,10 +114,7 @@ fn server(alloc: Global, scopes: Scopes, text: &[u8]) -> Result<SetupServer, Lin
 
 /// The name and the bytes of an output, and what stands behind the space behind them, where there is one.
 #[tactic(auto, unfolding(crate::specs::Lines::output_at))]
-fn output(
-    alloc: Global,
-    text: &[u8],
-) -> Result<((Text, Bytes), Option<&[u8]>), LineFault>
+fn output(alloc: Global, text: &[u8]) -> Result<((Text, Bytes), Option<&[u8]>), LineFault>
     ensures { Gives (λ x. (x.0, option_map (λ rest. rest.now) x.1)) result (output_at text.now) }
 {
     let (word, rest) = first_word(text)?;
@@ -131,11 +128,18 @@ fn output(
 fn outputs(alloc: Global, behind: Option<&[u8]>) -> Result<Vec<(Text, Bytes)>, LineFault>
     ensures { Gives (λ x. x.items) result (outputs_behind (option_map (λ rest. rest.now) behind.entry)) }
 {
-    let _ = alloc;
-    match behind {
-        Some(_) => Err(LineFault::Memory),
-        None => Err(LineFault::Memory),
+    let mut outputs = Vec::new(alloc);
+    let mut left = behind;
+    while let Some(text) = left {
+        match output(alloc, text) {
+            Ok((output, rest)) => match outputs.push(output) {
+                Ok(()) => left = rest,
+                Err(_) => return Err(LineFault::Memory),
+            },
+            Err(fault) => return Err(fault),
+        }
     }
+    Ok(outputs)
 }
 
 /// What stands behind the word `ok`.
