@@ -1,7 +1,7 @@
 -- What each kind of event makes, and what is kept after it.
 use Rattle.std.proofs.Common.{◌≡◌, ◌≢◌, ◌⊎◌, inl, inr, ℕ, zero, suc, ◌<◌, Bool, true, false, ◌&&◌, nat_lt, List, [], ◌∷◌, ◌++◌, length, set, Option, Some, None, Result, Ok, Err, refl, sym, ap, subst, ◌∙◌, arith}
 use Rattle.std.specs.Prelude.{slice_get, IfOk}
-use Rattle.std.proofs.lemmas.Bool.{cases_Bool, cases_eq, ne_eqb}
+use Rattle.std.proofs.lemmas.Bool.{cases_eq, ne_eqb}
 use Rattle.std.proofs.lemmas.List.{length-set}
 use Rattle.dist_types.specs.Addr.{◌>>=◌}
 use Rattle.dist_types.specs.declared.addr.Addr.{Addr}
@@ -9,34 +9,33 @@ use Rattle.dist_types.specs.declared.outgoing.CallFault.{CallFault}
 use Rattle.dist_types.specs.declared.results.AssignJobResult.{AssignJobResult}
 use Rattle.sched_core.proofs.Lists.{end_cut}
 use Rattle.sched_core.specs.Log.{Core}
-use Rattle.sched_core.specs.Ticket.{Ticket}
 use Rattle.sched_core.specs.Reservation.{unspent}
-use Rattle.sched_core.specs.Rule.{rule, is_among}
-use Rattle.sched_core.specs.declared.call.Call.TheVariants as call
-use Rattle.sched_core.specs.declared.entry.CoreEntry.{CoreEntry}
-use Rattle.sched_core.specs.declared.entry.CoreKind.{CoreKind}
-use Rattle.sched_core.specs.declared.entry.CoreKind.TheVariants as core
-use Rattle.sched_core.specs.declared.entry.Reserved.TheVariants.{Job, NoRoom, Spent}
-use Rattle.farm_script.specs.declared.setup.SetupScheduler.{SetupScheduler}
-use Rattle.farm_script.specs.declared.event.Event.{Event}
-use Rattle.farm_script.specs.declared.event.EventKind.{EventKind}
-use Rattle.farm_script.specs.declared.event.EventKind.TheVariants.{Request, Deliver}
-use Rattle.farm_run.specs.declared.entry.Entry.{Entry}
-use Rattle.farm_run.specs.declared.entry.OutCall.{OutCall}
-use Rattle.farm_run.specs.declared.entry.EntryWord.TheVariants.{Void}
+use Rattle.sched_core.specs.Rule.{is_among}
+use Rattle.sched_core.specs.Ticket.{Ticket}
 use Rattle.farm_script.specs.declared.fault.FarmFault.{FarmFault}
-use Rattle.farm_run.specs.declared.waiting.Waiting.{Waiting}
-use Rattle.farm_run.specs.declared.waiting.Made.{Made}
-use Rattle.http_routes.specs.declared.route.SchedRouted.{SchedRouted}
-use Rattle.http_routes.specs.declared.route.SchedRouted.TheVariants as asked
-use Rattle.farm_run.specs.Calls.{call_at, settles_by, is_of, settled_at}
-use Rattle.farm_run.specs.Next.{core_of, brought_to, brought_by, Wants, worded, hears, allocated, answer_to, IsOutcome, continued, GoesOn, IsSettled, to_settle, IsServed, Settles, IsMade}
-use Rattle.farm_run.specs.Farm.{with_core, IsWaiting, IsKept, kept_at, AreKept, IsAfter, IsBegun, IsMadeSo, IsSettledSo, IsFarm}
+use Rattle.farm_script.specs.declared.setup.Setup.{Setup}
+use Rattle.farm_script.specs.declared.event.Event.{Event}
+use Rattle.farm_run.specs.declared.desk.Desk.{Desk}
+use Rattle.farm_run.specs.declared.entry.Effect.{Effect}
+use Rattle.farm_run.specs.declared.entry.Entry.{Entry}
+use Rattle.farm_run.specs.declared.entry.EntryWord.TheVariants.{Void}
+use Rattle.farm_run.specs.declared.entry.OutCall.{OutCall}
+use Rattle.farm_run.specs.declared.pending.Ask.{Ask}
+use Rattle.farm_run.specs.declared.pending.Ask.TheVariants.{Assign}
+use Rattle.farm_run.specs.declared.pending.Made.{Made}
+use Rattle.farm_run.specs.declared.pending.Pending.{Pending}
+use Rattle.farm_run.specs.Begun.{IsBegunBy, IsCallOf, Keeps}
+use Rattle.farm_run.specs.Calls.{settles_by, is_of, settled_at, waiting_at}
+use Rattle.farm_run.specs.Effects.{entry_of, effect_of, word_effect}
+use Rattle.farm_run.specs.Farm.{with_core, acted, IsWaiting, IsKept, kept_at, AreKept, IsAfter, IsReceived, IsMadeSo, IsSound, IsFarm}
+use Rattle.farm_run.specs.Next.{IsServed, IsSettled, IsMade, IsNext}
+use Rattle.farm_run.specs.Seen.{core_log, core_of}
+use Rattle.farm_run.specs.Settled.{IsOutcome, assignment_end, GoesOnBy, GoesOn, Follows, IsOwnBy, IsOwn}
+use Rattle.farm_run.specs.Ways.{Way, way_of, to_nothing, to_nobody, to_scheduler, to_call}
 use Rattle.farm_run.proofs.CallLemmas.{waiting-end}
-use Rattle.farm_run.proofs.SoundLemmas.{ticket-end}
+use Rattle.farm_run.proofs.NextLemmas.{call_ticket, settles_it, way_settles, sound_next}
 use Rattle.farm_run.proofs.RunLemmas.{core_of-push}
-use Rattle.farm_run.proofs.NextLemmas.{settles_it, settle_is, sound_next}
-use Rattle.farm_run.proofs.WaitLemmas.{brought-end, kept-left, kept-settled, kept-push}
+use Rattle.farm_run.proofs.WaitLemmas.{call-end, kept-left, kept-settled, kept-push}
 
 -- ---- entries that settle nothing
 
@@ -57,95 +56,80 @@ voided : (log : List Entry) (e : Entry) → e.word ≡ Some Void → (n : ℕ) �
 voided log e void n = rw void (void_off (nat_lt n (length log)) (is_of n (settles_by log e.event.kind)))
 
 -- what is kept stays
-all_kept : (farm : SetupScheduler) (log : List Entry) (e : Entry) (ws : List (Option Waiting)) → AreKept farm log ws → ((n : ℕ) → settled_at n (end_cut log e) ≡ false)
-    → (n : ℕ) → n < length log → IsKept farm (log ++ e ∷ []) n (kept_at ws n)
-all_kept farm log e ws kept off n lt = kept-left farm log e n (kept_at ws n) lt (off n) (kept.each n)
+all_kept : (setup : Setup) (log : List Entry) (e : Entry) (ps : List (Option Pending)) → AreKept setup log ps → ((n : ℕ) → settled_at n (end_cut log e) ≡ false)
+    → (n : ℕ) → n < length log → IsKept setup (log ++ e ∷ []) n (kept_at ps n)
+all_kept setup log e ps kept off n lt = kept-left setup log e n (kept_at ps n) lt (off n) (kept.each n)
 
 -- nothing is kept of an entry without a call
-nothing_new : (farm : SetupScheduler) (log : List Entry) (e : Entry) → e.call ≡ None → IsKept farm (log ++ e ∷ []) (length log) None
-nothing_new farm log e none = waiting-end log e ∙ ap (λ (o : Option OutCall). o >>= λ c. Some e) none
+nothing_new : (setup : Setup) (log : List Entry) (e : Entry) → e.call ≡ None → IsKept setup (log ++ e ∷ []) (length log) None
+nothing_new setup log e none = waiting-end log e ∙ ap (λ (o : Option OutCall). o >>= λ c. Some e) none
 
-after_idle : (farm : SetupScheduler) (log : List Entry) (e : Entry) (ws : List (Option Waiting)) → AreKept farm log ws → ((n : ℕ) → settled_at n (end_cut log e) ≡ false)
-    → e.call ≡ None → IsAfter farm log e ws None
-after_idle farm log e ws kept off none = record { size = kept.size; old = all_kept farm log e ws kept off; new = nothing_new farm log e none }
-
--- ---- words alone
-
-pub after_void : (farm : SetupScheduler) (log : List Entry) (event : Event) (ws : List (Option Waiting)) → AreKept farm log ws → IsAfter farm log (worded event Void) ws None
-after_void farm log event ws kept = after_idle farm log (worded event Void) ws kept (voided log (worded event Void) refl) refl
-
--- ---- what comes to the scheduler
-
-begun_new : (farm : SetupScheduler) (log : List Entry) (e : Entry) (brought : Option (Addr × List ℕ)) (x : Option Waiting) → brought_by farm log e.event.kind ≡ brought
-    → IsBegun farm (core_of farm log) brought e x → IsKept farm (log ++ e ∷ []) (length log) x
-begun_new farm log e brought None same is = nothing_new farm log e is
-begun_new farm log e brought (Some w) same is = record {
+-- what is kept of the call that an entry makes
+new_kept : (setup : Setup) (log : List Entry) (e : Entry) (o : Option Pending)
+    → Keeps (IsBegunBy setup (core_log log) (length log) (way_of setup log e.event.kind) (effect_of e)) (effect_of e) o → IsKept setup (log ++ e ∷ []) (length log) o
+new_kept setup log e None is = nothing_new setup log e is
+new_kept setup log e (Some p) is = record {
   entry = e;
-  waits = waiting-end log e ∙ ap (λ (o : Option OutCall). o >>= λ c. Some e) is.2.1;
-  ticket = ticket-end log e ∙ is.0;
-  wants = subst (λ (p : Option (Addr × List ℕ)). Wants farm p w.json) (sym (brought-end farm log e ∙ same)) is.1;
+  waits = waiting-end log e ∙ ap (λ (o : Option OutCall). o >>= λ c. Some e) is.2;
+  call = call-end setup log e p is.0;
 }
 
-after_begun : (farm : SetupScheduler) (log : List Entry) (e : Entry) (ws : List (Option Waiting)) (brought : Option (Addr × List ℕ)) (x : Option Waiting)
-    → AreKept farm log ws → settles_by log e.event.kind ≡ None → brought_by farm log e.event.kind ≡ brought → IsBegun farm (core_of farm log) brought e x → IsAfter farm log e ws x
-after_begun farm log e ws brought x kept none same is =
-    record { size = kept.size; old = all_kept farm log e ws kept (unsettling log e none); new = begun_new farm log e brought x same is }
+-- ---- what comes to an address, and what has nothing to do
 
-allocated_event : (s : Core) (number : ℕ) (event : Event) (json : Bool) (tc : List ℕ) (made : CoreEntry) (k : CoreKind) → (allocated s number event json tc made k).event ≡ event
-allocated_event s number event json tc made (core.Reserve (Job job reg forgiven)) = refl
-allocated_event s number event json tc made (core.Reserve (NoRoom standing)) = refl
-allocated_event s number event json tc made (core.Reserve Spent) = refl
-allocated_event s number event json tc made (core.Commit job state kept) = refl
-allocated_event s number event json tc made (core.Undo job noted ended) = refl
-allocated_event s number event json tc made (core.Beat server nonce cpus key pruned reaped replaced is_new) = refl
-allocated_event s number event json tc made (core.Update server job state given) = refl
-allocated_event s number event json tc made (core.Status pruned servers cpus jobs) = refl
+-- a way that settles no call
+pub after_received : (setup : Setup) (log : List Entry) (event : Event) (ps : List (Option Pending)) (m : Made)
+    → AreKept setup log ps → ((n : ℕ) → settled_at n (end_cut log (entry_of event m.effect)) ≡ false)
+    → Keeps (IsBegunBy setup (core_log log) (length log) (way_of setup log event.kind) m.effect) m.effect m.pending → IsAfter setup log (entry_of event m.effect) ps m.pending
+after_received setup log event ps m kept off is = record {
+  size = kept.size;
+  old = all_kept setup log (entry_of event m.effect) ps kept off;
+  new = new_kept setup log (entry_of event m.effect) m.pending is;
+}
 
-answer_event : (s : Core) (number : ℕ) (event : Event) (json : Bool) (what : SchedRouted) → (answer_to s number event json what).event ≡ event
-answer_event s number event json (asked.Alloc tc) = let made = rule s (call.Reserve event.at) in allocated_event s number event json tc made made.kind
-answer_event s number event json (asked.Beat server beat) = elim (cases_Bool (hears beat.num_cpus)) [ inl on ↦ rw on refl | inr off ↦ rw off refl ]
-answer_event s number event json (asked.Update server job state) = refl
-answer_event s number event json asked.Status = refl
-answer_event s number event json (asked.Done response) = refl
+served_made : (setup : Setup) (log : List Entry) (at : ℕ) (way : Way) (x : Effect) → ((n : ℕ) (reply : Option (List ℕ)) → way ≡ to_call n reply → ⊥)
+    → IsServed setup (core_of setup log) (length log) at way x → IsMade setup log at way x
+served_made setup log at (to_scheduler peer bytes) x apart is = is
+served_made setup log at to_nothing x apart is = is
+served_made setup log at to_nobody x apart is = is
+served_made setup log at (to_call n reply) x apart is = absurd (apart n reply refl)
 
-served_event : (farm : SetupScheduler) (s : Core) (number : ℕ) (event : Event) (brought : Option (Addr × List ℕ)) (e : Entry) → IsServed farm s number event brought e → e.event ≡ event
-served_event farm s number event None e is = ap (λ (x : Entry). x.event) is
-served_event farm s number event (Some p) e is = ap (λ (x : Entry). x.event) is.2 ∙ answer_event s number event is.0.json is.0.what
-
--- what was served, where the event brings it
-after_served : (farm : SetupScheduler) (log : List Entry) (event : Event) (ws : List (Option Waiting)) (k : EventKind) (brought : Option (Addr × List ℕ)) (m : Made)
-    → AreKept farm log ws → event.kind ≡ k → settles_by log k ≡ None → brought_by farm log k ≡ brought → IsServed farm (core_of farm log) (length log) event brought m.entry
-    → IsBegun farm (core_of farm log) brought m.entry m.waiting → IsAfter farm log m.entry ws m.waiting
-after_served farm log event ws k brought m kept same none brings served begun =
-    let kind : m.entry.event.kind ≡ k = ap (λ (v : Event). v.kind) (served_event farm (core_of farm log) (length log) event brought m.entry served) ∙ same in
-    after_begun farm log m.entry ws brought m.waiting kept (ap (settles_by log) kind ∙ none) (ap (brought_by farm log) kind ∙ brings) begun
-
-pub request_made : (farm : SetupScheduler) (s : Core) (log : List Entry) (ws : List (Option Waiting)) (event : Event) (target peer : Addr) (bytes : List ℕ) (r : Result Made FarmFault)
-    → IsFarm farm s log ws → event.kind ≡ Request target peer bytes → IfOk r (λ m. IsServed farm s (length log) event (brought_to farm target peer bytes) m.entry)
-    → IfOk r (λ m. IsBegun farm s (brought_to farm target peer bytes) m.entry m.waiting) → IfOk r (IsMadeSo farm log event (Request target peer bytes) ws)
-request_made farm s log ws event target peer bytes (Err f) is same served begun = tt
-request_made farm s log ws event target peer bytes (Ok m) is same served begun =
-    let brought = brought_to farm target peer bytes in
-    let served_is = subst (λ (c : Core). IsServed farm c (length log) event brought m.entry) is.core_is served in
-    let begun_is = subst (λ (c : Core). IsBegun farm c brought m.entry m.waiting) is.core_is begun in
-    record { made = served_is; after = after_served farm log event ws (Request target peer bytes) brought m is.kept same refl refl served_is begun_is }
-
-pub delivery_made : (farm : SetupScheduler) (s : Core) (log : List Entry) (ws : List (Option Waiting)) (event : Event) (call : ℕ) (c : OutCall) (r : Result Made FarmFault)
-    → IsFarm farm s log ws → event.kind ≡ Deliver call → call_at log call ≡ Some c → IfOk r (λ m. IsServed farm s (length log) event (brought_to farm c.target farm.addr c.bytes) m.entry)
-    → IfOk r (λ m. IsBegun farm s (brought_to farm c.target farm.addr c.bytes) m.entry m.waiting) → IfOk r (IsMadeSo farm log event (Deliver call) ws)
-delivery_made farm s log ws event call c (Err f) is same there served begun = tt
-delivery_made farm s log ws event call c (Ok m) is same there served begun =
-    let brought = brought_to farm c.target farm.addr c.bytes in
-    let served_is = subst (λ (c : Core). IsServed farm c (length log) event brought m.entry) is.core_is served in
-    let begun_is = subst (λ (c : Core). IsBegun farm c brought m.entry m.waiting) is.core_is begun in
+pub received_made : (setup : Setup) (s : Core) (log : List Entry) (ps : List (Option Pending)) (event : Event) (number at : ℕ) (way : Way) (m : Made)
+    → IsFarm setup s log ps → number ≡ length log → event.at ≡ at → way_of setup log event.kind ≡ way → settles_by log event.kind ≡ None
+    → IsReceived setup s number at way m → IsMadeSo setup log event (way_of setup log event.kind) ps m
+received_made setup s log ps event number at way m is numbered moment comes none received =
+    let one : IsReceived setup (core_of setup log) number at way m = subst (λ (c : Core). IsReceived setup c number at way m) is.core_is received in
+    let two : IsReceived setup (core_of setup log) (length log) at way m = subst (λ (n : ℕ). IsReceived setup (core_of setup log) n at way m) numbered one in
+    let three : IsReceived setup (core_of setup log) (length log) event.at way m = subst (λ (n : ℕ). IsReceived setup (core_of setup log) (length log) n way m) (sym moment) two in
+    let four : IsReceived setup (core_of setup log) (length log) event.at (way_of setup log event.kind) m =
+    subst (λ (w : Way). IsReceived setup (core_of setup log) (length log) event.at w m) (sym comes) three in
     record {
-      made = rw there served_is;
-      after = after_served farm log event ws (Deliver call) brought m is.kept same refl (ap (λ (o : Option OutCall). o >>= λ d. brought_to farm d.target farm.addr d.bytes) there) served_is begun_is;
+      made = served_made setup log event.at (way_of setup log event.kind) m.effect
+          (λ n reply same. let two_ways : None ≡ Some (n, reply) = sym none ∙ way_settles setup log event.kind n reply same in cc) four.served;
+      after = after_received setup log event ps m is.kept (unsettling log (entry_of event m.effect) none) four.kept;
     }
 
-pub delivery_void : (farm : SetupScheduler) (s : Core) (log : List Entry) (ws : List (Option Waiting)) (event : Event) (call : ℕ)
-    → IsFarm farm s log ws → call_at log call ≡ None → IsMadeSo farm log event (Deliver call) ws (record { entry = worded event Void; waiting = None })
-delivery_void farm s log ws event call is none = record { made = rw none refl; after = after_void farm log event ws is.kept }
+-- the same, where want of memory is the other outcome
+pub arrival_made : (setup : Setup) (s : Core) (log : List Entry) (ps : List (Option Pending)) (number at : ℕ) (way : Way) (r : Result Made FarmFault)
+    → IsFarm setup s log ps → number ≡ length log → IfOk r (IsReceived setup s number at way)
+    → IfOk r (λ m. (event : Event) → event.at ≡ at → way_of setup log event.kind ≡ way → settles_by log event.kind ≡ None → IsMadeSo setup log event (way_of setup log event.kind) ps m)
+arrival_made setup s log ps number at way (Ok m) is numbered received = λ event moment comes none. received_made setup s log ps event number at way m is numbered moment comes none received
+arrival_made setup s log ps number at way (Err f) is numbered received = tt
+
+-- an event that has nothing to do
+pub idle_made : (setup : Setup) (s : Core) (log : List Entry) (ps : List (Option Pending)) (event : Event) (m : Made)
+    → IsFarm setup s log ps → way_of setup log event.kind ≡ to_nothing → m ≡ record { effect = word_effect Void; pending = None } → IsMadeSo setup log event (way_of setup log event.kind) ps m
+idle_made setup s log ps event m is nothing same =
+    let idle : Made = record { effect = word_effect Void; pending = None } in
+    let there : IsMadeSo setup log event to_nothing ps idle = record {
+      made = refl;
+      after = record {
+        size = is.kept.size;
+        old = all_kept setup log (entry_of event (word_effect Void)) ps is.kept (voided log (entry_of event (word_effect Void)) refl);
+        new = nothing_new setup log (entry_of event (word_effect Void)) refl;
+      };
+    } in
+    subst (λ (x : Made). IsMadeSo setup log event (way_of setup log event.kind) ps x) (sym same)
+    (subst (λ (w : Way). IsMadeSo setup log event w ps idle) (sym nothing) there)
 
 -- ---- settlements
 
@@ -166,117 +150,101 @@ other_call : (log : List Entry) (e : Entry) (n m : ℕ) (reply : Option (List �
 other_call log e n m reply names apart = rw (names, ne_eqb n m apart) (and_false _)
 
 -- after a settlement, or one of a call that does not wait, nothing is kept of the call
-after_settled : (farm : SetupScheduler) (log : List Entry) (e : Entry) (ws : List (Option Waiting)) (n : ℕ) (reply : Option (List ℕ)) → AreKept farm log ws
-    → settles_by log e.event.kind ≡ Some (n, reply) → e.call ≡ None → (e.word ≡ None) ⊎ ((e.word ≡ Some Void) × (kept_at ws n ≡ None)) → IsAfter farm log e (set ws n None) None
-after_settled farm log e ws n reply kept names none how = record {
-  size = omega (arith, length-set ws n None, kept.size);
+after_settled : (setup : Setup) (log : List Entry) (e : Entry) (ps : List (Option Pending)) (n : ℕ) (reply : Option (List ℕ)) → AreKept setup log ps
+    → settles_by log e.event.kind ≡ Some (n, reply) → e.call ≡ None → (e.word ≡ None) ⊎ ((e.word ≡ Some Void) × (kept_at ps n ≡ None)) → IsAfter setup log e (set ps n None) None
+after_settled setup log e ps n reply kept names none how = record {
+  size = omega (arith, length-set ps n None, kept.size);
   old = λ m lt. elim (cases_eq n m) [
-    | inl same ↦ subst (λ (k : ℕ). IsKept farm (log ++ e ∷ []) k (kept_at (set ws n None) k)) same (own (omega (arith, same, lt)))
+    | inl same ↦ subst (λ (k : ℕ). IsKept setup (log ++ e ∷ []) k (kept_at (set ps n None) k)) same (own (omega (arith, same, lt)))
     | inr apart ↦
-        let at : kept_at (set ws n None) m ≡ kept_at ws m = ap (λ (o : Option (Option Waiting)). o >>= λ p. p) (get_set_other ws n m None apart) in
-        subst (λ (o : Option Waiting). IsKept farm (log ++ e ∷ []) m o) (sym at) (kept-left farm log e m (kept_at ws m) lt (other_call log e n m reply names apart) (kept.each m))
+        let at : kept_at (set ps n None) m ≡ kept_at ps m = ap (λ (o : Option (Option Pending)). o >>= λ p. p) (get_set_other ps n m None apart) in
+        subst (λ (o : Option Pending). IsKept setup (log ++ e ∷ []) m o) (sym at) (kept-left setup log e m (kept_at ps m) lt (other_call log e n m reply names apart) (kept.each m))
   ];
-  new = nothing_new farm log e none;
+  new = nothing_new setup log e none;
 }
   where
-    none_left : n < length log → kept_at (set ws n None) n ≡ None
-    none_left lt = ap (λ (o : Option (Option Waiting)). o >>= λ p. p) (get_set_same ws n None (omega (arith, kept.size)))
+    none_left : n < length log → kept_at (set ps n None) n ≡ None
+    none_left lt = ap (λ (o : Option (Option Pending)). o >>= λ p. p) (get_set_same ps n None (omega (arith, kept.size)))
 
-    settled : n < length log → (e.word ≡ None) ⊎ ((e.word ≡ Some Void) × (kept_at ws n ≡ None)) → IsKept farm (log ++ e ∷ []) n None
-    settled lt (inl silent) = kept-settled farm log e n lt (settles_it log n reply e lt silent names)
-    settled lt (inr void) = kept-left farm log e n None lt (voided log e void.0 n) (subst (IsKept farm log n) void.1 (kept.each n))
+    settled : n < length log → (e.word ≡ None) ⊎ ((e.word ≡ Some Void) × (kept_at ps n ≡ None)) → IsKept setup (log ++ e ∷ []) n None
+    settled lt (inl silent) = kept-settled setup log e n lt (settles_it log n reply e lt silent names)
+    settled lt (inr void) = kept-left setup log e n None lt (voided log e void.0 n) (subst (IsKept setup log n) void.1 (kept.each n))
 
-    own : n < length log → IsKept farm (log ++ e ∷ []) n (kept_at (set ws n None) n)
-    own lt = subst (λ (o : Option Waiting). IsKept farm (log ++ e ∷ []) n o) (sym (none_left lt)) (settled lt how)
+    own : n < length log → IsKept setup (log ++ e ∷ []) n (kept_at (set ps n None) n)
+    own lt = subst (λ (o : Option Pending). IsKept setup (log ++ e ∷ []) n o) (sym (none_left lt)) (settled lt how)
 
--- a call that is not kept does not wait
-pub settled_none : (farm : SetupScheduler) (s : Core) (log : List Entry) (ws : List (Option Waiting)) (event : Event) (n : ℕ) (reply : Option (List ℕ))
-    → IsFarm farm s log ws → kept_at ws n ≡ None → settles_by log event.kind ≡ Some (n, reply)
-    → IsSettledSo farm log event n reply (set ws n None) (record { entry = worded event Void; waiting = None })
-settled_none farm s log ws event n reply is empty names = record {
-  made = subst (λ (o : Option Entry). IsSettled farm log event n reply o (worded event Void)) (sym (subst (IsKept farm log n) empty (is.kept.each n))) refl;
-  after = after_settled farm log (worded event Void) ws n reply is.kept names refl (inr (refl, empty));
-}
+-- an assignment's end settles its call, and makes none
+end_call : (s : Core) (root : ℕ) (json : Bool) (at : ℕ) (t : Ticket) (r : Result AssignJobResult CallFault) → (assignment_end s root json at t r).call ≡ None
+end_call s root json at t (Ok a) = refl
+end_call s root json at t (Err f) = refl
 
-continued_event : (s : Core) (t : Ticket) (n : ℕ) (json : Bool) (event : Event) (r : Result AssignJobResult CallFault) → (continued s t n json event r).event ≡ event
-continued_event s t n json event (Ok a) = refl
-continued_event s t n json event (Err f) = refl
+end_word : (s : Core) (root : ℕ) (json : Bool) (at : ℕ) (t : Ticket) (r : Result AssignJobResult CallFault) → (assignment_end s root json at t r).word ≡ None
+end_word s root json at t (Ok a) = refl
+end_word s root json at t (Err f) = refl
 
-continued_call : (s : Core) (t : Ticket) (n : ℕ) (json : Bool) (event : Event) (r : Result AssignJobResult CallFault) → (continued s t n json event r).call ≡ None
-continued_call s t n json event (Ok a) = refl
-continued_call s t n json event (Err f) = refl
+goes_call : (s : Core) (at : ℕ) (p : Pending) (reply : Option (List ℕ)) (ask : Ask) (x : Effect) → GoesOnBy s at p reply ask x → x.call ≡ None
+goes_call s at p reply (Assign t) x is = ap (λ (y : Effect). y.call) is.2 ∙ end_call s p.root p.json at t is.0
 
-continued_word : (s : Core) (t : Ticket) (n : ℕ) (json : Bool) (event : Event) (r : Result AssignJobResult CallFault) → (continued s t n json event r).word ≡ None
-continued_word s t n json event (Ok a) = refl
-continued_word s t n json event (Err f) = refl
+goes_word : (s : Core) (at : ℕ) (p : Pending) (reply : Option (List ℕ)) (ask : Ask) (x : Effect) → GoesOnBy s at p reply ask x → x.word ≡ None
+goes_word s at p reply (Assign t) x is = ap (λ (y : Effect). y.word) is.2 ∙ end_word s p.root p.json at t is.0
 
--- a call that is kept goes on
-pub settled_some : (farm : SetupScheduler) (s : Core) (log : List Entry) (ws : List (Option Waiting)) (event : Event) (n : ℕ) (reply : Option (List ℕ)) (w : Waiting)
-    (r : Result AssignJobResult CallFault) (e : Entry) → IsFarm farm s log ws → kept_at ws n ≡ Some w → settles_by log event.kind ≡ Some (n, reply) → IsOutcome reply r
-    → e ≡ continued s w.reservation n w.json event r → IsSettledSo farm log event n reply (set ws n None) (record { entry = e; waiting = None })
-settled_some farm s log ws event n reply w r e is some names outcome goes =
-    let waits : IsWaiting farm log n w = subst (IsKept farm log n) some (is.kept.each n) in
-    let same : e ≡ continued (core_of farm log) w.reservation n w.json event r = goes ∙ ap (λ (c : Core). continued c w.reservation n w.json event r) is.core_is in
-    let on : GoesOn farm log event n reply (Some w.reservation) e = (w.json, waits.wants, r, outcome, same) in
-    let of_event : e.event ≡ event = ap (λ (x : Entry). x.event) goes ∙ continued_event s w.reservation n w.json event r in
+-- what follows where that is kept of the call
+settled_by : (setup : Setup) (log : List Entry) (ps : List (Option Pending)) (event : Event) (n : ℕ) (reply : Option (List ℕ)) (o : Option Pending) (x : Effect)
+    → AreKept setup log ps → IsSound setup log → kept_at ps n ≡ o → settles_by log event.kind ≡ Some (n, reply) → Follows (core_of setup log) event.at o reply x
+    → IsMadeSo setup log event (to_call n reply) (set ps n None) (record { effect = x; pending = None })
+settled_by setup log ps event n reply None x kept sound at names is =
+    let waits : waiting_at log n ≡ None = subst (IsKept setup log n) at (kept.each n) in
     record {
-      made = subst (λ (o : Option Entry). IsSettled farm log event n reply o e) (sym waits.waits) (subst (λ (t : Option Ticket). GoesOn farm log event n reply t e) (sym waits.ticket) on);
-      after = after_settled farm log e ws n reply is.kept (ap (λ (v : Event). settles_by log v.kind) of_event ∙ names)
-          (ap (λ (x : Entry). x.call) goes ∙ continued_call s w.reservation n w.json event r)
-          (inl (ap (λ (x : Entry). x.word) goes ∙ continued_word s w.reservation n w.json event r));
+      made = subst (λ (o : Option Entry). IsSettled setup log event.at n reply o x) (sym waits) is;
+      after = after_settled setup log (entry_of event x) ps n reply kept names (ap (λ (y : Effect). y.call) is) (inr (ap (λ (y : Effect). y.word) is, at));
+    }
+settled_by setup log ps event n reply (Some p) x kept sound at names is =
+    let waits : IsWaiting setup log n p = subst (IsKept setup log n) at (kept.each n) in
+    record {
+      made = subst (λ (o : Option Entry). IsSettled setup log event.at n reply o x) (sym waits.waits) (p, waits.call, is);
+      after = after_settled setup log (entry_of event x) ps n reply kept names (goes_call (core_of setup log) event.at p reply p.ask x is)
+          (inl (goes_word (core_of setup log) event.at p reply p.ask x is));
     }
 
+pub settled_made : (setup : Setup) (s : Core) (log : List Entry) (ps new : List (Option Pending)) (event : Event) (n at : ℕ) (reply : Option (List ℕ)) (m : Made) (x : Effect)
+    → IsFarm setup s log ps → event.at ≡ at → way_of setup log event.kind ≡ to_call n reply → Follows s at (kept_at ps n) reply x → new ≡ set ps n None
+    → m ≡ record { effect = x; pending = None } → IsMadeSo setup log event (way_of setup log event.kind) new m
+settled_made setup s log ps new event n at reply m x is moment comes follows left same =
+    let names = way_settles setup log event.kind n reply comes in
+    let one : Follows (core_of setup log) at (kept_at ps n) reply x = subst (λ (c : Core). Follows c at (kept_at ps n) reply x) is.core_is follows in
+    let two : Follows (core_of setup log) event.at (kept_at ps n) reply x = subst (λ (k : ℕ). Follows (core_of setup log) k (kept_at ps n) reply x) (sym moment) one in
+    let made : IsMadeSo setup log event (to_call n reply) (set ps n None) (record { effect = x; pending = None }) =
+    settled_by setup log ps event n reply (kept_at ps n) x is.kept is.sound refl names two in
+    let placed : IsMadeSo setup log event (way_of setup log event.kind) (set ps n None) (record { effect = x; pending = None }) =
+    subst (λ (w : Way). IsMadeSo setup log event w (set ps n None) (record { effect = x; pending = None })) (sym comes) made in
+    subst (λ (q : Made). IsMadeSo setup log event (way_of setup log event.kind) new q) (sym same)
+    (subst (λ (l : List (Option Pending)). IsMadeSo setup log event (way_of setup log event.kind) l (record { effect = x; pending = None })) (sym left) placed)
+
 -- the reservation of a call that is kept is unspent
-pub kept_own : (farm : SetupScheduler) (s : Core) (log : List Entry) (ws : List (Option Waiting)) (n : ℕ) (w : Waiting) → IsFarm farm s log ws → kept_at ws n ≡ Some w
-    → is_among (unspent s.log) w.reservation.number w.reservation.job ≡ true
-kept_own farm s log ws n w is some =
-    let waits : IsWaiting farm log n w = subst (IsKept farm log n) some (is.kept.each n) in
-    ap (λ (c : Core). is_among (unspent c.log) w.reservation.number w.reservation.job) is.core_is ∙ is.sound.own n waits.entry w.reservation waits.waits waits.ticket
+own_by : (setup : Setup) (s : Core) (log : List Entry) (n : ℕ) (p : Pending) (ask : Ask) → s ≡ core_of setup log → IsSound setup log → IsWaiting setup log n p → p.ask ≡ ask → IsOwnBy s.log ask
+own_by setup s log n p (Assign t) core_is sound waits asks =
+    ap (λ (c : Core). is_among (unspent c.log) t.number t.job) core_is ∙ sound.own n waits.entry t waits.waits (call_ticket setup log n p t waits.call asks)
 
--- ---- events that are to settle a call
+own_kept : (setup : Setup) (s : Core) (log : List Entry) (n : ℕ) (o : Option Pending) → s ≡ core_of setup log → IsSound setup log → IsKept setup log n o → IsOwn s.log o
+own_kept setup s log n None core_is sound is = tt
+own_kept setup s log n (Some p) core_is sound is = own_by setup s log n p p.ask core_is sound is refl
 
--- one that is to settle that call
-pub settling_made : (farm : SetupScheduler) (log : List Entry) (ws : List (Option Waiting)) (event : Event) (k : EventKind) (n : ℕ) (reply : Option (List ℕ)) (m : Made)
-    → to_settle farm log k ≡ Some (n, reply) → ((e : Entry) → Settles farm log event (to_settle farm log k) e → IsMade farm log event k e)
-    → IsSettledSo farm log event n reply ws m → IsMadeSo farm log event k ws m
-settling_made farm log ws event k n reply m names made is =
-    record { made = made m.entry (subst (λ (o : Option (ℕ × Option (List ℕ))). Settles farm log event o m.entry) (sym names) is.made); after = is.after }
-
--- one that is to settle none
-pub settling_void : (farm : SetupScheduler) (s : Core) (log : List Entry) (ws : List (Option Waiting)) (event : Event) (k : EventKind) → IsFarm farm s log ws
-    → to_settle farm log k ≡ None → ((e : Entry) → Settles farm log event (to_settle farm log k) e → IsMade farm log event k e)
-    → IsMadeSo farm log event k ws (record { entry = worded event Void; waiting = None })
-settling_void farm s log ws event k is none made =
-    record { made = made (worded event Void) (subst (λ (o : Option (ℕ × Option (List ℕ))). Settles farm log event o (worded event Void)) (sym none) refl); after = after_void farm log event ws is.kept }
+pub kept_own : (setup : Setup) (s : Core) (log : List Entry) (ps : List (Option Pending)) (n : ℕ) → IsFarm setup s log ps → IsOwn s.log (kept_at ps n)
+kept_own setup s log ps n is = own_kept setup s log n (kept_at ps n) is.core_is is.sound (is.kept.each n)
 
 -- ---- farms
 
 -- one entry more
-pub farm_next : (farm : SetupScheduler) (s new : Core) (log : List Entry) (ws next : List (Option Waiting)) (event : Event) (m : Made)
-    → IsFarm farm s log ws → IsMadeSo farm log event event.kind next m → new ≡ with_core s m.entry.core → IsFarm farm new (log ++ m.entry ∷ []) (next ++ m.waiting ∷ [])
-farm_next farm s new log ws next event m is made core-is = record {
-  plain = is.plain;
-  fits = is.fits;
-  core_is = core-is ∙ ap (λ (c : Core). with_core c m.entry.core) is.core_is ∙ core_of-push farm log m.entry;
-  sound = sound_next farm log event m.entry is.fits is.sound made.made;
-  kept = kept-push farm log m.entry next m.waiting made.after;
-}
-
--- an event of a kind that is void whatever stands before it
-pub void_made : (farm : SetupScheduler) (s : Core) (log : List Entry) (ws : List (Option Waiting)) (event copy : Event) (k : EventKind) (m : Made) → IsFarm farm s log ws
-    → event.kind ≡ k → copy ≡ event → m ≡ record { entry = worded copy Void; waiting = None } → IsMade farm log event k (worded event Void) → IsMadeSo farm log event event.kind ws m
-void_made farm s log ws event copy k m is kind same made-is made =
-    let idle : Made = record { entry = worded event Void; waiting = None } in
-    let there : m ≡ idle = made-is ∙ ap (λ (v : Event). record { entry = worded v Void; waiting = None }) same in
-    let so : IsMadeSo farm log event k ws idle = record { made = made; after = after_void farm log event ws is.kept } in
-    subst (λ (x : Made). IsMadeSo farm log event event.kind ws x) (sym there) (subst (λ (j : EventKind). IsMadeSo farm log event j ws idle) (sym kind) so)
-
--- what follows where an event is to settle that call
-pub settling_ok : (farm : SetupScheduler) (log : List Entry) (ws : List (Option Waiting)) (event : Event) (k : EventKind) (n : ℕ) (reply : Option (List ℕ)) (outcome : Result AssignJobResult CallFault)
-    (r : Result Made FarmFault) → event.kind ≡ k → to_settle farm log k ≡ Some (n, reply) → IsOutcome reply outcome
-    → ((e : Entry) → Settles farm log event (to_settle farm log k) e → IsMade farm log event k e)
-    → IfOk r (λ m. (given : Option (List ℕ)) → settles_by log event.kind ≡ Some (n, given) → IsOutcome given outcome → IsSettledSo farm log event n given ws m)
-    → IfOk r (IsMadeSo farm log event k ws)
-settling_ok farm log ws event k n reply outcome (Err f) same names is made goes = tt
-settling_ok farm log ws event k n reply outcome (Ok m) same names is made goes =
-    settling_made farm log ws event k n reply m names made (goes reply (ap (settles_by log) same ∙ settle_is farm log k (n, reply) names) is)
+pub farm_next : (setup next : Setup) (s new : Core) (log : List Entry) (ps left : List (Option Pending)) (event : Event) (m : Made)
+    → IsFarm setup s log ps → IsMadeSo setup log event (way_of setup log event.kind) left m → next ≡ setup → new ≡ with_core s m.effect.core
+    → IsFarm next new (log ++ entry_of event m.effect ∷ []) (left ++ m.pending ∷ [])
+farm_next setup next s new log ps left event m is made same core-is =
+    let e : Entry = entry_of event m.effect in
+    let farm : IsFarm setup new (log ++ e ∷ []) (left ++ m.pending ∷ []) = record {
+      plain = is.plain;
+      fits = is.fits;
+      core_is = core-is ∙ ap (λ (c : Core). with_core c m.effect.core) is.core_is ∙ core_of-push setup log e;
+      sound = sound_next setup log event e is.fits is.sound (m.effect, made.made, refl);
+      kept = kept-push setup log e left m.pending made.after;
+    } in
+    subst (λ (t : Setup). IsFarm t new (log ++ e ∷ []) (left ++ m.pending ∷ [])) (sym same) farm

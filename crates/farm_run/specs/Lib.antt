@@ -1,9 +1,16 @@
+pub mod Answers
+pub mod Begun
 pub mod Calls
+pub mod Effects
 pub mod Farm
 pub mod Next
 pub mod Printed
 pub mod Replies
 pub mod RunText
+pub mod Seen
+pub mod Settled
+pub mod Tickets
+pub mod Ways
 pub use Rattle.farm_script.specs.Built
 pub use Rattle.farm_script.specs.FirstFaulty
 pub use Rattle.farm_script.specs.Grammar

@@ -18,6 +18,7 @@ use Rattle.sched_core.specs.declared.entry.Reserved.{Reserved}
 use Rattle.sched_core.specs.declared.entry.Reserved.TheVariants.{Job, NoRoom, Spent}
 use Rattle.sched_core.specs.declared.entry.UpdateAnswer.{UpdateAnswer}
 use Rattle.sched_core.specs.declared.entry.UpdateAnswer.TheVariants.{Accepted, Unknown, Wrong, Transition}
+use Rattle.farm_script.specs.declared.setup.Setup.{Setup}
 use Rattle.farm_script.specs.declared.setup.SetupScheduler.{SetupScheduler}
 use Rattle.farm_script.specs.declared.event.EventKind.{EventKind}
 use Rattle.farm_script.specs.declared.event.EventKind.TheVariants as event
@@ -32,7 +33,7 @@ use Rattle.farm_run.specs.declared.entry.Reply.{Reply}
 use Rattle.farm_run.specs.declared.entry.EntryWord.{EntryWord}
 use Rattle.farm_run.specs.declared.entry.EntryWord.TheVariants.{Void, Down, Waiting, Died}
 use Rattle.farm_script.specs.Texts.{◌⧺◌}
-use Rattle.farm_run.specs.Next.{core_log}
+use Rattle.farm_run.specs.Seen.{core_log}
 
 -- ---- fields
 
@@ -214,12 +215,12 @@ abbrev pub ids_given : SetupScheduler → List CoreEntry → ℕ
 ids_given scheduler log = scheduler.count + length (bookings log)
 
 -- the ids, the registrations that stand after the whole log, by rising number, and the reservations that are unended, by rising id
-abbrev pub books_text : SetupScheduler → List CoreEntry → List ℕ
-books_text scheduler log =
-    (codes "books\nids base " ⧺ decimal scheduler.base ⧺ codes " count " ⧺ decimal (ids_given scheduler log) ⧺ codes "\n")
+abbrev pub books_text : Setup → List CoreEntry → List ℕ
+books_text setup log =
+    (codes "books\nids base " ⧺ decimal setup.scheduler.base ⧺ codes " count " ⧺ decimal (ids_given setup.scheduler log) ⧺ codes "\n")
     ++ flat_map row_text (servers_of log) ++ flat_map job_text (held_by_id log) ++ codes "end\n"
 
 -- the whole text
-abbrev pub run_text : SetupScheduler → List Entry → List ℕ
-run_text scheduler entries =
-    (codes "run 1 entries " ⧺ decimal (length entries) ⧺ codes "\n") ++ entries_text 0 0 entries ++ books_text scheduler (core_log entries)
+abbrev pub run_text : Setup → List Entry → List ℕ
+run_text setup entries =
+    (codes "run 1 entries " ⧺ decimal (length entries) ⧺ codes "\n") ++ entries_text 0 0 entries ++ books_text setup (core_log entries)

@@ -1,6 +1,6 @@
 //! What an event did.
 ghost use Rattle.std.specs.Prelude.{◌≡◌, Some};
-ghost use Rattle.farm_run.specs.Next.{worded, replied, asking};
+ghost use Rattle.farm_run.specs.Effects.{word_effect, reply_effect, call_effect, entry_of};
 
 use dist_types::addr::Addr;
 use dist_types::ids::JobId;
@@ -78,7 +78,17 @@ pub enum EntryWord {
     Died,
 }
 
-/// What an event did.
+/// What an event did, without the event.
+#[derive(Debug, Drop)]
+pub struct Effect {
+    pub core: Option<CoreEntry>,
+    pub step: Option<Step>,
+    pub call: Option<OutCall>,
+    pub reply: Option<Reply>,
+    pub word: Option<EntryWord>,
+}
+
+/// An event, and what it did.
 #[derive(Debug, Drop)]
 pub struct Entry {
     pub event: Event,
@@ -89,13 +99,12 @@ pub struct Entry {
     pub word: Option<EntryWord>,
 }
 
-impl Entry {
-    /// An entry that says a word alone.
-    pub(crate) fn worded(event: Event, word: EntryWord) -> Self
-        ensures { result ≡ worded event word }
+impl Effect {
+    /// A word alone.
+    pub(crate) fn of_word(word: EntryWord) -> Self
+        ensures { result ≡ word_effect word }
     {
-        Entry {
-            event,
+        Effect {
             core: None,
             step: None,
             call: None,
@@ -104,12 +113,11 @@ impl Entry {
         }
     }
 
-    /// An entry that is answered at once.
-    pub(crate) fn replied(event: Event, core: Option<CoreEntry>, reply: Reply) -> Self
-        ensures { result ≡ replied event core reply }
+    /// A reply at once.
+    pub(crate) fn of_reply(core: Option<CoreEntry>, reply: Reply) -> Self
+        ensures { result ≡ reply_effect core reply }
     {
-        Entry {
-            event,
+        Effect {
             core,
             step: None,
             call: None,
@@ -118,17 +126,39 @@ impl Entry {
         }
     }
 
-    /// An entry that makes a call, whose settlement is waited for.
-    pub(crate) fn asking(event: Event, core: CoreEntry, call: OutCall) -> Self
-        ensures { result ≡ asking event core (Some call) }
+    /// A call, whose settlement is waited for.
+    pub(crate) fn of_call(core: Option<CoreEntry>, call: OutCall) -> Self
+        ensures { result ≡ call_effect core (Some call) }
     {
-        Entry {
-            event,
-            core: Some(core),
+        Effect {
+            core,
             step: None,
             call: Some(call),
             reply: None,
             word: Some(EntryWord::Waiting),
+        }
+    }
+}
+
+impl Entry {
+    /// The entry of an event that did this.
+    pub(crate) fn new(event: Event, effect: Effect) -> Self
+        ensures { result ≡ entry_of event effect }
+    {
+        let Effect {
+            core,
+            step,
+            call,
+            reply,
+            word,
+        } = effect;
+        Entry {
+            event,
+            core,
+            step,
+            call,
+            reply,
+            word,
         }
     }
 }

@@ -8,12 +8,13 @@
 //! use `Farm::new`, `Farm::run`, `Farm::history` and `print_run`.
 #![tactic(auto)]
 
+mod desk;
 pub mod entry;
 pub mod laws;
+mod pending;
 pub mod print;
 mod replies;
 pub mod run;
 mod serve;
 mod settle;
 mod text;
-mod waiting;

@@ -2,7 +2,7 @@
 ghost use Rattle.std.specs.Prelude.{◌≡◌, ◌+◌, ◌++◌, ◌<◌, ◌^◌, OnOk, IfOk, IfErr, string_bytes};
 ghost use Rattle.std.specs.List.{flat_map};
 ghost use Rattle.farm_run.specs.Printed.{entry_text, entries_text, core_count, row_text, job_text, books_text, run_text};
-ghost use Rattle.farm_run.specs.Next.{core_log};
+ghost use Rattle.farm_run.specs.Seen.{core_log};
 ghost use Rattle.sched_core.specs.Rows.{held_by_id};
 ghost use Rattle.farm_script.specs.declared.fault.FarmFault.TheVariants as fault;
 
@@ -85,9 +85,9 @@ fn push_jobs(out: &mut String, farm: &Farm) -> Result<(), AllocError>
 
 /// Writes the books of a farm.
 fn push_books(out: &mut String, farm: &Farm) -> Result<(), AllocError>
-    ensures { OnOk result (string_bytes out.new ≡ string_bytes out.old ++ books_text farm.now.scheduler (core_log farm.now.entries)) }
+    ensures { OnOk result (string_bytes out.new ≡ string_bytes out.old ++ books_text farm.now.setup (core_log farm.now.entries)) }
 {
-    let base = farm.scheduler().base;
+    let base = farm.setup().scheduler.base;
     let count = farm.ids_given();
     write!(out, "books\nids base {base} count {count}\n")?;
     push_rows(out, farm.servers())?;
@@ -98,7 +98,7 @@ fn push_books(out: &mut String, farm: &Farm) -> Result<(), AllocError>
 
 /// The text of a run: a farm, its entries, and its books after them. Refused for want of memory alone.
 pub fn print_run(alloc: Global, farm: &Farm) -> Result<String, FarmFault>
-    ensures ok { IfOk result (λ text. string_bytes text ≡ run_text farm.now.scheduler farm.now.entries) }
+    ensures ok { IfOk result (λ text. string_bytes text ≡ run_text farm.now.setup farm.now.entries) }
     ensures err { IfErr result (λ e. e ≡ fault.Memory) }
 {
     let mut out = String::new(alloc);

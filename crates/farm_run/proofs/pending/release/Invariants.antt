@@ -1,5 +1,5 @@
 use Rattle.std.specs.Prelude.{vec_len}
-use Rattle.farm_run.proofs.waiting.release.Given as goal
+use Rattle.farm_run.proofs.pending.release.Given as goal
 
 abbrev pub invariant-loop-kept : goal.invariant-loop-kept
 invariant-loop-kept l = Unit {0}

@@ -1,0 +1,36 @@
+-- What an event did, and the entry that says so.
+use Rattle.std.specs.Prelude.{ℕ, Option, Some, None}
+use Rattle.http_routes.specs.Reply.{reply_text}
+use Rattle.http_routes.specs.declared.reply.Response.{Response}
+use Rattle.sched_core.specs.declared.entry.CoreEntry.{CoreEntry}
+use Rattle.farm_script.specs.declared.event.Event.{Event}
+use Rattle.farm_run.specs.declared.entry.Effect.{Effect}
+use Rattle.farm_run.specs.declared.entry.Entry.{Entry}
+use Rattle.farm_run.specs.declared.entry.EntryWord.{EntryWord}
+use Rattle.farm_run.specs.declared.entry.EntryWord.TheVariants.{Waiting}
+use Rattle.farm_run.specs.declared.entry.OutCall.{OutCall}
+use Rattle.farm_run.specs.declared.entry.Reply.{Reply}
+
+-- a word alone
+abbrev pub word_effect : EntryWord → Effect
+word_effect word = record { core = None; step = None; call = None; reply = None; word = Some word }
+
+-- a reply at once
+abbrev pub reply_effect : Option CoreEntry → Reply → Effect
+reply_effect core reply = record { core = core; step = None; call = None; reply = Some reply; word = None }
+
+-- a call, whose settlement is waited for
+abbrev pub call_effect : Option CoreEntry → Option OutCall → Effect
+call_effect core call = record { core = core; step = None; call = call; reply = None; word = Some Waiting }
+
+-- the entry of an event that did this
+abbrev pub entry_of : Event → Effect → Entry
+entry_of event x = record { event = event; core = x.core; step = x.step; call = x.call; reply = x.reply; word = x.word }
+
+-- what the event of an entry did
+abbrev pub effect_of : Entry → Effect
+effect_of e = record { core = e.core; step = e.step; call = e.call; reply = e.reply; word = e.word }
+
+-- the reply to that entry: the bytes of the response
+abbrev pub reply_to : ℕ → Response → Reply
+reply_to number response = record { to = number; bytes = reply_text response }
