@@ -16,3 +16,5 @@ pub mod Trims
 pub mod Numbers
 pub mod KeyParts
 pub mod Stores
+pub mod KeyLemmas
+pub mod Unkeyed

@@ -1,7 +1,8 @@
 //! `LruDiskCache` and its calls.
 ghost use Rattle.std.specs.Prelude.{◌≡◌, ℕ, List, ◌+◌, ◌++◌, ◌≤◌, length, nat_le, is_some, true, Some, None, Ok, [], IsSome, IfOk, IfErr, OnOk, OnErr, OnSome};
 ghost use Rattle.std.specs.Map.Iter.{ShowsInOrder, deref_pair};
-ghost use Rattle.std.specs.Map.{lookup};
+ghost use Rattle.std.specs.List.{IsDistinct};
+ghost use Rattle.std.specs.Map.{keys_of, lookup};
 ghost use Rattle.std.specs.Str.{bytes_eq};
 ghost use Rattle.disk_cache.specs.Files.{file_at, front};
 ghost use Rattle.disk_cache.specs.Held.{Holds, Became, Lacks};
@@ -95,7 +96,8 @@ impl<F: Folder> LruDiskCache<F> {
 
     /// How many keys are listed. It takes no memory.
     pub fn len(&self) -> usize
-        ensures { result ≡ length self.now.disk.entries }
+        ensures len { result ≡ length self.now.disk.entries }
+        ensures distinct { IsDistinct bytes_eq (keys_of self.now.disk.entries) }
     {
         self.table.len()
     }

@@ -9,6 +9,7 @@
 //! fails, each listed key has a file of its size, where the folder tells its files.
 #![tactic(auto)]
 
+mod archives;
 mod cache;
 pub mod calls;
 mod entry;
@@ -23,7 +24,10 @@ mod reservations;
 mod rows;
 mod steps;
 mod table;
+mod tc_cache;
 
+pub use archives::Archives;
 pub use cache::LruDiskCache;
 pub use error::{Error, Result};
 pub use key::is_key;
+pub use tc_cache::TcCache;

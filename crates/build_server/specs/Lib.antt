@@ -1,0 +1,5 @@
+pub mod Books
+pub mod Rules
+pub mod Builds
+pub mod Rows
+pub mod Echo
