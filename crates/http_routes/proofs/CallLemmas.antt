@@ -12,7 +12,7 @@ use Rattle.dist_wire.specs.Reading.{assign_at}
 use Rattle.http_head.specs.declared.error.HttpError.{HttpError}
 use Rattle.http_head.specs.declared.error.HttpError.TheVariants.{BadHead, WrongContentType, ParseError, BadRealIp, NoRoute, Unauthorised, Status, Memory}
 use Rattle.http_head.specs.declared.reply.Reply.{Reply}
-use Rattle.http_routes.specs.Calls.{told_by, Tells, Reads, IsReplyFault, assigned_by, IsAssigned}
+use Rattle.http_routes.specs.Calls.{told_by, Tells, Reads, IsReplyFault, answer_by, IsAnswer, assigned_by, IsAssigned}
 use Rattle.http_head.specs.Head.{IsReply}
 use Rattle.http_routes.specs.Message.{BeginsWith, begins_in}
 use Rattle.http_routes.specs.Steps.{unless_none}
@@ -27,6 +27,10 @@ module _ {M : Type 0} (at : List ℕ → Option (M × List ℕ)) (bytes : List �
   one_telling a b (inl (r, x, e)) (inr (none, f)) = absurd (none r x)
   one_telling a b (inr (none, e)) (inl (q, y, f)) = absurd (none q y)
   one_telling a b (inr (none, e)) (inr (nothing, f)) = e ∙ sym f
+
+module _ {M : Type 0} (at : List ℕ → Option (M × List ℕ)) where
+  pub one_answer : (bytes : List ℕ) (a b : Result M CallFault) → IsAnswer at bytes a → IsAnswer at bytes b → a ≡ b
+  one_answer bytes a b (s, x, e) (t, y, f) = e ∙ (ap answer_by (one_telling at bytes s t x y) ∙ sym f)
 
 pub one_assignment : (bytes : List ℕ) (a b : Result AssignJobResult CallFault) → IsAssigned bytes a → IsAssigned bytes b → a ≡ b
 one_assignment bytes a b (s, x, e) (t, y, f) = e ∙ (ap assigned_by (one_telling assign_at bytes s t x y) ∙ sym f)

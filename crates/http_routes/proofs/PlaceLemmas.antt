@@ -1,12 +1,14 @@
 -- The place of a request, the job that it names and the form that it asks for, in the words of its parts.
-use Rattle.std.proofs.Common.{◌≡◌, ℕ, ◌&&◌, ◌<◌, Bool, true, false, cond, List, ◌++◌, length, drop, Option, Some, None, refl, sym, ap, subst, ◌∙◌, arith}
+use Rattle.std.proofs.Common.{◌≡◌, ◌≢◌, ℕ, ◌&&◌, ◌==◌, ◌<◌, not, get_or, Bool, true, false, cond, List, [], ◌∷◌, ◌++◌, length, take, drop, decimal, Option, Some, None, refl, sym, ap, subst, ◌∙◌, arith}
 use Rattle.std.specs.Prelude.{codes, bytes_eq, nat_eq, nat_lt, option_copied, MatchOption}
-use Rattle.std.specs.List.{starts_with, list_all}
+use Rattle.std.specs.List.{starts_with, list_all, position_or_len}
 use Rattle.std.specs.Char.{is_ascii_digit}
 use Rattle.std.specs.Str.Parse.{without_leading_plus, digits_value}
 use Rattle.std.proofs.lemmas.Bool.Decides.{nat_tests}
 use Rattle.std.proofs.lemmas.Option.{cond_some}
-use Rattle.std.proofs.Math.Seq.{take-append_seam}
+use Rattle.std.proofs.Math.Seq.{take-append_seam, drop-append_seam, take-length}
+use Rattle.std.proofs.lemmas.Fmt.{digits_decimal, digits_value-decimal, decimal_nonempty}
+use Rattle.std.proofs.lemmas.Str.Parse.{without_leading_plus_none}
 use Rattle.std.specs.Borrow.{Bor}
 use Rattle.std.specs.Str.Pattern.{FindsTextPrefix, StripsPrefix}
 use Rattle.dist_types.specs.Addr.{is_digits}
@@ -14,8 +16,9 @@ use Rattle.dist_types.specs.Ids.{SaysJob}
 use Rattle.dist_types.specs.declared.ids.JobId.{JobId}
 use Rattle.http_head.specs.declared.request.Request.{Request}
 use Rattle.http_head.specs.Fields.{header, path_of}
-use Rattle.http_routes.specs.InOrder.{IsAt, InForm}
-use Rattle.http_routes.specs.Route.{is_at, stripped, job_in, given_job, job_of, is_text, wants_json}
+use Rattle.http_routes.specs.InOrder.{IsAt, NamesJob, InForm}
+use Rattle.http_routes.specs.Place.{is_at, stripped, job_in, given_job, job_of}
+use Rattle.http_routes.specs.Route.{is_text, wants_json}
 use Rattle.http_head.proofs.BearerLemmas.{equal_texts, same_text, begins}
 use Rattle.http_head.proofs.FieldLemmas.{digits}
 
@@ -111,29 +114,76 @@ behind_front front text rest e =
     let found = cond_some (starts_with nat_eq text front) (drop (length front) text) rest e in
     begins text front found.0 ∙ ap (λ (t : List ℕ). front ++ t) found.1
 
-abbrev place : List ℕ
-place = codes "/api/v1/scheduler/job_state/"
-
-pub job_named : (r : Request) (job : JobId) → job_of r ≡ Some job
-    → (id : List ℕ) × IsAt r (codes "POST") (place ++ id) × SaysJob id job.0
+pub job_named : (front : List ℕ) (r : Request) (job : JobId) → job_of front r ≡ Some job → NamesJob r front job
 unfolding job_of
-job_named r job e =
-    let found = by_test (bytes_eq r.method (codes "POST")) (given_job (stripped place (path_of r.target))) e in
-    by_id (stripped place (path_of r.target)) refl found.0 found.1
+job_named front r job e =
+    let found = by_test (bytes_eq r.method (codes "POST")) (given_job (stripped front (path_of r.target))) e in
+    by_id (stripped front (path_of r.target)) refl found.0 found.1
   where
     by_test : (b : Bool) (o : Option JobId) → cond b o None ≡ Some job → (b ≡ true) × (o ≡ Some job)
     by_test true o h = (refl, h)
     by_test false o h = absurd cc
 
-    by_id : (o : Option (List ℕ)) → stripped place (path_of r.target) ≡ o → bytes_eq r.method (codes "POST") ≡ true → given_job o ≡ Some job
-        → (id : List ℕ) × IsAt r (codes "POST") (place ++ id) × SaysJob id job.0
+    by_id : (o : Option (List ℕ)) → stripped front (path_of r.target) ≡ o → bytes_eq r.method (codes "POST") ≡ true → given_job o ≡ Some job
+        → NamesJob r front job
     by_id None is post h = absurd cc
-    by_id (Some id) is post h = (
-      id,
-      record { sent_by = equal_texts r.method (codes "POST") post; sent_to = behind_front place (path_of r.target) id is },
-      job_said id job h,
-    )
+    by_id (Some id) is post h = record {
+      id = id;
+      at = record { sent_by = equal_texts r.method (codes "POST") post; sent_to = behind_front front (path_of r.target) id is };
+      says = job_said id job h;
+    }
 
-pub named_job : (r : Request) (job : JobId) (id : List ℕ) → IsAt r (codes "POST") (place ++ id) → SaysJob id job.0 → job_of r ≡ Some job
+-- what stands behind a front that a text begins with
+pub front_stripped : (front rest : List ℕ) → stripped front (front ++ rest) ≡ Some rest
+front_stripped front rest =
+    let begun : starts_with nat_eq (front ++ rest) front ≡ true = subst (λ (t : List ℕ). bytes_eq front t ≡ true) (sym (take-append_seam front rest)) (same_text front) in
+    rw (begun, drop-append_seam front rest) refl
+
+pub named_job : (front : List ℕ) (r : Request) (job : JobId) → NamesJob r front job → job_of front r ≡ Some job
 unfolding job_of
-named_job r job id at names = rw (at.sent_by, at.sent_to) (said_job id job names)
+named_job front r job n = rw (n.at.sent_by, n.at.sent_to, front_stripped front n.id) (said_job n.id job n.says)
+
+pub no_job_named : (front : List ℕ) (r : Request) → ((job : JobId) → ¬ (NamesJob r front job)) → job_of front r ≡ None
+no_job_named front r none = by_option (job_of front r) refl
+  where
+    by_option : (o : Option JobId) → job_of front r ≡ o → o ≡ None
+    by_option None e = refl
+    by_option (Some job) e = absurd (none job (job_named front r job e))
+
+-- ---- jobs that were written
+
+no_plus : (n : ℕ) → n < 18446744073709551616 → without_leading_plus (decimal n) ≡ decimal n
+no_plus n fits = without_leading_plus_none (decimal n) (by_first (decimal n) (digits_decimal digits n fits))
+  where
+    by_first : (ds : List ℕ) → list_all is_ascii_digit ds ≡ true → get_or ds 0 0 ≢ 43
+    by_first [] h e = absurd (omega (arith, e))
+    by_first (d ∷ ds) h e =
+        let this = both (is_ascii_digit d) (list_all is_ascii_digit ds) h in absurd (let no = subst (λ (c : ℕ). is_ascii_digit c ≡ true) e this.0 in cc)
+
+pub printed_job : (job : JobId) → job.0 < 18446744073709551616 → job_in (decimal job.0) ≡ Some job
+unfolding job_in
+printed_job job fits =
+    let value = digits_value-decimal digits job.0 fits in
+    let all = digits_decimal digits job.0 fits in
+    let some = decimal_nonempty job.0 fits in
+    let long : nat_lt 0 (length (decimal job.0)) ≡ true = grind (arith, nat_tests) in
+    let low : nat_lt job.0 18446744073709551616 ≡ true = grind (arith, nat_tests) in
+    rw (no_plus job.0 fits, long, all, value, low) refl
+
+position_none : (c : ℕ) (text : List ℕ) → list_all (λ b. not (b == c)) text ≡ true → position_or_len (λ b. b == c) text ≡ length text
+position_none c [] none = refl
+position_none c (x ∷ text) none =
+    let later : list_all (λ b. not (b == c)) text ≡ true = grind (arith, nat_tests) in
+    let other : (x == c) ≡ false = grind (arith, nat_tests) in
+    let more = position_none c text later in
+    rw (other, more) (omega arith)
+
+-- a target without a query is its path
+pub no_query : (target : List ℕ) → list_all (λ b. not (b == 63)) target ≡ true → path_of target ≡ target
+no_query target none = ap (λ (n : ℕ). take n target) (position_none 63 target none) ∙ take-length target
+
+-- a POST to a job behind a front names it
+pub written_job : (front : List ℕ) (r : Request) (job : JobId) → r.method ≡ codes "POST" → path_of r.target ≡ front ++ decimal job.0
+    → job.0 < 18446744073709551616 → job_of front r ≡ Some job
+unfolding job_of
+written_job front r job post path fits = rw (post, path, front_stripped front (decimal job.0)) (printed_job job fits)

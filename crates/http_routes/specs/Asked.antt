@@ -1,16 +1,35 @@
 -- What the bytes that a peer sent ask of the scheduler.
-use Rattle.std.specs.Prelude.{◌≡◌, ◌⊎◌, ℕ, List, false}
+use Rattle.std.specs.Prelude.{◌≡◌, ◌⊎◌, ℕ, List, false, Option, Result, ⊤}
 use Rattle.dist_types.specs.declared.addr.Addr.{Addr}
-use Rattle.http_head.specs.declared.error.HttpError.TheVariants.{BadHead}
+use Rattle.dist_types.specs.declared.token_error.TokenError.{TokenError}
+use Rattle.dist_token.specs.Verdict.{plain_server}
 use Rattle.http_head.specs.declared.request.Request.{Request}
+use Rattle.http_head.specs.Head.{IsRequest, IsNoRequest}
+use Rattle.http_routes.specs.declared.admission.Admission.{Admission}
+use Rattle.http_routes.specs.declared.refusal.Refusal.TheVariants.{BadHead}
 use Rattle.http_routes.specs.declared.route.Asked.{Asked}
 use Rattle.http_routes.specs.declared.route.SchedRouted.TheVariants.{Done}
-use Rattle.http_routes.specs.Fault.{reply_of}
-use Rattle.http_head.specs.Head.{IsRequest, IsNoRequest}
-use Rattle.http_routes.specs.Route.{question_of}
+use Rattle.http_routes.specs.Admission.{equal_admission}
+use Rattle.http_routes.specs.Refusal.{refusal_response}
+use Rattle.http_routes.specs.Route.{wants_json, question_under, IsRouted}
 
--- what the bytes ask, as a request of that peer under the clients' and the servers' tokens, or as a bad head
+-- what is asked by bytes that are no request
+abbrev pub bad_question : Asked
+bad_question = record { what = Done (refusal_response BadHead); json = false }
+
+-- What the bytes ask, as a request of that peer or as a bad head, of a scheduler that lets clients in by their tokens, and
+-- accepts servers by theirs.
+abbrev pub IsAskedUnder : (List ℕ → Admission) → (List ℕ → Option Addr) → List ℕ → Addr → Asked → Type 0
+IsAskedUnder lets serves bytes peer asked =
+    ((r : Request) × IsRequest bytes r × (asked ≡ question_under lets serves r peer))
+    ⊎ (IsNoRequest bytes × (asked ≡ bad_question))
+
+-- The same where a check of clients is asked, which may give those answers and shows those texts, and becomes `new`.
+abbrev pub IsAskedOf : {K : Type 0} → (K → ℕ → List ℕ → Result ⊤ TokenError → K → Type 0) → (K → TokenError → List ℕ) → (List ℕ → Option Addr) → List ℕ → Addr → ℕ → K → Asked → K → Type 0
+IsAskedOf may_answer shown serves bytes peer now old asked new =
+    ((r : Request) × IsRequest bytes r × IsRouted may_answer shown serves r peer now old asked.what new × (asked.json ≡ wants_json r))
+    ⊎ (IsNoRequest bytes × (asked ≡ bad_question) × (new ≡ old))
+
+-- the same, under one token of all clients and one of all servers
 abbrev pub IsAsked : List ℕ → Addr → List ℕ → List ℕ → Asked → Type 0
-IsAsked bytes peer client expected asked =
-    ((r : Request) × IsRequest bytes r × (asked ≡ question_of r peer client expected))
-    ⊎ (IsNoRequest bytes × (asked ≡ record { what = Done (reply_of BadHead); json = false }))
+IsAsked bytes peer client expected asked = IsAskedUnder (equal_admission client) (plain_server expected) bytes peer asked

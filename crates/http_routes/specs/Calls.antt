@@ -31,14 +31,23 @@ IsReplyFault ParseError = Unit {0}
 IsReplyFault (Status code body) = Unit {0}
 IsReplyFault other = ⊥
 
--- the answer to an assignment, if its state is one that an assignment may tell
-abbrev pub begun : AssignJobResult → Result AssignJobResult CallFault
-begun answer = if begins answer.state then Ok answer else Err (call.BadState answer.state)
-
 -- why a reply is no answer to a call
 abbrev pub call_fault : HttpError → CallFault
 call_fault (Status code body) = call.Status code
 call_fault other = call.Unreadable
+
+-- the answer to a call, by what its reply says
+abbrev pub answer_by : {M : Type 0} → Result M HttpError → Result M CallFault
+answer_by (Ok m) = Ok m
+answer_by (Err e) = Err (call_fault e)
+
+-- what the bytes of the reply to a call say
+abbrev pub IsAnswer : {M : Type 0} → (List ℕ → Option (M × List ℕ)) → List ℕ → Result M CallFault → Type 0
+IsAnswer {M} at bytes answer = (told : Result M HttpError) × Tells at bytes told × (answer ≡ answer_by told)
+
+-- the answer to an assignment, if its state is one that an assignment may tell
+abbrev pub begun : AssignJobResult → Result AssignJobResult CallFault
+begun answer = if begins answer.state then Ok answer else Err (call.BadState answer.state)
 
 -- the answer to an assignment, by what its reply says
 abbrev pub assigned_by : Result AssignJobResult HttpError → Result AssignJobResult CallFault

@@ -9,9 +9,11 @@ use Rattle.dist_types.specs.declared.outgoing.CallFault.TheVariants.{Lost, Statu
 use Rattle.sched_core.specs.declared.answers.Undone.{Undone}
 use Rattle.sched_core.specs.declared.answers.Undone.TheVariants.{Unassigned, NotKnown, NoServer, Foreign}
 use Rattle.http_head.specs.declared.error.HttpError.{HttpError}
-use Rattle.http_head.specs.declared.error.HttpError.TheVariants.{BadHead, WrongContentType, ParseError, BadRealIp, Unauthorised, Status as OtherStatus, Memory}
+use Rattle.http_head.specs.declared.error.HttpError.TheVariants.{BadHead, WrongContentType, ParseError, BadRealIp, Unauthorised}
 use Rattle.http_routes.specs.declared.fault.RouteFault.{RouteFault}
-use Rattle.http_routes.specs.declared.fault.RouteFault.TheVariants.{BadCpus, UnknownJob, WrongServer, BadTransition, IdsSpent, AssignFailed}
+use Rattle.http_routes.specs.declared.fault.BuildFailure.{BuildFailure}
+use Rattle.http_routes.specs.declared.fault.BuildFailure.TheVariants as failure
+use Rattle.http_routes.specs.declared.fault.RouteFault.TheVariants.{BadCpus, UnknownJob, WrongServer, BadTransition, IdsSpent, AssignFailed, AlreadyAssigned, UpdateFailed, BuildFailed}
 use Rattle.http_routes.specs.declared.refusal.RouilleBincodeError.{RouilleBincodeError}
 use Rattle.http_routes.specs.declared.refusal.RouilleBincodeError.TheVariants as input
 use Rattle.http_routes.specs.declared.reply.Response as response
@@ -44,10 +46,21 @@ fault_text (WrongServer job server) = codes "Job id " ⧺ decimal job.0 ⧺ code
 fault_text (BadTransition old new) = codes "Invalid job state transition from " ⧺ state_text old ⧺ codes " to " ⧺ state_text new
 fault_text IdsSpent = codes "No job ids left"
 fault_text (AssignFailed undone call) = undone_text undone
+fault_text (AlreadyAssigned job) = codes "Job " ⧺ decimal job.0 ⧺ codes " is already assigned"
+fault_text (UpdateFailed call) = codes "Updating job state failed"
+fault_text (BuildFailed why) = codes "run build failed"
+
+-- why a build gave nothing
+abbrev pub failure_text : BuildFailure → List ℕ
+failure_text failure.NotCached = codes "toolchain not in cache"
+failure_text failure.Unreadable = codes "toolchain unreadable"
+failure_text failure.Refused = codes "builder refused"
 
 -- why, outermost first
 abbrev pub causes_of : RouteFault → List (List ℕ)
 causes_of (AssignFailed undone call) = codes "POST to scheduler assign_job failed" ∷ call_text call ∷ []
+causes_of (UpdateFailed call) = codes "POST to scheduler job_state failed" ∷ call_text call ∷ []
+causes_of (BuildFailed why) = failure_text why ∷ []
 causes_of other = []
 
 -- what went wrong and why, outermost first
@@ -68,12 +81,6 @@ input_text input.ParseError = codes "error while parsing the bincode body"
 abbrev pub word_body : Word → List ℕ
 word_body BearerAuthFailed = codes "Fixed token mismatch"
 word_body other = []
-
--- a refusal that a route is told: neither want of memory, nor what a reply to a call says
-abbrev pub IsRefusal : HttpError → Type 0
-IsRefusal Memory = ⊥
-IsRefusal (OtherStatus code body) = ⊥
-IsRefusal other = Unit {0}
 
 -- the reply to a refusal
 abbrev pub reply_of : HttpError → response.Response

@@ -1,47 +1,24 @@
 -- What a request asks of the scheduler, with the refusals in order.
-use Rattle.std.specs.Prelude.{ℕ, Bool, false, ◌&&◌, List, length, drop, nat_eq, nat_lt, if◌then◌else◌, Option, Some, None, Result, Ok, Err, codes, bytes_eq}
-use Rattle.std.specs.List.{starts_with}
-use Rattle.std.specs.Str.Parse.{without_leading_plus, digits_value}
+use Rattle.std.specs.Prelude.{◌≡◌, ℕ, Bool, false, List, if◌then◌else◌, Option, Some, None, option_map, Result, Ok, Err, ⊤, codes, bytes_eq}
 use Rattle.dist_types.specs.declared.addr.Addr.{Addr}
 use Rattle.dist_types.specs.declared.ids.JobId.{JobId}
-use Rattle.dist_types.specs.Addr.{is_digits}
+use Rattle.dist_types.specs.declared.token_error.TokenError.{TokenError}
+use Rattle.dist_token.specs.Verdict.{plain_server}
 use Rattle.dist_wire.specs.Reading.{toolchain_at, heartbeat_at, state_at}
-use Rattle.http_head.specs.declared.error.HttpError.{HttpError}
-use Rattle.http_head.specs.declared.error.HttpError.TheVariants.{NoRoute}
 use Rattle.http_head.specs.declared.request.Request.{Request}
+use Rattle.http_head.specs.Fields.{header}
+use Rattle.http_routes.specs.declared.admission.Admission.{Admission}
+use Rattle.http_routes.specs.declared.refusal.Refusal.{Refusal}
+use Rattle.http_routes.specs.declared.refusal.Refusal.TheVariants.{NoRoute}
 use Rattle.http_routes.specs.declared.route.Asked.{Asked}
 use Rattle.http_routes.specs.declared.route.SchedRouted.{SchedRouted}
 use Rattle.http_routes.specs.declared.route.SchedRouted.TheVariants.{Alloc, Beat, Update, Status, Done}
-use Rattle.http_routes.specs.Fault.{reply_of}
-use Rattle.http_head.specs.Fields.{header, path_of}
+use Rattle.http_routes.specs.Admission.{client_token, Admits, equal_admission}
 use Rattle.http_routes.specs.Message.{message_in}
+use Rattle.http_routes.specs.Place.{is_at, state_job, of_job}
+use Rattle.http_routes.specs.Refusal.{refusal_response}
 use Rattle.http_routes.specs.Sender.{client_test, server_of}
 use Rattle.http_routes.specs.Steps.{◌>>=◌}
-
--- ---- the place
-
--- whether the request has that method and that path
-unfoldable pub is_at : List ℕ → List ℕ → Request → Bool
-is_at method path r = bytes_eq r.method method && bytes_eq (path_of r.target) path
-
--- what follows the front, where the text begins with it
-abbrev pub stripped : List ℕ → List ℕ → Option (List ℕ)
-stripped front text = if starts_with nat_eq text front then Some (drop (length front) text) else None
-
--- the job of an id: an optional plus and at least one digit, at most 2^64 - 1
-unfoldable pub job_in : List ℕ → Option JobId
-job_in text =
-    if is_digits (without_leading_plus text) && nat_lt (digits_value 10 (without_leading_plus text)) 18446744073709551616
-    then Some (record { 0 = digits_value 10 (without_leading_plus text) }) else None
-
--- the job of an id, where one is given
-abbrev pub given_job : Option (List ℕ) → Option JobId
-given_job None = None
-given_job (Some id) = job_in id
-
--- the job whose state the request tells
-unfoldable pub job_of : Request → Option JobId
-job_of r = if bytes_eq r.method (codes "POST") then given_job (stripped (codes "/api/v1/scheduler/job_state/") (path_of r.target)) else None
 
 -- ---- the form of the reply
 
@@ -56,45 +33,59 @@ wants_json r = is_text (codes "application/json") (header (codes "accept") r.hea
 
 -- ---- what is asked
 
--- a request for a job
-unfoldable pub alloc_of : Request → List ℕ → Result SchedRouted HttpError
-alloc_of r client = do
-  shown ← client_test r client
+-- a request for a job, of whose token the check of clients says that
+unfoldable pub alloc_of : Request → Option Admission → Result SchedRouted Refusal
+alloc_of r said = do
+  admitted ← client_test said
   tc ← message_in toolchain_at r
   Ok (Alloc tc)
 
 -- a heartbeat
-unfoldable pub beat_of : Request → Addr → List ℕ → Result SchedRouted HttpError
-beat_of r peer expected = do
-  server ← server_of r peer expected
+unfoldable pub beat_of : (List ℕ → Option Addr) → Request → Addr → Result SchedRouted Refusal
+beat_of serves r peer = do
+  server ← server_of serves r peer
   beat ← message_in heartbeat_at r
   Ok (Beat server beat)
 
 -- a state of that job
-unfoldable pub update_of : Request → Addr → List ℕ → JobId → Result SchedRouted HttpError
-update_of r peer expected job = do
-  server ← server_of r peer expected
+unfoldable pub update_of : (List ℕ → Option Addr) → Request → Addr → JobId → Result SchedRouted Refusal
+update_of serves r peer job = do
+  server ← server_of serves r peer
   state ← message_in state_at r
   Ok (Update server job state)
 
--- a state of that job, where one is named
-abbrev pub named_of : Request → Addr → List ℕ → Option JobId → Result SchedRouted HttpError
-named_of r peer expected None = Err NoRoute
-named_of r peer expected (Some job) = update_of r peer expected job
+-- the report of a job's state, where the request names one
+unfoldable pub report_of : (List ℕ → Option Addr) → Request → Addr → Result SchedRouted Refusal
+report_of serves r peer = of_job (update_of serves r peer) (Err NoRoute) (state_job r)
 
 -- what the request asks, or why it is refused
-unfoldable pub asked_of : Request → Addr → List ℕ → List ℕ → Result SchedRouted HttpError
-asked_of r peer client expected =
-    if is_at (codes "POST") (codes "/api/v1/scheduler/alloc_job") r then alloc_of r client
-    else if is_at (codes "POST") (codes "/api/v1/scheduler/heartbeat_server") r then beat_of r peer expected
+unfoldable pub asked_of : (List ℕ → Option Addr) → Request → Addr → Option Admission → Result SchedRouted Refusal
+asked_of serves r peer said =
+    if is_at (codes "POST") (codes "/api/v1/scheduler/alloc_job") r then alloc_of r said
+    else if is_at (codes "POST") (codes "/api/v1/scheduler/heartbeat_server") r then beat_of serves r peer
     else if is_at (codes "GET") (codes "/api/v1/scheduler/status") r then Ok Status
-    else named_of r peer expected (job_of r)
+    else report_of serves r peer
 
 -- what is asked, or the reply to the refusal
-abbrev pub answered : Result SchedRouted HttpError → SchedRouted
+abbrev pub answered : Result SchedRouted Refusal → SchedRouted
 answered (Ok asked) = asked
-answered (Err refusal) = Done (reply_of refusal)
+answered (Err refusal) = Done (refusal_response refusal)
 
--- what the request asks, and the form of the reply
+-- what the check of clients says of a request, where that is a function of the token
+abbrev pub said_by : (List ℕ → Admission) → Request → Option Admission
+said_by lets r = option_map lets (client_token r)
+
+-- what a request asks of a scheduler that lets clients in by their tokens, and accepts servers by theirs; and the form of the reply
+abbrev pub question_under : (List ℕ → Admission) → (List ℕ → Option Addr) → Request → Addr → Asked
+question_under lets serves r peer = record { what = answered (asked_of serves r peer (said_by lets r)); json = wants_json r }
+
+-- The request is routed so by a scheduler whose check of clients may give those answers and shows those texts, and becomes
+-- `new`, and which accepts servers by their tokens.
+pub record IsRouted {K : Type 0} (may_answer : K → ℕ → List ℕ → Result ⊤ TokenError → K → Type 0) (shown : K → TokenError → List ℕ) (serves : List ℕ → Option Addr) (r : Request) (peer : Addr) (now : ℕ) (old : K) (routed : SchedRouted) (new : K) : Type 0 where
+  pub said : Option Admission
+  pub admits : Admits may_answer shown (client_token r) now old said new
+  pub routes : routed ≡ answered (asked_of serves r peer said)
+
+-- what a request asks, under one token of all clients and one of all servers
 abbrev pub question_of : Request → Addr → List ℕ → List ℕ → Asked
-question_of r peer client expected = record { what = answered (asked_of r peer client expected); json = wants_json r }
+question_of r peer client expected = question_under (equal_admission client) (plain_server expected) r peer

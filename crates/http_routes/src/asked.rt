@@ -1,16 +1,79 @@
 //! What the bytes that a peer sent ask of the scheduler.
-ghost use Rattle.std.specs.Prelude.{◌≡◌, IfOk, IfErr};
-ghost use Rattle.http_routes.specs.Asked.{IsAsked};
+ghost use Rattle.std.specs.Prelude.{◌≡◌, IfOk, IfErr, OnOk};
+ghost use Rattle.http_routes.specs.Admission.{equal_admission};
+ghost use Rattle.http_routes.specs.Asked.{bad_question, IsAskedOf, IsAskedUnder, IsAsked};
 
 use crate::error::HttpError;
 use crate::head::read_head;
-use crate::refusal::reply_of;
+use crate::refusal::{Refusal, refusal_response};
 use crate::route::{Asked, SchedRouted, scheduler_route, wants_json};
+use dist_token::checks::{ClientAuthCheck, EqCheck, PlainServerCheck, ServerAuthCheck};
 use dist_types::addr::Addr;
 use std::alloc::Global;
 
-/// What the bytes that a peer sent ask of the scheduler, under the tokens of its clients and of its servers;
+/// What is asked by bytes that are no request.
+fn bad_question(alloc: Global) -> Result<Asked, HttpError>
+    ensures ok { IfOk result (λ asked. asked ≡ bad_question) }
+    ensures err { IfErr result (λ e. e ≡ HttpError.Memory) }
+{
+    let reply = refusal_response(alloc, Refusal::BadHead)?;
+    Ok(Asked {
+        what: SchedRouted::Done(reply),
+        json: false,
+    })
+}
+
+/// What the bytes that a peer sent ask of the scheduler at that moment, under its checks of clients and of servers;
 /// bytes that are no request get their reply. Refused for want of memory alone.
+pub fn asked_of_checks<K: ClientAuthCheck, V: ServerAuthCheck>(
+    alloc: Global,
+    bytes: &[u8],
+    peer: Addr,
+    now: u64,
+    client: &mut K,
+    server: &V,
+) -> Result<Asked, HttpError>
+    ensures ok { IfOk result (λ asked. IsAskedOf K.may_answer K.shown (V.server_of server.now)
+        bytes.now peer now client.old asked client.new) }
+    ensures err { IfErr result (λ e. e ≡ HttpError.Memory) }
+{
+    match read_head(alloc, bytes) {
+        Ok(request) => {
+            let json = wants_json(&request);
+            let what = scheduler_route(alloc, &request, peer, now, client, server)?;
+            Ok(Asked { what, json })
+        }
+        Err(HttpError::BadHead) => bad_question(alloc),
+        Err(HttpError::Memory) => Err(HttpError::Memory),
+        Err(HttpError::WrongContentType) => unreachable!(),
+        Err(HttpError::ParseError) => unreachable!(),
+        Err(HttpError::BadRealIp) => unreachable!(),
+        Err(HttpError::NoRoute) => unreachable!(),
+        Err(HttpError::Unauthorised(_)) => unreachable!(),
+        Err(HttpError::Status(_, _)) => unreachable!(),
+    }
+}
+
+/// The same of a scheduler whose clients all have one token. The check stays as it was. Refused for want of memory
+/// alone.
+#[tactic(auto, using(crate::proofs::AskLemmas::asked_equal))]
+pub fn asked_under<V: ServerAuthCheck>(
+    alloc: Global,
+    bytes: &[u8],
+    peer: Addr,
+    client: &mut EqCheck,
+    server: &V,
+) -> Result<Asked, HttpError>
+    ensures ok { IfOk result (IsAskedUnder (equal_admission client.old) (V.server_of server.now) bytes.now peer) }
+    ensures same { OnOk result (client.new ≡ client.old) }
+    ensures err { IfErr result (λ e. e ≡ HttpError.Memory) }
+{
+    let asked = asked_of_checks(alloc, bytes, peer, 0, client, server)?;
+    Ok(asked)
+}
+
+/// What the bytes that a peer sent ask of the scheduler, under one token of all clients and one of all servers; bytes
+/// that are no request get their reply. Refused for want of memory alone.
 pub fn asked(
     alloc: Global,
     bytes: &[u8],
@@ -21,25 +84,8 @@ pub fn asked(
     ensures ok { IfOk result (IsAsked bytes.now peer client_token.now server_token.now) }
     ensures err { IfErr result (λ e. e ≡ HttpError.Memory) }
 {
-    match read_head(alloc, bytes) {
-        Ok(request) => {
-            let json = wants_json(&request);
-            let what = scheduler_route(alloc, &request, peer, client_token, server_token)?;
-            Ok(Asked { what, json })
-        }
-        Err(HttpError::BadHead) => {
-            let reply = reply_of(alloc, HttpError::BadHead)?;
-            Ok(Asked {
-                what: SchedRouted::Done(reply),
-                json: false,
-            })
-        }
-        Err(HttpError::Memory) => Err(HttpError::Memory),
-        Err(HttpError::WrongContentType) => unreachable!(),
-        Err(HttpError::ParseError) => unreachable!(),
-        Err(HttpError::BadRealIp) => unreachable!(),
-        Err(HttpError::NoRoute) => unreachable!(),
-        Err(HttpError::Unauthorised(_)) => unreachable!(),
-        Err(HttpError::Status(_, _)) => unreachable!(),
-    }
+    let mut client = EqCheck::new(String::from_str(alloc, client_token)?);
+    let server = PlainServerCheck::new(String::from_str(alloc, server_token)?);
+    let asked = asked_under(alloc, bytes, peer, &mut client, &server)?;
+    Ok(asked)
 }

@@ -1,6 +1,6 @@
 //! What the reply to a call says.
 ghost use Rattle.std.specs.Prelude.{◌≡◌, IfOk, IfErr, true};
-ghost use Rattle.http_routes.specs.Calls.{told_by, Reads, begun, IsAssigned};
+ghost use Rattle.http_routes.specs.Calls.{told_by, Reads, IsAnswer, begun, IsAssigned};
 ghost use Rattle.http_routes.specs.Steps.{Gives};
 ghost use Rattle.sched_core.specs.Rule.{begins};
 
@@ -8,8 +8,9 @@ use crate::error::{HttpError, of_wire};
 use crate::head::read_reply_head;
 use crate::reply::Reply;
 use dist_types::outgoing::CallFault;
-use dist_types::results::{AssignJobResult, JobState};
+use dist_types::results::AssignJobResult;
 use dist_wire::message::Message;
+use sched_core::texts::begins;
 use std::alloc::Global;
 
 /// The message of a reply.
@@ -38,15 +39,25 @@ pub fn read_reply<M: Message>(alloc: Global, bytes: &[u8]) -> Result<M, HttpErro
     }
 }
 
-/// Whether an assignment may tell that state.
-fn begins(state: JobState) -> bool
-    ensures { result ≡ begins state }
+/// What the reply to a call says: the message; or Status where its status is not 200, Unreadable where the bytes are no
+/// reply or no message begins its body. Refused for want of memory alone.
+pub fn answer<M: Message>(
+    alloc: Global,
+    reply: &[u8],
+) -> Result<Result<M, CallFault>, HttpError>
+    ensures ok { IfOk result (IsAnswer M.at reply.now) }
+    ensures err { IfErr result (λ e. e ≡ HttpError.Memory) }
 {
-    match state {
-        JobState::Pending => true,
-        JobState::Ready => true,
-        JobState::Started => false,
-        JobState::Complete => false,
+    match read_reply(alloc, reply) {
+        Ok(message) => Ok(Ok(message)),
+        Err(HttpError::Memory) => Err(HttpError::Memory),
+        Err(HttpError::ParseError) => Ok(Err(CallFault::Unreadable)),
+        Err(HttpError::Status(code, _)) => Ok(Err(CallFault::Status(code))),
+        Err(HttpError::BadHead) => unreachable!(),
+        Err(HttpError::WrongContentType) => unreachable!(),
+        Err(HttpError::BadRealIp) => unreachable!(),
+        Err(HttpError::NoRoute) => unreachable!(),
+        Err(HttpError::Unauthorised(_)) => unreachable!(),
     }
 }
 

@@ -1,7 +1,7 @@
 //! The faults of a request whose route is known, and the replies that tell them.
-ghost use Rattle.std.specs.Prelude.{◌≡◌, [], ◌∷◌, codes, IfOk, IfErr};
+ghost use Rattle.std.specs.Prelude.{◌≡◌, [], ◌∷◌, IfOk, IfErr};
 ghost use Rattle.http_routes.specs.ErrJson.{texts_of};
-ghost use Rattle.http_routes.specs.Fault.{call_text, fault_texts, fault_response_of, no_room_text, dropped_text};
+ghost use Rattle.http_routes.specs.Fault.{call_text, failure_text, fault_texts, fault_response_of, no_room_text, dropped_text};
 
 use crate::err_json::ErrJson;
 use crate::error::HttpError;
@@ -14,7 +14,7 @@ use sched_core::answers::Undone;
 use std::alloc::Global;
 use std::fmt;
 
-/// Why the scheduler does not do what a request asks of it.
+/// Why the scheduler or a build server does not do what a request asks of it.
 #[derive(Debug, Drop)]
 pub enum RouteFault {
     /// A heartbeat tells so many processors: none, or more than 4294967295.
@@ -29,6 +29,38 @@ pub enum RouteFault {
     IdsSpent,
     /// The server did not take the job: what became of the reservation, and why the call failed.
     AssignFailed(Undone, CallFault),
+    /// The server holds the job already.
+    AlreadyAssigned(JobId),
+    /// The scheduler did not take a report of the job's state: why the call failed.
+    UpdateFailed(CallFault),
+    /// The build gave nothing.
+    BuildFailed(BuildFailure),
+}
+
+/// Why a build gave nothing.
+#[derive(Clone, Copy, Debug, PartialEq, Eq)]
+pub enum BuildFailure {
+    /// The toolchain is not in the server's cache.
+    NotCached,
+    /// The toolchain's archive could not be read.
+    Unreadable,
+    /// The builder refused the build.
+    Refused,
+}
+
+impl fmt::Display for BuildFailure {
+    ghost use Rattle.std.specs.Prelude.{Some};
+    ghost use Rattle.http_routes.specs.Fault.{failure_text};
+
+    ghost output = { λ failure. Some (failure_text failure) };
+
+    fn fmt<W: fmt::Write>(&self, f: &mut fmt::Formatter<W>) -> fmt::Result {
+        match self {
+            BuildFailure::NotCached => write!(f, "toolchain not in cache"),
+            BuildFailure::Unreadable => write!(f, "toolchain unreadable"),
+            BuildFailure::Refused => write!(f, "builder refused"),
+        }
+    }
 }
 
 /// What became of a reservation whose call failed, as a reply tells it.
@@ -97,21 +129,37 @@ impl fmt::Display for RouteFault {
             }
             RouteFault::IdsSpent => write!(f, "No job ids left"),
             RouteFault::AssignFailed(undone, _) => write!(f, "{}", UndoneText(undone)),
+            RouteFault::AlreadyAssigned(job) => write!(f, "Job {job} is already assigned"),
+            RouteFault::UpdateFailed(_) => write!(f, "Updating job state failed"),
+            RouteFault::BuildFailed(_) => write!(f, "run build failed"),
         }
     }
 }
 
-/// What went wrong, in a call that asked a server to take a job.
-fn assign_failed(alloc: Global, text: Text, call: &CallFault) -> Result<ErrJson, HttpError>
-    ensures texts { IfOk result (λ e. texts_of e
-        ≡ text ∷ codes "POST to scheduler assign_job failed" ∷ call_text call.now ∷ []) }
+/// What went wrong, in a call whose request is of that kind.
+fn call_failed(
+    alloc: Global,
+    text: Text,
+    asked: &str,
+    call: &CallFault,
+) -> Result<ErrJson, HttpError>
+    ensures texts { IfOk result (λ e. texts_of e ≡ text ∷ asked.now ∷ call_text call.now ∷ []) }
     ensures memory { IfErr result (λ e. e ≡ HttpError.Memory) }
 {
     let call = CallText(call);
     let why = format!(in alloc; "{call}")?;
-    let asked = Text::of(alloc, "POST to scheduler assign_job failed")?;
+    let asked = Text::of(alloc, asked)?;
     let cause = ErrJson::of(Text::new(why)).under(alloc, asked)?;
     cause.under(alloc, text)
+}
+
+/// What went wrong, in a build.
+fn build_failed(alloc: Global, text: Text, failure: BuildFailure) -> Result<ErrJson, HttpError>
+    ensures texts { IfOk result (λ e. texts_of e ≡ text ∷ failure_text failure ∷ []) }
+    ensures memory { IfErr result (λ e. e ≡ HttpError.Memory) }
+{
+    let why = format!(in alloc; "{failure}")?;
+    ErrJson::of(Text::new(why)).under(alloc, text)
 }
 
 /// What went wrong, and why.
@@ -126,7 +174,14 @@ fn fault_json(alloc: Global, fault: &RouteFault) -> Result<ErrJson, HttpError>
         RouteFault::WrongServer(_, _) => Ok(ErrJson::of(text)),
         RouteFault::BadTransition(_, _) => Ok(ErrJson::of(text)),
         RouteFault::IdsSpent => Ok(ErrJson::of(text)),
-        RouteFault::AssignFailed(_, call) => assign_failed(alloc, text, call),
+        RouteFault::AssignFailed(_, call) => {
+            call_failed(alloc, text, "POST to scheduler assign_job failed", call)
+        }
+        RouteFault::AlreadyAssigned(_) => Ok(ErrJson::of(text)),
+        RouteFault::UpdateFailed(call) => {
+            call_failed(alloc, text, "POST to scheduler job_state failed", call)
+        }
+        RouteFault::BuildFailed(failure) => build_failed(alloc, text, *failure),
     }
 }
 

@@ -1,29 +1,33 @@
-//! HTTP/1.1 (RFC 9112) between the scheduler, its servers and its clients: heads, routes, replies, and the
-//! call that asks a server to take a job.
+//! The routes of the scheduler and of the build servers over HTTP/1.1 (RFC 9112): what requests ask, what they are
+//! replied, and the calls between the two.
 //!
-//! The contract: bytes are one request at most, and `read_head` answers it exactly where they are one;
-//! `asked` answers what the bytes that a peer sent ask of the scheduler, which is one thing, and each
-//! refusal comes exactly where its test says; the bytes of a reply are its text, and its reader sees the
-//! code, the fields and the body that were meant; a reply to a call says one thing. Want of memory is the
-//! one other answer.
+//! The contract: bytes ask one thing at most of the scheduler (`asked_under`) and of a server (`server_asked`), and each
+//! refusal comes exactly where its test says, in the tests' order; the bytes of a reply are its text, and its reader
+//! sees the code, the fields and the body that were meant; a reply to a call says one thing; what is written for a call
+//! is what its route reads. Want of memory is the one other answer.
 //!
-//! The layer above uses `asked`, `Asked`, `SchedRouted`, `respond`, `fault_response`, `Response::bytes`,
-//! `assign_request`, `assigned`, and of the definitions `IsAsked`, `response_of`, `fault_response_of`,
-//! `reply_text`, `assign_request_text` and `IsAssigned`.
+//! The layer above uses `scheduler_route`, `asked_of_checks`, `asked_under`, `server_route`, `server_asked`, the replies
+//! of `replies`, `Response::bytes`, the requests of `written`, `assigned` and `answer`; and of the definitions
+//! `IsAskedUnder`, `IsRouted`, `IsServerAsked`, those of `Replies`, `fault_response_of`, `reply_text`, `IsAssigned` and
+//! `IsAnswer`.
 #![tactic(auto)]
 
+pub mod admission;
 pub mod asked;
-mod bearer;
 pub mod calls;
 pub mod err_json;
 pub mod error;
 pub mod fault;
-pub mod laws;
+
 mod message;
+mod place;
 pub mod refusal;
+pub mod replies;
 pub mod reply;
 pub mod route;
+mod run_head;
 mod sender;
+pub mod server_route;
 pub mod written;
 
 pub use http_head::{head, request};

@@ -1,14 +1,18 @@
 //! The routes of the scheduler: what a request asks of it.
-ghost use Rattle.std.specs.Prelude.{◌≡◌, IfOk, IfErr, option_copied};
-ghost use Rattle.http_routes.specs.Route.{is_at, stripped, job_in, job_of, wants_json, alloc_of, beat_of, update_of, asked_of, answered};
-ghost use Rattle.http_routes.specs.Steps.{Gives};
+ghost use Rattle.std.specs.Prelude.{◌≡◌, IfOk, IfErr};
+ghost use Rattle.http_routes.specs.Admission.{client_token, MayBeAsked};
+ghost use Rattle.http_routes.specs.Route.{wants_json, alloc_of, beat_of, update_of, report_of, asked_of, answered, IsRouted};
+ghost use Rattle.http_routes.specs.Steps.{Decides};
 
+use crate::admission::{Admission, said_of};
 use crate::error::HttpError;
 use crate::message::message_in;
-use crate::refusal::reply_of;
+use crate::place::{is_at, state_job};
+use crate::refusal::{Refusal, Unrouted, refusal_response};
 use crate::reply::Response;
 use crate::request::Request;
 use crate::sender::{client_test, server_of};
+use dist_token::checks::{ClientAuthCheck, ServerAuthCheck};
 use dist_types::addr::Addr;
 use dist_types::ids::{JobId, ServerId};
 use dist_types::results::JobState;
@@ -40,45 +44,6 @@ pub struct Asked {
     pub json: bool,
 }
 
-#[tactic(auto, unfolding(crate::specs::Route::is_at))]
-fn is_at(request: &Request, method: &str, path: &str) -> bool
-    ensures { result ≡ is_at method.now path.now request.now }
-{
-    if request.method.get() != method {
-        return false;
-    }
-    request.path() == path
-}
-
-/// What follows the front, where the text begins with it.
-#[tactic(auto, using(crate::proofs::PlaceLemmas::strips))]
-fn stripped<'a>(front: &str, text: &'a str) -> Option<&'a str>
-    ensures { option_copied result ≡ stripped front.now text.now }
-{
-    text.strip_prefix(front)
-}
-
-fn job_in(text: &str) -> Option<JobId>
-    ensures { result ≡ job_in text.now }
-{
-    match text.parse() {
-        Ok(job) => Some(job),
-        Err(_) => None,
-    }
-}
-
-/// The job whose state a request tells.
-#[tactic(auto, unfolding(crate::specs::Route::job_of))]
-fn job_of(request: &Request) -> Option<JobId>
-    ensures { result ≡ job_of request.now }
-{
-    if request.method.get() != "POST" {
-        return None;
-    }
-    let id = stripped("/api/v1/scheduler/job_state/", request.path())?;
-    job_in(id)
-}
-
 /// Whether a request asks for a reply in JSON: its Accept is exactly `application/json`.
 #[tactic(auto, unfolding(crate::specs::Route::wants_json))]
 pub fn wants_json(request: &Request) -> bool
@@ -90,93 +55,129 @@ pub fn wants_json(request: &Request) -> bool
     }
 }
 
-/// A request for a job: it shows the clients' token, and its body begins with a toolchain.
+/// A request for a job: its client is let in, and its body begins with a toolchain.
 #[tactic(auto, unfolding(crate::specs::Route::alloc_of))]
-fn alloc_of(alloc: Global, request: &Request, client_token: &str) -> Result<SchedRouted, HttpError>
-    ensures { Gives (alloc_of request.now client_token.now) result }
+fn alloc_of(
+    alloc: Global,
+    request: &Request,
+    said: Option<Admission>,
+) -> Result<SchedRouted, Unrouted>
+    ensures { Decides (alloc_of request.now said) result }
 {
-    client_test(request, client_token)?;
+    client_test(said)?;
     let tc = message_in(alloc, request)?;
     Ok(SchedRouted::Alloc(tc))
 }
 
 /// A heartbeat, and its server.
 #[tactic(auto, unfolding(crate::specs::Route::beat_of))]
-fn beat_of(
+fn beat_of<V: ServerAuthCheck>(
     alloc: Global,
     request: &Request,
     peer: Addr,
-    server_token: &str,
-) -> Result<SchedRouted, HttpError>
-    ensures { Gives (beat_of request.now peer server_token.now) result }
+    check: &V,
+) -> Result<SchedRouted, Unrouted>
+    ensures { Decides (beat_of (V.server_of check.now) request.now peer) result }
 {
-    let server = server_of(request, peer, server_token)?;
+    let server = server_of(request, peer, check)?;
     let beat = message_in(alloc, request)?;
     Ok(SchedRouted::Beat(ServerId::new(server), beat))
 }
 
 /// A state of that job, and the server that tells it.
 #[tactic(auto, unfolding(crate::specs::Route::update_of))]
-fn update_of(
+fn update_of<V: ServerAuthCheck>(
     alloc: Global,
     request: &Request,
     peer: Addr,
-    server_token: &str,
+    check: &V,
     job: JobId,
-) -> Result<SchedRouted, HttpError>
-    ensures { Gives (update_of request.now peer server_token.now job) result }
+) -> Result<SchedRouted, Unrouted>
+    ensures { Decides (update_of (V.server_of check.now) request.now peer job) result }
 {
-    let server = server_of(request, peer, server_token)?;
+    let server = server_of(request, peer, check)?;
     let state = message_in(alloc, request)?;
     Ok(SchedRouted::Update(ServerId::new(server), job, state))
 }
 
-/// What a request asks, or why it is refused.
-#[tactic(auto, unfolding(crate::specs::Route::asked_of))]
-fn asked_of(
+/// The report of a job's state, where the request names one.
+#[tactic(auto, unfolding(crate::specs::Route::report_of))]
+fn report_of<V: ServerAuthCheck>(
     alloc: Global,
     request: &Request,
     peer: Addr,
-    client_token: &str,
-    server_token: &str,
-) -> Result<SchedRouted, HttpError>
-    ensures { Gives (asked_of request.now peer client_token.now server_token.now) result }
+    check: &V,
+) -> Result<SchedRouted, Unrouted>
+    ensures { Decides (report_of (V.server_of check.now) request.now peer) result }
+{
+    match state_job(request) {
+        Some(job) => update_of(alloc, request, peer, check, job),
+        None => Err(Unrouted::Refused(Refusal::NoRoute)),
+    }
+}
+
+/// What a request asks, of whose token the check of clients says that; or why it is refused.
+#[tactic(auto, unfolding(crate::specs::Route::asked_of))]
+fn asked_of<V: ServerAuthCheck>(
+    alloc: Global,
+    request: &Request,
+    peer: Addr,
+    said: Option<Admission>,
+    check: &V,
+) -> Result<SchedRouted, Unrouted>
+    ensures { Decides (asked_of (V.server_of check.now) request.now peer said) result }
 {
     if is_at(request, "POST", "/api/v1/scheduler/alloc_job") {
-        return alloc_of(alloc, request, client_token);
+        return alloc_of(alloc, request, said);
     }
     if is_at(request, "POST", "/api/v1/scheduler/heartbeat_server") {
-        return beat_of(alloc, request, peer, server_token);
+        return beat_of(alloc, request, peer, check);
     }
     if is_at(request, "GET", "/api/v1/scheduler/status") {
         return Ok(SchedRouted::Status);
     }
-    match job_of(request) {
-        Some(job) => update_of(alloc, request, peer, server_token, job),
-        None => Err(HttpError::NoRoute),
-    }
+    report_of(alloc, request, peer, check)
 }
 
-/// What a request of that peer asks of the scheduler, under the tokens of its clients and of its servers;
-/// a request that is refused gets its reply. Refused for want of memory alone.
-#[tactic(auto, using(crate::proofs::AtOnceLemmas::refusal_told))]
-pub fn scheduler_route(
+/// What a request asks, or the reply to its refusal.
+fn routed<V: ServerAuthCheck>(
     alloc: Global,
     request: &Request,
     peer: Addr,
-    client_token: &str,
-    server_token: &str,
+    said: Option<Admission>,
+    check: &V,
 ) -> Result<SchedRouted, HttpError>
     ensures ok { IfOk result (λ routed. routed
-        ≡ answered (asked_of request.now peer client_token.now server_token.now)) }
+        ≡ answered (asked_of (V.server_of check.now) request.now peer said)) }
     ensures err { IfErr result (λ e. e ≡ HttpError.Memory) }
 {
-    match asked_of(alloc, request, peer, client_token, server_token) {
+    match asked_of(alloc, request, peer, said, check) {
         Ok(routed) => Ok(routed),
-        Err(HttpError::Memory) => Err(HttpError::Memory),
-        Err(refusal) => {
-            let reply = reply_of(alloc, refusal)?;
+        Err(Unrouted::Refused(refusal)) => {
+            let reply = refusal_response(alloc, refusal)?;
             Ok(SchedRouted::Done(reply))
         }
+        Err(Unrouted::Memory) => Err(HttpError::Memory),
     }
+}
+
+/// What a request of that peer asks of the scheduler at that moment, under its checks of clients and of servers; a
+/// request that is refused gets its reply. The check of clients is asked once, where a request for a job shows a token,
+/// and else stays as it was. Refused for want of memory alone.
+pub fn scheduler_route<K: ClientAuthCheck, V: ServerAuthCheck>(
+    alloc: Global,
+    request: &Request,
+    peer: Addr,
+    now: u64,
+    client: &mut K,
+    server: &V,
+) -> Result<SchedRouted, HttpError>
+    ensures ok { IfOk result (λ routed. IsRouted K.may_answer K.shown (V.server_of server.now)
+        request.now peer now client.old routed client.new) }
+    ensures err { IfErr result (λ e. e ≡ HttpError.Memory) }
+    ensures left { MayBeAsked K.may_answer (client_token request.now) now client.old client.new }
+{
+    let said = said_of(alloc, request, now, client)?;
+    let routed = routed(alloc, request, peer, said, server)?;
+    Ok(routed)
 }

@@ -1,4 +1,4 @@
-use Rattle.http_routes.proofs.refusal.parse_error.Goals as goal
+use Rattle.http_routes.proofs.refusal.no_message.Goals as goal
 
 pub returns-clause-ok : goal.returns-clause-ok
 returns-clause-ok c =

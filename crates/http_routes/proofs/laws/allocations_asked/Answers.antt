@@ -1,5 +1,0 @@
-use Rattle.http_routes.proofs.RouteLemmas.{allocations_asked}
-use Rattle.http_routes.proofs.laws.allocations_asked.Goals as goal
-
-pub returns : goal.returns
-returns c = allocations_asked

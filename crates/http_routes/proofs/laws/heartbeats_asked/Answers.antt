@@ -1,5 +1,0 @@
-use Rattle.http_routes.proofs.RouteLemmas.{heartbeats_asked}
-use Rattle.http_routes.proofs.laws.heartbeats_asked.Goals as goal
-
-pub returns : goal.returns
-returns c = heartbeats_asked

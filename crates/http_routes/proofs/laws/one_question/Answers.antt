@@ -1,5 +1,0 @@
-use Rattle.http_routes.proofs.HeadLemmas.{one_question}
-use Rattle.http_routes.proofs.laws.one_question.Goals as goal
-
-pub returns : goal.returns
-returns c = one_question

@@ -1,5 +1,0 @@
-use Rattle.http_routes.proofs.RouteLemmas.{updates_asked}
-use Rattle.http_routes.proofs.laws.updates_asked.Goals as goal
-
-pub returns : goal.returns
-returns c = updates_asked
