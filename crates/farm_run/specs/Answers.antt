@@ -8,7 +8,8 @@ use Rattle.dist_types.specs.declared.results.JobState.{JobState}
 use Rattle.dist_types.specs.declared.results.UpdateJobStateResult.TheVariants.{Success}
 use Rattle.dist_wire.specs.declared.heartbeat.HeartbeatServerHttpRequest.{HeartbeatServerHttpRequest}
 use Rattle.http_routes.specs.Asked.{IsAsked}
-use Rattle.http_routes.specs.Fault.{fault_response_of, no_room_text}
+use Rattle.http_routes.specs.Fault.{fault_response_of}
+use Rattle.sched_core.specs.Texts.{no_room_text}
 use Rattle.http_routes.specs.Written.{assign_request_text}
 use Rattle.http_routes.specs.declared.fault.RouteFault.TheVariants as fault
 use Rattle.http_routes.specs.declared.reply.Response.{Response}
@@ -29,7 +30,7 @@ use Rattle.farm_script.specs.declared.setup.Setup.{Setup}
 use Rattle.farm_run.specs.declared.entry.Effect.{Effect}
 use Rattle.farm_run.specs.declared.entry.OutCall.{OutCall}
 use Rattle.farm_run.specs.Effects.{reply_effect, call_effect, reply_to}
-use Rattle.farm_run.specs.Replies.{heard_response, status_response, alloc_response, update_response}
+use Rattle.http_routes.specs.Replies.{heard_response, status_response, alloc_response, update_response, update_reply}
 use Rattle.farm_run.specs.Seen.{token_of}
 use Rattle.farm_run.specs.Tickets.{ticket_by}
 
@@ -47,13 +48,6 @@ heard core number at json server beat =
     let made = rule core (call.Beat at server beat.server_nonce beat.num_cpus beat.jwt_key) in
     if hears beat.num_cpus then reply_effect (Some made) (reply_to number (heard_response json (record { is_new = says_new_entry made })))
     else reply_effect None (reply_to number (fault_response_of (fault.BadCpus beat.num_cpus)))
-
--- the reply to an update
-abbrev pub update_reply : Bool → UpdateAnswer → Addr → JobId → JobState → Response
-update_reply json Accepted server job state = update_response json Success
-update_reply json Unknown server job state = fault_response_of fault.UnknownJob
-update_reply json Wrong server job state = fault_response_of (fault.WrongServer job server)
-update_reply json (Transition from) server job state = fault_response_of (fault.BadTransition from state)
 
 -- the answer of an update's entry
 abbrev pub update_by : CoreKind → UpdateAnswer

@@ -1,5 +1,6 @@
 -- What an event did, and the entry that says so.
 use Rattle.std.specs.Prelude.{ℕ, Option, Some, None}
+use Rattle.dist_types.specs.declared.addr.Addr.{Addr}
 use Rattle.http_routes.specs.Reply.{reply_text}
 use Rattle.http_routes.specs.declared.reply.Response.{Response}
 use Rattle.sched_core.specs.declared.entry.CoreEntry.{CoreEntry}
@@ -10,6 +11,8 @@ use Rattle.farm_run.specs.declared.entry.EntryWord.{EntryWord}
 use Rattle.farm_run.specs.declared.entry.EntryWord.TheVariants.{Waiting}
 use Rattle.farm_run.specs.declared.entry.OutCall.{OutCall}
 use Rattle.farm_run.specs.declared.entry.Reply.{Reply}
+use Rattle.farm_run.specs.declared.entry.Step.{Step}
+use Rattle.farm_run.specs.declared.entry.StepKind.{StepKind}
 
 -- a word alone
 abbrev pub word_effect : EntryWord → Effect
@@ -22,6 +25,18 @@ reply_effect core reply = record { core = core; step = None; call = None; reply 
 -- a call, whose settlement is waited for
 abbrev pub call_effect : Option CoreEntry → Option OutCall → Effect
 call_effect core call = record { core = core; step = None; call = call; reply = None; word = Some Waiting }
+
+-- a step of the server at that address alone
+abbrev pub step_effect : Addr → StepKind → Effect
+step_effect addr kind = record { core = None; step = Some (record { server = addr; kind = kind }); call = None; reply = None; word = None }
+
+-- a step of it, and a reply
+abbrev pub step_reply_effect : Addr → StepKind → Reply → Effect
+step_reply_effect addr kind reply = record { core = None; step = Some (record { server = addr; kind = kind }); call = None; reply = Some reply; word = None }
+
+-- a step of it, and a call, whose settlement is waited for
+abbrev pub step_call_effect : Addr → StepKind → OutCall → Effect
+step_call_effect addr kind call = record { core = None; step = Some (record { server = addr; kind = kind }); call = Some call; reply = None; word = Some Waiting }
 
 -- the entry of an event that did this
 abbrev pub entry_of : Event → Effect → Entry

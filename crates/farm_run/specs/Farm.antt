@@ -18,11 +18,13 @@ use Rattle.farm_run.specs.declared.entry.Effect.{Effect}
 use Rattle.farm_run.specs.declared.entry.Entry.{Entry}
 use Rattle.farm_run.specs.declared.pending.Made.{Made}
 use Rattle.farm_run.specs.declared.pending.Pending.{Pending}
-use Rattle.farm_run.specs.Begun.{IsCallOf, IsBegunBy, Keeps}
+use Rattle.farm_run.specs.declared.station.Station.{Station}
+use Rattle.farm_run.specs.Begun.{IsCallOf, IsBegunBy, IsMadeBy, Keeps}
 use Rattle.farm_run.specs.Calls.{waiting_at}
 use Rattle.farm_run.specs.Effects.{entry_of}
 use Rattle.farm_run.specs.Next.{IsServed, IsMade, IsNext, EachNext}
 use Rattle.farm_run.specs.Seen.{core_log, core_of}
+use Rattle.farm_run.specs.Stations.{AreStations, HasApart}
 use Rattle.farm_run.specs.Tickets.{ticket_at}
 use Rattle.farm_run.specs.Ways.{Way}
 
@@ -69,9 +71,10 @@ pub record IsReceived (setup : Setup) (core : Core) (number at : ℕ) (way : Way
   pub kept : Keeps (IsBegunBy setup core.log number way m.effect) m.effect m.pending
 
 -- what an event made: what is made of what it comes to, and what is kept after it
-pub record IsMadeSo (setup : Setup) (log : List Entry) (event : Event) (way : Way) (ps : List (Option Pending)) (m : Made) : Type 0 where
+pub record IsMadeSo (setup : Setup) (log : List Entry) (event : Event) (way : Way) (ps : List (Option Pending)) (sts : List Station) (m : Made) : Type 0 where
   pub made : IsMade setup log event.at way m.effect
   pub after : IsAfter setup log (entry_of event m.effect) ps m.pending
+  pub stations : AreStations setup.servers (log ++ entry_of event m.effect ∷ []) sts
 
 -- ---- the desk
 
@@ -111,13 +114,15 @@ HasNext setup log = (event : Event) → ((e : Entry) → IsNext setup log event 
 
 -- ---- farms
 
--- what the scheduler has seen is the core log of the entries, and what is kept of the calls that wait is theirs
-pub record IsFarm (setup : Setup) (core : Core) (entries : List Entry) (ps : List (Option Pending)) : Type 0 where
+-- what the scheduler has seen is the core log of the entries, its servers stand as the entries tell, and what is kept of the calls that wait is theirs
+pub record IsFarm (setup : Setup) (core : Core) (entries : List Entry) (ps : List (Option Pending)) (sts : List Station) : Type 0 where
   pub plain : IsPlain setup.scheduler.auth
   pub fits : setup.scheduler.count < 2 ^ 64
+  pub apart : HasApart setup
   pub core_is : core ≡ core_of setup entries
   pub sound : IsSound setup entries
   pub kept : AreKept setup entries ps
+  pub stations : AreStations setup.servers entries sts
 
 -- one entry more, which is next
 abbrev pub AddsNext : Setup → List Entry → Event → List Entry → Type 0

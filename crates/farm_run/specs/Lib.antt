@@ -5,10 +5,12 @@ pub mod Effects
 pub mod Farm
 pub mod Next
 pub mod Printed
-pub mod Replies
 pub mod RunText
 pub mod Seen
+pub mod Served
+pub mod Servers
 pub mod Settled
+pub mod Stations
 pub mod Tickets
 pub mod Ways
 pub use Rattle.farm_script.specs.Built

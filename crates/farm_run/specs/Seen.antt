@@ -1,6 +1,9 @@
 -- What the scheduler of a farm has seen.
 use Rattle.std.specs.Prelude.{List, []}
 use Rattle.std.specs.List.{filter_map}
+use Rattle.dist_types.specs.Addr.{addr_text}
+use Rattle.dist_types.specs.declared.addr.Addr.{Addr}
+use Rattle.dist_token.specs.Token.{plain_text}
 use Rattle.sched_core.specs.Log.{Core}
 use Rattle.sched_core.specs.declared.entry.CoreEntry.{CoreEntry}
 use Rattle.farm_script.specs.declared.setup.Setup.{Setup}
@@ -21,3 +24,7 @@ core_of setup log = record { base = setup.scheduler.base; count = setup.schedule
 abbrev pub token_of : SetupAuth → List ℕ
 token_of (Plain token) = token
 token_of (Jwt key) = []
+
+-- the token that the server at an address shows
+abbrev pub server_token : Setup → Addr → List ℕ
+server_token setup addr = plain_text (addr_text addr) (token_of setup.scheduler.auth)

@@ -1,9 +1,12 @@
 //! What an event did.
 ghost use Rattle.std.specs.Prelude.{◌≡◌, Some};
-ghost use Rattle.farm_run.specs.Effects.{word_effect, reply_effect, call_effect, entry_of};
+ghost use Rattle.farm_run.specs.Effects.{word_effect, reply_effect, call_effect, step_effect, step_reply_effect, step_call_effect, entry_of};
 
+use build_server::run::Ran;
+use build_server::submit::Submitted;
 use dist_types::addr::Addr;
 use dist_types::ids::JobId;
+use dist_types::results::BuildResult;
 use dist_types::text::{Bytes, Items};
 use dist_types::toolchain::Toolchain;
 use farm_script::event::Event;
@@ -20,7 +23,7 @@ pub enum HeardAs {
     Lost,
 }
 
-/// What a build server did. What became of a submit and of a run comes with the build servers.
+/// What a build server did.
 #[derive(Debug, Drop)]
 pub enum StepKind {
     /// Its heartbeat was settled.
@@ -30,6 +33,17 @@ pub enum StepKind {
         job: JobId,
         tc: Toolchain,
         ready: bool,
+    },
+    /// A toolchain's archive was submitted under a job.
+    Submitted {
+        job: JobId,
+        outcome: Submitted,
+    },
+    /// A job was run. The result stands exactly where it was built.
+    Ran {
+        job: JobId,
+        ran: Ran,
+        result: Option<BuildResult>,
     },
     /// A build was reported as complete.
     Finished {
@@ -123,6 +137,45 @@ impl Effect {
             call: None,
             reply: Some(reply),
             word: None,
+        }
+    }
+
+    /// A step of the server at that address alone.
+    pub(crate) fn of_step(server: Addr, kind: StepKind) -> Self
+        ensures { result ≡ step_effect server kind }
+    {
+        Effect {
+            core: None,
+            step: Some(Step { server, kind }),
+            call: None,
+            reply: None,
+            word: None,
+        }
+    }
+
+    /// A step of it, and a reply.
+    pub(crate) fn of_step_reply(server: Addr, kind: StepKind, reply: Reply) -> Self
+        ensures { result ≡ step_reply_effect server kind reply }
+    {
+        Effect {
+            core: None,
+            step: Some(Step { server, kind }),
+            call: None,
+            reply: Some(reply),
+            word: None,
+        }
+    }
+
+    /// A step of it, and a call, whose settlement is waited for.
+    pub(crate) fn of_step_call(server: Addr, kind: StepKind, call: OutCall) -> Self
+        ensures { result ≡ step_call_effect server kind call }
+    {
+        Effect {
+            core: None,
+            step: Some(Step { server, kind }),
+            call: Some(call),
+            reply: None,
+            word: Some(EntryWord::Waiting),
         }
     }
 

@@ -3,22 +3,49 @@ ghost use Rattle.std.specs.Prelude.{◌≡◌, None, set};
 ghost use Rattle.farm_run.specs.Farm.{kept_at};
 
 use crate::entry::Effect;
+use build_server::run::RunDone;
 use dist_token::job_token::JWTJobAuthorizer;
+use dist_types::addr::Addr;
+use dist_types::ids::JobId;
+use dist_types::outgoing::CallFault;
+use dist_wire::run::RunJobHttpRequest;
 use sched_core::reservation::Reservation;
 use sched_core::state::SchedState;
 
-/// Who made a call.
-#[derive(Clone, Copy, Debug, PartialEq, Eq)]
-pub enum Asker {
-    /// The scheduler, who lives as long as the script.
-    Scheduler,
+/// What a build server tells the scheduler, with what is kept to go on with.
+#[derive(Debug)]
+pub enum Told {
+    /// That a job is ready: its archive begins at that place of the bytes that were brought.
+    Ready {
+        job: JobId,
+        archive: usize,
+    },
+    /// That a job is started, which is to be run so; its inputs begin at that place.
+    Started {
+        job: JobId,
+        run: RunJobHttpRequest,
+        inputs: usize,
+    },
+    /// That a job is complete, which went so.
+    Complete {
+        job: JobId,
+        done: RunDone,
+    },
+    /// That it is alive.
+    Heartbeat,
 }
 
 /// What a call asks, with what is kept to go on with.
 #[derive(Debug)]
 pub enum Ask {
-    /// That a server takes the job of a reservation.
+    /// The scheduler asks that a server takes the job of a reservation.
     Assign(Reservation),
+    /// The server at that address tells the scheduler something, in that life of its.
+    Report {
+        server: Addr,
+        life: u64,
+        told: Told,
+    },
 }
 
 /// What is kept of a call that waits.
@@ -26,7 +53,6 @@ pub enum Ask {
 pub struct Pending {
     /// The number of the entry that is replied to when the call is settled.
     pub root: u64,
-    pub asker: Asker,
     /// Whether that reply is wanted in JSON.
     pub json: bool,
     pub ask: Ask,
@@ -62,14 +88,29 @@ pub fn take_at(kept: &mut Vec<Option<Pending>>, place: u64) -> Option<Pending>
     }
 }
 
-/// Undoes what is kept of a call, on the state that reserved it.
+/// Lets go what a build server kept.
+pub fn drop_told(told: Told) {
+    match told {
+        Told::Ready { job: _, archive: _ } => {}
+        Told::Started {
+            job: _,
+            run: _,
+            inputs: _,
+        } => {}
+        Told::Complete { job: _, done } => {
+            let _ = done.end_run(Err(CallFault::Lost));
+        }
+        Told::Heartbeat => {}
+    }
+}
+
+/// Lets go what is kept of a call; a reservation is undone, on the state that made it.
 pub fn undo_last(state: &mut SchedState<JWTJobAuthorizer>, last: Option<Pending>) {
     match last {
         None => {}
         Some(pending) => {
             let Pending {
                 root: _,
-                asker: _,
                 json: _,
                 ask,
             } = pending;
@@ -77,6 +118,11 @@ pub fn undo_last(state: &mut SchedState<JWTJobAuthorizer>, last: Option<Pending>
                 Ask::Assign(reservation) => {
                     state.undo(0, reservation);
                 }
+                Ask::Report {
+                    server: _,
+                    life: _,
+                    told,
+                } => drop_told(told),
             }
         }
     }

@@ -1,0 +1,271 @@
+//! What follows the settlement of a build server's calls.
+ghost use Rattle.std.specs.Prelude.{◌≡◌, ◌≢◌, Some, None, Ok, Err, Result, drop, slice_get, IfOk, IfErr, OnOk, option_copied};
+ghost use Rattle.build_server.specs.Books.{held_for};
+ghost use Rattle.build_server.specs.Rules.{submit_verdict};
+ghost use Rattle.build_server.specs.Builds.{ran_of, built_of, outcome_by};
+ghost use Rattle.build_server.specs.declared.submit.Submitted.TheVariants as submitted;
+ghost use Rattle.build_server.specs.declared.run.Ran.TheVariants as ran;
+ghost use Rattle.dist_types.specs.declared.outgoing.CallFault.{CallFault as Cause};
+ghost use Rattle.dist_types.specs.declared.results.UpdateJobStateResult.{UpdateJobStateResult as Accepted};
+ghost use Rattle.dist_types.specs.declared.results.HeartbeatServerResult.{HeartbeatServerResult as Heard};
+ghost use Rattle.farm_script.specs.Built.{IsPlain};
+ghost use Rattle.farm_run.specs.Begun.{Keeps, completion_at};
+ghost use Rattle.farm_run.specs.Effects.{step_effect};
+ghost use Rattle.farm_run.specs.Served.{books_of, build_answer, run_outcome};
+ghost use Rattle.farm_run.specs.Servers.{stepped};
+ghost use Rattle.farm_run.specs.Settled.{IsUpdated, IsHeard, unreported, submission, running, ready_end, started_end, complete_end, heard_as, failure_of, ended_response, Reports};
+ghost use Rattle.farm_run.specs.Stations.{now_of, IsWell};
+ghost use Rattle.farm_script.specs.declared.fault.FarmFault.TheVariants as fault;
+
+use crate::builder::{build_answer, copy_result};
+use crate::desk::Desk;
+use crate::entry::{Effect, HeardAs, StepKind};
+use crate::pending::{Ask, Made, Pending, Told};
+use crate::serve::reply;
+use crate::servers::state_call;
+use crate::station::Station;
+use build_server::fault::{BuildCause, ServerFault};
+use build_server::run::{Ran, RunDone, RunHeld};
+use build_server::submit::Submitted;
+use dist_types::addr::Addr;
+use dist_types::ids::JobId;
+use dist_types::outgoing::CallFault;
+use dist_types::results::{
+    HeartbeatServerResult, JobState, RunJobResult, UpdateJobStateResult,
+};
+use dist_wire::run::RunJobHttpRequest;
+use farm_script::fault::FarmFault;
+use farm_script::setup::SetupServer;
+use http_routes::calls::answer;
+use http_routes::fault::{BuildFailure, RouteFault};
+use http_routes::replies::{to_fault, to_run, to_submission, want_of_memory};
+use http_routes::reply::Response;
+use std::alloc::Global;
+
+/// A call that comes back: the entry that is replied to and in which form, what the event of that entry
+/// brought, and the call's reply, or none where it is lost.
+#[derive(Debug, Drop)]
+pub struct Back<'a> {
+    pub root: u64,
+    pub json: bool,
+    pub brought: &'a [u8],
+    pub reply: Option<&'a [u8]>,
+}
+
+/// What the reply to a report says.
+fn updated(
+    alloc: Global,
+    reply: Option<&[u8]>,
+) -> Result<Result<UpdateJobStateResult, CallFault>, FarmFault>
+    ensures ok { IfOk result (IsUpdated (option_copied reply.entry)) }
+    ensures err { IfErr result (λ e. e ≡ fault.Memory) }
+{
+    match reply {
+        None => Ok(Err(CallFault::Lost)),
+        Some(bytes) => match answer(alloc, bytes) {
+            Ok(told) => Ok(told),
+            Err(error) => Err(FarmFault::from(want_of_memory(error))),
+        },
+    }
+}
+
+/// What the reply to a heartbeat says.
+fn heard(
+    alloc: Global,
+    reply: Option<&[u8]>,
+) -> Result<Result<HeartbeatServerResult, CallFault>, FarmFault>
+    ensures ok { IfOk result (IsHeard (option_copied reply.entry)) }
+    ensures err { IfErr result (λ e. e ≡ fault.Memory) }
+{
+    match reply {
+        None => Ok(Err(CallFault::Lost)),
+        Some(bytes) => match answer(alloc, bytes) {
+            Ok(told) => Ok(told),
+            Err(error) => Err(FarmFault::from(want_of_memory(error))),
+        },
+    }
+}
+
+/// A report that was not accepted.
+fn unreported(
+    alloc: Global,
+    addr: Addr,
+    root: u64,
+    job: JobId,
+    cause: CallFault,
+) -> Result<Effect, FarmFault>
+    ensures ok { IfOk result (λ x. x ≡ unreported addr root job cause) }
+    ensures err { IfErr result (λ e. e ≡ fault.Memory) }
+{
+    let response = to_fault(alloc, &RouteFault::UpdateFailed(cause))?;
+    let reply = reply(alloc, root, &response)?;
+    Ok(Effect::of_step_reply(
+        addr,
+        StepKind::Unreported { job },
+        reply,
+    ))
+}
+
+/// An outcome that is no failing folder: a folder in memory that fails is told as want of memory.
+fn sound(outcome: Submitted) -> Result<Submitted, FarmFault>
+    ensures same { IfOk result (λ o. o ≡ outcome) }
+    ensures verdict { IfOk result (λ o. (gone : List (List ℕ)) → o ≢ submitted.Folder gone) }
+    ensures err { IfErr result (λ e. e ≡ fault.Memory) }
+{
+    match outcome {
+        Submitted::None => Ok(Submitted::None),
+        Submitted::Listed => Ok(Submitted::Listed),
+        Submitted::Stored(size, dropped) => Ok(Submitted::Stored(size, dropped)),
+        Submitted::Digest => Ok(Submitted::Digest),
+        Submitted::Capacity => Ok(Submitted::Capacity),
+        Submitted::Folder(_) => Err(FarmFault::Memory),
+    }
+}
+
+/// Submits an archive under a job, after Ready was accepted.
+fn store(
+    server: &SetupServer,
+    station: &mut Station,
+    job: JobId,
+    archive: &[u8],
+    accepted: UpdateJobStateResult,
+) -> Result<Submitted, FarmFault>
+    requires well { IsWell server.now station.old }
+    ensures ok { IfOk result (λ o. o ≡ submit_verdict (books_of (now_of server.now station.old)) (held_for job station.old.state.held) archive.now) }
+    ensures after { IfOk result (λ o. now_of server.now station.new ≡ stepped (Some (record { server = server.now.addr; kind = StepKind.Submitted job o })) (now_of server.now station.old)) }
+    ensures still_well { OnOk result (IsWell server.now station.new) }
+    ensures err { IfErr result (λ e. e ≡ fault.Memory) }
+{
+    let _server = server.capacity;
+    let submit = station.state.begin_submit(job);
+    match station.state.end_submit(submit, Ok(accepted), archive) {
+        Ok(outcome) => {
+            let outcome = sound(outcome)?;
+            Ok(outcome)
+        }
+        Err(_) => Err(FarmFault::Memory),
+    }
+}
+
+/// Goes on with a submission, by what the scheduler answered to Ready.
+fn end_ready(
+    alloc: Global,
+    server: &SetupServer,
+    station: &mut Station,
+    back: &Back<'_>,
+    job: JobId,
+    archive: usize,
+) -> Result<Effect, FarmFault>
+    requires well { IsWell server.now station.old }
+    ensures made { IfOk result (λ x. (r : Result Accepted Cause) × IsUpdated (option_copied back.now.reply) r
+        × (x ≡ ready_end (now_of server.now station.old) back.now.root back.now.json job (drop archive back.now.brought.now) r)) }
+    ensures silent { IfOk result (λ x. x.call ≡ None) }
+    ensures after { IfOk result (λ x. now_of server.now station.new ≡ stepped x.step (now_of server.now station.old)) }
+    ensures still_well { OnOk result (IsWell server.now station.new) }
+    ensures err { IfErr result (λ e. e ≡ fault.Memory) }
+{
+    let told = updated(alloc, back.reply)?;
+    match told {
+        Err(cause) => {
+            let effect = unreported(alloc, server.addr, back.root, job, cause)?;
+            Ok(effect)
+        }
+        Ok(accepted) => {
+            let bytes = behind(back.brought, archive);
+            let outcome = store(server, station, job, bytes, accepted)?;
+            let response = to_submission(alloc, back.json, &outcome.result())?;
+            let reply = reply(alloc, back.root, &response)?;
+            let kind = StepKind::Submitted { job, outcome };
+            Ok(Effect::of_step_reply(server.addr, kind, reply))
+        }
+    }
+}
+
+/// What stands behind a place.
+fn behind(bytes: &[u8], place: usize) -> &[u8]
+    ensures { result.now ≡ drop place bytes.now }
+{
+    if place >= bytes.len() {
+        return &[];
+    }
+    &bytes[place..]
+}
+
+/// One build of what was taken out, of which so many were before; none where no archive was read.
+fn build(
+    alloc: Global,
+    server: &SetupServer,
+    builds: &mut u64,
+    held: RunHeld,
+    run: &RunJobHttpRequest,
+    inputs: &[u8],
+) -> Result<RunDone, FarmFault>
+    ensures goes { IfOk result (λ done. outcome_by held (build_answer (slice_get server.now.builder builds.old) run.now.outputs inputs.now) ≡ Ok done) }
+    ensures counted { OnOk result (builds.new ≡ (if is_due held then counted builds.old else builds.old)) }
+    ensures err { IfErr result (λ e. e ≡ fault.Memory) }
+{
+    let due = held.is_due();
+    let line = server.builder.get().get(*builds as usize);
+    let heard = match build_answer(alloc, line, run.outputs.get(), inputs) {
+        Ok(heard) => heard,
+        Err(_) => {
+            held.give_up();
+            return Err(FarmFault::Memory);
+        }
+    };
+    match held.build_as(heard) {
+        Ok(done) => {
+            if due {
+                *builds = builds.saturating_add(1);
+            }
+            Ok(done)
+        }
+        Err((held, _)) => {
+            held.give_up();
+            Err(FarmFault::Memory)
+        }
+    }
+}
+
+/// Takes a job out and builds it, after Started was accepted.
+fn run_job(
+    alloc: Global,
+    server: &SetupServer,
+    station: &mut Station,
+    job: JobId,
+    run: &RunJobHttpRequest,
+    inputs: &[u8],
+    accepted: UpdateJobStateResult,
+) -> Result<RunDone, FarmFault>
+    requires well { IsWell server.now station.old }
+    ensures ok { IfOk result (λ done. done ≡ run_outcome (now_of server.now station.old) (held_for job station.old.state.held) run.now.outputs inputs.now) }
+    ensures after { IfOk result (λ done. now_of server.now station.new ≡ stepped (Some (record { server = server.now.addr; kind = StepKind.Ran job (ran_of done) (built_of done) })) (now_of server.now station.old)) }
+    ensures still_well { OnOk result (IsWell server.now station.new) }
+    ensures err { IfErr result (λ e. e ≡ fault.Memory) }
+{
+    let held = match station.state.begin_run(job, Ok(accepted)) {
+        Ok(held) => held,
+        Err(_) => return Err(FarmFault::Memory),
+    };
+    let done = build(alloc, server, &mut station.builds, held, run, inputs)?;
+    let done = read_well(done)?;
+    Ok(done)
+}
+
+/// A run whose folder did not fail: a folder in memory that fails is told as want of memory.
+fn read_well(done: RunDone) -> Result<RunDone, FarmFault>
+    ensures same { IfOk result (λ d. d ≡ done) }
+    ensures sound { IfOk result (λ d. (tc : List ℕ) → ran_of d ≢ ran.Folder tc) }
+    ensures err { IfErr result (λ e. e ≡ fault.Memory) }
+{
+    match done.ran() {
+        Ran::None => Ok(done),
+        Ran::Unlisted(_) => Ok(done),
+        Ran::Folder(_) => {
+            let _ = done.end_run(Err(CallFault::Lost));
+            Err(FarmFault::Memory)
+        }
+        Ran::Built(_) => Ok(done),
+        Ran::Refused(_) => Ok(done),
+    }
+}
