@@ -2,4 +2,5 @@ pub mod Books
 pub mod Rules
 pub mod Builds
 pub mod Rows
+pub mod Stores
 pub mod Echo

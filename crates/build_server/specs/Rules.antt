@@ -55,15 +55,18 @@ TellsAssign job (Err e) = (e ≡ fault.AlreadyAssigned job) ⊎ (e ≡ fault.Mem
 
 -- submitting
 
--- what an archive comes to that is submitted under a job which holds this toolchain, where the folder does not fail: its digest is tested
--- before its size
+-- what an archive that is not listed comes to, within a capacity, where the folder does not fail: its digest is tested before its size
+abbrev pub store_verdict : ℕ → Archives → List ℕ → List ℕ → Submitted
+store_verdict capacity archives tc bytes =
+    if not (bytes_eq (id_of bytes) tc) then submitted.Digest
+    else if nat_lt capacity (length bytes) then submitted.Capacity
+    else submitted.Stored (length bytes) (ids (dropped (capacity - length bytes) archives))
+
+-- the same of an archive that is submitted under a job which holds this toolchain
 abbrev pub submit_verdict : Books → Option (List ℕ) → List ℕ → Submitted
 submit_verdict old None bytes = submitted.None
 submit_verdict old (Some tc) bytes =
-    if is_listed tc old.archives then submitted.Listed
-    else if not (bytes_eq (id_of bytes) tc) then submitted.Digest
-    else if nat_lt old.capacity (length bytes) then submitted.Capacity
-    else submitted.Stored (length bytes) (ids (dropped (old.capacity - length bytes) old.archives))
+    if is_listed tc old.archives then submitted.Listed else store_verdict old.capacity old.archives tc bytes
 
 -- a front of those that a store would drop went
 abbrev pub IsFrontOfDropped : Submitted → List (List ℕ) → Type 0
@@ -82,30 +85,34 @@ archives_after_submit (Some tc) (submitted.Stored size dropped) archives = witho
 archives_after_submit tc (submitted.Folder dropped) archives = without_ids dropped archives
 archives_after_submit tc other archives = archives
 
+-- some of those went that a store of these bytes would drop
+abbrev pub MayDrop : ℕ → List ℕ → Archives → List (List ℕ) → Type 0
+MayDrop capacity bytes archives gone = (rest : List (List ℕ)) × (ids (dropped (capacity - length bytes) archives) ≡ gone ++ rest)
+
 -- what no call changes
 pub record SamePlace (old new : Books) : Type 0 where
   pub capacity : new.capacity ≡ old.capacity
   pub path : new.path ≡ old.path
   pub later : old.folder.faults ≤ new.folder.faults
 
--- a folder that did not fail is in step with the archives where it was
-abbrev pub StepAfterSubmit : Submitted → Books → Books → Type 0
-StepAfterSubmit (submitted.Folder dropped) old new = Unit {0}
-StepAfterSubmit other old new = KeepsStep old new
+-- the folder did not fail in it
+abbrev pub NotFolder : Submitted → Type 0
+NotFolder (submitted.Folder dropped) = ⊥
+NotFolder other = Unit {0}
 
 -- an archive was submitted under a job, after Ready was accepted
 pub record IsSubmitted (job : JobId) (bytes : List ℕ) (old new : Books) (outcome : Submitted) : Type 0 where
   pub comes : Comes (submit_verdict old (held_for job old.held) bytes) outcome old.folder new.folder
   pub held : new.held ≡ old.held
   pub archives : new.archives ≡ archives_after_submit (held_for job old.held) outcome old.archives
-  pub step : StepAfterSubmit outcome old new
+  pub step : NotFolder outcome → KeepsStep old new
   pub place : SamePlace old new
 
--- What want of memory leaves of a submission: all as it was, or, where a store was due, some of those gone that it would drop.
+-- What want of memory leaves of a submission: all as it was, or some of those gone that the store would drop.
 pub record SubmitStarved (job : JobId) (bytes : List ℕ) (old new : Books) : Type 0 where
   pub held : new.held ≡ old.held
   pub archives : (new.archives ≡ old.archives)
-      ⊎ ((gone : List (List ℕ)) × IsFrontOfDropped (submit_verdict old (held_for job old.held) bytes) gone × (new.archives ≡ without_ids gone old.archives))
+      ⊎ ((gone : List (List ℕ)) × MayDrop old.capacity bytes old.archives gone × (new.archives ≡ without_ids gone old.archives))
   pub place : SamePlace old new
 
 abbrev pub TakesIn : JobId → List ℕ → Books → Books → Result Submitted ServerFault → Type 0
@@ -145,17 +152,17 @@ archives_after_taking (taken.Folder tc) archives = promoted_key tc archives
 archives_after_taking (taken.Read tc archive) archives = promoted_key tc archives
 archives_after_taking other archives = archives
 
--- a folder that did not fail is in step with the archives where it was
-abbrev pub StepAfterTaking : Taken → Books → Books → Type 0
-StepAfterTaking (taken.Folder tc) old new = Unit {0}
-StepAfterTaking other old new = KeepsStep old new
+-- the folder did not fail in it
+abbrev pub FolderHeld : Taken → Type 0
+FolderHeld (taken.Folder tc) = ⊥
+FolderHeld other = Unit {0}
 
 -- a job was taken out, after Started was accepted
 pub record IsTaken (job : JobId) (old new : Books) (outcome : Taken) : Type 0 where
   pub finds : Finds (held_for job old.held) old new outcome
   pub held : new.held ≡ without_job job old.held
   pub archives : new.archives ≡ archives_after_taking outcome old.archives
-  pub step : StepAfterTaking outcome old new
+  pub step : FolderHeld outcome → KeepsStep old new
   pub place : SamePlace old new
 
 -- What want of memory leaves of a taking out: the job stays held, and its archive in its place or most recent.

@@ -15,6 +15,7 @@ pub mod keeping;
 pub mod run;
 pub mod server;
 pub mod state;
+mod store;
 pub mod submit;
 mod table;
 

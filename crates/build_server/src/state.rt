@@ -1,18 +1,18 @@
 //! `ServerState` and its calls.
 ghost use Rattle.std.specs.Prelude.{◌≡◌, []};
 ghost use Rattle.build_server.specs.Books.{AreRising};
-ghost use Rattle.build_server.specs.Rules.{Assigns, Submits, Begins};
-ghost use Rattle.disk_cache.specs.Archives.{IsArchiveStore};
+ghost use Rattle.build_server.specs.Rules.{Assigns, Submits, Begins, TakesIn, TakesOut, need_by};
 
-use crate::fault::{ServerFault, Update};
+use crate::fault::{ServerFault, Update, fault_of};
 use crate::keeping::Keeping;
-use crate::run::RunHeld;
+use crate::run::{RunHeld, Taken};
+use crate::store::{read, store};
 use crate::submit::{Submit, Submitted};
 use crate::table::{Held, HeldTable};
 use disk_cache::folder::Folder;
 use disk_cache::{Archives, TcCache};
 use dist_types::ids::JobId;
-use dist_types::results::AssignJobResult;
+use dist_types::results::{AssignJobResult, JobState};
 use dist_types::toolchain::Toolchain;
 use std::alloc::Global;
 use std::marker::Model;
@@ -64,10 +64,14 @@ impl<F: Folder> ServerState<F> {
     pub fn assign(&mut self, job: JobId, tc: Toolchain) -> Result<AssignJobResult, ServerFault>
         ensures assigns { Assigns job tc self.old self.new result }
     {
-        let _job = job;
-        let _tc = tc;
-        let _len = self.cache.len();
-        Err(ServerFault::Memory)
+        if self.jobs.get(job).is_some() {
+            return Err(ServerFault::AlreadyAssigned(job));
+        }
+        let listed = self.cache.contains_toolchain(&tc);
+        match self.jobs.insert(job, tc) {
+            Ok(()) => Ok(need_by(listed)),
+            Err(_) => Err(ServerFault::Memory),
+        }
     }
 
     /// Begins a submission under a job. It takes no memory.
@@ -90,12 +94,9 @@ impl<F: Folder> ServerState<F> {
     ) -> Result<Submitted, ServerFault>
         ensures submits { Submits submit ready archive.now self.old self.new result }
     {
-        let _submit = submit;
-        let _archive = archive;
-        let _len = self.cache.len();
         match ready {
-            Ok(_) => Err(ServerFault::Memory),
-            Err(e) => Err(crate::fault::fault_of(e)),
+            Ok(_) => self.take_in(submit.job(), archive),
+            Err(e) => Err(fault_of(e)),
         }
     }
 
@@ -106,11 +107,9 @@ impl<F: Folder> ServerState<F> {
     pub fn begin_run(&mut self, job: JobId, started: Update) -> Result<RunHeld, ServerFault>
         ensures begins { Begins job started self.old self.new result }
     {
-        let _job = job;
-        let _len = self.cache.len();
         match started {
-            Ok(_) => Err(ServerFault::Memory),
-            Err(e) => Err(crate::fault::fault_of(e)),
+            Ok(_) => self.take_out(job),
+            Err(e) => Err(fault_of(e)),
         }
     }
 
@@ -143,6 +142,55 @@ impl<F: Folder> ServerState<F> {
             jobs: _,
         } = self;
         cache
+    }
+
+    // Stores an archive under a job, after Ready was accepted.
+    fn take_in(&mut self, job: JobId, archive: &[u8]) -> Result<Submitted, ServerFault>
+        ensures taken { TakesIn job archive.now self.old self.new result }
+    {
+        let Some(tc) = self.jobs.get(job) else {
+            return Ok(Submitted::None);
+        };
+        if self.cache.contains_toolchain(&tc) {
+            return Ok(Submitted::Listed);
+        }
+        store(self.alloc, &mut self.cache, &tc, archive)
+    }
+
+    // Takes a job out and reads its archive, after Started was accepted.
+    fn take_out(&mut self, job: JobId) -> Result<RunHeld, ServerFault>
+        ensures taken { TakesOut job self.old self.new result }
+    {
+        let Some(tc) = self.jobs.get(job) else {
+            return Ok(RunHeld::new(Taken::None));
+        };
+        if !self.cache.contains_toolchain(&tc) {
+            self.jobs.remove(job);
+            return Ok(RunHeld::new(Taken::Unlisted(tc)));
+        }
+        match read(&mut self.cache, tc) {
+            Ok(taken) => {
+                self.jobs.remove(job);
+                Ok(RunHeld::new(taken))
+            }
+            Err(_) => Err(ServerFault::Memory),
+        }
+    }
+}
+
+/// The answer where the archive is listed, and where it is not.
+fn need_by(listed: bool) -> AssignJobResult
+    ensures { result ≡ need_by listed }
+{
+    if listed {
+        return AssignJobResult {
+            state: JobState::Ready,
+            need_toolchain: false,
+        };
+    }
+    AssignJobResult {
+        state: JobState::Pending,
+        need_toolchain: true,
     }
 }
 

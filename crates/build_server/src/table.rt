@@ -89,10 +89,10 @@ impl HeldTable {
         ensures ok { OnOk result (self.new ≡ placed job tc self.old) }
         ensures err { OnErr result (self.new ≡ self.old) }
     {
-        match self.jobs.insert(job, tc) {
-            Ok(_) => Ok(()),
-            Err(_) => Err(Memory),
-        }
+        let Ok(_) = self.jobs.insert(job, tc) else {
+            return Err(Memory);
+        };
+        Ok(())
     }
 
     /// Holds a job no longer.

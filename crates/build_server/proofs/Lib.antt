@@ -1,0 +1,4 @@
+pub mod TableLemmas
+pub mod ListLemmas
+pub mod StoreLemmas
+pub mod TakeLemmas
