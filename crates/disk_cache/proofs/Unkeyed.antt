@@ -8,13 +8,13 @@ use Rattle.std.proofs.lemmas.List.{map-append}
 use Rattle.std.proofs.lemmas.List.Sums.{sum_by-cons}
 use Rattle.std.proofs.lemmas.Slice.Eq.{bytes_eq-Decides}
 use Rattle.lru_metered.specs.Metered.{promoted}
+use Rattle.disk_cache.specs.Files.{Files, file_at, front}
 use Rattle.disk_cache.specs.Held.{Held}
 use Rattle.disk_cache.specs.Entries.{Entries, total, trim, promoted_key}
-use Rattle.disk_cache.specs.Disk.{without_key, staying, stored, Left}
+use Rattle.disk_cache.specs.Disk.{without_key, staying, stored, dropped, Left}
 use Rattle.disk_cache.specs.Store.{Disk, IsStore}
-use Rattle.disk_cache.specs.Archives.{Archives, is_id, archive_key, IsArchiveStore}
-use Rattle.disk_cache.specs.Archiving.{dropped}
-use Rattle.disk_cache.specs.Keyed.{id_in, unkeyed, IsArchiveKey, AllArchiveKeys, IsKeyed}
+use Rattle.disk_cache.specs.Archives.{Archives, is_id, archive_key, archive_of, AllVerified, IsArchiveStore}
+use Rattle.disk_cache.specs.Keyed.{id_in, unkeyed, IsArchiveKey, AllArchiveKeys, AllHold, IsKeyed}
 use Rattle.disk_cache.proofs.KeyLemmas.{id_long}
 
 -- ---- one key
@@ -149,6 +149,9 @@ keys_promoted P test es h = by (lookup_entry test es) refl
     by None is = h
     by (Some p) is = keys_end P (remove_entry test es) p (keys_out P test es h) (entry_has P test es h (Some p) is p refl)
 
+pub staying_has : (P : List ℕ × ℕ → Type 0) (key : List ℕ) (limit : ℕ) (es : Entries) → AllByRecursion P es → AllByRecursion P (staying key limit es)
+staying_has P key limit es h = keys_trimmed P limit (without_key key es) (keys_out P (bytes_eq key) es h)
+
 pub keys_stored : (P : List ℕ × ℕ → Type 0) (key : List ℕ) (size limit : ℕ) (es : Entries) → AllByRecursion P es → P (key, size) → AllByRecursion P (stored key size limit es)
 keys_stored P key size limit es h last =
     keys_end P (staying key limit es) (key, size) (keys_trimmed P limit (without_key key es) (keys_out P (bytes_eq key) es h)) last
@@ -169,12 +172,17 @@ ids_un : (es : Entries) → AllArchiveKeys es → AllByRecursion (λ a. is_id a.
 ids_un [] keys = tt
 ids_un (e ∷ es) keys = (keys.0.id, ids_un es keys.1)
 
+verified_un : (path root : List ℕ) (files : Files) (es : Entries) → root ≡ front path → AllArchiveKeys es → AllHold root files es → AllVerified path files (unkeyed es)
+verified_un path root files [] is keys h = tt
+verified_un path root files (e ∷ es) is keys h =
+    (ap (λ p. option_map archive_of (file_at files p)) (λ i. sym is i ++ sym keys.0.path i) ∙ h.0, verified_un path root files es is keys.1 h.1)
+
 pub keyed_store : (held : Held) (d : Disk) → IsKeyed held d → IsDistinct bytes_eq (keys_of d.entries) → total d.entries ≤ d.capacity → IsArchiveStore d.path d.capacity (unkeyed d.entries) held
 keyed_store held d is distinct fits = record {
   ids = ids_un d.entries is.keys;
   distinct = distinct_un d.entries is.keys distinct;
   fits = omega (arith, total_un d.entries, fits);
-  verified = is.verified;
+  verified = λ files told. verified_un d.path d.root files d.entries is.root is.keys (is.hold files told);
 }
 
 -- what an insert and its failure leave
@@ -192,3 +200,17 @@ left_un id limit es new fit keys left = elim left [
     trim_un limit new ∙ (ap unkeyed less.1 ∙ sym (ap (trim limit) (without_un id es fit keys) ∙ trim_un limit (without_key (archive_key id) es))),
   )
 ]
+
+pub dropped_un : (limit : ℕ) (es : Entries) → dropped limit (unkeyed es) ≡ unkeyed (dropped limit es)
+dropped_un limit [] = refl
+dropped_un limit (e ∷ es) =
+    (λ i. cond (nat_le (total_un (e ∷ es) i) limit) [] (un e ∷ dropped_un limit es i)) ∙ by (nat_le (total (e ∷ es)) limit)
+  where
+    by : (b : Bool) → cond b [] (un e ∷ unkeyed (dropped limit es)) ≡ unkeyed (cond b [] (e ∷ dropped limit es))
+    by true = refl
+    by false = refl
+
+pub keys_dropped : (limit : ℕ) (es : Entries) → AllArchiveKeys es → AllArchiveKeys (dropped limit es)
+keys_dropped limit [] keys = tt
+keys_dropped limit (e ∷ es) keys =
+    elim (nat_le (total (e ∷ es)) limit) as (λ b. AllArchiveKeys (cond b [] (e ∷ dropped limit es))) [ true ↦ tt | false ↦ (keys.0, keys_dropped limit es keys.1) ]

@@ -31,9 +31,13 @@ archive_key id = take 1 id ++ 47 ∷ take 1 (drop 1 id) ++ 47 ∷ id
 abbrev pub archive_path : List ℕ → List ℕ → List ℕ
 archive_path path id = front path ++ archive_key id
 
--- the id and the size of what the file of an archive holds
+-- the archive that bytes are: their id and their number
+abbrev pub archive_of : List ℕ → List ℕ × ℕ
+archive_of bytes = (id_of bytes, length bytes)
+
+-- the archive that the file of an id holds
 abbrev pub archive_at : List ℕ → Files → List ℕ → Option (List ℕ × ℕ)
-archive_at path files id = option_map (λ bytes. (id_of bytes, length bytes)) (file_at files (archive_path path id))
+archive_at path files id = option_map archive_of (file_at files (archive_path path id))
 
 -- each of these archives has a file of its size, whose SHA-256 is its id
 abbrev pub AllVerified : List ℕ → Files → Archives → Type 0
@@ -41,7 +45,7 @@ AllVerified path files archives = AllByRecursion (λ a. archive_at path files a.
 
 -- the archive that a file is, in the cache at a path: it stands where its SHA-256 says
 abbrev pub archive_in : List ℕ → List ℕ × List ℕ → Option (List ℕ × ℕ)
-archive_in path f = if bytes_eq f.0 (archive_path path (id_of f.1)) then Some (id_of f.1, length f.1) else None
+archive_in path f = if bytes_eq f.0 (archive_path path (id_of f.1)) then Some (archive_of f.1) else None
 
 -- the archives among the files, least recent first
 abbrev pub archives_in : List ℕ → Files → Archives

@@ -9,14 +9,9 @@ use Rattle.disk_cache.specs.declared.fault.FolderFault.{FolderFault}
 use Rattle.disk_cache.specs.declared.error.Error.{Error}
 use Rattle.disk_cache.specs.declared.error.Error.TheVariants.{FileTooLarge, FileNotInCache, Io, PendingSpace, BadKey, NotPending, WrongDigest, WriterRefused, Memory as NoMemory}
 use Rattle.disk_cache.specs.Entries.{total, trim, promoted_key}
-use Rattle.disk_cache.specs.Disk.{Left, stored, without_key}
+use Rattle.disk_cache.specs.Disk.{Left, stored, dropped, without_key}
 use Rattle.disk_cache.specs.Store.{IoCause}
 use Rattle.disk_cache.specs.Archives.{Archives, id_of, AllVerified, archives_in, sound_archives, opened_archives}
-
--- the archives that go from the front so that the others fit a limit
-abbrev pub dropped : ℕ → Archives → Archives
-dropped limit [] = []
-dropped limit (a ∷ more) = if nat_le (total (a ∷ more)) limit then [] else a ∷ dropped limit more
 
 -- whether bytes may be stored as an archive of this id
 abbrev pub archive_verdict : ℕ → List ℕ → List ℕ → Result (Unit {0}) Error

@@ -1,11 +1,12 @@
 -- Archives kept as keys with sizes.
-use Rattle.std.specs.Prelude.{◌≡◌, ℕ, true, List, [], drop, map}
+use Rattle.std.specs.Prelude.{◌≡◌, ℕ, true, List, [], ◌++◌, Some, drop, map}
 use Rattle.std.specs.List.{AllByRecursion}
-use Rattle.disk_cache.specs.Files.{Files}
+use Rattle.std.specs.Option.{option_map}
+use Rattle.disk_cache.specs.Files.{Files, file_at, front}
 use Rattle.disk_cache.specs.Held.{Held, Holds}
 use Rattle.disk_cache.specs.Entries.{Entries}
 use Rattle.disk_cache.specs.Store.{Disk}
-use Rattle.disk_cache.specs.Archives.{Archives, is_id, archive_key, AllVerified}
+use Rattle.disk_cache.specs.Archives.{Archives, is_id, archive_key, archive_of}
 
 -- the id that the key of an archive ends with
 abbrev pub id_in : List ℕ → List ℕ
@@ -28,8 +29,13 @@ pub record IsArchiveKey (key : List ℕ) : Type 0 where
 abbrev pub AllArchiveKeys : Entries → Type 0
 AllArchiveKeys entries = AllByRecursion (λ e. IsArchiveKey e.0) entries
 
+-- each key has a file of its size, whose SHA-256 is its id
+abbrev pub AllHold : List ℕ → Files → Entries → Type 0
+AllHold root files entries = AllByRecursion (λ e. option_map archive_of (file_at files (root ++ e.0)) ≡ Some (id_in e.0, e.1)) entries
+
 -- A disk whose keys are those of archives, each with a file whose SHA-256 is its id where files are told, and with no reservation.
 pub record IsKeyed (held : Held) (d : Disk) : Type 0 where
   pub keys : AllArchiveKeys d.entries
+  pub root : d.root ≡ front d.path
   pub none : d.pending ≡ []
-  pub verified : Holds held (λ files. AllVerified d.path files (unkeyed d.entries))
+  pub hold : Holds held (λ files. AllHold d.root files d.entries)

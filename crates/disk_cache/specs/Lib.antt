@@ -11,3 +11,4 @@ pub mod Reserved
 pub mod Archives
 pub mod Archiving
 pub mod Keyed
+pub mod Reliable

@@ -12,6 +12,7 @@
 mod archives;
 mod cache;
 pub mod calls;
+mod digest;
 mod entry;
 mod error;
 pub mod fault;
@@ -20,6 +21,7 @@ mod key;
 pub mod laws;
 pub mod mem_folder;
 mod opening;
+pub mod reliable_folder;
 mod reservations;
 mod rows;
 mod steps;

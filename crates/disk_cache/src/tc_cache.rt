@@ -11,6 +11,7 @@ ghost use Rattle.disk_cache.specs.Archiving.{archive_verdict, with_archive, Stor
 
 use crate::archives::Archives;
 use crate::cache::LruDiskCache;
+use crate::digest::{is_archive, key_of};
 use crate::error::{Error, Result};
 use crate::folder::Folder;
 use dist_types::toolchain::Toolchain;
@@ -21,6 +22,7 @@ use std::marker::Model;
 /// Each is known by the SHA-256 of its content; what is least recent goes first.
 #[derive(Drop)]
 pub struct TcCache<F: Folder> {
+    alloc: Global,
     cache: LruDiskCache<F>,
 }
 
@@ -70,8 +72,7 @@ impl<F: Folder> TcCache<F> {
         ensures listed { result ≡ is_some (lookup (bytes_eq tc.now) self.now.archives) }
         ensures stands { IsArchiveStore self.now.path self.now.capacity self.now.archives (F.held self.now.folder) }
     {
-        let _len = self.cache.len();
-        let _sum = self.cache.size();
+        self.shown();
         for (id, _size) in self.archives() {
             if tc.archive_id() == id.archive_id() {
                 return true;
@@ -112,7 +113,10 @@ impl<F: Folder> TcCache<F> {
     pub fn into_folder(self) -> F
         ensures { result ≡ self.folder }
     {
-        let TcCache { cache } = self;
+        let TcCache {
+            alloc: _alloc,
+            cache,
+        } = self;
         cache.into_folder()
     }
 
@@ -135,11 +139,19 @@ impl<F: Folder> TcCache<F> {
         ensures later { (F.held self.old.folder).faults ≤ (F.held self.new.folder).faults }
         ensures stands { IsArchiveStore self.new.path self.new.capacity self.new.archives (F.held self.new.folder) }
     {
+        self.shown();
+        if !is_archive(tc, bytes) {
+            return Err(Error::WrongDigest);
+        }
+        if !self.cache.can_store(bytes.len() as u64) {
+            return Err(Error::FileTooLarge);
+        }
+        let Ok(key) = key_of(self.alloc, tc) else {
+            return Err(Error::Memory);
+        };
+        let answer = self.cache.insert_bytes(key.get(), bytes);
         let _len = self.cache.len();
-        let _size = self.cache.size();
-        let _tc = tc;
-        let _bytes = bytes;
-        Err(Error::Memory)
+        answer
     }
 
     /// The archive of a toolchain, which becomes the most recent. Where files are told its SHA-256 is the
@@ -161,10 +173,13 @@ impl<F: Folder> TcCache<F> {
         ensures later { (F.held self.old.folder).faults ≤ (F.held self.new.folder).faults }
         ensures stands { IsArchiveStore self.new.path self.new.capacity self.new.archives (F.held self.new.folder) }
     {
+        self.shown();
+        let Ok(key) = key_of(self.alloc, tc) else {
+            return Err(Error::Memory);
+        };
+        let answer = self.cache.get_file(key.get());
         let _len = self.cache.len();
-        let _size = self.cache.size();
-        let _tc = tc;
-        Err(Error::Memory)
+        answer
     }
 
     /// Takes the archive of a toolchain out and removes its file. It answers Ok where it is not listed.
@@ -182,9 +197,20 @@ impl<F: Folder> TcCache<F> {
         ensures later { (F.held self.old.folder).faults ≤ (F.held self.new.folder).faults }
         ensures stands { IsArchiveStore self.new.path self.new.capacity self.new.archives (F.held self.new.folder) }
     {
+        self.shown();
+        let Ok(key) = key_of(self.alloc, tc) else {
+            return Err(Error::Memory);
+        };
+        let answer = self.cache.remove(key.get());
         let _len = self.cache.len();
-        let _size = self.cache.size();
-        let _tc = tc;
-        Err(Error::Memory)
+        answer
+    }
+
+    // What holds of the cache, whatever failed so far.
+    fn shown(&self)
+        ensures stands { IsArchiveStore self.now.path self.now.capacity self.now.archives (F.held self.now.folder) }
+    {
+        let _len = self.cache.len();
+        let _sum = self.cache.size();
     }
 }
