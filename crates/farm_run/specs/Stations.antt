@@ -1,5 +1,5 @@
 -- What the stations of a farm's build servers hold.
-use Rattle.std.specs.Prelude.{◌≡◌, ◌≢◌, ℕ, List, [], ◌∷◌, length, map, slice_get, Some, codes}
+use Rattle.std.specs.Prelude.{◌≡◌, ◌≢◌, ℕ, List, [], ◌∷◌, length, map, slice_get, set, Option, Some, codes}
 use Rattle.std.specs.List.{AllByRecursion}
 use Rattle.dist_types.specs.declared.addr.Addr.{Addr}
 use Rattle.disk_cache.specs.Archives.{IsInStep}
@@ -7,7 +7,8 @@ use Rattle.farm_script.specs.declared.setup.Setup.{Setup}
 use Rattle.farm_script.specs.declared.setup.SetupServer.{SetupServer}
 use Rattle.farm_run.specs.declared.entry.Entry.{Entry}
 use Rattle.farm_run.specs.declared.station.Station.{Station}
-use Rattle.farm_run.specs.Servers.{ServerNow, server_of}
+use Rattle.farm_run.specs.declared.entry.Step.{Step}
+use Rattle.farm_run.specs.Servers.{ServerNow, stepped, server_of}
 
 -- the server that a station is
 abbrev pub now_of : SetupServer → Station → ServerNow
@@ -28,6 +29,17 @@ pub record IsStation (s : SetupServer) (log : List Entry) (st : Station) : Type 
 pub record AreStations (servers : List SetupServer) (log : List Entry) (sts : List Station) : Type 0 where
   pub size : length sts ≡ length servers
   pub each : (i : ℕ) (s : SetupServer) (st : Station) → slice_get servers i ≡ Some s → slice_get sts i ≡ Some st → IsStation s log st
+
+-- each station of a server is well
+abbrev pub AreWell : List SetupServer → List Station → Type 0
+AreWell servers sts = (i : ℕ) (s : SetupServer) (st : Station) → slice_get servers i ≡ Some s → slice_get sts i ≡ Some st → IsWell s st
+
+-- the station of a server, at its place, did that step, and no other station did anything
+pub record IsStepAt (s : SetupServer) (place : ℕ) (st : Station) (step : Option Step) (old new : List Station) : Type 0 where
+  pub after : Station
+  pub is : new ≡ set old place after
+  pub now : now_of s after ≡ stepped step (now_of s st)
+  pub well : IsWell s after
 
 -- no address stands twice
 abbrev pub AreApart : List Addr → Type 0

@@ -1,10 +1,11 @@
 //! What follows the settlement of a build server's calls.
-ghost use Rattle.std.specs.Prelude.{◌≡◌, ◌≢◌, Some, None, Ok, Err, Result, drop, slice_get, IfOk, IfErr, OnOk, option_copied};
+ghost use Rattle.std.specs.Prelude.{◌≡◌, ◌≢◌, ℕ, List, Some, None, Ok, Err, Result, drop, slice_get, if◌then◌else◌, IfOk, IfErr, OnOk, option_copied};
 ghost use Rattle.build_server.specs.Books.{held_for};
 ghost use Rattle.build_server.specs.Rules.{submit_verdict};
-ghost use Rattle.build_server.specs.Builds.{ran_of, built_of, outcome_by};
+ghost use Rattle.build_server.specs.Builds.{ran_of, built_of, is_due, outcome_by};
 ghost use Rattle.build_server.specs.declared.submit.Submitted.TheVariants as submitted;
 ghost use Rattle.build_server.specs.declared.run.Ran.TheVariants as ran;
+ghost use Rattle.dist_types.specs.Cause.{counted};
 ghost use Rattle.dist_types.specs.declared.outgoing.CallFault.{CallFault as Cause};
 ghost use Rattle.dist_types.specs.declared.results.UpdateJobStateResult.{UpdateJobStateResult as Accepted};
 ghost use Rattle.dist_types.specs.declared.results.HeartbeatServerResult.{HeartbeatServerResult as Heard};
@@ -31,7 +32,7 @@ use dist_types::addr::Addr;
 use dist_types::ids::JobId;
 use dist_types::outgoing::CallFault;
 use dist_types::results::{
-    HeartbeatServerResult, JobState, RunJobResult, UpdateJobStateResult,
+    BuildResult, HeartbeatServerResult, JobState, RunJobResult, UpdateJobStateResult,
 };
 use dist_wire::run::RunJobHttpRequest;
 use farm_script::fault::FarmFault;
@@ -42,10 +43,13 @@ use http_routes::replies::{to_fault, to_run, to_submission, want_of_memory};
 use http_routes::reply::Response;
 use std::alloc::Global;
 
-/// A call that comes back: the entry that is replied to and in which form, what the event of that entry
+/// A call of a server that comes back: the entry that is replied to and in which form, what the event of that entry
 /// brought, and the call's reply, or none where it is lost.
 #[derive(Debug, Drop)]
 pub struct Back<'a> {
+    /// The server that made the call, and the life that it did so in.
+    pub server: Addr,
+    pub life: u64,
     pub root: u64,
     pub json: bool,
     pub brought: &'a [u8],
@@ -267,5 +271,244 @@ fn read_well(done: RunDone) -> Result<RunDone, FarmFault>
         }
         Ran::Built(_) => Ok(done),
         Ran::Refused(_) => Ok(done),
+    }
+}
+
+/// Goes on with a run, by what the scheduler answered to Started.
+fn end_started(
+    desk: &Desk,
+    server: &SetupServer,
+    station: &mut Station,
+    back: &Back<'_>,
+    job: JobId,
+    run: RunJobHttpRequest,
+    inputs: usize,
+) -> Result<Made, FarmFault>
+    requires plain { IsPlain desk.now.setup.scheduler.auth }
+    requires well { IsWell server.now station.old }
+    ensures made { IfOk result (λ m. (r : Result Accepted Cause) × IsUpdated (option_copied back.now.reply) r
+        × (m.effect ≡ started_end desk.now.setup (now_of server.now station.old) back.now.root job run (drop inputs back.now.brought.now) r)) }
+    ensures kept { IfOk result (λ m. Keeps (λ p. completion_at back.now.root back.now.json server.now.addr station.old.life m.effect.step ≡ Some p) m.effect m.pending) }
+    ensures after { IfOk result (λ m. now_of server.now station.new ≡ stepped m.effect.step (now_of server.now station.old)) }
+    ensures still_well { OnOk result (IsWell server.now station.new) }
+    ensures err { IfErr result (λ e. e ≡ fault.Memory) }
+{
+    let told = updated(desk.alloc, back.reply)?;
+    match told {
+        Err(cause) => {
+            let effect = unreported(desk.alloc, server.addr, back.root, job, cause)?;
+            Ok(Made::whole(effect))
+        }
+        Ok(accepted) => {
+            let life = station.life;
+            let bytes = behind(back.brought, inputs);
+            let done = run_job(desk.alloc, server, station, job, &run, bytes, accepted)?;
+            let made = tell_run(desk, server.addr, life, back, job, done)?;
+            Ok(made)
+        }
+    }
+}
+
+/// What a run gave, where it was built, for the step that tells it.
+fn result_of(done: &RunDone) -> Result<Option<BuildResult>, FarmFault>
+    ensures ok { IfOk result (λ o. o ≡ built_of done.now) }
+    ensures err { IfErr result (λ e. e ≡ fault.Memory) }
+{
+    match done.built() {
+        None => Ok(None),
+        Some(built) => match copy_result(built) {
+            Ok(copy) => Ok(Some(copy)),
+            Err(_) => Err(FarmFault::Memory),
+        },
+    }
+}
+
+/// The step of a run that went so, and the call that tells the scheduler its end.
+fn ran_effect(desk: &Desk, addr: Addr, job: JobId, done: &RunDone) -> Result<Effect, FarmFault>
+    requires plain { IsPlain desk.now.setup.scheduler.auth }
+    ensures ok { IfOk result (λ x. x ≡ running desk.now.setup addr job done.now) }
+    ensures err { IfErr result (λ e. e ≡ fault.Memory) }
+{
+    let call = state_call(desk, addr, job, JobState::Complete)?;
+    let result = result_of(done)?;
+    let ran = done.ran();
+    let kind = StepKind::Ran { job, ran, result };
+    Ok(Effect::of_step_call(addr, kind, call))
+}
+
+/// Tells the scheduler the end of a run.
+fn tell_run(
+    desk: &Desk,
+    addr: Addr,
+    life: u64,
+    back: &Back<'_>,
+    job: JobId,
+    done: RunDone,
+) -> Result<Made, FarmFault>
+    requires plain { IsPlain desk.now.setup.scheduler.auth }
+    ensures effect { IfOk result (λ m. m.effect ≡ running desk.now.setup addr job done) }
+    ensures pending { IfOk result (λ m. m.pending ≡ Some (record { root = back.now.root; json = back.now.json; ask = Ask.Report addr life (Told.Complete job done) })) }
+    ensures err { IfErr result (λ e. e ≡ fault.Memory) }
+{
+    match ran_effect(desk, addr, job, &done) {
+        Ok(effect) => Ok(Made {
+            effect,
+            pending: Some(Pending {
+                root: back.root,
+                json: back.json,
+                ask: Ask::Report {
+                    server: addr,
+                    life,
+                    told: Told::Complete { job, done },
+                },
+            }),
+        }),
+        Err(_) => {
+            let _ = done.end_run(Err(CallFault::Lost));
+            Err(FarmFault::Memory)
+        }
+    }
+}
+
+/// Why a build gave nothing, as a reply tells it.
+fn failure_of(cause: BuildCause) -> BuildFailure
+    ensures { result ≡ failure_of cause }
+{
+    match cause {
+        BuildCause::Unlisted => BuildFailure::NotCached,
+        BuildCause::Folder => BuildFailure::Unreadable,
+        BuildCause::Refused => BuildFailure::Refused,
+    }
+}
+
+/// The reply to a run that ended.
+fn ended_response(
+    alloc: Global,
+    json: bool,
+    ended: Result<RunJobResult, ServerFault>,
+) -> Result<Response, FarmFault>
+    ensures ok { IfOk result (λ r. r ≡ ended_response json ended) }
+    ensures err { IfErr result (λ e. e ≡ fault.Memory) }
+{
+    match ended {
+        Ok(answer) => {
+            let response = to_run(alloc, json, &answer)?;
+            Ok(response)
+        }
+        Err(ServerFault::BuildFailed(cause)) => {
+            let response = to_fault(alloc, &RouteFault::BuildFailed(failure_of(cause)))?;
+            Ok(response)
+        }
+        Err(ServerFault::AlreadyAssigned(job)) => {
+            let response = to_fault(alloc, &RouteFault::AlreadyAssigned(job))?;
+            Ok(response)
+        }
+        Err(ServerFault::UpdateFailed(cause)) => {
+            let response = to_fault(alloc, &RouteFault::UpdateFailed(cause))?;
+            Ok(response)
+        }
+        Err(ServerFault::Memory) => Err(FarmFault::Memory),
+    }
+}
+
+/// Ends a run, by what the scheduler answered to Complete.
+fn end_complete(
+    alloc: Global,
+    addr: Addr,
+    back: &Back<'_>,
+    job: JobId,
+    done: RunDone,
+) -> Result<Effect, FarmFault>
+    ensures made { IfOk result (λ x. (r : Result Accepted Cause) × IsUpdated (option_copied back.now.reply) r
+        × (x ≡ complete_end addr back.now.root back.now.json job done r)) }
+    ensures err { IfErr result (λ e. e ≡ fault.Memory) }
+{
+    let told = match updated(alloc, back.reply) {
+        Ok(told) => told,
+        Err(_) => {
+            let _ = done.end_run(Err(CallFault::Lost));
+            return Err(FarmFault::Memory);
+        }
+    };
+    match told {
+        Err(cause) => {
+            let _ = done.end_run(Err(CallFault::Lost));
+            let effect = unreported(alloc, addr, back.root, job, cause)?;
+            Ok(effect)
+        }
+        Ok(accepted) => {
+            let ended = done.end_run(Ok(accepted));
+            let response = ended_response(alloc, back.json, ended)?;
+            let reply = reply(alloc, back.root, &response)?;
+            Ok(Effect::of_step_reply(
+                addr,
+                StepKind::Finished { job },
+                reply,
+            ))
+        }
+    }
+}
+
+fn heard_as(told: Result<HeartbeatServerResult, CallFault>) -> HeardAs
+    ensures { result ≡ heard_as told }
+{
+    match told {
+        Ok(answer) => {
+            if answer.is_new {
+                HeardAs::New
+            } else {
+                HeardAs::Old
+            }
+        }
+        Err(_) => HeardAs::Lost,
+    }
+}
+
+/// Ends a heartbeat.
+fn end_beat(
+    alloc: Global,
+    addr: Addr,
+    reply: Option<&[u8]>,
+) -> Result<Effect, FarmFault>
+    ensures made { IfOk result (λ x. (r : Result Heard Cause) × IsHeard (option_copied reply.entry) r × (x ≡ step_effect addr (StepKind.Heard (heard_as r)))) }
+    ensures err { IfErr result (λ e. e ≡ fault.Memory) }
+{
+    let told = heard(alloc, reply)?;
+    Ok(Effect::of_step(addr, StepKind::Heard(heard_as(told))))
+}
+
+/// Goes on with a call of a build server by its reply.
+pub fn go_on(
+    desk: &Desk,
+    server: &SetupServer,
+    station: &mut Station,
+    back: &Back<'_>,
+    told: Told,
+) -> Result<Made, FarmFault>
+    requires plain { IsPlain desk.now.setup.scheduler.auth }
+    requires well { IsWell server.now station.old }
+    ensures made { IfOk result (λ m. Reports desk.now.setup (now_of server.now station.old) back.now.brought.now back.now.root back.now.json (option_copied back.now.reply) told m.effect) }
+    ensures kept { IfOk result (λ m. Keeps (λ p. completion_at back.now.root back.now.json server.now.addr station.old.life m.effect.step ≡ Some p) m.effect m.pending) }
+    ensures after { IfOk result (λ m. now_of server.now station.new ≡ stepped m.effect.step (now_of server.now station.old)) }
+    ensures still_well { OnOk result (IsWell server.now station.new) }
+    ensures err { IfErr result (λ e. e ≡ fault.Memory) }
+{
+    match told {
+        Told::Ready { job, archive } => {
+            let effect = end_ready(desk.alloc, server, station, back, job, archive)?;
+            Ok(Made::whole(effect))
+        }
+        Told::Started { job, run, inputs } => {
+            let made = end_started(desk, server, station, back, job, run, inputs)?;
+            Ok(made)
+        }
+        Told::Complete { job, done } => {
+            let effect = end_complete(desk.alloc, server.addr, back, job, done)?;
+            Ok(Made::whole(effect))
+        }
+        Told::Heartbeat => {
+            let effect = end_beat(desk.alloc, server.addr, back.reply)?;
+            Ok(Made::whole(effect))
+        }
     }
 }

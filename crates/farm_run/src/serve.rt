@@ -9,23 +9,22 @@ ghost use Rattle.sched_core.specs.declared.entry.UpdateAnswer.{UpdateAnswer};
 ghost use Rattle.dist_types.specs.declared.results.AllocJobResult.TheVariants as alloc_result;
 ghost use Rattle.http_routes.specs.declared.route.SchedRouted.TheVariants as asked;
 ghost use Rattle.farm_script.specs.Built.{IsPlain};
-ghost use Rattle.farm_run.specs.Answers.{hears, heard, update_by, update_reply, assign_call, answer_to, IsAnswered};
+ghost use Rattle.farm_run.specs.Answers.{hears, heard, update_by, assign_call, answer_to, IsAnswered};
 ghost use Rattle.farm_run.specs.Begun.{IsAssignment, IsBegunBy, Keeps};
 ghost use Rattle.farm_run.specs.Effects.{reply_effect, call_effect, reply_to};
-ghost use Rattle.farm_run.specs.Farm.{with_core, acted, IsReceived};
+ghost use Rattle.farm_run.specs.Farm.{with_core, acted};
 ghost use Rattle.farm_run.specs.Seen.{token_of};
-ghost use Rattle.farm_run.specs.Ways.{way_to, to_scheduler};
-ghost use Rattle.farm_run.specs.Replies as response;
+ghost use Rattle.farm_run.specs.Ways.{to_scheduler};
+ghost use Rattle.http_routes.specs.Replies as response;
+ghost use Rattle.http_routes.specs.Replies.{update_reply};
+ghost use Rattle.sched_core.specs.Texts.{no_room_text};
 ghost use Rattle.http_routes.specs.Fault as told;
 ghost use Rattle.http_routes.specs.declared.fault.RouteFault.TheVariants as route_fault;
 ghost use Rattle.farm_script.specs.declared.fault.FarmFault.TheVariants as fault;
 
 use crate::desk::Desk;
-use crate::entry::{Effect, EntryWord, OutCall, Reply};
-use crate::pending::{Ask, Asker, Made, Pending};
-use crate::replies::{
-    no_room, to_allocation, to_fault, to_heartbeat, to_report, to_status, want_of_memory,
-};
+use crate::entry::{Effect, OutCall, Reply};
+use crate::pending::{Ask, Made, Pending};
 use dist_token::job_token::JWTJobAuthorizer;
 use dist_types::addr::Addr;
 use dist_types::ids::{JobId, ServerId};
@@ -38,6 +37,9 @@ use farm_script::fault::FarmFault;
 use farm_script::setup::SetupAuth;
 use http_routes::asked::asked;
 use http_routes::fault::RouteFault;
+use http_routes::replies::{
+    no_room, to_allocation, to_fault, to_heartbeat, to_status, to_update, want_of_memory,
+};
 use http_routes::reply::Response;
 use http_routes::route::{Asked, SchedRouted};
 use http_routes::written::assign_request;
@@ -88,7 +90,7 @@ pub fn reply(alloc: Global, number: u64, response: &Response) -> Result<Reply, A
 }
 
 /// The token of all build servers.
-fn token(auth: &SetupAuth) -> &str
+pub fn token(auth: &SetupAuth) -> &str
     requires { IsPlain auth.now }
     ensures { result.now ≡ token_of auth.now }
 {
@@ -240,7 +242,7 @@ fn take_report(
     match state.update(now, server, job, to) {
         Ok(answer) => {
             let entry = last_copy(alloc, state.history())?;
-            let response = to_report(alloc, json, &answer)?;
+            let response = to_update(alloc, json, &answer)?;
             Ok((entry, response))
         }
         Err(error) => {
@@ -261,7 +263,7 @@ fn crowded(
 ) -> Result<Effect, FarmFault>
     requires { 0 < length state.now.log }
     ensures made { IfOk result (λ x. (made : Core) × (slice_get state.now.log (length state.now.log - 1) ≡ Some made)
-        × (x ≡ reply_effect (Some made) (reply_to number (response.alloc_response json (alloc_result.Fail (told.no_room_text standing)))))) }
+        × (x ≡ reply_effect (Some made) (reply_to number (response.alloc_response json (alloc_result.Fail (no_room_text standing)))))) }
     ensures err { IfErr result (λ e. e ≡ fault.Memory) }
 {
     let core = last_copy(alloc, state.history())?;
@@ -323,7 +325,7 @@ fn reserved(
     requires { 0 < length state.old.log }
     ensures made { IfOk result (λ m. (made : Core) × (slice_get state.old.log (length state.old.log - 1) ≡ Some made)
         × (m.effect ≡ call_effect (Some made) (Some (assign_call tc.now reservation)))) }
-    ensures pending { IfOk result (λ m. m.pending ≡ Some (record { root = stamp.number; asker = Asker.Scheduler; json = json; ask = Ask.Assign reservation })) }
+    ensures pending { IfOk result (λ m. m.pending ≡ Some (record { root = stamp.number; json = json; ask = Ask.Assign reservation })) }
     ensures same { OnOk result (state.new ≡ state.old) }
     ensures err { IfErr result (λ e. e ≡ fault.Memory) }
 {
@@ -332,7 +334,6 @@ fn reserved(
             effect: Effect::of_call(Some(core), call),
             pending: Some(Pending {
                 root: stamp.number,
-                asker: Asker::Scheduler,
                 json,
                 ask: Ask::Assign(reservation),
             }),
@@ -412,7 +413,7 @@ fn serve_asked(
 }
 
 /// What is made of bytes that come to the scheduler.
-fn serve(desk: &mut Desk, arrival: &Arrival<'_>) -> Result<Made, FarmFault>
+pub fn serve(desk: &mut Desk, arrival: &Arrival<'_>) -> Result<Made, FarmFault>
     requires plain { IsPlain desk.old.setup.scheduler.auth }
     ensures answered { IfOk result (λ m. IsAnswered desk.old.setup desk.old.state arrival.now.stamp.number arrival.now.stamp.at arrival.now.peer arrival.now.bytes.now m.effect) }
     ensures kept { IfOk result (λ m. Keeps (IsBegunBy desk.old.setup desk.old.state.log arrival.now.stamp.number (to_scheduler arrival.now.peer arrival.now.bytes.now) m.effect) m.effect m.pending) }
@@ -427,23 +428,4 @@ fn serve(desk: &mut Desk, arrival: &Arrival<'_>) -> Result<Made, FarmFault>
     };
     let Asked { what, json } = question;
     serve_asked(desk.alloc, &mut desk.state, arrival.stamp, json, what)
-}
-
-/// What is made of bytes that come to an address: what the scheduler does with what they ask, or the word
-/// that nobody listens there.
-pub fn receive(
-    desk: &mut Desk,
-    target: Addr,
-    arrival: &Arrival<'_>,
-) -> Result<Made, FarmFault>
-    requires plain { IsPlain desk.old.setup.scheduler.auth }
-    ensures received { IfOk result (IsReceived desk.old.setup desk.old.state arrival.now.stamp.number arrival.now.stamp.at
-        (way_to desk.old.setup target arrival.now.peer arrival.now.bytes.now)) }
-    ensures desk { IfOk result (λ m. desk.new ≡ acted desk.old m.effect.core) }
-    ensures err { IfErr result (λ e. e ≡ fault.Memory) }
-{
-    if target != desk.setup.scheduler.addr {
-        return Ok(Made::whole(Effect::of_word(EntryWord::Down)));
-    }
-    serve(desk, arrival)
 }

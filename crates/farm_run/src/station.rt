@@ -3,15 +3,15 @@ ghost use Rattle.std.specs.Prelude.{◌≡◌, ◌≤◌, [], codes, IfOk, IfErr
 ghost use Rattle.dist_types.specs.Cause.{counted};
 ghost use Rattle.disk_cache.specs.Archives.{opened_archives, IsInStep};
 ghost use Rattle.disk_cache.specs.Entries.{total};
-ghost use Rattle.disk_cache.specs.InMemory.{folder_files};
+ghost use Rattle.disk_cache.specs.InMemory.{reliable_files};
 ghost use Rattle.farm_run.specs.Servers.{server_begun, restarted};
 ghost use Rattle.farm_run.specs.Stations.{now_of, IsWell};
 ghost use Rattle.farm_script.specs.declared.fault.FarmFault.TheVariants as fault;
 
 use build_server::state::ServerState;
 use disk_cache::TcCache;
-use disk_cache::calls::Calls;
-use disk_cache::mem_folder::MemFolder;
+use disk_cache::laws::reopening_gives_the_archives;
+use disk_cache::reliable_folder::ReliableFolder;
 use dist_token::job_token::JWTJobAuthorizer;
 use dist_types::ids::ServerNonce;
 use dist_types::roles::JobAuthorizer;
@@ -30,7 +30,7 @@ pub struct Station {
     pub nonce: ServerNonce,
     /// Under the key of its life.
     pub authorizer: JWTJobAuthorizer,
-    pub state: ServerState<MemFolder>,
+    pub state: ServerState<ReliableFolder>,
     pub builds: u64,
 }
 
@@ -38,11 +38,11 @@ pub struct Station {
 /// memory, which no farm meets.
 fn open(
     alloc: Global,
-    folder: MemFolder,
+    folder: ReliableFolder,
     capacity: u64,
-) -> Result<ServerState<MemFolder>, FarmFault>
+) -> Result<ServerState<ReliableFolder>, FarmFault>
     ensures held { IfOk result (λ s. s.held ≡ []) }
-    ensures archives { IfOk result (λ s. s.archives ≡ opened_archives (codes "tc") capacity (folder_files folder)) }
+    ensures archives { IfOk result (λ s. s.archives ≡ opened_archives (codes "tc") capacity (reliable_files folder)) }
     ensures at { IfOk result (λ s. (s.capacity ≡ capacity) × (s.path ≡ codes "tc")) }
     ensures step { IfOk result (λ s. IsInStep s.path s.folder s.archives) }
     ensures err { IfErr result (λ e. e ≡ fault.Memory) }
@@ -54,7 +54,7 @@ fn open(
 }
 
 /// That the archives of a cache fit its capacity.
-fn fits(cache: &TcCache<MemFolder>)
+fn fits(cache: &TcCache<ReliableFolder>)
     ensures { total cache.now.archives ≤ cache.now.capacity }
 {
     match cache.archives().next() {
@@ -72,8 +72,7 @@ impl Station {
         ensures well { IfOk result (IsWell server.now) }
         ensures err { IfErr result (λ e. e ≡ fault.Memory) }
     {
-        let calls = Calls::new(Vec::new(alloc), Vec::new(alloc));
-        let folder = MemFolder::new(alloc, Vec::new(alloc), calls);
+        let folder = ReliableFolder::new(alloc);
         let state = open(alloc, folder, server.capacity)?;
         let key = Vec::from_slice(alloc, server.key.get())?;
         Ok(Station {
@@ -108,6 +107,7 @@ impl Station {
         } = self;
         let cache = state.into_cache();
         fits(&cache);
+        reopening_gives_the_archives();
         let folder = cache.into_folder();
         let state = open(alloc, folder, server.capacity)?;
         let key = Vec::from_slice(alloc, key)?;
