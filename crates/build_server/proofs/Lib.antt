@@ -2,3 +2,4 @@ pub mod TableLemmas
 pub mod ListLemmas
 pub mod StoreLemmas
 pub mod TakeLemmas
+pub mod LawLemmas

@@ -10,8 +10,7 @@ use Rattle.std.proofs.lemmas.Bool.{true≢false}
 use Rattle.std.proofs.lemmas.Bool.Decides.{nat_tests}
 use Rattle.std.proofs.lemmas.Slice.Eq.{bytes_eq-Decides}
 use Rattle.disk_cache.specs.Archives.{Archives}
-use Rattle.disk_cache.specs.Archiving.{dropped}
-use Rattle.disk_cache.specs.Disk.{without_key}
+use Rattle.disk_cache.specs.Disk.{dropped, without_key}
 use Rattle.disk_cache.specs.Entries.{total, trim}
 use Rattle.build_server.specs.Books.{ids, without_ids, is_listed}
 

@@ -5,8 +5,8 @@ use Rattle.std.specs.List.{IsDistinct}
 use Rattle.std.specs.Map.{keys_of}
 use Rattle.std.specs.Str.{bytes_eq}
 use Rattle.disk_cache.specs.Archives.{Archives, id_of}
-use Rattle.disk_cache.specs.Archiving.{dropped, archive_verdict, with_archive, StoreFails}
-use Rattle.disk_cache.specs.Disk.{Left, without_key}
+use Rattle.disk_cache.specs.Archiving.{archive_verdict, with_archive, StoreFails}
+use Rattle.disk_cache.specs.Disk.{Left, dropped, without_key}
 use Rattle.disk_cache.specs.Entries.{trim}
 use Rattle.disk_cache.specs.Held.{Held}
 use Rattle.disk_cache.specs.Store.{IoCause}

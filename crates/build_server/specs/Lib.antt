@@ -3,4 +3,5 @@ pub mod Rules
 pub mod Builds
 pub mod Rows
 pub mod Stores
+pub mod Laws
 pub mod Echo

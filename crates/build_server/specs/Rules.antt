@@ -10,7 +10,7 @@ use Rattle.dist_types.specs.declared.results.SubmitToolchainResult.{SubmitToolch
 use Rattle.dist_types.specs.declared.results.SubmitToolchainResult.TheVariants as answer
 use Rattle.dist_types.specs.declared.results.UpdateJobStateResult.{UpdateJobStateResult}
 use Rattle.disk_cache.specs.Archives.{Archives, id_of}
-use Rattle.disk_cache.specs.Archiving.{dropped}
+use Rattle.disk_cache.specs.Disk.{dropped}
 use Rattle.disk_cache.specs.Entries.{promoted_key}
 use Rattle.disk_cache.specs.Held.{Held, Holds}
 use Rattle.build_server.specs.Books.{Books, Table, held_for, placed, without_job, is_listed, ids, without_ids, Fails, KeepsStep}

@@ -12,6 +12,7 @@
 pub mod echo;
 pub mod fault;
 pub mod keeping;
+pub mod laws;
 pub mod run;
 pub mod server;
 pub mod state;

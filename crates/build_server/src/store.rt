@@ -1,7 +1,7 @@
 //! What a server asks of its cache: to store an archive that is not listed, and to read one that is.
 ghost use Rattle.std.specs.Prelude.{◌≡◌, ◌≤◌, ◌-◌, length, take, is_some, true, false, IfOk, IfErr, OnOk, Ok, Err};
 ghost use Rattle.disk_cache.specs.Archives.{IsInStep, IsArchiveStore};
-ghost use Rattle.disk_cache.specs.Archiving.{dropped};
+ghost use Rattle.disk_cache.specs.Disk.{dropped};
 ghost use Rattle.disk_cache.specs.Entries.{total};
 ghost use Rattle.build_server.specs.Books.{ids, is_listed};
 ghost use Rattle.build_server.specs.Rules.{NotFolder, FolderHeld};

@@ -1,5 +1,5 @@
 use Rattle.std.proofs.Common.{◌≡◌, refl, sym, ◌∙◌, ap, subst, ◌-◌, ◌≤◌, length, arith, List, ℕ}
-use Rattle.disk_cache.specs.Archiving.{dropped}
+use Rattle.disk_cache.specs.Disk.{dropped}
 use Rattle.build_server.specs.Books.{ids}
 use Rattle.build_server.proofs.StoreLemmas.{store_refused, store_shorter, store_made}
 use Rattle.build_server.proofs.store.store.Goals as goal
