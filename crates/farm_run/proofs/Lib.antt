@@ -8,6 +8,7 @@ pub mod OneLemmas
 pub mod OwnLemmas
 pub mod RunLemmas
 pub mod ServeLemmas
+pub mod ServerLemmas
 pub mod SoundLemmas
 pub mod ThereLemmas
 pub mod WaitLemmas

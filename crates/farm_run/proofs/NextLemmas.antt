@@ -41,21 +41,37 @@ use Rattle.farm_script.specs.declared.event.EventKind.TheVariants.{Request, Deli
 use Rattle.farm_run.specs.declared.entry.Effect.{Effect}
 use Rattle.farm_run.specs.declared.entry.Entry.{Entry}
 use Rattle.farm_run.specs.declared.entry.EntryWord.{EntryWord}
-use Rattle.farm_run.specs.declared.entry.EntryWord.TheVariants.{Void, Down}
+use Rattle.farm_run.specs.declared.entry.EntryWord.TheVariants.{Void, Down, Died}
 use Rattle.farm_run.specs.declared.entry.OutCall.{OutCall}
 use Rattle.farm_run.specs.declared.pending.Ask.{Ask}
-use Rattle.farm_run.specs.declared.pending.Ask.TheVariants.{Assign}
+use Rattle.farm_run.specs.declared.pending.Ask.TheVariants.{Assign, Report}
+use Rattle.farm_run.specs.declared.pending.Told.{Told}
+use Rattle.farm_run.specs.declared.pending.Told.TheVariants as told
+use Rattle.farm_run.specs.declared.entry.Step.{Step}
+use Rattle.farm_run.specs.declared.entry.StepKind.{StepKind}
+use Rattle.farm_run.specs.declared.entry.StepKind.TheVariants as kinds
+use Rattle.dist_types.specs.declared.results.UpdateJobStateResult.{UpdateJobStateResult}
+use Rattle.dist_types.specs.declared.results.HeartbeatServerResult.{HeartbeatServerResult}
+use Rattle.build_server.specs.declared.run.Outcome.{Outcome}
+use Rattle.build_server.specs.Rules.{assign_verdict}
+use Rattle.build_server.specs.declared.fault.ServerFault.{ServerFault}
+use Rattle.dist_wire.specs.declared.run.RunJobHttpRequest.{RunJobHttpRequest}
+use Rattle.http_routes.specs.declared.server_route.ServerRouted.{ServerRouted}
+use Rattle.http_routes.specs.declared.server_route.ServerRouted.TheVariants as server_asked
+use Rattle.farm_run.specs.Servers.{ServerNow, server_now, is_over}
+use Rattle.farm_run.specs.Served.{assigned, served, books_of}
+use Rattle.farm_run.proofs.ServerLemmas.{IsStepOf}
 use Rattle.farm_run.specs.declared.pending.Pending.{Pending}
 use Rattle.farm_run.specs.Answers.{hears, allocated, answer_to}
-use Rattle.farm_run.specs.Begun.{IsBegunBy, IsCallOf}
+use Rattle.farm_run.specs.Begun.{IsBegunBy, IsMadeBy, IsCallOf, completion_by, completion_at, completion_of}
 use Rattle.farm_run.specs.Calls.{call_at, delivery_at, settles_by, settled_at, waiting_at}
-use Rattle.farm_run.specs.Effects.{entry_of, word_effect}
+use Rattle.farm_run.specs.Effects.{entry_of, effect_of, word_effect}
 use Rattle.farm_run.specs.Farm.{IsSound, IsLawful, AreLawful}
-use Rattle.farm_run.specs.Next.{IsSettled, IsMade, IsNext, EachNext}
+use Rattle.farm_run.specs.Next.{GoesOn, Follows, IsSettled, IsMade, IsNext, EachNext}
 use Rattle.farm_run.specs.Seen.{core_log, core_of}
-use Rattle.farm_run.specs.Settled.{IsOutcome, assignment_end, GoesOnBy}
+use Rattle.farm_run.specs.Settled.{IsOutcome, assignment_end, unreported, ready_end, started_end, complete_end, Reports, ReportsIn, Lives}
 use Rattle.farm_run.specs.Tickets.{ticket_of, ticket_at}
-use Rattle.farm_run.specs.Ways.{Way, way_to, delivery_way, return_way, is_inside, way_of, to_nothing, to_nobody, to_scheduler, to_call}
+use Rattle.farm_run.specs.Ways.{Way, server_way, caller_of, delivery_way, return_way, is_inside, beat_way, restart_way, way_of, brought_at, to_nothing, to_nobody, to_scheduler, to_server, to_call, to_beat, to_restart}
 use Rattle.farm_run.proofs.OwnLemmas.{legal_front}
 use Rattle.farm_run.proofs.SoundLemmas.{Adds, sound-step}
 
@@ -136,21 +152,41 @@ settled_within log n w waits =
     let a = bind_some (slice_get log n) _ w waits in
     slice_get_within log n a.0 a.1
 
+-- the report of a run's end asks for no assignment
+no_completion : (root : ℕ) (json : Bool) (addr : Addr) (life : ℕ) (k : StepKind) (p : Pending) (t : Ticket) → completion_by root json addr life k ≡ Some p → p.ask ≡ Assign t → ⊥
+no_completion root json addr life (kinds.Ran job ran result) p t e asks =
+    let same = same_Some _ p e in
+    let no = ap (λ (q : Pending). q.ask) same ∙ asks in
+    cc
+no_completion root json addr life (kinds.Heard as_what) p t e asks = cc
+no_completion root json addr life (kinds.Assigned job tc ready) p t e asks = cc
+no_completion root json addr life (kinds.Submitted job outcome) p t e asks = cc
+no_completion root json addr life (kinds.Finished job) p t e asks = cc
+no_completion root json addr life (kinds.Unreported job) p t e asks = cc
+no_completion root json addr life (kinds.Opened archives) p t e asks = cc
+
+no_assignment : (q : Pending) (ask : Ask) (step : Option Step) (p : Pending) (t : Ticket) → completion_of q ask step ≡ Some p → p.ask ≡ Assign t → ⊥
+no_assignment q (Assign u) step p t e asks = cc
+no_assignment q (Report addr life told) None p t e asks = cc
+no_assignment q (Report addr life told) (Some step) p t e asks = no_completion q.root q.json addr life step.kind p t e asks
+
 -- the reservation of a call that asks for an assignment is that of its entry
 pub call_ticket : (setup : Setup) (log : List Entry) (n : ℕ) (p : Pending) (t : Ticket) → IsCallOf setup log n p → p.ask ≡ Assign t → ticket_at log n ≡ Some t
 call_ticket setup log n p t is asks =
     ap (λ (o : Option Entry). o >>= λ e. ticket_of (core_log (take n log)) e.core) is.there
-    ∙ by_way (way_of setup (take n log) is.entry.event.kind) is.begun
+    ∙ by_way (way_of setup (take n log) is.entry.event.kind) is.made
   where
-    by_way : (way : Way) → IsBegunBy setup (core_log (take n log)) n way (record { core = is.entry.core; step = is.entry.step; call = is.entry.call; reply = is.entry.reply; word = is.entry.word }) p
-        → ticket_of (core_log (take n log)) is.entry.core ≡ Some t
+    by_way : (way : Way) → IsMadeBy setup (take n log) way (effect_of is.entry) p → ticket_of (core_log (take n log)) is.entry.core ≡ Some t
     by_way (to_scheduler peer bytes) b =
         let same : Assign b.2.ticket ≡ Assign t = sym (ap (λ (q : Pending). q.ask) b.2.is) ∙ asks in
         let one : b.2.ticket ≡ t = cc in
         b.2.reserved ∙ ap (λ (u : Ticket). Some u) one
+    by_way (to_server s bytes) b = let no : Report s.setup.addr s.life b.2.told ≡ Assign t = sym (ap (λ (q : Pending). q.ask) b.2.is) ∙ asks in absurd cc
+    by_way (to_beat s) b = let no : Report s.setup.addr s.life told.Heartbeat ≡ Assign t = sym (ap (λ (q : Pending). q.ask) b) ∙ asks in absurd cc
+    by_way (to_call m reply) b = absurd (no_assignment b.first b.first.ask is.entry.step p t b.is asks)
     by_way to_nothing b = absurd b
     by_way to_nobody b = absurd b
-    by_way (to_call m reply) b = absurd b
+    by_way (to_restart s key nonce) b = absurd b
 
 assignment_adds : (setup : Setup) (log : List Entry) (event : Event) (at root : ℕ) (json : Bool) (n : ℕ) (reply : Option (List ℕ)) (w : Entry) (t : Ticket) (r : Result AssignJobResult CallFault)
     → IsSound setup log → waiting_at log n ≡ Some w → ticket_at log n ≡ Some t → settles_by log event.kind ≡ Some (n, reply) → IsOutcome reply r
@@ -182,28 +218,85 @@ assignment_adds setup log event at root json n reply w t (Err f) sound waits res
   settles = settles_it log n reply (entry_of event (assignment_end (core_of setup log) root json at t (Err f))) (settled_within log n w waits) refl names;
 }))
 
-goes_adds : (setup : Setup) (log : List Entry) (event : Event) (at n : ℕ) (reply : Option (List ℕ)) (w : Entry) (p : Pending) (ask : Ask) (x : Effect)
+-- ---- what servers add: no core entry
+
+assigned_core : (addr : Addr) (number : ℕ) (json : Bool) (job : JobId) (tc : List ℕ) (r : Result AssignJobResult ServerFault) → (assigned addr number json job tc r).core ≡ None
+assigned_core addr number json job tc (Ok a) = refl
+assigned_core addr number json job tc (Err e) = refl
+
+served_core : (setup : Setup) (s : ServerNow) (number : ℕ) (json : Bool) (what : ServerRouted) → (served setup s number json what).core ≡ None
+served_core setup s number json (server_asked.Assign job tc) = assigned_core s.setup.addr number json job tc (assign_verdict (books_of s) job tc)
+served_core setup s number json (server_asked.Submit job) = refl
+served_core setup s number json (server_asked.Run job run at) = refl
+served_core setup s number json (server_asked.Done response) = refl
+
+ready_core : (s : ServerNow) (root : ℕ) (json : Bool) (job : JobId) (archive : List ℕ) (r : Result UpdateJobStateResult CallFault) → (ready_end s root json job archive r).core ≡ None
+ready_core s root json job archive (Ok u) = refl
+ready_core s root json job archive (Err f) = refl
+
+started_core : (setup : Setup) (s : ServerNow) (root : ℕ) (job : JobId) (run : RunJobHttpRequest) (inputs : List ℕ) (r : Result UpdateJobStateResult CallFault) → (started_end setup s root job run inputs r).core ≡ None
+started_core setup s root job run inputs (Ok u) = refl
+started_core setup s root job run inputs (Err f) = refl
+
+complete_core : (addr : Addr) (root : ℕ) (json : Bool) (job : JobId) (outcome : Outcome) (r : Result UpdateJobStateResult CallFault) → (complete_end addr root json job outcome r).core ≡ None
+complete_core addr root json job outcome (Ok u) = refl
+complete_core addr root json job outcome (Err f) = refl
+
+reports_core : (setup : Setup) (s : ServerNow) (bytes : List ℕ) (root : ℕ) (json : Bool) (reply : Option (List ℕ)) (t : Told) (x : Effect) → Reports setup s bytes root json reply t x → x.core ≡ None
+reports_core setup s bytes root json reply (told.Ready job at) x is = ap (λ (y : Effect). y.core) is.2 ∙ ready_core s root json job (drop at bytes) is.0
+reports_core setup s bytes root json reply (told.Started job run at) x is = ap (λ (y : Effect). y.core) is.2 ∙ started_core setup s root job run (drop at bytes) is.0
+reports_core setup s bytes root json reply (told.Complete job outcome) x is = ap (λ (y : Effect). y.core) is.2 ∙ complete_core s.setup.addr root json job outcome is.0
+reports_core setup s bytes root json reply told.Heartbeat x is = ap (λ (y : Effect). y.core) is.2
+
+lives_core : (setup : Setup) (life : ℕ) (s : ServerNow) (bytes : List ℕ) (root : ℕ) (json : Bool) (reply : Option (List ℕ)) (t : Told) (over : Bool) (x : Effect) → Lives setup life s bytes root json reply t over x → x.core ≡ None
+lives_core setup life s bytes root json reply t true x is = ap (λ (y : Effect). y.core) is
+lives_core setup life s bytes root json reply t false x is = reports_core setup s bytes root json reply t x is
+
+pub reports_in_core : (setup : Setup) (life : ℕ) (bytes : List ℕ) (root : ℕ) (json : Bool) (reply : Option (List ℕ)) (t : Told) (o : Option ServerNow) (x : Effect) → ReportsIn setup life bytes root json reply t o x → x.core ≡ None
+reports_in_core setup life bytes root json reply t None x is = ap (λ (y : Effect). y.core) is
+reports_in_core setup life bytes root json reply t (Some s) x is = lives_core setup life s bytes root json reply t (is_over life s) x is
+
+-- an effect without a core entry
+quiet_adds : (setup : Setup) (log : List Entry) (event : Event) (x : Effect) → x.core ≡ None → Adds setup log (entry_of event x)
+quiet_adds setup log event x none = inl (record { core = none })
+
+goes_adds : (setup : Setup) (log : List Entry) (event : Event) (at n root : ℕ) (json : Bool) (reply : Option (List ℕ)) (w : Entry) (p : Pending) (ask : Ask) (x : Effect)
     → IsSound setup log → waiting_at log n ≡ Some w → IsCallOf setup log n p → p.ask ≡ ask → settles_by log event.kind ≡ Some (n, reply)
-    → GoesOnBy (core_of setup log) at p reply ask x → Adds setup log (entry_of event x)
-goes_adds setup log event at n reply w p (Assign t) x sound waits of_call asks names is =
+    → GoesOn setup log at root json reply ask x → Adds setup log (entry_of event x)
+goes_adds setup log event at n root json reply w p (Assign t) x sound waits of_call asks names is =
     subst (λ (y : Effect). Adds setup log (entry_of event y)) (sym is.2)
-    (assignment_adds setup log event at p.root p.json n reply w t is.0 sound waits (call_ticket setup log n p t of_call asks) names is.1)
+    (assignment_adds setup log event at root json n reply w t is.0 sound waits (call_ticket setup log n p t of_call asks) names is.1)
+goes_adds setup log event at n root json reply w p (Report server life t) x sound waits of_call asks names is =
+    quiet_adds setup log event x (reports_in_core setup life (brought_at log root) root json reply t (server_now setup log server) x is)
 
 settled_adds : (setup : Setup) (log : List Entry) (event : Event) (at n : ℕ) (reply : Option (List ℕ)) (o : Option Entry) (x : Effect)
     → IsSound setup log → waiting_at log n ≡ o → settles_by log event.kind ≡ Some (n, reply) → IsSettled setup log at n reply o x → Adds setup log (entry_of event x)
 settled_adds setup log event at n reply None x sound waits names is = word_adds setup log event Void x is
-settled_adds setup log event at n reply (Some w) x sound waits names is = goes_adds setup log event at n reply w is.0 is.0.ask x sound waits is.1 refl names is.2
+settled_adds setup log event at n reply (Some w) x sound waits names is =
+    goes_adds setup log event at n is.0.root is.0.json reply w is.0 is.0.ask x sound waits is.1 refl names is.2
 
 -- ---- the next entry
 
 -- bytes that come to an address settle no call
-no_call : (b : Bool) (peer : Addr) (bytes : List ℕ) (n : ℕ) (reply : Option (List ℕ)) → cond b (to_scheduler peer bytes) to_nobody ≡ to_call n reply → ⊥
-no_call true peer bytes n reply is = cc
-no_call false peer bytes n reply is = cc
+no_server_call : (bytes : List ℕ) (o : Option ServerNow) (n : ℕ) (reply : Option (List ℕ)) → server_way bytes o ≡ to_call n reply → ⊥
+no_server_call bytes None n reply is = cc
+no_server_call bytes (Some s) n reply is = cc
 
-no_delivery : (setup : Setup) (o : Option OutCall) (n : ℕ) (reply : Option (List ℕ)) → delivery_way setup o ≡ to_call n reply → ⊥
-no_delivery setup None n reply is = cc
-no_delivery setup (Some c) n reply is = no_call (same_addr c.target setup.scheduler.addr) setup.scheduler.addr c.bytes n reply is
+no_call : (b : Bool) (peer : Addr) (bytes : List ℕ) (o : Option ServerNow) (n : ℕ) (reply : Option (List ℕ)) → cond b (to_scheduler peer bytes) (server_way bytes o) ≡ to_call n reply → ⊥
+no_call true peer bytes o n reply is = cc
+no_call false peer bytes o n reply is = no_server_call bytes o n reply is
+
+no_delivery : (setup : Setup) (log : List Entry) (caller : Addr) (o : Option OutCall) (n : ℕ) (reply : Option (List ℕ)) → delivery_way setup log caller o ≡ to_call n reply → ⊥
+no_delivery setup log caller None n reply is = cc
+no_delivery setup log caller (Some c) n reply is = no_call (same_addr c.target setup.scheduler.addr) caller c.bytes (server_now setup log c.target) n reply is
+
+no_beat : (o : Option ServerNow) (n : ℕ) (reply : Option (List ℕ)) → beat_way o ≡ to_call n reply → ⊥
+no_beat None n reply is = cc
+no_beat (Some s) n reply is = cc
+
+no_restart : (key : List ℕ) (nonce : ℕ) (o : Option ServerNow) (n : ℕ) (reply : Option (List ℕ)) → restart_way key nonce o ≡ to_call n reply → ⊥
+no_restart key nonce None n reply is = cc
+no_restart key nonce (Some s) n reply is = cc
 
 settles_named : (c n : ℕ) (given reply : Option (List ℕ)) → to_call c given ≡ to_call n reply → ◌≡◌ {A = Option (ℕ × Option (List ℕ))} (Some (c, given)) (Some (n, reply))
 settles_named c n given reply is =
@@ -221,19 +314,24 @@ settles_return (Some p) n reply is = settles_named p.0 n (Some p.1) reply is
 
 -- an event that comes to a call is to settle it
 pub way_settles : (setup : Setup) (log : List Entry) (k : EventKind) (n : ℕ) (reply : Option (List ℕ)) → way_of setup log k ≡ to_call n reply → settles_by log k ≡ Some (n, reply)
-way_settles setup log (Request target peer bytes) n reply is = absurd (no_call (same_addr target setup.scheduler.addr) peer bytes n reply is)
-way_settles setup log (Deliver c) n reply is = absurd (no_delivery setup (call_at log c) n reply is)
+way_settles setup log (Request target peer bytes) n reply is = absurd (no_call (same_addr target setup.scheduler.addr) peer bytes (server_now setup log target) n reply is)
+way_settles setup log (Deliver c) n reply is = absurd (no_delivery setup log (caller_of setup log (slice_get log c)) (call_at log c) n reply is)
 way_settles setup log (Fail c) n reply is = settles_named c n None reply is
 way_settles setup log (Return d) n reply is = settles_return (delivery_at log d) n reply is
 way_settles setup log (Answer c bytes) n reply is = settles_answer (is_inside setup (call_at log c)) c n bytes reply is
-way_settles setup log (Beat server) n reply is = absurd cc
-way_settles setup log (Restart server key nonce) n reply is = absurd cc
+way_settles setup log (Beat server) n reply is = absurd (no_beat (server_now setup log server) n reply is)
+way_settles setup log (Restart server key nonce) n reply is = absurd (no_restart key nonce (server_now setup log server) n reply is)
 
 made_adds : (setup : Setup) (log : List Entry) (event : Event) (way : Way) (x : Effect) → way_of setup log event.kind ≡ way → IsSound setup log → IsMade setup log event.at way x → Adds setup log (entry_of event x)
 made_adds setup log event (to_scheduler peer bytes) x same sound is =
     subst (λ (y : Effect). Adds setup log (entry_of event y)) (sym is.2) (answer_adds setup log event (length log) event.at is.0.json is.0.what)
 made_adds setup log event (to_call n reply) x same sound is =
     settled_adds setup log event event.at n reply (waiting_at log n) x sound refl (way_settles setup log event.kind n reply same) is
+made_adds setup log event (to_server s bytes) x same sound is =
+    subst (λ (y : Effect). Adds setup log (entry_of event y)) (sym is.2)
+    (quiet_adds setup log event (served setup s (length log) is.0.json is.0.what) (served_core setup s (length log) is.0.json is.0.what))
+made_adds setup log event (to_beat s) x same sound is = quiet_adds setup log event x (ap (λ (y : Effect). y.core) is)
+made_adds setup log event (to_restart s key nonce) x same sound is = quiet_adds setup log event x (ap (λ (y : Effect). y.core) is)
 made_adds setup log event to_nobody x same sound is = word_adds setup log event Down x is
 made_adds setup log event to_nothing x same sound is = word_adds setup log event Void x is
 

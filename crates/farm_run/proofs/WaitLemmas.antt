@@ -9,11 +9,10 @@ use Rattle.sched_core.proofs.Lists.{end_cut}
 use Rattle.farm_script.specs.declared.setup.Setup.{Setup}
 use Rattle.farm_run.specs.declared.entry.Entry.{Entry}
 use Rattle.farm_run.specs.declared.pending.Pending.{Pending}
-use Rattle.farm_run.specs.Begun.{IsBegunBy, IsCallOf}
+use Rattle.farm_run.specs.Begun.{IsMadeBy, IsCallOf}
 use Rattle.farm_run.specs.Calls.{settled_at, is_settled, waiting_at}
 use Rattle.farm_run.specs.Effects.{effect_of}
 use Rattle.farm_run.specs.Farm.{IsKept, kept_at, AreKept, IsAfter}
-use Rattle.farm_run.specs.Seen.{core_log}
 use Rattle.farm_run.specs.Ways.{way_of}
 use Rattle.farm_run.proofs.CallLemmas.{get_left, get_end, waiting-push}
 use Rattle.farm_run.proofs.NumberLemmas.{take_left, take_end}
@@ -23,16 +22,16 @@ pub call-left : (setup : Setup) (log : List Entry) (e : Entry) (n : ℕ) (p : Pe
 call-left setup log e n p h is = record {
   entry = is.entry;
   there = get_left log (e ∷ []) n h ∙ is.there;
-  begun = subst (λ (l : List Entry). IsBegunBy setup (core_log l) n (way_of setup l is.entry.event.kind) (effect_of is.entry) p) (sym (take_left log (e ∷ []) n (omega arith))) is.begun;
+  made = subst (λ (l : List Entry). IsMadeBy setup l (way_of setup l is.entry.event.kind) (effect_of is.entry) p) (sym (take_left log (e ∷ []) n (omega arith))) is.made;
 }
 
 -- what is kept of the call that the entry makes
-pub call-end : (setup : Setup) (log : List Entry) (e : Entry) (p : Pending) → IsBegunBy setup (core_log log) (length log) (way_of setup log e.event.kind) (effect_of e) p
+pub call-end : (setup : Setup) (log : List Entry) (e : Entry) (p : Pending) → IsMadeBy setup log (way_of setup log e.event.kind) (effect_of e) p
     → IsCallOf setup (log ++ e ∷ []) (length log) p
 call-end setup log e p is = record {
   entry = e;
   there = get_end log e;
-  begun = subst (λ (l : List Entry). IsBegunBy setup (core_log l) (length log) (way_of setup l e.event.kind) (effect_of e) p) (sym (take_end log e)) is;
+  made = subst (λ (l : List Entry). IsMadeBy setup l (way_of setup l e.event.kind) (effect_of e) p) (sym (take_end log e)) is;
 }
 
 -- an entry that does not settle the call leaves it as it was

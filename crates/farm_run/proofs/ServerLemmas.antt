@@ -1,0 +1,236 @@
+-- Where a server stands in its setup, and what an entry leaves of the others.
+use Rattle.std.proofs.Common.{◌≡◌, ◌≢◌, ℕ, zero, suc, ◌+◌, ◌-◌, ◌<◌, ◌≤◌, Bool, true, false, cond, List, [], ◌∷◌, ◌++◌, length, map, set, Option, Some, None, refl, sym, ap, subst, ◌∙◌, inl, inr, arith}
+use Rattle.std.specs.Prelude.{slice_get, position, find, fold, is_some}
+use Rattle.core.specs.List.{position_from}
+use Rattle.std.specs.List.{AllByRecursion}
+use Rattle.std.specs.Option.{option_map}
+use Rattle.std.proofs.lemmas.Bool.{cases_Bool, cases_eq}
+use Rattle.std.proofs.lemmas.List.{length-set}
+use Rattle.std.proofs.lemmas.List.Sums.{fold-append}
+use Rattle.std.proofs.lemmas.Option.{same_Some}
+use Rattle.dist_types.specs.Addr.{same_addr}
+use Rattle.dist_types.specs.declared.addr.Addr.{Addr}
+use Rattle.sched_core.proofs.AddressLemmas.{same_is, same_self}
+use Rattle.sched_core.proofs.AllLemmas.{is_false, true_false}
+use Rattle.farm_script.specs.declared.event.Event.{Event}
+use Rattle.farm_script.specs.declared.setup.Setup.{Setup}
+use Rattle.farm_script.specs.declared.setup.SetupServer.{SetupServer}
+use Rattle.farm_run.specs.declared.entry.Effect.{Effect}
+use Rattle.farm_run.specs.declared.entry.Entry.{Entry}
+use Rattle.farm_run.specs.declared.entry.OutCall.{OutCall}
+use Rattle.farm_run.specs.declared.entry.Step.{Step}
+use Rattle.farm_run.specs.declared.entry.StepKind.{StepKind}
+use Rattle.farm_run.specs.declared.entry.StepKind.TheVariants as kinds
+use Rattle.farm_run.specs.declared.station.Station.{Station}
+use Rattle.farm_run.specs.Effects.{entry_of}
+use Rattle.farm_run.specs.Servers.{ServerNow, server_begun, kind_after, restart_by, restarted, stepped, server_after, server_of, server_at, server_now}
+use Rattle.farm_run.specs.Stations.{now_of, IsWell, AreWell, IsStation, AreStations, IsStepAt, AreApart, HasApart}
+
+-- ---- places
+
+-- at the first place where a test passes stands the first that passes
+found_from : {X : Type 0} (p : X → Bool) (n i : ℕ) (xs : List X) → position_from p n xs ≡ Some i → (n ≤ i) × ((x : X) × (slice_get xs (i - n) ≡ Some x) × (find p xs ≡ Some x) × (p x ≡ true))
+found_from p n i [] e = absurd cc
+found_from p n i (x ∷ xs) e = at_head (p x) refl e
+  where
+    at_head : (b : Bool) → p x ≡ b → cond b (Some n) (position_from p (n + 1) xs) ≡ Some i → (n ≤ i) × ((y : X) × (slice_get (x ∷ xs) (i - n) ≡ Some y) × (find p (x ∷ xs) ≡ Some y) × (p y ≡ true))
+    at_head true is e =
+        let same : n ≡ i = same_Some n i e in
+        let here : i - n ≡ zero = omega arith in
+        (omega arith, x, ap (slice_get (x ∷ xs)) here, ap (λ (b : Bool). cond b (Some x) (find p xs)) is, is)
+    at_head false is e =
+        let r = found_from p (n + 1) i xs e in
+        let more : i - n ≡ suc (i - (n + 1)) = omega (arith, r.0) in
+        (omega (arith, r.0), r.1, ap (slice_get (x ∷ xs)) more ∙ r.2, ap (λ (b : Bool). cond b (Some x) (find p xs)) is ∙ r.3, r.4)
+
+none_from : {X : Type 0} (p : X → Bool) (n : ℕ) (xs : List X) → position_from p n xs ≡ None → find p xs ≡ None
+none_from p n [] e = refl
+none_from p n (x ∷ xs) e = at_head (p x) refl e
+  where
+    at_head : (b : Bool) → p x ≡ b → cond b (Some n) (position_from p (n + 1) xs) ≡ None → find p (x ∷ xs) ≡ None
+    at_head true is e = absurd cc
+    at_head false is e = ap (λ (b : Bool). cond b (Some x) (find p xs)) is ∙ none_from p (n + 1) xs e
+
+-- the server at a place that was found
+pub record IsFound (setup : Setup) (addr : Addr) (place : ℕ) : Type 0 where
+  pub server : SetupServer
+  pub there : slice_get setup.servers place ≡ Some server
+  pub found : server_at setup addr ≡ Some server
+  pub at : server.addr ≡ addr
+
+pub place_found : (setup : Setup) (addr : Addr) (place : ℕ) → position (λ (s : SetupServer). same_addr s.addr addr) setup.servers ≡ Some place → IsFound setup addr place
+place_found setup addr place e =
+    let r = found_from (λ (s : SetupServer). same_addr s.addr addr) zero place setup.servers e in
+    let same : place - zero ≡ place = omega arith in
+    record { server = r.1; there = ap (slice_get setup.servers) (sym same) ∙ r.2; found = r.3; at = same_is r.1.addr addr r.4 }
+
+pub place_none : (setup : Setup) (addr : Addr) → position (λ (s : SetupServer). same_addr s.addr addr) setup.servers ≡ None → server_at setup addr ≡ None
+place_none setup addr e = none_from (λ (s : SetupServer). same_addr s.addr addr) zero setup.servers e
+
+-- whether a place is found is whether the server is
+found_some : (setup : Setup) (addr : Addr) (o : Option ℕ) → position (λ (s : SetupServer). same_addr s.addr addr) setup.servers ≡ o → is_some o ≡ is_some (server_at setup addr)
+found_some setup addr None e = sym (ap is_some (place_none setup addr e))
+found_some setup addr (Some place) e = sym (ap is_some (place_found setup addr place e).found)
+
+pub inside_is : (setup : Setup) (addr : Addr) → is_some (position (λ (s : SetupServer). same_addr s.addr addr) setup.servers) ≡ is_some (server_at setup addr)
+inside_is setup addr = found_some setup addr (position (λ (s : SetupServer). same_addr s.addr addr) setup.servers) refl
+
+-- ---- addresses that differ
+
+all_at : {P : Addr → Type 0} (xs : List SetupServer) (i : ℕ) (s : SetupServer) → AllByRecursion P (map (λ x. x.addr) xs) → slice_get xs i ≡ Some s → P s.addr
+all_at {P} [] i s all at = absurd cc
+all_at {P} (x ∷ xs) zero s all at = subst (λ (y : SetupServer). P y.addr) (same_Some x s at) all.0
+all_at {P} (x ∷ xs) (suc i) s all at = all_at {P = P} xs i s all.1 at
+
+apart_at : (xs : List SetupServer) (i j : ℕ) (s t : SetupServer) → AreApart (map (λ x. x.addr) xs) → slice_get xs i ≡ Some s → slice_get xs j ≡ Some t → i ≢ j → s.addr ≢ t.addr
+apart_at [] i j s t apart at bt differ = absurd cc
+apart_at (x ∷ xs) zero zero s t apart at bt differ = absurd (differ refl)
+apart_at (x ∷ xs) zero (suc j) s t apart at bt differ = λ same.
+    all_at {P = λ b. b ≢ x.addr} xs j t apart.0 bt (sym same ∙ ap (λ (y : SetupServer). y.addr) (sym (same_Some x s at)))
+apart_at (x ∷ xs) (suc i) zero s t apart at bt differ = λ same.
+    all_at {P = λ b. b ≢ x.addr} xs i s apart.0 at (same ∙ ap (λ (y : SetupServer). y.addr) (sym (same_Some x t bt)))
+apart_at (x ∷ xs) (suc i) (suc j) s t apart at bt differ = apart_at xs i j s t apart.1 at bt (λ same. differ (ap (λ (k : ℕ). suc k) same))
+
+not_same : (a b : Addr) → a ≢ b → same_addr a b ≡ false
+not_same a b differ = is_false (same_addr a b) (λ on. differ (same_is a b on))
+
+-- ---- one more entry
+
+pub server-push : (s : SetupServer) (log : List Entry) (e : Entry) → server_of s (log ++ e ∷ []) ≡ server_after (server_of s log) e
+server-push s log e = fold-append server_after (server_begun s) log (e ∷ [])
+
+stepped_setup : (step : Option Step) (s : ServerNow) → (stepped step s).setup ≡ s.setup
+stepped_setup None s = refl
+stepped_setup (Some step) s = by_test (same_addr step.server s.setup.addr)
+  where
+    open_kind : (k : StepKind) → (kind_after k s).setup ≡ s.setup
+    open_kind (kinds.Heard as_what) = refl
+    open_kind (kinds.Assigned job tc ready) = refl
+    open_kind (kinds.Submitted job outcome) = refl
+    open_kind (kinds.Ran job ran result) = refl
+    open_kind (kinds.Finished job) = refl
+    open_kind (kinds.Unreported job) = refl
+    open_kind (kinds.Opened archives) = refl
+
+    by_test : (b : Bool) → (cond b (kind_after step.kind s) s).setup ≡ s.setup
+    by_test true = open_kind step.kind
+    by_test false = refl
+
+restarted_setup : (o : Option (List ℕ × ℕ)) (s : ServerNow) → (restarted o s).setup ≡ s.setup
+restarted_setup None s = refl
+restarted_setup (Some p) s = refl
+
+after_setup : (s : ServerNow) (e : Entry) → (server_after s e).setup ≡ s.setup
+after_setup s e = stepped_setup e.step (restarted (restart_by s.setup.addr e.event.kind) s) ∙ restarted_setup (restart_by s.setup.addr e.event.kind) s
+
+fold_setup : (s : ServerNow) (log : List Entry) → (fold server_after s log).setup ≡ s.setup
+fold_setup s [] = refl
+fold_setup s (e ∷ es) = fold_setup (server_after s e) es ∙ after_setup s e
+
+pub server_setup : (s : SetupServer) (log : List Entry) → (server_of s log).setup ≡ s
+server_setup s log = fold_setup (server_begun s) log
+
+-- that a step is of the server at an address, or none
+abbrev pub IsStepOf : Addr → Option Step → Type 0
+IsStepOf addr None = Unit {0}
+IsStepOf addr (Some step) = step.server ≡ addr
+
+other_step : (s : ServerNow) (addr : Addr) (step : Option Step) → IsStepOf addr step → s.setup.addr ≢ addr → stepped step s ≡ s
+other_step s addr None of differ = refl
+other_step s addr (Some step) of differ =
+    ap (λ (b : Bool). cond b (kind_after step.kind s) s) (not_same step.server s.setup.addr (λ same. differ (sym same ∙ of)))
+
+-- a server of another address is as it was
+pub other_server : (s : SetupServer) (log : List Entry) (e : Entry) (addr : Addr) → restart_by s.addr e.event.kind ≡ None → IsStepOf addr e.step → s.addr ≢ addr → server_of s (log ++ e ∷ []) ≡ server_of s log
+other_server s log e addr still of differ =
+    let own : (server_of s log).setup.addr ≡ s.addr = ap (λ (x : SetupServer). x.addr) (server_setup s log) in
+    let none : restart_by (server_of s log).setup.addr e.event.kind ≡ None = ap (λ (a : Addr). restart_by a e.event.kind) own ∙ still in
+    server-push s log e ∙ ap (λ (o : Option (List ℕ × ℕ)). stepped e.step (restarted o (server_of s log))) none
+    ∙ other_step (server_of s log) addr e.step of (λ same. differ (sym own ∙ same))
+
+-- an entry without a step, whose event restarts nothing
+pub same_server : (s : SetupServer) (log : List Entry) (e : Entry) → restart_by s.addr e.event.kind ≡ None → e.step ≡ None → server_of s (log ++ e ∷ []) ≡ server_of s log
+same_server s log e still none =
+    let own : (server_of s log).setup.addr ≡ s.addr = ap (λ (x : SetupServer). x.addr) (server_setup s log) in
+    server-push s log e
+    ∙ ap (λ (o : Option Step). stepped o (restarted (restart_by (server_of s log).setup.addr e.event.kind) (server_of s log))) none
+    ∙ ap (λ (a : Addr). restarted (restart_by a e.event.kind) (server_of s log)) own
+    ∙ ap (λ (o : Option (List ℕ × ℕ)). restarted o (server_of s log)) still
+
+-- ---- the stations
+
+get_set_same : {X : Type 0} (xs : List X) (n : ℕ) (a : X) → n < length xs → slice_get (set xs n a) n ≡ Some a
+get_set_same [] n a h = absurd (omega arith)
+get_set_same (x ∷ xs) zero a h = refl
+get_set_same (x ∷ xs) (suc n) a h = get_set_same xs n a (omega arith)
+
+get_set_other : {X : Type 0} (xs : List X) (n m : ℕ) (a : X) → n ≢ m → slice_get (set xs n a) m ≡ slice_get xs m
+get_set_other [] n m a h = refl
+get_set_other (x ∷ xs) zero zero a h = absurd (h refl)
+get_set_other (x ∷ xs) zero (suc m) a h = refl
+get_set_other (x ∷ xs) (suc n) zero a h = refl
+get_set_other (x ∷ xs) (suc n) (suc m) a h = get_set_other xs n m a (λ same. h (ap (λ (k : ℕ). suc k) same))
+
+within : {X : Type 0} (xs : List X) (i : ℕ) (x : X) → slice_get xs i ≡ Some x → i < length xs
+within [] i x e = absurd cc
+within (y ∷ ys) zero x e = omega arith
+within (y ∷ ys) (suc i) x e = omega (arith, within ys i x e)
+
+-- an entry that touches no server
+pub stations_same : (servers : List SetupServer) (log : List Entry) (sts : List Station) (e : Entry) → AreStations servers log sts → ((a : Addr) → restart_by a e.event.kind ≡ None) → e.step ≡ None
+    → AreStations servers (log ++ e ∷ []) sts
+stations_same servers log sts e are still none = record {
+  size = are.size;
+  each = λ i s st at bt.
+    let is = are.each i s st at bt in
+    record { now = is.now ∙ sym (same_server s log e (still s.addr) none); well = is.well };
+}
+
+-- an entry with a step of one server, or that restarts it, whose station is now that
+pub stations_set : (setup : Setup) (log : List Entry) (sts : List Station) (e : Entry) (place : ℕ) (s : SetupServer) (st after : Station) → HasApart setup → AreStations setup.servers log sts
+    → slice_get setup.servers place ≡ Some s → slice_get sts place ≡ Some st → IsStepOf s.addr e.step → ((a : Addr) → a ≢ s.addr → restart_by a e.event.kind ≡ None)
+    → now_of s after ≡ stepped e.step (restarted (restart_by s.addr e.event.kind) (now_of s st)) → IsWell s after → AreStations setup.servers (log ++ e ∷ []) (set sts place after)
+stations_set setup log sts e place s st after apart are at bt of still now well = record {
+  size = length-set sts place after ∙ are.size;
+  each = λ i t tt' ct dt. elim (cases_eq place i) [
+    | inl same ↦ own i t tt' same ct dt
+    | inr differ ↦
+        let old = are.each i t tt' ct (sym (get_set_other sts place i after differ) ∙ dt) in
+        let far : t.addr ≢ s.addr = apart_at setup.servers i place t s apart.1 ct at (λ same. differ (sym same)) in
+        record { now = old.now ∙ sym (other_server t log e s.addr (still t.addr far) of far); well = old.well }
+  ];
+}
+  where
+    own : (i : ℕ) (t : SetupServer) (u : Station) → place ≡ i → slice_get setup.servers i ≡ Some t → slice_get (set sts place after) i ≡ Some u → IsStation t (log ++ e ∷ []) u
+    own i t u same ct dt =
+        let one : s ≡ t = same_Some s t (sym at ∙ ap (slice_get setup.servers) same ∙ ct) in
+        let two : after ≡ u = same_Some after u (sym (get_set_same sts place after (within sts place st bt)) ∙ ap (slice_get (set sts place after)) same ∙ dt) in
+        let was = are.each place s st at bt in
+        let addr : (server_of s log).setup.addr ≡ s.addr = ap (λ (x : SetupServer). x.addr) (server_setup s log) in
+        let is : IsStation s (log ++ e ∷ []) after = record {
+          now = now
+              ∙ ap (λ (n : ServerNow). stepped e.step (restarted (restart_by s.addr e.event.kind) n)) was.now
+              ∙ ap (λ (a : Addr). stepped e.step (restarted (restart_by a e.event.kind) (server_of s log))) (sym addr)
+              ∙ sym (server-push s log e);
+          well = well;
+        } in
+        subst (λ (v : Station). IsStation t (log ++ e ∷ []) v) two (subst (λ (x : SetupServer). IsStation x (log ++ e ∷ []) after) one is)
+
+-- the same where nothing is restarted
+pub stations_stepped : (setup : Setup) (log : List Entry) (sts new : List Station) (event : Event) (x : Effect) (place : ℕ) (s : SetupServer) (st : Station) → HasApart setup → AreStations setup.servers log sts
+    → slice_get setup.servers place ≡ Some s → slice_get sts place ≡ Some st → IsStepOf s.addr x.step → IsStepAt s place st x.step sts new → ((a : Addr) → restart_by a event.kind ≡ None)
+    → AreStations setup.servers (log ++ entry_of event x ∷ []) new
+stations_stepped setup log sts new event x place s st apart are at bt of is still =
+    subst (AreStations setup.servers (log ++ entry_of event x ∷ [])) (sym is.is)
+    (stations_set setup log sts (entry_of event x) place s st is.after apart are at bt of (λ a far. still a)
+    (is.now ∙ ap (λ (o : Option (List ℕ × ℕ)). stepped x.step (restarted o (now_of s st))) (sym (still s.addr))) is.well)
+
+-- the stations of a farm are well
+pub are_well : (servers : List SetupServer) (log : List Entry) (sts : List Station) → AreStations servers log sts → AreWell servers sts
+are_well servers log sts are = λ i s st at bt. (are.each i s st at bt).well
+
+-- a station is the server at its place
+pub station_now : (setup : Setup) (log : List Entry) (sts : List Station) (addr : Addr) (place : ℕ) (st : Station) (f : IsFound setup addr place) → AreStations setup.servers log sts → slice_get sts place ≡ Some st
+    → server_now setup log addr ≡ Some (now_of f.server st)
+station_now setup log sts addr place st f are bt =
+    ap (λ (o : Option SetupServer). option_map (λ s. server_of s log) o) f.found ∙ ap (λ (n : ServerNow). Some n) (sym (are.each place f.server st f.there bt).now)
