@@ -64,7 +64,7 @@ use Rattle.farm_run.proofs.ServerLemmas.{IsStepOf}
 use Rattle.farm_run.specs.declared.pending.Pending.{Pending}
 use Rattle.farm_run.specs.Answers.{hears, allocated, answer_to}
 use Rattle.farm_run.specs.Begun.{IsBegunBy, IsMadeBy, IsCallOf, completion_by, completion_at, completion_of}
-use Rattle.farm_run.specs.Calls.{call_at, delivery_at, settles_by, settled_at, waiting_at}
+use Rattle.farm_run.specs.Calls.{call_at, delivery_at, settles_by, is_void, settled_at, waiting_at}
 use Rattle.farm_run.specs.Effects.{entry_of, effect_of, word_effect}
 use Rattle.farm_run.specs.Farm.{IsSound, IsLawful, AreLawful}
 use Rattle.farm_run.specs.Next.{GoesOn, Follows, IsSettled, IsMade, IsNext, EachNext}
@@ -142,8 +142,8 @@ outcome_begins : (reply : Option (List ℕ)) (a : AssignJobResult) → IsOutcome
 outcome_begins None a is = absurd cc
 outcome_begins (Some bytes) a is = begins_assigned bytes a is
 
--- an entry without a word settles the call that its event names
-pub settles_it : (log : List Entry) (n : ℕ) (reply : Option (List ℕ)) (e : Entry) → n < length log → e.word ≡ None → settles_by log e.event.kind ≡ Some (n, reply)
+-- an entry that is not void settles the call that its event names
+pub settles_it : (log : List Entry) (n : ℕ) (reply : Option (List ℕ)) (e : Entry) → n < length log → is_void e.word ≡ false → settles_by log e.event.kind ≡ Some (n, reply)
     → settled_at n (end_cut log e) ≡ true
 settles_it log n reply e within silent names = rw (lt-ltb n (length log) within, silent, names) (eq-eqb n n refl)
 

@@ -10,7 +10,8 @@ use Rattle.dist_types.specs.declared.results.AllocJobResult.TheVariants as alloc
 use Rattle.dist_types.specs.declared.results.AssignJobResult.{AssignJobResult}
 use Rattle.dist_types.specs.declared.results.JobState.{JobState}
 use Rattle.dist_types.specs.declared.results.UpdateJobStateResult.{UpdateJobStateResult}
-use Rattle.http_routes.specs.Fault.{fault_response_of, no_room_text}
+use Rattle.http_routes.specs.Fault.{fault_response_of}
+use Rattle.sched_core.specs.Texts.{no_room_text}
 use Rattle.http_routes.specs.declared.fault.RouteFault.TheVariants as fault
 use Rattle.http_routes.specs.declared.reply.Response.{Response}
 use Rattle.http_routes.specs.declared.route.Asked.{Asked}
@@ -36,12 +37,12 @@ use Rattle.farm_run.specs.declared.entry.Reply.{Reply}
 use Rattle.farm_script.specs.declared.fault.FarmFault.{FarmFault}
 use Rattle.farm_run.specs.declared.pending.Made.{Made}
 use Rattle.farm_run.specs.declared.pending.Pending.{Pending}
-use Rattle.farm_run.specs.Replies.{alloc_response, update_response}
-use Rattle.farm_run.specs.Answers.{Asks, allocated, update_reply}
+use Rattle.http_routes.specs.Replies.{alloc_response, update_response, update_reply, commit_response}
+use Rattle.farm_run.specs.Answers.{Asks, allocated}
 use Rattle.farm_run.specs.Begun.{IsAssignment, IsBegunBy, Keeps}
 use Rattle.farm_run.specs.Effects.{reply_effect, reply_to}
 use Rattle.farm_run.specs.Farm.{with_core}
-use Rattle.farm_run.specs.Settled.{commit_response, assignment_end}
+use Rattle.farm_run.specs.Settled.{assignment_end}
 use Rattle.farm_run.specs.Ways.{to_scheduler}
 use Rattle.farm_run.proofs.CallLemmas.{get_end}
 

@@ -8,7 +8,7 @@ returns-clause-made c =
     committed_is c.args.state.now c.commit-committed.new.self c.args.reservation c.args.turn.root c.args.turn.json c.args.turn.at c.args.assigned c.in_ok-core.core c.commit-committed.result
     c.in_ok-response.response c.in_ok-reply.reply c.of_reply.result
     (rw c.requires.own at c.commit-committed.ensures.logged) (rw c.history.ensures.log at c.in_ok-core.ensures) (rw c.requires.own at c.commit-committed.ensures.answer)
-    c.in_ok-response.ensures.ok c.in_ok-reply.ensures.ok c.of_reply.ensures
+    c.in_ok-response.ensures c.in_ok-reply.ensures.ok c.of_reply.ensures
 
 pub returns-clause-core : goal.returns-clause-core
 returns-clause-core c =
