@@ -35,7 +35,7 @@ use Rattle.farm_run.specs.declared.entry.StepKind.{StepKind}
 use Rattle.farm_run.specs.declared.entry.StepKind.TheVariants as kinds
 use Rattle.farm_run.specs.declared.station.Station.{Station}
 use Rattle.farm_run.specs.Served.{books_of, listed, build_answer, built, run_outcome}
-use Rattle.farm_run.specs.Servers.{ServerNow, kind_after, stepped, archives_after_run, builds_after_run}
+use Rattle.farm_run.specs.Servers.{ServerNow, kind_after, stepped, restarted, archives_after_run, builds_after_run}
 use Rattle.farm_run.specs.Stations.{now_of, IsWell, NotBroken}
 
 -- a step of the server itself
@@ -168,3 +168,12 @@ held_folder (taken.Read tc archive) heard done goes sound = tt
 pub run_well : (s : SetupServer) (st : Station) (new : Books) (job : JobId) (t : Taken) (heard : Result BuildResult BuildFault) (done : Outcome) (after : ℕ) → IsWell s st → IsTaken job st.state new t
     → outcome_by t heard ≡ Ok done → NotBroken (ran_of done) → IsWell s (with_books st new after)
 run_well s st new job t heard done after well is goes sound = well_books s st new after well is.place.capacity is.place.path (is.step (held_folder t heard done goes sound))
+
+-- ---- a restart
+
+pub restart_after : (s : SetupServer) (st after : Station) (key : List ℕ) (nonce : ℕ) (opened : Archives) → opened ≡ st.state.archives
+    → now_of s after ≡ record { setup = s; life = counted st.life; key = key; nonce = nonce; held = []; archives = st.state.archives; builds = st.builds }
+    → now_of s after ≡ stepped (Some (record { server = s.addr; kind = kinds.Opened opened })) (restarted (Some (key, nonce)) (now_of s st))
+restart_after s st after key nonce opened same is =
+    is ∙ ap (λ (a : Archives). record { setup = s; life = counted st.life; key = key; nonce = nonce; held = []; archives = a; builds = st.builds }) (sym same)
+    ∙ sym (own_step (restarted (Some (key, nonce)) (now_of s st)) (kinds.Opened opened))
