@@ -306,13 +306,14 @@ settled_kept : (setup : Setup) (log : List Entry) (at n : ℕ) (reply : Option (
     → Keeps (λ p. completion_of first first.ask x.step ≡ Some p) x o → Keeps (IsMadeBy setup log (to_call n reply) x) x o
 settled_kept setup log at n reply first x None call goes is = is
 settled_kept setup log at n reply first x (Some p) call goes is = (
-      record {
-        first = first;
-        call = first_call setup log n first (λ c. none_after setup log at first.root first.json reply first first first.ask x p c refl goes is.0) call;
-        is = is.0;
-      },
-      is.1, is.2,
-    )
+  record {
+    first = first;
+    call = first_call setup log n first (λ c. none_after setup log at first.root first.json reply first first first.ask x p c refl goes is.0) call;
+    is = is.0;
+  },
+  is.1,
+  is.2,
+)
 
 -- what follows where that is kept of the call
 pub settled_by : (setup : Setup) (s : Core) (log : List Entry) (ps : List (Option Pending)) (sts new : List Station) (event : Event) (n at : ℕ) (reply : Option (List ℕ)) (first : Pending) (m : Made)

@@ -261,7 +261,7 @@ restart_made_by setup s log ps sts new event addr key nonce m (Some place) is ki
     let n = now_of f.server st.0 in
     let one : Made = record { effect = restart_effect n; pending = None } in
     let here : IsReceived setup s (length log) event.at (to_restart n key nonce) m =
-        subst (λ (q : Made). IsReceived setup s (length log) event.at (to_restart n key nonce) q) (sym r.0) (record { served = refl; kept = refl }) in
+    subst (λ (q : Made). IsReceived setup s (length log) event.at (to_restart n key nonce) q) (sym r.0) (record { served = refl; kept = refl }) in
     let way : way_of setup log event.kind ≡ to_restart n key nonce = ap (way_of setup log) kind ∙ ap (restart_way key nonce) (station_now setup log sts addr place st.0 f is.stations st.1) in
     let of : IsStepOf f.server.addr (entry_of event m.effect).step = subst (λ (q : Made). IsStepOf f.server.addr (entry_of event q.effect).step) (sym r.0) refl in
     let stand = stations_restarted setup log sts (entry_of event m.effect) addr key nonce place st.0 r.1.0 f is.apart is.stations st.1 kind of r.1.3 r.1.2 in

@@ -201,8 +201,8 @@ pub stations_same : (servers : List SetupServer) (log : List Entry) (sts : List 
 stations_same servers log sts e are still none = record {
   size = are.size;
   each = λ i s st at bt.
-    let is = are.each i s st at bt in
-    record { now = is.now ∙ sym (same_server s log e (still s.addr) none); well = is.well };
+      let is = are.each i s st at bt in
+      record { now = is.now ∙ sym (same_server s log e (still s.addr) none); well = is.well };
 }
 
 -- an entry with a step of one server, or that restarts it, whose station is now that
@@ -293,11 +293,11 @@ pub stations_gone : (setup : Setup) (log : List Entry) (sts : List Station) (e :
 stations_gone setup log sts e addr key nonce are none kind silent = record {
   size = are.size;
   each = λ i s st at bt.
-    let is = are.each i s st at bt in
-    let off = lacks_from (λ (x : SetupServer). same_addr x.addr addr) zero setup.servers (sym (position_from-zero (λ (x : SetupServer). same_addr x.addr addr) setup.servers) ∙ none) i s at in
-    let far : same_addr addr s.addr ≡ false = not_same addr s.addr (λ same. true_false (same_addr s.addr addr) (ap (λ (a : Addr). same_addr s.addr a) same ∙ same_self s.addr) off) in
-    let still : restart_by s.addr e.event.kind ≡ None = ap (restart_by s.addr) kind ∙ ap (λ (b : Bool). cond b (Some (key, nonce)) None) far in
-    record { now = is.now ∙ sym (same_server s log e still silent); well = is.well };
+      let is = are.each i s st at bt in
+      let off = lacks_from (λ (x : SetupServer). same_addr x.addr addr) zero setup.servers (sym (position_from-zero (λ (x : SetupServer). same_addr x.addr addr) setup.servers) ∙ none) i s at in
+      let far : same_addr addr s.addr ≡ false = not_same addr s.addr (λ same. true_false (same_addr s.addr addr) (ap (λ (a : Addr). same_addr s.addr a) same ∙ same_self s.addr) off) in
+      let still : restart_by s.addr e.event.kind ≡ None = ap (restart_by s.addr) kind ∙ ap (λ (b : Bool). cond b (Some (key, nonce)) None) far in
+      record { now = is.now ∙ sym (same_server s log e still silent); well = is.well };
 }
 
 -- the server at its place starts again
@@ -306,7 +306,7 @@ pub stations_restarted : (setup : Setup) (log : List Entry) (sts : List Station)
     → AreStations setup.servers (log ++ e ∷ []) (set sts place after)
 stations_restarted setup log sts e addr key nonce place st after f apart are bt kind of now well =
     let own : restart_by f.server.addr e.event.kind ≡ Some (key, nonce) =
-        ap (restart_by f.server.addr) kind ∙ ap (λ (a : Addr). cond (same_addr addr a) (Some (key, nonce)) None) f.at ∙ ap (λ (b : Bool). cond b (Some (key, nonce)) None) (same_self addr) in
+    ap (restart_by f.server.addr) kind ∙ ap (λ (a : Addr). cond (same_addr addr a) (Some (key, nonce)) None) f.at ∙ ap (λ (b : Bool). cond b (Some (key, nonce)) None) (same_self addr) in
     stations_set setup log sts e place f.server st after apart are f.there bt of
     (λ a far. ap (restart_by a) kind ∙ ap (λ (b : Bool). cond b (Some (key, nonce)) None) (not_same addr a (λ same. far (sym same ∙ sym f.at))))
     (now ∙ ap (λ (o : Option (List ℕ × ℕ)). stepped e.step (restarted o (now_of f.server st))) (sym own)) well

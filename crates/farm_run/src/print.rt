@@ -11,7 +11,8 @@ use crate::entry::Entry;
 use crate::run::Farm;
 use crate::station::Station;
 use crate::text::{
-    ArchiveLine, CallLine, CoreLine, HeldLine, JobLine, Kind, ReplyLine, RowLine, StepLine, WordLine,
+    ArchiveLine, CallLine, CoreLine, HeldLine, JobLine, Kind, ReplyLine, RowLine, StepLine,
+    WordLine,
 };
 use dist_types::addr::Addr;
 use farm_script::fault::FarmFault;

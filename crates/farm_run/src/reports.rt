@@ -101,11 +101,7 @@ fn unreported(
 {
     let response = to_fault(alloc, &RouteFault::UpdateFailed(cause))?;
     let reply = reply(alloc, root, &response)?;
-    Ok(Effect::of_step_reply(
-        addr,
-        StepKind::Unreported { job },
-        reply,
-    ))
+    Ok(Effect::of_step_reply(addr, StepKind::Unreported { job }, reply))
 }
 
 /// An outcome that is no failing folder: a folder in memory that fails is told as want of memory.
@@ -438,11 +434,7 @@ fn end_complete(
             let ended = done.end_run(Ok(accepted));
             let response = ended_response(alloc, back.json, ended)?;
             let reply = reply(alloc, back.root, &response)?;
-            Ok(Effect::of_step_reply(
-                addr,
-                StepKind::Finished { job },
-                reply,
-            ))
+            Ok(Effect::of_step_reply(addr, StepKind::Finished { job }, reply))
         }
     }
 }
@@ -463,11 +455,7 @@ fn heard_as(told: Result<HeartbeatServerResult, CallFault>) -> HeardAs
 }
 
 /// Ends a heartbeat.
-fn end_beat(
-    alloc: Global,
-    addr: Addr,
-    reply: Option<&[u8]>,
-) -> Result<Effect, FarmFault>
+fn end_beat(alloc: Global, addr: Addr, reply: Option<&[u8]>) -> Result<Effect, FarmFault>
     ensures made { IfOk result (λ x. (r : Result Heard Cause) × IsHeard (option_copied reply.entry) r × (x ≡ step_effect addr (StepKind.Heard (heard_as r)))) }
     ensures err { IfErr result (λ e. e ≡ fault.Memory) }
 {

@@ -264,7 +264,11 @@ fn call_at(entries: &[Entry], call: u64) -> Option<&OutCall>
 fn place_of(setup: &Setup, addr: Addr) -> Option<usize>
     ensures place { result ≡ position (λ s. same_addr s.addr addr) setup.now.servers }
 {
-    setup.servers.get().iter().position(|server| server.addr == addr)
+    setup
+        .servers
+        .get()
+        .iter()
+        .position(|server| server.addr == addr)
 }
 
 /// Whether an address is the scheduler's.
@@ -826,10 +830,7 @@ fn make(
 }
 
 /// The stations of servers as they were set up.
-fn opened_stations(
-    alloc: Global,
-    servers: &[SetupServer],
-) -> Result<Vec<Station>, FarmFault>
+fn opened_stations(alloc: Global, servers: &[SetupServer]) -> Result<Vec<Station>, FarmFault>
     ensures ok { IfOk result (λ v. AreStations servers.now [] v.items) }
     ensures err { IfErr result (λ e. e ≡ fault.Memory) }
 {
