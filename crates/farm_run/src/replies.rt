@@ -4,15 +4,15 @@ ghost use Rattle.std.specs.Prelude.{◌≡◌, IfOk};
 ghost use Rattle.http_routes.specs.Fault.{fault_response_of, no_room_text, dropped_text};
 ghost use Rattle.farm_run.specs.Replies.{heard_response, status_response, alloc_response, update_response};
 
-use http_routes::error::HttpError;
-use http_routes::fault::{RouteFault, dropped_text, fault_response, no_room_text};
-use http_routes::reply::{Response, respond};
 use dist_types::ids::JobId;
 use dist_types::results::{
     AllocJobResult, HeartbeatServerResult, SchedulerStatusResult, UpdateJobStateResult,
 };
 use dist_types::text::Text;
 use dist_wire::alloc::AllocJobHttpResponse;
+use http_routes::error::HttpError;
+use http_routes::fault::{RouteFault, dropped_text, fault_response, no_room_text};
+use http_routes::reply::{Response, respond};
 use std::alloc::{AllocError, Global};
 
 /// Want of memory, where it is the one cause of a refusal.

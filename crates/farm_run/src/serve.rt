@@ -431,11 +431,7 @@ fn serve(desk: &mut Desk, arrival: &Arrival<'_>) -> Result<Made, FarmFault>
 
 /// What is made of bytes that come to an address: what the scheduler does with what they ask, or the word
 /// that nobody listens there.
-pub fn receive(
-    desk: &mut Desk,
-    target: Addr,
-    arrival: &Arrival<'_>,
-) -> Result<Made, FarmFault>
+pub fn receive(desk: &mut Desk, target: Addr, arrival: &Arrival<'_>) -> Result<Made, FarmFault>
     requires plain { IsPlain desk.old.setup.scheduler.auth }
     ensures received { IfOk result (IsReceived desk.old.setup desk.old.state arrival.now.stamp.number arrival.now.stamp.at
         (way_to desk.old.setup target arrival.now.peer arrival.now.bytes.now)) }
