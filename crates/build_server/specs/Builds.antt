@@ -1,5 +1,5 @@
 -- One build of a job that was taken out, and its end.
-use Rattle.std.specs.Prelude.{◌≡◌, ◌≢◌, ◌≤◌, ℕ, List, Option, Some, None, Result, Ok, Err, OnOk}
+use Rattle.std.specs.Prelude.{◌≡◌, ◌≢◌, ◌≤◌, ℕ, Bool, true, false, List, Option, Some, None, Result, Ok, Err, OnOk}
 use Rattle.sha2.specs.Sha256.{sha256}
 use Rattle.dist_types.specs.Builder.{Built, built_row}
 use Rattle.dist_types.specs.Cause.{Rose}
@@ -71,6 +71,20 @@ Builds taken.None order old new result = (new ≡ old) × (result ≡ Ok outcome
 Builds (taken.Unlisted tc) order old new result = (new ≡ old) × (result ≡ Ok (outcome.Unlisted tc))
 Builds (taken.Folder tc) order old new result = (new ≡ old) × (result ≡ Ok (outcome.Folder tc))
 Builds (taken.Read tc archive) order old new result = BuildsIn tc archive order old new result
+
+-- whether an archive was read
+abbrev pub is_due : Taken → Bool
+is_due taken.None = false
+is_due (taken.Unlisted tc) = false
+is_due (taken.Folder tc) = false
+is_due (taken.Read tc archive) = true
+
+-- what a run comes to whose build, where one is due, is answered so
+abbrev pub outcome_by : Taken → Result BuildResult BuildFault → Result Outcome (Taken × want.Memory)
+outcome_by taken.None heard = Ok outcome.None
+outcome_by (taken.Unlisted tc) heard = Ok (outcome.Unlisted tc)
+outcome_by (taken.Folder tc) heard = Ok (outcome.Folder tc)
+outcome_by (taken.Read tc archive) heard = outcome_of tc archive heard
 
 -- what is said of a run that is done
 abbrev pub ran_of : Outcome → Ran

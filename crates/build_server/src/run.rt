@@ -1,7 +1,7 @@
 //! Runs: a job that was taken out, its one build, and its end.
 ghost use Rattle.std.specs.Prelude.{◌≡◌};
 ghost use Rattle.std.specs.Option.{option_copied};
-ghost use Rattle.build_server.specs.Builds.{Builds, BuildsIn, builder_of, ran_of, built_of, ended, run_answer, complete_of};
+ghost use Rattle.build_server.specs.Builds.{Builds, BuildsIn, builder_of, is_due, outcome_by, ran_of, built_of, ended, run_answer, complete_of};
 
 use crate::fault::{BuildCause, ServerFault, Update, fault_of};
 use dist_types::builder::{BuildFault, BuilderIncoming};
@@ -142,6 +142,40 @@ impl RunHeld {
             Taken::Unlisted(tc) => Ok(done(Outcome::Unlisted(tc))),
             Taken::Folder(tc) => Ok(done(Outcome::Folder(tc))),
             Taken::Read(tc, archive) => build_in(tc, archive, builder, command, outputs, inputs),
+        }
+    }
+
+    /// Whether an archive was read, so that a build is due.
+    pub fn is_due(&self) -> bool
+        ensures due { result ≡ is_due self.now }
+    {
+        match &self.taken {
+            Taken::None => false,
+            Taken::Unlisted(_) => false,
+            Taken::Folder(_) => false,
+            Taken::Read(_, _) => true,
+        }
+    }
+
+    /// Ends a build whose answer is known beforehand, as that of a builder which answers by a script: where
+    /// the archive was read it went so, and elsewhere there was none. Memory comes exactly where that is the
+    /// answer; what was taken out is handed back as it was.
+    pub fn build_as(
+        self,
+        heard: Result<BuildResult, BuildFault>,
+    ) -> Result<RunDone, (RunHeld, Memory)>
+        ensures goes { result ≡ outcome_by self heard }
+    {
+        let RunHeld { taken } = self;
+        match taken {
+            Taken::None => Ok(done(Outcome::None)),
+            Taken::Unlisted(tc) => Ok(done(Outcome::Unlisted(tc))),
+            Taken::Folder(tc) => Ok(done(Outcome::Folder(tc))),
+            Taken::Read(tc, archive) => match heard {
+                Ok(built) => Ok(done(Outcome::Built(tc, built))),
+                Err(BuildFault::Refused) => Ok(done(Outcome::Refused(tc))),
+                Err(BuildFault::Memory) => Err((held(Taken::Read(tc, archive)), Memory)),
+            },
         }
     }
 

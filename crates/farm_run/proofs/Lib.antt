@@ -6,8 +6,11 @@ pub mod NextLemmas
 pub mod NumberLemmas
 pub mod OneLemmas
 pub mod OwnLemmas
+pub mod RowLemmas
 pub mod RunLemmas
 pub mod ServeLemmas
+pub mod ServerLemmas
 pub mod SoundLemmas
+pub mod StationLemmas
 pub mod ThereLemmas
 pub mod WaitLemmas

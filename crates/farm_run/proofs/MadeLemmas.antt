@@ -1,42 +1,57 @@
 -- What each kind of event makes, and what is kept after it.
-use Rattle.std.proofs.Common.{◌≡◌, ◌≢◌, ◌⊎◌, inl, inr, ℕ, zero, suc, ◌<◌, Bool, true, false, ◌&&◌, nat_lt, List, [], ◌∷◌, ◌++◌, length, set, Option, Some, None, Result, Ok, Err, refl, sym, ap, subst, ◌∙◌, arith}
+use Rattle.std.proofs.Common.{◌≡◌, ◌≢◌, ◌⊎◌, inl, inr, ℕ, zero, suc, ◌<◌, Bool, true, false, ◌&&◌, nat_lt, List, [], ◌∷◌, ◌++◌, length, take, drop, set, Option, Some, None, Result, Ok, Err, refl, sym, ap, subst, ◌∙◌, arith}
 use Rattle.std.specs.Prelude.{slice_get, IfOk}
-use Rattle.std.proofs.lemmas.Bool.{cases_Bool, cases_eq, ne_eqb}
-use Rattle.std.proofs.lemmas.List.{length-set}
+use Rattle.std.proofs.lemmas.Bool.{cases_eq, ne_eqb}
+use Rattle.std.proofs.lemmas.List.{length-set, length-take}
+use Rattle.std.proofs.lemmas.Option.{same_Some, slice_get_within}
 use Rattle.dist_types.specs.Addr.{◌>>=◌}
 use Rattle.dist_types.specs.declared.addr.Addr.{Addr}
 use Rattle.dist_types.specs.declared.outgoing.CallFault.{CallFault}
 use Rattle.dist_types.specs.declared.results.AssignJobResult.{AssignJobResult}
 use Rattle.sched_core.proofs.Lists.{end_cut}
 use Rattle.sched_core.specs.Log.{Core}
-use Rattle.sched_core.specs.Ticket.{Ticket}
 use Rattle.sched_core.specs.Reservation.{unspent}
-use Rattle.sched_core.specs.Rule.{rule, is_among}
-use Rattle.sched_core.specs.declared.call.Call.TheVariants as call
-use Rattle.sched_core.specs.declared.entry.CoreEntry.{CoreEntry}
-use Rattle.sched_core.specs.declared.entry.CoreKind.{CoreKind}
-use Rattle.sched_core.specs.declared.entry.CoreKind.TheVariants as core
-use Rattle.sched_core.specs.declared.entry.Reserved.TheVariants.{Job, NoRoom, Spent}
-use Rattle.farm_script.specs.declared.setup.SetupScheduler.{SetupScheduler}
-use Rattle.farm_script.specs.declared.event.Event.{Event}
-use Rattle.farm_script.specs.declared.event.EventKind.{EventKind}
-use Rattle.farm_script.specs.declared.event.EventKind.TheVariants.{Request, Deliver}
-use Rattle.farm_run.specs.declared.entry.Entry.{Entry}
-use Rattle.farm_run.specs.declared.entry.OutCall.{OutCall}
-use Rattle.farm_run.specs.declared.entry.EntryWord.TheVariants.{Void}
+use Rattle.sched_core.specs.Rule.{is_among}
+use Rattle.sched_core.specs.Ticket.{Ticket}
 use Rattle.farm_script.specs.declared.fault.FarmFault.{FarmFault}
-use Rattle.farm_run.specs.declared.waiting.Waiting.{Waiting}
-use Rattle.farm_run.specs.declared.waiting.Made.{Made}
-use Rattle.http_routes.specs.declared.route.SchedRouted.{SchedRouted}
-use Rattle.http_routes.specs.declared.route.SchedRouted.TheVariants as asked
-use Rattle.farm_run.specs.Calls.{call_at, settles_by, is_of, settled_at}
-use Rattle.farm_run.specs.Next.{core_of, brought_to, brought_by, Wants, worded, hears, allocated, answer_to, IsOutcome, continued, GoesOn, IsSettled, to_settle, IsServed, Settles, IsMade}
-use Rattle.farm_run.specs.Farm.{with_core, IsWaiting, IsKept, kept_at, AreKept, IsAfter, IsBegun, IsMadeSo, IsSettledSo, IsFarm}
+use Rattle.farm_script.specs.declared.setup.Setup.{Setup}
+use Rattle.farm_script.specs.declared.event.Event.{Event}
+use Rattle.farm_run.specs.declared.desk.Desk.{Desk}
+use Rattle.farm_run.specs.declared.entry.Effect.{Effect}
+use Rattle.farm_run.specs.declared.entry.Entry.{Entry}
+use Rattle.farm_run.specs.declared.entry.EntryWord.TheVariants.{Void}
+use Rattle.farm_run.specs.declared.entry.OutCall.{OutCall}
+use Rattle.farm_run.specs.declared.pending.Ask.{Ask}
+use Rattle.farm_run.specs.declared.pending.Ask.TheVariants.{Assign, Report}
+use Rattle.farm_run.specs.declared.pending.Told.{Told}
+use Rattle.farm_run.specs.declared.pending.Told.TheVariants as told
+use Rattle.farm_run.specs.declared.entry.Step.{Step}
+use Rattle.farm_run.specs.declared.entry.StepKind.{StepKind}
+use Rattle.farm_run.specs.declared.entry.StepKind.TheVariants as kinds
+use Rattle.farm_run.specs.declared.station.Station.{Station}
+use Rattle.dist_types.specs.declared.ids.JobId.{JobId}
+use Rattle.dist_types.specs.declared.results.UpdateJobStateResult.{UpdateJobStateResult}
+use Rattle.dist_wire.specs.declared.run.RunJobHttpRequest.{RunJobHttpRequest}
+use Rattle.build_server.specs.declared.run.Outcome.{Outcome}
+use Rattle.farm_script.specs.declared.event.EventKind.{EventKind}
+use Rattle.farm_script.specs.declared.event.EventKind.TheVariants.{Request, Deliver, Fail, Return, Answer, Beat, Restart}
+use Rattle.farm_run.specs.Servers.{ServerNow, restart_by, server_now, is_over}
+use Rattle.farm_run.specs.Stations.{AreStations}
+use Rattle.farm_run.proofs.ServerLemmas.{stations_same}
+use Rattle.farm_run.specs.declared.pending.Made.{Made}
+use Rattle.farm_run.specs.declared.pending.Pending.{Pending}
+use Rattle.farm_run.specs.Begun.{IsBegunBy, IsFirstCall, IsMadeBy, IsCallOf, Keeps, outcome_of, completion_by, completion_at, completion_of}
+use Rattle.farm_run.specs.Calls.{settles_by, is_void, is_of, settled_at, waiting_at}
+use Rattle.farm_run.specs.Effects.{entry_of, effect_of, word_effect}
+use Rattle.farm_run.specs.Farm.{with_core, acted, IsWaiting, IsKept, kept_at, AreKept, IsAfter, IsReceived, IsMadeSo, IsSound, IsFarm}
+use Rattle.farm_run.specs.Next.{GoesOn, Follows, IsServed, IsSettled, IsMade, IsNext}
+use Rattle.farm_run.specs.Seen.{core_log, core_of}
+use Rattle.farm_run.specs.Settled.{IsOutcome, assignment_end, ready_end, started_end, complete_end, Reports, Lives, ReportsIn, IsOwnBy}
+use Rattle.farm_run.specs.Ways.{Way, way_of, brought_at, to_nothing, to_nobody, to_scheduler, to_server, to_call, to_beat, to_restart}
 use Rattle.farm_run.proofs.CallLemmas.{waiting-end}
-use Rattle.farm_run.proofs.SoundLemmas.{ticket-end}
+use Rattle.farm_run.proofs.NextLemmas.{call_ticket, settles_it, way_settles, sound_next}
 use Rattle.farm_run.proofs.RunLemmas.{core_of-push}
-use Rattle.farm_run.proofs.NextLemmas.{settles_it, settle_is, sound_next}
-use Rattle.farm_run.proofs.WaitLemmas.{brought-end, kept-left, kept-settled, kept-push}
+use Rattle.farm_run.proofs.WaitLemmas.{call-end, kept-left, kept-settled, kept-push}
 
 -- ---- entries that settle nothing
 
@@ -57,95 +72,89 @@ voided : (log : List Entry) (e : Entry) → e.word ≡ Some Void → (n : ℕ) �
 voided log e void n = rw void (void_off (nat_lt n (length log)) (is_of n (settles_by log e.event.kind)))
 
 -- what is kept stays
-all_kept : (farm : SetupScheduler) (log : List Entry) (e : Entry) (ws : List (Option Waiting)) → AreKept farm log ws → ((n : ℕ) → settled_at n (end_cut log e) ≡ false)
-    → (n : ℕ) → n < length log → IsKept farm (log ++ e ∷ []) n (kept_at ws n)
-all_kept farm log e ws kept off n lt = kept-left farm log e n (kept_at ws n) lt (off n) (kept.each n)
+all_kept : (setup : Setup) (log : List Entry) (e : Entry) (ps : List (Option Pending)) → AreKept setup log ps → ((n : ℕ) → settled_at n (end_cut log e) ≡ false)
+    → (n : ℕ) → n < length log → IsKept setup (log ++ e ∷ []) n (kept_at ps n)
+all_kept setup log e ps kept off n lt = kept-left setup log e n (kept_at ps n) lt (off n) (kept.each n)
 
 -- nothing is kept of an entry without a call
-nothing_new : (farm : SetupScheduler) (log : List Entry) (e : Entry) → e.call ≡ None → IsKept farm (log ++ e ∷ []) (length log) None
-nothing_new farm log e none = waiting-end log e ∙ ap (λ (o : Option OutCall). o >>= λ c. Some e) none
+nothing_new : (setup : Setup) (log : List Entry) (e : Entry) → e.call ≡ None → IsKept setup (log ++ e ∷ []) (length log) None
+nothing_new setup log e none = waiting-end log e ∙ ap (λ (o : Option OutCall). o >>= λ c. Some e) none
 
-after_idle : (farm : SetupScheduler) (log : List Entry) (e : Entry) (ws : List (Option Waiting)) → AreKept farm log ws → ((n : ℕ) → settled_at n (end_cut log e) ≡ false)
-    → e.call ≡ None → IsAfter farm log e ws None
-after_idle farm log e ws kept off none = record { size = kept.size; old = all_kept farm log e ws kept off; new = nothing_new farm log e none }
-
--- ---- words alone
-
-pub after_void : (farm : SetupScheduler) (log : List Entry) (event : Event) (ws : List (Option Waiting)) → AreKept farm log ws → IsAfter farm log (worded event Void) ws None
-after_void farm log event ws kept = after_idle farm log (worded event Void) ws kept (voided log (worded event Void) refl) refl
-
--- ---- what comes to the scheduler
-
-begun_new : (farm : SetupScheduler) (log : List Entry) (e : Entry) (brought : Option (Addr × List ℕ)) (x : Option Waiting) → brought_by farm log e.event.kind ≡ brought
-    → IsBegun farm (core_of farm log) brought e x → IsKept farm (log ++ e ∷ []) (length log) x
-begun_new farm log e brought None same is = nothing_new farm log e is
-begun_new farm log e brought (Some w) same is = record {
+-- what is kept of the call that an entry makes
+new_kept : (setup : Setup) (log : List Entry) (e : Entry) (o : Option Pending)
+    → Keeps (IsMadeBy setup log (way_of setup log e.event.kind) (effect_of e)) (effect_of e) o → IsKept setup (log ++ e ∷ []) (length log) o
+new_kept setup log e None is = nothing_new setup log e is
+new_kept setup log e (Some p) is = record {
   entry = e;
-  waits = waiting-end log e ∙ ap (λ (o : Option OutCall). o >>= λ c. Some e) is.2.1;
-  ticket = ticket-end log e ∙ is.0;
-  wants = subst (λ (p : Option (Addr × List ℕ)). Wants farm p w.json) (sym (brought-end farm log e ∙ same)) is.1;
+  waits = waiting-end log e ∙ ap (λ (o : Option OutCall). o >>= λ c. Some e) is.2;
+  call = call-end setup log e p is.0;
 }
 
-after_begun : (farm : SetupScheduler) (log : List Entry) (e : Entry) (ws : List (Option Waiting)) (brought : Option (Addr × List ℕ)) (x : Option Waiting)
-    → AreKept farm log ws → settles_by log e.event.kind ≡ None → brought_by farm log e.event.kind ≡ brought → IsBegun farm (core_of farm log) brought e x → IsAfter farm log e ws x
-after_begun farm log e ws brought x kept none same is =
-    record { size = kept.size; old = all_kept farm log e ws kept (unsettling log e none); new = begun_new farm log e brought x same is }
+-- ---- what comes to an address, and what has nothing to do
 
-allocated_event : (s : Core) (number : ℕ) (event : Event) (json : Bool) (tc : List ℕ) (made : CoreEntry) (k : CoreKind) → (allocated s number event json tc made k).event ≡ event
-allocated_event s number event json tc made (core.Reserve (Job job reg forgiven)) = refl
-allocated_event s number event json tc made (core.Reserve (NoRoom standing)) = refl
-allocated_event s number event json tc made (core.Reserve Spent) = refl
-allocated_event s number event json tc made (core.Commit job state kept) = refl
-allocated_event s number event json tc made (core.Undo job noted ended) = refl
-allocated_event s number event json tc made (core.Beat server nonce cpus key pruned reaped replaced is_new) = refl
-allocated_event s number event json tc made (core.Update server job state given) = refl
-allocated_event s number event json tc made (core.Status pruned servers cpus jobs) = refl
+served_made : (setup : Setup) (log : List Entry) (at : ℕ) (way : Way) (x : Effect) → IsServed setup (core_of setup log) (length log) at way x → IsMade setup log at way x
+served_made setup log at (to_scheduler peer bytes) x is = is
+served_made setup log at (to_server s bytes) x is = is
+served_made setup log at (to_beat s) x is = is
+served_made setup log at (to_restart s key nonce) x is = is
+served_made setup log at to_nothing x is = is
+served_made setup log at to_nobody x is = is
+served_made setup log at (to_call n reply) x is = absurd is
 
-answer_event : (s : Core) (number : ℕ) (event : Event) (json : Bool) (what : SchedRouted) → (answer_to s number event json what).event ≡ event
-answer_event s number event json (asked.Alloc tc) = let made = rule s (call.Reserve event.at) in allocated_event s number event json tc made made.kind
-answer_event s number event json (asked.Beat server beat) = elim (cases_Bool (hears beat.num_cpus)) [ inl on ↦ rw on refl | inr off ↦ rw off refl ]
-answer_event s number event json (asked.Update server job state) = refl
-answer_event s number event json asked.Status = refl
-answer_event s number event json (asked.Done response) = refl
+begun_made : (setup : Setup) (log : List Entry) (at : ℕ) (way : Way) (x : Effect) (o : Option Pending) → IsServed setup (core_of setup log) (length log) at way x
+    → Keeps (IsBegunBy setup (core_log log) (length log) way x) x o → Keeps (IsMadeBy setup log way x) x o
+begun_made setup log at way x None served is = is
+begun_made setup log at (to_scheduler peer bytes) x (Some p) served is = is
+begun_made setup log at (to_server s bytes) x (Some p) served is = is
+begun_made setup log at (to_beat s) x (Some p) served is = is
+begun_made setup log at (to_restart s key nonce) x (Some p) served is = absurd is.0
+begun_made setup log at to_nothing x (Some p) served is = absurd is.0
+begun_made setup log at to_nobody x (Some p) served is = absurd is.0
+begun_made setup log at (to_call n reply) x (Some p) served is = absurd is.0
 
-served_event : (farm : SetupScheduler) (s : Core) (number : ℕ) (event : Event) (brought : Option (Addr × List ℕ)) (e : Entry) → IsServed farm s number event brought e → e.event ≡ event
-served_event farm s number event None e is = ap (λ (x : Entry). x.event) is
-served_event farm s number event (Some p) e is = ap (λ (x : Entry). x.event) is.2 ∙ answer_event s number event is.0.json is.0.what
-
--- what was served, where the event brings it
-after_served : (farm : SetupScheduler) (log : List Entry) (event : Event) (ws : List (Option Waiting)) (k : EventKind) (brought : Option (Addr × List ℕ)) (m : Made)
-    → AreKept farm log ws → event.kind ≡ k → settles_by log k ≡ None → brought_by farm log k ≡ brought → IsServed farm (core_of farm log) (length log) event brought m.entry
-    → IsBegun farm (core_of farm log) brought m.entry m.waiting → IsAfter farm log m.entry ws m.waiting
-after_served farm log event ws k brought m kept same none brings served begun =
-    let kind : m.entry.event.kind ≡ k = ap (λ (v : Event). v.kind) (served_event farm (core_of farm log) (length log) event brought m.entry served) ∙ same in
-    after_begun farm log m.entry ws brought m.waiting kept (ap (settles_by log) kind ∙ none) (ap (brought_by farm log) kind ∙ brings) begun
-
-pub request_made : (farm : SetupScheduler) (s : Core) (log : List Entry) (ws : List (Option Waiting)) (event : Event) (target peer : Addr) (bytes : List ℕ) (r : Result Made FarmFault)
-    → IsFarm farm s log ws → event.kind ≡ Request target peer bytes → IfOk r (λ m. IsServed farm s (length log) event (brought_to farm target peer bytes) m.entry)
-    → IfOk r (λ m. IsBegun farm s (brought_to farm target peer bytes) m.entry m.waiting) → IfOk r (IsMadeSo farm log event (Request target peer bytes) ws)
-request_made farm s log ws event target peer bytes (Err f) is same served begun = tt
-request_made farm s log ws event target peer bytes (Ok m) is same served begun =
-    let brought = brought_to farm target peer bytes in
-    let served_is = subst (λ (c : Core). IsServed farm c (length log) event brought m.entry) is.core_is served in
-    let begun_is = subst (λ (c : Core). IsBegun farm c brought m.entry m.waiting) is.core_is begun in
-    record { made = served_is; after = after_served farm log event ws (Request target peer bytes) brought m is.kept same refl refl served_is begun_is }
-
-pub delivery_made : (farm : SetupScheduler) (s : Core) (log : List Entry) (ws : List (Option Waiting)) (event : Event) (call : ℕ) (c : OutCall) (r : Result Made FarmFault)
-    → IsFarm farm s log ws → event.kind ≡ Deliver call → call_at log call ≡ Some c → IfOk r (λ m. IsServed farm s (length log) event (brought_to farm c.target farm.addr c.bytes) m.entry)
-    → IfOk r (λ m. IsBegun farm s (brought_to farm c.target farm.addr c.bytes) m.entry m.waiting) → IfOk r (IsMadeSo farm log event (Deliver call) ws)
-delivery_made farm s log ws event call c (Err f) is same there served begun = tt
-delivery_made farm s log ws event call c (Ok m) is same there served begun =
-    let brought = brought_to farm c.target farm.addr c.bytes in
-    let served_is = subst (λ (c : Core). IsServed farm c (length log) event brought m.entry) is.core_is served in
-    let begun_is = subst (λ (c : Core). IsBegun farm c brought m.entry m.waiting) is.core_is begun in
+pub received_made : (setup : Setup) (s : Core) (log : List Entry) (ps : List (Option Pending)) (sts new : List Station) (event : Event) (number at : ℕ) (way : Way) (m : Made)
+    → IsFarm setup s log ps sts → number ≡ length log → event.at ≡ at → way_of setup log event.kind ≡ way → settles_by log event.kind ≡ None
+    → IsReceived setup s number at way m → AreStations setup.servers (log ++ entry_of event m.effect ∷ []) new → IsMadeSo setup log event (way_of setup log event.kind) ps new m
+received_made setup s log ps sts new event number at way m is numbered moment comes none received stand =
+    let one : IsReceived setup (core_of setup log) number at way m = subst (λ (c : Core). IsReceived setup c number at way m) is.core_is received in
+    let two : IsReceived setup (core_of setup log) (length log) at way m = subst (λ (n : ℕ). IsReceived setup (core_of setup log) n at way m) numbered one in
+    let three : IsReceived setup (core_of setup log) (length log) event.at way m = subst (λ (n : ℕ). IsReceived setup (core_of setup log) (length log) n way m) (sym moment) two in
+    let four : IsReceived setup (core_of setup log) (length log) event.at (way_of setup log event.kind) m =
+    subst (λ (w : Way). IsReceived setup (core_of setup log) (length log) event.at w m) (sym comes) three in
     record {
-      made = rw there served_is;
-      after = after_served farm log event ws (Deliver call) brought m is.kept same refl (ap (λ (o : Option OutCall). o >>= λ d. brought_to farm d.target farm.addr d.bytes) there) served_is begun_is;
+      made = served_made setup log event.at (way_of setup log event.kind) m.effect four.served;
+      after = record {
+        size = is.kept.size;
+        old = all_kept setup log (entry_of event m.effect) ps is.kept (unsettling log (entry_of event m.effect) none);
+        new = new_kept setup log (entry_of event m.effect) m.pending (begun_made setup log event.at (way_of setup log event.kind) m.effect m.pending four.served four.kept);
+      };
+      stations = stand;
     }
 
-pub delivery_void : (farm : SetupScheduler) (s : Core) (log : List Entry) (ws : List (Option Waiting)) (event : Event) (call : ℕ)
-    → IsFarm farm s log ws → call_at log call ≡ None → IsMadeSo farm log event (Deliver call) ws (record { entry = worded event Void; waiting = None })
-delivery_void farm s log ws event call is none = record { made = rw none refl; after = after_void farm log event ws is.kept }
+-- an event that has nothing to do, and leaves the stations
+pub idle_stands : (setup : Setup) (s : Core) (log : List Entry) (ps : List (Option Pending)) (sts new : List Station) (event : Event) (m : Made)
+    → IsFarm setup s log ps sts → way_of setup log event.kind ≡ to_nothing → AreStations setup.servers (log ++ entry_of event (word_effect Void) ∷ []) new → m ≡ record { effect = word_effect Void; pending = None }
+    → IsMadeSo setup log event (way_of setup log event.kind) ps new m
+idle_stands setup s log ps sts new event m is nothing stand same =
+    let idle : Made = record { effect = word_effect Void; pending = None } in
+    let there : IsMadeSo setup log event to_nothing ps new idle = record {
+      made = refl;
+      after = record {
+        size = is.kept.size;
+        old = all_kept setup log (entry_of event (word_effect Void)) ps is.kept (voided log (entry_of event (word_effect Void)) refl);
+        new = nothing_new setup log (entry_of event (word_effect Void)) refl;
+      };
+      stations = stand;
+    } in
+    subst (λ (x : Made). IsMadeSo setup log event (way_of setup log event.kind) ps new x) (sym same)
+    (subst (λ (w : Way). IsMadeSo setup log event w ps new idle) (sym nothing) there)
+
+-- an event that has nothing to do, and restarts nothing
+pub idle_made : (setup : Setup) (s : Core) (log : List Entry) (ps : List (Option Pending)) (sts : List Station) (event : Event) (m : Made)
+    → IsFarm setup s log ps sts → way_of setup log event.kind ≡ to_nothing → ((a : Addr) → restart_by a event.kind ≡ None) → m ≡ record { effect = word_effect Void; pending = None }
+    → IsMadeSo setup log event (way_of setup log event.kind) ps sts m
+idle_made setup s log ps sts event m is nothing still same =
+    idle_stands setup s log ps sts sts event m is nothing (stations_same setup.servers log sts (entry_of event (word_effect Void)) is.stations still refl) same
 
 -- ---- settlements
 
@@ -166,117 +175,217 @@ other_call : (log : List Entry) (e : Entry) (n m : ℕ) (reply : Option (List �
 other_call log e n m reply names apart = rw (names, ne_eqb n m apart) (and_false _)
 
 -- after a settlement, or one of a call that does not wait, nothing is kept of the call
-after_settled : (farm : SetupScheduler) (log : List Entry) (e : Entry) (ws : List (Option Waiting)) (n : ℕ) (reply : Option (List ℕ)) → AreKept farm log ws
-    → settles_by log e.event.kind ≡ Some (n, reply) → e.call ≡ None → (e.word ≡ None) ⊎ ((e.word ≡ Some Void) × (kept_at ws n ≡ None)) → IsAfter farm log e (set ws n None) None
-after_settled farm log e ws n reply kept names none how = record {
-  size = omega (arith, length-set ws n None, kept.size);
+after_settled : (setup : Setup) (log : List Entry) (e : Entry) (ps : List (Option Pending)) (n : ℕ) (reply : Option (List ℕ)) → AreKept setup log ps
+    → settles_by log e.event.kind ≡ Some (n, reply) → (o : Option Pending) → IsKept setup (log ++ e ∷ []) (length log) o → (is_void e.word ≡ false) ⊎ ((e.word ≡ Some Void) × (kept_at ps n ≡ None)) → IsAfter setup log e (set ps n None) o
+after_settled setup log e ps n reply kept names o made how = record {
+  size = omega (arith, length-set ps n None, kept.size);
   old = λ m lt. elim (cases_eq n m) [
-    | inl same ↦ subst (λ (k : ℕ). IsKept farm (log ++ e ∷ []) k (kept_at (set ws n None) k)) same (own (omega (arith, same, lt)))
+    | inl same ↦ subst (λ (k : ℕ). IsKept setup (log ++ e ∷ []) k (kept_at (set ps n None) k)) same (own (omega (arith, same, lt)))
     | inr apart ↦
-        let at : kept_at (set ws n None) m ≡ kept_at ws m = ap (λ (o : Option (Option Waiting)). o >>= λ p. p) (get_set_other ws n m None apart) in
-        subst (λ (o : Option Waiting). IsKept farm (log ++ e ∷ []) m o) (sym at) (kept-left farm log e m (kept_at ws m) lt (other_call log e n m reply names apart) (kept.each m))
+        let at : kept_at (set ps n None) m ≡ kept_at ps m = ap (λ (o : Option (Option Pending)). o >>= λ p. p) (get_set_other ps n m None apart) in
+        subst (λ (o : Option Pending). IsKept setup (log ++ e ∷ []) m o) (sym at) (kept-left setup log e m (kept_at ps m) lt (other_call log e n m reply names apart) (kept.each m))
   ];
-  new = nothing_new farm log e none;
+  new = made;
 }
   where
-    none_left : n < length log → kept_at (set ws n None) n ≡ None
-    none_left lt = ap (λ (o : Option (Option Waiting)). o >>= λ p. p) (get_set_same ws n None (omega (arith, kept.size)))
+    none_left : n < length log → kept_at (set ps n None) n ≡ None
+    none_left lt = ap (λ (o : Option (Option Pending)). o >>= λ p. p) (get_set_same ps n None (omega (arith, kept.size)))
 
-    settled : n < length log → (e.word ≡ None) ⊎ ((e.word ≡ Some Void) × (kept_at ws n ≡ None)) → IsKept farm (log ++ e ∷ []) n None
-    settled lt (inl silent) = kept-settled farm log e n lt (settles_it log n reply e lt silent names)
-    settled lt (inr void) = kept-left farm log e n None lt (voided log e void.0 n) (subst (IsKept farm log n) void.1 (kept.each n))
+    settled : n < length log → (is_void e.word ≡ false) ⊎ ((e.word ≡ Some Void) × (kept_at ps n ≡ None)) → IsKept setup (log ++ e ∷ []) n None
+    settled lt (inl silent) = kept-settled setup log e n lt (settles_it log n reply e lt silent names)
+    settled lt (inr void) = kept-left setup log e n None lt (voided log e void.0 n) (subst (IsKept setup log n) void.1 (kept.each n))
 
-    own : n < length log → IsKept farm (log ++ e ∷ []) n (kept_at (set ws n None) n)
-    own lt = subst (λ (o : Option Waiting). IsKept farm (log ++ e ∷ []) n o) (sym (none_left lt)) (settled lt how)
+    own : n < length log → IsKept setup (log ++ e ∷ []) n (kept_at (set ps n None) n)
+    own lt = subst (λ (o : Option Pending). IsKept setup (log ++ e ∷ []) n o) (sym (none_left lt)) (settled lt how)
 
--- a call that is not kept does not wait
-pub settled_none : (farm : SetupScheduler) (s : Core) (log : List Entry) (ws : List (Option Waiting)) (event : Event) (n : ℕ) (reply : Option (List ℕ))
-    → IsFarm farm s log ws → kept_at ws n ≡ None → settles_by log event.kind ≡ Some (n, reply)
-    → IsSettledSo farm log event n reply (set ws n None) (record { entry = worded event Void; waiting = None })
-settled_none farm s log ws event n reply is empty names = record {
-  made = subst (λ (o : Option Entry). IsSettled farm log event n reply o (worded event Void)) (sym (subst (IsKept farm log n) empty (is.kept.each n))) refl;
-  after = after_settled farm log (worded event Void) ws n reply is.kept names refl (inr (refl, empty));
-}
+-- ---- what goes on is not void, and reports the end of a run once
 
-continued_event : (s : Core) (t : Ticket) (n : ℕ) (json : Bool) (event : Event) (r : Result AssignJobResult CallFault) → (continued s t n json event r).event ≡ event
-continued_event s t n json event (Ok a) = refl
-continued_event s t n json event (Err f) = refl
+end_loud : (s : Core) (root : ℕ) (json : Bool) (at : ℕ) (t : Ticket) (r : Result AssignJobResult CallFault) → is_void (assignment_end s root json at t r).word ≡ false
+end_loud s root json at t (Ok a) = refl
+end_loud s root json at t (Err f) = refl
 
-continued_call : (s : Core) (t : Ticket) (n : ℕ) (json : Bool) (event : Event) (r : Result AssignJobResult CallFault) → (continued s t n json event r).call ≡ None
-continued_call s t n json event (Ok a) = refl
-continued_call s t n json event (Err f) = refl
+ready_loud : (s : ServerNow) (root : ℕ) (json : Bool) (job : JobId) (archive : List ℕ) (r : Result UpdateJobStateResult CallFault) → is_void (ready_end s root json job archive r).word ≡ false
+ready_loud s root json job archive (Ok u) = refl
+ready_loud s root json job archive (Err f) = refl
 
-continued_word : (s : Core) (t : Ticket) (n : ℕ) (json : Bool) (event : Event) (r : Result AssignJobResult CallFault) → (continued s t n json event r).word ≡ None
-continued_word s t n json event (Ok a) = refl
-continued_word s t n json event (Err f) = refl
+started_loud : (setup : Setup) (s : ServerNow) (root : ℕ) (job : JobId) (run : RunJobHttpRequest) (inputs : List ℕ) (r : Result UpdateJobStateResult CallFault) → is_void (started_end setup s root job run inputs r).word ≡ false
+started_loud setup s root job run inputs (Ok u) = refl
+started_loud setup s root job run inputs (Err f) = refl
 
--- a call that is kept goes on
-pub settled_some : (farm : SetupScheduler) (s : Core) (log : List Entry) (ws : List (Option Waiting)) (event : Event) (n : ℕ) (reply : Option (List ℕ)) (w : Waiting)
-    (r : Result AssignJobResult CallFault) (e : Entry) → IsFarm farm s log ws → kept_at ws n ≡ Some w → settles_by log event.kind ≡ Some (n, reply) → IsOutcome reply r
-    → e ≡ continued s w.reservation n w.json event r → IsSettledSo farm log event n reply (set ws n None) (record { entry = e; waiting = None })
-settled_some farm s log ws event n reply w r e is some names outcome goes =
-    let waits : IsWaiting farm log n w = subst (IsKept farm log n) some (is.kept.each n) in
-    let same : e ≡ continued (core_of farm log) w.reservation n w.json event r = goes ∙ ap (λ (c : Core). continued c w.reservation n w.json event r) is.core_is in
-    let on : GoesOn farm log event n reply (Some w.reservation) e = (w.json, waits.wants, r, outcome, same) in
-    let of_event : e.event ≡ event = ap (λ (x : Entry). x.event) goes ∙ continued_event s w.reservation n w.json event r in
+complete_loud : (addr : Addr) (root : ℕ) (json : Bool) (job : JobId) (outcome : Outcome) (r : Result UpdateJobStateResult CallFault) → is_void (complete_end addr root json job outcome r).word ≡ false
+complete_loud addr root json job outcome (Ok u) = refl
+complete_loud addr root json job outcome (Err f) = refl
+
+reports_loud : (setup : Setup) (s : ServerNow) (bytes : List ℕ) (root : ℕ) (json : Bool) (reply : Option (List ℕ)) (t : Told) (x : Effect) → Reports setup s bytes root json reply t x → is_void x.word ≡ false
+reports_loud setup s bytes root json reply (told.Ready job at) x is = ap (λ (y : Effect). is_void y.word) is.2 ∙ ready_loud s root json job (drop at bytes) is.0
+reports_loud setup s bytes root json reply (told.Started job run at) x is = ap (λ (y : Effect). is_void y.word) is.2 ∙ started_loud setup s root job run (drop at bytes) is.0
+reports_loud setup s bytes root json reply (told.Complete job outcome) x is = ap (λ (y : Effect). is_void y.word) is.2 ∙ complete_loud s.setup.addr root json job outcome is.0
+reports_loud setup s bytes root json reply told.Heartbeat x is = ap (λ (y : Effect). is_void y.word) is.2
+
+lives_loud : (setup : Setup) (life : ℕ) (s : ServerNow) (bytes : List ℕ) (root : ℕ) (json : Bool) (reply : Option (List ℕ)) (t : Told) (over : Bool) (x : Effect) → Lives setup life s bytes root json reply t over x → is_void x.word ≡ false
+lives_loud setup life s bytes root json reply t true x is = ap (λ (y : Effect). is_void y.word) is
+lives_loud setup life s bytes root json reply t false x is = reports_loud setup s bytes root json reply t x is
+
+report_loud : (setup : Setup) (life : ℕ) (bytes : List ℕ) (root : ℕ) (json : Bool) (reply : Option (List ℕ)) (t : Told) (o : Option ServerNow) (x : Effect) → ReportsIn setup life bytes root json reply t o x → is_void x.word ≡ false
+report_loud setup life bytes root json reply t None x is = ap (λ (y : Effect). is_void y.word) is
+report_loud setup life bytes root json reply t (Some s) x is = lives_loud setup life s bytes root json reply t (is_over life s) x is
+
+goes_loud : (setup : Setup) (log : List Entry) (at root : ℕ) (json : Bool) (reply : Option (List ℕ)) (ask : Ask) (x : Effect) → GoesOn setup log at root json reply ask x → is_void x.word ≡ false
+goes_loud setup log at root json reply (Assign t) x is = ap (λ (y : Effect). is_void y.word) is.2 ∙ end_loud (core_of setup log) root json at t is.0
+goes_loud setup log at root json reply (Report server life t) x is = report_loud setup life (brought_at log root) root json reply t (server_now setup log server) x is
+
+-- no report of a run's end follows on one
+no_second : (addr : Addr) (root : ℕ) (json : Bool) (job : JobId) (outcome : Outcome) (r : Result UpdateJobStateResult CallFault) (n : ℕ) (j : Bool) (a : Addr) (life : ℕ) → completion_at n j a life (complete_end addr root json job outcome r).step ≡ None
+no_second addr root json job outcome (Ok u) n j a life = refl
+no_second addr root json job outcome (Err f) n j a life = refl
+
+lives_second : (setup : Setup) (life : ℕ) (s : ServerNow) (bytes : List ℕ) (root : ℕ) (json : Bool) (reply : Option (List ℕ)) (job : JobId) (outcome : Outcome) (over : Bool) (x : Effect) (n : ℕ) (j : Bool) (a : Addr) (l : ℕ)
+    → Lives setup life s bytes root json reply (told.Complete job outcome) over x → completion_at n j a l x.step ≡ None
+lives_second setup life s bytes root json reply job outcome true x n j a l is = ap (λ (y : Effect). completion_at n j a l y.step) is
+lives_second setup life s bytes root json reply job outcome false x n j a l is = ap (λ (y : Effect). completion_at n j a l y.step) is.2 ∙ no_second s.setup.addr root json job outcome is.0 n j a l
+
+report_second : (setup : Setup) (life : ℕ) (bytes : List ℕ) (root : ℕ) (json : Bool) (reply : Option (List ℕ)) (job : JobId) (outcome : Outcome) (o : Option ServerNow) (x : Effect) (n : ℕ) (j : Bool) (a : Addr) (l : ℕ)
+    → ReportsIn setup life bytes root json reply (told.Complete job outcome) o x → completion_at n j a l x.step ≡ None
+report_second setup life bytes root json reply job outcome None x n j a l is = ap (λ (y : Effect). completion_at n j a l y.step) is
+report_second setup life bytes root json reply job outcome (Some s) x n j a l is = lives_second setup life s bytes root json reply job outcome (is_over life s) x n j a l is
+
+-- what a completion asks
+record Completes (p : Pending) : Type 0 where
+  addr : Addr
+  life : ℕ
+  job : JobId
+  outcome : Outcome
+  asks : p.ask ≡ Report addr life (told.Complete job outcome)
+
+completes_by : (root : ℕ) (json : Bool) (addr : Addr) (life : ℕ) (k : StepKind) (p : Pending) → completion_by root json addr life k ≡ Some p → Completes p
+completes_by root json addr life (kinds.Ran job ran result) p e =
+    record { addr = addr; life = life; job = job; outcome = outcome_of ran result; asks = sym (ap (λ (q : Pending). q.ask) (same_Some _ p e)) }
+completes_by root json addr life (kinds.Heard as_what) p e = absurd cc
+completes_by root json addr life (kinds.Assigned job tc ready) p e = absurd cc
+completes_by root json addr life (kinds.Submitted job outcome) p e = absurd cc
+completes_by root json addr life (kinds.Finished job) p e = absurd cc
+completes_by root json addr life (kinds.Unreported job) p e = absurd cc
+completes_by root json addr life (kinds.Opened archives) p e = absurd cc
+
+completes : (q : Pending) (ask : Ask) (step : Option Step) (p : Pending) → completion_of q ask step ≡ Some p → Completes p
+completes q (Assign u) step p e = absurd cc
+completes q (Report addr life t) None p e = absurd cc
+completes q (Report addr life t) (Some step) p e = completes_by q.root q.json addr life step.kind p e
+
+-- a call whose settlement tells a run's end is no such report itself
+none_after : (setup : Setup) (log : List Entry) (at root : ℕ) (json : Bool) (reply : Option (List ℕ)) (q first : Pending) (ask : Ask) (x : Effect) (p : Pending)
+    → Completes first → first.ask ≡ ask → GoesOn setup log at root json reply ask x → completion_of first ask x.step ≡ Some p → ⊥
+none_after setup log at root json reply q first (Assign t) x p c asks goes e = cc
+none_after setup log at root json reply q first (Report server life t) x p c asks goes e =
+    let same : Report c.addr c.life (told.Complete c.job c.outcome) ≡ Report server life t = sym c.asks ∙ asks in
+    let kind : told.Complete c.job c.outcome ≡ t = cc in
+    let ended : ReportsIn setup life (brought_at log root) root json reply (told.Complete c.job c.outcome) (server_now setup log server) x =
+    subst (λ (k : Told). ReportsIn setup life (brought_at log root) root json reply k (server_now setup log server) x) (sym kind) goes in
+    let none = report_second setup life (brought_at log root) root json reply c.job c.outcome (server_now setup log server) x first.root first.json server life ended in
+    let two : None ≡ Some p = sym none ∙ e in
+    cc
+
+first_way : (setup : Setup) (log : List Entry) (n : ℕ) (entry : Entry) (way : Way) (first : Pending) → (Completes first → ⊥) → length (take n log) ≡ n → IsMadeBy setup (take n log) way (effect_of entry) first
+    → IsBegunBy setup (core_log (take n log)) n way (effect_of entry) first
+first_way setup log n entry (to_call m r) first not_it size made = absurd (not_it (completes made.first made.first.ask entry.step first made.is))
+first_way setup log n entry (to_scheduler peer bytes) first not_it size made = subst (λ (k : ℕ). IsBegunBy setup (core_log (take n log)) k (to_scheduler peer bytes) (effect_of entry) first) size made
+first_way setup log n entry (to_server s bytes) first not_it size made = subst (λ (k : ℕ). IsBegunBy setup (core_log (take n log)) k (to_server s bytes) (effect_of entry) first) size made
+first_way setup log n entry (to_beat s) first not_it size made = subst (λ (k : ℕ). IsBegunBy setup (core_log (take n log)) k (to_beat s) (effect_of entry) first) size made
+first_way setup log n entry to_nothing first not_it size made = absurd made
+first_way setup log n entry to_nobody first not_it size made = absurd made
+first_way setup log n entry (to_restart s key nonce) first not_it size made = absurd made
+
+first_call : (setup : Setup) (log : List Entry) (n : ℕ) (first : Pending) → (Completes first → ⊥) → IsCallOf setup log n first → IsFirstCall setup log n first
+first_call setup log n first not_it is =
+    let within : n < length log = slice_get_within log n is.entry is.there in
+    let size : length (take n log) ≡ n = omega (arith, length-take n log, within) in
+    record { entry = is.entry; there = is.there; begun = first_way setup log n is.entry (way_of setup (take n log) is.entry.event.kind) first not_it size is.made }
+
+-- what is kept of the call that a settlement makes
+settled_kept : (setup : Setup) (log : List Entry) (at n : ℕ) (reply : Option (List ℕ)) (first : Pending) (x : Effect) (o : Option Pending) → IsCallOf setup log n first → Follows setup log at reply (Some first) x
+    → Keeps (λ p. completion_of first first.ask x.step ≡ Some p) x o → Keeps (IsMadeBy setup log (to_call n reply) x) x o
+settled_kept setup log at n reply first x None call goes is = is
+settled_kept setup log at n reply first x (Some p) call goes is = (
+  record {
+    first = first;
+    call = first_call setup log n first (λ c. none_after setup log at first.root first.json reply first first first.ask x p c refl goes is.0) call;
+    is = is.0;
+  },
+  is.1,
+  is.2,
+)
+
+-- what follows where that is kept of the call
+pub settled_by : (setup : Setup) (s : Core) (log : List Entry) (ps : List (Option Pending)) (sts new : List Station) (event : Event) (n at : ℕ) (reply : Option (List ℕ)) (first : Pending) (m : Made)
+    → IsFarm setup s log ps sts → event.at ≡ at → way_of setup log event.kind ≡ to_call n reply → kept_at ps n ≡ Some first → Follows setup log at reply (Some first) m.effect
+    → Keeps (λ p. completion_of first first.ask m.effect.step ≡ Some p) m.effect m.pending → AreStations setup.servers (log ++ entry_of event m.effect ∷ []) new
+    → IsMadeSo setup log event (way_of setup log event.kind) (set ps n None) new m
+settled_by setup s log ps sts new event n at reply first m is moment comes some follows keeps stand =
+    let waits : IsWaiting setup log n first = subst (IsKept setup log n) some (is.kept.each n) in
+    let names = way_settles setup log event.kind n reply comes in
+    let goes : Follows setup log event.at reply (Some first) m.effect = subst (λ (k : ℕ). Follows setup log k reply (Some first) m.effect) (sym moment) follows in
+    let made : IsMade setup log event.at (to_call n reply) m.effect = subst (λ (o : Option Entry). IsSettled setup log event.at n reply o m.effect) (sym waits.waits) (first, waits.call, goes) in
+    let kept : Keeps (IsMadeBy setup log (to_call n reply) m.effect) m.effect m.pending = settled_kept setup log event.at n reply first m.effect m.pending waits.call goes keeps in
+    let here : Keeps (IsMadeBy setup log (way_of setup log event.kind) m.effect) m.effect m.pending = subst (λ (w : Way). Keeps (IsMadeBy setup log w m.effect) m.effect m.pending) (sym comes) kept in
     record {
-      made = subst (λ (o : Option Entry). IsSettled farm log event n reply o e) (sym waits.waits) (subst (λ (t : Option Ticket). GoesOn farm log event n reply t e) (sym waits.ticket) on);
-      after = after_settled farm log e ws n reply is.kept (ap (λ (v : Event). settles_by log v.kind) of_event ∙ names)
-          (ap (λ (x : Entry). x.call) goes ∙ continued_call s w.reservation n w.json event r)
-          (inl (ap (λ (x : Entry). x.word) goes ∙ continued_word s w.reservation n w.json event r));
+      made = subst (λ (w : Way). IsMade setup log event.at w m.effect) (sym comes) made;
+      after = after_settled setup log (entry_of event m.effect) ps n reply is.kept names m.pending (new_kept setup log (entry_of event m.effect) m.pending here)
+          (inl (goes_loud setup log event.at first.root first.json reply first.ask m.effect goes));
+      stations = stand;
     }
 
+-- a call that is not kept does not wait
+pub settled_none : (setup : Setup) (s : Core) (log : List Entry) (ps : List (Option Pending)) (sts : List Station) (event : Event) (n : ℕ) (reply : Option (List ℕ)) (m : Made)
+    → IsFarm setup s log ps sts → way_of setup log event.kind ≡ to_call n reply → kept_at ps n ≡ None → ((a : Addr) → restart_by a event.kind ≡ None) → m ≡ record { effect = word_effect Void; pending = None }
+    → IsMadeSo setup log event (way_of setup log event.kind) (set ps n None) sts m
+settled_none setup s log ps sts event n reply m is comes none still same =
+    let x = word_effect Void in
+    let waits : waiting_at log n ≡ None = subst (IsKept setup log n) none (is.kept.each n) in
+    let names = way_settles setup log event.kind n reply comes in
+    let made : IsMade setup log event.at (to_call n reply) x = subst (λ (o : Option Entry). IsSettled setup log event.at n reply o x) (sym waits) refl in
+    let there : IsMadeSo setup log event (way_of setup log event.kind) (set ps n None) sts (record { effect = x; pending = None }) = record {
+      made = subst (λ (w : Way). IsMade setup log event.at w x) (sym comes) made;
+      after = after_settled setup log (entry_of event x) ps n reply is.kept names None (nothing_new setup log (entry_of event x) refl) (inr (refl, none));
+      stations = stations_same setup.servers log sts (entry_of event x) is.stations still refl;
+    } in
+    subst (λ (q : Made). IsMadeSo setup log event (way_of setup log event.kind) (set ps n None) sts q) (sym same) there
+
+-- an event that settles a call restarts nothing
+pub settling_still : (setup : Setup) (log : List Entry) (k : EventKind) (n : ℕ) (reply : Option (List ℕ)) → way_of setup log k ≡ to_call n reply → (a : Addr) → restart_by a k ≡ None
+settling_still setup log (Request target peer bytes) n reply is a = refl
+settling_still setup log (Deliver c) n reply is a = refl
+settling_still setup log (Fail c) n reply is a = refl
+settling_still setup log (Return d) n reply is a = refl
+settling_still setup log (Answer c bytes) n reply is a = refl
+settling_still setup log (Beat server) n reply is a = refl
+settling_still setup log (Restart server key nonce) n reply is a =
+    let names = way_settles setup log (Restart server key nonce) n reply is in
+    absurd cc
+
 -- the reservation of a call that is kept is unspent
-pub kept_own : (farm : SetupScheduler) (s : Core) (log : List Entry) (ws : List (Option Waiting)) (n : ℕ) (w : Waiting) → IsFarm farm s log ws → kept_at ws n ≡ Some w
-    → is_among (unspent s.log) w.reservation.number w.reservation.job ≡ true
-kept_own farm s log ws n w is some =
-    let waits : IsWaiting farm log n w = subst (IsKept farm log n) some (is.kept.each n) in
-    ap (λ (c : Core). is_among (unspent c.log) w.reservation.number w.reservation.job) is.core_is ∙ is.sound.own n waits.entry w.reservation waits.waits waits.ticket
+own_by : (setup : Setup) (s : Core) (log : List Entry) (n : ℕ) (p : Pending) (ask : Ask) → s ≡ core_of setup log → IsSound setup log → IsWaiting setup log n p → p.ask ≡ ask → IsOwnBy s.log ask
+own_by setup s log n p (Assign t) core_is sound waits asks =
+    ap (λ (c : Core). is_among (unspent c.log) t.number t.job) core_is ∙ sound.own n waits.entry t waits.waits (call_ticket setup log n p t waits.call asks)
+own_by setup s log n p (Report server life t) core_is sound waits asks = tt
 
--- ---- events that are to settle a call
-
--- one that is to settle that call
-pub settling_made : (farm : SetupScheduler) (log : List Entry) (ws : List (Option Waiting)) (event : Event) (k : EventKind) (n : ℕ) (reply : Option (List ℕ)) (m : Made)
-    → to_settle farm log k ≡ Some (n, reply) → ((e : Entry) → Settles farm log event (to_settle farm log k) e → IsMade farm log event k e)
-    → IsSettledSo farm log event n reply ws m → IsMadeSo farm log event k ws m
-settling_made farm log ws event k n reply m names made is =
-    record { made = made m.entry (subst (λ (o : Option (ℕ × Option (List ℕ))). Settles farm log event o m.entry) (sym names) is.made); after = is.after }
-
--- one that is to settle none
-pub settling_void : (farm : SetupScheduler) (s : Core) (log : List Entry) (ws : List (Option Waiting)) (event : Event) (k : EventKind) → IsFarm farm s log ws
-    → to_settle farm log k ≡ None → ((e : Entry) → Settles farm log event (to_settle farm log k) e → IsMade farm log event k e)
-    → IsMadeSo farm log event k ws (record { entry = worded event Void; waiting = None })
-settling_void farm s log ws event k is none made =
-    record { made = made (worded event Void) (subst (λ (o : Option (ℕ × Option (List ℕ))). Settles farm log event o (worded event Void)) (sym none) refl); after = after_void farm log event ws is.kept }
+pub kept_own : (setup : Setup) (s : Core) (log : List Entry) (ps : List (Option Pending)) (sts : List Station) (n : ℕ) (p : Pending) → IsFarm setup s log ps sts → kept_at ps n ≡ Some p → IsOwnBy s.log p.ask
+kept_own setup s log ps sts n p is some = own_by setup s log n p p.ask is.core_is is.sound (subst (IsKept setup log n) some (is.kept.each n)) refl
 
 -- ---- farms
 
 -- one entry more
-pub farm_next : (farm : SetupScheduler) (s new : Core) (log : List Entry) (ws next : List (Option Waiting)) (event : Event) (m : Made)
-    → IsFarm farm s log ws → IsMadeSo farm log event event.kind next m → new ≡ with_core s m.entry.core → IsFarm farm new (log ++ m.entry ∷ []) (next ++ m.waiting ∷ [])
-farm_next farm s new log ws next event m is made core-is = record {
-  plain = is.plain;
-  fits = is.fits;
-  core_is = core-is ∙ ap (λ (c : Core). with_core c m.entry.core) is.core_is ∙ core_of-push farm log m.entry;
-  sound = sound_next farm log event m.entry is.fits is.sound made.made;
-  kept = kept-push farm log m.entry next m.waiting made.after;
-}
-
--- an event of a kind that is void whatever stands before it
-pub void_made : (farm : SetupScheduler) (s : Core) (log : List Entry) (ws : List (Option Waiting)) (event copy : Event) (k : EventKind) (m : Made) → IsFarm farm s log ws
-    → event.kind ≡ k → copy ≡ event → m ≡ record { entry = worded copy Void; waiting = None } → IsMade farm log event k (worded event Void) → IsMadeSo farm log event event.kind ws m
-void_made farm s log ws event copy k m is kind same made-is made =
-    let idle : Made = record { entry = worded event Void; waiting = None } in
-    let there : m ≡ idle = made-is ∙ ap (λ (v : Event). record { entry = worded v Void; waiting = None }) same in
-    let so : IsMadeSo farm log event k ws idle = record { made = made; after = after_void farm log event ws is.kept } in
-    subst (λ (x : Made). IsMadeSo farm log event event.kind ws x) (sym there) (subst (λ (j : EventKind). IsMadeSo farm log event j ws idle) (sym kind) so)
-
--- what follows where an event is to settle that call
-pub settling_ok : (farm : SetupScheduler) (log : List Entry) (ws : List (Option Waiting)) (event : Event) (k : EventKind) (n : ℕ) (reply : Option (List ℕ)) (outcome : Result AssignJobResult CallFault)
-    (r : Result Made FarmFault) → event.kind ≡ k → to_settle farm log k ≡ Some (n, reply) → IsOutcome reply outcome
-    → ((e : Entry) → Settles farm log event (to_settle farm log k) e → IsMade farm log event k e)
-    → IfOk r (λ m. (given : Option (List ℕ)) → settles_by log event.kind ≡ Some (n, given) → IsOutcome given outcome → IsSettledSo farm log event n given ws m)
-    → IfOk r (IsMadeSo farm log event k ws)
-settling_ok farm log ws event k n reply outcome (Err f) same names is made goes = tt
-settling_ok farm log ws event k n reply outcome (Ok m) same names is made goes =
-    settling_made farm log ws event k n reply m names made (goes reply (ap (settles_by log) same ∙ settle_is farm log k (n, reply) names) is)
+pub farm_next : (setup next : Setup) (s new : Core) (log : List Entry) (ps left : List (Option Pending)) (sts after : List Station) (event : Event) (m : Made)
+    → IsFarm setup s log ps sts → IsMadeSo setup log event (way_of setup log event.kind) left after m → next ≡ setup → new ≡ with_core s m.effect.core
+    → IsFarm next new (log ++ entry_of event m.effect ∷ []) (left ++ m.pending ∷ []) after
+farm_next setup next s new log ps left sts after event m is made same core-is =
+    let e : Entry = entry_of event m.effect in
+    let farm : IsFarm setup new (log ++ e ∷ []) (left ++ m.pending ∷ []) after = record {
+      plain = is.plain;
+      fits = is.fits;
+      apart = is.apart;
+      core_is = core-is ∙ ap (λ (c : Core). with_core c m.effect.core) is.core_is ∙ core_of-push setup log e;
+      sound = sound_next setup log event e is.fits is.sound (m.effect, made.made, refl);
+      kept = kept-push setup log e left m.pending made.after;
+      stations = made.stations;
+    } in
+    subst (λ (t : Setup). IsFarm t new (log ++ e ∷ []) (left ++ m.pending ∷ []) after) (sym same) farm

@@ -5,7 +5,7 @@ use Rattle.std.specs.List.{cons_option}
 use Rattle.std.proofs.lemmas.Option.{same_Some}
 use Rattle.sched_core.specs.declared.entry.CoreEntry.{CoreEntry}
 use Rattle.farm_run.specs.declared.entry.Entry.{Entry}
-use Rattle.farm_run.specs.Next.{core_log}
+use Rattle.farm_run.specs.Seen.{core_log}
 
 -- one entry more at the front
 front_more : (o : Option CoreEntry) (a b : List CoreEntry) → length a < length b → length (cons_option o a) < length (cons_option o b)

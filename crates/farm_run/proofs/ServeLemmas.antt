@@ -10,7 +10,8 @@ use Rattle.dist_types.specs.declared.results.AllocJobResult.TheVariants as alloc
 use Rattle.dist_types.specs.declared.results.AssignJobResult.{AssignJobResult}
 use Rattle.dist_types.specs.declared.results.JobState.{JobState}
 use Rattle.dist_types.specs.declared.results.UpdateJobStateResult.{UpdateJobStateResult}
-use Rattle.http_routes.specs.Fault.{fault_response_of, no_room_text}
+use Rattle.http_routes.specs.Fault.{fault_response_of}
+use Rattle.sched_core.specs.Texts.{no_room_text}
 use Rattle.http_routes.specs.declared.fault.RouteFault.TheVariants as fault
 use Rattle.http_routes.specs.declared.reply.Response.{Response}
 use Rattle.http_routes.specs.declared.route.Asked.{Asked}
@@ -30,16 +31,19 @@ use Rattle.sched_core.specs.declared.entry.CoreKind.TheVariants as core
 use Rattle.sched_core.specs.declared.entry.Reserved.TheVariants.{Job, NoRoom, Spent}
 use Rattle.sched_core.specs.declared.entry.UpdateAnswer.{UpdateAnswer}
 use Rattle.sched_core.specs.declared.entry.UpdateAnswer.TheVariants.{Accepted, Unknown, Wrong, Transition}
-use Rattle.farm_script.specs.declared.setup.SetupScheduler.{SetupScheduler}
-use Rattle.farm_script.specs.declared.event.Event.{Event}
-use Rattle.farm_run.specs.declared.entry.Entry.{Entry}
+use Rattle.farm_script.specs.declared.setup.Setup.{Setup}
+use Rattle.farm_run.specs.declared.entry.Effect.{Effect}
 use Rattle.farm_run.specs.declared.entry.Reply.{Reply}
 use Rattle.farm_script.specs.declared.fault.FarmFault.{FarmFault}
-use Rattle.farm_run.specs.declared.waiting.Waiting.{Waiting}
-use Rattle.farm_run.specs.declared.waiting.Made.{Made}
-use Rattle.farm_run.specs.Replies.{alloc_response, update_response}
-use Rattle.farm_run.specs.Next.{Asks, replied, reply_to, allocated, update_reply, commit_response, continued}
-use Rattle.farm_run.specs.Farm.{with_core, Begins, IsBegun}
+use Rattle.farm_run.specs.declared.pending.Made.{Made}
+use Rattle.farm_run.specs.declared.pending.Pending.{Pending}
+use Rattle.http_routes.specs.Replies.{alloc_response, update_response, update_reply, commit_response}
+use Rattle.farm_run.specs.Answers.{Asks, allocated}
+use Rattle.farm_run.specs.Begun.{IsAssignment, IsBegunBy, Keeps}
+use Rattle.farm_run.specs.Effects.{reply_effect, reply_to}
+use Rattle.farm_run.specs.Farm.{with_core}
+use Rattle.farm_run.specs.Settled.{assignment_end}
+use Rattle.farm_run.specs.Ways.{to_scheduler}
 use Rattle.farm_run.proofs.CallLemmas.{get_end}
 
 -- the last entry of a log that one was added to
@@ -50,10 +54,10 @@ last_is s new made x is at =
     same_Some x made (sym moved ∙ ap (slice_get (s.log ++ made ∷ [])) index ∙ get_end s.log made)
 
 -- an entry that tells what the scheduler did has its core entry
-pub told_core : (s new : Core) (made x : CoreEntry) (event : Event) (r : Reply) (e : Entry) → new ≡ logged s made → slice_get new.log (length new.log - 1) ≡ Some x
-    → e ≡ replied event (Some x) r → new ≡ with_core s e.core
-told_core s new made x event r e is at same =
-    is ∙ ap (λ (y : CoreEntry). with_core s (Some y)) (sym (last_is s new made x is at)) ∙ ap (λ (d : Entry). with_core s d.core) (sym same)
+pub told_core : (s new : Core) (made x : CoreEntry) (r : Reply) (e : Effect) → new ≡ logged s made → slice_get new.log (length new.log - 1) ≡ Some x
+    → e ≡ reply_effect (Some x) r → new ≡ with_core s e.core
+told_core s new made x r e is at same =
+    is ∙ ap (λ (y : CoreEntry). with_core s (Some y)) (sym (last_is s new made x is at)) ∙ ap (λ (d : Effect). with_core s d.core) (sym same)
 
 -- ---- reports
 
@@ -98,63 +102,64 @@ told_transition json (Transition before) server job to from other e =
 -- ---- allocations
 
 -- the entry of an allocation that no registration has room for
-no_room_by : {A : Type 0} (key_of : A → List ℕ) (token_for : A → ℕ → List ℕ) (s : Core) (number : ℕ) (event : Event) (json : Bool) (tc : List ℕ) (made : CoreEntry) (standing : ℕ) (k : CoreKind)
+no_room_by : {A : Type 0} (key_of : A → List ℕ) (token_for : A → ℕ → List ℕ) (s : Core) (number : ℕ) (json : Bool) (tc : List ℕ) (made : CoreEntry) (standing : ℕ) (k : CoreKind)
     → IsPicked key_of token_for s.log k (picked.NoRoom standing)
-    → replied event (Some made) (reply_to number (alloc_response json (alloc.Fail (no_room_text standing)))) ≡ allocated s number event json tc made k
-no_room_by key_of token_for s number event json tc made standing (core.Reserve (NoRoom n)) is =
-    ap (λ (m : ℕ). replied event (Some made) (reply_to number (alloc_response json (alloc.Fail (no_room_text m))))) is
-no_room_by key_of token_for s number event json tc made standing (core.Reserve (Job job reg forgiven)) is = absurd is
-no_room_by key_of token_for s number event json tc made standing (core.Reserve Spent) is = absurd is
-no_room_by key_of token_for s number event json tc made standing (core.Commit job state kept) is = absurd is
-no_room_by key_of token_for s number event json tc made standing (core.Undo job noted ended) is = absurd is
-no_room_by key_of token_for s number event json tc made standing (core.Beat server nonce cpus key pruned reaped replaced is_new) is = absurd is
-no_room_by key_of token_for s number event json tc made standing (core.Update server job state answer) is = absurd is
-no_room_by key_of token_for s number event json tc made standing (core.Status pruned servers cpus jobs) is = absurd is
+    → reply_effect (Some made) (reply_to number (alloc_response json (alloc.Fail (no_room_text standing)))) ≡ allocated s number json tc made k
+no_room_by key_of token_for s number json tc made standing (core.Reserve (NoRoom n)) is =
+    ap (λ (m : ℕ). reply_effect (Some made) (reply_to number (alloc_response json (alloc.Fail (no_room_text m))))) is
+no_room_by key_of token_for s number json tc made standing (core.Reserve (Job job reg forgiven)) is = absurd is
+no_room_by key_of token_for s number json tc made standing (core.Reserve Spent) is = absurd is
+no_room_by key_of token_for s number json tc made standing (core.Commit job state kept) is = absurd is
+no_room_by key_of token_for s number json tc made standing (core.Undo job noted ended) is = absurd is
+no_room_by key_of token_for s number json tc made standing (core.Beat server nonce cpus key pruned reaped replaced is_new) is = absurd is
+no_room_by key_of token_for s number json tc made standing (core.Update server job state answer) is = absurd is
+no_room_by key_of token_for s number json tc made standing (core.Status pruned servers cpus jobs) is = absurd is
 
-pub no_room_told : {A : Type 0} (key_of : A → List ℕ) (token_for : A → ℕ → List ℕ) (s new : Core) (number : ℕ) (event : Event) (json : Bool) (tc : List ℕ) (made x : CoreEntry) (standing : ℕ) (e : Entry)
+pub no_room_told : {A : Type 0} (key_of : A → List ℕ) (token_for : A → ℕ → List ℕ) (s new : Core) (number : ℕ) (json : Bool) (tc : List ℕ) (made x : CoreEntry) (standing : ℕ) (e : Effect)
     → IsPicked key_of token_for s.log made.kind (picked.NoRoom standing) → new ≡ logged s made → slice_get new.log (length new.log - 1) ≡ Some x
-    → e ≡ replied event (Some x) (reply_to number (alloc_response json (alloc.Fail (no_room_text standing)))) → e ≡ allocated s number event json tc made made.kind
-no_room_told key_of token_for s new number event json tc made x standing e is log at same =
-    same ∙ ap (λ (y : CoreEntry). replied event (Some y) (reply_to number (alloc_response json (alloc.Fail (no_room_text standing))))) (last_is s new made x log at)
-    ∙ no_room_by key_of token_for s number event json tc made standing made.kind is
+    → e ≡ reply_effect (Some x) (reply_to number (alloc_response json (alloc.Fail (no_room_text standing)))) → e ≡ allocated s number json tc made made.kind
+no_room_told key_of token_for s new number json tc made x standing e is log at same =
+    same ∙ ap (λ (y : CoreEntry). reply_effect (Some y) (reply_to number (alloc_response json (alloc.Fail (no_room_text standing))))) (last_is s new made x log at)
+    ∙ no_room_by key_of token_for s number json tc made standing made.kind is
 
-pub spent_told : (s new : Core) (number : ℕ) (event : Event) (json : Bool) (tc : List ℕ) (made x : CoreEntry) (e : Entry)
+pub spent_told : (s new : Core) (number : ℕ) (json : Bool) (tc : List ℕ) (made x : CoreEntry) (e : Effect)
     → made.kind ≡ core.Reserve Spent → new ≡ logged s made → slice_get new.log (length new.log - 1) ≡ Some x
-    → e ≡ replied event (Some x) (reply_to number (fault_response_of fault.IdsSpent)) → e ≡ allocated s number event json tc made made.kind
-spent_told s new number event json tc made x e is log at same =
-    same ∙ ap (λ (y : CoreEntry). replied event (Some y) (reply_to number (fault_response_of fault.IdsSpent))) (last_is s new made x log at)
-    ∙ ap (allocated s number event json tc made) (sym is)
+    → e ≡ reply_effect (Some x) (reply_to number (fault_response_of fault.IdsSpent)) → e ≡ allocated s number json tc made made.kind
+spent_told s new number json tc made x e is log at same =
+    same ∙ ap (λ (y : CoreEntry). reply_effect (Some y) (reply_to number (fault_response_of fault.IdsSpent))) (last_is s new made x log at)
+    ∙ ap (allocated s number json tc made) (sym is)
 
 -- ---- what was asked
 
-begun_for : (farm : SetupScheduler) (s : Core) (p : Addr × List ℕ) (a : Asked) (e : Entry) (x : Option Waiting) → Asks farm (Some p) a → Begins s a.json e x → IsBegun farm s (Some p) e x
-begun_for farm s p a e None asks is = is
-begun_for farm s p a e (Some w) asks is = (is.0, (a, asks, is.1), is.2)
+begun_for : (setup : Setup) (core : List CoreEntry) (number : ℕ) (peer : Addr) (bytes : List ℕ) (a : Asked) (x : Effect) (o : Option Pending) → Asks setup peer bytes a
+    → Keeps (IsAssignment core number a.json x.core) x o → Keeps (IsBegunBy setup core number (to_scheduler peer bytes) x) x o
+begun_for setup core number peer bytes a x None asks is = is
+begun_for setup core number peer bytes a x (Some p) asks is = ((a, asks, is.0), is.1, is.2)
 
-pub begun_served : (farm : SetupScheduler) (s : Core) (p : Addr × List ℕ) (a : Asked) (o : Option (Addr × List ℕ)) (r : Result Made FarmFault) → o ≡ Some p → Asks farm (Some p) a
-    → IfOk r (λ m. Begins s a.json m.entry m.waiting) → IfOk r (λ m. IsBegun farm s o m.entry m.waiting)
-begun_served farm s p a o (Ok m) there asks is = subst (λ (q : Option (Addr × List ℕ)). IsBegun farm s q m.entry m.waiting) (sym there) (begun_for farm s p a m.entry m.waiting asks is)
-begun_served farm s p a o (Err f) there asks is = tt
+pub begun_served : (setup : Setup) (core : List CoreEntry) (number : ℕ) (peer : Addr) (bytes : List ℕ) (a : Asked) (r : Result Made FarmFault) → Asks setup peer bytes a
+    → IfOk r (λ m. Keeps (IsAssignment core number a.json m.effect.core) m.effect m.pending) → IfOk r (λ m. Keeps (IsBegunBy setup core number (to_scheduler peer bytes) m.effect) m.effect m.pending)
+begun_served setup core number peer bytes a (Ok m) asks is = begun_for setup core number peer bytes a m.effect m.pending asks is
+begun_served setup core number peer bytes a (Err f) asks is = tt
 
 -- ---- what follows a settlement
 
-pub committed_is : (s new : Core) (t : Ticket) (n : ℕ) (json : Bool) (event : Event) (a : AssignJobResult) (x : CoreEntry) (committed : Committed) (response : Response) (reply : Reply) (e : Entry)
-    → new ≡ logged s (rule s (call.Commit event.at t.number t.job a.state)) → slice_get new.log (length new.log - 1) ≡ Some x
-    → committed ≡ committed_by true (rule s (call.Commit event.at t.number t.job a.state)).kind t → response ≡ commit_response json a.need_toolchain committed → reply ≡ reply_to n response
-    → e ≡ replied event (Some x) reply → e ≡ continued s t n json event (Ok a)
-committed_is s new t n json event a x committed response reply e log at committed-is response-is reply-is same =
-    let made = rule s (call.Commit event.at t.number t.job a.state) in
-    same ∙ ap (λ (y : CoreEntry). replied event (Some y) reply) (last_is s new made x log at)
-    ∙ ap (replied event (Some made)) (reply-is ∙ ap (reply_to n) (response-is ∙ ap (commit_response json a.need_toolchain) committed-is))
+pub committed_is : (s new : Core) (t : Ticket) (root : ℕ) (json : Bool) (at : ℕ) (a : AssignJobResult) (x : CoreEntry) (committed : Committed) (response : Response) (reply : Reply) (e : Effect)
+    → new ≡ logged s (rule s (call.Commit at t.number t.job a.state)) → slice_get new.log (length new.log - 1) ≡ Some x
+    → committed ≡ committed_by true (rule s (call.Commit at t.number t.job a.state)).kind t → response ≡ commit_response json a.need_toolchain committed → reply ≡ reply_to root response
+    → e ≡ reply_effect (Some x) reply → e ≡ assignment_end s root json at t (Ok a)
+committed_is s new t root json at a x committed response reply e log there committed-is response-is reply-is same =
+    let made = rule s (call.Commit at t.number t.job a.state) in
+    same ∙ ap (λ (y : CoreEntry). reply_effect (Some y) reply) (last_is s new made x log there)
+    ∙ ap (reply_effect (Some made)) (reply-is ∙ ap (reply_to root) (response-is ∙ ap (commit_response json a.need_toolchain) committed-is))
 
-pub undone_is : (s new : Core) (t : Ticket) (n : ℕ) (json : Bool) (event : Event) (f : CallFault) (x : CoreEntry) (undone : Undone) (response : Response) (reply : Reply) (e : Entry)
-    → new ≡ logged s (rule s (call.Undo event.at t.number t.job)) → slice_get new.log (length new.log - 1) ≡ Some x
-    → undone ≡ undone_by (rule s (call.Undo event.at t.number t.job)).kind → response ≡ fault_response_of (fault.AssignFailed undone f) → reply ≡ reply_to n response
-    → e ≡ replied event (Some x) reply → e ≡ continued s t n json event (Err f)
-undone_is s new t n json event f x undone response reply e log at undone-is response-is reply-is same =
-    let made = rule s (call.Undo event.at t.number t.job) in
-    same ∙ ap (λ (y : CoreEntry). replied event (Some y) reply) (last_is s new made x log at)
-    ∙ ap (replied event (Some made)) (reply-is ∙ ap (reply_to n) (response-is ∙ ap (λ (u : Undone). fault_response_of (fault.AssignFailed u f)) undone-is))
+pub undone_is : (s new : Core) (t : Ticket) (root : ℕ) (json : Bool) (at : ℕ) (f : CallFault) (x : CoreEntry) (undone : Undone) (response : Response) (reply : Reply) (e : Effect)
+    → new ≡ logged s (rule s (call.Undo at t.number t.job)) → slice_get new.log (length new.log - 1) ≡ Some x
+    → undone ≡ undone_by (rule s (call.Undo at t.number t.job)).kind → response ≡ fault_response_of (fault.AssignFailed undone f) → reply ≡ reply_to root response
+    → e ≡ reply_effect (Some x) reply → e ≡ assignment_end s root json at t (Err f)
+undone_is s new t root json at f x undone response reply e log there undone-is response-is reply-is same =
+    let made = rule s (call.Undo at t.number t.job) in
+    same ∙ ap (λ (y : CoreEntry). reply_effect (Some y) reply) (last_is s new made x log there)
+    ∙ ap (reply_effect (Some made)) (reply-is ∙ ap (reply_to root) (response-is ∙ ap (λ (u : Undone). fault_response_of (fault.AssignFailed u f)) undone-is))
 
 -- ---- what a report never meets
 

@@ -20,10 +20,11 @@ use Rattle.sched_core.specs.declared.entry.CoreKind.TheVariants.{Reserve, Commit
 use Rattle.sched_core.specs.declared.entry.Reserved.TheVariants.{Job, NoRoom, Spent}
 use Rattle.sched_core.proofs.AllLemmas.{is_false, true_false, same_job-sym}
 use Rattle.sched_core.proofs.LegalLemmas.{legal-push}
-use Rattle.farm_script.specs.declared.setup.SetupScheduler.{SetupScheduler}
+use Rattle.farm_script.specs.declared.setup.Setup.{Setup}
 use Rattle.farm_run.specs.declared.entry.Entry.{Entry}
 use Rattle.farm_run.specs.Calls.{settled_at, waiting_at}
-use Rattle.farm_run.specs.Next.{core_log, core_of, ticket_by, ticket_of, ticket_at}
+use Rattle.farm_run.specs.Seen.{core_log, core_of}
+use Rattle.farm_run.specs.Tickets.{ticket_by, ticket_of, ticket_at}
 use Rattle.farm_run.specs.Farm.{IsSound}
 use Rattle.farm_script.proofs.WordLemmas.{guard_off}
 use Rattle.farm_run.proofs.CallLemmas.{get_left, get_end, waiting-push, waiting-end}
@@ -33,34 +34,33 @@ use Rattle.farm_run.proofs.RunLemmas.{core_log-push}
 
 -- ---- what an entry may add
 
--- no core entry, and no call
+-- no core entry
 pub record AddsNone (e : Entry) : Type 0 where
   pub core : e.core ≡ None
-  pub call : e.call ≡ None
 
 -- a core entry that spends no reservation
-pub record AddsQuiet (farm : SetupScheduler) (log : List Entry) (e : Entry) : Type 0 where
+pub record AddsQuiet (setup : Setup) (log : List Entry) (e : Entry) : Type 0 where
   pub made : CoreEntry
   pub core : e.core ≡ Some made
-  pub rule : IsRule (core_of farm log) made
+  pub rule : IsRule (core_of setup log) made
   pub spends : (j : JobId) → spends_by made.kind j ≡ false
 
 -- a core entry that spends the reservation of a call, which is settled so
-pub record AddsSpent (farm : SetupScheduler) (log : List Entry) (e : Entry) : Type 0 where
+pub record AddsSpent (setup : Setup) (log : List Entry) (e : Entry) : Type 0 where
   pub number : ℕ
   pub waits : Entry
   pub ticket : Ticket
   pub made : CoreEntry
   pub core : e.core ≡ Some made
   pub call : e.call ≡ None
-  pub rule : IsRule (core_of farm log) made
+  pub rule : IsRule (core_of setup log) made
   pub spends : (j : JobId) → spends_by made.kind j ≡ same_job ticket.job j
   pub waiting : waiting_at log number ≡ Some waits
   pub reserved : ticket_at log number ≡ Some ticket
   pub settles : settled_at number (end_cut log e) ≡ true
 
-abbrev pub Adds : SetupScheduler → List Entry → Entry → Type 0
-Adds farm log e = AddsNone e ⊎ AddsQuiet farm log e ⊎ AddsSpent farm log e
+abbrev pub Adds : Setup → List Entry → Entry → Type 0
+Adds setup log e = AddsNone e ⊎ AddsQuiet setup log e ⊎ AddsSpent setup log e
 
 -- ---- reservations by the numbers of their entries
 
@@ -133,52 +133,52 @@ core_with : (log : List Entry) (e : Entry) (o : Option CoreEntry) → e.core ≡
 core_with log e o is = core_log-push log e ∙ ap (λ (p : Option CoreEntry). core_log log ++ option_to_list p) is
 
 -- a reservation of before stays unspent, where its call is not settled
-old_own : (farm : SetupScheduler) (log : List Entry) (e : Entry) (n : ℕ) (w : Entry) (t : Ticket) → farm.count < 2 ^ 64 → IsSound farm log → Adds farm log e
+old_own : (setup : Setup) (log : List Entry) (e : Entry) (n : ℕ) (w : Entry) (t : Ticket) → setup.scheduler.count < 2 ^ 64 → IsSound setup log → Adds setup log e
     → waiting_at log n ≡ Some w → ticket_at log n ≡ Some t → settled_at n (end_cut log e) ≡ false → IsOwn (core_log (log ++ e ∷ [])) t
-old_own farm log e n w t fits sound (inl x) waits is off =
+old_own setup log e n w t fits sound (inl x) waits is off =
     subst (λ (l : List CoreEntry). IsOwn l t) (sym (core_with log e None x.core ∙ append-nil (core_log log))) (sound.own n w t waits is)
-old_own farm log e n w t fits sound (inr (inl x)) waits is off =
+old_own setup log e n w t fits sound (inr (inl x)) waits is off =
     subst (λ (l : List CoreEntry). IsOwn l t) (sym (core_with log e (Some x.made) x.core))
     (own-kept (core_log log) x.made t.number t.job (sound.own n w t waits is) (x.spends t.job))
-old_own farm log e n w t fits sound (inr (inr x)) waits is off =
+old_own setup log e n w t fits sound (inr (inr x)) waits is off =
     let own = sound.own n w t waits is in
     let spent = sound.own x.number x.waits x.ticket x.waiting x.reserved in
     let other : same_job x.ticket.job t.job ≡ false = is_false (same_job x.ticket.job t.job) (λ same.
-    let one = one_number farm.base farm.count (core_log log) x.ticket.number t.number x.ticket.job t.job fits sound.legal spent own (same_job-sym x.ticket.job t.job same) in
+    let one = one_number setup.scheduler.base setup.scheduler.count (core_log log) x.ticket.number t.number x.ticket.job t.job fits sound.legal spent own (same_job-sym x.ticket.job t.job same) in
     let place = one_place log x.number n x.ticket t x.reserved is one in
     true_false (settled_at n (end_cut log e)) (subst (λ (m : ℕ). settled_at m (end_cut log e) ≡ true) place x.settles) off) in
     subst (λ (l : List CoreEntry). IsOwn l t) (sym (core_with log e (Some x.made) x.core))
     (own-kept (core_log log) x.made t.number t.job own (x.spends t.job ∙ other))
 
 -- a call that the entry makes has the entry's reservation
-last_own : (farm : SetupScheduler) (log : List Entry) (e : Entry) (w : Entry) (t : Ticket) → Adds farm log e
+last_own : (setup : Setup) (log : List Entry) (e : Entry) (w : Entry) (t : Ticket) → Adds setup log e
     → (e.call >>= λ c. Some e) ≡ Some w → ticket_of (core_log log) e.core ≡ Some t → IsOwn (core_log (log ++ e ∷ [])) t
-last_own farm log e w t (inl x) waits is = let none : None ≡ Some t = sym (ap (ticket_of (core_log log)) x.core) ∙ is in absurd cc
-last_own farm log e w t (inr (inl x)) waits is =
+last_own setup log e w t (inl x) waits is = let none : None ≡ Some t = sym (ap (ticket_of (core_log log)) x.core) ∙ is in absurd cc
+last_own setup log e w t (inr (inl x)) waits is =
     subst (λ (l : List CoreEntry). IsOwn l t) (sym (core_with log e (Some x.made) x.core))
     (own_new (core_log log) x.made.now x.made.kind t (sym (ap (ticket_of (core_log log)) x.core) ∙ is))
-last_own farm log e w t (inr (inr x)) waits is = let none : None ≡ Some w = sym (ap (λ (o : Option _). o >>= λ c. Some e) x.call) ∙ waits in absurd cc
+last_own setup log e w t (inr (inr x)) waits is = let none : None ≡ Some w = sym (ap (λ (o : Option _). o >>= λ c. Some e) x.call) ∙ waits in absurd cc
 
-legal_next : (farm : SetupScheduler) (log : List Entry) (e : Entry) → IsSound farm log → Adds farm log e → IsLegal farm.base farm.count (core_log (log ++ e ∷ []))
-legal_next farm log e sound (inl x) = subst (IsLegal farm.base farm.count) (sym (core_with log e None x.core ∙ append-nil (core_log log))) sound.legal
-legal_next farm log e sound (inr (inl x)) =
-    subst (IsLegal farm.base farm.count) (sym (core_with log e (Some x.made) x.core)) (legal-push farm.base farm.count [] (core_log log) x.made sound.legal x.rule)
-legal_next farm log e sound (inr (inr x)) =
-    subst (IsLegal farm.base farm.count) (sym (core_with log e (Some x.made) x.core)) (legal-push farm.base farm.count [] (core_log log) x.made sound.legal x.rule)
+legal_next : (setup : Setup) (log : List Entry) (e : Entry) → IsSound setup log → Adds setup log e → IsLegal setup.scheduler.base setup.scheduler.count (core_log (log ++ e ∷ []))
+legal_next setup log e sound (inl x) = subst (IsLegal setup.scheduler.base setup.scheduler.count) (sym (core_with log e None x.core ∙ append-nil (core_log log))) sound.legal
+legal_next setup log e sound (inr (inl x)) =
+    subst (IsLegal setup.scheduler.base setup.scheduler.count) (sym (core_with log e (Some x.made) x.core)) (legal-push setup.scheduler.base setup.scheduler.count [] (core_log log) x.made sound.legal x.rule)
+legal_next setup log e sound (inr (inr x)) =
+    subst (IsLegal setup.scheduler.base setup.scheduler.count) (sym (core_with log e (Some x.made) x.core)) (legal-push setup.scheduler.base setup.scheduler.count [] (core_log log) x.made sound.legal x.rule)
 
 -- one more entry
-pub sound-step : (farm : SetupScheduler) (log : List Entry) (e : Entry) → farm.count < 2 ^ 64 → IsSound farm log → Adds farm log e → IsSound farm (log ++ e ∷ [])
-sound-step farm log e fits sound adds = record {
-  legal = legal_next farm log e sound adds;
+pub sound-step : (setup : Setup) (log : List Entry) (e : Entry) → setup.scheduler.count < 2 ^ 64 → IsSound setup log → Adds setup log e → IsSound setup (log ++ e ∷ [])
+sound-step setup log e fits sound adds = record {
+  legal = legal_next setup log e sound adds;
   own = λ n w t waits is. elim (cases_lt n (length log)) [
     | inl lt ↦
         let g = guard_off (settled_at n (end_cut log e)) (waiting_at log n) w (sym (waiting-push log e n lt) ∙ waits) in
-        old_own farm log e n w t fits sound adds g.1 (sym (ticket-left log e n lt) ∙ is) g.0
+        old_own setup log e n w t fits sound adds g.1 (sym (ticket-left log e n lt) ∙ is) g.0
     | inr ge ↦
         let a = bind_some (slice_get (log ++ e ∷ []) n) _ w waits in
         let within = slice_get_within (log ++ e ∷ []) n a.0 a.1 in
         let last : n ≡ length log = omega (arith, within, length-append log (e ∷ [])) in
-        last_own farm log e w t adds
+        last_own setup log e w t adds
         (sym (waiting-end log e) ∙ ap (waiting_at (log ++ e ∷ [])) (sym last) ∙ waits)
         (sym (ticket-end log e) ∙ ap (ticket_at (log ++ e ∷ [])) (sym last) ∙ is)
   ];

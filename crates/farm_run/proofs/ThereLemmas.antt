@@ -1,35 +1,53 @@
 -- No event is without a next entry over the entries of a farm.
-use Rattle.std.proofs.Common.{◌≡◌, inl, inr, ℕ, Bool, false, List, length, Option, Some, None, Result, Err, refl}
+use Rattle.std.proofs.Common.{◌≡◌, inl, inr, ℕ, Bool, true, false, List, length, drop, Option, Some, None, Result, Err, refl}
 use Rattle.dist_types.specs.declared.addr.Addr.{Addr}
 use Rattle.dist_types.specs.declared.outgoing.CallFault.{CallFault}
 use Rattle.dist_types.specs.declared.outgoing.CallFault.TheVariants.{Lost}
 use Rattle.dist_types.specs.declared.results.AssignJobResult.{AssignJobResult}
 use Rattle.sched_core.specs.Log.{Core}
-use Rattle.sched_core.specs.Ticket.{Ticket}
-use Rattle.http_head.specs.declared.error.HttpError.TheVariants.{BadHead, ParseError}
-use Rattle.http_routes.specs.declared.route.Asked.{Asked}
-use Rattle.http_routes.specs.declared.route.SchedRouted.TheVariants.{Done}
-use Rattle.http_routes.specs.Asked.{IsAsked}
-use Rattle.http_routes.specs.Calls.{told_by, assigned_by, IsAssigned}
-use Rattle.http_routes.specs.Fault.{reply_of}
 use Rattle.http_head.specs.Head.{IsNoRequest, IsNoReply}
-use Rattle.http_routes.specs.Route.{question_of}
-use Rattle.farm_script.specs.declared.setup.SetupScheduler.{SetupScheduler}
+use Rattle.http_head.specs.declared.error.HttpError.TheVariants.{ParseError}
+use Rattle.http_routes.specs.declared.route.Asked.{Asked}
+use Rattle.dist_token.specs.Verdict.{job_verdict, plain_server}
+use Rattle.dist_types.specs.declared.results.UpdateJobStateResult.{UpdateJobStateResult}
+use Rattle.dist_types.specs.declared.results.HeartbeatServerResult.{HeartbeatServerResult}
+use Rattle.dist_wire.specs.Reading.{update_at, heard_at}
+use Rattle.http_routes.specs.Admission.{equal_admission}
+use Rattle.http_routes.specs.Asked.{bad_question}
+use Rattle.http_routes.specs.Refusal.{refusal_response}
+use Rattle.http_routes.specs.Route.{question_under}
+use Rattle.http_routes.specs.ServerRoute.{server_question}
+use Rattle.http_routes.specs.declared.refusal.Refusal.TheVariants.{BadHead as BadHeadRefusal}
+use Rattle.http_routes.specs.declared.server_route.ServerAsked.{ServerAsked}
+use Rattle.http_routes.specs.declared.server_route.ServerRouted.TheVariants as server_asked
+use Rattle.farm_run.specs.Servers.{ServerNow, server_now, is_over}
+use Rattle.farm_run.specs.Served.{AsksServer, served, beat_effect, restart_effect}
+use Rattle.farm_run.specs.declared.entry.StepKind.TheVariants as kinds
+use Rattle.farm_run.specs.declared.pending.Told.{Told}
+use Rattle.farm_run.specs.declared.pending.Told.TheVariants as told
+use Rattle.http_routes.specs.Calls.{told_by, assigned_by, answer_by, IsAssigned, IsAnswer}
+use Rattle.farm_script.specs.declared.setup.Setup.{Setup}
 use Rattle.farm_script.specs.declared.event.Event.{Event}
-use Rattle.farm_script.specs.declared.event.EventKind.{EventKind}
-use Rattle.farm_script.specs.declared.event.EventKind.TheVariants.{Request, Deliver, Fail, Return, Answer, Beat, Restart}
+use Rattle.farm_run.specs.declared.entry.Effect.{Effect}
 use Rattle.farm_run.specs.declared.entry.Entry.{Entry}
-use Rattle.farm_run.specs.declared.entry.EntryWord.TheVariants.{Void, Down}
-use Rattle.farm_run.specs.declared.entry.OutCall.{OutCall}
-use Rattle.farm_run.specs.declared.waiting.Waiting.{Waiting}
-use Rattle.farm_run.specs.Calls.{call_at, waiting_at}
+use Rattle.farm_run.specs.declared.entry.EntryWord.TheVariants.{Void, Down, Died}
+use Rattle.farm_run.specs.declared.pending.Ask.{Ask}
+use Rattle.farm_run.specs.declared.pending.Ask.TheVariants.{Assign, Report}
+use Rattle.farm_run.specs.declared.pending.Pending.{Pending}
+use Rattle.farm_run.specs.Answers.{Asks, answer_to, IsAnswered}
+use Rattle.farm_run.specs.Begun.{IsCallOf}
+use Rattle.farm_run.specs.Calls.{waiting_at}
+use Rattle.farm_run.specs.Effects.{entry_of, word_effect, step_effect}
 use Rattle.farm_run.specs.Farm.{IsKept, kept_at, AreKept, HasNext}
-use Rattle.farm_run.specs.Next.{core_of, token_of, worded, ticket_at, brought_to, brought_at, Wants, answer, IsOutcome, continued, GoesOn, IsSettled, to_settle, IsServed, IsDelivered, Settles, IsMade}
+use Rattle.farm_run.specs.Next.{GoesOn, IsSettled, IsMade}
+use Rattle.farm_run.specs.Seen.{core_of, token_of}
+use Rattle.farm_run.specs.Settled.{IsOutcome, assignment_end, IsUpdated, IsHeard, ready_end, started_end, complete_end, heard_as, Reports, Lives, ReportsIn}
+use Rattle.farm_run.specs.Ways.{Way, way_of, brought_at, to_nothing, to_nobody, to_scheduler, to_server, to_call, to_beat, to_restart}
 
-some_question : (bytes : List ℕ) (peer : Addr) (client expected : List ℕ) → ((a : Asked) → IsAsked bytes peer client expected a → ⊥) → ⊥
-some_question bytes peer client expected h =
-    let none : IsNoRequest bytes = λ r is. h (question_of r peer client expected) (inl (r, is, refl)) in
-    h (record { what = Done (reply_of BadHead); json = false }) (inr (none, refl))
+some_question : (setup : Setup) (peer : Addr) (bytes : List ℕ) → ((a : Asked) → Asks setup peer bytes a → ⊥) → ⊥
+some_question setup peer bytes h =
+    let none : IsNoRequest bytes = λ r is. h (question_under (equal_admission setup.scheduler.client) (plain_server (token_of setup.scheduler.auth)) r peer) (inl (r, is, refl)) in
+    h bad_question (inr (none, refl))
 
 some_assignment : (bytes : List ℕ) → ((r : Result AssignJobResult CallFault) → IsAssigned bytes r → ⊥) → ⊥
 some_assignment bytes h =
@@ -40,48 +58,71 @@ some_outcome : (reply : Option (List ℕ)) → ((r : Result AssignJobResult Call
 some_outcome None h = h (Err Lost) refl
 some_outcome (Some bytes) h = some_assignment bytes h
 
-some_served : (farm : SetupScheduler) (core : Core) (number : ℕ) (event : Event) (o : Option (Addr × List ℕ)) → ((e : Entry) → IsServed farm core number event o e → ⊥) → ⊥
-some_served farm core number event None h = h (worded event Down) refl
-some_served farm core number event (Some p) h = some_question p.1 p.0 farm.client (token_of farm.auth) (λ a asks. h (answer core number event a) (a, asks, refl))
+some_answer : (setup : Setup) (core : Core) (number at : ℕ) (peer : Addr) (bytes : List ℕ) → ((x : Effect) → IsAnswered setup core number at peer bytes x → ⊥) → ⊥
+some_answer setup core number at peer bytes h =
+    some_question setup peer bytes (λ a asks. h (answer_to core number at a.json a.what) (a, asks, refl))
 
-some_delivered : (farm : SetupScheduler) (log : List Entry) (event : Event) (o : Option OutCall) → ((e : Entry) → IsDelivered farm log event o e → ⊥) → ⊥
-some_delivered farm log event None h = h (worded event Void) refl
-some_delivered farm log event (Some c) h = some_served farm (core_of farm log) (length log) event (brought_to farm c.target farm.addr c.bytes) h
+some_server_question : (s : ServerNow) (bytes : List ℕ) → ((a : ServerAsked) → AsksServer s bytes a → ⊥) → ⊥
+some_server_question s bytes h =
+    let none : IsNoRequest bytes = λ r is. h (server_question (job_verdict s.key) bytes r) (inl (r, is, refl)) in
+    h (record { what = server_asked.Done (refusal_response BadHeadRefusal); json = false; body = length bytes }) (inr (none, refl))
 
--- who asked for a call's job wants the reply in one form
-record Wanted (farm : SetupScheduler) (o : Option (Addr × List ℕ)) : Type 0 where
-  json : Bool
-  wants : Wants farm o json
+some_telling : {M : Type 0} (at : List ℕ → Option (M × List ℕ)) (bytes : List ℕ) → ((r : Result M CallFault) → IsAnswer at bytes r → ⊥) → ⊥
+some_telling at bytes h =
+    let none : IsNoReply bytes = λ r is. h (answer_by (told_by at r)) (told_by at r, inl (r, is, refl), refl) in
+    h (answer_by (Err ParseError)) (Err ParseError, inr (none, refl), refl)
 
-kept_wanted : (farm : SetupScheduler) (log : List Entry) (n : ℕ) (w : Entry) (o : Option Waiting) → waiting_at log n ≡ Some w → IsKept farm log n o → Wanted farm (brought_at farm log n)
-kept_wanted farm log n w None is kept = absurd cc
-kept_wanted farm log n w (Some x) is kept = record { json = x.json; wants = kept.wants }
+some_update : (reply : Option (List ℕ)) → ((r : Result UpdateJobStateResult CallFault) → IsUpdated reply r → ⊥) → ⊥
+some_update None h = h (Err Lost) refl
+some_update (Some bytes) h = some_telling update_at bytes h
 
-some_way : (farm : SetupScheduler) (log : List Entry) (event : Event) (n : ℕ) (reply : Option (List ℕ)) (o : Option Ticket) → Wanted farm (brought_at farm log n)
-    → ((e : Entry) → GoesOn farm log event n reply o e → ⊥) → ⊥
-some_way farm log event n reply None wanted h = h (worded event Void) refl
-some_way farm log event n reply (Some t) wanted h =
-    some_outcome reply (λ r is. h (continued (core_of farm log) t n wanted.json event r) (wanted.json, wanted.wants, r, is, refl))
+some_hearing : (reply : Option (List ℕ)) → ((r : Result HeartbeatServerResult CallFault) → IsHeard reply r → ⊥) → ⊥
+some_hearing None h = h (Err Lost) refl
+some_hearing (Some bytes) h = some_telling heard_at bytes h
 
-some_settled : (farm : SetupScheduler) (log : List Entry) (ws : List (Option Waiting)) → AreKept farm log ws → (event : Event) (n : ℕ) (reply : Option (List ℕ)) (o : Option Entry) → waiting_at log n ≡ o
-    → ((e : Entry) → IsSettled farm log event n reply o e → ⊥) → ⊥
-some_settled farm log ws kept event n reply None is h = h (worded event Void) refl
-some_settled farm log ws kept event n reply (Some w) is h =
-    some_way farm log event n reply (ticket_at log n) (kept_wanted farm log n w (kept_at ws n) is (kept.each n)) h
+some_end : (setup : Setup) (s : ServerNow) (bytes : List ℕ) (root : ℕ) (json : Bool) (reply : Option (List ℕ)) (t : Told) → ((x : Effect) → Reports setup s bytes root json reply t x → ⊥) → ⊥
+some_end setup s bytes root json reply (told.Ready job at) h = some_update reply (λ r is. h (ready_end s root json job (drop at bytes) r) (r, is, refl))
+some_end setup s bytes root json reply (told.Started job run at) h = some_update reply (λ r is. h (started_end setup s root job run (drop at bytes) r) (r, is, refl))
+some_end setup s bytes root json reply (told.Complete job outcome) h = some_update reply (λ r is. h (complete_end s.setup.addr root json job outcome r) (r, is, refl))
+some_end setup s bytes root json reply told.Heartbeat h = some_hearing reply (λ r is. h (step_effect s.setup.addr (kinds.Heard (heard_as r))) (r, is, refl))
 
-some_settlement : (farm : SetupScheduler) (log : List Entry) (ws : List (Option Waiting)) → AreKept farm log ws → (event : Event) (o : Option (ℕ × Option (List ℕ)))
-    → ((e : Entry) → Settles farm log event o e → ⊥) → ⊥
-some_settlement farm log ws kept event None h = h (worded event Void) refl
-some_settlement farm log ws kept event (Some x) h = some_settled farm log ws kept event x.0 x.1 (waiting_at log x.0) refl h
+some_life : (setup : Setup) (life : ℕ) (s : ServerNow) (bytes : List ℕ) (root : ℕ) (json : Bool) (reply : Option (List ℕ)) (t : Told) (over : Bool) → ((x : Effect) → Lives setup life s bytes root json reply t over x → ⊥) → ⊥
+some_life setup life s bytes root json reply t true h = h (word_effect Died) refl
+some_life setup life s bytes root json reply t false h = some_end setup s bytes root json reply t h
 
-some_made : (farm : SetupScheduler) (log : List Entry) (ws : List (Option Waiting)) → AreKept farm log ws → (event : Event) (kind : EventKind) → ((e : Entry) → IsMade farm log event kind e → ⊥) → ⊥
-some_made farm log ws kept event (Request target peer bytes) h = some_served farm (core_of farm log) (length log) event (brought_to farm target peer bytes) h
-some_made farm log ws kept event (Deliver c) h = some_delivered farm log event (call_at log c) h
-some_made farm log ws kept event (Fail c) h = some_settlement farm log ws kept event (to_settle farm log (Fail c)) h
-some_made farm log ws kept event (Return d) h = some_settlement farm log ws kept event (to_settle farm log (Return d)) h
-some_made farm log ws kept event (Answer c bytes) h = some_settlement farm log ws kept event (to_settle farm log (Answer c bytes)) h
-some_made farm log ws kept event (Beat server) h = h (worded event Void) refl
-some_made farm log ws kept event (Restart server key nonce) h = h (worded event Void) refl
+some_report : (setup : Setup) (life : ℕ) (bytes : List ℕ) (root : ℕ) (json : Bool) (reply : Option (List ℕ)) (t : Told) (o : Option ServerNow) → ((x : Effect) → ReportsIn setup life bytes root json reply t o x → ⊥) → ⊥
+some_report setup life bytes root json reply t None h = h (word_effect Died) refl
+some_report setup life bytes root json reply t (Some s) h = some_life setup life s bytes root json reply t (is_over life s) h
 
-pub has_next : (farm : SetupScheduler) (log : List Entry) (ws : List (Option Waiting)) → AreKept farm log ws → HasNext farm log
-has_next farm log ws kept event h = some_made farm log ws kept event event.kind h
+some_way : (setup : Setup) (log : List Entry) (at root : ℕ) (json : Bool) (reply : Option (List ℕ)) (ask : Ask) → ((x : Effect) → GoesOn setup log at root json reply ask x → ⊥) → ⊥
+some_way setup log at root json reply (Assign t) h = some_outcome reply (λ r is. h (assignment_end (core_of setup log) root json at t r) (r, is, refl))
+some_way setup log at root json reply (Report server life t) h = some_report setup life (brought_at log root) root json reply t (server_now setup log server) h
+
+-- what is kept of a call that waits
+record Known (setup : Setup) (log : List Entry) (n : ℕ) : Type 0 where
+  pending : Pending
+  call : IsCallOf setup log n pending
+
+kept_known : (setup : Setup) (log : List Entry) (n : ℕ) (w : Entry) (o : Option Pending) → waiting_at log n ≡ Some w → IsKept setup log n o → Known setup log n
+kept_known setup log n w None is kept = absurd cc
+kept_known setup log n w (Some p) is kept = record { pending = p; call = kept.call }
+
+some_settled : (setup : Setup) (log : List Entry) (ps : List (Option Pending)) → AreKept setup log ps → (at n : ℕ) (reply : Option (List ℕ)) (o : Option Entry) → waiting_at log n ≡ o
+    → ((x : Effect) → IsSettled setup log at n reply o x → ⊥) → ⊥
+some_settled setup log ps kept at n reply None is h = h (word_effect Void) refl
+some_settled setup log ps kept at n reply (Some w) is h =
+    let k = kept_known setup log n w (kept_at ps n) is (kept.each n) in
+    some_way setup log at k.pending.root k.pending.json reply k.pending.ask (λ x goes. h x (k.pending, k.call, goes))
+
+some_made : (setup : Setup) (log : List Entry) (ps : List (Option Pending)) → AreKept setup log ps → (at : ℕ) (way : Way) → ((x : Effect) → IsMade setup log at way x → ⊥) → ⊥
+some_made setup log ps kept at (to_scheduler peer bytes) h = some_answer setup (core_of setup log) (length log) at peer bytes h
+some_made setup log ps kept at (to_call n reply) h = some_settled setup log ps kept at n reply (waiting_at log n) refl h
+some_made setup log ps kept at (to_server s bytes) h =
+    some_server_question s bytes (λ a asks. h (served setup s (length log) a.json a.what) (a, asks, refl))
+some_made setup log ps kept at (to_beat s) h = h (beat_effect setup s) refl
+some_made setup log ps kept at (to_restart s key nonce) h = h (restart_effect s) refl
+some_made setup log ps kept at to_nothing h = h (word_effect Void) refl
+some_made setup log ps kept at to_nobody h = h (word_effect Down) refl
+
+pub has_next : (setup : Setup) (log : List Entry) (ps : List (Option Pending)) → AreKept setup log ps → HasNext setup log
+has_next setup log ps kept event h = some_made setup log ps kept event.at (way_of setup log event.kind) (λ x is. h (entry_of event x) (x, is, refl))

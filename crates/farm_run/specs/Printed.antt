@@ -4,6 +4,7 @@ use Rattle.std.specs.List.{flat_map}
 use Rattle.std.specs.Fmt.{decimal}
 use Rattle.hex.specs.Hex.{encode_lower}
 use Rattle.dist_types.specs.Addr.{addr_text}
+use Rattle.dist_types.specs.declared.addr.Addr.{Addr}
 use Rattle.dist_types.specs.Ids.{state_text}
 use Rattle.dist_types.specs.declared.ids.JobId.{JobId}
 use Rattle.dist_types.specs.declared.results.JobState.{JobState}
@@ -18,21 +19,28 @@ use Rattle.sched_core.specs.declared.entry.Reserved.{Reserved}
 use Rattle.sched_core.specs.declared.entry.Reserved.TheVariants.{Job, NoRoom, Spent}
 use Rattle.sched_core.specs.declared.entry.UpdateAnswer.{UpdateAnswer}
 use Rattle.sched_core.specs.declared.entry.UpdateAnswer.TheVariants.{Accepted, Unknown, Wrong, Transition}
+use Rattle.farm_script.specs.declared.setup.Setup.{Setup}
 use Rattle.farm_script.specs.declared.setup.SetupScheduler.{SetupScheduler}
 use Rattle.farm_script.specs.declared.event.EventKind.{EventKind}
 use Rattle.farm_script.specs.declared.event.EventKind.TheVariants as event
+use Rattle.build_server.specs.declared.submit.Submitted.{Submitted as Submission}
+use Rattle.build_server.specs.declared.submit.Submitted.TheVariants as submitted
+use Rattle.build_server.specs.declared.run.Ran.{Ran as Went}
+use Rattle.build_server.specs.declared.run.Ran.TheVariants as ran
+use Rattle.farm_script.specs.declared.setup.SetupServer.{SetupServer}
+use Rattle.farm_run.specs.Servers.{ServerNow, server_of}
 use Rattle.farm_run.specs.declared.entry.Entry.{Entry}
 use Rattle.farm_run.specs.declared.entry.HeardAs.{HeardAs}
 use Rattle.farm_run.specs.declared.entry.HeardAs.TheVariants.{New, Old, Lost}
 use Rattle.farm_run.specs.declared.entry.StepKind.{StepKind}
-use Rattle.farm_run.specs.declared.entry.StepKind.TheVariants.{Heard, Assigned, Finished, Unreported, Opened}
+use Rattle.farm_run.specs.declared.entry.StepKind.TheVariants.{Heard, Assigned, Submitted, Ran, Finished, Unreported, Opened}
 use Rattle.farm_run.specs.declared.entry.Step.{Step}
 use Rattle.farm_run.specs.declared.entry.OutCall.{OutCall}
 use Rattle.farm_run.specs.declared.entry.Reply.{Reply}
 use Rattle.farm_run.specs.declared.entry.EntryWord.{EntryWord}
 use Rattle.farm_run.specs.declared.entry.EntryWord.TheVariants.{Void, Down, Waiting, Died}
 use Rattle.farm_script.specs.Texts.{◌⧺◌}
-use Rattle.farm_run.specs.Next.{core_log}
+use Rattle.farm_run.specs.Seen.{core_log}
 
 -- ---- fields
 
@@ -157,10 +165,34 @@ abbrev pub archives_text : List (List ℕ × ℕ) → List ℕ
 archives_text [] = codes "-"
 archives_text (p ∷ ps) = archive_text p ++ flat_map (λ q. codes "," ++ archive_text q) ps
 
+-- ids joined by commas, or a dash
+abbrev pub ids_text : List (List ℕ) → List ℕ
+ids_text [] = codes "-"
+ids_text (id ∷ ids) = id ++ flat_map (λ other. codes "," ++ other) ids
+
+-- how a submission went
+abbrev pub submitted_text : Submission → List ℕ
+submitted_text submitted.None = codes "none"
+submitted_text submitted.Listed = codes "listed"
+submitted_text (submitted.Stored size dropped) = codes "stored " ⧺ decimal size ⧺ codes " dropped " ⧺ ids_text dropped
+submitted_text submitted.Digest = codes "refused digest"
+submitted_text submitted.Capacity = codes "refused capacity"
+submitted_text (submitted.Folder dropped) = codes "refused folder dropped " ⧺ ids_text dropped
+
+-- how a run went
+abbrev pub ran_text : Went → List ℕ
+ran_text ran.None = codes "none"
+ran_text (ran.Unlisted tc) = codes "unlisted " ⧺ tc
+ran_text (ran.Folder tc) = codes "folder " ⧺ tc
+ran_text (ran.Built tc) = codes "built " ⧺ tc
+ran_text (ran.Refused tc) = codes "refused " ⧺ tc
+
 -- what a build server did, behind its address
 abbrev pub step_text : StepKind → List ℕ
 step_text (Heard as_what) = codes "heard " ⧺ heard_text as_what
 step_text (Assigned job tc ready) = codes "assigned " ⧺ decimal job.0 ⧺ codes " " ⧺ tc ⧺ codes " " ⧺ ready_text ready
+step_text (Submitted job outcome) = codes "submitted " ⧺ decimal job.0 ⧺ codes " " ⧺ submitted_text outcome
+step_text (Ran job ran result) = codes "ran " ⧺ decimal job.0 ⧺ codes " " ⧺ ran_text ran
 step_text (Finished job) = codes "finished " ⧺ decimal job.0
 step_text (Unreported job) = codes "unreported " ⧺ decimal job.0
 step_text (Opened archives) = codes "opened " ⧺ archives_text archives
@@ -213,13 +245,32 @@ job_text h =
 abbrev pub ids_given : SetupScheduler → List CoreEntry → ℕ
 ids_given scheduler log = scheduler.count + length (bookings log)
 
--- the ids, the registrations that stand after the whole log, by rising number, and the reservations that are unended, by rising id
-abbrev pub books_text : SetupScheduler → List CoreEntry → List ℕ
-books_text scheduler log =
-    (codes "books\nids base " ⧺ decimal scheduler.base ⧺ codes " count " ⧺ decimal (ids_given scheduler log) ⧺ codes "\n")
-    ++ flat_map row_text (servers_of log) ++ flat_map job_text (held_by_id log) ++ codes "end\n"
+-- the line of a job that a server holds
+abbrev pub held_text : Addr → JobId × List ℕ → List ℕ
+held_text addr p = codes "held " ⧺ addr_text addr ⧺ codes " " ⧺ decimal p.0.0 ⧺ codes " " ⧺ p.1 ⧺ codes "\n"
+
+-- the line of a server's archive
+abbrev pub kept_archive_text : Addr → List ℕ × ℕ → List ℕ
+kept_archive_text addr p = codes "archive " ⧺ addr_text addr ⧺ codes " " ⧺ p.0 ⧺ codes " " ⧺ decimal p.1 ⧺ codes "\n"
+
+-- what a server keeps: the jobs that it holds, by rising id, and its archives, least recent first
+abbrev pub server_text : ServerNow → List ℕ
+server_text s = flat_map (held_text s.setup.addr) s.held ++ flat_map (kept_archive_text s.setup.addr) s.archives
+
+-- the registrations that stand after the whole log, by rising number, the reservations that are unended, by rising id, and what each server
+-- keeps, in the order of the setup
+abbrev pub standing_text : Setup → List Entry → List ℕ
+standing_text setup entries =
+    flat_map row_text (servers_of (core_log entries)) ++ flat_map job_text (held_by_id (core_log entries))
+    ++ flat_map (λ s. server_text (server_of s entries)) setup.servers ++ codes "end\n"
+
+-- the ids, and what stands
+abbrev pub books_text : Setup → List Entry → List ℕ
+books_text setup entries =
+    (codes "books\nids base " ⧺ decimal setup.scheduler.base ⧺ codes " count " ⧺ decimal (ids_given setup.scheduler (core_log entries)) ⧺ codes "\n")
+    ++ standing_text setup entries
 
 -- the whole text
-abbrev pub run_text : SetupScheduler → List Entry → List ℕ
-run_text scheduler entries =
-    (codes "run 1 entries " ⧺ decimal (length entries) ⧺ codes "\n") ++ entries_text 0 0 entries ++ books_text scheduler (core_log entries)
+abbrev pub run_text : Setup → List Entry → List ℕ
+run_text setup entries =
+    (codes "run 1 entries " ⧺ decimal (length entries) ⧺ codes "\n") ++ entries_text 0 0 entries ++ books_text setup entries

@@ -19,9 +19,9 @@ pub record IsRunText (bytes text : List ℕ) : Type 0 where
   pub entries : List Entry
   pub fine : (n : ℕ) → IsFirstFaulty bytes n → ⊥
   pub says : Says bytes setup events
-  pub each : EachNext setup.scheduler [] events entries
-  pub lawful : AreLawful setup.scheduler entries
-  pub is : text ≡ run_text setup.scheduler entries
+  pub each : EachNext setup [] events entries
+  pub lawful : AreLawful setup entries
+  pub is : text ≡ run_text setup entries
 
 -- the same, where the script is what reading it gives
 pub record IsReadText (bytes text : List ℕ) : Type 0 where
@@ -29,6 +29,6 @@ pub record IsReadText (bytes text : List ℕ) : Type 0 where
   pub events : List Event
   pub entries : List Entry
   pub read : script bytes ≡ Ok (setup, events)
-  pub each : EachNext setup.scheduler [] events entries
-  pub lawful : AreLawful setup.scheduler entries
-  pub is : text ≡ run_text setup.scheduler entries
+  pub each : EachNext setup [] events entries
+  pub lawful : AreLawful setup entries
+  pub is : text ≡ run_text setup entries

@@ -1,9 +1,12 @@
 //! What an event did.
 ghost use Rattle.std.specs.Prelude.{◌≡◌, Some};
-ghost use Rattle.farm_run.specs.Next.{worded, replied, asking};
+ghost use Rattle.farm_run.specs.Effects.{word_effect, reply_effect, call_effect, step_effect, step_reply_effect, step_call_effect, entry_of};
 
+use build_server::run::Ran;
+use build_server::submit::Submitted;
 use dist_types::addr::Addr;
 use dist_types::ids::JobId;
+use dist_types::results::BuildResult;
 use dist_types::text::{Bytes, Items};
 use dist_types::toolchain::Toolchain;
 use farm_script::event::Event;
@@ -20,7 +23,7 @@ pub enum HeardAs {
     Lost,
 }
 
-/// What a build server did. What became of a submit and of a run comes with the build servers.
+/// What a build server did.
 #[derive(Debug, Drop)]
 pub enum StepKind {
     /// Its heartbeat was settled.
@@ -30,6 +33,17 @@ pub enum StepKind {
         job: JobId,
         tc: Toolchain,
         ready: bool,
+    },
+    /// A toolchain's archive was submitted under a job.
+    Submitted {
+        job: JobId,
+        outcome: Submitted,
+    },
+    /// A job was run. The result stands exactly where it was built.
+    Ran {
+        job: JobId,
+        ran: Ran,
+        result: Option<BuildResult>,
     },
     /// A build was reported as complete.
     Finished {
@@ -78,7 +92,17 @@ pub enum EntryWord {
     Died,
 }
 
-/// What an event did.
+/// What an event did, without the event.
+#[derive(Debug, Drop)]
+pub struct Effect {
+    pub core: Option<CoreEntry>,
+    pub step: Option<Step>,
+    pub call: Option<OutCall>,
+    pub reply: Option<Reply>,
+    pub word: Option<EntryWord>,
+}
+
+/// An event, and what it did.
 #[derive(Debug, Drop)]
 pub struct Entry {
     pub event: Event,
@@ -89,13 +113,12 @@ pub struct Entry {
     pub word: Option<EntryWord>,
 }
 
-impl Entry {
-    /// An entry that says a word alone.
-    pub(crate) fn worded(event: Event, word: EntryWord) -> Self
-        ensures { result ≡ worded event word }
+impl Effect {
+    /// A word alone.
+    pub(crate) fn of_word(word: EntryWord) -> Self
+        ensures { result ≡ word_effect word }
     {
-        Entry {
-            event,
+        Effect {
             core: None,
             step: None,
             call: None,
@@ -104,12 +127,11 @@ impl Entry {
         }
     }
 
-    /// An entry that is answered at once.
-    pub(crate) fn replied(event: Event, core: Option<CoreEntry>, reply: Reply) -> Self
-        ensures { result ≡ replied event core reply }
+    /// A reply at once.
+    pub(crate) fn of_reply(core: Option<CoreEntry>, reply: Reply) -> Self
+        ensures { result ≡ reply_effect core reply }
     {
-        Entry {
-            event,
+        Effect {
             core,
             step: None,
             call: None,
@@ -118,17 +140,78 @@ impl Entry {
         }
     }
 
-    /// An entry that makes a call, whose settlement is waited for.
-    pub(crate) fn asking(event: Event, core: CoreEntry, call: OutCall) -> Self
-        ensures { result ≡ asking event core (Some call) }
+    /// A step of the server at that address alone.
+    pub(crate) fn of_step(server: Addr, kind: StepKind) -> Self
+        ensures { result ≡ step_effect server kind }
     {
-        Entry {
-            event,
-            core: Some(core),
+        Effect {
+            core: None,
+            step: Some(Step { server, kind }),
+            call: None,
+            reply: None,
+            word: None,
+        }
+    }
+
+    /// A step of it, and a reply.
+    pub(crate) fn of_step_reply(server: Addr, kind: StepKind, reply: Reply) -> Self
+        ensures { result ≡ step_reply_effect server kind reply }
+    {
+        Effect {
+            core: None,
+            step: Some(Step { server, kind }),
+            call: None,
+            reply: Some(reply),
+            word: None,
+        }
+    }
+
+    /// A step of it, and a call, whose settlement is waited for.
+    pub(crate) fn of_step_call(server: Addr, kind: StepKind, call: OutCall) -> Self
+        ensures { result ≡ step_call_effect server kind call }
+    {
+        Effect {
+            core: None,
+            step: Some(Step { server, kind }),
+            call: Some(call),
+            reply: None,
+            word: Some(EntryWord::Waiting),
+        }
+    }
+
+    /// A call, whose settlement is waited for.
+    pub(crate) fn of_call(core: Option<CoreEntry>, call: OutCall) -> Self
+        ensures { result ≡ call_effect core (Some call) }
+    {
+        Effect {
+            core,
             step: None,
             call: Some(call),
             reply: None,
             word: Some(EntryWord::Waiting),
+        }
+    }
+}
+
+impl Entry {
+    /// The entry of an event that did this.
+    pub(crate) fn new(event: Event, effect: Effect) -> Self
+        ensures { result ≡ entry_of event effect }
+    {
+        let Effect {
+            core,
+            step,
+            call,
+            reply,
+            word,
+        } = effect;
+        Entry {
+            event,
+            core,
+            step,
+            call,
+            reply,
+            word,
         }
     }
 }

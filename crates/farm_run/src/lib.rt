@@ -8,12 +8,17 @@
 //! use `Farm::new`, `Farm::run`, `Farm::history` and `print_run`.
 #![tactic(auto)]
 
+mod builder;
+mod copies;
+mod desk;
 pub mod entry;
 pub mod laws;
+mod pending;
 pub mod print;
-mod replies;
+mod reports;
 pub mod run;
 mod serve;
+mod servers;
 mod settle;
+mod station;
 mod text;
-mod waiting;

@@ -1,15 +1,22 @@
 //! The printed run.
-ghost use Rattle.std.specs.Prelude.{◌≡◌, ◌+◌, ◌++◌, ◌<◌, ◌^◌, OnOk, IfOk, IfErr, string_bytes};
+ghost use Rattle.std.specs.Prelude.{◌≡◌, ◌+◌, ◌++◌, ◌<◌, ◌^◌, Some, slice_get, OnOk, IfOk, IfErr, string_bytes};
 ghost use Rattle.std.specs.List.{flat_map};
-ghost use Rattle.farm_run.specs.Printed.{entry_text, entries_text, core_count, row_text, job_text, books_text, run_text};
-ghost use Rattle.farm_run.specs.Next.{core_log};
+ghost use Rattle.farm_run.specs.Printed.{entry_text, entries_text, core_count, row_text, job_text, held_text, kept_archive_text, server_text, books_text, standing_text, run_text};
+ghost use Rattle.farm_run.specs.Servers.{server_of};
+ghost use Rattle.farm_run.specs.Seen.{core_log};
 ghost use Rattle.sched_core.specs.Rows.{held_by_id};
 ghost use Rattle.farm_script.specs.declared.fault.FarmFault.TheVariants as fault;
 
 use crate::entry::Entry;
 use crate::run::Farm;
-use crate::text::{CallLine, CoreLine, JobLine, Kind, ReplyLine, RowLine, StepLine, WordLine};
+use crate::station::Station;
+use crate::text::{
+    ArchiveLine, CallLine, CoreLine, HeldLine, JobLine, Kind, ReplyLine, RowLine, StepLine,
+    WordLine,
+};
+use dist_types::addr::Addr;
 use farm_script::fault::FarmFault;
+use farm_script::setup::SetupServer;
 use sched_core::rows::Servers;
 use std::alloc::{AllocError, Global};
 
@@ -83,22 +90,83 @@ fn push_jobs(out: &mut String, farm: &Farm) -> Result<(), AllocError>
     Ok(())
 }
 
-/// Writes the books of a farm.
-fn push_books(out: &mut String, farm: &Farm) -> Result<(), AllocError>
-    ensures { OnOk result (string_bytes out.new ≡ string_bytes out.old ++ books_text farm.now.scheduler (core_log farm.now.entries)) }
+/// Writes the lines of what a server keeps.
+fn push_held(out: &mut String, addr: Addr, station: &Station) -> Result<(), AllocError>
+    ensures { OnOk result (string_bytes out.new ≡ string_bytes out.old ++ flat_map (held_text addr) station.now.state.held) }
 {
-    let base = farm.scheduler().base;
-    let count = farm.ids_given();
-    write!(out, "books\nids base {base} count {count}\n")?;
+    for (job, tc) in station.state.held() {
+        let line = HeldLine { addr, job, tc };
+        write!(out, "{line}")?;
+    }
+    Ok(())
+}
+
+/// Writes the lines of a server's archives.
+fn push_archives(out: &mut String, addr: Addr, station: &Station) -> Result<(), AllocError>
+    ensures { OnOk result (string_bytes out.new ≡ string_bytes out.old ++ flat_map (kept_archive_text addr) station.now.state.archives) }
+{
+    for (tc, size) in station.state.archives() {
+        let line = ArchiveLine { addr, tc, size };
+        write!(out, "{line}")?;
+    }
+    Ok(())
+}
+
+/// Writes the lines of what a server of a farm keeps.
+fn push_server(
+    out: &mut String,
+    farm: &Farm,
+    server: &SetupServer,
+    place: usize,
+) -> Result<(), AllocError>
+    requires { slice_get farm.now.setup.servers place ≡ Some server.now }
+    ensures { OnOk result (string_bytes out.new ≡ string_bytes out.old ++ server_text (server_of server.now farm.now.entries)) }
+{
+    match farm.station(place) {
+        None => Err(AllocError),
+        Some(station) => {
+            push_held(out, server.addr, station)?;
+            push_archives(out, server.addr, station)?;
+            Ok(())
+        }
+    }
+}
+
+/// Writes the lines of what each server of a farm keeps.
+fn push_servers(out: &mut String, farm: &Farm) -> Result<(), AllocError>
+    ensures { OnOk result (string_bytes out.new ≡ string_bytes out.old ++ flat_map (λ s. server_text (server_of s farm.now.entries)) farm.now.setup.servers) }
+{
+    for (place, server) in farm.setup().servers.get().iter().enumerate() {
+        push_server(out, farm, server, place)?;
+    }
+    Ok(())
+}
+
+/// Writes what stands in the books of a farm.
+fn push_standing(out: &mut String, farm: &Farm) -> Result<(), AllocError>
+    ensures { OnOk result (string_bytes out.new ≡ string_bytes out.old ++ standing_text farm.now.setup farm.now.entries) }
+{
     push_rows(out, farm.servers())?;
     push_jobs(out, farm)?;
+    push_servers(out, farm)?;
     out.push_str("end\n")?;
+    Ok(())
+}
+
+/// Writes the books of a farm.
+fn push_books(out: &mut String, farm: &Farm) -> Result<(), AllocError>
+    ensures { OnOk result (string_bytes out.new ≡ string_bytes out.old ++ books_text farm.now.setup farm.now.entries) }
+{
+    let base = farm.setup().scheduler.base;
+    let count = farm.ids_given();
+    write!(out, "books\nids base {base} count {count}\n")?;
+    push_standing(out, farm)?;
     Ok(())
 }
 
 /// The text of a run: a farm, its entries, and its books after them. Refused for want of memory alone.
 pub fn print_run(alloc: Global, farm: &Farm) -> Result<String, FarmFault>
-    ensures ok { IfOk result (λ text. string_bytes text ≡ run_text farm.now.scheduler farm.now.entries) }
+    ensures ok { IfOk result (λ text. string_bytes text ≡ run_text farm.now.setup farm.now.entries) }
     ensures err { IfErr result (λ e. e ≡ fault.Memory) }
 {
     let mut out = String::new(alloc);

@@ -8,24 +8,23 @@ ghost use Rattle.sched_core.specs.declared.entry.CoreEntry.{CoreEntry as Core};
 ghost use Rattle.sched_core.specs.declared.entry.UpdateAnswer.{UpdateAnswer};
 ghost use Rattle.dist_types.specs.declared.results.AllocJobResult.TheVariants as alloc_result;
 ghost use Rattle.http_routes.specs.declared.route.SchedRouted.TheVariants as asked;
-ghost use Rattle.farm_run.specs.Next.{token_of, hears, heard, update_by, update_reply, assign_call, answer_to, replied, asking, reply_to, brought_to, IsServed};
 ghost use Rattle.farm_script.specs.Built.{IsPlain};
-ghost use Rattle.farm_run.specs.Farm.{with_core, Begins, IsBegun};
-ghost use Rattle.farm_run.specs.Replies as response;
+ghost use Rattle.farm_run.specs.Answers.{hears, heard, update_by, assign_call, answer_to, IsAnswered};
+ghost use Rattle.farm_run.specs.Begun.{IsAssignment, IsBegunBy, Keeps};
+ghost use Rattle.farm_run.specs.Effects.{reply_effect, call_effect, reply_to};
+ghost use Rattle.farm_run.specs.Farm.{with_core, acted};
+ghost use Rattle.farm_run.specs.Seen.{token_of};
+ghost use Rattle.farm_run.specs.Ways.{to_scheduler};
+ghost use Rattle.http_routes.specs.Replies as response;
+ghost use Rattle.http_routes.specs.Replies.{update_reply};
+ghost use Rattle.sched_core.specs.Texts.{no_room_text};
 ghost use Rattle.http_routes.specs.Fault as told;
 ghost use Rattle.http_routes.specs.declared.fault.RouteFault.TheVariants as route_fault;
 ghost use Rattle.farm_script.specs.declared.fault.FarmFault.TheVariants as fault;
 
-use crate::entry::{Entry, EntryWord, OutCall, Reply};
-use crate::replies::{
-    no_room, to_allocation, to_fault, to_heartbeat, to_report, to_status, want_of_memory,
-};
-use crate::waiting::{Made, Waiting};
-use http_routes::asked::asked;
-use http_routes::fault::RouteFault;
-use http_routes::reply::Response;
-use http_routes::route::{Asked, SchedRouted};
-use http_routes::written::assign_request;
+use crate::desk::Desk;
+use crate::entry::{Effect, OutCall, Reply};
+use crate::pending::{Ask, Made, Pending};
 use dist_token::job_token::JWTJobAuthorizer;
 use dist_types::addr::Addr;
 use dist_types::ids::{JobId, ServerId};
@@ -34,15 +33,37 @@ use dist_types::roles::JobAuthorizer;
 use dist_types::text::Bytes;
 use dist_types::toolchain::Toolchain;
 use dist_wire::heartbeat::HeartbeatServerHttpRequest;
-use farm_script::event::Event;
 use farm_script::fault::FarmFault;
-use farm_script::setup::{SetupAuth, SetupScheduler};
+use farm_script::setup::SetupAuth;
+use http_routes::asked::asked;
+use http_routes::fault::RouteFault;
+use http_routes::replies::{
+    no_room, to_allocation, to_fault, to_heartbeat, to_status, to_update, want_of_memory,
+};
+use http_routes::reply::Response;
+use http_routes::route::{Asked, SchedRouted};
+use http_routes::written::assign_request;
 use sched_core::answers::Picked;
 use sched_core::entry::CoreEntry;
 use sched_core::error::SchedError;
 use sched_core::reservation::Reservation;
 use sched_core::state::SchedState;
 use std::alloc::{AllocError, Global};
+
+/// The number of the entry that is made, and the moment of its event.
+#[derive(Clone, Copy, Debug)]
+pub struct Stamp {
+    pub number: u64,
+    pub at: u64,
+}
+
+/// Bytes that come from a peer.
+#[derive(Debug, Drop)]
+pub struct Arrival<'a> {
+    pub stamp: Stamp,
+    pub peer: Addr,
+    pub bytes: &'a [u8],
+}
 
 /// The most processors that a heartbeat may tell.
 const MOST_CPUS: u64 = 4294967295;
@@ -69,7 +90,7 @@ pub fn reply(alloc: Global, number: u64, response: &Response) -> Result<Reply, A
 }
 
 /// The token of all build servers.
-fn token(auth: &SetupAuth) -> &str
+pub fn token(auth: &SetupAuth) -> &str
     requires { IsPlain auth.now }
     ensures { result.now ≡ token_of auth.now }
 {
@@ -122,29 +143,27 @@ fn hears(cpus: u64) -> bool
     cpus >= 1 && cpus <= MOST_CPUS
 }
 
-/// The entry of a heartbeat.
+/// What a heartbeat does.
 fn hear(
     alloc: Global,
     state: &mut SchedState<JWTJobAuthorizer>,
-    number: u64,
-    event: Event,
+    stamp: Stamp,
     json: bool,
     server: ServerId,
     beat: HeartbeatServerHttpRequest,
-) -> Result<Entry, FarmFault>
-    ensures made { IfOk result (λ e. e ≡ heard state.old number event json server beat) }
-    ensures core { IfOk result (λ e. state.new ≡ with_core state.old e.core) }
+) -> Result<Effect, FarmFault>
+    ensures made { IfOk result (λ x. x ≡ heard state.old stamp.number stamp.at json server beat) }
+    ensures core { IfOk result (λ x. state.new ≡ with_core state.old x.core) }
     ensures err { IfErr result (λ e. e ≡ fault.Memory) }
 {
     if !hears(beat.num_cpus) {
         let response = to_fault(alloc, &RouteFault::BadCpus(beat.num_cpus))?;
-        let reply = reply(alloc, number, &response)?;
-        return Ok(Entry::replied(event, None, reply));
+        let reply = reply(alloc, stamp.number, &response)?;
+        return Ok(Effect::of_reply(None, reply));
     }
-    let at = event.at;
-    let (core, response) = take_beat(alloc, state, at, json, server, beat)?;
-    let reply = reply(alloc, number, &response)?;
-    Ok(Entry::replied(event, Some(core), reply))
+    let (core, response) = take_beat(alloc, state, stamp.at, json, server, beat)?;
+    let reply = reply(alloc, stamp.number, &response)?;
+    Ok(Effect::of_reply(Some(core), reply))
 }
 
 /// Takes a status request: the scheduler's entry, and the reply that says the same.
@@ -223,7 +242,7 @@ fn take_report(
     match state.update(now, server, job, to) {
         Ok(answer) => {
             let entry = last_copy(alloc, state.history())?;
-            let response = to_report(alloc, json, &answer)?;
+            let response = to_update(alloc, json, &answer)?;
             Ok((entry, response))
         }
         Err(error) => {
@@ -234,43 +253,41 @@ fn take_report(
     }
 }
 
-/// The entry of an allocation that no registration has room for.
+/// What an allocation does that no registration has room for.
 fn crowded(
     alloc: Global,
     state: &SchedState<JWTJobAuthorizer>,
     number: u64,
-    event: Event,
     json: bool,
     standing: u64,
-) -> Result<Entry, FarmFault>
+) -> Result<Effect, FarmFault>
     requires { 0 < length state.now.log }
-    ensures made { IfOk result (λ e. (made : Core) × (slice_get state.now.log (length state.now.log - 1) ≡ Some made)
-        × (e ≡ replied event (Some made) (reply_to number (response.alloc_response json (alloc_result.Fail (told.no_room_text standing)))))) }
+    ensures made { IfOk result (λ x. (made : Core) × (slice_get state.now.log (length state.now.log - 1) ≡ Some made)
+        × (x ≡ reply_effect (Some made) (reply_to number (response.alloc_response json (alloc_result.Fail (no_room_text standing)))))) }
     ensures err { IfErr result (λ e. e ≡ fault.Memory) }
 {
     let core = last_copy(alloc, state.history())?;
     let msg = no_room(alloc, standing)?;
     let response = to_allocation(alloc, json, AllocJobResult::Fail { msg })?;
     let reply = reply(alloc, number, &response)?;
-    Ok(Entry::replied(event, Some(core), reply))
+    Ok(Effect::of_reply(Some(core), reply))
 }
 
-/// The entry of an allocation where the job ids are spent.
+/// What an allocation does where the job ids are spent.
 fn ids_spent(
     alloc: Global,
     state: &SchedState<JWTJobAuthorizer>,
     number: u64,
-    event: Event,
-) -> Result<Entry, FarmFault>
+) -> Result<Effect, FarmFault>
     requires { 0 < length state.now.log }
-    ensures made { IfOk result (λ e. (made : Core) × (slice_get state.now.log (length state.now.log - 1) ≡ Some made)
-        × (e ≡ replied event (Some made) (reply_to number (told.fault_response_of route_fault.IdsSpent)))) }
+    ensures made { IfOk result (λ x. (made : Core) × (slice_get state.now.log (length state.now.log - 1) ≡ Some made)
+        × (x ≡ reply_effect (Some made) (reply_to number (told.fault_response_of route_fault.IdsSpent)))) }
     ensures err { IfErr result (λ e. e ≡ fault.Memory) }
 {
     let core = last_copy(alloc, state.history())?;
     let response = to_fault(alloc, &RouteFault::IdsSpent)?;
     let reply = reply(alloc, number, &response)?;
-    Ok(Entry::replied(event, Some(core), reply))
+    Ok(Effect::of_reply(Some(core), reply))
 }
 
 /// The scheduler's last entry, and the call that asks the reservation's server to take the job.
@@ -300,25 +317,29 @@ fn ask(
 fn reserved(
     alloc: Global,
     state: &mut SchedState<JWTJobAuthorizer>,
-    event: Event,
+    stamp: Stamp,
     json: bool,
     tc: &Toolchain,
     reservation: Reservation,
 ) -> Result<Made, FarmFault>
     requires { 0 < length state.old.log }
     ensures made { IfOk result (λ m. (made : Core) × (slice_get state.old.log (length state.old.log - 1) ≡ Some made)
-        × (m.entry ≡ asking event made (Some (assign_call tc.now reservation)))) }
-    ensures waiting { IfOk result (λ m. m.waiting ≡ Some (record { reservation = reservation; json = json })) }
+        × (m.effect ≡ call_effect (Some made) (Some (assign_call tc.now reservation)))) }
+    ensures pending { IfOk result (λ m. m.pending ≡ Some (record { root = stamp.number; json = json; ask = Ask.Assign reservation })) }
     ensures same { OnOk result (state.new ≡ state.old) }
     ensures err { IfErr result (λ e. e ≡ fault.Memory) }
 {
     match ask(alloc, state.history(), &reservation, tc) {
         Ok((core, call)) => Ok(Made {
-            entry: Entry::asking(event, core, call),
-            waiting: Some(Waiting { reservation, json }),
+            effect: Effect::of_call(Some(core), call),
+            pending: Some(Pending {
+                root: stamp.number,
+                json,
+                ask: Ask::Assign(reservation),
+            }),
         }),
         Err(fault) => {
-            state.undo(event.at, reservation);
+            state.undo(stamp.at, reservation);
             Err(fault)
         }
     }
@@ -328,25 +349,24 @@ fn reserved(
 fn allocate(
     alloc: Global,
     state: &mut SchedState<JWTJobAuthorizer>,
-    number: u64,
-    event: Event,
+    stamp: Stamp,
     json: bool,
     tc: &Toolchain,
 ) -> Result<Made, FarmFault>
-    ensures answer { IfOk result (λ m. m.entry ≡ answer_to state.old number event json (asked.Alloc tc.now)) }
-    ensures begins { IfOk result (λ m. Begins state.old json m.entry m.waiting) }
-    ensures core { IfOk result (λ m. state.new ≡ with_core state.old m.entry.core) }
+    ensures answer { IfOk result (λ m. m.effect ≡ answer_to state.old stamp.number stamp.at json (asked.Alloc tc.now)) }
+    ensures kept { IfOk result (λ m. Keeps (IsAssignment state.old.log stamp.number json m.effect.core) m.effect m.pending) }
+    ensures core { IfOk result (λ m. state.new ≡ with_core state.old m.effect.core) }
     ensures err { IfErr result (λ e. e ≡ fault.Memory) }
 {
-    match state.reserve(event.at) {
-        Ok(Picked::Reserved(reservation)) => reserved(alloc, state, event, json, tc, reservation),
+    match state.reserve(stamp.at) {
+        Ok(Picked::Reserved(reservation)) => reserved(alloc, state, stamp, json, tc, reservation),
         Ok(Picked::NoRoom(standing)) => {
-            let entry = crowded(alloc, state, number, event, json, standing)?;
-            Ok(Made::whole(entry))
+            let effect = crowded(alloc, state, stamp.number, json, standing)?;
+            Ok(Made::whole(effect))
         }
         Err(SchedError::IdsSpent) => {
-            let entry = ids_spent(alloc, state, number, event)?;
-            Ok(Made::whole(entry))
+            let effect = ids_spent(alloc, state, stamp.number)?;
+            Ok(Made::whole(effect))
         }
         Err(SchedError::Memory) => Err(FarmFault::Memory),
         Err(SchedError::BadCpus(_)) => unreachable!(),
@@ -360,67 +380,52 @@ fn allocate(
 fn serve_asked(
     alloc: Global,
     state: &mut SchedState<JWTJobAuthorizer>,
-    number: u64,
-    event: Event,
+    stamp: Stamp,
     json: bool,
     what: SchedRouted,
 ) -> Result<Made, FarmFault>
-    ensures answer { IfOk result (λ m. m.entry ≡ answer_to state.old number event json what) }
-    ensures begins { IfOk result (λ m. Begins state.old json m.entry m.waiting) }
-    ensures core { IfOk result (λ m. state.new ≡ with_core state.old m.entry.core) }
+    ensures answer { IfOk result (λ m. m.effect ≡ answer_to state.old stamp.number stamp.at json what) }
+    ensures kept { IfOk result (λ m. Keeps (IsAssignment state.old.log stamp.number json m.effect.core) m.effect m.pending) }
+    ensures core { IfOk result (λ m. state.new ≡ with_core state.old m.effect.core) }
     ensures err { IfErr result (λ e. e ≡ fault.Memory) }
 {
-    let at = event.at;
     match what {
-        SchedRouted::Alloc(tc) => allocate(alloc, state, number, event, json, &tc),
+        SchedRouted::Alloc(tc) => allocate(alloc, state, stamp, json, &tc),
         SchedRouted::Beat(server, beat) => {
-            let entry = hear(alloc, state, number, event, json, server, beat)?;
-            Ok(Made::whole(entry))
+            let effect = hear(alloc, state, stamp, json, server, beat)?;
+            Ok(Made::whole(effect))
         }
         SchedRouted::Update(server, job, to) => {
-            let (core, response) = take_report(alloc, state, at, json, server, job, to)?;
-            let reply = reply(alloc, number, &response)?;
-            Ok(Made::whole(Entry::replied(event, Some(core), reply)))
+            let (core, response) = take_report(alloc, state, stamp.at, json, server, job, to)?;
+            let reply = reply(alloc, stamp.number, &response)?;
+            Ok(Made::whole(Effect::of_reply(Some(core), reply)))
         }
         SchedRouted::Status => {
-            let (core, response) = count(alloc, state, at, json)?;
-            let reply = reply(alloc, number, &response)?;
-            Ok(Made::whole(Entry::replied(event, Some(core), reply)))
+            let (core, response) = count(alloc, state, stamp.at, json)?;
+            let reply = reply(alloc, stamp.number, &response)?;
+            Ok(Made::whole(Effect::of_reply(Some(core), reply)))
         }
         SchedRouted::Done(response) => {
-            let reply = reply(alloc, number, &response)?;
-            Ok(Made::whole(Entry::replied(event, None, reply)))
+            let reply = reply(alloc, stamp.number, &response)?;
+            Ok(Made::whole(Effect::of_reply(None, reply)))
         }
     }
 }
 
-/// What is made of bytes that come to an address: what the scheduler does with what they ask, or the word
-/// that nobody listens there.
-pub fn serve(
-    alloc: Global,
-    scheduler: &SetupScheduler,
-    state: &mut SchedState<JWTJobAuthorizer>,
-    number: u64,
-    event: Event,
-    target: Addr,
-    peer: Addr,
-    bytes: &[u8],
-) -> Result<Made, FarmFault>
-    requires plain { IsPlain scheduler.now.auth }
-    ensures served { IfOk result (λ m. IsServed scheduler.now state.old number event (brought_to scheduler.now target peer bytes.now) m.entry) }
-    ensures begun { IfOk result (λ m. IsBegun scheduler.now state.old (brought_to scheduler.now target peer bytes.now) m.entry m.waiting) }
-    ensures core { IfOk result (λ m. state.new ≡ with_core state.old m.entry.core) }
+/// What is made of bytes that come to the scheduler.
+pub fn serve(desk: &mut Desk, arrival: &Arrival<'_>) -> Result<Made, FarmFault>
+    requires plain { IsPlain desk.old.setup.scheduler.auth }
+    ensures answered { IfOk result (λ m. IsAnswered desk.old.setup desk.old.state arrival.now.stamp.number arrival.now.stamp.at arrival.now.peer arrival.now.bytes.now m.effect) }
+    ensures kept { IfOk result (λ m. Keeps (IsBegunBy desk.old.setup desk.old.state.log arrival.now.stamp.number (to_scheduler arrival.now.peer arrival.now.bytes.now) m.effect) m.effect m.pending) }
+    ensures desk { IfOk result (λ m. desk.new ≡ acted desk.old m.effect.core) }
     ensures err { IfErr result (λ e. e ≡ fault.Memory) }
 {
-    if target != scheduler.addr {
-        return Ok(Made::whole(Entry::worded(event, EntryWord::Down)));
-    }
-    let client = scheduler.client.get();
-    let token = token(&scheduler.auth);
-    let question = match asked(alloc, bytes, peer, client, token) {
+    let client = desk.setup.scheduler.client.get();
+    let token = token(&desk.setup.scheduler.auth);
+    let question = match asked(desk.alloc, arrival.bytes, arrival.peer, client, token) {
         Ok(question) => question,
         Err(error) => return Err(FarmFault::from(want_of_memory(error))),
     };
     let Asked { what, json } = question;
-    serve_asked(alloc, state, number, event, json, what)
+    serve_asked(desk.alloc, &mut desk.state, arrival.stamp, json, what)
 }

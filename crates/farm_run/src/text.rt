@@ -1,10 +1,13 @@
 //! The texts of a printed run, piece by piece.
 ghost use Rattle.std.specs.Prelude.{◌≡◌, ◌*◌, Some, length};
 ghost use Rattle.hex.specs.Hex.{encode_lower};
-ghost use Rattle.farm_run.specs.Printed.{numbers_text, jobs_text, number_text, hex_text, kind_text, age_text, kept_text, ended_text, reserved_text, advance_text, core_text, core_line, heard_text, ready_text, archive_text, archives_text, step_text, step_line, call_line, reply_line, word_line, row_text, stage_text, claim_text, job_text};
+ghost use Rattle.farm_run.specs.Printed.{numbers_text, jobs_text, number_text, hex_text, kind_text, age_text, kept_text, ended_text, reserved_text, advance_text, core_text, core_line, heard_text, ready_text, archive_text, archives_text, ids_text, submitted_text, ran_text, held_text, kept_archive_text, step_text, step_line, call_line, reply_line, word_line, row_text, stage_text, claim_text, job_text};
 ghost use Rattle.sched_core.specs.Rows.{held_part};
 
 use crate::entry::{EntryWord, HeardAs, OutCall, Reply, Step, StepKind};
+use build_server::run::Ran;
+use build_server::submit::Submitted;
+use dist_types::addr::Addr;
 use dist_types::ids::JobId;
 use dist_types::results::JobState;
 use dist_types::toolchain::Toolchain;
@@ -343,6 +346,122 @@ impl fmt::Display for Archives<'_> {
     }
 }
 
+/// Ids joined by commas, or a dash.
+#[derive(Drop)]
+struct Ids<'a>(&'a [Toolchain]);
+
+impl fmt::Display for Ids<'_> {
+    ghost output = { λ x. Some (ids_text x.0.now) };
+
+    fn fmt<W: fmt::Write>(&self, f: &mut fmt::Formatter<W>) -> fmt::Result {
+        match self.0.split_first() {
+            None => write!(f, "-"),
+            Some((first, rest)) => {
+                let first = first.archive_id();
+                write!(f, "{first}")?;
+                for tc in rest {
+                    let id = tc.archive_id();
+                    write!(f, ",{id}")?;
+                }
+                Ok(())
+            }
+        }
+    }
+}
+
+/// How a submission went.
+#[derive(Drop)]
+struct SubmittedAs<'a>(&'a Submitted);
+
+impl fmt::Display for SubmittedAs<'_> {
+    ghost output = { λ x. Some (submitted_text x.0.now) };
+
+    fn fmt<W: fmt::Write>(&self, f: &mut fmt::Formatter<W>) -> fmt::Result {
+        match self.0 {
+            Submitted::None => write!(f, "none"),
+            Submitted::Listed => write!(f, "listed"),
+            Submitted::Stored(size, dropped) => {
+                let dropped = Ids(dropped.get());
+                write!(f, "stored {size} dropped {dropped}")
+            }
+            Submitted::Digest => write!(f, "refused digest"),
+            Submitted::Capacity => write!(f, "refused capacity"),
+            Submitted::Folder(dropped) => {
+                let dropped = Ids(dropped.get());
+                write!(f, "refused folder dropped {dropped}")
+            }
+        }
+    }
+}
+
+/// How a run went.
+#[derive(Drop)]
+struct RanAs(Ran);
+
+impl fmt::Display for RanAs {
+    ghost output = { λ x. Some (ran_text x.0) };
+
+    fn fmt<W: fmt::Write>(&self, f: &mut fmt::Formatter<W>) -> fmt::Result {
+        match &self.0 {
+            Ran::None => write!(f, "none"),
+            Ran::Unlisted(tc) => {
+                let id = tc.archive_id();
+                write!(f, "unlisted {id}")
+            }
+            Ran::Folder(tc) => {
+                let id = tc.archive_id();
+                write!(f, "folder {id}")
+            }
+            Ran::Built(tc) => {
+                let id = tc.archive_id();
+                write!(f, "built {id}")
+            }
+            Ran::Refused(tc) => {
+                let id = tc.archive_id();
+                write!(f, "refused {id}")
+            }
+        }
+    }
+}
+
+/// The line of a job that a server holds.
+#[derive(Drop)]
+pub struct HeldLine {
+    pub addr: Addr,
+    pub job: JobId,
+    pub tc: Toolchain,
+}
+
+impl fmt::Display for HeldLine {
+    ghost output = { λ x. Some (held_text x.addr (x.job, x.tc)) };
+
+    fn fmt<W: fmt::Write>(&self, f: &mut fmt::Formatter<W>) -> fmt::Result {
+        let addr = self.addr;
+        let job = self.job;
+        let id = self.tc.archive_id();
+        write!(f, "held {addr} {job} {id}\n")
+    }
+}
+
+/// The line of a server's archive.
+#[derive(Drop)]
+pub struct ArchiveLine {
+    pub addr: Addr,
+    pub tc: Toolchain,
+    pub size: u64,
+}
+
+impl fmt::Display for ArchiveLine {
+    ghost output = { λ x. Some (kept_archive_text x.addr (x.tc, x.size)) };
+
+    fn fmt<W: fmt::Write>(&self, f: &mut fmt::Formatter<W>) -> fmt::Result {
+        let addr = self.addr;
+        let id = self.tc.archive_id();
+        let size = self.size;
+        write!(f, "archive {addr} {id} {size}\n")
+    }
+}
+
 /// What a build server did.
 #[derive(Drop)]
 struct Did<'a>(&'a StepKind);
@@ -360,6 +479,18 @@ impl fmt::Display for Did<'_> {
                 let id = tc.archive_id();
                 let ready = ready_word(*ready);
                 write!(f, "assigned {job} {id} {ready}")
+            }
+            StepKind::Submitted { job, outcome } => {
+                let outcome = SubmittedAs(outcome);
+                write!(f, "submitted {job} {outcome}")
+            }
+            StepKind::Ran {
+                job,
+                ran,
+                result: _,
+            } => {
+                let ran = RanAs(*ran);
+                write!(f, "ran {job} {ran}")
             }
             StepKind::Finished { job } => write!(f, "finished {job}"),
             StepKind::Unreported { job } => write!(f, "unreported {job}"),

@@ -1,7 +1,7 @@
 use Rattle.std.proofs.Common.{◌≡◌, ◌++◌, map, string_bytes}
 use Rattle.std.specs.List.{flat_map}
 use Rattle.sched_core.specs.Rows.{held_part, held_by_id}
-use Rattle.farm_run.specs.Next.{core_log}
+use Rattle.farm_run.specs.Seen.{core_log}
 use Rattle.farm_run.specs.Printed.{job_text}
 use Rattle.farm_run.proofs.print.push_jobs.Given as goal
 

@@ -1,7 +1,7 @@
 use Rattle.std.proofs.Common.{sym, ◌∙◌}
 use Rattle.sched_core.specs.Rule.{rule}
 use Rattle.sched_core.specs.declared.call.Call.TheVariants as call
-use Rattle.farm_run.specs.Next.{update_by}
+use Rattle.farm_run.specs.Answers.{update_by}
 use Rattle.farm_run.proofs.ServeLemmas.{last_is, leaves_logged, told_taken}
 use Rattle.farm_run.proofs.serve.take_report.Goals as goal
 
@@ -9,7 +9,7 @@ pub returns-in_ok-response-in-Ok-clause-made : goal.returns-in_ok-response-in-Ok
 returns-in_ok-response-in-Ok-clause-made c =
     let made = rule c.args.state.now (call.Update c.args.now c.args.server c.args.job c.args.to) in (
       last_is c.args.state.now c.update.new.self made c.in_ok-entry-in-Ok.entry c.in-Ok.ensures.logged (rw c.history.ensures.log at c.in_ok-entry-in-Ok.ensures),
-      c.in_ok-response-in-Ok.ensures.ok ∙ told_taken c.args.json (update_by made.kind) c.args.server c.args.job c.args.to c.in-Ok.answer (c.in-Ok.ensures.answer (λ h. absurd cc)),
+      c.in_ok-response-in-Ok.ensures ∙ told_taken c.args.json (update_by made.kind) c.args.server c.args.job c.args.to c.in-Ok.answer (c.in-Ok.ensures.answer (λ h. absurd cc)),
     )
 
 pub returns-in_ok-entry-in-Err-clause-made : goal.returns-in_ok-entry-in-Err-clause-made

@@ -1,0 +1,97 @@
+//! The builders of a setup: they answer what their lines list, in order, and then echo.
+ghost use Rattle.std.specs.Prelude.{◌≡◌, ◌≢◌, Err, IfOk, map, option_copied};
+ghost use Rattle.build_server.specs.Echo.{data_of};
+ghost use Rattle.farm_run.specs.Served.{listed, build_answer};
+
+use build_server::echo::echo;
+use dist_types::builder::BuildFault;
+use dist_types::fault::Memory;
+use dist_types::output::{OutputData, ProcessOutput};
+use dist_types::results::BuildResult;
+use dist_types::text::{Bytes, Items, Text};
+use dist_types::try_clone::{TryClone, push};
+use farm_script::setup::BuilderLine;
+use std::alloc::Global;
+
+/// A copy of what a build gave. Refused for want of memory alone.
+pub fn copy_result(built: &BuildResult) -> Result<BuildResult, Memory>
+    ensures { IfOk result (λ copy. copy ≡ built.now) }
+{
+    let output = built.output.clone()?;
+    let outputs = built.outputs.clone()?;
+    Ok(BuildResult { output, outputs })
+}
+
+/// An output that is listed.
+fn listed_output(name: &Text, bytes: &Bytes) -> Result<(Text, OutputData), Memory>
+    ensures { IfOk result (λ o. o ≡ (name.now, data_of bytes.now)) }
+{
+    let text = name.clone()?;
+    let data = bytes.clone()?;
+    let size = data.get().len() as u64;
+    Ok((text, OutputData(data, size)))
+}
+
+/// The outputs that are listed.
+fn listed_outputs(
+    alloc: Global,
+    outputs: &[(Text, Bytes)],
+) -> Result<Vec<(Text, OutputData)>, Memory>
+    ensures { IfOk result (λ v. v.items ≡ map (λ p. (p.0, data_of p.1)) outputs.now) }
+{
+    let mut all = Vec::with_capacity(alloc, outputs.len())?;
+    for pair in outputs {
+        let output = listed_output(&pair.0, &pair.1)?;
+        push(&mut all, output)?;
+    }
+    Ok(all)
+}
+
+/// What a line lists.
+fn listed(alloc: Global, line: &BuilderLine) -> Result<Result<BuildResult, BuildFault>, Memory>
+    ensures ok { IfOk result (λ heard. heard ≡ listed line.now) }
+{
+    match line {
+        BuilderLine::Listed {
+            code,
+            stdout,
+            stderr,
+            outputs,
+        } => {
+            let stdout = stdout.clone()?;
+            let stderr = stderr.clone()?;
+            let outputs = listed_outputs(alloc, outputs.get())?;
+            Ok(Ok(BuildResult {
+                output: ProcessOutput {
+                    code: *code,
+                    stdout,
+                    stderr,
+                },
+                outputs: Items::new(outputs),
+            }))
+        }
+        BuilderLine::Refuse => Ok(Err(BuildFault::Refused)),
+    }
+}
+
+/// The answer of a builder of which that line is due, or which has answered all its lines. Refused for want
+/// of memory alone.
+pub fn build_answer(
+    alloc: Global,
+    line: Option<&BuilderLine>,
+    outputs: &[Text],
+    inputs: &[u8],
+) -> Result<Result<BuildResult, BuildFault>, Memory>
+    ensures ok { IfOk result (λ heard. heard ≡ build_answer (option_copied line.entry) outputs.now inputs.now) }
+{
+    match line {
+        None => {
+            let built = echo(alloc, outputs, inputs)?;
+            Ok(Ok(built))
+        }
+        Some(line) => {
+            let heard = listed(alloc, line)?;
+            Ok(heard)
+        }
+    }
+}

@@ -1,0 +1,110 @@
+//! Copies of setups. Each is refused for want of memory alone.
+ghost use Rattle.std.specs.Prelude.{◌≡◌, IfOk};
+
+use dist_types::fault::Memory;
+use dist_types::text::Items;
+use dist_types::try_clone::{TryClone, push};
+use farm_script::setup::{BuilderLine, Setup, SetupAuth, SetupScheduler, SetupServer};
+use std::alloc::Global;
+
+fn copy_auth(auth: &SetupAuth) -> Result<SetupAuth, Memory>
+    ensures { IfOk result (λ a. a ≡ auth.now) }
+{
+    match auth {
+        SetupAuth::Plain(token) => {
+            let token = token.clone()?;
+            Ok(SetupAuth::Plain(token))
+        }
+        SetupAuth::Jwt(key) => {
+            let key = key.clone()?;
+            Ok(SetupAuth::Jwt(key))
+        }
+    }
+}
+
+fn copy_scheduler(scheduler: &SetupScheduler) -> Result<SetupScheduler, Memory>
+    ensures { IfOk result (λ s. s ≡ scheduler.now) }
+{
+    let client = scheduler.client.clone()?;
+    let auth = copy_auth(&scheduler.auth)?;
+    Ok(SetupScheduler {
+        addr: scheduler.addr,
+        base: scheduler.base,
+        count: scheduler.count,
+        client,
+        auth,
+    })
+}
+
+fn copy_line(line: &BuilderLine) -> Result<BuilderLine, Memory>
+    ensures { IfOk result (λ l. l ≡ line.now) }
+{
+    match line {
+        BuilderLine::Listed {
+            code,
+            stdout,
+            stderr,
+            outputs,
+        } => {
+            let stdout = stdout.clone()?;
+            let stderr = stderr.clone()?;
+            let outputs = outputs.clone()?;
+            Ok(BuilderLine::Listed {
+                code: *code,
+                stdout,
+                stderr,
+                outputs,
+            })
+        }
+        BuilderLine::Refuse => Ok(BuilderLine::Refuse),
+    }
+}
+
+fn copy_lines(alloc: Global, lines: &[BuilderLine]) -> Result<Vec<BuilderLine>, Memory>
+    ensures { IfOk result (λ v. v.items ≡ lines.now) }
+{
+    let mut copies = Vec::with_capacity(alloc, lines.len())?;
+    for line in lines {
+        let copy = copy_line(line)?;
+        push(&mut copies, copy)?;
+    }
+    Ok(copies)
+}
+
+fn copy_server(alloc: Global, server: &SetupServer) -> Result<SetupServer, Memory>
+    ensures { IfOk result (λ s. s ≡ server.now) }
+{
+    let key = server.key.clone()?;
+    let builder = copy_lines(alloc, server.builder.get())?;
+    Ok(SetupServer {
+        addr: server.addr,
+        cpus: server.cpus,
+        nonce: server.nonce,
+        key,
+        capacity: server.capacity,
+        builder: Items::new(builder),
+    })
+}
+
+fn copy_servers(alloc: Global, servers: &[SetupServer]) -> Result<Vec<SetupServer>, Memory>
+    ensures { IfOk result (λ v. v.items ≡ servers.now) }
+{
+    let mut copies = Vec::with_capacity(alloc, servers.len())?;
+    for server in servers {
+        let copy = copy_server(alloc, server)?;
+        push(&mut copies, copy)?;
+    }
+    Ok(copies)
+}
+
+/// A copy of a setup.
+pub fn copy_setup(alloc: Global, setup: &Setup) -> Result<Setup, Memory>
+    ensures { IfOk result (λ s. s ≡ setup.now) }
+{
+    let scheduler = copy_scheduler(&setup.scheduler)?;
+    let servers = copy_servers(alloc, setup.servers.get())?;
+    Ok(Setup {
+        scheduler,
+        servers: Items::new(servers),
+    })
+}

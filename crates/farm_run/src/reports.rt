@@ -1,0 +1,500 @@
+//! What follows the settlement of a build server's calls.
+ghost use Rattle.std.specs.Prelude.{◌≡◌, Some, None, Ok, Err, Result, drop, slice_get, if◌then◌else◌, IfOk, IfErr, OnOk, option_copied};
+ghost use Rattle.build_server.specs.Books.{held_for};
+ghost use Rattle.build_server.specs.Rules.{submit_verdict, NotFolder};
+ghost use Rattle.build_server.specs.Builds.{ran_of, built_of, is_due, outcome_by};
+ghost use Rattle.dist_types.specs.Cause.{counted};
+ghost use Rattle.dist_types.specs.declared.outgoing.CallFault.{CallFault as Cause};
+ghost use Rattle.dist_types.specs.declared.results.UpdateJobStateResult.{UpdateJobStateResult as Accepted};
+ghost use Rattle.dist_types.specs.declared.results.HeartbeatServerResult.{HeartbeatServerResult as Heard};
+ghost use Rattle.farm_script.specs.Built.{IsPlain};
+ghost use Rattle.farm_run.specs.Begun.{Keeps, completion_at};
+ghost use Rattle.farm_run.specs.Effects.{step_effect};
+ghost use Rattle.farm_run.specs.Served.{books_of, build_answer, run_outcome};
+ghost use Rattle.farm_run.specs.Servers.{stepped};
+ghost use Rattle.farm_run.specs.Settled.{IsUpdated, IsHeard, unreported, submission, running, ready_end, started_end, complete_end, heard_as, failure_of, ended_response, Reports};
+ghost use Rattle.farm_run.specs.Stations.{now_of, IsWell, NotBroken};
+ghost use Rattle.farm_script.specs.declared.fault.FarmFault.TheVariants as fault;
+
+use crate::builder::{build_answer, copy_result};
+use crate::desk::Desk;
+use crate::entry::{Effect, HeardAs, StepKind};
+use crate::pending::{Ask, Made, Pending, Told};
+use crate::serve::reply;
+use crate::servers::state_call;
+use crate::station::Station;
+use build_server::fault::{BuildCause, ServerFault};
+use build_server::run::{Ran, RunDone, RunHeld};
+use build_server::submit::Submitted;
+use dist_types::addr::Addr;
+use dist_types::ids::JobId;
+use dist_types::outgoing::CallFault;
+use dist_types::results::{
+    BuildResult, HeartbeatServerResult, JobState, RunJobResult, UpdateJobStateResult,
+};
+use dist_wire::run::RunJobHttpRequest;
+use farm_script::fault::FarmFault;
+use farm_script::setup::SetupServer;
+use http_routes::calls::answer;
+use http_routes::fault::{BuildFailure, RouteFault};
+use http_routes::replies::{to_fault, to_run, to_submission, want_of_memory};
+use http_routes::reply::Response;
+use std::alloc::Global;
+
+/// A call of a server that comes back: the entry that is replied to and in which form, what the event of that entry
+/// brought, and the call's reply, or none where it is lost.
+#[derive(Debug, Drop)]
+pub struct Back<'a> {
+    /// The server that made the call, and the life that it did so in.
+    pub server: Addr,
+    pub life: u64,
+    pub root: u64,
+    pub json: bool,
+    pub brought: &'a [u8],
+    pub reply: Option<&'a [u8]>,
+}
+
+/// What the reply to a report says.
+fn updated(
+    alloc: Global,
+    reply: Option<&[u8]>,
+) -> Result<Result<UpdateJobStateResult, CallFault>, FarmFault>
+    ensures ok { IfOk result (IsUpdated (option_copied reply.entry)) }
+    ensures err { IfErr result (λ e. e ≡ fault.Memory) }
+{
+    match reply {
+        None => Ok(Err(CallFault::Lost)),
+        Some(bytes) => match answer(alloc, bytes) {
+            Ok(told) => Ok(told),
+            Err(error) => Err(FarmFault::from(want_of_memory(error))),
+        },
+    }
+}
+
+/// What the reply to a heartbeat says.
+fn heard(
+    alloc: Global,
+    reply: Option<&[u8]>,
+) -> Result<Result<HeartbeatServerResult, CallFault>, FarmFault>
+    ensures ok { IfOk result (IsHeard (option_copied reply.entry)) }
+    ensures err { IfErr result (λ e. e ≡ fault.Memory) }
+{
+    match reply {
+        None => Ok(Err(CallFault::Lost)),
+        Some(bytes) => match answer(alloc, bytes) {
+            Ok(told) => Ok(told),
+            Err(error) => Err(FarmFault::from(want_of_memory(error))),
+        },
+    }
+}
+
+/// A report that was not accepted.
+fn unreported(
+    alloc: Global,
+    addr: Addr,
+    root: u64,
+    job: JobId,
+    cause: CallFault,
+) -> Result<Effect, FarmFault>
+    ensures ok { IfOk result (λ x. x ≡ unreported addr root job cause) }
+    ensures err { IfErr result (λ e. e ≡ fault.Memory) }
+{
+    let response = to_fault(alloc, &RouteFault::UpdateFailed(cause))?;
+    let reply = reply(alloc, root, &response)?;
+    Ok(Effect::of_step_reply(addr, StepKind::Unreported { job }, reply))
+}
+
+/// An outcome that is no failing folder: a folder in memory that fails is told as want of memory.
+fn sound(outcome: Submitted) -> Result<Submitted, FarmFault>
+    ensures same { IfOk result (λ o. o ≡ outcome) }
+    ensures sound { IfOk result NotFolder }
+    ensures err { IfErr result (λ e. e ≡ fault.Memory) }
+{
+    match outcome {
+        Submitted::None => Ok(Submitted::None),
+        Submitted::Listed => Ok(Submitted::Listed),
+        Submitted::Stored(size, dropped) => Ok(Submitted::Stored(size, dropped)),
+        Submitted::Digest => Ok(Submitted::Digest),
+        Submitted::Capacity => Ok(Submitted::Capacity),
+        Submitted::Folder(_) => Err(FarmFault::Memory),
+    }
+}
+
+/// Submits an archive under a job, after Ready was accepted.
+fn store(
+    server: &SetupServer,
+    station: &mut Station,
+    job: JobId,
+    archive: &[u8],
+    accepted: UpdateJobStateResult,
+) -> Result<Submitted, FarmFault>
+    requires well { IsWell server.now station.old }
+    ensures ok { IfOk result (λ o. o ≡ submit_verdict (books_of (now_of server.now station.old)) (held_for job station.old.state.held) archive.now) }
+    ensures after { IfOk result (λ o. now_of server.now station.new ≡ stepped (Some (record { server = server.now.addr; kind = StepKind.Submitted job o })) (now_of server.now station.old)) }
+    ensures still_well { OnOk result (IsWell server.now station.new) }
+    ensures err { IfErr result (λ e. e ≡ fault.Memory) }
+{
+    let _server = server.capacity;
+    let submit = station.state.begin_submit(job);
+    match station.state.end_submit(submit, Ok(accepted), archive) {
+        Ok(outcome) => {
+            let outcome = sound(outcome)?;
+            Ok(outcome)
+        }
+        Err(_) => Err(FarmFault::Memory),
+    }
+}
+
+/// Goes on with a submission, by what the scheduler answered to Ready.
+fn end_ready(
+    alloc: Global,
+    server: &SetupServer,
+    station: &mut Station,
+    back: &Back<'_>,
+    job: JobId,
+    archive: usize,
+) -> Result<Effect, FarmFault>
+    requires well { IsWell server.now station.old }
+    ensures made { IfOk result (λ x. (r : Result Accepted Cause) × IsUpdated (option_copied back.now.reply) r
+        × (x ≡ ready_end (now_of server.now station.old) back.now.root back.now.json job (drop archive back.now.brought.now) r)) }
+    ensures silent { IfOk result (λ x. x.call ≡ None) }
+    ensures after { IfOk result (λ x. now_of server.now station.new ≡ stepped x.step (now_of server.now station.old)) }
+    ensures still_well { OnOk result (IsWell server.now station.new) }
+    ensures err { IfErr result (λ e. e ≡ fault.Memory) }
+{
+    let told = updated(alloc, back.reply)?;
+    match told {
+        Err(cause) => {
+            let effect = unreported(alloc, server.addr, back.root, job, cause)?;
+            Ok(effect)
+        }
+        Ok(accepted) => {
+            let bytes = behind(back.brought, archive);
+            let outcome = store(server, station, job, bytes, accepted)?;
+            let response = to_submission(alloc, back.json, &outcome.result())?;
+            let reply = reply(alloc, back.root, &response)?;
+            let kind = StepKind::Submitted { job, outcome };
+            Ok(Effect::of_step_reply(server.addr, kind, reply))
+        }
+    }
+}
+
+/// What stands behind a place.
+fn behind(bytes: &[u8], place: usize) -> &[u8]
+    ensures { result.now ≡ drop place bytes.now }
+{
+    if place >= bytes.len() {
+        return &[];
+    }
+    &bytes[place..]
+}
+
+/// One build of what was taken out, of which so many were before; none where no archive was read.
+fn build(
+    alloc: Global,
+    server: &SetupServer,
+    builds: &mut u64,
+    held: RunHeld,
+    run: &RunJobHttpRequest,
+    inputs: &[u8],
+) -> Result<RunDone, FarmFault>
+    ensures goes { IfOk result (λ done. outcome_by held (build_answer (slice_get server.now.builder builds.old) run.now.outputs inputs.now) ≡ Ok done) }
+    ensures counted { OnOk result (builds.new ≡ (if is_due held then counted builds.old else builds.old)) }
+    ensures err { IfErr result (λ e. e ≡ fault.Memory) }
+{
+    let due = held.is_due();
+    let line = server.builder.get().get(*builds as usize);
+    let heard = match build_answer(alloc, line, run.outputs.get(), inputs) {
+        Ok(heard) => heard,
+        Err(_) => {
+            held.give_up();
+            return Err(FarmFault::Memory);
+        }
+    };
+    match held.build_as(heard) {
+        Ok(done) => {
+            if due {
+                *builds = builds.saturating_add(1);
+            }
+            Ok(done)
+        }
+        Err((held, _)) => {
+            held.give_up();
+            Err(FarmFault::Memory)
+        }
+    }
+}
+
+/// Takes a job out and builds it, after Started was accepted.
+fn run_job(
+    alloc: Global,
+    server: &SetupServer,
+    station: &mut Station,
+    job: JobId,
+    run: &RunJobHttpRequest,
+    inputs: &[u8],
+    accepted: UpdateJobStateResult,
+) -> Result<RunDone, FarmFault>
+    requires well { IsWell server.now station.old }
+    ensures ok { IfOk result (λ done. done ≡ run_outcome (now_of server.now station.old) (held_for job station.old.state.held) run.now.outputs inputs.now) }
+    ensures after { IfOk result (λ done. now_of server.now station.new ≡ stepped (Some (record { server = server.now.addr; kind = StepKind.Ran job (ran_of done) (built_of done) })) (now_of server.now station.old)) }
+    ensures still_well { OnOk result (IsWell server.now station.new) }
+    ensures err { IfErr result (λ e. e ≡ fault.Memory) }
+{
+    let held = match station.state.begin_run(job, Ok(accepted)) {
+        Ok(held) => held,
+        Err(_) => return Err(FarmFault::Memory),
+    };
+    let done = build(alloc, server, &mut station.builds, held, run, inputs)?;
+    let done = read_well(done)?;
+    Ok(done)
+}
+
+/// A run whose folder did not fail: a folder in memory that fails is told as want of memory.
+fn read_well(done: RunDone) -> Result<RunDone, FarmFault>
+    ensures same { IfOk result (λ d. d ≡ done) }
+    ensures sound { IfOk result (λ d. NotBroken (ran_of d)) }
+    ensures err { IfErr result (λ e. e ≡ fault.Memory) }
+{
+    match done.ran() {
+        Ran::None => Ok(done),
+        Ran::Unlisted(_) => Ok(done),
+        Ran::Folder(_) => {
+            let _ = done.end_run(Err(CallFault::Lost));
+            Err(FarmFault::Memory)
+        }
+        Ran::Built(_) => Ok(done),
+        Ran::Refused(_) => Ok(done),
+    }
+}
+
+/// Goes on with a run, by what the scheduler answered to Started.
+fn end_started(
+    desk: &Desk,
+    server: &SetupServer,
+    station: &mut Station,
+    back: &Back<'_>,
+    job: JobId,
+    run: RunJobHttpRequest,
+    inputs: usize,
+) -> Result<Made, FarmFault>
+    requires plain { IsPlain desk.now.setup.scheduler.auth }
+    requires well { IsWell server.now station.old }
+    ensures made { IfOk result (λ m. (r : Result Accepted Cause) × IsUpdated (option_copied back.now.reply) r
+        × (m.effect ≡ started_end desk.now.setup (now_of server.now station.old) back.now.root job run (drop inputs back.now.brought.now) r)) }
+    ensures kept { IfOk result (λ m. Keeps (λ p. completion_at back.now.root back.now.json server.now.addr station.old.life m.effect.step ≡ Some p) m.effect m.pending) }
+    ensures after { IfOk result (λ m. now_of server.now station.new ≡ stepped m.effect.step (now_of server.now station.old)) }
+    ensures still_well { OnOk result (IsWell server.now station.new) }
+    ensures err { IfErr result (λ e. e ≡ fault.Memory) }
+{
+    let told = updated(desk.alloc, back.reply)?;
+    match told {
+        Err(cause) => {
+            let effect = unreported(desk.alloc, server.addr, back.root, job, cause)?;
+            Ok(Made::whole(effect))
+        }
+        Ok(accepted) => {
+            let life = station.life;
+            let bytes = behind(back.brought, inputs);
+            let done = run_job(desk.alloc, server, station, job, &run, bytes, accepted)?;
+            let made = tell_run(desk, server.addr, life, back, job, done)?;
+            Ok(made)
+        }
+    }
+}
+
+/// What a run gave, where it was built, for the step that tells it.
+fn result_of(done: &RunDone) -> Result<Option<BuildResult>, FarmFault>
+    ensures ok { IfOk result (λ o. o ≡ built_of done.now) }
+    ensures err { IfErr result (λ e. e ≡ fault.Memory) }
+{
+    match done.built() {
+        None => Ok(None),
+        Some(built) => match copy_result(built) {
+            Ok(copy) => Ok(Some(copy)),
+            Err(_) => Err(FarmFault::Memory),
+        },
+    }
+}
+
+/// The step of a run that went so, and the call that tells the scheduler its end.
+fn ran_effect(desk: &Desk, addr: Addr, job: JobId, done: &RunDone) -> Result<Effect, FarmFault>
+    requires plain { IsPlain desk.now.setup.scheduler.auth }
+    ensures ok { IfOk result (λ x. x ≡ running desk.now.setup addr job done.now) }
+    ensures err { IfErr result (λ e. e ≡ fault.Memory) }
+{
+    let call = state_call(desk, addr, job, JobState::Complete)?;
+    let result = result_of(done)?;
+    let ran = done.ran();
+    let kind = StepKind::Ran { job, ran, result };
+    Ok(Effect::of_step_call(addr, kind, call))
+}
+
+/// Tells the scheduler the end of a run.
+fn tell_run(
+    desk: &Desk,
+    addr: Addr,
+    life: u64,
+    back: &Back<'_>,
+    job: JobId,
+    done: RunDone,
+) -> Result<Made, FarmFault>
+    requires plain { IsPlain desk.now.setup.scheduler.auth }
+    ensures effect { IfOk result (λ m. m.effect ≡ running desk.now.setup addr job done) }
+    ensures pending { IfOk result (λ m. m.pending ≡ Some (record { root = back.now.root; json = back.now.json; ask = Ask.Report addr life (Told.Complete job done) })) }
+    ensures err { IfErr result (λ e. e ≡ fault.Memory) }
+{
+    match ran_effect(desk, addr, job, &done) {
+        Ok(effect) => Ok(Made {
+            effect,
+            pending: Some(Pending {
+                root: back.root,
+                json: back.json,
+                ask: Ask::Report {
+                    server: addr,
+                    life,
+                    told: Told::Complete { job, done },
+                },
+            }),
+        }),
+        Err(_) => {
+            let _ = done.end_run(Err(CallFault::Lost));
+            Err(FarmFault::Memory)
+        }
+    }
+}
+
+/// Why a build gave nothing, as a reply tells it.
+fn failure_of(cause: BuildCause) -> BuildFailure
+    ensures { result ≡ failure_of cause }
+{
+    match cause {
+        BuildCause::Unlisted => BuildFailure::NotCached,
+        BuildCause::Folder => BuildFailure::Unreadable,
+        BuildCause::Refused => BuildFailure::Refused,
+    }
+}
+
+/// The reply to a run that ended.
+fn ended_response(
+    alloc: Global,
+    json: bool,
+    ended: Result<RunJobResult, ServerFault>,
+) -> Result<Response, FarmFault>
+    ensures ok { IfOk result (λ r. r ≡ ended_response json ended) }
+    ensures err { IfErr result (λ e. e ≡ fault.Memory) }
+{
+    match ended {
+        Ok(answer) => {
+            let response = to_run(alloc, json, &answer)?;
+            Ok(response)
+        }
+        Err(ServerFault::BuildFailed(cause)) => {
+            let response = to_fault(alloc, &RouteFault::BuildFailed(failure_of(cause)))?;
+            Ok(response)
+        }
+        Err(ServerFault::AlreadyAssigned(job)) => {
+            let response = to_fault(alloc, &RouteFault::AlreadyAssigned(job))?;
+            Ok(response)
+        }
+        Err(ServerFault::UpdateFailed(cause)) => {
+            let response = to_fault(alloc, &RouteFault::UpdateFailed(cause))?;
+            Ok(response)
+        }
+        Err(ServerFault::Memory) => Err(FarmFault::Memory),
+    }
+}
+
+/// Ends a run, by what the scheduler answered to Complete.
+fn end_complete(
+    alloc: Global,
+    addr: Addr,
+    back: &Back<'_>,
+    job: JobId,
+    done: RunDone,
+) -> Result<Effect, FarmFault>
+    ensures made { IfOk result (λ x. (r : Result Accepted Cause) × IsUpdated (option_copied back.now.reply) r
+        × (x ≡ complete_end addr back.now.root back.now.json job done r)) }
+    ensures err { IfErr result (λ e. e ≡ fault.Memory) }
+{
+    let told = match updated(alloc, back.reply) {
+        Ok(told) => told,
+        Err(_) => {
+            let _ = done.end_run(Err(CallFault::Lost));
+            return Err(FarmFault::Memory);
+        }
+    };
+    match told {
+        Err(cause) => {
+            let _ = done.end_run(Err(CallFault::Lost));
+            let effect = unreported(alloc, addr, back.root, job, cause)?;
+            Ok(effect)
+        }
+        Ok(accepted) => {
+            let ended = done.end_run(Ok(accepted));
+            let response = ended_response(alloc, back.json, ended)?;
+            let reply = reply(alloc, back.root, &response)?;
+            Ok(Effect::of_step_reply(addr, StepKind::Finished { job }, reply))
+        }
+    }
+}
+
+fn heard_as(told: Result<HeartbeatServerResult, CallFault>) -> HeardAs
+    ensures { result ≡ heard_as told }
+{
+    match told {
+        Ok(answer) => {
+            if answer.is_new {
+                HeardAs::New
+            } else {
+                HeardAs::Old
+            }
+        }
+        Err(_) => HeardAs::Lost,
+    }
+}
+
+/// Ends a heartbeat.
+fn end_beat(alloc: Global, addr: Addr, reply: Option<&[u8]>) -> Result<Effect, FarmFault>
+    ensures made { IfOk result (λ x. (r : Result Heard Cause) × IsHeard (option_copied reply.entry) r × (x ≡ step_effect addr (StepKind.Heard (heard_as r)))) }
+    ensures err { IfErr result (λ e. e ≡ fault.Memory) }
+{
+    let told = heard(alloc, reply)?;
+    Ok(Effect::of_step(addr, StepKind::Heard(heard_as(told))))
+}
+
+/// Goes on with a call of a build server by its reply.
+pub fn go_on(
+    desk: &Desk,
+    server: &SetupServer,
+    station: &mut Station,
+    back: &Back<'_>,
+    told: Told,
+) -> Result<Made, FarmFault>
+    requires plain { IsPlain desk.now.setup.scheduler.auth }
+    requires well { IsWell server.now station.old }
+    ensures made { IfOk result (λ m. Reports desk.now.setup (now_of server.now station.old) back.now.brought.now back.now.root back.now.json (option_copied back.now.reply) told m.effect) }
+    ensures kept { IfOk result (λ m. Keeps (λ p. completion_at back.now.root back.now.json server.now.addr station.old.life m.effect.step ≡ Some p) m.effect m.pending) }
+    ensures after { IfOk result (λ m. now_of server.now station.new ≡ stepped m.effect.step (now_of server.now station.old)) }
+    ensures still_well { OnOk result (IsWell server.now station.new) }
+    ensures err { IfErr result (λ e. e ≡ fault.Memory) }
+{
+    match told {
+        Told::Ready { job, archive } => {
+            let effect = end_ready(desk.alloc, server, station, back, job, archive)?;
+            Ok(Made::whole(effect))
+        }
+        Told::Started { job, run, inputs } => {
+            let made = end_started(desk, server, station, back, job, run, inputs)?;
+            Ok(made)
+        }
+        Told::Complete { job, done } => {
+            let effect = end_complete(desk.alloc, server.addr, back, job, done)?;
+            Ok(Made::whole(effect))
+        }
+        Told::Heartbeat => {
+            let effect = end_beat(desk.alloc, server.addr, back.reply)?;
+            Ok(Made::whole(effect))
+        }
+    }
+}
