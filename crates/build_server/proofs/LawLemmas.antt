@@ -1,5 +1,5 @@
 -- What a running server's answers say of its rows.
-use Rattle.std.proofs.Common.{◌≡◌, ◌≢◌, ◌⊎◌, inl, inr, ℕ, List, [], ◌∷◌, ◌++◌, Option, Some, None, Result, Ok, Err, refl, sym, ◌∙◌, ap, subst, append_assoc}
+use Rattle.std.proofs.Common.{◌≡◌, inl, inr, ℕ, List, [], ◌∷◌, ◌++◌, Option, Some, None, Result, Ok, Err, refl, sym, ◌∙◌, ap, subst, append_assoc}
 use Rattle.std.specs.Option.{option_map}
 use Rattle.sha2.specs.Sha256.{sha256}
 use Rattle.dist_types.specs.Builder.{built_row}
@@ -21,9 +21,9 @@ use Rattle.dist_types.specs.declared.results.UpdateJobStateResult.{UpdateJobStat
 use Rattle.dist_types.specs.declared.source.ReadError.{ReadError}
 use Rattle.dist_types.specs.declared.source.ReadError.TheVariants as read
 use Rattle.build_server.specs.Books.{Books}
-use Rattle.build_server.specs.Builds.{Order, Builder, IsBuilt, BuildsIn, Builds, outcome_of, run_answer, ended}
-use Rattle.build_server.specs.Laws.{HasBuilt, MayHaveBuilt, AnswersBuild, RecordedAll, ReportedBoth, AnswersReports, RunIsTold, RunsAreTold, AnswersReady, SubmissionsAreTold}
-use Rattle.build_server.specs.Rows.{Reports, Reading, IsReported, Unread, Ends, Fetches, Submitting, IsSubmitOn, submit_answer, Finishes, Follows, Works, Proceeds, Runs, Running, IsRunOn}
+use Rattle.build_server.specs.Builds.{Order, Builder, IsBuilt, Builds, outcome_of, run_answer, ended}
+use Rattle.build_server.specs.Laws.{MayHaveBuilt, AnswersBuild, RecordedAll, ReportedBoth, AnswersReports, RunsAreTold, AnswersReady, SubmissionsAreTold}
+use Rattle.build_server.specs.Rows.{Reports, Reading, IsReported, Unread, Fetches, Submitting, submit_answer, Follows, Proceeds, Running}
 use Rattle.build_server.specs.Rules.{Update, fault_of, TellsUpdate}
 use Rattle.build_server.specs.declared.fault.ServerFault.{ServerFault}
 use Rattle.build_server.specs.declared.fault.ServerFault.TheVariants as fault
@@ -65,11 +65,11 @@ told_of : (tc archive : List ℕ) (order : Order) (heard : Result BuildResult Bu
 told_of tc archive order (Ok x) old new out b e =
     let f : out ≡ outcome.Built tc x = cc in
     subst (λ o. AnswersBuild order old new (run_answer o)) (sym f)
-        (x, refl, record { toolchain = tc; digest = sha256 archive; row = b.row (λ e. cc) })
+    (x, refl, record { toolchain = tc; digest = sha256 archive; row = b.row (λ e. cc) })
 told_of tc archive order (Err build.Refused) old new out b e =
     let f : out ≡ outcome.Refused tc = cc in
     subst (λ o. AnswersBuild order old new (run_answer o)) (sym f)
-        (record { toolchain = tc; digest = sha256 archive; row = b.row (λ e. cc) }, b.cause refl)
+    (record { toolchain = tc; digest = sha256 archive; row = b.row (λ e. cc) }, b.cause refl)
 told_of tc archive order (Err build.Memory) old new out b e = cc
 
 told_built : (taken : Taken) (order : Order) (old new : Builder) (out : Outcome)
@@ -102,7 +102,7 @@ works_built : (says : Peer → Updated → Asked → Type 0) (job : JobId) (take
     (old new : Reports) (builder built : Builder) (went : Result Outcome (Taken × want.Memory))
     (answer : Result RunJobResult ServerFault)
     → Builds taken order builder built went → Follows says job went old new answer
-        → AnswersBuild order builder built answer
+    → AnswersBuild order builder built answer
 works_built says job taken order old new builder built (Ok out) answer b f =
     subst (AnswersBuild order builder built) (sym f.gives)
     (ended_built f.complete taken order builder built out b)
@@ -113,7 +113,7 @@ proceeds_built : (says : Peer → Updated → Asked → Type 0) (job : JobId) (o
     (started : UpdateJobStateResult) (begun : Result Taken ServerFault) (old new : Reports)
     (builder built : Builder) (answer : Result RunJobResult ServerFault)
     → TellsUpdate (Ok started) begun → Proceeds says job order begun old new builder built answer
-        → AnswersBuild order builder built answer
+    → AnswersBuild order builder built answer
 proceeds_built says job order started (Ok taken) old new builder built answer t p =
     works_built says job taken order old new builder built p.went answer p.builds p.follows
 proceeds_built says job order started (Err e) old new builder built answer t p =
@@ -123,12 +123,12 @@ running_built : (says : Peer → Updated → Asked → Type 0) (job : JobId) (or
     (kept turned : Option Books) (old new : Reports) (builder built : Builder)
     (answer : Result RunJobResult ServerFault)
     → Running says job order started kept turned old new builder built answer
-        → AnswersBuild order builder built answer
+    → AnswersBuild order builder built answer
 running_built says job order (Ok x) kept turned old new builder built answer r =
     proceeds_built says job order x r.begun old new builder built answer r.tells r.proceeds
 running_built says job order (Err e) kept turned old new builder built answer r =
     subst (AnswersBuild order builder built) (sym r.0)
-        (hidden e order builder built (inl (ap (λ x. x.rows) r.3)))
+    (hidden e order builder built (inl (ap (λ x. x.rows) r.3)))
 
 -- the reports
 
@@ -158,7 +158,7 @@ row_or_none says job state (Err call.Memory) old new r = r.memory refl
 ended_reports : (says : Peer → Updated → Asked → Type 0) (job : JobId) (x : UpdateJobStateResult)
     (complete : Update) (out : Outcome) (old mid new : Reports)
     → Recorded (updated_row job.0 Started (Ok x)) old.rows mid.rows
-        → IsReported says job Complete complete mid new → AnswersReports job old new (ended out complete)
+    → IsReported says job Complete complete mid new → AnswersReports job old new (ended out complete)
 ended_reports says job x (Ok y) out old mid new r s = by out
   where
     both : ReportedBoth job (Ok y) old new
@@ -195,7 +195,7 @@ works_reports : (says : Peer → Updated → Asked → Type 0) (job : JobId) (x 
     (went : Result Outcome (Taken × want.Memory)) (old mid new : Reports)
     (answer : Result RunJobResult ServerFault)
     → Recorded (updated_row job.0 Started (Ok x)) old.rows mid.rows → Follows says job went mid new answer
-        → AnswersReports job old new answer
+    → AnswersReports job old new answer
 works_reports says job x (Ok out) old mid new answer r f =
     subst (AnswersReports job old new) (sym f.gives)
     (ended_reports says job x f.complete out old mid new r f.reported)
@@ -206,7 +206,7 @@ proceeds_reports : (says : Peer → Updated → Asked → Type 0) (job : JobId) 
     (x : UpdateJobStateResult) (begun : Result Taken ServerFault) (old mid new : Reports)
     (builder built : Builder) (answer : Result RunJobResult ServerFault)
     → TellsUpdate (Ok x) begun → Recorded (updated_row job.0 Started (Ok x)) old.rows mid.rows
-        → Proceeds says job order begun mid new builder built answer → AnswersReports job old new answer
+    → Proceeds says job order begun mid new builder built answer → AnswersReports job old new answer
 proceeds_reports says job order x (Ok taken) old mid new builder built answer t r p =
     works_reports says job x p.went old mid new answer r p.follows
 proceeds_reports says job order x (Err e) old mid new builder built answer t r p =
@@ -231,8 +231,8 @@ running_reports : (says : Peer → Updated → Asked → Type 0) (job : JobId) (
     (kept turned : Option Books) (old mid new : Reports) (builder built : Builder)
     (answer : Result RunJobResult ServerFault)
     → IsReported says job Started started old mid
-        → Running says job order started kept turned mid new builder built answer
-        → AnswersReports job old new answer
+    → Running says job order started kept turned mid new builder built answer
+    → AnswersReports job old new answer
 running_reports says job order (Ok x) kept turned old mid new builder built answer r w =
     proceeds_reports says job order x w.begun old mid new builder built answer w.tells
     (row_of says job Started x old mid r) w.proceeds
@@ -252,7 +252,7 @@ unread_ready : (says : Peer → Updated → Asked → Type 0) (job : JobId) (x :
     (e : ReadError) (before after : Reports) (old new : Reading)
     (answer : Result SubmitToolchainResult ServerFault)
     → Recorded (updated_row job.0 Ready (Ok x)) before.rows after.rows → Unread e old new answer
-        → AnswersReady job before after answer
+    → AnswersReady job before after answer
 unread_ready says job x read.Failed before after old new answer r u =
     subst (AnswersReady job before after) (sym u.1) (x, r)
 unread_ready says job x read.TooLong before after old new answer r u =
@@ -272,7 +272,7 @@ fetches_ready : (says : Peer → Updated → Asked → Type 0) (job : JobId) (x 
     (fetched : Result (List ℕ) ReadError) (kept turned : Option Books) (before after : Reports)
     (old new : Reading) (answer : Result SubmitToolchainResult ServerFault)
     → Recorded (updated_row job.0 Ready (Ok x)) before.rows after.rows
-        → Fetches job (Ok x) fetched kept turned old new answer → AnswersReady job before after answer
+    → Fetches job (Ok x) fetched kept turned old new answer → AnswersReady job before after answer
 fetches_ready says job x (Ok bytes) kept turned before after old new answer r f =
     subst (AnswersReady job before after) (sym f.1.gives)
     (ends_ready job x f.1.ended before after f.1.tells r)
@@ -297,7 +297,7 @@ submitting_ready : (says : Peer → Updated → Asked → Type 0) (job : JobId) 
     (kept turned : Option Books) (before after : Reports) (old new : Reading)
     (answer : Result SubmitToolchainResult ServerFault)
     → IsReported says job Ready ready before after → Submitting job ready kept turned old new answer
-        → AnswersReady job before after answer
+    → AnswersReady job before after answer
 submitting_ready says job (Ok x) kept turned before after old new answer r s =
     fetches_ready says job x s.0 kept turned before after old new answer
     (row_of says job Ready x before after r) s.1

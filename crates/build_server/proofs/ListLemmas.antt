@@ -1,13 +1,12 @@
 -- Archives that go from the front.
-use Rattle.std.proofs.Common.{◌≡◌, ℕ, ◌+◌, ◌-◌, ◌<◌, ◌≤◌, Bool, true, false, cond, List, [], ◌∷◌, ◌++◌, length, take, Option, Some, None, IsSome, refl, sym, ◌∙◌, ap, subst, arith, length-append}
-use Rattle.std.specs.Prelude.{nat_le, not, filter, is_some, ◌||◌, map}
+use Rattle.std.proofs.Common.{◌≡◌, ℕ, ◌-◌, ◌≤◌, Bool, true, false, cond, List, [], ◌∷◌, ◌++◌, length, take, Some, refl, sym, ◌∙◌, ap, arith, length-append}
+use Rattle.std.specs.Prelude.{nat_le, not, is_some, ◌||◌}
 use Rattle.std.specs.List.{AllByRecursion, IsDistinct, list_any}
 use Rattle.std.specs.Map.{keys_of, lookup, remove_entry}
 use Rattle.std.specs.Str.{bytes_eq}
 use Rattle.std.proofs.Math.Seq.{take-append_seam}
 use Rattle.std.proofs.lemmas.List.{length-map}
 use Rattle.std.proofs.lemmas.Bool.{true≢false}
-use Rattle.std.proofs.lemmas.Bool.Decides.{nat_tests}
 use Rattle.std.proofs.lemmas.Slice.Eq.{bytes_eq-Decides}
 use Rattle.disk_cache.specs.Archives.{Archives}
 use Rattle.disk_cache.specs.Disk.{dropped, without_key}
@@ -53,7 +52,7 @@ other_ids x gone (a ∷ xs) h = by (bytes_eq a.0 x) (list_any (bytes_eq a.0) gon
 
     by : (this other : Bool) → this ≡ false → without_ids (x ∷ gone) xs ≡ without_ids gone xs
         → cond (not (this || other)) (a ∷ without_ids (x ∷ gone) xs) (without_ids (x ∷ gone) xs)
-            ≡ cond (not other) (a ∷ without_ids gone xs) (without_ids gone xs)
+        ≡ cond (not other) (a ∷ without_ids gone xs) (without_ids gone xs)
     by true other e rest = absurd (true≢false e)
     by false true e rest = rest
     by false false e rest = ap (λ l. a ∷ l) rest
@@ -69,8 +68,8 @@ gone_out [] rest h = none rest
     none (a ∷ xs) = ap (λ l. a ∷ l) (none xs)
 gone_out (a ∷ gone) rest h =
     ap (λ b. cond (not (b || list_any (bytes_eq a.0) (ids gone)))
-        (a ∷ without_ids (a.0 ∷ ids gone) (gone ++ rest)) (without_ids (a.0 ∷ ids gone) (gone ++ rest)))
-        ((bytes_eq-Decides a.0 a.0).1 refl)
+    (a ∷ without_ids (a.0 ∷ ids gone) (gone ++ rest)) (without_ids (a.0 ∷ ids gone) (gone ++ rest)))
+    ((bytes_eq-Decides a.0 a.0).1 refl)
     ∙ (other_ids a.0 (ids gone) (gone ++ rest) h.0 ∙ gone_out gone rest h.1)
 
 pub none_gone : (xs : Archives) → without_ids [] xs ≡ xs
@@ -78,8 +77,12 @@ none_gone [] = refl
 none_gone (a ∷ xs) = ap (λ l. a ∷ l) (none_gone xs)
 
 trim_short : (limit : ℕ) (xs : Archives) → length (trim limit xs) ≤ length xs
-trim_short limit xs = omega (arith, ap length (dropped-trim limit xs), length-append (dropped limit xs)
-    (trim limit xs))
+trim_short limit xs = omega (
+  arith,
+  ap length (dropped-trim limit xs),
+  length-append (dropped limit xs)
+      (trim limit xs),
+)
 
 -- Some that went from the front, none more than had to go, are a front of those that go.
 pub front_of_dropped : (limit : ℕ) (gone rest : Archives) → trim limit rest ≡ trim limit (gone ++ rest)
@@ -90,7 +93,7 @@ front_of_dropped limit (a ∷ gone) rest h = by (nat_le (total (a ∷ (gone ++ r
   where
     by : (b : Bool) → trim limit rest ≡ cond b (a ∷ (gone ++ rest)) (trim limit (gone ++ rest))
         → (trim limit rest ≡ trim limit (gone ++ rest)
-            → (more : Archives) × (dropped limit (gone ++ rest) ≡ gone ++ more))
+        → (more : Archives) × (dropped limit (gone ++ rest) ≡ gone ++ more))
         → (more : Archives) × (cond b [] (a ∷ dropped limit (gone ++ rest)) ≡ a ∷ (gone ++ more))
     by true h later = absurd (omega (arith, ap length h, trim_short limit rest, length-append gone rest))
     by false h later = let f = later h in (f.0, ap (λ l. a ∷ l) f.1)

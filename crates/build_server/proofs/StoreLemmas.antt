@@ -1,12 +1,12 @@
 -- What a store comes to, put together from the cache's own clauses.
-use Rattle.std.proofs.Common.{◌≡◌, ◌⊎◌, inl, inr, ℕ, ◌+◌, ◌-◌, ◌≤◌, Bool, true, false, cond, List, [], ◌∷◌, ◌++◌, length, take, Option, Some, None, Result, Ok, Err, refl, sym, ◌∙◌, ap, subst, arith, length-append}
+use Rattle.std.proofs.Common.{◌≡◌, inl, inr, ℕ, ◌-◌, ◌≤◌, Bool, true, false, cond, List, [], ◌∷◌, ◌++◌, length, take, Ok, Err, refl, sym, ◌∙◌, ap, subst, arith, length-append}
 use Rattle.std.specs.Prelude.{nat_lt, not}
 use Rattle.std.specs.List.{IsDistinct}
 use Rattle.std.specs.Map.{keys_of}
 use Rattle.std.specs.Str.{bytes_eq}
 use Rattle.disk_cache.specs.Archives.{Archives, id_of}
 use Rattle.disk_cache.specs.Archiving.{archive_verdict, with_archive, StoreFails}
-use Rattle.disk_cache.specs.Disk.{Left, dropped, without_key}
+use Rattle.disk_cache.specs.Disk.{Left, dropped}
 use Rattle.disk_cache.specs.Entries.{trim}
 use Rattle.disk_cache.specs.Held.{Held}
 use Rattle.disk_cache.specs.Store.{IoCause}
@@ -32,7 +32,7 @@ by_tests false big x e = cc
 pub admitted : (capacity : ℕ) (archives : Archives) (tc bytes : List ℕ)
     → archive_verdict capacity tc bytes ≡ Ok (tt {0})
     → store_verdict capacity archives tc bytes
-        ≡ Stored (length bytes) (ids (dropped (capacity - length bytes) archives))
+    ≡ Stored (length bytes) (ids (dropped (capacity - length bytes) archives))
 admitted capacity archives tc bytes e = by_tests (bytes_eq (id_of bytes) tc)
     (nat_lt capacity (length bytes)) _ e
 
@@ -63,7 +63,7 @@ went_off limit gone rest n distinct trimmed e =
     let f = front_of_dropped limit gone rest trimmed in
     let all : ids (dropped limit (gone ++ rest)) ≡ ids gone ++ ids f.0 = ap ids f.1 ∙ ids-append gone f.0 in
     let taken : take n (ids (dropped limit (gone ++ rest))) ≡ ids gone =
-        ap (λ l. take n l) all ∙ take_front n gone rest (ids f.0) e in
+    ap (λ l. take n l) all ∙ take_front n gone rest (ids f.0) e in
     record {
       front = (ids f.0, all ∙ ap (λ l. l ++ ids f.0) (sym taken));
       rest = sym (ap (λ l. without_ids l (gone ++ rest)) taken ∙ gone_out gone rest distinct);
@@ -76,7 +76,7 @@ went_off limit gone rest n distinct trimmed e =
 went_none : (limit : ℕ) (old : Archives) (n : ℕ) → n ≡ 0 → Went limit old old n
 went_none limit old n e =
     subst (λ k. Went limit old old k) (sym e) (record
-        { front = (ids (dropped limit old), refl); rest = sym (none_gone old); short = omega arith })
+    { front = (ids (dropped limit old), refl); rest = sym (none_gone old); short = omega arith })
 
 went : (tc : List ℕ) (limit : ℕ) (old new : Archives) (n : ℕ) → is_listed tc old ≡ false
     → IsDistinct bytes_eq (keys_of old) → n ≡ length old - length new → Left tc limit old new
@@ -87,8 +87,8 @@ went tc limit old new n unlisted distinct e (inr left) =
     let all : old ≡ left.0.0 ++ new = sym (without_unlisted tc old unlisted) ∙ left.0.1 in
     subst (λ l. Went limit l new n) (sym all)
     (went_off limit left.0.0 new n (subst (λ l. IsDistinct bytes_eq (keys_of l)) all distinct)
-        (left.1 ∙ (ap (λ l. trim limit l) (without_unlisted tc old unlisted) ∙ ap (λ l. trim limit l) all))
-        (e ∙ ap (λ l. length l - length new) all))
+    (left.1 ∙ (ap (λ l. trim limit l) (without_unlisted tc old unlisted) ∙ ap (λ l. trim limit l) all))
+    (e ∙ ap (λ l. length l - length new) all))
 
 fails_of : (e : FolderFault) (before after : Held) → IoCause e before after → Fails before after
 fails_of folder.Failed before after h = inl h
@@ -99,22 +99,40 @@ fails_of folder.Memory before after h = absurd h
 pub store_refused : (e : Error) (capacity : ℕ) (tc bytes : List ℕ) (gone : List (List ℕ)) (n : ℕ)
     (old new : Archives) (before after : Held)
     → gone ≡ ids (dropped (capacity - length bytes) old) → n ≡ length old - length new
-        → is_listed tc old ≡ false → IsDistinct bytes_eq (keys_of old)
+    → is_listed tc old ≡ false → IsDistinct bytes_eq (keys_of old)
     → StoreFails capacity tc bytes e old new before after
-        → Stores capacity tc bytes (refusal e (take n gone)) old new before after
+    → Stores capacity tc bytes (refusal e (take n gone)) old new before after
 store_refused error.WrongDigest capacity tc bytes gone n old new before after g e unlisted distinct h =
-    record { comes = (sym (wrong_by (bytes_eq (id_of bytes) tc) (nat_lt capacity (length bytes)) _ h.2), ap
-        (λ w. w.faults) h.1); archives = h.0 }
+    record {
+      comes = (
+        sym (wrong_by (bytes_eq (id_of bytes) tc) (nat_lt capacity (length bytes)) _ h.2),
+        ap
+            (λ w. w.faults) h.1,
+      );
+      archives = h.0;
+    }
 store_refused error.FileTooLarge capacity tc bytes gone n old new before after g e unlisted distinct h =
-    record { comes = (sym (large_by (bytes_eq (id_of bytes) tc) (nat_lt capacity (length bytes)) _ h.2), ap
-        (λ w. w.faults) h.1); archives = h.0 }
+    record {
+      comes = (
+        sym (large_by (bytes_eq (id_of bytes) tc) (nat_lt capacity (length bytes)) _ h.2),
+        ap
+            (λ w. w.faults) h.1,
+      );
+      archives = h.0;
+    }
 store_refused (error.Io fault) capacity tc bytes gone n old new before after g e unlisted distinct h =
     let w = went tc (capacity - length bytes) old new n unlisted distinct e h.0 in
     subst (λ l. Stores capacity tc bytes (Ok (Folder (take n l))) old new before after) (sym g)
-    (record { comes = (subst (λ v. IsFrontOfDropped v
-        (take n (ids (dropped (capacity - length bytes) old))))
-        (sym (admitted capacity old tc bytes h.2)) w.front, fails_of fault before after h.1); archives =
-        w.rest })
+    (record {
+      comes = (
+        subst (λ v. IsFrontOfDropped v
+            (take n (ids (dropped (capacity - length bytes) old))))
+            (sym (admitted capacity old tc bytes h.2)) w.front,
+        fails_of fault before after h.1,
+      );
+      archives =
+          w.rest;
+    })
 store_refused error.Memory capacity tc bytes gone n old new before after g e unlisted distinct h =
     let w = went tc (capacity - length bytes) old new n unlisted distinct e h in
     inr (take n (ids (dropped (capacity - length bytes) old)), w.front, w.rest)
@@ -150,16 +168,16 @@ trimmed : (limit : ℕ) (old : Archives) → IsDistinct bytes_eq (keys_of old)
     → trim limit old ≡ without_ids (ids (dropped limit old)) old
 trimmed limit old distinct =
     sym (gone_out (dropped limit old) (trim limit old)
-        (subst (λ l. IsDistinct bytes_eq (keys_of l)) (sym (dropped-trim limit old)) distinct))
+    (subst (λ l. IsDistinct bytes_eq (keys_of l)) (sym (dropped-trim limit old)) distinct))
     ∙ ap (λ l. without_ids (ids (dropped limit old)) l) (dropped-trim limit old)
 
 -- a store that was made
 pub store_made : (capacity : ℕ) (tc bytes : List ℕ) (gone : List (List ℕ)) (old new : Archives)
     (before after : Held)
     → gone ≡ ids (dropped (capacity - length bytes) old) → is_listed tc old ≡ false
-        → IsDistinct bytes_eq (keys_of old)
+    → IsDistinct bytes_eq (keys_of old)
     → new ≡ with_archive capacity tc (length bytes) old → archive_verdict capacity tc bytes ≡ Ok (tt {0})
-        → after.faults ≡ before.faults
+    → after.faults ≡ before.faults
     → IsStored capacity tc bytes (Stored (length bytes) gone) old new before after
 store_made capacity tc bytes gone old new before after g unlisted distinct made verdict steady = record {
   comes = (ap (λ l. Stored (length bytes) l) g ∙ sym (admitted capacity old tc bytes verdict), steady);
@@ -167,5 +185,5 @@ store_made capacity tc bytes gone old new before after g unlisted distinct made 
       made
       ∙ ap (λ l. l ++ (tc, length bytes) ∷ [])
       (ap (λ l. trim (capacity - length bytes) l) (without_unlisted tc old unlisted)
-          ∙ (trimmed (capacity - length bytes) old distinct ∙ ap (λ l. without_ids l old) (sym g)));
+      ∙ (trimmed (capacity - length bytes) old distinct ∙ ap (λ l. without_ids l old) (sym g)));
 }

@@ -1,9 +1,9 @@
 -- The table of held jobs, as a map in the order of the jobs.
-use Rattle.std.proofs.Common.{◌≡◌, ℕ, ◌<◌, Bool, true, false, cond, eqb, List, [], ◌∷◌, Option, Some, None, refl, sym, ◌∙◌, ap, arith}
+use Rattle.std.proofs.Common.{◌≡◌, ℕ, ◌<◌, Bool, true, false, cond, List, [], ◌∷◌, Option, Some, None, refl, sym, ◌∙◌, ap, arith}
 use Rattle.std.specs.Prelude.{nat_lt, ◌==◌, not, filter}
 use Rattle.std.specs.List.{AllByRecursion}
 use Rattle.std.specs.List.Sorted.{IsStrictlySortedBy}
-use Rattle.std.specs.Map.{keys_of, lookup, remove_entry}
+use Rattle.std.specs.Map.{keys_of, remove_entry}
 use Rattle.std.specs.Ordering.{nat_cmp, is_eq, match_ordering}
 use Rattle.std.specs.BTreeMap.{insert_entry, is_at}
 use Rattle.std.specs.declared.cmp.Ordering.{Ordering}
@@ -35,10 +35,10 @@ module _ (cmp : JobId → JobId → Ordering) (is : (a b : JobId) → cmp a b �
   inserted [] job tc free = refl
   inserted (e ∷ es) job tc free =
       ap (λ o. match_ordering o ((job, tc) ∷ e ∷ es) ((e.0, tc) ∷ es) (e ∷ insert_entry cmp es job tc))
-          (is job e.0)
+      (is job e.0)
       ∙ by_tests (nat_lt job.0 e.0.0) (job.0 == e.0.0) _ _ _ (passed _ _ _ free)
       ∙ ap (λ rest. cond (nat_lt job.0 e.0.0) ((job, tc) ∷ e ∷ es) (e ∷ rest))
-          (inserted es job tc (rest_of _ _ _ free))
+      (inserted es job tc (rest_of _ _ _ free))
 
   -- a job is found by its number
   pub at_job : (job other : JobId) → is_at (cmp job) other ≡ is_job job other
@@ -80,12 +80,12 @@ module _ (cmp : JobId → JobId → Ordering) (is : (a b : JobId) → cmp a b �
   none_above job n (h ∷ hs) e a =
       let f : (job.0 == h.0.0) ≡ false = grind (arith, nat_tests, a.0) in
       ap (λ b. cond (not b) (h ∷ filter (λ h. not (is_job job h.0)) hs)
-          (filter (λ h. not (is_job job h.0)) hs)) f ∙ ap (λ rest. h ∷ rest) (none_above job n hs e a.1)
+      (filter (λ h. not (is_job job h.0)) hs)) f ∙ ap (λ rest. h ∷ rest) (none_above job n hs e a.1)
 
   removed_by : (b : Bool) (job : JobId) (e : JobId × List ℕ) (es : Table) → (job.0 == e.0.0) ≡ b
       → AllByRecursion (λ h. e.0.0 < h.0.0) es → remove_entry (is_at (cmp job)) es ≡ without_job job es
       → cond b es (e ∷ remove_entry (is_at (cmp job)) es)
-          ≡ cond (not b) (e ∷ without_job job es) (without_job job es)
+      ≡ cond (not b) (e ∷ without_job job es) (without_job job es)
   removed_by true job e es t a rest = sym (none_above job e.0.0 es (grind (arith, nat_tests)) a)
   removed_by false job e es t a rest = ap (λ r. e ∷ r) rest
 

@@ -1,7 +1,7 @@
 -- What follows for a reader from what a running server's calls leave.
 use Rattle.std.specs.Prelude.{◌≡◌, ◌⊎◌, ◌++◌, [], ◌∷◌, ℕ, List, Option, Result, Ok, Err}
 use Rattle.std.specs.Option.{option_map}
-use Rattle.dist_types.specs.Builder.{Built, built_row}
+use Rattle.dist_types.specs.Builder.{built_row}
 use Rattle.dist_types.specs.Cause.{Rose}
 use Rattle.dist_types.specs.Content.{Recorded}
 use Rattle.dist_types.specs.Outgoing.{Updated, Peer, updated_row}
@@ -58,7 +58,7 @@ RecordedAll more old new = new ≡ option_map (λ rows. rows ++ more) old
 abbrev pub ReportedBoth : JobId → Update → Reports → Reports → Type 0
 ReportedBoth job complete old new = (started : UpdateJobStateResult)
     × RecordedAll (updated_row job.0 Started (Ok started) ∷ updated_row job.0 Complete complete ∷ [])
-        old.rows new.rows
+    old.rows new.rows
 
 -- What a run's answer says of its reports: where it is told how the run went, Started and Complete were
 -- accepted; where an update was not accepted, it is the one that is told, and the last. Of want of memory
@@ -72,8 +72,8 @@ AnswersReports job old new (Err (fault.UpdateFailed e)) =
     ⊎ ReportedBoth job (Err e) old new
 AnswersReports job old new (Err fault.Memory) =
     (new.rows ≡ old.rows) ⊎ ((started : Update)
-        × RecordedAll (updated_row job.0 Started started ∷ []) old.rows new.rows)
-        ⊎ ((complete : Update) × ReportedBoth job complete old new)
+    × RecordedAll (updated_row job.0 Started started ∷ []) old.rows new.rows)
+    ⊎ ((complete : Update) × ReportedBoth job complete old new)
 AnswersReports job old new (Err (fault.AlreadyAssigned j)) = ⊥
 
 -- a run's answer is what its rows say
@@ -86,7 +86,7 @@ abbrev pub RunsAreTold : (Peer → Updated → Asked → Type 0) → Type 0
 RunsAreTold says = (job : JobId) (order : Order) (kept turned : Option Books) (before after : Reports)
     (builder built : Builder) (answer : Result RunJobResult ServerFault)
     → IsRunOn says job order kept turned before after builder built answer
-        → RunIsTold job order before after builder built answer
+    → RunIsTold job order before after builder built answer
 
 -- What a submission's answer says of its report: UpdateFailed exactly where the one Ready row was not
 -- accepted.

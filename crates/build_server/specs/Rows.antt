@@ -1,13 +1,12 @@
 -- What the calls of a running server leave of the keeper, the requester, the builder and the reader that
 -- they were given.
-use Rattle.std.specs.Prelude.{◌≡◌, ◌≢◌, ◌≤◌, ◌<◌, ℕ, List, length, Option, Some, None, IfSome, Result, Ok, Err, OnOk}
+use Rattle.std.specs.Prelude.{◌≡◌, ◌≢◌, ◌≤◌, ◌<◌, ℕ, List, length, Option, IfSome, Result, Ok, Err, OnOk}
 use Rattle.dist_types.specs.Cause.{Rose}
 use Rattle.dist_types.specs.Content.{Recorded, KeptOrRecorded, IsAtEnd}
 use Rattle.dist_types.specs.Content as content
 use Rattle.dist_types.specs.Outgoing.{Updated, Lent, Peer, Calls, updated_row}
 use Rattle.dist_types.specs.declared.dialer.Asked.{Asked}
 use Rattle.dist_types.specs.declared.ids.JobId.{JobId}
-use Rattle.dist_types.specs.declared.outgoing.CallFault.{CallFault}
 use Rattle.dist_types.specs.declared.outgoing.CallFault.TheVariants as call
 use Rattle.dist_types.specs.declared.results.JobState.{JobState}
 use Rattle.dist_types.specs.declared.results.JobState.TheVariants.{Ready, Started, Complete}
@@ -163,7 +162,7 @@ Running says job order (Err e) kept turned old new builder built answer =
 pub record IsRunOn (says : Peer → Updated → Asked → Type 0) (job : JobId) (order : Order)
     (kept turned : Option Books)
     (before after : Reports) (builder built : Builder)
-        (answer : Result RunJobResult ServerFault) : Type 0 where
+    (answer : Result RunJobResult ServerFault) : Type 0 where
   pub started : Update
   pub between : Reports
   pub reported : IsReported says job Started started before between

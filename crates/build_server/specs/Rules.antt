@@ -1,5 +1,5 @@
 -- The rules of a build server, over what it keeps.
-use Rattle.std.specs.Prelude.{◌≡◌, ◌≢◌, ◌≤◌, ◌⊎◌, ℕ, Bool, true, false, not, nat_lt, is_some, if◌then◌else◌, List, [], ◌∷◌, ◌++◌, ◌-◌, length, take, Option, Some, None, Result, Ok, Err, OnOk, OnErr}
+use Rattle.std.specs.Prelude.{◌≡◌, ◌≢◌, ◌≤◌, ◌⊎◌, ℕ, Bool, true, false, not, nat_lt, is_some, if◌then◌else◌, List, [], ◌∷◌, ◌++◌, ◌-◌, length, Option, Some, None, Result, Ok, Err, OnOk, OnErr}
 use Rattle.std.specs.Str.{bytes_eq}
 use Rattle.dist_types.specs.declared.ids.JobId.{JobId}
 use Rattle.dist_types.specs.declared.outgoing.CallFault.{CallFault}
@@ -13,7 +13,7 @@ use Rattle.disk_cache.specs.Archives.{Archives, id_of}
 use Rattle.disk_cache.specs.Disk.{dropped}
 use Rattle.disk_cache.specs.Entries.{promoted_key}
 use Rattle.disk_cache.specs.Held.{Held, Holds}
-use Rattle.build_server.specs.Books.{Books, Table, held_for, placed, without_job, is_listed, ids, without_ids, Fails, KeepsStep}
+use Rattle.build_server.specs.Books.{Books, held_for, placed, without_job, is_listed, ids, without_ids, Fails, KeepsStep}
 use Rattle.build_server.specs.declared.fault.ServerFault.{ServerFault}
 use Rattle.build_server.specs.declared.fault.ServerFault.TheVariants as fault
 use Rattle.build_server.specs.declared.submit.Submitted.{Submitted}
@@ -41,7 +41,7 @@ need_by false = record { state = Pending; need_toolchain = true }
 abbrev pub assign_verdict : Books → JobId → List ℕ → Result AssignJobResult ServerFault
 assign_verdict old job tc =
     if is_some (held_for job old.held) then Err (fault.AlreadyAssigned job) else Ok
-        (need_by (is_listed tc old.archives))
+    (need_by (is_listed tc old.archives))
 
 -- A job is assigned with a toolchain: it is held where the answer is Ok, and else nothing changes. Memory
 -- may come in place of any answer.
@@ -120,7 +120,7 @@ pub record SubmitStarved (job : JobId) (bytes : List ℕ) (old new : Books) : Ty
   pub held : new.held ≡ old.held
   pub archives : (new.archives ≡ old.archives)
       ⊎ ((gone : List (List ℕ)) × MayDrop old.capacity bytes old.archives gone
-          × (new.archives ≡ without_ids gone old.archives))
+      × (new.archives ≡ without_ids gone old.archives))
   pub place : SamePlace old new
 
 abbrev pub TakesIn : JobId → List ℕ → Books → Books → Result Submitted ServerFault → Type 0
@@ -154,7 +154,7 @@ Finds (Some held) old new (taken.Folder tc) = (tc ≡ held) × (is_listed held o
     × Fails old.folder new.folder
 Finds (Some held) old new (taken.Read tc archive) =
     (tc ≡ held) × (is_listed held old.archives ≡ true) × Holds old.folder (λ files. id_of archive ≡ held)
-        × (new.folder.faults ≡ old.folder.faults)
+    × (new.folder.faults ≡ old.folder.faults)
 Finds found old new other = ⊥
 
 -- the archives behind a look-up: a listed one is the most recent

@@ -54,6 +54,6 @@ Reads tc (Ok (taken.Folder t)) old new before after =
     (t ≡ tc) × (new ≡ promoted_key tc old) × Fails before after
 Reads tc (Ok (taken.Read t archive)) old new before after =
     (t ≡ tc) × (new ≡ promoted_key tc old) × Holds before (λ files. id_of archive ≡ tc)
-        × (after.faults ≡ before.faults)
+    × (after.faults ≡ before.faults)
 Reads tc (Ok other) old new before after = ⊥
 Reads tc (Err e) old new before after = (new ≡ old) ⊎ (new ≡ promoted_key tc old)
