@@ -41,10 +41,7 @@ pub fn read_reply<M: Message>(alloc: Global, bytes: &[u8]) -> Result<M, HttpErro
 
 /// What the reply to a call says: the message; or Status where its status is not 200, Unreadable where the bytes are no
 /// reply or no message begins its body. Refused for want of memory alone.
-pub fn answer<M: Message>(
-    alloc: Global,
-    reply: &[u8],
-) -> Result<Result<M, CallFault>, HttpError>
+pub fn answer<M: Message>(alloc: Global, reply: &[u8]) -> Result<Result<M, CallFault>, HttpError>
     ensures ok { IfOk result (IsAnswer M.at reply.now) }
     ensures err { IfErr result (λ e. e ≡ HttpError.Memory) }
 {

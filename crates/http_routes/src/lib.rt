@@ -18,7 +18,7 @@ pub mod calls;
 pub mod err_json;
 pub mod error;
 pub mod fault;
-
+pub mod laws;
 mod message;
 mod place;
 pub mod refusal;

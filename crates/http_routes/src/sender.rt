@@ -93,12 +93,16 @@ fn refused_job(e: TokenError) -> Unrouted
     ensures memory { e ≡ TokenError.Memory → result ≡ Unrouted.Memory }
 {
     match e {
-        TokenError::BadToken(part) => Unrouted::Refused(Refusal::JobRefused(TokenError::BadToken(part))),
+        TokenError::BadToken(part) => Unrouted::Refused(Refusal::JobRefused(TokenError::BadToken(
+            part,
+        ))),
         TokenError::BadMac => Unrouted::Refused(Refusal::JobRefused(TokenError::BadMac)),
         TokenError::MismatchedClaims => {
             Unrouted::Refused(Refusal::JobRefused(TokenError::MismatchedClaims))
         }
-        TokenError::FixedMismatch => Unrouted::Refused(Refusal::JobRefused(TokenError::FixedMismatch)),
+        TokenError::FixedMismatch => Unrouted::Refused(Refusal::JobRefused(
+            TokenError::FixedMismatch,
+        )),
         TokenError::ForwardRefused(code) => {
             Unrouted::Refused(Refusal::JobRefused(TokenError::ForwardRefused(code)))
         }

@@ -1,4 +1,3 @@
-
 use Rattle.http_routes.proofs.CallLemmas.{none_other}
 use Rattle.http_routes.proofs.calls.answer.Goals as goal
 

@@ -1,0 +1,4 @@
+pub mod JoinLemmas
+pub mod UrlLemmas
+pub mod ServerLemmas
+pub mod CallLemmas

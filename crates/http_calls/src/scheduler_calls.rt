@@ -1,0 +1,101 @@
+//! The requests that go to the scheduler at a base.
+ghost use Rattle.std.specs.Prelude.{◌≡◌, OnOk, IfOk, IfErr};
+ghost use Rattle.dist_wire.specs.Spelling.{SpellsToolchain, SpellsHeartbeat};
+ghost use Rattle.dist_wire.specs.Written as spelling;
+ghost use Rattle.http_head.specs.WrittenRequest.{request_text};
+ghost use Rattle.url.specs.Parts.{IsValid};
+ghost use Rattle.http_calls.specs.Calls.{RefusesBase, alloc_request, status_request, state_request, heartbeat_request};
+ghost use Rattle.http_calls.specs.Urls.{IsHttp};
+
+use crate::builder::{RequestBuilder, ReqwestRequestBuilderExt};
+use crate::error::CallError;
+use crate::urls::{
+    scheduler_alloc_job, scheduler_heartbeat_server, scheduler_job_state, scheduler_status,
+};
+use dist_types::ids::JobId;
+use dist_types::results::JobState;
+use dist_types::text::Bytes;
+use dist_types::toolchain::Toolchain;
+use dist_wire::heartbeat::HeartbeatServerHttpRequest;
+use std::alloc::Global;
+use url::Url;
+
+/// The bytes of a request for a job.
+#[tactic(auto, using(crate::proofs::UrlLemmas::target_at), unfolding(http_routes::specs::Written::alloc_with))]
+pub(crate) fn alloc_text(
+    alloc: Global,
+    base: &Url,
+    token: &str,
+    tc: &Toolchain,
+) -> Result<Bytes, CallError>
+    ensures text { IfOk result (λ bytes. bytes ≡ request_text (alloc_request base.now token.now tc.now)) }
+    ensures http { OnOk result (IsHttp base.now) }
+    ensures valid { IsValid base.now }
+    ensures spelled { OnOk result (SpellsToolchain tc.now (spelling.bytes_text tc.now)) }
+    ensures err { IfErr result (RefusesBase base.now) }
+{
+    let url = scheduler_alloc_job(base)?;
+    let builder = RequestBuilder::post(alloc, &url)?;
+    let builder = builder.bearer_auth(token)?;
+    let builder = builder.bincode(tc)?;
+    let bytes = builder.build()?;
+    Ok(Bytes::new(bytes))
+}
+
+/// The bytes of a request for the status.
+#[tactic(auto, using(crate::proofs::UrlLemmas::target_at), unfolding(http_routes::specs::Written::status_with))]
+pub(crate) fn status_text(alloc: Global, base: &Url) -> Result<Bytes, CallError>
+    ensures text { IfOk result (λ bytes. bytes ≡ request_text (status_request base.now)) }
+    ensures http { OnOk result (IsHttp base.now) }
+    ensures valid { IsValid base.now }
+    ensures err { IfErr result (RefusesBase base.now) }
+{
+    let url = scheduler_status(base)?;
+    let builder = RequestBuilder::get(alloc, &url)?;
+    let bytes = builder.build()?;
+    Ok(Bytes::new(bytes))
+}
+
+/// The bytes of the report of a job's state.
+#[tactic(auto, using(crate::proofs::UrlLemmas::target_at), unfolding(http_routes::specs::Written::state_with))]
+pub(crate) fn state_text(
+    alloc: Global,
+    base: &Url,
+    token: &str,
+    job: JobId,
+    state: JobState,
+) -> Result<Bytes, CallError>
+    ensures text { IfOk result (λ bytes. bytes ≡ request_text (state_request base.now token.now job state)) }
+    ensures http { OnOk result (IsHttp base.now) }
+    ensures valid { IsValid base.now }
+    ensures err { IfErr result (RefusesBase base.now) }
+{
+    let url = scheduler_job_state(alloc, base, job)?;
+    let builder = RequestBuilder::post(alloc, &url)?;
+    let builder = builder.bearer_auth(token)?;
+    let builder = builder.bincode(&state)?;
+    let bytes = builder.build()?;
+    Ok(Bytes::new(bytes))
+}
+
+/// The bytes of a heartbeat.
+#[tactic(auto, using(crate::proofs::UrlLemmas::target_at), unfolding(http_routes::specs::Written::heartbeat_with))]
+pub(crate) fn heartbeat_text(
+    alloc: Global,
+    base: &Url,
+    token: &str,
+    beat: &HeartbeatServerHttpRequest,
+) -> Result<Bytes, CallError>
+    ensures text { IfOk result (λ bytes. bytes ≡ request_text (heartbeat_request base.now token.now beat.now)) }
+    ensures http { OnOk result (IsHttp base.now) }
+    ensures valid { IsValid base.now }
+    ensures spelled { OnOk result (SpellsHeartbeat beat.now (spelling.heartbeat_text beat.now)) }
+    ensures err { IfErr result (RefusesBase base.now) }
+{
+    let url = scheduler_heartbeat_server(base)?;
+    let builder = RequestBuilder::post(alloc, &url)?;
+    let builder = builder.bearer_auth(token)?;
+    let builder = builder.bincode(beat)?;
+    let bytes = builder.build()?;
+    Ok(Bytes::new(bytes))
+}

@@ -1,0 +1,5 @@
+use Rattle.http_routes.proofs.RouteLemmas.{allocations_asked}
+use Rattle.http_routes.proofs.laws.allocations_asked.Goals as goal
+
+pub returns : goal.returns
+returns c = λ lets serves bytes peer tc json. allocations_asked lets serves bytes peer json tc
