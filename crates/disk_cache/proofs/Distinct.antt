@@ -1,5 +1,5 @@
 -- The paths of a folder's files differ, whatever its calls make of them.
-use Rattle.std.proofs.Common.{◌≡◌, ℕ, Bool, true, false, cond, not, List, [], ◌∷◌, ◌++◌, filter, refl, sym, ◌∙◌, subst, true≢false}
+use Rattle.std.proofs.Common.{◌≡◌, ℕ, Bool, true, false, cond, not, List, [], ◌∷◌, ◌++◌, filter, Result, Ok, Err, OnOk, OnErr, refl, sym, ◌∙◌, subst, true≢false}
 use Rattle.std.specs.List.{AllByRecursion, IsDistinct}
 use Rattle.std.specs.Map.{keys_of}
 use Rattle.std.specs.Str.{bytes_eq}
@@ -56,3 +56,20 @@ put_distinct path bytes old new is h =
 pub put_from_distinct : (from path bytes : List ℕ) (old new : Files) → new ≡ put path bytes (without from old) → IsDistinct bytes_eq (keys_of old) → IsDistinct bytes_eq (keys_of new)
 put_from_distinct from path bytes old new is h =
     put_distinct path bytes (without from old) new is (distinct_filtered (λ f. not (bytes_eq from f.0)) old h)
+
+-- whether that is done or not
+pub put_tried : {E : Type 0} (path bytes : List ℕ) (old new : Files) (result : Result (Unit {0}) E) → OnOk result (new ≡ put path bytes old) → OnErr result (new ≡ old) → IsDistinct bytes_eq (keys_of old) → IsDistinct bytes_eq (keys_of new)
+put_tried path bytes old new (Ok x) ok err h = put_distinct path bytes old new ok h
+put_tried path bytes old new (Err e) ok err h = subst (λ l. IsDistinct bytes_eq (keys_of l)) (sym err) h
+
+pub put_from_tried : {E : Type 0} (from path bytes : List ℕ) (old new : Files) (result : Result (Unit {0}) E) → OnOk result (new ≡ put path bytes (without from old)) → OnErr result (new ≡ old) → IsDistinct bytes_eq (keys_of old) → IsDistinct bytes_eq (keys_of new)
+put_from_tried from path bytes old new (Ok x) ok err h = put_from_distinct from path bytes old new ok h
+put_from_tried from path bytes old new (Err e) ok err h = subst (λ l. IsDistinct bytes_eq (keys_of l)) (sym err) h
+
+-- no file is none twice
+pub none_distinct : (files : Files) → files ≡ [] → IsDistinct bytes_eq (keys_of files)
+unfolding IsDistinct
+none_distinct files is =
+    let nothing : Files = [] in
+    let none : IsDistinct bytes_eq (keys_of nothing) = tt in
+    subst (λ l. IsDistinct bytes_eq (keys_of l)) (sym is) none

@@ -16,3 +16,11 @@ pub mod Trims
 pub mod Numbers
 pub mod KeyParts
 pub mod Stores
+pub mod KeyLemmas
+pub mod Unkeyed
+pub mod Reliably
+pub mod Archived
+pub mod Exactly
+pub mod InStep
+pub mod TcSteps
+pub mod ArchiveKeys

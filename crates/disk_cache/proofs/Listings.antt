@@ -82,13 +82,13 @@ backed_listing root (f ∷ fs) h = by (is_behind root f.0) refl (backed_listing 
 
 -- ---- taking a file out
 
-abbrev but_key : List ℕ → Entries → Entries
+abbrev pub but_key : List ℕ → Entries → Entries
 but_key k es = filter (λ e. not (bytes_eq k e.0)) es
 
-out_kept : (k : List ℕ) (e : List ℕ × ℕ) (es : Entries) → bytes_eq k e.0 ≡ false → but_key k (e ∷ es) ≡ e ∷ but_key k es
+pub out_kept : (k : List ℕ) (e : List ℕ × ℕ) (es : Entries) → bytes_eq k e.0 ≡ false → but_key k (e ∷ es) ≡ e ∷ but_key k es
 out_kept k e es other = ap (λ b. cond (not b) (e ∷ but_key k es) (but_key k es)) other
 
-out_gone : (k : List ℕ) (e : List ℕ × ℕ) (es : Entries) → bytes_eq k e.0 ≡ true → but_key k (e ∷ es) ≡ but_key k es
+pub out_gone : (k : List ℕ) (e : List ℕ × ℕ) (es : Entries) → bytes_eq k e.0 ≡ true → but_key k (e ∷ es) ≡ but_key k es
 out_gone k e es same = ap (λ b. cond (not b) (e ∷ but_key k es) (but_key k es)) same
 
 listing_without : (root k : List ℕ) (fs : Files) → listing root (without (root ++ k) fs) ≡ but_key k (listing root fs)
@@ -113,7 +113,7 @@ listing_without root k (f ∷ fs) = by (bytes_eq (root ++ k) f.0) (is_behind roo
     by false false other is rest =
         listing_more root f (without (root ++ k) fs) false is ∙ (rest ∙ sym (ap (but_key k) (listing_more root f fs false is)))
 
-none_out : (k : List ℕ) (es : Entries) → AllByRecursion (λ q. bytes_eq k q ≡ false) (keys_of es) → but_key k es ≡ es
+pub none_out : (k : List ℕ) (es : Entries) → AllByRecursion (λ q. bytes_eq k q ≡ false) (keys_of es) → but_key k es ≡ es
 none_out k [] h = refl
 none_out k (e ∷ es) h = out_kept k e es h.0 ∙ ap (λ l. e ∷ l) (none_out k es h.1)
 

@@ -1,16 +1,16 @@
 -- What a cache is behind each call.
-use Rattle.std.proofs.Common.{◌≡◌, ℕ, ◌+◌, ◌-◌, ◌≤◌, List, [], ◌∷◌, ◌++◌, Option, None, Result, Ok, Err, OnOk, OnErr, inl, inr, refl, sym, ap, subst, ◌∙◌, arith}
+use Rattle.std.proofs.Common.{◌≡◌, ℕ, ◌+◌, ◌-◌, ◌≤◌, List, [], ◌∷◌, ◌++◌, length, Option, None, Result, Ok, Err, OnOk, OnErr, inl, inr, refl, sym, ap, subst, ◌∙◌, arith}
 use Rattle.std.proofs.lemmas.List.Sums.{sum_by-append, sum_by-cons}
 use Rattle.std.specs.Map.{lookup, remove_entry}
 use Rattle.std.specs.Str.{bytes_eq}
 use Rattle.lru_metered.proofs.Lookups.{size-others, total-promoted}
 use Rattle.disk_cache.specs.Files.{front}
-use Rattle.disk_cache.specs.Held.{Held, Became}
+use Rattle.disk_cache.specs.Held.{Held, Became, Made}
 use Rattle.disk_cache.specs.declared.fault.FolderFault.{FolderFault}
 use Rattle.disk_cache.specs.Entries.{Entries, Listed, total, sizes, trim, promoted_key, IsEnd}
-use Rattle.disk_cache.specs.Disk.{Stands, ButAt, SameAt, Left, staying, stored, without_key}
+use Rattle.disk_cache.specs.Disk.{Stands, ButAt, SameAt, IsTemp, Left, staying, stored, dropped, files_stored, without_key}
 use Rattle.disk_cache.specs.Reserved.{Reservation, held_size}
-use Rattle.disk_cache.specs.Store.{Disk, IsStore}
+use Rattle.disk_cache.specs.Store.{Disk, Store, IsStore, room_beside}
 use Rattle.disk_cache.proofs.Opens.{trim_within}
 use Rattle.disk_cache.proofs.Standing.{stands_promoted, stands_absent, stands_removed}
 use Rattle.disk_cache.proofs.Trims.{total_more}
@@ -51,3 +51,13 @@ module _ (path root : List ℕ) (pending : List Reservation) where
       record { stands = stands; root = h.root; reserved = h.reserved; fits = subst (λ (t : Listed). total t.entries + held_size pending ≤ t.capacity) (sym ok) (stored_fits key n limit table.capacity table.entries room) }
   insert_store new old key n limit table now (Err e) h room ok err stands =
       record { stands = stands; root = h.root; reserved = h.reserved; fits = omega (arith, h.fits, err.0, left_total key limit table.entries now.entries err.1) }
+
+-- the files behind an insert, said of the cache as it was
+pub stored_exact : {F : Type 0} (held : F → Held) (folder : F) (d : Disk) (now : Store F) (new : Held) (from path own key bytes : List ℕ) (limit : ℕ) → (let whole : Store F = record { disk = d; folder = folder } in whole ≡ now) → IsTemp d.root from → path ≡ d.root ++ key → own ≡ key → limit ≡ room_beside now.disk (length bytes)
+    → Made (files_stored d.root from path bytes (dropped limit (without_key own d.entries))) (held folder).files new.files
+    → (temp : List ℕ) × IsTemp now.disk.root temp × Made (files_stored now.disk.root temp (now.disk.root ++ key) bytes (dropped (room_beside now.disk (length bytes)) (without_key key now.disk.entries))) (held now.folder).files new.files
+stored_exact {F} held folder d now new from path own key bytes limit view temp path_is own_is limit_is made =
+    let P : List ℕ → List ℕ → ℕ → Type 0 = λ p k n. Made (files_stored d.root from p bytes (dropped n (without_key k d.entries))) (held folder).files new.files in
+    let Q : Store F → Type 0 = λ s. limit ≡ room_beside s.disk (length bytes)
+        → (temp : List ℕ) × IsTemp s.disk.root temp × Made (files_stored s.disk.root temp (s.disk.root ++ key) bytes (dropped (room_beside s.disk (length bytes)) (without_key key s.disk.entries))) (held s.folder).files new.files in
+    subst Q view (λ l. (from, temp, subst (λ n. P (d.root ++ key) key n) l (subst (λ k. P (d.root ++ key) k limit) own_is (subst (λ p. P p own limit) path_is made)))) limit_is

@@ -1,15 +1,15 @@
 -- What stands on a disk behind its list, and what each step leaves.
-use Rattle.std.specs.Prelude.{◌≡◌, ℕ, ◌<◌, ◌≤◌, ◌^◌, false, true, List, [], ◌∷◌, ◌++◌, ◌⊎◌, Some, None, Result, Ok, Err}
+use Rattle.std.specs.Prelude.{◌≡◌, ℕ, ◌<◌, ◌≤◌, ◌^◌, nat_le, if◌then◌else◌, false, true, List, [], ◌∷◌, ◌++◌, ◌⊎◌, Some, None, Result, Ok, Err}
 use Rattle.std.specs.List.{AllByRecursion}
 use Rattle.std.specs.Map.{remove_entry}
 use Rattle.std.specs.Str.{bytes_eq}
 use Rattle.dist_types.specs.Cause.{Rose}
-use Rattle.disk_cache.specs.Files.{Files, file_at, size_at}
+use Rattle.disk_cache.specs.Files.{Files, file_at, size_at, put, without, moved}
 use Rattle.disk_cache.specs.Held.{Held, Holds, Became}
 use Rattle.disk_cache.specs.declared.fault.FolderFault.{FolderFault}
 use Rattle.disk_cache.specs.declared.fault.FolderFault.TheVariants.{Missing, Failed, Memory}
 use Rattle.disk_cache.specs.Key.{is_key, temp_name}
-use Rattle.disk_cache.specs.Entries.{Entries, Listed, trim, IsEnd}
+use Rattle.disk_cache.specs.Entries.{Entries, Listed, total, trim, IsEnd}
 
 -- each entry has a file of its size
 abbrev pub Backed : List ℕ → Files → Entries → Type 0
@@ -91,3 +91,21 @@ stored key size limit entries = staying key limit entries ++ (key, size) ∷ []
 -- What a failed insert leaves: the list as it was, or the key out and then some of the least recent, none more than had to go.
 abbrev pub Left : List ℕ → ℕ → Entries → Entries → Type 0
 Left key limit old new = (new ≡ old) ⊎ (IsEnd new (without_key key old) × (trim limit new ≡ trim limit (without_key key old)))
+
+-- the entries that go from the front so that the others fit a limit
+abbrev pub dropped : ℕ → Entries → Entries
+dropped limit [] = []
+dropped limit (e ∷ es) = if nat_le (total (e ∷ es)) limit then [] else e ∷ dropped limit es
+
+-- without the files of these entries
+abbrev pub without_each : List ℕ → Entries → Files → Files
+without_each root [] files = files
+without_each root (e ∷ es) files = without_each root es (without (root ++ e.0) files)
+
+-- with the files of these entries gone, and the file of one path at another
+abbrev pub files_placed : List ℕ → List ℕ → List ℕ → Entries → Files → Files
+files_placed root from path gone files = moved from path (without_each root gone files)
+
+-- the same, where bytes are written under that one path first
+abbrev pub files_stored : List ℕ → List ℕ → List ℕ → List ℕ → Entries → Files → Files
+files_stored root from path bytes gone files = files_placed root from path gone (put from bytes files)

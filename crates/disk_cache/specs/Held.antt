@@ -37,3 +37,7 @@ Changes lacking done part (Err Missing) old new = (new ≡ old) × Holds old lac
 Changes lacking done part (Err Failed) old new =
     Became part old.files new.files × Rose old.faults new.faults × (old.faults ≤ new.faults)
 Changes lacking done part (Err Memory) old new = Became part old.files new.files × (old.faults ≤ new.faults)
+
+-- the files became exactly what this makes of them
+abbrev pub Made : (Files → Files) → Option Files → Option Files → Type 0
+Made done old new = new ≡ option_map done old

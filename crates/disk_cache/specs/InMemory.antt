@@ -8,6 +8,7 @@ use Rattle.disk_cache.specs.declared.fault.FolderFault.{FolderFault}
 use Rattle.disk_cache.specs.declared.fault.FolderFault.TheVariants.{Missing, Failed, Memory}
 use Rattle.disk_cache.specs.declared.calls.Calls.{Calls}
 use Rattle.disk_cache.specs.declared.mem_folder.MemFolder.{MemFolder}
+use Rattle.disk_cache.specs.declared.reliable_folder.ReliableFolder.{ReliableFolder}
 
 -- the files
 abbrev pub folder_files : MemFolder → Files
@@ -44,3 +45,11 @@ Acts seen (Ok x) verdict left old new = (verdict ≡ Ok (seen x)) × (new ≡ le
 Acts seen (Err Missing) verdict left old new = (verdict ≡ Err Missing) × (new ≡ left)
 Acts seen (Err Failed) verdict left old new = (verdict ≡ Err Failed) × (new ≡ left)
 Acts seen (Err Memory) verdict left old new = new ≡ old
+
+-- the files of a folder that never fails
+abbrev pub reliable_files : ReliableFolder → Files
+reliable_files s = s.files.items
+
+-- what it tells: that it never failed
+abbrev pub reliable_held : ReliableFolder → Held
+reliable_held s = record { files = Some s.files.items; faults = 0 }

@@ -8,3 +8,7 @@ pub mod Disk
 pub mod Store
 pub mod Opened
 pub mod Reserved
+pub mod Archives
+pub mod Archiving
+pub mod Keyed
+pub mod Reliable

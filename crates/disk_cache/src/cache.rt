@@ -1,14 +1,15 @@
 //! `LruDiskCache` and its calls.
 ghost use Rattle.std.specs.Prelude.{◌≡◌, ℕ, List, ◌+◌, ◌++◌, ◌≤◌, length, nat_le, is_some, true, Some, None, Ok, [], IsSome, IfOk, IfErr, OnOk, OnErr, OnSome};
 ghost use Rattle.std.specs.Map.Iter.{ShowsInOrder, deref_pair};
-ghost use Rattle.std.specs.Map.{lookup};
+ghost use Rattle.std.specs.List.{IsDistinct};
+ghost use Rattle.std.specs.Map.{keys_of, lookup};
 ghost use Rattle.std.specs.Str.{bytes_eq};
-ghost use Rattle.disk_cache.specs.Files.{file_at, front};
-ghost use Rattle.disk_cache.specs.Held.{Holds, Became, Lacks};
+ghost use Rattle.disk_cache.specs.Files.{file_at, front, touched, without};
+ghost use Rattle.disk_cache.specs.Held.{Holds, Became, Made, Lacks};
 ghost use Rattle.disk_cache.specs.Key.{is_key, temp_name};
 ghost use Rattle.disk_cache.specs.Entries.{total, IsTable};
-ghost use Rattle.disk_cache.specs.Opened.{InStep};
-ghost use Rattle.disk_cache.specs.Disk.{Stands, ButAt, ButUnder, IsTemp, Keeps, SameAt, staying};
+ghost use Rattle.disk_cache.specs.Opened.{InStep, listing};
+ghost use Rattle.disk_cache.specs.Disk.{Stands, ButAt, ButUnder, IsTemp, Keeps, SameAt, staying, dropped, files_stored, without_key};
 ghost use Rattle.disk_cache.specs.Reserved.{held_size};
 
 use crate::error::{Error, Result, io};
@@ -63,7 +64,9 @@ impl<F: Folder> LruDiskCache<F> {
         ensures empty { IfOk result (λ c. (c.disk.path ≡ path.now) × (c.disk.capacity ≡ size) × (c.disk.pending ≡ [])) }
         ensures in_step { IfOk result (λ c. Holds (F.held c.folder) (λ files. InStep c.disk.root files c.disk.entries)) }
         ensures stands { IfOk result (λ c. IsStore (F.held c.folder) c.disk) }
+        ensures cleared { IfOk result (λ c. Holds (F.held c.folder) (λ files. listing c.disk.root files ≡ c.disk.entries)) }
         ensures steady { IfOk result (λ c. (F.held c.folder).faults ≡ (F.held folder).faults) }
+        ensures later { IfErr result (λ e. (F.held folder).faults ≤ (F.held e.1).faults) }
         ensures fails { IfErr result (λ e. OpenFails e.0 (F.held folder) (F.held e.1)) }
     {
         let Ok((path, root)) = place_of(alloc, path) else {
@@ -95,7 +98,8 @@ impl<F: Folder> LruDiskCache<F> {
 
     /// How many keys are listed. It takes no memory.
     pub fn len(&self) -> usize
-        ensures { result ≡ length self.now.disk.entries }
+        ensures len { result ≡ length self.now.disk.entries }
+        ensures distinct { IsDistinct bytes_eq (keys_of self.now.disk.entries) }
     {
         self.table.len()
     }
@@ -172,7 +176,9 @@ impl<F: Folder> LruDiskCache<F> {
         ensures kept { OnOk result (Became (Keeps self.old.disk.root (staying key.now (room_beside self.old.disk (length bytes.now)) self.old.disk.entries)) (F.held self.old.folder).files (F.held self.new.folder).files) }
         ensures left { OnErr result (Became (Keeps self.old.disk.root self.new.disk.entries) (F.held self.old.folder).files (F.held self.new.folder).files) }
         ensures others { Became (ButUnder self.old.disk.root) (F.held self.old.folder).files (F.held self.new.folder).files }
+        ensures exact { OnOk result ((temp : List ℕ) × IsTemp self.old.disk.root temp × Made (files_stored self.old.disk.root temp (self.old.disk.root ++ key.now) bytes.now (dropped (room_beside self.old.disk (length bytes.now)) (without_key key.now self.old.disk.entries))) (F.held self.old.folder).files (F.held self.new.folder).files) }
         ensures steady { OnOk result ((F.held self.new.folder).faults ≡ (F.held self.old.folder).faults) }
+        ensures later { (F.held self.old.folder).faults ≤ (F.held self.new.folder).faults }
         ensures stands { IsStore (F.held self.new.folder) self.new.disk }
     {
         let size = bytes.len() as u64;
@@ -207,7 +213,9 @@ impl<F: Folder> LruDiskCache<F> {
         ensures content { IfOk result (λ v. Holds (F.held self.old.folder) (λ files. file_at files (self.old.disk.root ++ key.now) ≡ Some v.items)) }
         ensures fails { IfErr result (λ e. LookUpFails key.now e self.old.disk self.new.disk (F.held self.old.folder) (F.held self.new.folder)) }
         ensures others { Became SameAt (F.held self.old.folder).files (F.held self.new.folder).files }
+        ensures exact { OnOk result (Made (touched (self.old.disk.root ++ key.now)) (F.held self.old.folder).files (F.held self.new.folder).files) }
         ensures steady { OnOk result ((F.held self.new.folder).faults ≡ (F.held self.old.folder).faults) }
+        ensures later { (F.held self.old.folder).faults ≤ (F.held self.new.folder).faults }
         ensures stands { IsStore (F.held self.new.folder) self.new.disk }
     {
         let Ok(key) = Text::of(self.alloc, key) else {
@@ -236,7 +244,10 @@ impl<F: Folder> LruDiskCache<F> {
         ensures fails { IfErr result (λ e. RemoveFails key.now e self.old.disk self.new.disk (F.held self.old.folder) (F.held self.new.folder)) }
         ensures others { Became (ButAt (self.old.disk.root ++ key.now)) (F.held self.old.folder).files (F.held self.new.folder).files }
         ensures kept { Became (Keeps self.old.disk.root self.new.disk.entries) (F.held self.old.folder).files (F.held self.new.folder).files }
+        ensures exact { OnOk result (IsSome (lookup (bytes_eq key.now) self.old.disk.entries) → Made (without (self.old.disk.root ++ key.now)) (F.held self.old.folder).files (F.held self.new.folder).files) }
+        ensures same { OnOk result (lookup (bytes_eq key.now) self.old.disk.entries ≡ None → F.held self.new.folder ≡ F.held self.old.folder) }
         ensures steady { OnOk result ((F.held self.new.folder).faults ≡ (F.held self.old.folder).faults) }
+        ensures later { (F.held self.old.folder).faults ≤ (F.held self.new.folder).faults }
         ensures stands { IsStore (F.held self.new.folder) self.new.disk }
     {
         let Ok(key) = Text::of(self.alloc, key) else {

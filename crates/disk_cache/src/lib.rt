@@ -9,8 +9,10 @@
 //! fails, each listed key has a file of its size, where the folder tells its files.
 #![tactic(auto)]
 
+mod archives;
 mod cache;
 pub mod calls;
+mod digest;
 mod entry;
 mod error;
 pub mod fault;
@@ -19,11 +21,15 @@ mod key;
 pub mod laws;
 pub mod mem_folder;
 mod opening;
+pub mod reliable_folder;
 mod reservations;
 mod rows;
 mod steps;
 mod table;
+mod tc_cache;
 
+pub use archives::Archives;
 pub use cache::LruDiskCache;
 pub use error::{Error, Result};
 pub use key::is_key;
+pub use tc_cache::TcCache;

@@ -8,7 +8,7 @@ ghost use Rattle.disk_cache.specs.Files.{front};
 ghost use Rattle.disk_cache.specs.Held.{Holds};
 ghost use Rattle.disk_cache.specs.Entries.{Entries, total, trim};
 ghost use Rattle.disk_cache.specs.Disk.{Stands, AllKeys, Counts};
-ghost use Rattle.disk_cache.specs.Opened.{stripped, keyed, kept, opened, Shows, InStep};
+ghost use Rattle.disk_cache.specs.Opened.{stripped, keyed, kept, opened, listing, Shows, InStep};
 
 use crate::fault::FolderFault;
 use crate::folder::{Folder, Found};
@@ -160,6 +160,7 @@ pub(crate) fn open<F: Folder>(
     ensures opened { IfOk result (λ t. Holds (F.held folder.old) (λ files. t.entries ≡ opened root.now capacity files)) }
     ensures in_step { IfOk result (λ t. Holds (F.held folder.new) (λ files. InStep root.now files t.entries)) }
     ensures stands { IfOk result (λ t. Stands root.now (F.held folder.new) t.entries) }
+    ensures cleared { IfOk result (λ t. Holds (F.held folder.new) (λ files. listing root.now files ≡ t.entries)) }
     ensures counts { Counts result (F.held folder.old) (F.held folder.new) }
 {
     let alloc = root.alloc();

@@ -1,12 +1,12 @@
 //! The steps of a disk cache: writing the temporary file, dropping what is least recent, and putting the file in its place.
-ghost use Rattle.std.specs.Prelude.{◌≡◌, ◌+◌, ◌-◌, ◌≤◌, ◌<◌, ◌++◌, ◌∷◌, [], length, drop, true, false, Some, None, Err, IfOk, OnOk, OnErr};
+ghost use Rattle.std.specs.Prelude.{◌≡◌, ◌+◌, ◌-◌, ◌≤◌, ◌<◌, ◌++◌, ◌∷◌, [], length, take, drop, true, false, Some, None, Err, IfOk, OnOk, OnErr};
 ghost use Rattle.std.specs.Map.{lookup};
 ghost use Rattle.std.specs.Str.{bytes_eq};
-ghost use Rattle.disk_cache.specs.Files.{file_at, size_at, without};
-ghost use Rattle.disk_cache.specs.Held.{Holds, Became, Lacks};
+ghost use Rattle.disk_cache.specs.Files.{file_at, size_at, put, without, moved, touched};
+ghost use Rattle.disk_cache.specs.Held.{Holds, Became, Made, Lacks};
 ghost use Rattle.disk_cache.specs.Key.{is_key};
 ghost use Rattle.disk_cache.specs.Entries.{total, trim, IsTable};
-ghost use Rattle.disk_cache.specs.Disk.{Stands, Avoids, ButAt, ButListed, ButUnder, ButUnderAnd, IsTemp, Keeps, Counts, Drops, stored, staying, without_key, Left, SameAt};
+ghost use Rattle.disk_cache.specs.Disk.{Stands, Avoids, ButAt, ButListed, ButUnder, ButUnderAnd, IsTemp, Keeps, Counts, Drops, stored, staying, dropped, without_each, files_placed, files_stored, without_key, Left, SameAt};
 
 use crate::fault::FolderFault;
 use crate::folder::Folder;
@@ -58,6 +58,7 @@ fn drop_first<F: Folder>(folder: &mut F, table: &mut Table, root: &Text) -> Resu
     ensures stands { Stands root.now (F.held folder.new) table.new.entries }
     ensures others { Became (ButListed root.now table.old.entries) (F.held folder.old).files (F.held folder.new).files }
     ensures kept { Became (Keeps root.now table.new.entries) (F.held folder.old).files (F.held folder.new).files }
+    ensures exact { OnOk result (Made (without_each root.now (take 1 table.old.entries)) (F.held folder.old).files (F.held folder.new).files) }
     ensures counts { Counts result (F.held folder.old) (F.held folder.new) }
 {
     let Some((key, _)) = table.take_first() else {
@@ -77,6 +78,7 @@ pub(crate) fn make_room<F: Folder>(
     ensures ok { OnOk result (table.new.entries ≡ trim limit table.old.entries) }
     ensures fits { OnOk result (total table.new.entries ≤ limit) }
     ensures drops { Drops root.now limit table.old table.new (F.held folder.old) (F.held folder.new) }
+    ensures exact { OnOk result (Made (without_each root.now (dropped limit table.old.entries)) (F.held folder.old).files (F.held folder.new).files) }
     ensures counts { Counts result (F.held folder.old) (F.held folder.new) }
 {
     while table.size() > limit {
@@ -108,6 +110,7 @@ pub(crate) fn place<F: Folder>(
     ensures content { OnOk result (Became (λ old new. file_at new arrival.now.path ≡ file_at old arrival.now.from) (F.held folder.old).files (F.held folder.new).files) }
     ensures others { Became (ButUnderAnd root.now arrival.now.from) (F.held folder.old).files (F.held folder.new).files }
     ensures kept { Became (Keeps root.now table.old.entries) (F.held folder.old).files (F.held folder.new).files }
+    ensures exact { OnOk result (Made (moved arrival.now.from arrival.now.path) (F.held folder.old).files (F.held folder.new).files) }
     ensures counts { Counts result (F.held folder.old) (F.held folder.new) }
 {
     let Ok(()) = table.push(listed, arrival.size) else {
@@ -131,6 +134,7 @@ pub(crate) fn write_temp<F: Folder>(
 ) -> Result<(), FolderFault>
     ensures written { OnOk result (Holds (F.held folder.new) (λ files. file_at files temp.now ≡ Some bytes.now)) }
     ensures others { Became (ButAt temp.now) (F.held folder.old).files (F.held folder.new).files }
+    ensures exact { OnOk result (Made (put temp.now bytes.now) (F.held folder.old).files (F.held folder.new).files) }
     ensures counts { Counts result (F.held folder.old) (F.held folder.new) }
 {
     folder.make_parents(path.get())?;
@@ -158,6 +162,7 @@ pub(crate) fn fill<F: Folder>(
     ensures others { Became (ButUnderAnd root.now arrival.now.from) (F.held folder.old).files (F.held folder.new).files }
     ensures kept { OnOk result (Became (Keeps root.now (staying arrival.now.key arrival.now.limit table.old.entries)) (F.held folder.old).files (F.held folder.new).files) }
     ensures left { OnErr result (Became (Keeps root.now table.new.entries) (F.held folder.old).files (F.held folder.new).files) }
+    ensures exact { OnOk result (Made (files_placed root.now arrival.now.from arrival.now.path (dropped arrival.now.limit (without_key arrival.now.key table.old.entries))) (F.held folder.old).files (F.held folder.new).files) }
     ensures counts { Counts result (F.held folder.old) (F.held folder.new) }
 {
     let listed = arrival.key.copy(root.alloc())?;
@@ -188,6 +193,7 @@ pub(crate) fn store<F: Folder>(
     ensures others { Became (ButUnder root.now) (F.held folder.old).files (F.held folder.new).files }
     ensures kept { OnOk result (Became (Keeps root.now (staying arrival.now.key arrival.now.limit table.old.entries)) (F.held folder.old).files (F.held folder.new).files) }
     ensures left { OnErr result (Became (Keeps root.now table.new.entries) (F.held folder.old).files (F.held folder.new).files) }
+    ensures exact { OnOk result (Made (files_stored root.now arrival.now.from arrival.now.path bytes.now (dropped arrival.now.limit (without_key arrival.now.key table.old.entries))) (F.held folder.old).files (F.held folder.new).files) }
     ensures counts { Counts result (F.held folder.old) (F.held folder.new) }
 {
     write_temp(folder, &arrival.path, &arrival.from, bytes)?;
@@ -199,6 +205,7 @@ pub(crate) fn fetch<F: Folder>(folder: &mut F, path: &Text) -> Result<Vec<u8>, F
     requires { Holds (F.held folder.old) (λ files. ¬ (Lacks path.now files)) }
     ensures content { IfOk result (λ v. Holds (F.held folder.old) (λ files. file_at files path.now ≡ Some v.items)) }
     ensures others { Became SameAt (F.held folder.old).files (F.held folder.new).files }
+    ensures exact { OnOk result (Made (touched path.now) (F.held folder.old).files (F.held folder.new).files) }
     ensures counts { Counts result (F.held folder.old) (F.held folder.new) }
 {
     folder.touch(path.get())?;

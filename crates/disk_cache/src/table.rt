@@ -1,26 +1,59 @@
 //! The list of a disk cache: a cache of sizes, measured by these.
 ghost use Rattle.std.specs.Prelude.{◌≡◌, ℕ, List, ◌+◌, ◌≤◌, [], ◌∷◌, ◌++◌, drop, length, slice_get, is_some, IfOk, IfSome, OnOk, OnErr, OnSome, IsSome, Some, None};
 ghost use Rattle.std.specs.Map.Iter.{ShowsInOrder, deref_pair};
-ghost use Rattle.std.specs.Map.{lookup, remove_entry};
+ghost use Rattle.std.specs.List.{IsDistinct};
+ghost use Rattle.std.specs.Map.{keys_of, lookup, remove_entry};
 ghost use Rattle.std.specs.Str.{bytes_eq};
 ghost use Rattle.disk_cache.specs.Entries.{total, promoted_key, IsTable};
 
 use dist_types::text::Text;
-use lru_metered::{DefaultHasher, Iter, LruCache, Memory, Meter};
+use lru_metered::{CountableMeterWithMeasure, DefaultHasher, Iter, LruCache, Memory, Meter};
 use std::alloc::{AllocError, Global};
 use std::marker::Model;
+
+/// A number of bytes, which a meter counts.
+#[derive(Clone, Copy, Debug, Default)]
+pub struct Size {
+    bytes: u64,
+}
 
 /// Measures an entry by its size.
 #[derive(Clone, Copy, Debug)]
 pub struct Sizes;
 
 impl Meter<Text, u64> for Sizes {
-    type Measure = u64;
+    type Measure = Size;
 
-    ghost measured = { λ _ _ size. size };
+    ghost measured = { λ _ _ size. record { bytes = size } };
 
-    fn measure(&self, _key: &Text, size: &u64) -> u64 {
-        *size
+    fn measure(&self, _key: &Text, size: &u64) -> Size {
+        Size { bytes: *size }
+    }
+}
+
+/// A measure of its own, and not a `u64`: the drop of a table gets a proof so where a bound asks for it.
+impl CountableMeterWithMeasure<Text, u64, Size> for Sizes {
+    ghost use Rattle.std.specs.Prelude.{true};
+
+    ghost meter_number = { λ _ size. size.bytes };
+
+    ghost meter_gives_size = { λ _. true };
+
+    ghost meter_default_is_zero = { λ _ _ zero. zero };
+
+    fn meter_add(&self, current: Size, amount: Size) -> Option<Size> {
+        let bytes = current.bytes.checked_add(amount.bytes)?;
+        Some(Size { bytes })
+    }
+
+    fn meter_sub(&self, current: Size, amount: Size) -> Size {
+        Size {
+            bytes: current.bytes - amount.bytes,
+        }
+    }
+
+    fn meter_size(&self, current: Size) -> Option<u64> {
+        Some(current.bytes)
     }
 }
 
@@ -73,7 +106,8 @@ impl Table {
 
     /// How many keys are listed.
     pub fn len(&self) -> usize
-        ensures { result ≡ length self.now.entries }
+        ensures len { result ≡ length self.now.entries }
+        ensures distinct { IsDistinct bytes_eq (keys_of self.now.entries) }
     {
         self.list.len()
     }

@@ -1,7 +1,7 @@
 use Rattle.std.proofs.Common.{ap, sym, ◌∙◌}
 use Rattle.disk_cache.specs.Files.{front}
 use Rattle.disk_cache.specs.Entries.{Listed, trim}
-use Rattle.disk_cache.proofs.Opens.{opens, opens_stands, opens_in_step, from_empty, keys_from_empty, kept_from_empty, room_in_empty}
+use Rattle.disk_cache.proofs.Opens.{opens, opens_stands, opens_in_step, opens_cleared, from_empty, keys_from_empty, kept_from_empty, room_in_empty}
 use Rattle.disk_cache.proofs.opening.open.Goals as goal
 
 pub list_all-requires : goal.list_all-requires
@@ -32,3 +32,9 @@ returns-clause-stands g c =
     let list = from_empty c.in-Ok.table.entries c.in_ok-rest.rest.now c.list_all.new.table.entries empty c.in-Ok-list_all.ensures.list in
     let keys = keys_from_empty c.in-Ok.table.entries c.in_ok-rest.rest.now c.list_all.new.table.entries empty c.in-Ok-list_all.ensures.keys in
     opens_stands c.args.root.now c.args.capacity c.in_ok-found.found.items c.sort_out.new.good.items c.in_ok-rest.rest.now c.list_all.new.table.entries (g.F.Folder.held c.drop_old.new.folder) good_is rest_is list keys c.in_ok-rest.ensures.shows
+
+pub returns-clause-cleared : goal.returns-clause-cleared
+returns-clause-cleared g c =
+    let empty = ap (λ (t : Listed). t.entries) c.in-Ok.ensures in
+    let list = from_empty c.in-Ok.table.entries c.in_ok-rest.rest.now c.list_all.new.table.entries empty c.in-Ok-list_all.ensures.list in
+    opens_cleared c.args.root.now c.in_ok-rest.rest.now c.list_all.new.table.entries (g.F.Folder.held c.drop_old.new.folder) list c.in_ok-rest.ensures.shows
