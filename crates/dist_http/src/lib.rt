@@ -11,7 +11,7 @@ pub mod checks;
 pub mod connection;
 mod host;
 pub mod real_serve;
-mod route;
+pub mod route;
 pub mod run_scheduler;
 mod scan;
 pub mod served;

@@ -10,6 +10,7 @@ use std::sync::Wait;
 use std::sync::atomic::{AtomicBool, Ordering};
 use std::test::Fail;
 use std::thread;
+use std::thread::Threads;
 
 /// How often a flag is looked at before one gives up.
 const MAX_LOOKS: u64 = 1_000_000_000;
@@ -78,33 +79,35 @@ fn second<R: Wait>(
     waited && heard
 }
 
-/// A heartbeat is answered while an assignment is asked.
-#[test]
-fn gate_assign(rt: HostRuntime) -> Result<(), Fail> {
-    let alloc = rt.alloc();
+/// Whether the assignment was let go and the heartbeat answered behind it, and how many entries both made.
+fn both<R: Threads + Wait + Sync>(rt: &R, alloc: Global, gate: &Gate) -> Result<(bool, u64), Fail> {
     let (scheduler, mut pass) = TestScheduler::new(alloc, 4096)?;
-    beat(&rt, alloc, &scheduler, &mut pass)?;
-    let mut other = scheduler.split(&rt, &mut pass)?;
+    beat(rt, alloc, &scheduler, &mut pass)?;
+    let mut other = scheduler.split(rt, &mut pass)?;
     let tc = Toolchain::new(ABC)?;
-    let gate = Gate {
-        begun: AtomicBool::new(false),
-        answered: AtomicBool::new(false),
-    };
-    let mut held = Held(&gate);
+    let mut held = Held(gate);
     let mut clock = still(alloc);
     let (given, heard) = thread::join(
-        &rt,
-        || scheduler.handle_alloc_job(&rt, &mut pass, &mut clock, &mut held, &tc),
-        || second(&rt, alloc, &scheduler, &mut other, &gate),
+        rt,
+        || scheduler.handle_alloc_job(rt, &mut pass, &mut clock, &mut held, &tc),
+        || second(rt, alloc, &scheduler, &mut other, gate),
     );
-    assert!(&rt; heard);
     let let_go = match &given {
         Ok(AllocJobResult::Success { .. }) => true,
         Ok(AllocJobResult::Fail { .. }) => false,
         Err(_) => false,
     };
-    assert!(&rt; let_go, "the assignment was not let go");
     scheduler.join(&mut pass, other);
-    assert_eq!(&rt; pass.count(), 4);
+    Ok((let_go && heard, pass.count()))
+}
+
+/// A heartbeat is answered while an assignment is asked.
+#[test]
+fn gate_assign(rt: HostRuntime) -> Result<(), Fail> {
+    let gate = Gate {
+        begun: AtomicBool::new(false),
+        answered: AtomicBool::new(false),
+    };
+    assert_eq!(&rt; both(&rt, rt.alloc(), &gate)?, (true, 4));
     Ok(())
 }

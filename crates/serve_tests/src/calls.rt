@@ -36,7 +36,16 @@ pub fn serve<R: Wait, L: Link>(
     let mut client = EqCheck::new(String::from_str(alloc, "c1")?);
     let server = PlainServerCheck::new(String::from_str(alloc, "s1")?);
     let served = serve_scheduler_connection(
-        rt, alloc, scheduler, pass, link, peer, dialer, &mut clock, &mut client, &server,
+        rt,
+        alloc,
+        scheduler,
+        pass,
+        link,
+        peer,
+        dialer,
+        &mut clock,
+        &mut client,
+        &server,
     );
     Ok(served)
 }
@@ -51,10 +60,7 @@ pub fn link(
     let bytes = Vec::from_slice(alloc, bytes)?;
     let reads = Vec::from_slice(alloc, reads)?;
     let writes = Vec::from_slice(alloc, writes)?;
-    Ok(MemLink::new(
-        MemSource::new(bytes, reads),
-        MemSink::new(alloc, writes),
-    ))
+    Ok(MemLink::new(MemSource::new(bytes, reads), MemSink::new(alloc, writes)))
 }
 
 /// A dialer with these replies.
@@ -65,9 +71,11 @@ pub fn dialer(alloc: Global, reply: &[u8]) -> Result<MemDialer, AllocError> {
 }
 
 /// A heartbeat of 127.0.0.1:10501 with one processor, the key 1, 2, 2 and the nonce 7, and an allocation of `abc`.
-const BEAT: &[u8] = b"POST /api/v1/scheduler/heartbeat_server HTTP/1.1\r\nAuthorization: Bearer 127.0.0.1:10501 s1\r\nContent-Type: application/octet-stream\r\nContent-Length: 27\r\n\r\n\x03\0\0\0\0\0\0\0\x01\x02\x02\x01\0\0\0\0\0\0\0\x07\0\0\0\0\0\0\0";
+const BEAT: &[u8] =
+    b"POST /api/v1/scheduler/heartbeat_server HTTP/1.1\r\nAuthorization: Bearer 127.0.0.1:10501 s1\r\nContent-Type: application/octet-stream\r\nContent-Length: 27\r\n\r\n\x03\0\0\0\0\0\0\0\x01\x02\x02\x01\0\0\0\0\0\0\0\x07\0\0\0\0\0\0\0";
 
-const ALLOC: &[u8] = b"POST /api/v1/scheduler/alloc_job HTTP/1.1\r\nAuthorization: Bearer c1\r\nContent-Type: application/octet-stream\r\nContent-Length: 72\r\n\r\n\x40\0\0\0\0\0\0\0ba7816bf8f01cfea414140de5dae2223b00361a396177a9cb410ff61f20015ad";
+const ALLOC: &[u8] =
+    b"POST /api/v1/scheduler/alloc_job HTTP/1.1\r\nAuthorization: Bearer c1\r\nContent-Type: application/octet-stream\r\nContent-Length: 72\r\n\r\n\x40\0\0\0\0\0\0\0ba7816bf8f01cfea414140de5dae2223b00361a396177a9cb410ff61f20015ad";
 
 /// Whether the text stands somewhere in the bytes.
 fn holds(bytes: &[u8], text: &[u8]) -> bool {
@@ -123,7 +131,9 @@ fn assigned(rt: HostRuntime) -> Result<(), Fail> {
     reply(&rt, alloc, &scheduler, &mut pass, &mut dialer, BEAT)?;
     let given = reply(&rt, alloc, &scheduler, &mut pass, &mut dialer, ALLOC)?;
     assert!(&rt; given.sink().bytes().starts_with(b"HTTP/1.1 200 OK\r\n"));
-    let place = [0u8, 16, 0, 0, 0, 0, 0, 0, 0, 0, 0, 0, 127, 0, 0, 1, 5, 41, 0];
+    let place = [
+        0u8, 16, 0, 0, 0, 0, 0, 0, 0, 0, 0, 0, 127, 0, 0, 1, 5, 41, 0,
+    ];
     assert!(&rt; given.sink().bytes().ends_with(place.as_slice()));
     let asked = dialer.asked();
     assert_eq!(&rt; asked.len(), 1);
@@ -131,7 +141,9 @@ fn assigned(rt: HostRuntime) -> Result<(), Fail> {
     let target = b"POST /api/v1/distserver/assign_job/4096 HTTP/1.1\r\nHost: 127.0.0.1:10501\r\n";
     assert!(&rt; asked[0].request.get().starts_with(target));
     let mut counted = reply(&rt, alloc, &scheduler, &mut pass, &mut dialer, STATUS)?;
-    let counts = [1u8, 0, 0, 0, 0, 0, 0, 0, 1, 0, 0, 0, 0, 0, 0, 0, 1, 0, 0, 0, 0, 0, 0, 0];
+    let counts = [
+        1u8, 0, 0, 0, 0, 0, 0, 0, 1, 0, 0, 0, 0, 0, 0, 0, 1, 0, 0, 0, 0, 0, 0, 0,
+    ];
     assert!(&rt; counted.sink().bytes().ends_with(counts.as_slice()));
     assert_eq!(&rt; read_up_to(alloc, &mut counted, 1)?.len(), 0);
     Ok(())

@@ -46,9 +46,21 @@ const CASES: &[(&[u8], &[u8], usize)] = &[
     (b"GET /api/v1/scheduler/status HTTP/1.1\r\n\r\nmore", OK, 4),
     (b"x\n\nGET", BAD_HEAD, 3),
     (b"GET / HTTP/1.1\r\n\r\n", b"HTTP/1.1 404 Not Found\r\n", 0),
-    (b"POST /x HTTP/1.1\r\nContent-Length: 5\r\n\r\nabc", BAD_HEAD, 0),
-    (b"POST /x HTTP/1.1\r\nContent-Length: 2\r\n\r\nabc", b"HTTP/1.1 404 Not Found\r\n", 1),
-    (b"POST /x HTTP/1.1\r\nContent-Length: 9x\r\n\r\nabc", BAD_HEAD, 3),
+    (
+        b"POST /x HTTP/1.1\r\nContent-Length: 5\r\n\r\nabc",
+        BAD_HEAD,
+        0,
+    ),
+    (
+        b"POST /x HTTP/1.1\r\nContent-Length: 2\r\n\r\nabc",
+        b"HTTP/1.1 404 Not Found\r\n",
+        1,
+    ),
+    (
+        b"POST /x HTTP/1.1\r\nContent-Length: 9x\r\n\r\nabc",
+        BAD_HEAD,
+        3,
+    ),
     (b"", BAD_HEAD, 0),
 ];
 

@@ -13,9 +13,11 @@ use dist_types::link::Link;
 use dist_types::sink::Sink;
 use dist_types::source::Source;
 use std::alloc::{AllocError, Global};
+use std::sync::Wait;
 use std::sync::atomic::{AtomicBool, AtomicU64, Ordering};
 use std::test::Fail;
 use std::thread;
+use std::thread::Threads;
 
 /// How often a flag is looked at before one gives up.
 const MAX_LOOKS: u64 = 1_000_000_000;
@@ -155,24 +157,29 @@ fn kit(
     })
 }
 
+/// Whether both links were answered, and how many entries that made.
+fn both<R: Threads + Wait + Sync>(rt: &R, alloc: Global, gate: &Gate) -> Result<(bool, u64), Fail> {
+    let (scheduler, mut pass) = TestScheduler::new(alloc, 1)?;
+    let server = PlainServerCheck::new(String::from_str(alloc, "s1")?);
+    let mut kits = Vec::new(alloc);
+    kits.push(kit(alloc, gate)?)?;
+    kits.push(kit(alloc, gate)?)?;
+    let back = serve_scheduler_workers(rt, alloc, &scheduler, &mut pass, kits, &server)?;
+    let mut answered = true;
+    for kit in &back {
+        answered = answered && kit.tasks.served == Some(Served::Answered);
+    }
+    Ok((answered, pass.count()))
+}
+
 /// The first of two links is held until the second was answered.
 #[test]
 fn gate_workers(rt: HostRuntime) -> Result<(), Fail> {
-    let alloc = rt.alloc();
-    let (scheduler, mut pass) = TestScheduler::new(alloc, 1)?;
-    let server = PlainServerCheck::new(String::from_str(alloc, "s1")?);
     let gate = Gate {
         begun: AtomicBool::new(false),
         answered: AtomicBool::new(false),
         tickets: AtomicU64::new(0),
     };
-    let mut kits = Vec::new(alloc);
-    kits.push(kit(alloc, &gate)?)?;
-    kits.push(kit(alloc, &gate)?)?;
-    let back = serve_scheduler_workers(&rt, alloc, &scheduler, &mut pass, kits, &server)?;
-    for kit in &back {
-        assert!(&rt; kit.tasks.served == Some(Served::Answered));
-    }
-    assert_eq!(&rt; pass.count(), 2);
+    assert_eq!(&rt; both(&rt, rt.alloc(), &gate)?, (true, 2));
     Ok(())
 }

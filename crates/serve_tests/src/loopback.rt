@@ -1,6 +1,6 @@
 //! The scheduler over loopback.
 use crate::calls::STATUS;
-use dist_config::config::{ClientAuth, SchedulerConfig, ServerAuth};
+use dist_config::config::{ClientAuth, SchedulerConfig, ServerAuth, ServerConfig};
 use dist_config::serve::Serve;
 use dist_http::real_serve::RealServe;
 use dist_http::run_scheduler::serve_scheduler;
@@ -11,8 +11,8 @@ use dist_types::fault::Failed;
 use dist_types::results::SchedulerStatusResult;
 use dist_types::tcp::TcpDialer;
 use http_routes::calls::answer;
-use rand_xoshiro::SplitMix64;
 use rand_core::SeedableRng;
+use rand_xoshiro::SplitMix64;
 use std::alloc::Global;
 use std::net::{Net, TcpListener};
 use std::test::Fail;
@@ -54,7 +54,7 @@ fn one_status(rt: HostRuntime) -> Result<(), Fail> {
         Box::new(alloc, move |config: &SchedulerConfig, start| {
             serve_scheduler(&rt, alloc, config, start)
         })?,
-        Box::new(alloc, |_config: &dist_config::config::ServerConfig, _start| Err(StartFault))?,
+        Box::new(alloc, |_config: &ServerConfig, _start| Err(StartFault))?,
         SplitMix64::seed_from_u64(1),
         1,
         Some(1),
@@ -88,7 +88,7 @@ fn taken_address(rt: HostRuntime) -> Result<(), Fail> {
         Box::new(alloc, move |config: &SchedulerConfig, start| {
             serve_scheduler(&rt, alloc, config, start)
         })?,
-        Box::new(alloc, |_config: &dist_config::config::ServerConfig, _start| Err(StartFault))?,
+        Box::new(alloc, |_config: &ServerConfig, _start| Err(StartFault))?,
         SplitMix64::seed_from_u64(1),
         1,
     );
