@@ -80,19 +80,23 @@ impl Ending {
     }
 }
 
-/// Tells the scheduler that the server stands, again and again, until the listener has ended.
+/// Tells the scheduler that the server stands, again and again, until the listener has ended: whether it had not ended
+/// before the first time.
 pub fn beat_until_end<R: Wait + Clock + Net>(
     rt: &R,
     alloc: Global,
     place: &SchedulerPlace,
     beat: &HeartbeatServerHttpRequest,
     ending: &Ending,
-) {
+) -> bool {
+    if *ending.ended.lock(rt) {
+        return false;
+    }
     let mut dialer = TcpDialer::new(alloc, rt);
     for _ in rt.forever() {
         let heard = beat_once(alloc, &mut dialer, place, beat);
         if ending.wait(rt, wait_after(heard)) {
-            return;
+            return true;
         }
     }
     unreachable!()

@@ -88,6 +88,32 @@ fn beat_of(alloc: Global, start: Start) -> Result<HeartbeatServerHttpRequest, St
     })
 }
 
+/// Serves the kits' connections, and tells the scheduler meanwhile that the server stands: whether the heartbeats had a
+/// thread of their own.
+fn serve_and_beat<
+    R: Threads + Wait + Sync + Clock + Net<Listener = TcpListener, Stream = TcpStream>,
+    F: Folder + Send + Drop,
+>(
+    rt: &R,
+    alloc: Global,
+    server: &Server<F>,
+    place: &SchedulerPlace,
+    beat: &HeartbeatServerHttpRequest,
+    kits: &mut [ServerKit<'_, R>],
+) -> Result<bool, StartFault> {
+    let key = JWTJobAuthorizer::of_key(Vec::from_slice(alloc, beat.jwt_key.get())?);
+    let ending = Ending::new();
+    let (beats, ()) = thread::join(
+        rt,
+        || beat_until_end(rt, alloc, place, beat, &ending),
+        || {
+            serve_server_workers(rt, alloc, server, &key, place, kits);
+            ending.end(rt);
+        },
+    );
+    Ok(beats)
+}
+
 /// Serves as a build server over a folder until the listener ends. Refused where the address is taken, the cache cannot
 /// be opened, the heartbeats get no thread, or memory ran out.
 pub fn serve_server<
@@ -97,7 +123,6 @@ pub fn serve_server<
     let listener = TcpListener::bind(rt, socket_addr(config.bind_address))?;
     let server = open(alloc, config, folder)?;
     let place = SchedulerPlace::of(alloc, &config.scheduler_url, config.scheduler_auth.get())?;
-    let key = JWTJobAuthorizer::of_key(Vec::from_slice(alloc, &start.key)?);
     let beat = beat_of(alloc, start)?;
     let tickets = AtomicU64::new(0);
     let sharing = Sharing {
@@ -108,18 +133,9 @@ pub fn serve_server<
         start,
     };
     let mut kits = sharing.kits()?;
-    let ending = Ending::new();
-    let (place, beat, ending) = (&place, &beat, &ending);
-    let beats = thread::scope(thread::scope_env(), rt, |scope| {
-        if scope
-            .spawn(move || beat_until_end(rt, alloc, place, beat, ending))
-            .is_err()
-        {
-            return false;
-        }
-        serve_server_workers(rt, alloc, &server, &key, place, &mut kits);
-        ending.end(rt);
-        true
-    });
-    if beats { Ok(()) } else { Err(StartFault) }
+    if serve_and_beat(rt, alloc, &server, &place, &beat, &mut kits)? {
+        Ok(())
+    } else {
+        Err(StartFault)
+    }
 }
