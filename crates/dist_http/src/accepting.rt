@@ -5,7 +5,7 @@ use crate::tasks::Tasks;
 use dist_types::addr::Addr;
 use dist_types::tcp::TcpLink;
 use std::alloc::Global;
-use std::net::{SocketAddr, TcpListener, TcpStream};
+use std::net::{IpAddr, Ipv4Addr, Ipv6Addr, SocketAddr, TcpListener, TcpStream};
 use std::sync::atomic::{AtomicU64, Ordering};
 use std::time::{Clock, Duration};
 use std::{io, thread};
@@ -24,8 +24,18 @@ pub struct Accepting<'a, R: Clock> {
     timeout_ms: u64,
 }
 
+/// An address as the system takes it.
+pub fn socket_addr(addr: Addr) -> SocketAddr {
+    match addr {
+        Addr::V4(octets, port) => SocketAddr::new(IpAddr::V4(Ipv4Addr::from_octets(octets)), port),
+        Addr::V6(groups, port) => {
+            SocketAddr::new(IpAddr::V6(Ipv6Addr::from_segments(groups)), port)
+        }
+    }
+}
+
 /// An address as the system has it.
-pub(crate) fn addr_of(peer: SocketAddr) -> Addr {
+fn addr_of(peer: SocketAddr) -> Addr {
     match peer {
         SocketAddr::V4(peer) => Addr::V4(peer.ip().octets(), peer.port()),
         SocketAddr::V6(peer) => Addr::V6(peer.ip().segments(), peer.port()),

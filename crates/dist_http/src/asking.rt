@@ -14,7 +14,7 @@ use http_routes::written::assign_request;
 use std::alloc::Global;
 
 /// What the reply to a call says; Memory where memory ran out.
-pub(crate) fn heard<M: Message>(alloc: Global, reply: &[u8]) -> Result<M, CallFault>
+pub fn heard<M: Message>(alloc: Global, reply: &[u8]) -> Result<M, CallFault>
     ensures says { result ≢ Err CallFault.Memory → IsAnswer M.at reply.now result }
     ensures came { result ≢ Err CallFault.Lost }
 {

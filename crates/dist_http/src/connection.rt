@@ -4,7 +4,8 @@ ghost use Rattle.dist_types.specs.Cause.{Rose};
 ghost use Rattle.dist_types.specs.Content.{Added, Began};
 ghost use Rattle.sched.specs.Outside.{moments};
 ghost use Rattle.http_routes.specs.Reply.{reply_text};
-ghost use Rattle.dist_http.specs.Connection.{IsReplied, IsServedBy};
+ghost use Rattle.dist_http.specs.Connection.{IsReplied};
+ghost use Rattle.dist_http.specs.Served.{IsServedBy};
 ghost use Rattle.http_routes.specs.Route.{IsRouted};
 ghost use Rattle.dist_http.specs.declared.served.Served.TheVariants as served;
 
@@ -66,7 +67,7 @@ fn reply_to<R: Wait, D: Dialer, C: Clock, K: ClientAuthCheck, V: ServerAuthCheck
 }
 
 /// Writes the reply, whose bytes are all made before the first is written.
-fn send<K: Sink>(alloc: Global, link: &mut K, reply: &Response) -> Served
+pub fn send<K: Sink>(alloc: Global, link: &mut K, reply: &Response) -> Served
     ensures answered { result ≡ served.Answered → Added (reply_text reply.now) (K.held link.old) (K.held link.new) }
     ensures failed { result ≡ served.WriteFault → Rose (K.faults link.old) (K.faults link.new)
         × Began (reply_text reply.now) (K.held link.old) (K.held link.new) }
@@ -105,7 +106,7 @@ pub fn serve_scheduler_connection<
     client: &mut K,
     server: &V,
 ) -> Served
-    ensures served { IsServedBy (λ r. IsRouted K.may_answer K.shown (V.server_of server.now) r peer)
+    ensures served { IsServedBy (IsReplied (λ r. IsRouted K.may_answer K.shown (V.server_of server.now) r peer))
         (record { left = L.left link.old; held = L.held link.old; reads = L.Source.faults link.old; writes = L.Sink.faults link.old })
         (record { left = L.left link.new; held = L.held link.new; reads = L.Source.faults link.new; writes = L.Sink.faults link.new })
         (record {

@@ -1,5 +1,5 @@
 //! The system's own: what serves by listeners and workers.
-ghost use Rattle.std.specs.Prelude.{None};
+ghost use Rattle.std.specs.Prelude.{◌≡◌, None};
 
 use crate::start::{Start, StartFault};
 use crate::stream::LINK_TIMEOUT_MS;
@@ -72,18 +72,31 @@ impl<G> RealServe<G> {
     }
 }
 
+impl<G: Rng> RealServe<G> {
+    /// What one start is given, with a word and a key that are drawn for it.
+    fn start(&mut self) -> Start
+        ensures faults { self.new.faults ≡ self.old.faults }
+    {
+        let word = self.random.next_u64();
+        let mut key = [0u8; 32];
+        self.random.fill_bytes(&mut key);
+        Start {
+            word,
+            key,
+            cpus: self.cpus,
+            limit: self.limit,
+            timeout_ms: self.timeout_ms,
+        }
+    }
+}
+
 impl<G: Rng> Serve for RealServe<G> {
     ghost calls = { λ _. None };
 
     ghost faults = { λ s. s.faults };
 
     fn scheduler(&mut self, config: &SchedulerConfig) -> Result<(), Failed> {
-        let start = Start {
-            word: self.random.next_u64(),
-            cpus: self.cpus,
-            limit: self.limit,
-            timeout_ms: self.timeout_ms,
-        };
+        let start = self.start();
         match (self.scheduler)(config, start) {
             Ok(()) => Ok(()),
             Err(_) => {
@@ -94,12 +107,7 @@ impl<G: Rng> Serve for RealServe<G> {
     }
 
     fn server(&mut self, config: &ServerConfig) -> Result<(), Failed> {
-        let start = Start {
-            word: self.random.next_u64(),
-            cpus: self.cpus,
-            limit: self.limit,
-            timeout_ms: self.timeout_ms,
-        };
+        let start = self.start();
         match (self.server)(config, start) {
             Ok(()) => Ok(()),
             Err(_) => {

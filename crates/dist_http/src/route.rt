@@ -12,7 +12,7 @@ use http_routes::route::{SchedRouted, scheduler_route, wants_json};
 use std::alloc::Global;
 
 /// Whether the reply is to be in JSON.
-pub(crate) fn form_of(request: &Option<Request>) -> bool
+pub fn form_of(request: &Option<Request>) -> bool
     ensures { result ≡ form_of request.now }
 {
     match request {
@@ -22,7 +22,7 @@ pub(crate) fn form_of(request: &Option<Request>) -> bool
 }
 
 /// What is asked at a moment, or the reply where there is nothing more to do. Refused for want of memory alone.
-pub(crate) fn route<K: ClientAuthCheck, V: ServerAuthCheck>(
+pub fn route<K: ClientAuthCheck, V: ServerAuthCheck>(
     alloc: Global,
     request: &Option<Request>,
     peer: Addr,

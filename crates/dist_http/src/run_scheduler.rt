@@ -1,5 +1,5 @@
 //! A scheduler on a runtime of the system: its listener, its checks and its workers.
-use crate::accepting::Accepting;
+use crate::accepting::{Accepting, socket_addr};
 use crate::checks::{ClientCheck, ServerCheck};
 use crate::start::{Start, StartFault};
 use crate::workers::{Kit, serve_scheduler_workers};
@@ -9,12 +9,11 @@ use dist_token::checks::{EqCheck, JwtServerCheck, PlainServerCheck};
 use dist_token::job_token::JWTJobAuthorizer;
 use dist_token::proxy::ProxyTokenCheck;
 use dist_token::server_token::{INSECURE_DIST_CLIENT_TOKEN, INSECURE_DIST_SERVER_TOKEN};
-use dist_types::addr::Addr;
 use dist_types::clock::RealClock;
 use dist_types::tcp::TcpDialer;
 use sched::scheduler::Scheduler;
 use std::alloc::Global;
-use std::net::{IpAddr, Ipv4Addr, Ipv6Addr, Net, SocketAddr, TcpListener, TcpStream};
+use std::net::{Net, TcpListener, TcpStream};
 use std::sync::Wait;
 use std::sync::atomic::AtomicU64;
 use std::thread::Threads;
@@ -22,16 +21,6 @@ use std::time::Clock;
 
 /// How many workers serve one listener.
 pub const WORKERS: usize = 8;
-
-/// An address as the system takes it.
-fn socket_addr(addr: Addr) -> SocketAddr {
-    match addr {
-        Addr::V4(octets, port) => SocketAddr::new(IpAddr::V4(Ipv4Addr::from_octets(octets)), port),
-        Addr::V6(groups, port) => {
-            SocketAddr::new(IpAddr::V6(Ipv6Addr::from_segments(groups)), port)
-        }
-    }
-}
 
 /// The key that a text in base64url says.
 fn key_of(alloc: Global, text: &str) -> Result<Vec<u8>, StartFault> {

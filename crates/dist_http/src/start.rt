@@ -6,8 +6,10 @@ use std::io;
 /// What one start is given beside its configuration.
 #[derive(Clone, Copy, Debug, PartialEq, Eq)]
 pub struct Start {
-    /// A random word: a scheduler's first job id.
+    /// A random word: a scheduler's first job id, or a build server's nonce.
     pub word: u64,
+    /// Random bytes: a build server's key.
+    pub key: [u8; 32],
     /// How many processors there are.
     pub cpus: u64,
     /// After how many connections the listener ends, where it does.
