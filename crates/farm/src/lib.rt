@@ -7,6 +7,7 @@
 //! are exported again from the crates below.
 #![tactic(auto)]
 
+pub use dist_config::{config, serve, start};
 pub use farm_auth::line;
 pub use farm_config::{files, read};
 pub use farm_run::{entry, print, run};
