@@ -125,10 +125,10 @@ fn carry_out<S: Source, K: Sink, R: Rng, N: Serve>(
     serve: &mut N,
 ) -> Result<(), FarmFault>
     ensures done { IsCarriedOut command result
-      (moment (record { content = S.left input.old; faults = S.faults input.old })
+        (moment (record { content = S.left input.old; faults = S.faults input.old })
         (record { content = K.held out.old; faults = K.faults out.old }) (R.stream random.old)
         (record { calls = N.calls serve.old; faults = N.faults serve.old }))
-      (moment (record { content = S.left input.new; faults = S.faults input.new })
+        (moment (record { content = S.left input.new; faults = S.faults input.new })
         (record { content = K.held out.new; faults = K.faults out.new }) (R.stream random.new)
         (record { calls = N.calls serve.new; faults = N.faults serve.new })) }
 {
