@@ -15,7 +15,11 @@ use rand_core::Rng;
 use std::alloc::{AllocError, Global};
 
 /// So many random bytes.
-fn random_bytes<R: Rng>(alloc: Global, random: &mut R, num_bytes: usize) -> Result<Vec<u8>, AllocError>
+fn random_bytes<R: Rng>(
+    alloc: Global,
+    random: &mut R,
+    num_bytes: usize,
+) -> Result<Vec<u8>, AllocError>
     ensures { IfOk result (λ bytes. (bytes.items, R.stream random.new) ≡ fill_bytes num_bytes (R.stream random.old)) }
 {
     let mut bytes = Vec::new(alloc);
@@ -26,7 +30,11 @@ fn random_bytes<R: Rng>(alloc: Global, random: &mut R, num_bytes: usize) -> Resu
 
 /// Random bytes in base64url, and a line end.
 #[tactic(auto, unfolding(dist_token::specs::Token::encoded))]
-fn random_line<R: Rng>(alloc: Global, random: &mut R, num_bytes: usize) -> Result<String, AllocError>
+fn random_line<R: Rng>(
+    alloc: Global,
+    random: &mut R,
+    num_bytes: usize,
+) -> Result<String, AllocError>
     ensures line { IfOk result (λ line. string_bytes line ≡ random_line num_bytes (R.stream random.old)) }
     ensures left { OnOk result (R.stream random.new ≡ (fill_bytes num_bytes (R.stream random.old)).1) }
 {
