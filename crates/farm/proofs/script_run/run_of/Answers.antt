@@ -1,6 +1,6 @@
 use Rattle.std.proofs.Common.{string_bytes}
 use Rattle.farm_run.proofs.RunLemmas.{run_text_is}
-use Rattle.farm.proofs.command.run_of.Goals as goal
+use Rattle.farm.proofs.script_run.run_of.Goals as goal
 
 pub returns-in-Ok-run-clause-ok : goal.returns-in-Ok-run-clause-ok
 returns-in-Ok-run-clause-ok c =
