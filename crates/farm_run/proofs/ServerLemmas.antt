@@ -4,7 +4,7 @@ use Rattle.std.specs.Prelude.{slice_get, position, find, fold, is_some}
 use Rattle.std.specs.List.{position_from, AllByRecursion}
 use Rattle.std.proofs.lemmas.Iterator.Adapters.{position_from-zero}
 use Rattle.std.specs.Option.{option_map}
-use Rattle.std.proofs.lemmas.Bool.{cases_Bool, cases_eq}
+use Rattle.std.proofs.lemmas.Bool.{cases_eq}
 use Rattle.std.proofs.lemmas.List.{length-set}
 use Rattle.std.proofs.lemmas.List.Sums.{fold-append}
 use Rattle.std.proofs.lemmas.Option.{same_Some}
@@ -14,18 +14,18 @@ use Rattle.sched_core.proofs.AddressLemmas.{same_is, same_self}
 use Rattle.sched_core.proofs.AllLemmas.{is_false, true_false}
 use Rattle.farm_script.specs.declared.event.Event.{Event}
 use Rattle.farm_script.specs.declared.event.EventKind.TheVariants.{Restart}
+use Rattle.farm_script.specs.Setups.{AreApart}
 use Rattle.farm_script.specs.declared.setup.Setup.{Setup}
 use Rattle.farm_script.specs.declared.setup.SetupServer.{SetupServer}
 use Rattle.farm_run.specs.declared.entry.Effect.{Effect}
 use Rattle.farm_run.specs.declared.entry.Entry.{Entry}
-use Rattle.farm_run.specs.declared.entry.OutCall.{OutCall}
 use Rattle.farm_run.specs.declared.entry.Step.{Step}
 use Rattle.farm_run.specs.declared.entry.StepKind.{StepKind}
 use Rattle.farm_run.specs.declared.entry.StepKind.TheVariants as kinds
 use Rattle.farm_run.specs.declared.station.Station.{Station}
 use Rattle.farm_run.specs.Effects.{entry_of}
 use Rattle.farm_run.specs.Servers.{ServerNow, server_begun, kind_after, restart_by, restarted, stepped, server_after, server_of, server_at, server_now}
-use Rattle.farm_run.specs.Stations.{now_of, IsWell, AreWell, IsStation, AreStations, IsStepAt, AreApart, HasApart}
+use Rattle.farm_run.specs.Stations.{now_of, IsWell, AreWell, IsStation, AreStations, IsStepAt, HasApart}
 
 -- ---- places
 

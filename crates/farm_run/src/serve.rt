@@ -8,12 +8,14 @@ ghost use Rattle.sched_core.specs.declared.entry.CoreEntry.{CoreEntry as Core};
 ghost use Rattle.sched_core.specs.declared.entry.UpdateAnswer.{UpdateAnswer};
 ghost use Rattle.dist_types.specs.declared.results.AllocJobResult.TheVariants as alloc_result;
 ghost use Rattle.http_routes.specs.declared.route.SchedRouted.TheVariants as asked;
-ghost use Rattle.farm_script.specs.Built.{IsPlain};
-ghost use Rattle.farm_run.specs.Answers.{hears, heard, update_by, assign_call, answer_to, IsAnswered};
+ghost use Rattle.std.specs.Result.{result_ok};
+ghost use Rattle.dist_token.specs.Verdict.{server_verdict};
+ghost use Rattle.http_routes.specs.Admission.{equal_admission};
+ghost use Rattle.http_routes.specs.Asked.{IsAskedUnder};
+ghost use Rattle.farm_run.specs.Answers.{Asks, hears, heard, update_by, assign_call, answer_to, IsAnswered};
 ghost use Rattle.farm_run.specs.Begun.{IsAssignment, IsBegunBy, Keeps};
 ghost use Rattle.farm_run.specs.Effects.{reply_effect, call_effect, reply_to};
 ghost use Rattle.farm_run.specs.Farm.{with_core, acted};
-ghost use Rattle.farm_run.specs.Seen.{token_of};
 ghost use Rattle.farm_run.specs.Ways.{to_scheduler};
 ghost use Rattle.http_routes.specs.Replies as response;
 ghost use Rattle.http_routes.specs.Replies.{update_reply};
@@ -25,6 +27,7 @@ ghost use Rattle.farm_script.specs.declared.fault.FarmFault.TheVariants as fault
 use crate::desk::Desk;
 use crate::entry::{Effect, OutCall, Reply};
 use crate::pending::{Ask, Made, Pending};
+use dist_token::checks::{EqCheck, JwtServerCheck};
 use dist_token::job_token::JWTJobAuthorizer;
 use dist_types::addr::Addr;
 use dist_types::ids::{JobId, ServerId};
@@ -34,8 +37,8 @@ use dist_types::text::Bytes;
 use dist_types::toolchain::Toolchain;
 use dist_wire::heartbeat::HeartbeatServerHttpRequest;
 use farm_script::fault::FarmFault;
-use farm_script::setup::SetupAuth;
-use http_routes::asked::asked;
+use farm_script::setup::{Setup, SetupAuth};
+use http_routes::asked::{asked, asked_under};
 use http_routes::fault::RouteFault;
 use http_routes::replies::{
     no_room, to_allocation, to_fault, to_heartbeat, to_status, to_update, want_of_memory,
@@ -89,14 +92,45 @@ pub fn reply(alloc: Global, number: u64, response: &Response) -> Result<Reply, A
     }
 }
 
-/// The token of all build servers.
-pub fn token(auth: &SetupAuth) -> &str
-    requires { IsPlain auth.now }
-    ensures { result.now ≡ token_of auth.now }
+/// What bytes ask of the scheduler, where each build server has a token of its own under a key.
+fn asked_by_key(
+    alloc: Global,
+    bytes: &[u8],
+    peer: Addr,
+    client: &str,
+    key: &[u8],
+) -> Result<Asked, FarmFault>
+    ensures ok { IfOk result (IsAskedUnder (equal_admission client.now) (λ shown. result_ok (server_verdict key.now shown)) bytes.now peer) }
+    ensures err { IfErr result (λ e. e ≡ fault.Memory) }
 {
-    match auth {
-        SetupAuth::Plain(token) => token.get(),
-        SetupAuth::Jwt(_) => unreachable!(),
+    let mut client = EqCheck::new(String::from_str(alloc, client)?);
+    let server = JwtServerCheck::new(Vec::from_slice(alloc, key)?);
+    match asked_under(alloc, bytes, peer, &mut client, &server) {
+        Ok(question) => Ok(question),
+        Err(error) => Err(FarmFault::from(want_of_memory(error))),
+    }
+}
+
+/// What bytes ask of the scheduler, by how build servers show who they are.
+fn question(
+    alloc: Global,
+    setup: &Setup,
+    peer: Addr,
+    bytes: &[u8],
+) -> Result<Asked, FarmFault>
+    ensures ok { IfOk result (Asks setup.now peer bytes.now) }
+    ensures err { IfErr result (λ e. e ≡ fault.Memory) }
+{
+    let client = setup.scheduler.client.get();
+    match &setup.scheduler.auth {
+        SetupAuth::Plain(token) => match asked(alloc, bytes, peer, client, token.get()) {
+            Ok(question) => Ok(question),
+            Err(error) => Err(FarmFault::from(want_of_memory(error))),
+        },
+        SetupAuth::Jwt(key) => {
+            let question = asked_by_key(alloc, bytes, peer, client, key.get())?;
+            Ok(question)
+        }
     }
 }
 
@@ -414,18 +448,12 @@ fn serve_asked(
 
 /// What is made of bytes that come to the scheduler.
 pub fn serve(desk: &mut Desk, arrival: &Arrival<'_>) -> Result<Made, FarmFault>
-    requires plain { IsPlain desk.old.setup.scheduler.auth }
     ensures answered { IfOk result (λ m. IsAnswered desk.old.setup desk.old.state arrival.now.stamp.number arrival.now.stamp.at arrival.now.peer arrival.now.bytes.now m.effect) }
     ensures kept { IfOk result (λ m. Keeps (IsBegunBy desk.old.setup desk.old.state.log arrival.now.stamp.number (to_scheduler arrival.now.peer arrival.now.bytes.now) m.effect) m.effect m.pending) }
     ensures desk { IfOk result (λ m. desk.new ≡ acted desk.old m.effect.core) }
     ensures err { IfErr result (λ e. e ≡ fault.Memory) }
 {
-    let client = desk.setup.scheduler.client.get();
-    let token = token(&desk.setup.scheduler.auth);
-    let question = match asked(desk.alloc, arrival.bytes, arrival.peer, client, token) {
-        Ok(question) => question,
-        Err(error) => return Err(FarmFault::from(want_of_memory(error))),
-    };
+    let question = question(desk.alloc, &desk.setup, arrival.peer, arrival.bytes)?;
     let Asked { what, json } = question;
     serve_asked(desk.alloc, &mut desk.state, arrival.stamp, json, what)
 }
