@@ -9,9 +9,12 @@ use Rattle.farm_script.specs.Script.{script}
 use Rattle.farm_script.specs.Pieces.{pieces}
 use Rattle.farm_script.specs.declared.lines.Line.{Line}
 use Rattle.farm_script.specs.FirstFaulty.{IsFaulty, FirstFaultyFrom, IsFirstFaulty}
+use Rattle.farm_script.specs.declared.setup.Setup.{Setup}
+use Rattle.farm_script.specs.Setups.{IsSetup}
 use Rattle.farm_script.proofs.FirstFaultyLemmas.{first_faulty}
 use Rattle.farm_script.proofs.SpelledLemmas.{script_is_said}
 use Rattle.farm_run.specs.RunText.{IsRunText, IsReadText}
+use Rattle.farm_run.specs.Stations.{HasApart}
 use Rattle.farm.specs.Command.{NamesLine, Side, IsReadWhole, IsFarmRun}
 
 -- the first faulty line is named
@@ -34,6 +37,10 @@ first_names done said (p ∷ ps) f (inr h) = first_names (done ++ p ∷ []) (sai
 pub line_or_memory : (bytes : List ℕ) (f : FarmFault) → (f ≡ Memory) ⊎ IsFirstFaulty bytes f → (f ≡ Memory) ⊎ (NamesLine f × IsFirstFaulty bytes f)
 line_or_memory bytes f (inl e) = inl e
 line_or_memory bytes f (inr h) = inr (first_names [] [] (pieces bytes) f h, h)
+
+-- the addresses of a setup that was read differ
+pub setup_apart : (s : Setup) → IsSetup s → HasApart s
+setup_apart s is = is.apart
 
 same_text : (v bytes text : List ℕ) → script v ≡ script bytes → IsReadText v text → IsRunText bytes text
 same_text v bytes text e r =

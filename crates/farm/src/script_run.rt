@@ -12,7 +12,7 @@ use farm_script::script::read_script;
 use std::alloc::Global;
 
 /// The text of the run of a script, or its first faulty line, or want of memory.
-#[tactic(auto, using(crate::proofs::ScriptRunLemmas::line_or_memory))]
+#[tactic(auto, using(crate::proofs::ScriptRunLemmas::line_or_memory, crate::proofs::ScriptRunLemmas::setup_apart))]
 pub fn run_of(alloc: Global, bytes: &[u8]) -> Result<String, FarmFault>
     ensures ok { IfOk result (λ text. IsReadText bytes.now (string_bytes text)) }
     ensures err { IfErr result (λ f. (f ≡ fault.Memory) ⊎ (NamesLine f × IsFirstFaulty bytes.now f)) }
