@@ -1,6 +1,6 @@
 -- What each kind of event makes, and what is kept after it.
 use Rattle.std.proofs.Common.{◌≡◌, ◌≢◌, ◌⊎◌, inl, inr, ℕ, zero, suc, ◌<◌, Bool, true, false, ◌&&◌, nat_lt, List, [], ◌∷◌, ◌++◌, length, take, drop, set, Option, Some, None, Result, Ok, Err, refl, sym, ap, subst, ◌∙◌, arith}
-use Rattle.std.specs.Prelude.{slice_get, IfOk}
+use Rattle.std.specs.Prelude.{slice_get}
 use Rattle.std.proofs.lemmas.Bool.{cases_eq, ne_eqb}
 use Rattle.std.proofs.lemmas.List.{length-set, length-take}
 use Rattle.std.proofs.lemmas.Option.{same_Some, slice_get_within}
@@ -13,10 +13,8 @@ use Rattle.sched_core.specs.Log.{Core}
 use Rattle.sched_core.specs.Reservation.{unspent}
 use Rattle.sched_core.specs.Rule.{is_among}
 use Rattle.sched_core.specs.Ticket.{Ticket}
-use Rattle.farm_script.specs.declared.fault.FarmFault.{FarmFault}
 use Rattle.farm_script.specs.declared.setup.Setup.{Setup}
 use Rattle.farm_script.specs.declared.event.Event.{Event}
-use Rattle.farm_run.specs.declared.desk.Desk.{Desk}
 use Rattle.farm_run.specs.declared.entry.Effect.{Effect}
 use Rattle.farm_run.specs.declared.entry.Entry.{Entry}
 use Rattle.farm_run.specs.declared.entry.EntryWord.TheVariants.{Void}
@@ -43,10 +41,10 @@ use Rattle.farm_run.specs.declared.pending.Pending.{Pending}
 use Rattle.farm_run.specs.Begun.{IsBegunBy, IsFirstCall, IsMadeBy, IsCallOf, Keeps, outcome_of, completion_by, completion_at, completion_of}
 use Rattle.farm_run.specs.Calls.{settles_by, is_void, is_of, settled_at, waiting_at}
 use Rattle.farm_run.specs.Effects.{entry_of, effect_of, word_effect}
-use Rattle.farm_run.specs.Farm.{with_core, acted, IsWaiting, IsKept, kept_at, AreKept, IsAfter, IsReceived, IsMadeSo, IsSound, IsFarm}
-use Rattle.farm_run.specs.Next.{GoesOn, Follows, IsServed, IsSettled, IsMade, IsNext}
+use Rattle.farm_run.specs.Farm.{with_core, IsWaiting, IsKept, kept_at, AreKept, IsAfter, IsReceived, IsMadeSo, IsSound, IsFarm}
+use Rattle.farm_run.specs.Next.{GoesOn, Follows, IsServed, IsSettled, IsMade}
 use Rattle.farm_run.specs.Seen.{core_log, core_of}
-use Rattle.farm_run.specs.Settled.{IsOutcome, assignment_end, ready_end, started_end, complete_end, Reports, Lives, ReportsIn, IsOwnBy}
+use Rattle.farm_run.specs.Settled.{assignment_end, ready_end, started_end, complete_end, Reports, Lives, ReportsIn, IsOwnBy}
 use Rattle.farm_run.specs.Ways.{Way, way_of, brought_at, to_nothing, to_nobody, to_scheduler, to_server, to_call, to_beat, to_restart}
 use Rattle.farm_run.proofs.CallLemmas.{waiting-end}
 use Rattle.farm_run.proofs.NextLemmas.{call_ticket, settles_it, way_settles, sound_next}

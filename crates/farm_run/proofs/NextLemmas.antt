@@ -33,7 +33,6 @@ use Rattle.sched_core.proofs.OnceLemmas.{legal_all}
 use Rattle.http_routes.specs.declared.route.SchedRouted.{SchedRouted}
 use Rattle.http_routes.specs.declared.route.SchedRouted.TheVariants as asked
 use Rattle.http_routes.proofs.CallLemmas.{begins_assigned}
-use Rattle.farm_script.proofs.WordLemmas.{guard_off}
 use Rattle.farm_script.specs.declared.setup.Setup.{Setup}
 use Rattle.farm_script.specs.declared.event.Event.{Event}
 use Rattle.farm_script.specs.declared.event.EventKind.{EventKind}
@@ -41,7 +40,7 @@ use Rattle.farm_script.specs.declared.event.EventKind.TheVariants.{Request, Deli
 use Rattle.farm_run.specs.declared.entry.Effect.{Effect}
 use Rattle.farm_run.specs.declared.entry.Entry.{Entry}
 use Rattle.farm_run.specs.declared.entry.EntryWord.{EntryWord}
-use Rattle.farm_run.specs.declared.entry.EntryWord.TheVariants.{Void, Down, Died}
+use Rattle.farm_run.specs.declared.entry.EntryWord.TheVariants.{Void, Down}
 use Rattle.farm_run.specs.declared.entry.OutCall.{OutCall}
 use Rattle.farm_run.specs.declared.pending.Ask.{Ask}
 use Rattle.farm_run.specs.declared.pending.Ask.TheVariants.{Assign, Report}
@@ -51,7 +50,6 @@ use Rattle.farm_run.specs.declared.entry.Step.{Step}
 use Rattle.farm_run.specs.declared.entry.StepKind.{StepKind}
 use Rattle.farm_run.specs.declared.entry.StepKind.TheVariants as kinds
 use Rattle.dist_types.specs.declared.results.UpdateJobStateResult.{UpdateJobStateResult}
-use Rattle.dist_types.specs.declared.results.HeartbeatServerResult.{HeartbeatServerResult}
 use Rattle.build_server.specs.declared.run.Outcome.{Outcome}
 use Rattle.build_server.specs.Rules.{assign_verdict}
 use Rattle.build_server.specs.declared.fault.ServerFault.{ServerFault}
@@ -60,16 +58,15 @@ use Rattle.http_routes.specs.declared.server_route.ServerRouted.{ServerRouted}
 use Rattle.http_routes.specs.declared.server_route.ServerRouted.TheVariants as server_asked
 use Rattle.farm_run.specs.Servers.{ServerNow, server_now, is_over}
 use Rattle.farm_run.specs.Served.{assigned, served, books_of}
-use Rattle.farm_run.proofs.ServerLemmas.{IsStepOf}
 use Rattle.farm_run.specs.declared.pending.Pending.{Pending}
 use Rattle.farm_run.specs.Answers.{hears, allocated, answer_to}
-use Rattle.farm_run.specs.Begun.{IsBegunBy, IsMadeBy, IsCallOf, completion_by, completion_at, completion_of}
+use Rattle.farm_run.specs.Begun.{IsMadeBy, IsCallOf, completion_by, completion_of}
 use Rattle.farm_run.specs.Calls.{call_at, delivery_at, settles_by, is_void, settled_at, waiting_at}
 use Rattle.farm_run.specs.Effects.{entry_of, effect_of, word_effect}
 use Rattle.farm_run.specs.Farm.{IsSound, IsLawful, AreLawful}
-use Rattle.farm_run.specs.Next.{GoesOn, Follows, IsSettled, IsMade, IsNext, EachNext}
+use Rattle.farm_run.specs.Next.{GoesOn, IsSettled, IsMade, IsNext, EachNext}
 use Rattle.farm_run.specs.Seen.{core_log, core_of}
-use Rattle.farm_run.specs.Settled.{IsOutcome, assignment_end, unreported, ready_end, started_end, complete_end, Reports, ReportsIn, Lives}
+use Rattle.farm_run.specs.Settled.{IsOutcome, assignment_end, ready_end, started_end, complete_end, Reports, ReportsIn, Lives}
 use Rattle.farm_run.specs.Tickets.{ticket_of, ticket_at}
 use Rattle.farm_run.specs.Ways.{Way, server_way, caller_of, delivery_way, return_way, is_inside, beat_way, restart_way, way_of, brought_at, to_nothing, to_nobody, to_scheduler, to_server, to_call, to_beat, to_restart}
 use Rattle.farm_run.proofs.OwnLemmas.{legal_front}

@@ -1,6 +1,6 @@
 -- What the rows of servers make, at the places of the setup.
-use Rattle.std.proofs.Common.{◌≡◌, ◌≢◌, inl, inr, ℕ, Bool, true, false, cond, List, [], ◌∷◌, ◌++◌, length, drop, set, Option, Some, None, Result, Ok, Err, refl, sym, ap, subst, ◌∙◌}
-use Rattle.std.specs.Prelude.{slice_get, position, IfOk}
+use Rattle.std.proofs.Common.{◌≡◌, ℕ, Bool, true, false, cond, List, [], ◌∷◌, ◌++◌, length, drop, set, Option, Some, None, Result, Ok, Err, refl, sym, ap, subst, ◌∙◌}
+use Rattle.std.specs.Prelude.{slice_get, position}
 use Rattle.std.specs.Option.{option_map}
 use Rattle.std.proofs.lemmas.Option.{same_Some}
 use Rattle.dist_types.specs.Addr.{same_addr}
@@ -22,16 +22,13 @@ use Rattle.http_routes.specs.declared.route.SchedRouted.{SchedRouted}
 use Rattle.http_routes.specs.declared.route.SchedRouted.TheVariants as asked
 use Rattle.farm_run.specs.Settled.{assignment_end}
 use Rattle.farm_run.proofs.NextLemmas.{served_core}
-use Rattle.sched_core.proofs.AddressLemmas.{same_is, same_self}
-use Rattle.sched_core.proofs.AllLemmas.{is_false, true_false}
 use Rattle.build_server.specs.Rules.{assign_verdict}
 use Rattle.build_server.specs.declared.fault.ServerFault.{ServerFault}
 use Rattle.build_server.specs.declared.run.Outcome.{Outcome}
 use Rattle.http_routes.specs.declared.server_route.ServerRouted.{ServerRouted}
 use Rattle.http_routes.specs.declared.server_route.ServerRouted.TheVariants as server_asked
 use Rattle.farm_script.specs.declared.event.Event.{Event}
-use Rattle.farm_script.specs.declared.event.EventKind.{EventKind}
-use Rattle.farm_script.specs.declared.event.EventKind.TheVariants.{Request, Deliver, Fail, Return, Answer, Beat, Restart}
+use Rattle.farm_script.specs.declared.event.EventKind.TheVariants.{Restart}
 use Rattle.farm_script.specs.declared.setup.Setup.{Setup}
 use Rattle.farm_script.specs.declared.setup.SetupServer.{SetupServer}
 use Rattle.farm_run.specs.declared.entry.Effect.{Effect}
@@ -43,20 +40,18 @@ use Rattle.farm_run.specs.declared.pending.Pending.{Pending}
 use Rattle.farm_run.specs.declared.pending.Told.{Told}
 use Rattle.farm_run.specs.declared.pending.Told.TheVariants as told
 use Rattle.farm_run.specs.declared.station.Station.{Station}
-use Rattle.farm_run.specs.Answers.{hears, heard, allocated, answer_to, IsAnswered}
-use Rattle.farm_run.specs.Begun.{IsBegunBy, Keeps, completion_at}
+use Rattle.farm_run.specs.Answers.{hears, allocated, answer_to, IsAnswered}
+use Rattle.farm_run.specs.Begun.{IsBegunBy, Keeps}
 use Rattle.farm_run.specs.Effects.{word_effect, entry_of}
 use Rattle.farm_run.specs.Farm.{IsFarm, IsReceived, IsMadeSo}
-use Rattle.farm_run.specs.Next.{IsServed}
-use Rattle.farm_run.specs.Seen.{core_of}
 use Rattle.farm_run.specs.Served.{assigned, served, books_of, IsServerAnswered, beat_effect, restart_effect, report_of}
-use Rattle.farm_run.specs.Servers.{ServerNow, restart_by, restarted, stepped, server_of, server_at, server_now, is_over}
-use Rattle.farm_run.specs.Settled.{unreported, ready_end, started_end, complete_end, Reports, Lives, ReportsIn}
-use Rattle.farm_run.specs.Stations.{now_of, IsWell, AreStations, IsStepAt, HasApart}
+use Rattle.farm_run.specs.Servers.{ServerNow, restarted, stepped, server_of, server_at, server_now, is_over}
+use Rattle.farm_run.specs.Settled.{ready_end, started_end, complete_end, Reports, Lives, ReportsIn}
+use Rattle.farm_run.specs.Stations.{now_of, IsWell, AreStations, IsStepAt}
 use Rattle.farm_run.specs.Ways.{Way, way_of, server_way, way_to, beat_way, restart_way, to_nothing, to_nobody, to_scheduler, to_server, to_beat, to_restart}
 use Rattle.farm_run.specs.Calls.{settles_by}
 use Rattle.farm_run.proofs.MadeLemmas.{received_made, idle_stands}
-use Rattle.farm_run.proofs.ServerLemmas.{IsFound, place_found, place_none, station_there, stations_gone, stations_restarted, IsStepOf, stations_same, stations_set, stations_stepped, station_now}
+use Rattle.farm_run.proofs.ServerLemmas.{IsFound, place_found, place_none, station_there, stations_gone, stations_restarted, IsStepOf, station_now}
 
 -- ---- steps are of the server itself
 

@@ -1,28 +1,18 @@
 -- What a server's calls leave of its station.
-use Rattle.std.proofs.Common.{◌≡◌, ◌≢◌, ℕ, ◌≤◌, Bool, true, false, cond, not, List, [], ◌∷◌, ◌++◌, length, Option, Some, None, Result, Ok, Err, refl, sym, ap, subst, ◌∙◌, arith}
-use Rattle.std.specs.Prelude.{slice_get, codes, nat_le, filter}
-use Rattle.std.proofs.lemmas.Bool.{cases_Bool}
-use Rattle.dist_types.specs.Addr.{same_addr}
+use Rattle.std.proofs.Common.{◌≡◌, ◌≢◌, ℕ, Bool, cond, List, [], Option, Some, None, Result, Ok, Err, refl, sym, ap, subst, ◌∙◌}
+use Rattle.std.specs.Prelude.{slice_get}
 use Rattle.dist_types.specs.Cause.{counted}
-use Rattle.dist_types.specs.declared.addr.Addr.{Addr}
 use Rattle.dist_types.specs.declared.builder.BuildFault.{BuildFault}
 use Rattle.dist_types.specs.declared.builder.BuildFault.TheVariants as build
 use Rattle.dist_types.specs.declared.ids.JobId.{JobId}
-use Rattle.dist_types.specs.declared.results.AssignJobResult.{AssignJobResult}
 use Rattle.dist_types.specs.declared.results.BuildResult.{BuildResult}
-use Rattle.disk_cache.specs.Archives.{Archives, opened_archives, IsInStep}
-use Rattle.disk_cache.specs.Archiving.{ArchivesReopen}
-use Rattle.disk_cache.specs.Entries.{total}
-use Rattle.disk_cache.specs.Held.{Held}
+use Rattle.disk_cache.specs.Archives.{Archives}
 use Rattle.sched_core.proofs.AddressLemmas.{same_self}
-use Rattle.build_server.specs.Books.{Books, Table, held_for, placed, without_job, is_listed, KeepsStep}
+use Rattle.build_server.specs.Books.{Books, Table, held_for, placed, without_job, KeepsStep}
 use Rattle.build_server.specs.Builds.{ran_of, built_of, is_due, outcome_by}
-use Rattle.build_server.specs.Rules.{assign_verdict, Assigns, submit_verdict, archives_after_submit, NotFolder, IsSubmitted, Finds, archives_after_taking, FolderHeld, IsTaken}
-use Rattle.build_server.specs.declared.fault.ServerFault.{ServerFault}
+use Rattle.build_server.specs.Rules.{submit_verdict, NotFolder, IsSubmitted, Finds, archives_after_taking, FolderHeld, IsTaken}
 use Rattle.build_server.specs.declared.run.Outcome.{Outcome}
 use Rattle.build_server.specs.declared.run.Outcome.TheVariants as outcome
-use Rattle.build_server.specs.declared.run.Ran.{Ran}
-use Rattle.build_server.specs.declared.run.Ran.TheVariants as ran
 use Rattle.build_server.specs.declared.run.Taken.{Taken}
 use Rattle.build_server.specs.declared.run.Taken.TheVariants as taken
 use Rattle.build_server.specs.declared.submit.Submitted.{Submitted}
@@ -30,11 +20,10 @@ use Rattle.build_server.specs.declared.submit.Submitted.TheVariants as submitted
 use Rattle.farm_script.specs.declared.setup.BuilderLine.{BuilderLine}
 use Rattle.farm_script.specs.declared.setup.BuilderLine.TheVariants.{Listed, Refuse}
 use Rattle.farm_script.specs.declared.setup.SetupServer.{SetupServer}
-use Rattle.farm_run.specs.declared.entry.Step.{Step}
 use Rattle.farm_run.specs.declared.entry.StepKind.{StepKind}
 use Rattle.farm_run.specs.declared.entry.StepKind.TheVariants as kinds
 use Rattle.farm_run.specs.declared.station.Station.{Station}
-use Rattle.farm_run.specs.Served.{books_of, listed, build_answer, built, run_outcome}
+use Rattle.farm_run.specs.Served.{books_of, build_answer, built, run_outcome}
 use Rattle.farm_run.specs.Servers.{ServerNow, kind_after, stepped, restarted, archives_after_run, builds_after_run}
 use Rattle.farm_run.specs.Stations.{now_of, IsWell, NotBroken}
 

@@ -1,18 +1,14 @@
 -- What the scheduler does with what is asked of it.
-use Rattle.std.specs.Prelude.{◌≡◌, ℕ, List, Bool, ◌&&◌, nat_le, if◌then◌else◌, Option, Some, None}
+use Rattle.std.specs.Prelude.{◌≡◌, ℕ, List, Bool, ◌&&◌, nat_le, if◌then◌else◌, Some, None}
 use Rattle.std.specs.Option.{option_map}
 use Rattle.dist_types.specs.declared.addr.Addr.{Addr}
-use Rattle.dist_types.specs.declared.ids.JobId.{JobId}
 use Rattle.dist_types.specs.declared.results.AllocJobResult.TheVariants as alloc
-use Rattle.dist_types.specs.declared.results.JobState.{JobState}
-use Rattle.dist_types.specs.declared.results.UpdateJobStateResult.TheVariants.{Success}
 use Rattle.dist_wire.specs.declared.heartbeat.HeartbeatServerHttpRequest.{HeartbeatServerHttpRequest}
 use Rattle.http_routes.specs.Asked.{IsAsked}
 use Rattle.http_routes.specs.Fault.{fault_response_of}
 use Rattle.sched_core.specs.Texts.{no_room_text}
 use Rattle.http_routes.specs.Written.{assign_request_text}
 use Rattle.http_routes.specs.declared.fault.RouteFault.TheVariants as fault
-use Rattle.http_routes.specs.declared.reply.Response.{Response}
 use Rattle.http_routes.specs.declared.route.Asked.{Asked}
 use Rattle.http_routes.specs.declared.route.SchedRouted.{SchedRouted}
 use Rattle.http_routes.specs.declared.route.SchedRouted.TheVariants as asked
@@ -23,14 +19,14 @@ use Rattle.sched_core.specs.declared.call.Call.TheVariants as call
 use Rattle.sched_core.specs.declared.entry.CoreEntry.{CoreEntry}
 use Rattle.sched_core.specs.declared.entry.CoreKind.{CoreKind}
 use Rattle.sched_core.specs.declared.entry.CoreKind.TheVariants as core
-use Rattle.sched_core.specs.declared.entry.Reserved.TheVariants.{Job, NoRoom, Spent}
+use Rattle.sched_core.specs.declared.entry.Reserved.TheVariants.{Job, NoRoom}
 use Rattle.sched_core.specs.declared.entry.UpdateAnswer.{UpdateAnswer}
-use Rattle.sched_core.specs.declared.entry.UpdateAnswer.TheVariants.{Accepted, Unknown, Wrong, Transition}
+use Rattle.sched_core.specs.declared.entry.UpdateAnswer.TheVariants.{Unknown}
 use Rattle.farm_script.specs.declared.setup.Setup.{Setup}
 use Rattle.farm_run.specs.declared.entry.Effect.{Effect}
 use Rattle.farm_run.specs.declared.entry.OutCall.{OutCall}
 use Rattle.farm_run.specs.Effects.{reply_effect, call_effect, reply_to}
-use Rattle.http_routes.specs.Replies.{heard_response, status_response, alloc_response, update_response, update_reply}
+use Rattle.http_routes.specs.Replies.{heard_response, status_response, alloc_response, update_reply}
 use Rattle.farm_run.specs.Seen.{token_of}
 use Rattle.farm_run.specs.Tickets.{ticket_by}
 

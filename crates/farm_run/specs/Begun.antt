@@ -1,7 +1,6 @@
 -- What is kept of a call, told by the entry that made it.
 use Rattle.std.specs.Prelude.{◌≡◌, ℕ, List, length, take, slice_get, Bool, false, Option, Some, None}
 use Rattle.dist_types.specs.declared.addr.Addr.{Addr}
-use Rattle.dist_types.specs.declared.ids.JobId.{JobId}
 use Rattle.dist_types.specs.declared.results.BuildResult.{BuildResult}
 use Rattle.http_routes.specs.declared.route.Asked.{Asked}
 use Rattle.http_routes.specs.declared.server_route.ServerAsked.{ServerAsked}
@@ -21,13 +20,11 @@ use Rattle.farm_run.specs.declared.entry.StepKind.TheVariants as step
 use Rattle.farm_run.specs.declared.pending.Ask.{Ask}
 use Rattle.farm_run.specs.declared.pending.Ask.TheVariants.{Assign, Report}
 use Rattle.farm_run.specs.declared.pending.Pending.{Pending}
-use Rattle.farm_run.specs.declared.pending.Told.{Told}
 use Rattle.farm_run.specs.declared.pending.Told.TheVariants as told
 use Rattle.farm_run.specs.Answers.{Asks}
 use Rattle.farm_run.specs.Effects.{effect_of}
 use Rattle.farm_run.specs.Seen.{core_log}
 use Rattle.farm_run.specs.Served.{AsksServer, IsReport, report_of}
-use Rattle.farm_run.specs.Servers.{ServerNow}
 use Rattle.farm_run.specs.Tickets.{ticket_of}
 use Rattle.farm_run.specs.Ways.{Way, way_of, to_nothing, to_nobody, to_scheduler, to_server, to_call, to_beat, to_restart}
 

@@ -11,7 +11,6 @@ use Rattle.farm_run.specs.declared.entry.EntryWord.{EntryWord}
 use Rattle.farm_run.specs.declared.entry.EntryWord.TheVariants.{Waiting}
 use Rattle.farm_run.specs.declared.entry.OutCall.{OutCall}
 use Rattle.farm_run.specs.declared.entry.Reply.{Reply}
-use Rattle.farm_run.specs.declared.entry.Step.{Step}
 use Rattle.farm_run.specs.declared.entry.StepKind.{StepKind}
 
 -- a word alone

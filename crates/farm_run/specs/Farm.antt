@@ -1,5 +1,5 @@
 -- What contracts see of a farm, and what its runs do.
-use Rattle.std.specs.Prelude.{◌≡◌, ℕ, ◌^◌, ◌<◌, List, [], ◌∷◌, ◌++◌, length, take, map, set, slice_get, true, Option, Some, None}
+use Rattle.std.specs.Prelude.{◌≡◌, ℕ, ◌^◌, ◌<◌, List, [], ◌∷◌, ◌++◌, length, take, map, slice_get, true, Option, Some, None}
 use Rattle.std.specs.List.{AllByRecursion}
 use Rattle.dist_types.specs.Addr.{◌>>=◌}
 use Rattle.sched_core.specs.Log.{Core, logged}
@@ -14,12 +14,11 @@ use Rattle.farm_script.specs.declared.setup.Setup.{Setup}
 use Rattle.farm_script.specs.Built.{IsPlain}
 use Rattle.farm_script.specs.declared.event.Event.{Event}
 use Rattle.farm_run.specs.declared.desk.Desk.{Desk}
-use Rattle.farm_run.specs.declared.entry.Effect.{Effect}
 use Rattle.farm_run.specs.declared.entry.Entry.{Entry}
 use Rattle.farm_run.specs.declared.pending.Made.{Made}
 use Rattle.farm_run.specs.declared.pending.Pending.{Pending}
 use Rattle.farm_run.specs.declared.station.Station.{Station}
-use Rattle.farm_run.specs.Begun.{IsCallOf, IsBegunBy, IsMadeBy, Keeps}
+use Rattle.farm_run.specs.Begun.{IsCallOf, IsBegunBy, Keeps}
 use Rattle.farm_run.specs.Calls.{waiting_at}
 use Rattle.farm_run.specs.Effects.{entry_of}
 use Rattle.farm_run.specs.Next.{IsServed, IsMade, IsNext, EachNext}

@@ -27,7 +27,6 @@ use Rattle.build_server.specs.declared.submit.Submitted.{Submitted as Submission
 use Rattle.build_server.specs.declared.submit.Submitted.TheVariants as submitted
 use Rattle.build_server.specs.declared.run.Ran.{Ran as Went}
 use Rattle.build_server.specs.declared.run.Ran.TheVariants as ran
-use Rattle.farm_script.specs.declared.setup.SetupServer.{SetupServer}
 use Rattle.farm_run.specs.Servers.{ServerNow, server_of}
 use Rattle.farm_run.specs.declared.entry.Entry.{Entry}
 use Rattle.farm_run.specs.declared.entry.HeardAs.{HeardAs}

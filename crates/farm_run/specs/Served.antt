@@ -1,5 +1,5 @@
 -- What a build server does with what is asked of it, and at its own events.
-use Rattle.std.specs.Prelude.{◌≡◌, ℕ, ◌+◌, List, [], Bool, false, true, not, ◌==◌, if◌then◌else◌, slice_get, length, map, Option, Some, None, Result, Ok, Err}
+use Rattle.std.specs.Prelude.{◌≡◌, ℕ, ◌+◌, List, [], Bool, not, if◌then◌else◌, slice_get, map, Option, Some, None, Result, Ok, Err}
 use Rattle.dist_types.specs.declared.addr.Addr.{Addr}
 use Rattle.dist_types.specs.declared.ids.JobId.{JobId}
 use Rattle.dist_types.specs.declared.builder.BuildFault.{BuildFault}
@@ -10,7 +10,6 @@ use Rattle.dist_types.specs.declared.results.JobState.{JobState}
 use Rattle.dist_types.specs.declared.results.JobState.TheVariants as state
 use Rattle.dist_token.specs.Verdict.{job_verdict}
 use Rattle.dist_wire.specs.declared.heartbeat.HeartbeatServerHttpRequest.{HeartbeatServerHttpRequest}
-use Rattle.dist_wire.specs.declared.run.RunJobHttpRequest.{RunJobHttpRequest}
 use Rattle.http_routes.specs.Fault.{fault_response_of}
 use Rattle.http_routes.specs.Replies.{assign_response}
 use Rattle.http_routes.specs.ServerRoute.{IsServerAsked}
@@ -19,9 +18,9 @@ use Rattle.http_routes.specs.declared.fault.RouteFault.TheVariants as fault
 use Rattle.http_routes.specs.declared.server_route.ServerAsked.{ServerAsked}
 use Rattle.http_routes.specs.declared.server_route.ServerRouted.{ServerRouted}
 use Rattle.http_routes.specs.declared.server_route.ServerRouted.TheVariants as asked
-use Rattle.build_server.specs.Books.{Books, held_for, is_listed}
+use Rattle.build_server.specs.Books.{Books, is_listed}
 use Rattle.build_server.specs.Echo.{echo_of, data_of}
-use Rattle.build_server.specs.Rules.{assign_verdict, submit_verdict}
+use Rattle.build_server.specs.Rules.{assign_verdict}
 use Rattle.build_server.specs.declared.fault.ServerFault.{ServerFault}
 use Rattle.build_server.specs.declared.run.Outcome.{Outcome}
 use Rattle.build_server.specs.declared.run.Outcome.TheVariants as outcome

@@ -1,7 +1,7 @@
 -- The build servers of a farm, as its entries tell.
-use Rattle.std.specs.Prelude.{◌≡◌, ℕ, List, [], Bool, not, ◌==◌, if◌then◌else◌, fold, find, Option, Some, None}
+use Rattle.std.specs.Prelude.{ℕ, List, [], Bool, not, ◌==◌, if◌then◌else◌, fold, find, Option, Some, None}
 use Rattle.std.specs.Option.{option_map}
-use Rattle.dist_types.specs.Addr.{◌>>=◌, same_addr}
+use Rattle.dist_types.specs.Addr.{same_addr}
 use Rattle.dist_types.specs.Cause.{counted}
 use Rattle.dist_types.specs.declared.addr.Addr.{Addr}
 use Rattle.disk_cache.specs.Archives.{Archives}

@@ -36,7 +36,7 @@ use Rattle.build_server.specs.declared.run.Outcome.{Outcome}
 use Rattle.build_server.specs.declared.submit.Submitted.{Submitted}
 use Rattle.farm_script.specs.declared.setup.Setup.{Setup}
 use Rattle.farm_run.specs.declared.entry.Effect.{Effect}
-use Rattle.farm_run.specs.declared.entry.EntryWord.TheVariants.{Void, Died}
+use Rattle.farm_run.specs.declared.entry.EntryWord.TheVariants.{Died}
 use Rattle.farm_run.specs.declared.entry.HeardAs.{HeardAs}
 use Rattle.farm_run.specs.declared.entry.HeardAs.TheVariants as heard
 use Rattle.farm_run.specs.declared.entry.StepKind.TheVariants as step

@@ -1,6 +1,6 @@
 -- What an event comes to, over the entries before it.
 use Rattle.std.specs.Prelude.{ℕ, List, [], Bool, false, ◌||◌, slice_get, is_some, Option, Some, None, if◌then◌else◌}
-use Rattle.dist_types.specs.Addr.{◌>>=◌, same_addr}
+use Rattle.dist_types.specs.Addr.{same_addr}
 use Rattle.dist_types.specs.declared.addr.Addr.{Addr}
 use Rattle.farm_script.specs.declared.setup.Setup.{Setup}
 use Rattle.farm_script.specs.declared.event.EventKind.{EventKind}

@@ -1,10 +1,13 @@
-pub mod BuiltLemmas
 pub mod DigitLemmas
 pub mod FieldLemmas
 pub mod FirstFaultyLemmas
+pub mod HexLemmas
 pub mod LimitLemmas
 pub mod LineLemmas
+pub mod MatchLemmas
+pub mod OutputLemmas
 pub mod PieceLemmas
+pub mod PlaceLemmas
 pub mod ScriptLemmas
 pub mod SpelledLemmas
 pub mod VisibleLemmas

@@ -1,132 +1,165 @@
 -- A script is read as what its lines spell.
-use Rattle.std.proofs.Common.{◌≡◌, ◌↔◌, ℕ, ◌+◌, ◌-◌, false, ◌||◌, nat_lt, List, [], ◌∷◌, ◌++◌, length, Option, Some, None, is_some, Result, Ok, Err, refl, sym, ap, ◌∙◌, append_assoc, append-nil}
-use Rattle.std.specs.Prelude.{option_to_list}
-use Rattle.std.specs.List.{filter_map}
-use Rattle.std.proofs.lemmas.Bool.{or_parts}
-use Rattle.std.proofs.lemmas.Option.{same_Some}
+use Rattle.std.proofs.Common.{◌≡◌, ◌↔◌, ◌⊎◌, ℕ, ◌+◌, ◌-◌, ◌≤◌, List, [], ◌∷◌, ◌++◌, length, map, Option, Some, None, Result, Ok, Err, refl, sym, ap, subst, ◌∙◌, append_assoc, append-nil, inl, inr}
+use Rattle.std.specs.Prelude.{option_to_list, IfOk, IfErr}
+use Rattle.std.specs.List.{filter_map, AllByRecursion}
 use Rattle.farm_script.specs.declared.setup.Setup.{Setup}
+use Rattle.farm_script.specs.declared.setup.SetupScheduler.{SetupScheduler}
+use Rattle.farm_script.specs.declared.setup.SetupServer.{SetupServer}
 use Rattle.farm_script.specs.declared.event.Event.{Event}
+use Rattle.farm_script.specs.declared.fault.FarmFault.{FarmFault}
+use Rattle.farm_script.specs.declared.fault.FarmFault.TheVariants as fault
+use Rattle.farm_script.specs.declared.lines.Scopes.TheVariants.{Refused}
 use Rattle.farm_script.specs.declared.lines.Line.{Line}
-use Rattle.farm_script.specs.declared.lines.Line.TheVariants.{Skipped, Scheduler, Happens}
 use Rattle.farm_script.specs.Pieces.{pieces, text_of}
-use Rattle.farm_script.specs.Grammar.{IsLine}
-use Rattle.farm_script.specs.Script.{Read, onto, take_line, or_bad, script_from, script, nothing_read}
-use Rattle.farm_script.specs.FirstFaulty.{IsFirstFaulty}
-use Rattle.farm_script.specs.Spelled.{setup_in, event_in, EachLine, Says}
-use Rattle.farm_script.proofs.WordLemmas.{guard_off}
-use Rattle.farm_script.proofs.LineLemmas.{line_complete}
-use Rattle.farm_script.proofs.FirstFaultyLemmas.{read_is, first_faulty}
+use Rattle.farm_script.specs.Grammar.{HasKeyLength}
+use Rattle.farm_script.specs.Place.{scheduler_in, server_in, event_in}
+use Rattle.farm_script.specs.Setups.{AreApart, IsSetup}
+use Rattle.farm_script.specs.Script.{Read, take_line, and_then, finished_with, script_from, script, nothing_read, Tells, GivesScript}
+use Rattle.farm_script.specs.FirstFaulty.{IsFirstFaulty, IsFaultless}
+use Rattle.farm_script.specs.Spelled.{with_answers, EachLine, Says}
+use Rattle.farm_script.proofs.LineLemmas.{one_value}
+use Rattle.farm_script.proofs.MatchLemmas.{Matches}
+use Rattle.farm_script.proofs.ScriptLemmas.{told}
+use Rattle.farm_script.proofs.FirstFaultyLemmas.{IsAt, IsTaken, read_taken, next_at, at_start, first_faulty}
 
 -- what is left of a script says the rest
-record SaysRest (r : Read) (ps : List (List ℕ)) (x : Setup × List Event) : Type 0 where
-  lines : List Line
-  each : EachLine ps lines
-  setup_is : option_to_list r.setup ++ filter_map setup_in lines ≡ x.0 ∷ []
-  events_are : r.events ++ filter_map event_in lines ≡ x.1
+pub record SaysRest (said : List Line) (ps : List (List ℕ)) (x : Setup × List Event) : Type 0 where
+  pub rest : List Line
+  pub each : EachLine ps rest
+  pub number : ℕ
+  pub end : Read
+  pub matches : Matches end (said ++ rest)
+  pub finish : finished_with number end end.scheduler ≡ Ok x
 
-none_of : (o : Option Setup) → is_some o ≡ false → o ≡ None
-none_of None e = refl
-none_of (Some s) e = absurd cc
+rest_end : (said : List Line) (number : ℕ) (r : Read) (x : Setup × List Event) → Matches r said → finished_with number r r.scheduler ≡ Ok x → SaysRest said [] x
+rest_end said number r x m e = record { rest = []; each = tt; number = number; end = r; matches = subst (Matches r) (sym (append-nil said)) m; finish = e }
 
--- what a line adds
-setups_on : (r s : Read) (l : Line) (ls : List Line) → onto r l ≡ Some s → option_to_list r.setup ++ filter_map setup_in (l ∷ ls) ≡ option_to_list s.setup ++ filter_map setup_in ls
-setups_on r s Skipped ls e = ap (λ (q : Read). option_to_list q.setup ++ filter_map setup_in ls) (same_Some r s e)
-setups_on r s (Scheduler setup) ls e =
-    let made : Read = record { setup = Some setup; events = r.events } in
-    let g = guard_off (is_some r.setup || nat_lt 0 (length r.events)) (Some made) s e in
-    let first : r.setup ≡ None = none_of r.setup (or_parts (is_some r.setup) (nat_lt 0 (length r.events)) g.0).0 in
-    ap (λ (o : Option Setup). option_to_list o ++ (setup ∷ filter_map setup_in ls)) first
-    ∙ ap (λ (q : Read). option_to_list q.setup ++ filter_map setup_in ls) (same_Some made s g.1)
-setups_on r s (Happens event) ls e =
-    let made : Read = record { setup = r.setup; events = r.events ++ event ∷ [] } in
-    ap (λ (q : Read). option_to_list q.setup ++ filter_map setup_in ls) (same_Some made s e)
-
-events_on : (r s : Read) (l : Line) (ls : List Line) → onto r l ≡ Some s → r.events ++ filter_map event_in (l ∷ ls) ≡ s.events ++ filter_map event_in ls
-events_on r s Skipped ls e = ap (λ (q : Read). q.events ++ filter_map event_in ls) (same_Some r s e)
-events_on r s (Scheduler setup) ls e =
-    let made : Read = record { setup = Some setup; events = r.events } in
-    let g = guard_off (is_some r.setup || nat_lt 0 (length r.events)) (Some made) s e in
-    ap (λ (q : Read). q.events ++ filter_map event_in ls) (same_Some made s g.1)
-events_on r s (Happens event) ls e =
-    let made : Read = record { setup = r.setup; events = r.events ++ event ∷ [] } in
-    sym (append_assoc r.events (event ∷ []) (filter_map event_in ls)) ∙ ap (λ (q : Read). q.events ++ filter_map event_in ls) (same_Some made s e)
-
-says_end : (number : ℕ) (r : Read) (o : Option Setup) (x : Setup × List Event) → r.setup ≡ o
-    → or_bad {B = Setup × List Event} number o (λ s. Ok (s, r.events)) ≡ Ok x → SaysRest r [] x
-says_end number r (Some s) x is e =
-    let same : (s, r.events) ≡ x = cc in
+rest_step : (done : List (List ℕ)) (said : List Line) (number room : ℕ) (r : Read) (p : List ℕ) (ps : List (List ℕ)) (x : Setup × List Event) (o : Result Read FarmFault) → IsAt done said number room r
+    → take_line number room r p ≡ o → and_then o (λ s. script_from (number + 1) (room - length p) s ps) ≡ Ok x
+    → ((s : Read) (taken : IsTaken done said r p room s) → script_from (number + 1) (room - length p) s ps ≡ Ok x → SaysRest (said ++ taken.line ∷ []) ps x) → SaysRest said (p ∷ ps) x
+rest_step done said number room r p ps x (Err f) at is e later = absurd cc
+rest_step done said number room r p ps x (Ok s) at is e later =
+    let taken = read_taken done said number room r p s at is in
+    let more = later s taken e in
     record {
-      lines = [];
-      each = tt;
-      setup_is = ap (λ (o : Option Setup). option_to_list o ++ []) is ∙ ap (λ (y : Setup × List Event). y.0 ∷ []) same;
-      events_are = append-nil r.events ∙ ap (λ (y : Setup × List Event). y.1) same;
-    }
-says_end number r None x is e = absurd cc
-
-says_step : (number room : ℕ) (r : Read) (p : List ℕ) (ps : List (List ℕ)) (x : Setup × List Event) (o : Option Read) → take_line number room r p ≡ o
-    → or_bad number o (λ s. script_from (number + 1) (room - length p) s ps) ≡ Ok x
-    → ((s : Read) → script_from (number + 1) (room - length p) s ps ≡ Ok x → SaysRest s ps x) → SaysRest r (p ∷ ps) x
-says_step number room r p ps x None is e later = absurd cc
-says_step number room r p ps x (Some s) is e later =
-    let read = read_is r s p number room is in
-    let rest = later s e in
-    record {
-      lines = read.line ∷ rest.lines;
-      each = (read.says, rest.each);
-      setup_is = setups_on r s read.line rest.lines read.next ∙ rest.setup_is;
-      events_are = events_on r s read.line rest.lines read.next ∙ rest.events_are;
+      rest = taken.line ∷ more.rest;
+      each = (taken.fine.says, more.each);
+      number = more.number;
+      end = more.end;
+      matches = subst (Matches more.end) (append_assoc said (taken.line ∷ []) more.rest) more.matches;
+      finish = more.finish;
     }
 
-says_from : (number room : ℕ) (r : Read) (ps : List (List ℕ)) (x : Setup × List Event) → script_from number room r ps ≡ Ok x → SaysRest r ps x
+rest_from : (done : List (List ℕ)) (said : List Line) (number room : ℕ) (r : Read) (ps : List (List ℕ)) (x : Setup × List Event) → IsAt done said number room r → script_from number room r ps ≡ Ok x → SaysRest said ps x
 unfolding script_from
-says_from number room r [] x e = says_end number r r.setup x refl e
-says_from number room r (p ∷ ps) x e =
-    says_step number room r p ps x (take_line number room r p) refl e (λ s f. says_from (number + 1) (room - length p) s ps x f)
+rest_from done said number room r [] x at e = rest_end said number r x at.matches e
+rest_from done said number room r (p ∷ ps) x at e =
+    rest_step done said number room r p ps x (take_line number room r p) at refl e
+    (λ s taken f. rest_from (done ++ p ∷ []) (said ++ taken.line ∷ []) (number + 1) (room - length p) s ps x (next_at done said number room r p s at taken) f)
+
+-- what a reader had at the end of a script
+pub record IsFinished (r : Read) (x : Setup × List Event) : Type 0 where
+  pub scheduler : r.scheduler ≡ Some x.0.scheduler
+  pub servers : r.servers ≡ x.0.servers
+  pub events : r.events ≡ x.1
+
+finished_parts : (number : ℕ) (r : Read) (o : Option SetupScheduler) (x : Setup × List Event) → r.scheduler ≡ o → finished_with number r o ≡ Ok x → IsFinished r x
+finished_parts number r None x is e = absurd cc
+finished_parts number r (Some s) x is e =
+    let made : Setup × List Event = (record { scheduler = s; servers = r.servers }, r.events) in
+    let same : made ≡ x = cc in
+    subst (IsFinished r) same (record { scheduler = is; servers = refl; events = refl })
 
 pub script_says : (bytes : List ℕ) (x : Setup × List Event) → script bytes ≡ Ok x → Says bytes x.0 x.1
 script_says bytes x e =
-    let rest = says_from 1 67108864 nothing_read (pieces bytes) x e in
-    record { lines = rest.lines; each = rest.each; setup_is = rest.setup_is; events_are = rest.events_are }
+    let rest = rest_from [] [] 1 67108864 nothing_read (pieces bytes) x at_start e in
+    let parts = finished_parts rest.number rest.end rest.end.scheduler x refl rest.finish in
+    record {
+      lines = rest.rest;
+      each = rest.each;
+      scheduler_is = rest.matches.scheduler ∙ ap (λ (o : Option SetupScheduler). option_to_list o) parts.scheduler;
+      servers_are = rest.matches.servers ∙ parts.servers;
+      events_are = rest.matches.events ∙ parts.events;
+    }
+
+-- what each setup has that is read
+pub script_setup : (bytes : List ℕ) (x : Setup × List Event) → script bytes ≡ Ok x → IsSetup x.0
+script_setup bytes x e =
+    let rest = rest_from [] [] 1 67108864 nothing_read (pieces bytes) x at_start e in
+    let parts = finished_parts rest.number rest.end rest.end.scheduler x refl rest.finish in
+    let m = rest.matches in
+    let tokens = m.tokens x.0.scheduler parts.scheduler in
+    let apart = subst (λ (o : Option SetupScheduler). AreApart (map (λ s. s.addr) (option_to_list o) ++ map (λ s. s.addr) rest.end.servers)) parts.scheduler m.apart in
+    record {
+      apart = subst (λ (ss : List SetupServer). AreApart (x.0.scheduler.addr ∷ map (λ s. s.addr) ss)) parts.servers apart;
+      few = subst (λ (ss : List SetupServer). length ss ≤ 1000) parts.servers m.few;
+      client = tokens.client;
+      auth = tokens.auth;
+      keys = subst (λ (ss : List SetupServer). AllByRecursion (λ s. HasKeyLength s.key) ss) parts.servers m.keys;
+    }
 
 -- lines spell one list of values
-one_line : (t : List ℕ) (k l : Line) → IsLine t k → IsLine t l → k ≡ l
-one_line t k l p q = same_Some k l (sym (line_complete t k p) ∙ line_complete t l q)
-
 one_each : (ps : List (List ℕ)) (ks ls : List Line) → EachLine ps ks → EachLine ps ls → ks ≡ ls
 one_each [] [] [] p q = refl
 one_each (t ∷ ts) (k ∷ ks) (l ∷ ls) p q =
-    ap (λ (x : Line). x ∷ ks) (one_line (text_of t) k l p.0 q.0) ∙ ap (λ (xs : List Line). l ∷ xs) (one_each ts ks ls p.1 q.1)
+    ap (λ (x : Line). x ∷ ks) (one_value Refused (text_of t) k l p.0 q.0) ∙ ap (λ (xs : List Line). l ∷ xs) (one_each ts ks ls p.1 q.1)
 one_each [] (k ∷ ks) ls p q = absurd p
 one_each [] [] (l ∷ ls) p q = absurd q
 one_each (t ∷ ts) [] ls p q = absurd p
 one_each (t ∷ ts) (k ∷ ks) [] p q = absurd q
 
-head_is : (a b : Setup) (xs : List Setup) → xs ≡ a ∷ [] → xs ≡ b ∷ [] → a ≡ b
+head_is : (a b : SetupScheduler) (xs : List SetupScheduler) → xs ≡ a ∷ [] → xs ≡ b ∷ [] → a ≡ b
 head_is a b xs p q = cc
+
+abbrev setup_with : SetupScheduler → List SetupServer → Setup
+setup_with scheduler servers = record { scheduler = scheduler; servers = servers }
+
+one_setup : (s t : Setup) → s.scheduler ≡ t.scheduler → s.servers ≡ t.servers → s ≡ t
+one_setup s t e f = ap (λ (x : SetupScheduler). setup_with x s.servers) e ∙ ap (λ (xs : List SetupServer). setup_with t.scheduler xs) f
 
 pub one_script : (bytes : List ℕ) (s t : Setup) (es fs : List Event) → Says bytes s es → Says bytes t fs → (s ≡ t) × (es ≡ fs)
 one_script bytes s t es fs p q =
     let same = one_each (pieces bytes) p.lines q.lines p.each q.each in
-    let setups : filter_map setup_in p.lines ≡ t ∷ [] = ap (λ (ls : List Line). filter_map setup_in ls) same ∙ q.setup_is in
-    (head_is s t (filter_map setup_in p.lines) p.setup_is setups, sym p.events_are ∙ ap (λ (ls : List Line). filter_map event_in ls) same ∙ q.events_are)
+    let schedulers : filter_map scheduler_in p.lines ≡ t.scheduler ∷ [] = ap (λ (ls : List Line). filter_map scheduler_in ls) same ∙ q.scheduler_is in
+    let servers : s.servers ≡ t.servers = sym p.servers_are ∙ ap (λ (ls : List Line). map (with_answers ls) (filter_map server_in ls)) same ∙ q.servers_are in (
+      one_setup s t (head_is s.scheduler t.scheduler (filter_map scheduler_in p.lines) p.scheduler_is schedulers) servers,
+      sym p.events_are ∙ ap (λ (ls : List Line). filter_map event_in ls) same ∙ q.events_are,
+    )
 
-read_says : (bytes : List ℕ) (setup : Setup) (events : List Event) (r : Result (Setup × List Event) ℕ) → script bytes ≡ r
-    → ((n : ℕ) → IsFirstFaulty bytes n → ⊥) → Says bytes setup events → script bytes ≡ Ok (setup, events)
-read_says bytes setup events (Err n) is none says = absurd (none n ((first_faulty bytes n).0 is))
+read_says : (bytes : List ℕ) (setup : Setup) (events : List Event) (r : Result (Setup × List Event) FarmFault) → script bytes ≡ r
+    → IsFaultless bytes → Says bytes setup events → script bytes ≡ Ok (setup, events)
+read_says bytes setup events (Err f) is none says = absurd (none f ((first_faulty bytes f).0 is))
 read_says bytes setup events (Ok x) is none says =
     let same = one_script bytes x.0 setup x.1 events (script_says bytes x is) says in
     is ∙ ap (λ (s : Setup). Ok (s, x.1)) same.0 ∙ ap (λ (es : List Event). Ok (setup, es)) same.1
 
-none_faulty_where : (bytes : List ℕ) (x : Setup × List Event) → script bytes ≡ Ok x → (n : ℕ) → IsFirstFaulty bytes n → ⊥
-none_faulty_where bytes x e n first =
-    let other : script bytes ≡ Err n = (first_faulty bytes n).1 first in
-    let clash : Ok x ≡ Err n = sym e ∙ other in
-    cc
+none_faulty_where : (bytes : List ℕ) (x : Setup × List Event) → script bytes ≡ Ok x → IsFaultless bytes
+none_faulty_where bytes x e f first =
+    let other : script bytes ≡ Err f = (first_faulty bytes f).1 first in
+    let clash : Ok x ≡ Err f = sym e ∙ other in
+    absurd cc
 
 -- a script is read exactly where no line is faulty, as what its lines spell
 pub script_is_said : (bytes : List ℕ) (setup : Setup) (events : List Event)
-    → (script bytes ≡ Ok (setup, events)) ↔ (((n : ℕ) → IsFirstFaulty bytes n → ⊥) × Says bytes setup events)
+    → (script bytes ≡ Ok (setup, events)) ↔ (IsFaultless bytes × Says bytes setup events)
 script_is_said bytes setup events = (
   λ e. (none_faulty_where bytes (setup, events) e, script_says bytes (setup, events) e),
   λ p. read_says bytes setup events (script bytes) refl p.0 p.1,
 )
+
+-- ---- what the reader answers
+
+pub read_said : {X : Type 0} (view : X → Setup × List Event) (r : Result X FarmFault) (bytes : List ℕ) → GivesScript view r (script bytes) → IfOk r (λ x. Says bytes (view x).0 (view x).1)
+read_said view (Ok x) bytes e = script_says bytes (view x) e
+read_said view (Err f) bytes e = tt
+
+pub read_setup : {X : Type 0} (view : X → Setup × List Event) (r : Result X FarmFault) (bytes : List ℕ) → GivesScript view r (script bytes) → IfOk r (λ x. IsSetup (view x).0)
+read_setup view (Ok x) bytes e = script_setup bytes (view x) e
+read_setup view (Err f) bytes e = tt
+
+pub told_faulty : (f : FarmFault) (bytes : List ℕ) → Tells f (script bytes) → (f ≡ fault.Memory) ⊎ IsFirstFaulty bytes f
+told_faulty f bytes e = elim (told f (script bytes) e) [ inl m ↦ inl m | inr is ↦ inr ((first_faulty bytes f).0 is) ]
+
+pub read_faulty : {X : Type 0} (view : X → Setup × List Event) (r : Result X FarmFault) (bytes : List ℕ) → GivesScript view r (script bytes) → IfErr r (λ f. (f ≡ fault.Memory) ⊎ IsFirstFaulty bytes f)
+read_faulty view (Ok x) bytes e = tt
+read_faulty view (Err f) bytes e = told_faulty f bytes e

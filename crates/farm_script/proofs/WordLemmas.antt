@@ -1,6 +1,6 @@
 -- A line is cut into words, and put together from them.
-use Rattle.std.proofs.Common.{◌≡◌, ℕ, ◌+◌, ◌≤◌, ◌==◌, Bool, true, false, cond, nat_eq, List, [], ◌∷◌, ◌++◌, length, get_or, take, drop, Option, Some, None, refl, sym, ap, ◌∙◌, append_assoc, arith}
-use Rattle.std.specs.List.{position, position_from, list_all}
+use Rattle.std.proofs.Common.{◌≡◌, ℕ, ◌+◌, ◌≤◌, ◌==◌, Bool, true, false, cond, nat_eq, List, [], ◌∷◌, ◌++◌, length, get_or, take, drop, Option, Some, None, refl, sym, ap, subst, ◌∙◌, append_assoc, append-nil, arith, suc, ◌⊎◌, inl, inr}
+use Rattle.std.specs.List.{position, position_from, list_all, onto_first}
 use Rattle.std.specs.Cmp.Lexicographic.{pointwise}
 use Rattle.std.specs.Option.{option_map}
 use Rattle.std.proofs.lemmas.Bool.{eqb-true, ne_eqb}
@@ -12,7 +12,7 @@ use Rattle.std.proofs.lemmas.Iterator.Adapters.{position_from-zero}
 use Rattle.std.proofs.lemmas.Slice.Eq.{bytes_eq-Decides}
 use Rattle.dist_types.specs.Addr.{◌>>=◌}
 use Rattle.dist_types.proofs.AddrLemmas.{bind_some}
-use Rattle.farm_script.specs.Words.{first_word, strip, field, named, last, is_visible}
+use Rattle.farm_script.specs.Words.{first_word, words, parted, next_word, strip, field, named, last, behind, is_visible}
 use Rattle.farm_script.proofs.VisibleLemmas.{both}
 
 -- ---- steps that may fail
@@ -51,15 +51,18 @@ found_at i [] rest l = ap (λ (n : ℕ). Some n) (omega arith)
 found_at i (b ∷ bs) rest l =
     ap (λ (v : Bool). cond v (Some i) (position_from (λ b. b == 32) (i + 1) (bs ++ 32 ∷ rest))) l.0 ∙ found_at (i + 1) bs rest l.1 ∙ ap (λ (n : ℕ). Some n) (omega arith)
 
+space_behind : (w rest : List ℕ) → Lacks w → position (λ b. b == 32) (w ++ 32 ∷ rest) ≡ Some (length w)
+space_behind w rest l = position_from-zero (λ b. b == 32) (w ++ 32 ∷ rest) ∙ found_at 0 w rest l ∙ ap (λ (n : ℕ). Some n) (omega arith)
+
 pub first_word_complete : (w rest : List ℕ) → Lacks w → first_word (w ++ 32 ∷ rest) ≡ Some (w, rest)
 first_word_complete w rest l =
-    let place : position (λ b. b == 32) (w ++ 32 ∷ rest) ≡ Some (length w) = position_from-zero (λ b. b == 32) (w ++ 32 ∷ rest) ∙ found_at 0 w rest l ∙ ap (λ (n : ℕ). Some n) (omega arith) in
+    let place : position (λ b. b == 32) (w ++ 32 ∷ rest) ≡ Some (length w) = space_behind w rest l in
     let front : take (length w) (w ++ 32 ∷ rest) ≡ w = take_at w (32 ∷ rest) (length w) refl in
     let back : drop (length w + 1) (w ++ 32 ∷ rest) ≡ rest =
     ap (λ (x : List ℕ). drop (length w + 1) x) (sym (append_assoc w (32 ∷ []) rest)) ∙ drop_at (w ++ 32 ∷ []) rest (length w + 1) (omega (arith, length-append w (32 ∷ []))) in
     rw (place, front, back) refl
 
-first_place : (t w rest : List ℕ) (o : Option ℕ) → position (λ b. b == 32) t ≡ o → option_map {U = List ℕ × List ℕ} (λ i. (take i t, drop (i + 1) t)) o ≡ Some (w, rest) → t ≡ w ++ 32 ∷ rest
+pub first_place : (t w rest : List ℕ) (o : Option ℕ) → position (λ b. b == 32) t ≡ o → option_map {U = List ℕ × List ℕ} (λ i. (take i t, drop (i + 1) t)) o ≡ Some (w, rest) → t ≡ w ++ 32 ∷ rest
 first_place t w rest None is e = absurd cc
 first_place t w rest (Some i) is e =
     let at = position-Some (λ b. b == 32) t i 0 is in
@@ -129,3 +132,88 @@ follow_named t p w r s e rest = cc
 
 pub follow_number : (t p w d r s : List ℕ) → t ≡ p ++ (w ++ 32 ∷ r) → w ≡ d → r ≡ s → t ≡ p ++ (d ++ 32 ∷ s)
 follow_number t p w d r s e same rest = cc
+
+-- ---- the words of a text
+
+off_words : (b : Bool) (c : ℕ) (ws : List (List ℕ)) → b ≡ false → cond b ([] ∷ ws) (onto_first c ws) ≡ onto_first c ws
+off_words true c ws e = absurd cc
+off_words false c ws e = refl
+
+pub words_end : (w : List ℕ) → Lacks w → words w ≡ w ∷ []
+unfolding words
+words_end [] l = refl
+words_end (c ∷ cs) l = off_words (c == 32) c (words cs) l.0 ∙ ap (onto_first c) (words_end cs l.1)
+
+pub words_at : (w rest : List ℕ) → Lacks w → words (w ++ 32 ∷ rest) ≡ w ∷ words rest
+unfolding words
+words_at [] rest l = refl
+words_at (c ∷ cs) rest l = off_words (c == 32) c (words (cs ++ 32 ∷ rest)) l.0 ∙ ap (onto_first c) (words_at cs rest l.1)
+
+-- what stands before the first space has none
+none_lacks_step : (b : Bool) (i : ℕ) (o : Option ℕ) → cond b (Some i) o ≡ None → (b ≡ false) × (o ≡ None)
+none_lacks_step true i o e = absurd cc
+none_lacks_step false i o e = (refl, e)
+
+none_from : (i : ℕ) (t : List ℕ) → position_from (λ b. b == 32) i t ≡ None → Lacks t
+none_from i [] e = tt
+none_from i (c ∷ cs) e =
+    let p = none_lacks_step (c == 32) i (position_from (λ b. b == 32) (i + 1) cs) e in
+    (p.0, none_from (i + 1) cs p.1)
+
+pub none_lacks : (t : List ℕ) → position (λ b. b == 32) t ≡ None → Lacks t
+none_lacks t e = none_from 0 t (sym (position_from-zero (λ b. b == 32) t) ∙ e)
+
+some_step : (b : Bool) (i k : ℕ) (o : Option ℕ) → cond b (Some i) o ≡ Some k → ((b ≡ true) × (i ≡ k)) ⊎ ((b ≡ false) × (o ≡ Some k))
+some_step true i k o e = inl (refl, cc)
+some_step false i k o e = inr (refl, e)
+
+some_from : (i k : ℕ) (t : List ℕ) → position_from (λ b. b == 32) i t ≡ Some k → (j : ℕ) × (k ≡ i + j) × Lacks (take j t)
+some_from i k [] e = absurd cc
+some_from i k (c ∷ cs) e = elim (some_step (c == 32) i k (position_from (λ b. b == 32) (i + 1) cs) e) [
+  | inl p ↦ (0, omega (arith, p.1), tt)
+  | inr p ↦
+      let r = some_from (i + 1) k cs p.1 in
+      (suc r.0, omega (arith, r.1), (p.0, r.2))
+]
+
+pub some_lacks : (t : List ℕ) (k : ℕ) → position (λ b. b == 32) t ≡ Some k → Lacks (take k t)
+some_lacks t k e =
+    let r = some_from 0 k t (sym (position_from-zero (λ b. b == 32) t) ∙ e) in
+    let same : r.0 ≡ k = omega (arith, r.1) in
+    subst (λ (n : ℕ). Lacks (take n t)) same r.2
+
+-- a space and what stands behind it, where there is one
+abbrev pub spaced : Option (List ℕ) → List ℕ
+spaced None = []
+spaced (Some t) = 32 ∷ t
+
+not_found : (i : ℕ) (w : List ℕ) → Lacks w → position_from (λ b. b == 32) i w ≡ None
+not_found i [] l = refl
+not_found i (b ∷ bs) l = ap (λ (v : Bool). cond v (Some i) (position_from (λ b. b == 32) (i + 1) bs)) l.0 ∙ not_found (i + 1) bs l.1
+
+pub next_word_at : (w : List ℕ) (o : Option (List ℕ)) → Lacks w → next_word (w ++ spaced o) ≡ (w, o)
+next_word_at w None l =
+    let none : position (λ b. b == 32) w ≡ None = position_from-zero (λ b. b == 32) w ∙ not_found 0 w l in
+    ap next_word (append-nil w) ∙ ap (parted w) none
+next_word_at w (Some rest) l =
+    let place : position (λ b. b == 32) (w ++ 32 ∷ rest) ≡ Some (length w) = space_behind w rest l in
+    let front : take (length w) (w ++ 32 ∷ rest) ≡ w = take_at w (32 ∷ rest) (length w) refl in
+    let back : drop (length w + 1) (w ++ 32 ∷ rest) ≡ rest =
+    ap (λ (x : List ℕ). drop (length w + 1) x) (sym (append_assoc w (32 ∷ []) rest)) ∙ drop_at (w ++ 32 ∷ []) rest (length w + 1) (omega (arith, length-append w (32 ∷ []))) in
+    ap (parted (w ++ 32 ∷ rest)) place ∙ cc
+
+parted_text : (t : List ℕ) (o : Option ℕ) → position (λ b. b == 32) t ≡ o → t ≡ (parted t o).0 ++ spaced (parted t o).1
+parted_text t None e = sym (append-nil t)
+parted_text t (Some i) e = first_place t (take i t) (drop (i + 1) t) (Some i) e refl
+
+pub next_word_text : (t : List ℕ) → t ≡ (next_word t).0 ++ spaced (next_word t).1
+next_word_text t = parted_text t (position (λ b. b == 32) t) refl
+
+-- a text that begins with a prefix, and one that does not
+pub behind_is : {A : Type 0} (p r : List ℕ) (read : List ℕ → Option A) (other : Option A) → behind (strip p (p ++ r)) read other ≡ read r
+behind_is p r read other = ap (λ (o : Option (List ℕ)). behind o read other) (strip_complete p r)
+
+pub behind_cases : {A : Type 0} (p t : List ℕ) (read : List ℕ → Option A) (other : Option A) (o : Option (List ℕ)) (y : A) → strip p t ≡ o → behind o read other ≡ Some y
+    → ((r : List ℕ) × (t ≡ p ++ r) × (read r ≡ Some y)) ⊎ (other ≡ Some y)
+behind_cases p t read other (Some r) y is e = inl (r, strip_sound p t r is, e)
+behind_cases p t read other None y is e = inr e

@@ -1,40 +1,59 @@
--- The first faulty line of an input, in the words of the grammar.
-use Rattle.std.specs.Prelude.{◌≡◌, ◌≢◌, ℕ, ◌+◌, ◌<◌, ◌≤◌, ◌⊎◌, List, [], ◌∷◌, ◌++◌, length}
+-- The first faulty line of an input and its cause, in the words of the grammar.
+use Rattle.std.specs.Prelude.{◌≡◌, ℕ, ◌+◌, ◌<◌, ◌≤◌, ◌⊎◌, true, false, List, [], ◌∷◌, ◌++◌, length}
+use Rattle.std.specs.List.{filter_map}
 use Rattle.farm_script.specs.Pieces.{pieces, text_of}
-use Rattle.farm_script.specs.Grammar.{IsLine}
-use Rattle.farm_script.specs.declared.setup.Setup.{Setup}
+use Rattle.farm_script.specs.Grammar.{Spells, IsLine}
+use Rattle.farm_script.specs.Place.{scheduler_in, before_of, misplaced, duplicate}
+use Rattle.farm_script.specs.declared.lines.Scopes.TheVariants.{Taken}
+use Rattle.farm_script.specs.declared.fault.FarmFault.{FarmFault}
+use Rattle.farm_script.specs.declared.fault.FarmFault.TheVariants as fault
 use Rattle.farm_script.specs.declared.lines.Line.{Line}
-use Rattle.farm_script.specs.declared.lines.Line.TheVariants.{Skipped, Scheduler}
-
--- the line sets up the scheduler
-abbrev pub SaysSetup : List ℕ → Type 0
-SaysSetup p = (s : Setup) × IsLine (text_of p) (Scheduler s)
-
--- the line says something, and is not skipped
-abbrev pub SaysMore : List ℕ → Type 0
-SaysMore p = (l : Line) × IsLine (text_of p) l × (l ≢ Skipped)
-
--- it holds of one of the lines
-abbrev pub AnyOf : (List ℕ → Type 0) → List (List ℕ) → Type 0
-AnyOf P [] = ⊥
-AnyOf P (p ∷ ps) = P p ⊎ AnyOf P ps
 
 -- how many bytes the lines have
 abbrev pub size : List (List ℕ) → ℕ
 size [] = 0
 size (p ∷ ps) = length p + size ps
 
--- A line p is faulty behind the lines before it: past a limit, outside the grammar, or a setup line behind one that says something.
-abbrev pub IsFaultyAfter : List (List ℕ) → List ℕ → Type 0
-IsFaultyAfter before p =
-    (1000000 ≤ length before) ⊎ ((67108864 < size before + length p) ⊎ ((2097152 < length (text_of p))
-    ⊎ (((l : Line) → IsLine (text_of p) l → ⊥) ⊎ (SaysSetup p × AnyOf SaysMore before))))
+-- Line p, behind lines that say this, is within the limits, in the grammar but for scopes of its addresses, and in its place.
+pub record IsInPlace (done : List (List ℕ)) (said : List Line) (p : List ℕ) : Type 0 where
+  pub number : length done < 1000000
+  pub room : size done + length p ≤ 67108864
+  pub short : length (text_of p) ≤ 2097152
+  pub line : Line
+  pub spells : Spells Taken (text_of p) line
+  pub place : misplaced (before_of said) line ≡ false
 
--- Line n is the first faulty one. Where no line is, but none is a setup line, it is the number after the last.
-abbrev pub FirstFaultyFrom : List (List ℕ) → List (List ℕ) → ℕ → Type 0
-FirstFaultyFrom before [] n = (AnyOf SaysSetup before → ⊥) × (n ≡ length before + 1)
-FirstFaultyFrom before (p ∷ ps) n = (IsFaultyAfter before p × (n ≡ length before + 1)) ⊎ ((IsFaultyAfter before p → ⊥) × FirstFaultyFrom (before ++ p ∷ []) ps n)
+-- line p says this, and is not faulty
+pub record IsFine (done : List (List ℕ)) (said : List Line) (p : List ℕ) (l : Line) : Type 0 where
+  pub in_place : IsInPlace done said p
+  pub says : IsLine (text_of p) l
+  pub first : duplicate (before_of said) l ≡ false
 
--- line n is the input's first faulty one
-abbrev pub IsFirstFaulty : List ℕ → ℕ → Type 0
-IsFirstFaulty bytes n = FirstFaultyFrom [] (pieces bytes) n
+-- its address stands before
+pub record IsDuplicate (done : List (List ℕ)) (said : List Line) (p : List ℕ) : Type 0 where
+  pub in_place : IsInPlace done said p
+  pub line : Line
+  pub says : IsLine (text_of p) line
+  pub again : duplicate (before_of said) line ≡ true
+
+-- Why a line is faulty, with its number: it is not in its place; or it is, and is a line for a scope alone; or it is a line, and its address stands before.
+abbrev pub IsFaulty : List (List ℕ) → List Line → List ℕ → FarmFault → Type 0
+IsFaulty done said p (fault.BadLine n) = (n ≡ length done + 1) × (IsInPlace done said p → ⊥)
+IsFaulty done said p (fault.ScopedAddress n) = (n ≡ length done + 1) × IsInPlace done said p × ((l : Line) → IsLine (text_of p) l → ⊥)
+IsFaulty done said p (fault.DuplicateAddress n) = (n ≡ length done + 1) × IsDuplicate done said p
+IsFaulty done said p other = ⊥
+
+-- The first fault from here on, behind lines that are done and say this. Where no line is faulty, but none says the scheduler, it is a bad line at the
+-- number after the last.
+abbrev pub FirstFaultyFrom : List (List ℕ) → List Line → List (List ℕ) → FarmFault → Type 0
+FirstFaultyFrom done said [] f = (filter_map scheduler_in said ≡ []) × (f ≡ fault.BadLine (length done + 1))
+FirstFaultyFrom done said (p ∷ ps) f =
+    IsFaulty done said p f ⊎ ((l : Line) × IsFine done said p l × FirstFaultyFrom (done ++ p ∷ []) (said ++ l ∷ []) ps f)
+
+-- the input's first faulty line has this cause and number
+abbrev pub IsFirstFaulty : List ℕ → FarmFault → Type 0
+IsFirstFaulty bytes f = FirstFaultyFrom [] [] (pieces bytes) f
+
+-- no line of the input is faulty, and one says the scheduler
+abbrev pub IsFaultless : List ℕ → Type 0
+IsFaultless bytes = (f : FarmFault) → IsFirstFaulty bytes f → ⊥

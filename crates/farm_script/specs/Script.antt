@@ -1,64 +1,110 @@
--- A script, read line by line: the setup and the events, or the number of the first faulty line.
-use Rattle.std.specs.Prelude.{◌≡◌, ℕ, ◌+◌, ◌-◌, ◌&&◌, ◌||◌, nat_lt, nat_le, Bool, if◌then◌else◌, List, [], ◌∷◌, ◌++◌, length, Option, Some, None, is_some, Result, Ok, Err}
-use Rattle.dist_types.specs.Addr.{◌>>=◌}
+-- A script, read line by line: the setup and the events, or the first faulty line with its cause.
+use Rattle.std.specs.Prelude.{◌≡◌, ℕ, ◌+◌, ◌-◌, ◌&&◌, nat_le, Bool, if◌then◌else◌, List, [], ◌∷◌, ◌++◌, length, map, Option, Some, None, option_to_list, Result, Ok, Err}
+use Rattle.dist_types.specs.declared.addr.Addr.{Addr}
+use Rattle.dist_types.specs.Addr.{same_addr}
 use Rattle.farm_script.specs.Pieces.{pieces, text_of}
 use Rattle.farm_script.specs.Lines.{line_at}
+use Rattle.farm_script.specs.Place.{Before, misplaced, duplicate}
+use Rattle.farm_script.specs.declared.lines.Scopes.TheVariants.{Refused, Taken}
+use Rattle.farm_script.specs.declared.setup.BuilderLine.{BuilderLine}
+use Rattle.farm_script.specs.declared.setup.SetupScheduler.{SetupScheduler}
+use Rattle.farm_script.specs.declared.setup.SetupServer.{SetupServer}
 use Rattle.farm_script.specs.declared.setup.Setup.{Setup}
 use Rattle.farm_script.specs.declared.event.Event.{Event}
 use Rattle.farm_script.specs.declared.script.Reading.{Reading}
 use Rattle.farm_script.specs.declared.fault.FarmFault.{FarmFault}
-use Rattle.farm_script.specs.declared.fault.FarmFault.TheVariants as farm_faults
+use Rattle.farm_script.specs.declared.fault.FarmFault.TheVariants as fault
+use Rattle.farm_script.specs.declared.lines.SetupLine.TheVariants.{Scheduler, Server, Builder}
 use Rattle.farm_script.specs.declared.lines.Line.{Line}
-use Rattle.farm_script.specs.declared.lines.Line.TheVariants.{Skipped, Scheduler, Happens}
+use Rattle.farm_script.specs.declared.lines.Line.TheVariants as lines
 
 -- what was read so far
 pub record Read : Type 0 where
-  pub setup : Option Setup
+  pub scheduler : Option SetupScheduler
+  pub servers : List SetupServer
   pub events : List Event
 
 -- the same, of the Rust struct
 abbrev pub read_of : Reading → Read
-read_of r = record { setup = r.setup; events = r.events.items }
+read_of r = record { scheduler = r.scheduler; servers = r.servers.items; events = r.events.items }
 
--- a second scheduler line, and one behind an event, are faulty
-abbrev pub onto : Read → Line → Option Read
-onto r Skipped = Some r
-onto r (Scheduler s) = if is_some r.setup || nat_lt 0 (length r.events) then None else Some (record { setup = Some s; events = r.events })
-onto r (Happens e) = Some (record { setup = r.setup; events = r.events ++ e ∷ [] })
+-- what of it decides where a line may stand
+abbrev pub before : Read → Before
+before r = record { schedulers = map (λ s. s.addr) (option_to_list r.scheduler); servers = map (λ s. s.addr) r.servers; events = r.events }
+
+-- the servers, of which the first at this address has one more answer of its builder
+abbrev pub answered : Addr → BuilderLine → List SetupServer → List SetupServer
+answered addr answer [] = []
+answered addr answer (s ∷ ss) = if same_addr s.addr addr then record s { builder = s.builder ++ answer ∷ [] } ∷ ss else s ∷ answered addr answer ss
+
+-- what was read, with what one more line says
+abbrev pub with_line : Read → Line → Read
+with_line r lines.Skip = r
+with_line r (lines.Setup (Scheduler s)) = record { scheduler = Some s; servers = r.servers; events = r.events }
+with_line r (lines.Setup (Server s)) = record { scheduler = r.scheduler; servers = r.servers ++ s ∷ []; events = r.events }
+with_line r (lines.Setup (Builder addr answer)) = record { scheduler = r.scheduler; servers = answered addr answer r.servers; events = r.events }
+with_line r (lines.Event e) = record { scheduler = r.scheduler; servers = r.servers; events = r.events ++ e ∷ [] }
 
 -- a line within the limits: its number, its length without its end, and where its last byte stands
 abbrev pub fits : ℕ → ℕ → List ℕ → Bool
 fits number room piece = nat_le number 1000000 && nat_le (length piece) room && nat_le (length (text_of piece)) 2097152
 
--- what was read, with one line more that is within the limits and in its place
-abbrev pub take_line : ℕ → ℕ → Read → List ℕ → Option Read
-take_line number room r piece = if fits number room piece then line_at (text_of piece) >>= onto r else None
+-- what was read, with a line more, or why that line is faulty
+abbrev pub onto : ℕ → Read → Line → Result Read FarmFault
+onto number r l =
+    if misplaced (before r) l then Err (fault.BadLine number)
+    else if duplicate (before r) l then Err (fault.DuplicateAddress number)
+    else Ok (with_line r l)
 
--- the next step, or the number of the line where this one has no value
-abbrev pub or_bad : {A B : Type 0} → ℕ → Option A → (A → Result B ℕ) → Result B ℕ
-or_bad number (Some x) f = f x
-or_bad number None f = Err number
+-- why a line is faulty that is one for scopes alone, or none
+abbrev pub fault_of : ℕ → Read → Option Line → FarmFault
+fault_of number r None = fault.BadLine number
+fault_of number r (Some l) = if misplaced (before r) l then fault.BadLine number else fault.ScopedAddress number
 
--- at the end the setup is there, or the number after the last line is told
-abbrev pub finished : ℕ → Read → Result (Setup × List Event) ℕ
-finished number r = or_bad number r.setup (λ s. Ok (s, r.events))
+-- what was read, with what the line says, or why it is faulty
+abbrev pub judged : ℕ → Read → Option Line → Option Line → Result Read FarmFault
+judged number r (Some l) any = onto number r l
+judged number r None any = Err (fault_of number r any)
+
+-- what was read, with one line more, or why it is faulty
+abbrev pub take_line : ℕ → ℕ → Read → List ℕ → Result Read FarmFault
+take_line number room r piece =
+    if fits number room piece then judged number r (line_at Refused (text_of piece)) (line_at Taken (text_of piece))
+    else Err (fault.BadLine number)
+
+-- the next step, where this one met no fault
+abbrev pub and_then : {A B : Type 0} → Result A FarmFault → (A → Result B FarmFault) → Result B FarmFault
+and_then (Ok x) f = f x
+and_then (Err e) f = Err e
+
+-- what the scheduler, servers and events make
+abbrev pub finished_with : ℕ → Read → Option SetupScheduler → Result (Setup × List Event) FarmFault
+finished_with number r (Some s) = Ok (record { scheduler = s; servers = r.servers }, r.events)
+finished_with number r None = Err (fault.BadLine number)
+
+-- at the end the scheduler is there, or the number after the last line is told
+abbrev pub finished : ℕ → Read → Result (Setup × List Event) FarmFault
+finished number r = finished_with number r r.scheduler
 
 -- the lines from this number on, with so much room left, behind what was read
-unfoldable pub script_from : ℕ → ℕ → Read → List (List ℕ) → Result (Setup × List Event) ℕ
+unfoldable pub script_from : ℕ → ℕ → Read → List (List ℕ) → Result (Setup × List Event) FarmFault
 script_from number room r [] = finished number r
-script_from number room r (p ∷ ps) = or_bad number (take_line number room r p) (λ s. script_from (number + 1) (room - length p) s ps)
+script_from number room r (p ∷ ps) = and_then (take_line number room r p) (λ s. script_from (number + 1) (room - length p) s ps)
 
 -- at the start
 abbrev pub nothing_read : Read
-nothing_read = record { setup = None; events = [] }
+nothing_read = record { scheduler = None; servers = []; events = [] }
 
--- the setup and the events of an input, or the number of its first faulty line
-abbrev pub script : List ℕ → Result (Setup × List Event) ℕ
+-- the setup and the events of an input, or its first faulty line with its cause
+abbrev pub script : List ℕ → Result (Setup × List Event) FarmFault
 script bytes = script_from 1 67108864 nothing_read (pieces bytes)
 
+-- a fault is the one that reading gives, unless memory ran out
+abbrev pub Tells : {Y : Type 0} → FarmFault → Result Y FarmFault → Type 0
+Tells fault.Memory read = Unit {0}
+Tells f read = read ≡ Err f
+
 -- What a function returned, seen by view, is what reading a script gives, unless memory ran out.
-abbrev pub GivesScript : {X : Type 0} → (X → Setup × List Event) → Result X FarmFault → Result (Setup × List Event) ℕ → Type 0
+abbrev pub GivesScript : {X Y : Type 0} → (X → Y) → Result X FarmFault → Result Y FarmFault → Type 0
 GivesScript view (Ok x) read = read ≡ Ok (view x)
-GivesScript view (Err (farm_faults.BadLine n)) read = read ≡ Err n
-GivesScript view (Err farm_faults.Memory) read = Unit {0}
-GivesScript view (Err other) read = ⊥
+GivesScript view (Err f) read = Tells f read

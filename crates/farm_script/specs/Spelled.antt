@@ -1,24 +1,30 @@
 -- What a script says, in the words of the grammar.
-use Rattle.std.specs.Prelude.{◌≡◌, ℕ, List, [], ◌∷◌, Option, Some, None}
+use Rattle.std.specs.Prelude.{◌≡◌, ℕ, if◌then◌else◌, List, [], ◌∷◌, map, Option, Some, None}
 use Rattle.std.specs.List.{filter_map}
+use Rattle.dist_types.specs.declared.addr.Addr.{Addr}
+use Rattle.dist_types.specs.Addr.{same_addr}
+use Rattle.farm_script.specs.declared.setup.BuilderLine.{BuilderLine}
 use Rattle.farm_script.specs.declared.setup.Setup.{Setup}
+use Rattle.farm_script.specs.declared.setup.SetupServer.{SetupServer}
 use Rattle.farm_script.specs.declared.event.Event.{Event}
+use Rattle.farm_script.specs.declared.lines.SetupLine.TheVariants.{Scheduler, Server, Builder}
 use Rattle.farm_script.specs.declared.lines.Line.{Line}
-use Rattle.farm_script.specs.declared.lines.Line.TheVariants.{Skipped, Scheduler, Happens}
+use Rattle.farm_script.specs.declared.lines.Line.TheVariants as lines
 use Rattle.farm_script.specs.Pieces.{pieces, text_of}
 use Rattle.farm_script.specs.Grammar.{IsLine}
+use Rattle.farm_script.specs.Place.{scheduler_in, server_in, event_in}
 
--- the setup that the line says, if it says one
-abbrev pub setup_in : Line → Option Setup
-setup_in Skipped = None
-setup_in (Scheduler s) = Some s
-setup_in (Happens e) = None
+-- the answer that the line gives to the builder at an address, if it gives one
+abbrev pub answer_for : Addr → Line → Option BuilderLine
+answer_for addr lines.Skip = None
+answer_for addr (lines.Setup (Scheduler s)) = None
+answer_for addr (lines.Setup (Server s)) = None
+answer_for addr (lines.Setup (Builder named answer)) = if same_addr addr named then Some answer else None
+answer_for addr (lines.Event e) = None
 
--- the event that the line says, if it says one
-abbrev pub event_in : Line → Option Event
-event_in Skipped = None
-event_in (Scheduler s) = None
-event_in (Happens e) = Some e
+-- a server with the answers that the lines give to its builder, in order
+abbrev pub with_answers : List Line → SetupServer → SetupServer
+with_answers said s = record s { builder = filter_map (answer_for s.addr) said }
 
 -- each line, without its end, spells its value
 abbrev pub EachLine : List (List ℕ) → List Line → Type 0
@@ -27,9 +33,10 @@ EachLine (p ∷ ps) (l ∷ ls) = IsLine (text_of p) l × EachLine ps ls
 EachLine [] (l ∷ ls) = ⊥
 EachLine (p ∷ ps) [] = ⊥
 
--- The script's lines spell values, of which one is the setup, and the others that are not skipped are the events, in order.
+-- The script's lines spell values, of which one is the scheduler, others are the servers, each with the answers of its builder, and others are the events, in order.
 pub record Says (bytes : List ℕ) (setup : Setup) (events : List Event) : Type 0 where
   pub lines : List Line
   pub each : EachLine (pieces bytes) lines
-  pub setup_is : filter_map setup_in lines ≡ setup ∷ []
+  pub scheduler_is : filter_map scheduler_in lines ≡ setup.scheduler ∷ []
+  pub servers_are : map (with_answers lines) (filter_map server_in lines) ≡ setup.servers
   pub events_are : filter_map event_in lines ≡ events

@@ -1,26 +1,28 @@
 //! Laws of the grammar, each a clause that quantifies over every input.
 ghost use Rattle.std.specs.Prelude.{◌≡◌, ◌↔◌, List, ℕ, Some, Ok, Err};
 ghost use Rattle.farm_script.specs.Lines.{line_at};
-ghost use Rattle.farm_script.specs.Grammar.{IsLine};
+ghost use Rattle.farm_script.specs.Grammar.{Spells};
 ghost use Rattle.farm_script.specs.Script.{script};
-ghost use Rattle.farm_script.specs.FirstFaulty.{IsFirstFaulty};
+ghost use Rattle.farm_script.specs.FirstFaulty.{IsFirstFaulty, IsFaultless};
 ghost use Rattle.farm_script.specs.Spelled.{Says};
 ghost use Rattle.farm_script.specs.declared.setup.Setup.{Setup};
 ghost use Rattle.farm_script.specs.declared.lines.Line.{Line};
+ghost use Rattle.farm_script.specs.declared.lines.Scopes.{Scopes};
 ghost use Rattle.farm_script.specs.declared.event.Event.{Event};
+ghost use Rattle.farm_script.specs.declared.fault.FarmFault.{FarmFault};
 
 /// A line is read as a value exactly where it is one of the value's spellings.
 pub fn lines_are_spelled()
-    ensures { (t : List ℕ) (l : Line) → (line_at t ≡ Some l) ↔ IsLine t l }
+    ensures { (scopes : Scopes) (t : List ℕ) (l : Line) → (line_at scopes t ≡ Some l) ↔ Spells scopes t l }
 {}
 
-/// A script is refused with a number exactly where that is the number of its first faulty line.
+/// A script is refused with a fault exactly where that is its first faulty line's, with its number.
 pub fn first_faulty_lines_are_named()
-    ensures { (bytes : List ℕ) (n : ℕ) → (script bytes ≡ Err n) ↔ IsFirstFaulty bytes n }
+    ensures { (bytes : List ℕ) (f : FarmFault) → (script bytes ≡ Err f) ↔ IsFirstFaulty bytes f }
 {}
 
 /// A script is read as a setup and events exactly where no line of it is faulty and its lines say them.
 pub fn scripts_are_spelled()
     ensures { (bytes : List ℕ) (setup : Setup) (events : List Event)
-        → (script bytes ≡ Ok (setup, events)) ↔ (((n : ℕ) → IsFirstFaulty bytes n → ⊥) × Says bytes setup events) }
+        → (script bytes ≡ Ok (setup, events)) ↔ (IsFaultless bytes × Says bytes setup events) }
 {}

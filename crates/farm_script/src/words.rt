@@ -1,8 +1,9 @@
 //! The words of a line, which are parted by one space.
 ghost use Rattle.std.specs.Prelude.{◌≡◌, ◌==◌, position, true};
 ghost use Rattle.std.specs.List.{list_all};
+ghost use Rattle.std.specs.Option.{option_map};
 ghost use Rattle.farm_script.specs.Reading.{Gives};
-ghost use Rattle.farm_script.specs.Words.{first_word, strip, is_visible};
+ghost use Rattle.farm_script.specs.Words.{first_word, next_word, strip, is_visible};
 
 use crate::fault::LineFault;
 use std::str;
@@ -20,6 +21,16 @@ pub fn first_word(text: &[u8]) -> Result<(&[u8], &[u8]), LineFault>
     match space_at(text) {
         None => Err(LineFault::Bad),
         Some(i) => Ok((&text[..i], &text[i + 1..])),
+    }
+}
+
+/// The first word, and what stands behind the space behind it, where there is one.
+pub fn next_word(text: &[u8]) -> (&[u8], Option<&[u8]>)
+    ensures { (result.0.now, option_map (λ rest. rest.now) result.1) ≡ next_word text.now }
+{
+    match space_at(text) {
+        None => (text, None),
+        Some(i) => (&text[..i], Some(&text[i + 1..])),
     }
 }
 

@@ -1,6 +1,6 @@
 use Rattle.std.specs.Prelude.{option_copied}
 use Rattle.std.proofs.Common.{sym}
-use Rattle.farm_run.proofs.MadeLemmas.{settled_none, settled_by, settling_still, kept_own}
+use Rattle.farm_run.proofs.MadeLemmas.{settled_none, settled_by, settling_still}
 use Rattle.farm_run.proofs.run.take_back.Goals as goal
 
 pub returns-in-None-clause-made : goal.returns-in-None-clause-made

@@ -1,16 +1,17 @@
 use Rattle.std.proofs.Common.{◌≡◌, ◌<◌, length, subst, arith}
 use Rattle.std.proofs.lemmas.Bool.Decides.{nat_tests}
-use Rattle.farm_script.specs.Script.{read_of, script, GivesScript}
-use Rattle.farm_script.proofs.BuiltLemmas.{read_built}
+use Rattle.farm_script.specs.Script.{read_of, script, Tells, GivesScript}
+use Rattle.farm_script.proofs.SpelledLemmas.{read_said, read_setup, told_faulty, read_faulty}
 use Rattle.farm_script.proofs.ScriptLemmas.{Done, line_step, line_stop, at_end}
 use Rattle.farm_script.proofs.script.read_script.Goals as goal
 
-pub returns-in-Err-Bad-clause-exact : goal.returns-in-Err-Bad-clause-exact
-returns-in-Err-Bad-clause-exact c =
+pub returns-in-Err : goal.returns-in-Err
+returns-in-Err c =
     let some : 0 < length c.loop-rest.rest.now = grind (arith, nat_tests) in
-    let e = rw c.in-Err-Bad.field-0-is at c.in-Err-Bad.ensures.exact in
-    line_stop c.loop-rest.number c.loop-rest.room (read_of c.loop-rest.reading) c.loop-rest.rest.now c.split_at.result.0.now c.split_at.result.1.now c.first_len.result (script c.args.bytes.now)
-    some c.first_len.ensures.len c.split_at.ensures.front c.split_at.ensures.back e c.loop-rest.invariant.same
+    let told : Tells c.in-Err.fault (script c.args.bytes.now) =
+    line_stop c.in-Err.fault c.loop-rest.number c.loop-rest.room (read_of c.loop-rest.reading) c.loop-rest.rest.now c.split_at.result.0.now c.split_at.result.1.now c.first_len.result (script c.args.bytes.now)
+    some c.first_len.ensures.len c.split_at.ensures.front c.split_at.ensures.back c.in-Err.ensures.exact c.loop-rest.invariant.same in
+    record { exact = told; says = tt; faulty = told_faulty c.in-Err.fault c.args.bytes.now told; setup = tt }
 
 -- what was read to the end
 gives : goal.returns-clause-exact
@@ -31,5 +32,11 @@ loop-rest-preserved c =
 pub returns-clause-exact : goal.returns-clause-exact
 returns-clause-exact c = gives c
 
-pub returns-clause-built : goal.returns-clause-built
-returns-clause-built c = read_built (λ x. (x.0, x.1.items)) c.finish.result c.args.bytes.now (gives c)
+pub returns-clause-says : goal.returns-clause-says
+returns-clause-says c = read_said (λ x. (x.0, x.1.items)) c.finish.result c.args.bytes.now (gives c)
+
+pub returns-clause-faulty : goal.returns-clause-faulty
+returns-clause-faulty c = read_faulty (λ x. (x.0, x.1.items)) c.finish.result c.args.bytes.now (gives c)
+
+pub returns-clause-setup : goal.returns-clause-setup
+returns-clause-setup c = read_setup (λ x. (x.0, x.1.items)) c.finish.result c.args.bytes.now (gives c)

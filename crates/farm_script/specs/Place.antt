@@ -1,0 +1,72 @@
+-- Where a line may stand, by what the lines before it say.
+use Rattle.std.specs.Prelude.{◌||◌, nat_le, Bool, true, false, not, List, [], ◌∷◌, length, map, Option, Some, None}
+use Rattle.std.specs.List.{filter_map, list_any}
+use Rattle.dist_types.specs.declared.addr.Addr.{Addr}
+use Rattle.dist_types.specs.Addr.{same_addr}
+use Rattle.farm_script.specs.declared.setup.SetupScheduler.{SetupScheduler}
+use Rattle.farm_script.specs.declared.setup.SetupServer.{SetupServer}
+use Rattle.farm_script.specs.declared.event.Event.{Event}
+use Rattle.farm_script.specs.declared.lines.SetupLine.TheVariants.{Scheduler, Server, Builder}
+use Rattle.farm_script.specs.declared.lines.Line.{Line}
+use Rattle.farm_script.specs.declared.lines.Line.TheVariants as lines
+
+-- the scheduler that the line says, if it says one
+abbrev pub scheduler_in : Line → Option SetupScheduler
+scheduler_in lines.Skip = None
+scheduler_in (lines.Setup (Scheduler s)) = Some s
+scheduler_in (lines.Setup (Server s)) = None
+scheduler_in (lines.Setup (Builder addr answer)) = None
+scheduler_in (lines.Event e) = None
+
+-- the build server that the line says, if it says one
+abbrev pub server_in : Line → Option SetupServer
+server_in lines.Skip = None
+server_in (lines.Setup (Scheduler s)) = None
+server_in (lines.Setup (Server s)) = Some s
+server_in (lines.Setup (Builder addr answer)) = None
+server_in (lines.Event e) = None
+
+-- the event that the line says, if it says one
+abbrev pub event_in : Line → Option Event
+event_in lines.Skip = None
+event_in (lines.Setup s) = None
+event_in (lines.Event e) = Some e
+
+-- what decides where a line may stand: the addresses of schedulers and of servers, and the events
+pub record Before : Type 0 where
+  pub schedulers : List Addr
+  pub servers : List Addr
+  pub events : List Event
+
+-- the same, of the lines before
+abbrev pub before_of : List Line → Before
+before_of said = record {
+  schedulers = map (λ s. s.addr) (filter_map scheduler_in said);
+  servers = map (λ s. s.addr) (filter_map server_in said);
+  events = filter_map event_in said;
+}
+
+-- whether there is nothing
+abbrev pub is_nil : {A : Type 0} → List A → Bool
+is_nil [] = true
+is_nil (x ∷ xs) = false
+
+-- whether the address is among them
+abbrev pub has_addr : Addr → List Addr → Bool
+has_addr addr addrs = list_any (λ a. same_addr a addr) addrs
+
+-- Setup lines stand before all events: one scheduler, behind it at most 1,000 servers, and behind a server the answers of its builder.
+abbrev pub misplaced : Before → Line → Bool
+misplaced b lines.Skip = false
+misplaced b (lines.Setup (Scheduler s)) = not (is_nil b.events) || not (is_nil b.schedulers)
+misplaced b (lines.Setup (Server s)) = not (is_nil b.events) || is_nil b.schedulers || nat_le 1000 (length b.servers)
+misplaced b (lines.Setup (Builder addr answer)) = not (is_nil b.events) || not (has_addr addr b.servers)
+misplaced b (lines.Event e) = false
+
+-- a server at the address of the scheduler or of another server
+abbrev pub duplicate : Before → Line → Bool
+duplicate b lines.Skip = false
+duplicate b (lines.Setup (Scheduler s)) = false
+duplicate b (lines.Setup (Server s)) = has_addr s.addr b.schedulers || has_addr s.addr b.servers
+duplicate b (lines.Setup (Builder addr answer)) = false
+duplicate b (lines.Event e) = false

@@ -1,0 +1,12 @@
+//! Tests of scripts: lines and setups, good and faulty, each with the cause and the number that is told.
+//! Tests alone; nothing above uses this crate.
+#![tactic(auto)]
+
+#[cfg(test)]
+mod judged;
+#[cfg(test)]
+mod limits;
+#[cfg(test)]
+mod lines;
+#[cfg(test)]
+mod values;
