@@ -378,7 +378,6 @@ pub farm_next : (setup next : Setup) (s new : Core) (log : List Entry) (ps left 
 farm_next setup next s new log ps left sts after event m is made same core-is =
     let e : Entry = entry_of event m.effect in
     let farm : IsFarm setup new (log ++ e ∷ []) (left ++ m.pending ∷ []) after = record {
-      plain = is.plain;
       fits = is.fits;
       apart = is.apart;
       core_is = core-is ∙ ap (λ (c : Core). with_core c m.effect.core) is.core_is ∙ core_of-push setup log e;

@@ -8,7 +8,8 @@ use Rattle.sched_core.specs.Log.{Core}
 use Rattle.sched_core.specs.Ticket.{Ticket}
 use Rattle.sched_core.specs.declared.entry.CoreEntry.{CoreEntry}
 use Rattle.http_routes.specs.declared.route.Asked.{Asked}
-use Rattle.http_routes.proofs.HeadLemmas.{one_question}
+use Rattle.http_routes.specs.Admission.{equal_admission}
+use Rattle.http_routes.proofs.AskLemmas.{one_question}
 use Rattle.http_routes.proofs.CallLemmas.{one_assignment, one_answer as one_answer_at}
 use Rattle.farm_script.specs.declared.setup.Setup.{Setup}
 use Rattle.farm_script.specs.declared.event.Event.{Event}
@@ -36,12 +37,12 @@ use Rattle.farm_run.specs.Effects.{effect_of, entry_of, step_effect}
 use Rattle.farm_run.specs.Next.{GoesOn, Follows, IsSettled, IsMade, IsNext, EachNext}
 use Rattle.farm_run.specs.Printed.{run_text}
 use Rattle.farm_run.specs.RunText.{IsRunText}
-use Rattle.farm_run.specs.Seen.{core_log, core_of, token_of}
+use Rattle.farm_run.specs.Seen.{core_log, core_of, serves}
 use Rattle.farm_run.specs.Settled.{IsOutcome, assignment_end, IsUpdated, IsHeard, ready_end, started_end, complete_end, heard_as, Reports, Lives, ReportsIn}
 use Rattle.farm_run.specs.Ways.{Way, way_of, brought_at, to_nothing, to_nobody, to_scheduler, to_server, to_call, to_beat, to_restart}
 
 one_asked : (setup : Setup) (peer : Addr) (bytes : List ℕ) (a b : Asked) → Asks setup peer bytes a → Asks setup peer bytes b → a ≡ b
-one_asked setup peer bytes a b p q = one_question bytes peer setup.scheduler.client (token_of setup.scheduler.auth) a b p q
+one_asked setup peer bytes a b p q = one_question (equal_admission setup.scheduler.client) (serves setup.scheduler.auth) bytes peer a b p q
 
 one_answer : (setup : Setup) (core : Core) (number at : ℕ) (peer : Addr) (bytes : List ℕ) (x y : Effect) → IsAnswered setup core number at peer bytes x → IsAnswered setup core number at peer bytes y → x ≡ y
 one_answer setup core number at peer bytes x y p q =

@@ -14,6 +14,7 @@ use Rattle.sched_core.proofs.AddressLemmas.{same_is, same_self}
 use Rattle.sched_core.proofs.AllLemmas.{is_false, true_false}
 use Rattle.farm_script.specs.declared.event.Event.{Event}
 use Rattle.farm_script.specs.declared.event.EventKind.TheVariants.{Restart}
+use Rattle.farm_script.specs.Setups.{AreApart}
 use Rattle.farm_script.specs.declared.setup.Setup.{Setup}
 use Rattle.farm_script.specs.declared.setup.SetupServer.{SetupServer}
 use Rattle.farm_run.specs.declared.entry.Effect.{Effect}
@@ -24,7 +25,7 @@ use Rattle.farm_run.specs.declared.entry.StepKind.TheVariants as kinds
 use Rattle.farm_run.specs.declared.station.Station.{Station}
 use Rattle.farm_run.specs.Effects.{entry_of}
 use Rattle.farm_run.specs.Servers.{ServerNow, server_begun, kind_after, restart_by, restarted, stepped, server_after, server_of, server_at, server_now}
-use Rattle.farm_run.specs.Stations.{now_of, IsWell, AreWell, IsStation, AreStations, IsStepAt, AreApart, HasApart}
+use Rattle.farm_run.specs.Stations.{now_of, IsWell, AreWell, IsStation, AreStations, IsStepAt, HasApart}
 
 -- ---- places
 

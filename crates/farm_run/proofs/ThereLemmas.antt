@@ -8,7 +8,7 @@ use Rattle.sched_core.specs.Log.{Core}
 use Rattle.http_head.specs.Head.{IsNoRequest, IsNoReply}
 use Rattle.http_head.specs.declared.error.HttpError.TheVariants.{ParseError}
 use Rattle.http_routes.specs.declared.route.Asked.{Asked}
-use Rattle.dist_token.specs.Verdict.{job_verdict, plain_server}
+use Rattle.dist_token.specs.Verdict.{job_verdict}
 use Rattle.dist_types.specs.declared.results.UpdateJobStateResult.{UpdateJobStateResult}
 use Rattle.dist_types.specs.declared.results.HeartbeatServerResult.{HeartbeatServerResult}
 use Rattle.dist_wire.specs.Reading.{update_at, heard_at}
@@ -39,13 +39,13 @@ use Rattle.farm_run.specs.Calls.{waiting_at}
 use Rattle.farm_run.specs.Effects.{entry_of, word_effect, step_effect}
 use Rattle.farm_run.specs.Farm.{IsKept, kept_at, AreKept, HasNext}
 use Rattle.farm_run.specs.Next.{GoesOn, IsSettled, IsMade}
-use Rattle.farm_run.specs.Seen.{core_of, token_of}
+use Rattle.farm_run.specs.Seen.{core_of, serves}
 use Rattle.farm_run.specs.Settled.{IsOutcome, assignment_end, IsUpdated, IsHeard, ready_end, started_end, complete_end, heard_as, Reports, Lives, ReportsIn}
 use Rattle.farm_run.specs.Ways.{Way, way_of, brought_at, to_nothing, to_nobody, to_scheduler, to_server, to_call, to_beat, to_restart}
 
 some_question : (setup : Setup) (peer : Addr) (bytes : List ℕ) → ((a : Asked) → Asks setup peer bytes a → ⊥) → ⊥
 some_question setup peer bytes h =
-    let none : IsNoRequest bytes = λ r is. h (question_under (equal_admission setup.scheduler.client) (plain_server (token_of setup.scheduler.auth)) r peer) (inl (r, is, refl)) in
+    let none : IsNoRequest bytes = λ r is. h (question_under (equal_admission setup.scheduler.client) (serves setup.scheduler.auth) r peer) (inl (r, is, refl)) in
     h bad_question (inr (none, refl))
 
 some_assignment : (bytes : List ℕ) → ((r : Result AssignJobResult CallFault) → IsAssigned bytes r → ⊥) → ⊥

@@ -4,7 +4,8 @@ use Rattle.std.specs.Option.{option_map}
 use Rattle.dist_types.specs.declared.addr.Addr.{Addr}
 use Rattle.dist_types.specs.declared.results.AllocJobResult.TheVariants as alloc
 use Rattle.dist_wire.specs.declared.heartbeat.HeartbeatServerHttpRequest.{HeartbeatServerHttpRequest}
-use Rattle.http_routes.specs.Asked.{IsAsked}
+use Rattle.http_routes.specs.Admission.{equal_admission}
+use Rattle.http_routes.specs.Asked.{IsAskedUnder}
 use Rattle.http_routes.specs.Fault.{fault_response_of}
 use Rattle.sched_core.specs.Texts.{no_room_text}
 use Rattle.http_routes.specs.Written.{assign_request_text}
@@ -27,7 +28,7 @@ use Rattle.farm_run.specs.declared.entry.Effect.{Effect}
 use Rattle.farm_run.specs.declared.entry.OutCall.{OutCall}
 use Rattle.farm_run.specs.Effects.{reply_effect, call_effect, reply_to}
 use Rattle.http_routes.specs.Replies.{heard_response, status_response, alloc_response, update_reply}
-use Rattle.farm_run.specs.Seen.{token_of}
+use Rattle.farm_run.specs.Seen.{serves}
 use Rattle.farm_run.specs.Tickets.{ticket_by}
 
 -- the call that asks the reservation's server to take the job
@@ -70,7 +71,7 @@ answer_to core number at json (asked.Done response) = reply_effect None (reply_t
 
 -- the bytes ask that of the scheduler
 abbrev pub Asks : Setup → Addr → List ℕ → Asked → Type 0
-Asks setup peer bytes a = IsAsked bytes peer setup.scheduler.client (token_of setup.scheduler.auth) a
+Asks setup peer bytes a = IsAskedUnder (equal_admission setup.scheduler.client) (serves setup.scheduler.auth) bytes peer a
 
 -- the scheduler does what a peer's bytes ask
 abbrev pub IsAnswered : Setup → Core → ℕ → ℕ → Addr → List ℕ → Effect → Type 0

@@ -11,7 +11,6 @@ use Rattle.sched_core.specs.Laws.{IsLegal, AreDistinct, IsHeldOnce, HasOrder, Is
 use Rattle.sched_core.specs.Ticket.{Ticket}
 use Rattle.sched_core.specs.declared.entry.CoreEntry.{CoreEntry}
 use Rattle.farm_script.specs.declared.setup.Setup.{Setup}
-use Rattle.farm_script.specs.Built.{IsPlain}
 use Rattle.farm_script.specs.declared.event.Event.{Event}
 use Rattle.farm_run.specs.declared.desk.Desk.{Desk}
 use Rattle.farm_run.specs.declared.entry.Entry.{Entry}
@@ -115,7 +114,6 @@ HasNext setup log = (event : Event) → ((e : Entry) → IsNext setup log event 
 
 -- what the scheduler has seen is the core log of the entries, its servers stand as the entries tell, and what is kept of the calls that wait is theirs
 pub record IsFarm (setup : Setup) (core : Core) (entries : List Entry) (ps : List (Option Pending)) (sts : List Station) : Type 0 where
-  pub plain : IsPlain setup.scheduler.auth
   pub fits : setup.scheduler.count < 2 ^ 64
   pub apart : HasApart setup
   pub core_is : core ≡ core_of setup entries

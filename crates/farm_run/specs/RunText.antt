@@ -3,7 +3,7 @@ use Rattle.std.specs.Prelude.{◌≡◌, ℕ, List, [], Ok}
 use Rattle.farm_script.specs.declared.setup.Setup.{Setup}
 use Rattle.farm_script.specs.declared.event.Event.{Event}
 use Rattle.farm_script.specs.Script.{script}
-use Rattle.farm_script.specs.FirstFaulty.{IsFirstFaulty}
+use Rattle.farm_script.specs.FirstFaulty.{IsFaultless}
 use Rattle.farm_script.specs.Spelled.{Says}
 use Rattle.farm_run.specs.declared.entry.Entry.{Entry}
 use Rattle.farm_run.specs.Next.{EachNext}
@@ -17,7 +17,7 @@ pub record IsRunText (bytes text : List ℕ) : Type 0 where
   pub setup : Setup
   pub events : List Event
   pub entries : List Entry
-  pub fine : (n : ℕ) → IsFirstFaulty bytes n → ⊥
+  pub fine : IsFaultless bytes
   pub says : Says bytes setup events
   pub each : EachNext setup [] events entries
   pub lawful : AreLawful setup entries

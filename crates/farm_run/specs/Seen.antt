@@ -1,16 +1,17 @@
 -- What the scheduler of a farm has seen.
-use Rattle.std.specs.Prelude.{List, []}
+use Rattle.std.specs.Prelude.{ℕ, List, [], Option}
+use Rattle.std.specs.Result.{result_ok}
 use Rattle.std.specs.List.{filter_map}
 use Rattle.dist_types.specs.Addr.{addr_text}
 use Rattle.dist_types.specs.declared.addr.Addr.{Addr}
-use Rattle.dist_token.specs.Token.{plain_text}
+use Rattle.dist_token.specs.Token.{plain_text, token_text, server_claims_text}
+use Rattle.dist_token.specs.Verdict.{plain_server, server_verdict}
 use Rattle.sched_core.specs.Log.{Core}
 use Rattle.sched_core.specs.declared.entry.CoreEntry.{CoreEntry}
 use Rattle.farm_script.specs.declared.setup.Setup.{Setup}
 use Rattle.farm_script.specs.declared.setup.SetupAuth.{SetupAuth}
 use Rattle.farm_script.specs.declared.setup.SetupAuth.TheVariants.{Plain, Jwt}
 use Rattle.farm_run.specs.declared.entry.Entry.{Entry}
-use Rattle.std.specs.Prelude.{ℕ}
 
 -- the core entries of a log
 abbrev pub core_log : List Entry → List CoreEntry
@@ -20,11 +21,15 @@ core_log log = filter_map (λ e. e.core) log
 abbrev pub core_of : Setup → List Entry → Core
 core_of setup log = record { base = setup.scheduler.base; count = setup.scheduler.count; log = core_log log }
 
--- the token of all build servers; farms whose servers have tokens of their own are not built yet
-abbrev pub token_of : SetupAuth → List ℕ
-token_of (Plain token) = token
-token_of (Jwt key) = []
+-- the server that a token which is shown is accepted for, if it is accepted: all build servers have one token, or each has its own under a key
+abbrev pub serves : SetupAuth → List ℕ → Option Addr
+serves (Plain token) = plain_server token
+serves (Jwt key) = λ shown. result_ok (server_verdict key shown)
 
 -- the token that the server at an address shows
+abbrev pub shown_by : SetupAuth → Addr → List ℕ
+shown_by (Plain token) addr = plain_text (addr_text addr) token
+shown_by (Jwt key) addr = token_text key (server_claims_text (addr_text addr))
+
 abbrev pub server_token : Setup → Addr → List ℕ
-server_token setup addr = plain_text (addr_text addr) (token_of setup.scheduler.auth)
+server_token setup addr = shown_by setup.scheduler.auth addr

@@ -5,6 +5,7 @@ use Rattle.dist_types.specs.declared.addr.Addr.{Addr}
 use Rattle.build_server.specs.declared.run.Ran.{Ran}
 use Rattle.build_server.specs.declared.run.Ran.TheVariants as ran
 use Rattle.disk_cache.specs.Archives.{IsInStep}
+use Rattle.farm_script.specs.Setups.{AreApart}
 use Rattle.farm_script.specs.declared.setup.Setup.{Setup}
 use Rattle.farm_script.specs.declared.setup.SetupServer.{SetupServer}
 use Rattle.farm_run.specs.declared.entry.Entry.{Entry}
@@ -42,11 +43,6 @@ pub record IsStepAt (s : SetupServer) (place : ℕ) (st : Station) (step : Optio
   pub is : new ≡ set old place after
   pub now : now_of s after ≡ stepped step (now_of s st)
   pub well : IsWell s after
-
--- no address stands twice
-abbrev pub AreApart : List Addr → Type 0
-AreApart [] = Unit {0}
-AreApart (a ∷ addrs) = AllByRecursion (λ b. b ≢ a) addrs × AreApart addrs
 
 -- the addresses of the scheduler and of its servers differ
 abbrev pub HasApart : Setup → Type 0

@@ -7,7 +7,6 @@ ghost use Rattle.dist_types.specs.Cause.{counted};
 ghost use Rattle.dist_types.specs.declared.outgoing.CallFault.{CallFault as Cause};
 ghost use Rattle.dist_types.specs.declared.results.UpdateJobStateResult.{UpdateJobStateResult as Accepted};
 ghost use Rattle.dist_types.specs.declared.results.HeartbeatServerResult.{HeartbeatServerResult as Heard};
-ghost use Rattle.farm_script.specs.Built.{IsPlain};
 ghost use Rattle.farm_run.specs.Begun.{Keeps, completion_at};
 ghost use Rattle.farm_run.specs.Effects.{step_effect};
 ghost use Rattle.farm_run.specs.Served.{books_of, build_answer, run_outcome};
@@ -278,7 +277,6 @@ fn end_started(
     run: RunJobHttpRequest,
     inputs: usize,
 ) -> Result<Made, FarmFault>
-    requires plain { IsPlain desk.now.setup.scheduler.auth }
     requires well { IsWell server.now station.old }
     ensures made { IfOk result (λ m. (r : Result Accepted Cause) × IsUpdated (option_copied back.now.reply) r
         × (m.effect ≡ started_end desk.now.setup (now_of server.now station.old) back.now.root job run (drop inputs back.now.brought.now) r)) }
@@ -319,7 +317,6 @@ fn result_of(done: &RunDone) -> Result<Option<BuildResult>, FarmFault>
 
 /// The step of a run that went so, and the call that tells the scheduler its end.
 fn ran_effect(desk: &Desk, addr: Addr, job: JobId, done: &RunDone) -> Result<Effect, FarmFault>
-    requires plain { IsPlain desk.now.setup.scheduler.auth }
     ensures ok { IfOk result (λ x. x ≡ running desk.now.setup addr job done.now) }
     ensures err { IfErr result (λ e. e ≡ fault.Memory) }
 {
@@ -339,7 +336,6 @@ fn tell_run(
     job: JobId,
     done: RunDone,
 ) -> Result<Made, FarmFault>
-    requires plain { IsPlain desk.now.setup.scheduler.auth }
     ensures effect { IfOk result (λ m. m.effect ≡ running desk.now.setup addr job done) }
     ensures pending { IfOk result (λ m. m.pending ≡ Some (record { root = back.now.root; json = back.now.json; ask = Ask.Report addr life (Told.Complete job done) })) }
     ensures err { IfErr result (λ e. e ≡ fault.Memory) }
@@ -471,7 +467,6 @@ pub fn go_on(
     back: &Back<'_>,
     told: Told,
 ) -> Result<Made, FarmFault>
-    requires plain { IsPlain desk.now.setup.scheduler.auth }
     requires well { IsWell server.now station.old }
     ensures made { IfOk result (λ m. Reports desk.now.setup (now_of server.now station.old) back.now.brought.now back.now.root back.now.json (option_copied back.now.reply) told m.effect) }
     ensures kept { IfOk result (λ m. Keeps (λ p. completion_at back.now.root back.now.json server.now.addr station.old.life m.effect.step ≡ Some p) m.effect m.pending) }

@@ -4,7 +4,6 @@ ghost use Rattle.std.specs.Option.{option_map};
 ghost use Rattle.dist_types.specs.Addr.{same_addr};
 ghost use Rattle.dist_types.specs.declared.addr.Addr.{Addr as Place};
 ghost use Rattle.sched_core.specs.Rows.{servers_of, jobs_of, held_by_id, held_part};
-ghost use Rattle.farm_script.specs.Built.{IsPlain};
 ghost use Rattle.farm_script.specs.declared.event.Event.{Event as Happening};
 ghost use Rattle.farm_script.specs.declared.event.EventKind.TheVariants as kind;
 ghost use Rattle.farm_script.specs.declared.fault.FarmFault.TheVariants as fault;
@@ -115,7 +114,6 @@ fn stop(desk: Desk, log: Log) -> Stopped
 impl Farm {
     /// The farm that a script sets up, with no entries. Refused for want of memory alone.
     pub fn new(alloc: Global, setup: &Setup) -> Result<Self, FarmFault>
-        requires plain { IsPlain setup.now.scheduler.auth }
         requires apart { HasApart setup.now }
         ensures ok { IfOk result (λ farm. farm ≡ record { setup = setup.now; entries = [] }) }
         ensures err { IfErr result (λ e. e ≡ fault.Memory) }
@@ -381,7 +379,6 @@ fn arrive(
     target: Addr,
     arrival: &Arrival<'_>,
 ) -> Result<Made, FarmFault>
-    requires plain { IsPlain desk.old.setup.scheduler.auth }
     requires apart { HasApart desk.old.setup }
     requires stations { AreStations desk.old.setup.servers entries.now stations.old.items }
     ensures received { IfOk result (IsReceived desk.old.setup desk.old.state arrival.now.stamp.number arrival.now.stamp.at
@@ -411,7 +408,6 @@ fn arrive_at(
     place: usize,
     arrival: &Arrival<'_>,
 ) -> Result<Made, FarmFault>
-    requires plain { IsPlain desk.now.setup.scheduler.auth }
     requires well { AreWell desk.now.setup.servers stations.old.items }
     ensures answered { IfOk result (λ m. (s : Site) (st : Post) → slice_get desk.now.setup.servers place ≡ Some s → slice_get stations.old.items place ≡ Some st
         → IsServerAnswered desk.now.setup (now_of s st) arrival.now.stamp.number arrival.now.bytes.now m.effect) }
@@ -442,7 +438,6 @@ fn report_at(
     back: &Back<'_>,
     told: Told,
 ) -> Result<Made, FarmFault>
-    requires plain { IsPlain desk.now.setup.scheduler.auth }
     requires well { AreWell desk.now.setup.servers stations.old.items }
     ensures made { IfOk result (λ m. (s : Site) (st : Post) → slice_get desk.now.setup.servers place ≡ Some s → slice_get stations.old.items place ≡ Some st
         → ReportsIn desk.now.setup back.now.life back.now.brought.now back.now.root back.now.json (option_copied back.now.reply) told (Some (now_of s st)) m.effect) }
@@ -479,7 +474,6 @@ fn report_in(
     back: &Back<'_>,
     told: Told,
 ) -> Result<Made, FarmFault>
-    requires plain { IsPlain desk.now.setup.scheduler.auth }
     requires well { IsWell server.now station.old }
     ensures made { IfOk result (λ m. ReportsIn desk.now.setup back.now.life back.now.brought.now back.now.root back.now.json (option_copied back.now.reply) told (Some (now_of server.now station.old)) m.effect) }
     ensures kept { IfOk result (λ m. Keeps (λ p. completion_at back.now.root back.now.json server.now.addr back.now.life m.effect.step ≡ Some p) m.effect m.pending) }
@@ -503,7 +497,6 @@ fn report(
     back: &Back<'_>,
     told: Told,
 ) -> Result<Made, FarmFault>
-    requires plain { IsPlain desk.now.setup.scheduler.auth }
     requires apart { HasApart desk.now.setup }
     requires stations { AreStations desk.now.setup.servers entries.now stations.old.items }
     ensures made { IfOk result (λ m. ReportsIn desk.now.setup back.now.life back.now.brought.now back.now.root back.now.json (option_copied back.now.reply) told
@@ -534,7 +527,6 @@ fn go_on(
     pending: Pending,
     settlement: &Settlement<'_>,
 ) -> Result<Made, FarmFault>
-    requires plain { IsPlain desk.old.setup.scheduler.auth }
     requires apart { HasApart desk.old.setup }
     requires stations { AreStations desk.old.setup.servers entries.now stations.old.items }
     requires core { desk.old.state ≡ core_of desk.old.setup entries.now }
@@ -610,7 +602,6 @@ fn deliver(
     at: u64,
     call: u64,
 ) -> Result<Made, FarmFault>
-    requires plain { IsPlain desk.old.setup.scheduler.auth }
     requires apart { HasApart desk.old.setup }
     requires stations { AreStations desk.old.setup.servers entries.now stations.old.items }
     ensures received { IfOk result (IsReceived desk.old.setup desk.old.state (length entries.now) at (way_of desk.old.setup entries.now (kind.Deliver call))) }
@@ -643,7 +634,6 @@ fn send_beat(
     entries: &[Entry],
     addr: Addr,
 ) -> Result<Made, FarmFault>
-    requires plain { IsPlain desk.now.setup.scheduler.auth }
     requires stations { AreStations desk.now.setup.servers entries.now stations.now }
     ensures received { IfOk result (λ m. (at : ℕ) → IsReceived desk.now.setup desk.now.state (length entries.now) at (beat_way (server_now desk.now.setup entries.now addr)) m) }
     ensures step { IfOk result (λ m. m.effect.step ≡ None) }

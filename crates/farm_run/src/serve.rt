@@ -8,7 +8,6 @@ ghost use Rattle.sched_core.specs.declared.entry.CoreEntry.{CoreEntry as Core};
 ghost use Rattle.sched_core.specs.declared.entry.UpdateAnswer.{UpdateAnswer};
 ghost use Rattle.dist_types.specs.declared.results.AllocJobResult.TheVariants as alloc_result;
 ghost use Rattle.http_routes.specs.declared.route.SchedRouted.TheVariants as asked;
-ghost use Rattle.farm_script.specs.Built.{IsPlain};
 ghost use Rattle.farm_run.specs.Answers.{hears, heard, update_by, assign_call, answer_to, IsAnswered};
 ghost use Rattle.farm_run.specs.Begun.{IsAssignment, IsBegunBy, Keeps};
 ghost use Rattle.farm_run.specs.Effects.{reply_effect, call_effect, reply_to};
@@ -89,14 +88,45 @@ pub fn reply(alloc: Global, number: u64, response: &Response) -> Result<Reply, A
     }
 }
 
-/// The token of all build servers.
-pub fn token(auth: &SetupAuth) -> &str
-    requires { IsPlain auth.now }
-    ensures { result.now ≡ token_of auth.now }
+/// What bytes ask of the scheduler, where each build server has a token of its own under a key.
+fn asked_by_key(
+    alloc: Global,
+    bytes: &[u8],
+    peer: Addr,
+    client: &str,
+    key: &[u8],
+) -> Result<Asked, FarmFault>
+    ensures ok { IfOk result (IsAskedUnder (equal_admission client.now) (λ shown. result_ok (server_verdict key.now shown)) bytes.now peer) }
+    ensures err { IfErr result (λ e. e ≡ fault.Memory) }
 {
-    match auth {
-        SetupAuth::Plain(token) => token.get(),
-        SetupAuth::Jwt(_) => unreachable!(),
+    let mut client = EqCheck::new(String::from_str(alloc, client)?);
+    let server = JwtServerCheck::new(Vec::from_slice(alloc, key)?);
+    match asked_under(alloc, bytes, peer, &mut client, &server) {
+        Ok(question) => Ok(question),
+        Err(error) => Err(FarmFault::from(want_of_memory(error))),
+    }
+}
+
+/// What bytes ask of the scheduler, by how build servers show who they are.
+fn question(
+    alloc: Global,
+    setup: &Setup,
+    peer: Addr,
+    bytes: &[u8],
+) -> Result<Asked, FarmFault>
+    ensures ok { IfOk result (Asks setup.now peer bytes.now) }
+    ensures err { IfErr result (λ e. e ≡ fault.Memory) }
+{
+    let client = setup.scheduler.client.get();
+    match &setup.scheduler.auth {
+        SetupAuth::Plain(token) => match asked(alloc, bytes, peer, client, token.get()) {
+            Ok(question) => Ok(question),
+            Err(error) => Err(FarmFault::from(want_of_memory(error))),
+        },
+        SetupAuth::Jwt(key) => {
+            let question = asked_by_key(alloc, bytes, peer, client, key.get())?;
+            Ok(question)
+        }
     }
 }
 
@@ -414,18 +444,12 @@ fn serve_asked(
 
 /// What is made of bytes that come to the scheduler.
 pub fn serve(desk: &mut Desk, arrival: &Arrival<'_>) -> Result<Made, FarmFault>
-    requires plain { IsPlain desk.old.setup.scheduler.auth }
     ensures answered { IfOk result (λ m. IsAnswered desk.old.setup desk.old.state arrival.now.stamp.number arrival.now.stamp.at arrival.now.peer arrival.now.bytes.now m.effect) }
     ensures kept { IfOk result (λ m. Keeps (IsBegunBy desk.old.setup desk.old.state.log arrival.now.stamp.number (to_scheduler arrival.now.peer arrival.now.bytes.now) m.effect) m.effect m.pending) }
     ensures desk { IfOk result (λ m. desk.new ≡ acted desk.old m.effect.core) }
     ensures err { IfErr result (λ e. e ≡ fault.Memory) }
 {
-    let client = desk.setup.scheduler.client.get();
-    let token = token(&desk.setup.scheduler.auth);
-    let question = match asked(desk.alloc, arrival.bytes, arrival.peer, client, token) {
-        Ok(question) => question,
-        Err(error) => return Err(FarmFault::from(want_of_memory(error))),
-    };
+    let question = question(desk.alloc, &desk.setup, arrival.peer, arrival.bytes)?;
     let Asked { what, json } = question;
     serve_asked(desk.alloc, &mut desk.state, arrival.stamp, json, what)
 }

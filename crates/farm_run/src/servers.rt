@@ -1,6 +1,5 @@
 //! What a build server does with what comes to it, and at its own events.
 ghost use Rattle.std.specs.Prelude.{◌≡◌, ◌+◌, Some, None, false, IfOk, IfErr, OnOk, string_bytes};
-ghost use Rattle.farm_script.specs.Built.{IsPlain};
 ghost use Rattle.build_server.specs.Rules.{assign_verdict};
 ghost use Rattle.farm_run.specs.Begun.{Keeps, IsBegunBy};
 ghost use Rattle.farm_run.specs.Seen.{server_token};
@@ -43,12 +42,15 @@ struct Wish {
 
 /// The token that the server at an address shows to the scheduler.
 fn token_at(alloc: Global, setup: &Setup, addr: Addr) -> Result<String, FarmFault>
-    requires { IsPlain setup.now.scheduler.auth }
     ensures ok { IfOk result (λ text. string_bytes text ≡ server_token setup.now addr) }
     ensures err { IfErr result (λ e. e ≡ fault.Memory) }
 {
-    let shared = token(&setup.scheduler.auth);
-    match create_server_token(alloc, ServerId::new(addr), shared) {
+    let server = ServerId::new(addr);
+    let text = match &setup.scheduler.auth {
+        SetupAuth::Plain(token) => create_server_token(alloc, server, token.get()),
+        SetupAuth::Jwt(key) => create_jwt_server_token(alloc, server, key.get()),
+    };
+    match text {
         Ok(text) => Ok(text),
         Err(_) => Err(FarmFault::Memory),
     }
@@ -61,7 +63,6 @@ pub fn state_call(
     job: JobId,
     state: JobState,
 ) -> Result<OutCall, FarmFault>
-    requires { IsPlain desk.now.setup.scheduler.auth }
     ensures ok { IfOk result (λ c. c ≡ state_call desk.now.setup addr job state) }
     ensures err { IfErr result (λ e. e ≡ fault.Memory) }
 {
@@ -75,7 +76,6 @@ pub fn state_call(
 
 /// The call of a server's heartbeat.
 fn beat_call(desk: &Desk, server: &SetupServer, station: &Station) -> Result<OutCall, FarmFault>
-    requires { IsPlain desk.now.setup.scheduler.auth }
     ensures ok { IfOk result (λ c. c ≡ beat_call desk.now.setup (now_of server.now station.now)) }
     ensures err { IfErr result (λ e. e ≡ fault.Memory) }
 {
@@ -99,7 +99,6 @@ pub fn beat(
     station: &Station,
     number: u64,
 ) -> Result<Made, FarmFault>
-    requires { IsPlain desk.now.setup.scheduler.auth }
     ensures effect { IfOk result (λ m. m.effect ≡ beat_effect desk.now.setup (now_of server.now station.now)) }
     ensures pending { IfOk result (λ m. m.pending ≡ Some (report_of number false (now_of server.now station.now) Told.Heartbeat)) }
     ensures err { IfErr result (λ e. e ≡ fault.Memory) }
@@ -177,7 +176,6 @@ fn serve_asked(
     wish: Wish,
     what: ServerRouted,
 ) -> Result<Made, FarmFault>
-    requires plain { IsPlain desk.now.setup.scheduler.auth }
     requires well { IsWell server.now station.old }
     ensures answer { IfOk result (λ m. m.effect ≡ served desk.now.setup (now_of server.now station.old) wish.number wish.json what) }
     ensures kept { IfOk result (λ m. Keeps (λ p. (t : Kept) × (told_of wish.body what ≡ Some t)
@@ -229,7 +227,6 @@ pub fn serve_at(
     station: &mut Station,
     arrival: &Arrival<'_>,
 ) -> Result<Made, FarmFault>
-    requires plain { IsPlain desk.now.setup.scheduler.auth }
     requires well { IsWell server.now station.old }
     ensures answered { IfOk result (λ m. IsServerAnswered desk.now.setup (now_of server.now station.old) arrival.now.stamp.number arrival.now.bytes.now m.effect) }
     ensures kept { IfOk result (λ m. Keeps (IsBegunBy desk.now.setup desk.now.state.log arrival.now.stamp.number
