@@ -5,9 +5,10 @@ use Rattle.std.specs.Cmp.Lexicographic.{pointwise}
 use Rattle.dist_types.specs.Cause.{Rose}
 use Rattle.dist_types.specs.Content.{Added, Began, left_behind}
 use Rattle.farm_script.specs.declared.fault.FarmFault.{FarmFault}
-use Rattle.farm_script.specs.declared.fault.FarmFault.TheVariants.{Usage, BadLine, ReadFault, WriteFault, Memory}
+use Rattle.farm_script.specs.declared.fault.FarmFault.TheVariants.{Usage, BadLine, DuplicateAddress, ScopedAddress, ReadFault, WriteFault, BadConfig, ServeFault, Memory}
 use Rattle.farm_run.specs.RunText.{IsRunText}
-use Rattle.farm_script.specs.Script.{script}
+use Rattle.farm_script.specs.FaultText.{cause_text}
+use Rattle.farm_script.specs.Script.{script, Tells}
 use Rattle.farm_script.specs.FirstFaulty.{IsFirstFaulty}
 use Rattle.farm_script.specs.Texts.{◌⧺◌}
 
@@ -22,23 +23,29 @@ names_farm (name ∷ word ∷ more ∷ others) = false
 abbrev pub fault_text : FarmFault → List ℕ
 fault_text Usage = codes "sccache-dist: these words name no command\n"
 fault_text (BadLine n) = codes "sccache-dist: bad line " ⧺ decimal n ⧺ codes "\n"
+fault_text (DuplicateAddress n) = codes "sccache-dist: duplicate address on line " ⧺ decimal n ⧺ codes "\n"
+fault_text (ScopedAddress n) = codes "sccache-dist: scoped address on line " ⧺ decimal n ⧺ codes "\n"
 fault_text ReadFault = codes "sccache-dist: read fault\n"
 fault_text WriteFault = codes "sccache-dist: write fault\n"
+fault_text (BadConfig cause) = codes "sccache-dist: bad configuration: " ⧺ cause_text cause ⧺ codes "\n"
+fault_text ServeFault = codes "sccache-dist: serve fault\n"
 fault_text Memory = codes "sccache-dist: out of memory\n"
 
 -- the status of a fault that is told
 abbrev pub fault_status : FarmFault → ℕ
 fault_status (BadLine n) = 1
+fault_status (DuplicateAddress n) = 1
+fault_status (ScopedAddress n) = 1
 fault_status Usage = 2
 fault_status Memory = 3
 fault_status ReadFault = 4
 fault_status WriteFault = 5
+fault_status (BadConfig cause) = 6
+fault_status ServeFault = 7
 
 -- why a script has no run: a line is faulty, or memory ran out
 abbrev pub HasNoRun : FarmFault → List ℕ → Type 0
-HasNoRun (BadLine n) bytes = script bytes ≡ Err n
-HasNoRun Memory bytes = Unit {0}
-HasNoRun other bytes = ⊥
+HasNoRun f bytes = Tells f (script bytes)
 
 -- input, out or errs, as a moment finds it: what input has left, or what the other two hold, where that is told, and the count of faults
 pub record Side : Type 0 where
@@ -62,14 +69,22 @@ abbrev pub IsPrinted : Called → Type 0
 IsPrinted c = (names_farm c.words ≡ true) × IsReadWhole c.input c.input_after × (c.out_after.faults ≡ c.out.faults)
     × IfSome c.input.content (λ bytes. (text : List ℕ) × IsRunText bytes text × Added text c.out.content c.out_after.content)
 
+-- A line is faulty, for that cause: input was read whole, and nothing was written.
+abbrev pub IsLineCause : FarmFault → Called → Type 0
+IsLineCause f c = (names_farm c.words ≡ true) × IsReadWhole c.input c.input_after × (c.out_after ≡ c.out) × IfSome c.input.content (λ bytes. IsFirstFaulty bytes f)
+
 -- Why a call met a fault, and what it left: the words are judged first; then input is read whole, before a line is judged; nothing is written before
 -- every line was, and then a front of the run's text.
 abbrev pub IsCause : FarmFault → Called → Type 0
 IsCause Usage c = (names_farm c.words ≡ false) × (c.input_after ≡ c.input) × (c.out_after ≡ c.out)
-IsCause (BadLine n) c = (names_farm c.words ≡ true) × IsReadWhole c.input c.input_after × (c.out_after ≡ c.out) × IfSome c.input.content (λ bytes. IsFirstFaulty bytes n)
+IsCause (BadLine n) c = IsLineCause (BadLine n) c
+IsCause (DuplicateAddress n) c = IsLineCause (DuplicateAddress n) c
+IsCause (ScopedAddress n) c = IsLineCause (ScopedAddress n) c
 IsCause ReadFault c = (names_farm c.words ≡ true) × Rose c.input.faults c.input_after.faults × (c.out_after ≡ c.out)
 IsCause WriteFault c = (names_farm c.words ≡ true) × IsReadWhole c.input c.input_after × Rose c.out.faults c.out_after.faults
     × IfSome c.input.content (λ bytes. (text : List ℕ) × IsRunText bytes text × Began text c.out.content c.out_after.content)
+IsCause (BadConfig cause) c = ⊥
+IsCause ServeFault c = ⊥
 IsCause Memory c = (names_farm c.words ≡ true) × (c.input_after.faults ≡ c.input.faults) × (c.out_after ≡ c.out)
 
 -- The run was printed, or a fault met.
@@ -87,9 +102,17 @@ IsSaid text status answer before after =
 abbrev pub IsTold : FarmFault → ℕ → Side → Side → Type 0
 IsTold f answer before after = IsSaid (fault_text f) (fault_status f) answer before after
 
--- What is told of a fault: the fault, or want of memory, where memory ran out for the text of a bad line.
+-- the text of the fault takes memory
+abbrev pub TakesMemory : FarmFault → Type 0
+TakesMemory (BadLine n) = Unit {0}
+TakesMemory (DuplicateAddress n) = Unit {0}
+TakesMemory (ScopedAddress n) = Unit {0}
+TakesMemory (BadConfig cause) = Unit {0}
+TakesMemory other = ⊥
+
+-- What is told of a fault: the fault, or want of memory, where memory ran out for its text.
 abbrev pub StandsFor : FarmFault → FarmFault → Type 0
-StandsFor met told = (told ≡ met) ⊎ ((told ≡ Memory) × (n : ℕ) × (met ≡ BadLine n))
+StandsFor met told = (told ≡ met) ⊎ ((told ≡ Memory) × TakesMemory met)
 
 -- 0 where there is no fault, and errs is as it was; else the fault is told.
 abbrev pub IsReported : {A : Type 0} → Result A FarmFault → ℕ → Side → Side → Type 0

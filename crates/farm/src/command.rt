@@ -5,7 +5,8 @@ ghost use Rattle.std.specs.IoError.{error_kind};
 ghost use Rattle.dist_types.specs.Cause.{Rose};
 ghost use Rattle.dist_types.specs.Content.{left_behind};
 ghost use Rattle.farm_script.specs.Script.{script};
-ghost use Rattle.farm_script.specs.FirstFaulty.{IsFirstFaulty};
+ghost use Rattle.farm_script.specs.FirstFaulty.{IsFirstFaulty, IsFaultless};
+ghost use Rattle.farm_script.specs.declared.fault.FarmFault.{FarmFault as Fault};
 ghost use Rattle.farm_run.specs.RunText.{IsReadText};
 ghost use Rattle.farm.specs.Command.{names_farm, HasNoRun, fault_text, IsDone, IsSaid, IsTold, IsReported, IsAnswered};
 ghost use Rattle.farm_script.specs.declared.fault.FarmFault.TheVariants as fault;
@@ -14,13 +15,15 @@ use dist_types::sink::{Sink, write_all};
 use dist_types::source::{ReadError, Source, read_up_to};
 use farm_run::print::print_run;
 use farm_run::run::Farm;
-use farm_script::fault::FarmFault;
+use farm_script::fault::{ConfigCause, FarmFault};
 use farm_script::script::{MAX_SCRIPT_BYTES, read_script};
 use std::alloc::{AllocError, Global};
 use std::env::Args;
 use std::io::{self, ErrorKind};
 
 const USAGE: &[u8] = b"sccache-dist: these words name no command\n";
+
+const SERVE_FAULT: &[u8] = b"sccache-dist: serve fault\n";
 
 const READ_FAULT: &[u8] = b"sccache-dist: read fault\n";
 
@@ -115,6 +118,24 @@ fn say<E: Sink>(errs: &mut E, text: &[u8], status: u8) -> u8
     }
 }
 
+fn twice_text(alloc: Global, n: u64) -> Result<String, AllocError>
+    ensures { IfOk result (λ text. string_bytes text ≡ fault_text (fault.DuplicateAddress n)) }
+{
+    format!(in alloc; "sccache-dist: duplicate address on line {n}\n")
+}
+
+fn scoped_text(alloc: Global, n: u64) -> Result<String, AllocError>
+    ensures { IfOk result (λ text. string_bytes text ≡ fault_text (fault.ScopedAddress n)) }
+{
+    format!(in alloc; "sccache-dist: scoped address on line {n}\n")
+}
+
+fn config_text(alloc: Global, cause: &ConfigCause) -> Result<String, AllocError>
+    ensures { IfOk result (λ text. string_bytes text ≡ fault_text (fault.BadConfig cause.now)) }
+{
+    format!(in alloc; "sccache-dist: bad configuration: {cause}\n")
+}
+
 fn line_text(alloc: Global, n: u64) -> Result<String, AllocError>
     ensures { IfOk result (λ text. string_bytes text ≡ fault_text (fault.BadLine n)) }
 {
@@ -122,7 +143,7 @@ fn line_text(alloc: Global, n: u64) -> Result<String, AllocError>
 }
 
 /// Answers 0 where all was done; else tells the fault on errs, and answers its status, or 5 where errs
-/// failed. Want of memory is told in place of a bad line where memory runs out for that line's text.
+/// failed. Want of memory is told in place of a fault where memory runs out for its text.
 fn report<E: Sink>(alloc: Global, done: Result<(), FarmFault>, errs: &mut E) -> u8
     ensures reported { IsReported done result
         (record { content = E.held errs.old; faults = E.faults errs.old })
@@ -135,6 +156,19 @@ fn report<E: Sink>(alloc: Global, done: Result<(), FarmFault>, errs: &mut E) -> 
             Ok(text) => say(errs, text.as_bytes(), 1),
             Err(_) => say(errs, MEMORY, 3),
         },
+        Err(FarmFault::DuplicateAddress(n)) => match twice_text(alloc, n) {
+            Ok(text) => say(errs, text.as_bytes(), 1),
+            Err(_) => say(errs, MEMORY, 3),
+        },
+        Err(FarmFault::ScopedAddress(n)) => match scoped_text(alloc, n) {
+            Ok(text) => say(errs, text.as_bytes(), 1),
+            Err(_) => say(errs, MEMORY, 3),
+        },
+        Err(FarmFault::BadConfig(cause)) => match config_text(alloc, &cause) {
+            Ok(text) => say(errs, text.as_bytes(), 6),
+            Err(_) => say(errs, MEMORY, 3),
+        },
+        Err(FarmFault::ServeFault) => say(errs, SERVE_FAULT, 7),
         Err(FarmFault::ReadFault) => say(errs, READ_FAULT, 4),
         Err(FarmFault::WriteFault) => say(errs, WRITE_FAULT, 5),
         Err(FarmFault::Memory) => say(errs, MEMORY, 3),
@@ -168,9 +202,9 @@ pub fn dist_main<S: Source, K: Sink, E: Sink>(
     ensures statuses { result ≤ 5 }
     // Where a line is faulty it is 1, and where none is it is 0, without want of memory and faults.
     ensures faulty { names_farm (map string_bytes words.now) ≡ true → IfSome (S.left input.old) (λ bytes.
-        (n : ℕ) → IsFirstFaulty bytes n → (result ≡ 1) ⊎ (result ≡ 3) ⊎ (result ≡ 4) ⊎ (result ≡ 5)) }
+        (f : Fault) → IsFirstFaulty bytes f → (result ≡ 1) ⊎ (result ≡ 3) ⊎ (result ≡ 4) ⊎ (result ≡ 5)) }
     ensures faultless { names_farm (map string_bytes words.now) ≡ true → IfSome (S.left input.old) (λ bytes.
-        ((n : ℕ) → IsFirstFaulty bytes n → ⊥) → (result ≡ 0) ⊎ (result ≡ 3) ⊎ (result ≡ 4) ⊎ (result ≡ 5)) }
+        IsFaultless bytes → (result ≡ 0) ⊎ (result ≡ 3) ⊎ (result ≡ 4) ⊎ (result ≡ 5)) }
     // Where the lines were judged, input has left what stands behind one byte past the limit, and no more.
     ensures left { result ≤ 1 → S.left input.new ≡ left_behind 67108865 (S.left input.old) }
     // A fault of input comes before what its bytes say, and out and errs fail in no status but 5.

@@ -8,11 +8,14 @@ ghost use Rattle.sched_core.specs.declared.entry.CoreEntry.{CoreEntry as Core};
 ghost use Rattle.sched_core.specs.declared.entry.UpdateAnswer.{UpdateAnswer};
 ghost use Rattle.dist_types.specs.declared.results.AllocJobResult.TheVariants as alloc_result;
 ghost use Rattle.http_routes.specs.declared.route.SchedRouted.TheVariants as asked;
-ghost use Rattle.farm_run.specs.Answers.{hears, heard, update_by, assign_call, answer_to, IsAnswered};
+ghost use Rattle.std.specs.Result.{result_ok};
+ghost use Rattle.dist_token.specs.Verdict.{server_verdict};
+ghost use Rattle.http_routes.specs.Admission.{equal_admission};
+ghost use Rattle.http_routes.specs.Asked.{IsAskedUnder};
+ghost use Rattle.farm_run.specs.Answers.{Asks, hears, heard, update_by, assign_call, answer_to, IsAnswered};
 ghost use Rattle.farm_run.specs.Begun.{IsAssignment, IsBegunBy, Keeps};
 ghost use Rattle.farm_run.specs.Effects.{reply_effect, call_effect, reply_to};
 ghost use Rattle.farm_run.specs.Farm.{with_core, acted};
-ghost use Rattle.farm_run.specs.Seen.{token_of};
 ghost use Rattle.farm_run.specs.Ways.{to_scheduler};
 ghost use Rattle.http_routes.specs.Replies as response;
 ghost use Rattle.http_routes.specs.Replies.{update_reply};
@@ -24,6 +27,7 @@ ghost use Rattle.farm_script.specs.declared.fault.FarmFault.TheVariants as fault
 use crate::desk::Desk;
 use crate::entry::{Effect, OutCall, Reply};
 use crate::pending::{Ask, Made, Pending};
+use dist_token::checks::{EqCheck, JwtServerCheck};
 use dist_token::job_token::JWTJobAuthorizer;
 use dist_types::addr::Addr;
 use dist_types::ids::{JobId, ServerId};
@@ -33,8 +37,8 @@ use dist_types::text::Bytes;
 use dist_types::toolchain::Toolchain;
 use dist_wire::heartbeat::HeartbeatServerHttpRequest;
 use farm_script::fault::FarmFault;
-use farm_script::setup::SetupAuth;
-use http_routes::asked::asked;
+use farm_script::setup::{Setup, SetupAuth};
+use http_routes::asked::{asked, asked_under};
 use http_routes::fault::RouteFault;
 use http_routes::replies::{
     no_room, to_allocation, to_fault, to_heartbeat, to_status, to_update, want_of_memory,
@@ -108,12 +112,7 @@ fn asked_by_key(
 }
 
 /// What bytes ask of the scheduler, by how build servers show who they are.
-fn question(
-    alloc: Global,
-    setup: &Setup,
-    peer: Addr,
-    bytes: &[u8],
-) -> Result<Asked, FarmFault>
+fn question(alloc: Global, setup: &Setup, peer: Addr, bytes: &[u8]) -> Result<Asked, FarmFault>
     ensures ok { IfOk result (Asks setup.now peer bytes.now) }
     ensures err { IfErr result (λ e. e ≡ fault.Memory) }
 {
