@@ -112,12 +112,7 @@ fn asked_by_key(
 }
 
 /// What bytes ask of the scheduler, by how build servers show who they are.
-fn question(
-    alloc: Global,
-    setup: &Setup,
-    peer: Addr,
-    bytes: &[u8],
-) -> Result<Asked, FarmFault>
+fn question(alloc: Global, setup: &Setup, peer: Addr, bytes: &[u8]) -> Result<Asked, FarmFault>
     ensures ok { IfOk result (Asks setup.now peer bytes.now) }
     ensures err { IfErr result (λ e. e ≡ fault.Memory) }
 {

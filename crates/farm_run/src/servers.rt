@@ -1,5 +1,7 @@
 //! What a build server does with what comes to it, and at its own events.
 ghost use Rattle.std.specs.Prelude.{◌≡◌, ◌+◌, Some, None, false, IfOk, IfErr, OnOk, string_bytes};
+ghost use Rattle.dist_types.specs.Addr.{addr_text};
+ghost use Rattle.dist_token.specs.Token.{plain_text, token_text, server_claims_text};
 ghost use Rattle.build_server.specs.Rules.{assign_verdict};
 ghost use Rattle.farm_run.specs.Begun.{Keeps, IsBegunBy};
 ghost use Rattle.farm_run.specs.Seen.{server_token};
@@ -40,19 +42,42 @@ struct Wish {
     body: usize,
 }
 
+/// The token that a server at an address shows, where all have one.
+fn plain_token(alloc: Global, addr: Addr, token: &str) -> Result<String, FarmFault>
+    ensures ok { IfOk result (λ text. string_bytes text ≡ plain_text (addr_text addr) token.now) }
+    ensures err { IfErr result (λ e. e ≡ fault.Memory) }
+{
+    match create_server_token(alloc, ServerId::new(addr), token) {
+        Ok(text) => Ok(text),
+        Err(_) => Err(FarmFault::Memory),
+    }
+}
+
+/// The token that a server at an address shows, where each has its own under a key.
+fn signed_token(alloc: Global, addr: Addr, key: &[u8]) -> Result<String, FarmFault>
+    ensures ok { IfOk result (λ text. string_bytes text ≡ token_text key.now (server_claims_text (addr_text addr))) }
+    ensures err { IfErr result (λ e. e ≡ fault.Memory) }
+{
+    match create_jwt_server_token(alloc, ServerId::new(addr), key) {
+        Ok(text) => Ok(text),
+        Err(_) => Err(FarmFault::Memory),
+    }
+}
+
 /// The token that the server at an address shows to the scheduler.
 fn token_at(alloc: Global, setup: &Setup, addr: Addr) -> Result<String, FarmFault>
     ensures ok { IfOk result (λ text. string_bytes text ≡ server_token setup.now addr) }
     ensures err { IfErr result (λ e. e ≡ fault.Memory) }
 {
-    let server = ServerId::new(addr);
-    let text = match &setup.scheduler.auth {
-        SetupAuth::Plain(token) => create_server_token(alloc, server, token.get()),
-        SetupAuth::Jwt(key) => create_jwt_server_token(alloc, server, key.get()),
-    };
-    match text {
-        Ok(text) => Ok(text),
-        Err(_) => Err(FarmFault::Memory),
+    match &setup.scheduler.auth {
+        SetupAuth::Plain(token) => {
+            let text = plain_token(alloc, addr, token.get())?;
+            Ok(text)
+        }
+        SetupAuth::Jwt(key) => {
+            let text = signed_token(alloc, addr, key.get())?;
+            Ok(text)
+        }
     }
 }
 

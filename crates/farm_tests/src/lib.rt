@@ -22,3 +22,5 @@ mod replay;
 mod script_lines;
 #[cfg(test)]
 mod turns;
+#[cfg(test)]
+mod whole_farms;

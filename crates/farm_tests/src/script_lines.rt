@@ -342,27 +342,7 @@ const LINES_OF_CALLS: &[(u64, &str, &str)] = &[
     (2, "0 answer 18446744073709551616 -", "2^64"),
     (2, "0 answer 0 - ", "a trailing space"),
     (2, "0 answer 0 - -", "a word more"),
-    (2, "0 return 0", "a return is not built yet"),
-    (
-        2,
-        "0 beat 127.0.0.1:10501",
-        "a beat of a build server is not built yet",
-    ),
-    (
-        2,
-        "0 restart 127.0.0.1:10501 key 010202 nonce 7",
-        "a restart is not built yet",
-    ),
-    (
-        2,
-        "server 127.0.0.1:10501 cpus 1 nonce 7 key 010202 capacity 1000",
-        "a build server is not built yet",
-    ),
-    (
-        2,
-        "builder 127.0.0.1:10501 refuse",
-        "a builder's answer is not built yet",
-    ),
+    (0, "0 return 0", "a return of no delivery"),
 ];
 
 /// The script of one line behind a scheduler line.

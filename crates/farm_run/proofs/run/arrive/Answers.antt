@@ -15,8 +15,8 @@ returns-then-is_scheduler-clause-stations c = λ event still.
     (scheduler_step c.args.desk.now.setup c.args.desk.now.state c.args.arrival.now.stamp.number c.args.arrival.now.stamp.at c.args.arrival.now.peer c.args.arrival.now.bytes.now c.in_ok-made.made.effect
     c.in_ok-made.ensures.answered)
 
-pub arrive_at-requires-clause-well : goal.arrive_at-requires-clause-well
-arrive_at-requires-clause-well c = are_well c.args.desk.now.setup.servers c.args.entries.now c.args.stations.now.items c.requires.stations
+pub arrive_at-requires : goal.arrive_at-requires
+arrive_at-requires c = record { well = are_well c.args.desk.now.setup.servers c.args.entries.now c.args.stations.now.items c.requires.stations }
 
 pub returns-in-None-clause-received : goal.returns-in-None-clause-received
 returns-in-None-clause-received c =

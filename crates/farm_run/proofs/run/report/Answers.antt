@@ -12,8 +12,8 @@ use Rattle.farm_run.proofs.ServerLemmas.{place_found, are_well, stations_same, s
 use Rattle.farm_run.proofs.RowLemmas.{report_step, no_report, report_there}
 use Rattle.farm_run.proofs.run.report.Goals as goal
 
-pub report_at-requires-clause-well : goal.report_at-requires-clause-well
-report_at-requires-clause-well c = are_well c.args.desk.now.setup.servers c.args.entries.now c.args.stations.now.items c.requires.stations
+pub report_at-requires : goal.report_at-requires
+report_at-requires c = record { well = are_well c.args.desk.now.setup.servers c.args.entries.now c.args.stations.now.items c.requires.stations }
 
 pub returns-in-None-clause-made : goal.returns-in-None-clause-made
 returns-in-None-clause-made c =
