@@ -1,3 +1,4 @@
+pub mod BuildLemmas
 pub mod CallLemmas
 pub mod HexLemmas
 pub mod IdLemmas
@@ -10,7 +11,9 @@ pub mod RowLemmas
 pub mod RunLemmas
 pub mod ServeLemmas
 pub mod ServerLemmas
+pub mod SettleLemmas
 pub mod SoundLemmas
+pub mod StartedLemmas
 pub mod StationLemmas
 pub mod ThereLemmas
 pub mod WaitLemmas
