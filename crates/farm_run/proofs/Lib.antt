@@ -7,6 +7,7 @@ pub mod NextLemmas
 pub mod NumberLemmas
 pub mod OneLemmas
 pub mod OwnLemmas
+pub mod ReportLemmas
 pub mod RowLemmas
 pub mod RunLemmas
 pub mod ServeLemmas
@@ -15,5 +16,7 @@ pub mod SettleLemmas
 pub mod SoundLemmas
 pub mod StartedLemmas
 pub mod StationLemmas
+pub mod TakenLemmas
+pub mod TextLemmas
 pub mod ThereLemmas
 pub mod WaitLemmas

@@ -11,3 +11,15 @@ pub fn calls_are_settled_once()
     ensures { (setup : Setup) (events : List Event) (entries : List Entry)
         → EachNext setup [] events entries → AreSettledOnce entries }
 {}
+
+/// At every prefix of a run each build goes on from an accepted start of a run request, and no id is built twice.
+pub fn builds_are_accepted()
+    ensures { (setup : Setup) (events : List Event) (entries : List Entry) → setup.scheduler.count < 2 ^ 64
+        → HasWords setup → EachNext setup [] events entries → AreBuilds setup entries }
+{}
+
+/// No id is built twice.
+pub fn no_id_is_built_twice()
+    ensures { (setup : Setup) (events : List Event) (entries : List Entry) → setup.scheduler.count < 2 ^ 64
+        → HasWords setup → EachNext setup [] events entries → AreBuiltOnce entries }
+{}

@@ -1,5 +1,4 @@
 use Rattle.farm_run.proofs.SettleLemmas.{settled_once}
-use Rattle.farm_run.proofs.StartedLemmas.{once, was_ready}
 use Rattle.farm_run.proofs.build_laws.calls_are_settled_once.Goals as goal
 
 pub returns : goal.returns
