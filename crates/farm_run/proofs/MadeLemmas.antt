@@ -131,23 +131,30 @@ received_made setup s log ps sts new event number at way m is numbered moment co
       stations = stand;
     }
 
--- an event that has nothing to do
-pub idle_made : (setup : Setup) (s : Core) (log : List Entry) (ps : List (Option Pending)) (sts : List Station) (event : Event) (m : Made)
-    → IsFarm setup s log ps sts → way_of setup log event.kind ≡ to_nothing → ((a : Addr) → restart_by a event.kind ≡ None) → m ≡ record { effect = word_effect Void; pending = None }
-    → IsMadeSo setup log event (way_of setup log event.kind) ps sts m
-idle_made setup s log ps sts event m is nothing still same =
+-- an event that has nothing to do, and leaves the stations
+pub idle_stands : (setup : Setup) (s : Core) (log : List Entry) (ps : List (Option Pending)) (sts new : List Station) (event : Event) (m : Made)
+    → IsFarm setup s log ps sts → way_of setup log event.kind ≡ to_nothing → AreStations setup.servers (log ++ entry_of event (word_effect Void) ∷ []) new → m ≡ record { effect = word_effect Void; pending = None }
+    → IsMadeSo setup log event (way_of setup log event.kind) ps new m
+idle_stands setup s log ps sts new event m is nothing stand same =
     let idle : Made = record { effect = word_effect Void; pending = None } in
-    let there : IsMadeSo setup log event to_nothing ps sts idle = record {
+    let there : IsMadeSo setup log event to_nothing ps new idle = record {
       made = refl;
       after = record {
         size = is.kept.size;
         old = all_kept setup log (entry_of event (word_effect Void)) ps is.kept (voided log (entry_of event (word_effect Void)) refl);
         new = nothing_new setup log (entry_of event (word_effect Void)) refl;
       };
-      stations = stations_same setup.servers log sts (entry_of event (word_effect Void)) is.stations still refl;
+      stations = stand;
     } in
-    subst (λ (x : Made). IsMadeSo setup log event (way_of setup log event.kind) ps sts x) (sym same)
-    (subst (λ (w : Way). IsMadeSo setup log event w ps sts idle) (sym nothing) there)
+    subst (λ (x : Made). IsMadeSo setup log event (way_of setup log event.kind) ps new x) (sym same)
+    (subst (λ (w : Way). IsMadeSo setup log event w ps new idle) (sym nothing) there)
+
+-- an event that has nothing to do, and restarts nothing
+pub idle_made : (setup : Setup) (s : Core) (log : List Entry) (ps : List (Option Pending)) (sts : List Station) (event : Event) (m : Made)
+    → IsFarm setup s log ps sts → way_of setup log event.kind ≡ to_nothing → ((a : Addr) → restart_by a event.kind ≡ None) → m ≡ record { effect = word_effect Void; pending = None }
+    → IsMadeSo setup log event (way_of setup log event.kind) ps sts m
+idle_made setup s log ps sts event m is nothing still same =
+    idle_stands setup s log ps sts sts event m is nothing (stations_same setup.servers log sts (entry_of event (word_effect Void)) is.stations still refl) same
 
 -- ---- settlements
 
@@ -280,32 +287,33 @@ none_after setup log at root json reply q first (Report server life t) x p c ask
 
 first_way : (setup : Setup) (log : List Entry) (n : ℕ) (entry : Entry) (way : Way) (first : Pending) → (Completes first → ⊥) → length (take n log) ≡ n → IsMadeBy setup (take n log) way (effect_of entry) first
     → IsBegunBy setup (core_log (take n log)) n way (effect_of entry) first
-first_way setup log n entry (to_call m r) first no size made = absurd (no (completes made.first made.first.ask entry.step first made.is))
-first_way setup log n entry (to_scheduler peer bytes) first no size made = subst (λ (k : ℕ). IsBegunBy setup (core_log (take n log)) k (to_scheduler peer bytes) (effect_of entry) first) size made
-first_way setup log n entry (to_server s bytes) first no size made = subst (λ (k : ℕ). IsBegunBy setup (core_log (take n log)) k (to_server s bytes) (effect_of entry) first) size made
-first_way setup log n entry (to_beat s) first no size made = subst (λ (k : ℕ). IsBegunBy setup (core_log (take n log)) k (to_beat s) (effect_of entry) first) size made
-first_way setup log n entry to_nothing first no size made = absurd made
-first_way setup log n entry to_nobody first no size made = absurd made
-first_way setup log n entry (to_restart s key nonce) first no size made = absurd made
+first_way setup log n entry (to_call m r) first not_it size made = absurd (not_it (completes made.first made.first.ask entry.step first made.is))
+first_way setup log n entry (to_scheduler peer bytes) first not_it size made = subst (λ (k : ℕ). IsBegunBy setup (core_log (take n log)) k (to_scheduler peer bytes) (effect_of entry) first) size made
+first_way setup log n entry (to_server s bytes) first not_it size made = subst (λ (k : ℕ). IsBegunBy setup (core_log (take n log)) k (to_server s bytes) (effect_of entry) first) size made
+first_way setup log n entry (to_beat s) first not_it size made = subst (λ (k : ℕ). IsBegunBy setup (core_log (take n log)) k (to_beat s) (effect_of entry) first) size made
+first_way setup log n entry to_nothing first not_it size made = absurd made
+first_way setup log n entry to_nobody first not_it size made = absurd made
+first_way setup log n entry (to_restart s key nonce) first not_it size made = absurd made
 
 first_call : (setup : Setup) (log : List Entry) (n : ℕ) (first : Pending) → (Completes first → ⊥) → IsCallOf setup log n first → IsFirstCall setup log n first
-first_call setup log n first no is =
+first_call setup log n first not_it is =
     let within : n < length log = slice_get_within log n is.entry is.there in
     let size : length (take n log) ≡ n = omega (arith, length-take n log, within) in
-    record { entry = is.entry; there = is.there; begun = first_way setup log n is.entry (way_of setup (take n log) is.entry.event.kind) first no size is.made }
+    record { entry = is.entry; there = is.there; begun = first_way setup log n is.entry (way_of setup (take n log) is.entry.event.kind) first not_it size is.made }
 
 -- what is kept of the call that a settlement makes
 settled_kept : (setup : Setup) (log : List Entry) (at n : ℕ) (reply : Option (List ℕ)) (first : Pending) (x : Effect) (o : Option Pending) → IsCallOf setup log n first → Follows setup log at reply (Some first) x
     → Keeps (λ p. completion_of first first.ask x.step ≡ Some p) x o → Keeps (IsMadeBy setup log (to_call n reply) x) x o
 settled_kept setup log at n reply first x None call goes is = is
 settled_kept setup log at n reply first x (Some p) call goes is = (
-      record {
-        first = first;
-        call = first_call setup log n first (λ c. none_after setup log at first.root first.json reply first first first.ask x p c refl goes is.0) call;
-        is = is.0;
-      },
-      is.1, is.2,
-    )
+  record {
+    first = first;
+    call = first_call setup log n first (λ c. none_after setup log at first.root first.json reply first first first.ask x p c refl goes is.0) call;
+    is = is.0;
+  },
+  is.1,
+  is.2,
+)
 
 -- what follows where that is kept of the call
 pub settled_by : (setup : Setup) (s : Core) (log : List Entry) (ps : List (Option Pending)) (sts new : List Station) (event : Event) (n at : ℕ) (reply : Option (List ℕ)) (first : Pending) (m : Made)

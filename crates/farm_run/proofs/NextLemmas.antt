@@ -224,7 +224,7 @@ assigned_core : (addr : Addr) (number : ℕ) (json : Bool) (job : JobId) (tc : L
 assigned_core addr number json job tc (Ok a) = refl
 assigned_core addr number json job tc (Err e) = refl
 
-served_core : (setup : Setup) (s : ServerNow) (number : ℕ) (json : Bool) (what : ServerRouted) → (served setup s number json what).core ≡ None
+pub served_core : (setup : Setup) (s : ServerNow) (number : ℕ) (json : Bool) (what : ServerRouted) → (served setup s number json what).core ≡ None
 served_core setup s number json (server_asked.Assign job tc) = assigned_core s.setup.addr number json job tc (assign_verdict (books_of s) job tc)
 served_core setup s number json (server_asked.Submit job) = refl
 served_core setup s number json (server_asked.Run job run at) = refl

@@ -2,6 +2,7 @@
 use Rattle.std.proofs.Common.{◌≡◌, ◌≢◌, inl, inr, ℕ, Bool, true, false, cond, List, [], ◌∷◌, ◌++◌, length, drop, set, Option, Some, None, Result, Ok, Err, refl, sym, ap, subst, ◌∙◌}
 use Rattle.std.specs.Prelude.{slice_get, position, IfOk}
 use Rattle.std.specs.Option.{option_map}
+use Rattle.std.proofs.lemmas.Option.{same_Some}
 use Rattle.dist_types.specs.Addr.{same_addr}
 use Rattle.dist_types.specs.declared.addr.Addr.{Addr}
 use Rattle.dist_types.specs.declared.ids.JobId.{JobId}
@@ -10,6 +11,17 @@ use Rattle.dist_types.specs.declared.results.AssignJobResult.{AssignJobResult}
 use Rattle.dist_types.specs.declared.results.UpdateJobStateResult.{UpdateJobStateResult}
 use Rattle.dist_wire.specs.declared.run.RunJobHttpRequest.{RunJobHttpRequest}
 use Rattle.sched_core.specs.Log.{Core}
+use Rattle.sched_core.specs.Rule.{rule}
+use Rattle.sched_core.specs.Ticket.{Ticket}
+use Rattle.sched_core.specs.declared.call.Call.TheVariants as call
+use Rattle.sched_core.specs.declared.entry.CoreEntry.{CoreEntry}
+use Rattle.sched_core.specs.declared.entry.CoreKind.{CoreKind}
+use Rattle.sched_core.specs.declared.entry.CoreKind.TheVariants as core
+use Rattle.sched_core.specs.declared.entry.Reserved.TheVariants as reserve
+use Rattle.http_routes.specs.declared.route.SchedRouted.{SchedRouted}
+use Rattle.http_routes.specs.declared.route.SchedRouted.TheVariants as asked
+use Rattle.farm_run.specs.Settled.{assignment_end}
+use Rattle.farm_run.proofs.NextLemmas.{served_core}
 use Rattle.sched_core.proofs.AddressLemmas.{same_is, same_self}
 use Rattle.sched_core.proofs.AllLemmas.{is_false, true_false}
 use Rattle.build_server.specs.Rules.{assign_verdict}
@@ -31,7 +43,7 @@ use Rattle.farm_run.specs.declared.pending.Pending.{Pending}
 use Rattle.farm_run.specs.declared.pending.Told.{Told}
 use Rattle.farm_run.specs.declared.pending.Told.TheVariants as told
 use Rattle.farm_run.specs.declared.station.Station.{Station}
-use Rattle.farm_run.specs.Answers.{IsAnswered}
+use Rattle.farm_run.specs.Answers.{hears, heard, allocated, answer_to, IsAnswered}
 use Rattle.farm_run.specs.Begun.{IsBegunBy, Keeps, completion_at}
 use Rattle.farm_run.specs.Effects.{word_effect, entry_of}
 use Rattle.farm_run.specs.Farm.{IsFarm, IsReceived, IsMadeSo}
@@ -41,8 +53,10 @@ use Rattle.farm_run.specs.Served.{assigned, served, books_of, IsServerAnswered, 
 use Rattle.farm_run.specs.Servers.{ServerNow, restart_by, restarted, stepped, server_of, server_at, server_now, is_over}
 use Rattle.farm_run.specs.Settled.{unreported, ready_end, started_end, complete_end, Reports, Lives, ReportsIn}
 use Rattle.farm_run.specs.Stations.{now_of, IsWell, AreStations, IsStepAt, HasApart}
-use Rattle.farm_run.specs.Ways.{Way, server_way, way_to, beat_way, restart_way, to_nothing, to_nobody, to_scheduler, to_server, to_beat, to_restart}
-use Rattle.farm_run.proofs.ServerLemmas.{IsFound, place_found, place_none, IsStepOf, stations_same, stations_set, stations_stepped, station_now}
+use Rattle.farm_run.specs.Ways.{Way, way_of, server_way, way_to, beat_way, restart_way, to_nothing, to_nobody, to_scheduler, to_server, to_beat, to_restart}
+use Rattle.farm_run.specs.Calls.{settles_by}
+use Rattle.farm_run.proofs.MadeLemmas.{received_made, idle_stands}
+use Rattle.farm_run.proofs.ServerLemmas.{IsFound, place_found, place_none, station_there, stations_gone, stations_restarted, IsStepOf, stations_same, stations_set, stations_stepped, station_now}
 
 -- ---- steps are of the server itself
 
@@ -124,3 +138,139 @@ no_beat_received setup s log number at addr m none same =
     let here : IsReceived setup s number at to_nothing (record { effect = word_effect Void; pending = None }) = record { served = refl; kept = refl } in
     let nobody : server_now setup log addr ≡ None = ap (λ (o : Option SetupServer). option_map (λ x. server_of x log) o) (place_none setup addr none) in
     subst (λ (w : Way). IsReceived setup s number at w m) (sym (ap beat_way nobody)) (subst (λ (q : Made). IsReceived setup s number at to_nothing q) (sym same) here)
+
+-- ---- a report that comes back
+
+-- nobody is there whom it comes back to
+pub no_report : (setup : Setup) (log : List Entry) (life : ℕ) (bytes : List ℕ) (root : ℕ) (json : Bool) (reply : Option (List ℕ)) (t : Told) (addr : Addr) (x : Effect)
+    → position (λ (s : SetupServer). same_addr s.addr addr) setup.servers ≡ None → x ≡ word_effect Died → ReportsIn setup life bytes root json reply t (server_now setup log addr) x
+no_report setup log life bytes root json reply t addr x none died =
+    let nobody : server_now setup log addr ≡ None = ap (λ (o : Option SetupServer). option_map (λ s. server_of s log) o) (place_none setup addr none) in
+    subst (λ (o : Option ServerNow). ReportsIn setup life bytes root json reply t o x) (sym nobody) died
+
+pub report_there : (setup : Setup) (log : List Entry) (sts : List Station) (life : ℕ) (bytes : List ℕ) (root : ℕ) (json : Bool) (reply : Option (List ℕ)) (t : Told) (addr : Addr) (place : ℕ) (st : Station) (x : Effect) (f : IsFound setup addr place)
+    → AreStations setup.servers log sts → slice_get sts place ≡ Some st → ReportsIn setup life bytes root json reply t (Some (now_of f.server st)) x → ReportsIn setup life bytes root json reply t (server_now setup log addr) x
+report_there setup log sts life bytes root json reply t addr place st x f are there is =
+    subst (λ (o : Option ServerNow). ReportsIn setup life bytes root json reply t o x) (sym (station_now setup log sts addr place st f are there)) is
+
+-- ---- what the scheduler does has no step
+
+allocated_step : (seen : Core) (number : ℕ) (json : Bool) (tc : List ℕ) (made : CoreEntry) (k : CoreKind) → (allocated seen number json tc made k).step ≡ None
+allocated_step seen number json tc made (core.Reserve (reserve.Job job reg forgiven)) = refl
+allocated_step seen number json tc made (core.Reserve (reserve.NoRoom standing)) = refl
+allocated_step seen number json tc made (core.Reserve reserve.Spent) = refl
+allocated_step seen number json tc made (core.Commit job state kept) = refl
+allocated_step seen number json tc made (core.Undo job noted ended) = refl
+allocated_step seen number json tc made (core.Beat server nonce cpus key pruned reaped replaced is_new) = refl
+allocated_step seen number json tc made (core.Update server job state answer) = refl
+allocated_step seen number json tc made (core.Status pruned servers cpus jobs) = refl
+
+cond_step : (b : Bool) (x y : Effect) → x.step ≡ None → y.step ≡ None → (cond b x y).step ≡ None
+cond_step true x y one two = one
+cond_step false x y one two = two
+
+does_step : (s : Core) (number at : ℕ) (json : Bool) (what : SchedRouted) → (answer_to s number at json what).step ≡ None
+does_step s number at json (asked.Alloc tc) = let made = rule s (call.Reserve at) in allocated_step s number json tc made made.kind
+does_step s number at json (asked.Beat server beat) = cond_step (hears beat.num_cpus) _ _ refl refl
+does_step s number at json (asked.Update server job state) = refl
+does_step s number at json asked.Status = refl
+does_step s number at json (asked.Done response) = refl
+
+pub scheduler_step : (setup : Setup) (s : Core) (number at : ℕ) (peer : Addr) (bytes : List ℕ) (x : Effect) → IsAnswered setup s number at peer bytes x → x.step ≡ None
+scheduler_step setup s number at peer bytes x is = ap (λ (y : Effect). y.step) is.2 ∙ does_step s number at is.0.json is.0.what
+
+pub server_core : (setup : Setup) (s : ServerNow) (number : ℕ) (bytes : List ℕ) (x : Effect) → IsServerAnswered setup s number bytes x → x.core ≡ None
+server_core setup s number bytes x is = ap (λ (y : Effect). y.core) is.2 ∙ served_core setup s number is.0.json is.0.what
+
+-- nor has the end of an assignment
+pub end_step : (s : Core) (root : ℕ) (json : Bool) (at : ℕ) (t : Ticket) (r : Result AssignJobResult CallFault) → (assignment_end s root json at t r).step ≡ None
+end_step s root json at t (Ok a) = refl
+end_step s root json at t (Err f) = refl
+
+-- ---- a restart
+
+-- the server at a place of the setup starts again
+abbrev pub IsRestart : List Station → List Station → Made → List ℕ → ℕ → ℕ → SetupServer → Station → Type 0
+IsRestart sts new m key nonce place s st =
+    (m ≡ record { effect = restart_effect (now_of s st); pending = None })
+    × ((after : Station) × (new ≡ set sts place after) × IsWell s after × (now_of s after ≡ stepped m.effect.step (restarted (Some (key, nonce)) (now_of s st))))
+
+pub restart_at : (setup : Setup) (addr : Addr) (sts new : List Station) (m : Made) (key : List ℕ) (nonce : ℕ) (here : ℕ) (server : SetupServer) (station : Station)
+    → position (λ (x : SetupServer). same_addr x.addr addr) setup.servers ≡ Some here → slice_get setup.servers here ≡ Some server → slice_get sts here ≡ Some station → IsRestart sts new m key nonce here server station
+    → (place : ℕ) (s : SetupServer) (st : Station) → position (λ (x : SetupServer). same_addr x.addr addr) setup.servers ≡ Some place → slice_get setup.servers place ≡ Some s → slice_get sts place ≡ Some st
+    → IsRestart sts new m key nonce place s st
+restart_at setup addr sts new m key nonce here server station found there stands is place s st e at bt =
+    let p : here ≡ place = same_Some here place (sym found ∙ e) in
+    let es : server ≡ s = same_Some server s (sym there ∙ ap (slice_get setup.servers) p ∙ at) in
+    let et : station ≡ st = same_Some station st (sym stands ∙ ap (slice_get sts) p ∙ bt) in
+    subst (λ (k : ℕ). IsRestart sts new m key nonce k s st) p
+    (subst (λ (x : SetupServer). IsRestart sts new m key nonce here x st) es (subst (λ (y : Station). IsRestart sts new m key nonce here server y) et is))
+
+pub no_restart : (P : Type 0) (setup : Setup) (addr : Addr) (here : ℕ) → position (λ (x : SetupServer). same_addr x.addr addr) setup.servers ≡ Some here → server_at setup addr ≡ None → P
+no_restart P setup addr here found none =
+    let f = place_found setup addr here found in
+    let two : None ≡ Some f.server = sym none ∙ f.found in
+    absurd cc
+
+-- ---- what a server makes of what comes to its place
+
+pub kept_same : (setup : Setup) (log : List CoreEntry) (number : ℕ) (bytes : List ℕ) (m : Made) (server s : SetupServer) (station st : Station) → server ≡ s → station ≡ st
+    → Keeps (IsBegunBy setup log number (to_server (now_of server station) bytes) m.effect) m.effect m.pending → Keeps (IsBegunBy setup log number (to_server (now_of s st) bytes) m.effect) m.effect m.pending
+kept_same setup log number bytes m server s station st es et is =
+    subst (λ (x : SetupServer). Keeps (IsBegunBy setup log number (to_server (now_of x st) bytes) m.effect) m.effect m.pending) es
+    (subst (λ (y : Station). Keeps (IsBegunBy setup log number (to_server (now_of server y) bytes) m.effect) m.effect m.pending) et is)
+
+pub step_same : (place : ℕ) (x : Option Step) (sts new : List Station) (server s : SetupServer) (station st after : Station) → server ≡ s → station ≡ st → new ≡ set sts place after
+    → now_of server after ≡ stepped x (now_of server station) → IsWell server after → IsStepAt s place st x sts new
+step_same place x sts new server s station st after es et put now well =
+    let is : IsStepAt server place station x sts new = record { after = after; is = put; now = now; well = well } in
+    subst (λ (y : SetupServer). IsStepAt y place st x sts new) es (subst (λ (y : Station). IsStepAt server place y x sts new) et is)
+
+-- ---- what a restart makes
+
+restart_core_by : (setup : Setup) (log : List Entry) (addr : Addr) (sts new : List Station) (m : Made) (key : List ℕ) (nonce : ℕ) (o : Option ℕ) → AreStations setup.servers log sts → position (λ (x : SetupServer). same_addr x.addr addr) setup.servers ≡ o
+    → (server_at setup addr ≡ None → (m ≡ record { effect = word_effect Void; pending = None }) × (new ≡ sts))
+    → ((place : ℕ) (s : SetupServer) (st : Station) → position (λ (x : SetupServer). same_addr x.addr addr) setup.servers ≡ Some place → slice_get setup.servers place ≡ Some s → slice_get sts place ≡ Some st → IsRestart sts new m key nonce place s st)
+    → m.effect.core ≡ None
+restart_core_by setup log addr sts new m key nonce None are found none some = ap (λ (q : Made). q.effect.core) (none (place_none setup addr found)).0
+restart_core_by setup log addr sts new m key nonce (Some place) are found none some =
+    let f = place_found setup addr place found in
+    let st = station_there setup.servers log sts place f.server are f.there in
+    ap (λ (q : Made). q.effect.core) (some place f.server st.0 found f.there st.1).0
+
+pub restart_core : (setup : Setup) (log : List Entry) (addr : Addr) (sts new : List Station) (m : Made) (key : List ℕ) (nonce : ℕ) → AreStations setup.servers log sts
+    → (server_at setup addr ≡ None → (m ≡ record { effect = word_effect Void; pending = None }) × (new ≡ sts))
+    → ((place : ℕ) (s : SetupServer) (st : Station) → position (λ (x : SetupServer). same_addr x.addr addr) setup.servers ≡ Some place → slice_get setup.servers place ≡ Some s → slice_get sts place ≡ Some st → IsRestart sts new m key nonce place s st)
+    → m.effect.core ≡ None
+restart_core setup log addr sts new m key nonce are none some = restart_core_by setup log addr sts new m key nonce (position (λ (x : SetupServer). same_addr x.addr addr) setup.servers) are refl none some
+
+restart_made_by : (setup : Setup) (s : Core) (log : List Entry) (ps : List (Option Pending)) (sts new : List Station) (event : Event) (addr : Addr) (key : List ℕ) (nonce : ℕ) (m : Made) (o : Option ℕ) → IsFarm setup s log ps sts
+    → event.kind ≡ Restart addr key nonce → position (λ (x : SetupServer). same_addr x.addr addr) setup.servers ≡ o → (server_at setup addr ≡ None → (m ≡ record { effect = word_effect Void; pending = None }) × (new ≡ sts))
+    → ((place : ℕ) (s : SetupServer) (st : Station) → position (λ (x : SetupServer). same_addr x.addr addr) setup.servers ≡ Some place → slice_get setup.servers place ≡ Some s → slice_get sts place ≡ Some st → IsRestart sts new m key nonce place s st)
+    → IsMadeSo setup log event (way_of setup log event.kind) ps new m
+restart_made_by setup s log ps sts new event addr key nonce m None is kind found none some =
+    let idle = none (place_none setup addr found) in
+    let nobody : server_now setup log addr ≡ None = ap (λ (o : Option SetupServer). option_map (λ x. server_of x log) o) (place_none setup addr found) in
+    let stand = stations_gone setup log sts (entry_of event (word_effect Void)) addr key nonce is.stations found kind refl in
+    idle_stands setup s log ps sts new event m is (ap (way_of setup log) kind ∙ ap (restart_way key nonce) nobody)
+    (subst (AreStations setup.servers (log ++ entry_of event (word_effect Void) ∷ [])) (sym idle.1) stand) idle.0
+restart_made_by setup s log ps sts new event addr key nonce m (Some place) is kind found none some =
+    let f = place_found setup addr place found in
+    let st = station_there setup.servers log sts place f.server is.stations f.there in
+    let r = some place f.server st.0 found f.there st.1 in
+    let n = now_of f.server st.0 in
+    let one : Made = record { effect = restart_effect n; pending = None } in
+    let here : IsReceived setup s (length log) event.at (to_restart n key nonce) m =
+    subst (λ (q : Made). IsReceived setup s (length log) event.at (to_restart n key nonce) q) (sym r.0) (record { served = refl; kept = refl }) in
+    let way : way_of setup log event.kind ≡ to_restart n key nonce = ap (way_of setup log) kind ∙ ap (restart_way key nonce) (station_now setup log sts addr place st.0 f is.stations st.1) in
+    let of : IsStepOf f.server.addr (entry_of event m.effect).step = subst (λ (q : Made). IsStepOf f.server.addr (entry_of event q.effect).step) (sym r.0) refl in
+    let stand = stations_restarted setup log sts (entry_of event m.effect) addr key nonce place st.0 r.1.0 f is.apart is.stations st.1 kind of r.1.3 r.1.2 in
+    received_made setup s log ps sts new event (length log) event.at (to_restart n key nonce) m is refl refl way (ap (settles_by log) kind) here
+    (subst (AreStations setup.servers (log ++ entry_of event m.effect ∷ [])) (sym r.1.1) stand)
+
+pub restart_made : (setup : Setup) (s : Core) (log : List Entry) (ps : List (Option Pending)) (sts new : List Station) (event : Event) (addr : Addr) (key : List ℕ) (nonce : ℕ) (m : Made) → IsFarm setup s log ps sts
+    → event.kind ≡ Restart addr key nonce → (server_at setup addr ≡ None → (m ≡ record { effect = word_effect Void; pending = None }) × (new ≡ sts))
+    → ((place : ℕ) (s : SetupServer) (st : Station) → position (λ (x : SetupServer). same_addr x.addr addr) setup.servers ≡ Some place → slice_get setup.servers place ≡ Some s → slice_get sts place ≡ Some st → IsRestart sts new m key nonce place s st)
+    → IsMadeSo setup log event (way_of setup log event.kind) ps new m
+restart_made setup s log ps sts new event addr key nonce m is kind none some =
+    restart_made_by setup s log ps sts new event addr key nonce m (position (λ (x : SetupServer). same_addr x.addr addr) setup.servers) is kind refl none some

@@ -1,8 +1,8 @@
 -- Where a server stands in its setup, and what an entry leaves of the others.
 use Rattle.std.proofs.Common.{◌≡◌, ◌≢◌, ℕ, zero, suc, ◌+◌, ◌-◌, ◌<◌, ◌≤◌, Bool, true, false, cond, List, [], ◌∷◌, ◌++◌, length, map, set, Option, Some, None, refl, sym, ap, subst, ◌∙◌, inl, inr, arith}
 use Rattle.std.specs.Prelude.{slice_get, position, find, fold, is_some}
-use Rattle.core.specs.List.{position_from}
-use Rattle.std.specs.List.{AllByRecursion}
+use Rattle.std.specs.List.{position_from, AllByRecursion}
+use Rattle.std.proofs.lemmas.Iterator.Adapters.{position_from-zero}
 use Rattle.std.specs.Option.{option_map}
 use Rattle.std.proofs.lemmas.Bool.{cases_Bool, cases_eq}
 use Rattle.std.proofs.lemmas.List.{length-set}
@@ -13,6 +13,7 @@ use Rattle.dist_types.specs.declared.addr.Addr.{Addr}
 use Rattle.sched_core.proofs.AddressLemmas.{same_is, same_self}
 use Rattle.sched_core.proofs.AllLemmas.{is_false, true_false}
 use Rattle.farm_script.specs.declared.event.Event.{Event}
+use Rattle.farm_script.specs.declared.event.EventKind.TheVariants.{Restart}
 use Rattle.farm_script.specs.declared.setup.Setup.{Setup}
 use Rattle.farm_script.specs.declared.setup.SetupServer.{SetupServer}
 use Rattle.farm_run.specs.declared.entry.Effect.{Effect}
@@ -30,26 +31,37 @@ use Rattle.farm_run.specs.Stations.{now_of, IsWell, AreWell, IsStation, AreStati
 
 -- at the first place where a test passes stands the first that passes
 found_from : {X : Type 0} (p : X → Bool) (n i : ℕ) (xs : List X) → position_from p n xs ≡ Some i → (n ≤ i) × ((x : X) × (slice_get xs (i - n) ≡ Some x) × (find p xs ≡ Some x) × (p x ≡ true))
-found_from p n i [] e = absurd cc
-found_from p n i (x ∷ xs) e = at_head (p x) refl e
+found_from {X} p n i [] e = absurd cc
+found_from {X} p n i (x ∷ xs) e = at_head (p x) refl (found_from p (n + 1) i xs) e
   where
-    at_head : (b : Bool) → p x ≡ b → cond b (Some n) (position_from p (n + 1) xs) ≡ Some i → (n ≤ i) × ((y : X) × (slice_get (x ∷ xs) (i - n) ≡ Some y) × (find p (x ∷ xs) ≡ Some y) × (p y ≡ true))
-    at_head true is e =
+    at_head : (b : Bool) → p x ≡ b → (position_from p (n + 1) xs ≡ Some i → (n + 1 ≤ i) × ((y : X) × (slice_get xs (i - (n + 1)) ≡ Some y) × (find p xs ≡ Some y) × (p y ≡ true)))
+        → cond b (Some n) (position_from p (n + 1) xs) ≡ Some i → (n ≤ i) × ((y : X) × (slice_get (x ∷ xs) (i - n) ≡ Some y) × (find p (x ∷ xs) ≡ Some y) × (p y ≡ true))
+    at_head true is rest e =
         let same : n ≡ i = same_Some n i e in
-        let here : i - n ≡ zero = omega arith in
-        (omega arith, x, ap (slice_get (x ∷ xs)) here, ap (λ (b : Bool). cond b (Some x) (find p xs)) is, is)
-    at_head false is e =
-        let r = found_from p (n + 1) i xs e in
+        let here : i - n ≡ zero = omega (arith, same) in
+        (omega (arith, same), (x, ap (slice_get (x ∷ xs)) here, ap (λ (b : Bool). cond b (Some x) (find p xs)) is, is))
+    at_head false is rest e =
+        let r = rest e in
         let more : i - n ≡ suc (i - (n + 1)) = omega (arith, r.0) in
-        (omega (arith, r.0), r.1, ap (slice_get (x ∷ xs)) more ∙ r.2, ap (λ (b : Bool). cond b (Some x) (find p xs)) is ∙ r.3, r.4)
+        (omega (arith, r.0), (r.1.0, ap (slice_get (x ∷ xs)) more ∙ r.1.1, ap (λ (b : Bool). cond b (Some x) (find p xs)) is ∙ r.1.2, r.1.3))
 
 none_from : {X : Type 0} (p : X → Bool) (n : ℕ) (xs : List X) → position_from p n xs ≡ None → find p xs ≡ None
 none_from p n [] e = refl
-none_from p n (x ∷ xs) e = at_head (p x) refl e
+none_from p n (x ∷ xs) e = at_head (p x) refl (none_from p (n + 1) xs) e
   where
-    at_head : (b : Bool) → p x ≡ b → cond b (Some n) (position_from p (n + 1) xs) ≡ None → find p (x ∷ xs) ≡ None
-    at_head true is e = absurd cc
-    at_head false is e = ap (λ (b : Bool). cond b (Some x) (find p xs)) is ∙ none_from p (n + 1) xs e
+    at_head : (b : Bool) → p x ≡ b → (position_from p (n + 1) xs ≡ None → find p xs ≡ None) → cond b (Some n) (position_from p (n + 1) xs) ≡ None → find p (x ∷ xs) ≡ None
+    at_head true is rest e = absurd cc
+    at_head false is rest e = ap (λ (b : Bool). cond b (Some x) (find p xs)) is ∙ rest e
+
+-- and then no test passes
+lacks_from : {X : Type 0} (p : X → Bool) (n : ℕ) (xs : List X) → position_from p n xs ≡ None → (i : ℕ) (x : X) → slice_get xs i ≡ Some x → p x ≡ false
+lacks_from {X} p n [] e i x at = absurd cc
+lacks_from {X} p n (y ∷ ys) e i x at = at_head (p y) refl (lacks_from p (n + 1) ys) e i x at
+  where
+    at_head : (b : Bool) → p y ≡ b → (position_from p (n + 1) ys ≡ None → (i : ℕ) (x : X) → slice_get ys i ≡ Some x → p x ≡ false) → cond b (Some n) (position_from p (n + 1) ys) ≡ None → (i : ℕ) (x : X) → slice_get (y ∷ ys) i ≡ Some x → p x ≡ false
+    at_head true is rest e i x at = absurd cc
+    at_head false is rest e zero x at = ap p (sym (same_Some y x at)) ∙ is
+    at_head false is rest e (suc i) x at = rest e i x at
 
 -- the server at a place that was found
 pub record IsFound (setup : Setup) (addr : Addr) (place : ℕ) : Type 0 where
@@ -60,12 +72,19 @@ pub record IsFound (setup : Setup) (addr : Addr) (place : ℕ) : Type 0 where
 
 pub place_found : (setup : Setup) (addr : Addr) (place : ℕ) → position (λ (s : SetupServer). same_addr s.addr addr) setup.servers ≡ Some place → IsFound setup addr place
 place_found setup addr place e =
-    let r = found_from (λ (s : SetupServer). same_addr s.addr addr) zero place setup.servers e in
-    let same : place - zero ≡ place = omega arith in
-    record { server = r.1; there = ap (slice_get setup.servers) (sym same) ∙ r.2; found = r.3; at = same_is r.1.addr addr r.4 }
+    let r = found_from (λ (s : SetupServer). same_addr s.addr addr) zero place setup.servers (sym (position_from-zero (λ (s : SetupServer). same_addr s.addr addr) setup.servers) ∙ e) in
+    let same : place - 0 ≡ place = omega arith in
+    record { server = r.1.0; there = ap (slice_get setup.servers) (sym same) ∙ r.1.1; found = r.1.2; at = same_is r.1.0.addr addr r.1.3 }
+
+-- the same where it is known what stands there
+pub found_is : (setup : Setup) (addr : Addr) (place : ℕ) (s : SetupServer) → position (λ (s : SetupServer). same_addr s.addr addr) setup.servers ≡ Some place → slice_get setup.servers place ≡ Some s → (server_at setup addr ≡ Some s) × (s.addr ≡ addr)
+found_is setup addr place s e there =
+    let f = place_found setup addr place e in
+    let same : f.server ≡ s = same_Some f.server s (sym f.there ∙ there) in
+    (f.found ∙ ap (λ (x : SetupServer). Some x) same, ap (λ (x : SetupServer). x.addr) (sym same) ∙ f.at)
 
 pub place_none : (setup : Setup) (addr : Addr) → position (λ (s : SetupServer). same_addr s.addr addr) setup.servers ≡ None → server_at setup addr ≡ None
-place_none setup addr e = none_from (λ (s : SetupServer). same_addr s.addr addr) zero setup.servers e
+place_none setup addr e = none_from (λ (s : SetupServer). same_addr s.addr addr) zero setup.servers (sym (position_from-zero (λ (s : SetupServer). same_addr s.addr addr) setup.servers) ∙ e)
 
 -- whether a place is found is whether the server is
 found_some : (setup : Setup) (addr : Addr) (o : Option ℕ) → position (λ (s : SetupServer). same_addr s.addr addr) setup.servers ≡ o → is_some o ≡ is_some (server_at setup addr)
@@ -77,18 +96,18 @@ inside_is setup addr = found_some setup addr (position (λ (s : SetupServer). sa
 
 -- ---- addresses that differ
 
-all_at : {P : Addr → Type 0} (xs : List SetupServer) (i : ℕ) (s : SetupServer) → AllByRecursion P (map (λ x. x.addr) xs) → slice_get xs i ≡ Some s → P s.addr
-all_at {P} [] i s all at = absurd cc
-all_at {P} (x ∷ xs) zero s all at = subst (λ (y : SetupServer). P y.addr) (same_Some x s at) all.0
-all_at {P} (x ∷ xs) (suc i) s all at = all_at {P = P} xs i s all.1 at
+all_at : (P : Addr → Type 0) (xs : List SetupServer) (i : ℕ) (s : SetupServer) → AllByRecursion P (map (λ x. x.addr) xs) → slice_get xs i ≡ Some s → P s.addr
+all_at P [] i s all at = absurd cc
+all_at P (x ∷ xs) zero s all at = subst (λ (y : SetupServer). P y.addr) (same_Some x s at) all.0
+all_at P (x ∷ xs) (suc i) s all at = all_at P xs i s all.1 at
 
 apart_at : (xs : List SetupServer) (i j : ℕ) (s t : SetupServer) → AreApart (map (λ x. x.addr) xs) → slice_get xs i ≡ Some s → slice_get xs j ≡ Some t → i ≢ j → s.addr ≢ t.addr
 apart_at [] i j s t apart at bt differ = absurd cc
 apart_at (x ∷ xs) zero zero s t apart at bt differ = absurd (differ refl)
 apart_at (x ∷ xs) zero (suc j) s t apart at bt differ = λ same.
-    all_at {P = λ b. b ≢ x.addr} xs j t apart.0 bt (sym same ∙ ap (λ (y : SetupServer). y.addr) (sym (same_Some x s at)))
+    all_at (λ b. b ≢ x.addr) xs j t apart.0 bt (sym same ∙ ap (λ (y : SetupServer). y.addr) (sym (same_Some x s at)))
 apart_at (x ∷ xs) (suc i) zero s t apart at bt differ = λ same.
-    all_at {P = λ b. b ≢ x.addr} xs i s apart.0 at (same ∙ ap (λ (y : SetupServer). y.addr) (sym (same_Some x t bt)))
+    all_at (λ b. b ≢ x.addr) xs i s apart.0 at (same ∙ ap (λ (y : SetupServer). y.addr) (sym (same_Some x t bt)))
 apart_at (x ∷ xs) (suc i) (suc j) s t apart at bt differ = apart_at xs i j s t apart.1 at bt (λ same. differ (ap (λ (k : ℕ). suc k) same))
 
 not_same : (a b : Addr) → a ≢ b → same_addr a b ≡ false
@@ -182,8 +201,8 @@ pub stations_same : (servers : List SetupServer) (log : List Entry) (sts : List 
 stations_same servers log sts e are still none = record {
   size = are.size;
   each = λ i s st at bt.
-    let is = are.each i s st at bt in
-    record { now = is.now ∙ sym (same_server s log e (still s.addr) none); well = is.well };
+      let is = are.each i s st at bt in
+      record { now = is.now ∙ sym (same_server s log e (still s.addr) none); well = is.well };
 }
 
 -- an entry with a step of one server, or that restarts it, whose station is now that
@@ -234,3 +253,60 @@ pub station_now : (setup : Setup) (log : List Entry) (sts : List Station) (addr 
     → server_now setup log addr ≡ Some (now_of f.server st)
 station_now setup log sts addr place st f are bt =
     ap (λ (o : Option SetupServer). option_map (λ s. server_of s log) o) f.found ∙ ap (λ (n : ServerNow). Some n) (sym (are.each place f.server st f.there bt).now)
+
+-- ---- stations that are opened one by one
+
+tail_are : (log : List Entry) (s : SetupServer) (servers : List SetupServer) (st : Station) (sts : List Station) → AreStations (s ∷ servers) log (st ∷ sts) → AreStations servers log sts
+tail_are log s servers st sts are = record { size = omega (arith, are.size); each = λ i t u at bt. are.each (suc i) t u at bt }
+
+cons_are : (log : List Entry) (s : SetupServer) (servers : List SetupServer) (st : Station) (sts : List Station) → IsStation s log st → AreStations servers log sts → AreStations (s ∷ servers) log (st ∷ sts)
+cons_are log s servers st sts is are = record { size = omega (arith, are.size); each = at }
+  where
+    at : (i : ℕ) (t : SetupServer) (u : Station) → slice_get (s ∷ servers) i ≡ Some t → slice_get (st ∷ sts) i ≡ Some u → IsStation t log u
+    at zero t u bt dt = subst (λ (v : Station). IsStation t log v) (same_Some st u dt) (subst (λ (x : SetupServer). IsStation x log st) (same_Some s t bt) is)
+    at (suc i) t u bt dt = are.each i t u bt dt
+
+pub stations_none : (log : List Entry) → AreStations [] log []
+stations_none log = record { size = refl; each = λ i t u bt dt. absurd cc }
+
+pub stations_push : (log : List Entry) (servers : List SetupServer) (sts : List Station) (s : SetupServer) (st : Station) → AreStations servers log sts → IsStation s log st → AreStations (servers ++ s ∷ []) log (sts ++ st ∷ [])
+stations_push log [] [] s st are is = cons_are log s [] st [] is (stations_none log)
+stations_push log [] (u ∷ us) s st are is = absurd (omega (arith, are.size))
+stations_push log (t ∷ ts) [] s st are is = absurd (omega (arith, are.size))
+stations_push log (t ∷ ts) (u ∷ us) s st are is =
+    cons_are log t (ts ++ s ∷ []) u (us ++ st ∷ []) (are.each zero t u refl refl) (stations_push log ts us s st (tail_are log t ts u us are) is)
+
+-- ---- a restart
+
+there_is : {X : Type 0} (xs : List X) (i : ℕ) → i < length xs → (x : X) × (slice_get xs i ≡ Some x)
+there_is [] i h = absurd (omega arith)
+there_is (x ∷ xs) zero h = (x, refl)
+there_is (x ∷ xs) (suc i) h = there_is xs i (omega (arith, h))
+
+-- the station at a place of the setup
+pub station_there : (servers : List SetupServer) (log : List Entry) (sts : List Station) (place : ℕ) (s : SetupServer) → AreStations servers log sts → slice_get servers place ≡ Some s → (st : Station) × (slice_get sts place ≡ Some st)
+station_there servers log sts place s are at = there_is sts place (omega (arith, are.size, within servers place s at))
+
+-- an event that restarts a server which is not of the farm, and does nothing
+pub stations_gone : (setup : Setup) (log : List Entry) (sts : List Station) (e : Entry) (addr : Addr) (key : List ℕ) (nonce : ℕ) → AreStations setup.servers log sts → position (λ (s : SetupServer). same_addr s.addr addr) setup.servers ≡ None
+    → e.event.kind ≡ Restart addr key nonce → e.step ≡ None → AreStations setup.servers (log ++ e ∷ []) sts
+stations_gone setup log sts e addr key nonce are none kind silent = record {
+  size = are.size;
+  each = λ i s st at bt.
+      let is = are.each i s st at bt in
+      let off = lacks_from (λ (x : SetupServer). same_addr x.addr addr) zero setup.servers (sym (position_from-zero (λ (x : SetupServer). same_addr x.addr addr) setup.servers) ∙ none) i s at in
+      let far : same_addr addr s.addr ≡ false = not_same addr s.addr (λ same. true_false (same_addr s.addr addr) (ap (λ (a : Addr). same_addr s.addr a) same ∙ same_self s.addr) off) in
+      let still : restart_by s.addr e.event.kind ≡ None = ap (restart_by s.addr) kind ∙ ap (λ (b : Bool). cond b (Some (key, nonce)) None) far in
+      record { now = is.now ∙ sym (same_server s log e still silent); well = is.well };
+}
+
+-- the server at its place starts again
+pub stations_restarted : (setup : Setup) (log : List Entry) (sts : List Station) (e : Entry) (addr : Addr) (key : List ℕ) (nonce : ℕ) (place : ℕ) (st after : Station) (f : IsFound setup addr place) → HasApart setup → AreStations setup.servers log sts
+    → slice_get sts place ≡ Some st → e.event.kind ≡ Restart addr key nonce → IsStepOf f.server.addr e.step → now_of f.server after ≡ stepped e.step (restarted (Some (key, nonce)) (now_of f.server st)) → IsWell f.server after
+    → AreStations setup.servers (log ++ e ∷ []) (set sts place after)
+stations_restarted setup log sts e addr key nonce place st after f apart are bt kind of now well =
+    let own : restart_by f.server.addr e.event.kind ≡ Some (key, nonce) =
+    ap (restart_by f.server.addr) kind ∙ ap (λ (a : Addr). cond (same_addr addr a) (Some (key, nonce)) None) f.at ∙ ap (λ (b : Bool). cond b (Some (key, nonce)) None) (same_self addr) in
+    stations_set setup log sts e place f.server st after apart are f.there bt of
+    (λ a far. ap (restart_by a) kind ∙ ap (λ (b : Bool). cond b (Some (key, nonce)) None) (not_same addr a (λ same. far (sym same ∙ sym f.at))))
+    (now ∙ ap (λ (o : Option (List ℕ × ℕ)). stepped e.step (restarted o (now_of f.server st))) (sym own)) well

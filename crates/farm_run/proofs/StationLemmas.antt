@@ -35,7 +35,7 @@ use Rattle.farm_run.specs.declared.entry.StepKind.{StepKind}
 use Rattle.farm_run.specs.declared.entry.StepKind.TheVariants as kinds
 use Rattle.farm_run.specs.declared.station.Station.{Station}
 use Rattle.farm_run.specs.Served.{books_of, listed, build_answer, built, run_outcome}
-use Rattle.farm_run.specs.Servers.{ServerNow, kind_after, stepped, archives_after_run, builds_after_run}
+use Rattle.farm_run.specs.Servers.{ServerNow, kind_after, stepped, restarted, archives_after_run, builds_after_run}
 use Rattle.farm_run.specs.Stations.{now_of, IsWell, NotBroken}
 
 -- a step of the server itself
@@ -98,73 +98,82 @@ answer_known (Some (Listed code stdout stderr given)) outputs inputs e = cc
 answer_known (Some Refuse) outputs inputs e = cc
 
 -- a build in an archive that was read
-built_is : (tc archive : List ℕ) (heard : Result BuildResult BuildFault) (done : Outcome) → heard ≢ Err build.Memory → outcome_by (taken.Read tc archive) heard ≡ Ok done → done ≡ built tc heard
-built_is tc archive (Ok result) done known e = cc
-built_is tc archive (Err build.Refused) done known e = cc
-built_is tc archive (Err build.Memory) done known e = absurd (known refl)
+built_is : (tc archive : List ℕ) (heard : Result BuildResult BuildFault) (went : Outcome) → heard ≢ Err build.Memory → outcome_by (taken.Read tc archive) heard ≡ Ok went → went ≡ built tc heard
+built_is tc archive (Ok result) went known e = cc
+built_is tc archive (Err build.Refused) went known e = cc
+built_is tc archive (Err build.Memory) went known e = absurd (known refl)
 
-run_by : (s : SetupServer) (st : Station) (new : Books) (found : Option (List ℕ)) (t : Taken) (outputs : List (List ℕ)) (inputs : List ℕ) (done : Outcome) → Finds found st.state new t
-    → outcome_by t (build_answer (slice_get s.builder st.builds) outputs inputs) ≡ Ok done → NotBroken (ran_of done) → done ≡ run_outcome (now_of s st) found outputs inputs
-run_by s st new None taken.None outputs inputs done finds goes sound = cc
-run_by s st new None (taken.Unlisted tc) outputs inputs done finds goes sound = absurd finds
-run_by s st new None (taken.Folder tc) outputs inputs done finds goes sound = absurd finds
-run_by s st new None (taken.Read tc archive) outputs inputs done finds goes sound = absurd finds
-run_by s st new (Some held) taken.None outputs inputs done finds goes sound = absurd finds
-run_by s st new (Some held) (taken.Unlisted tc) outputs inputs done finds goes sound =
-    let made : done ≡ outcome.Unlisted tc = cc in
+run_by : (s : SetupServer) (st : Station) (new : Books) (found : Option (List ℕ)) (t : Taken) (outputs : List (List ℕ)) (inputs : List ℕ) (went : Outcome) → Finds found st.state new t
+    → outcome_by t (build_answer (slice_get s.builder st.builds) outputs inputs) ≡ Ok went → NotBroken (ran_of went) → went ≡ run_outcome (now_of s st) found outputs inputs
+run_by s st new None taken.None outputs inputs went finds goes sound = cc
+run_by s st new None (taken.Unlisted tc) outputs inputs went finds goes sound = absurd finds
+run_by s st new None (taken.Folder tc) outputs inputs went finds goes sound = absurd finds
+run_by s st new None (taken.Read tc archive) outputs inputs went finds goes sound = absurd finds
+run_by s st new (Some held) taken.None outputs inputs went finds goes sound = absurd finds
+run_by s st new (Some held) (taken.Unlisted tc) outputs inputs went finds goes sound =
+    let made : went ≡ outcome.Unlisted tc = cc in
     made ∙ ap (λ (x : List ℕ). outcome.Unlisted x) finds.0
     ∙ sym (ap (λ (b : Bool). cond b (built held (build_answer (slice_get s.builder st.builds) outputs inputs)) (outcome.Unlisted held)) finds.1)
-run_by s st new (Some held) (taken.Folder tc) outputs inputs done finds goes sound =
-    let made : outcome.Folder tc ≡ done = cc in
+run_by s st new (Some held) (taken.Folder tc) outputs inputs went finds goes sound =
+    let made : outcome.Folder tc ≡ went = cc in
     absurd (subst (λ (d : Outcome). NotBroken (ran_of d)) (sym made) sound)
-run_by s st new (Some held) (taken.Read tc archive) outputs inputs done finds goes sound =
+run_by s st new (Some held) (taken.Read tc archive) outputs inputs went finds goes sound =
     let answer = build_answer (slice_get s.builder st.builds) outputs inputs in
-    built_is tc archive answer done (answer_known (slice_get s.builder st.builds) outputs inputs) goes
+    built_is tc archive answer went (answer_known (slice_get s.builder st.builds) outputs inputs) goes
     ∙ ap (λ (x : List ℕ). built x answer) finds.0
     ∙ sym (ap (λ (b : Bool). cond b (built held answer) (outcome.Unlisted held)) finds.1)
 
-pub run_ok : (s : SetupServer) (st : Station) (new : Books) (job : JobId) (t : Taken) (outputs : List (List ℕ)) (inputs : List ℕ) (done : Outcome) → IsTaken job st.state new t
-    → outcome_by t (build_answer (slice_get s.builder st.builds) outputs inputs) ≡ Ok done → NotBroken (ran_of done) → done ≡ run_outcome (now_of s st) (held_for job st.state.held) outputs inputs
-run_ok s st new job t outputs inputs done is goes sound = run_by s st new (held_for job st.state.held) t outputs inputs done is.finds goes sound
+pub run_ok : (s : SetupServer) (st : Station) (new : Books) (job : JobId) (t : Taken) (outputs : List (List ℕ)) (inputs : List ℕ) (went : Outcome) → IsTaken job st.state new t
+    → outcome_by t (build_answer (slice_get s.builder st.builds) outputs inputs) ≡ Ok went → NotBroken (ran_of went) → went ≡ run_outcome (now_of s st) (held_for job st.state.held) outputs inputs
+run_ok s st new job t outputs inputs went is goes sound = run_by s st new (held_for job st.state.held) t outputs inputs went is.finds goes sound
 
 -- what a run leaves, by how it went
-left_by : (t : Taken) (heard : Result BuildResult BuildFault) (done : Outcome) (archives : Archives) (builds after : ℕ) → outcome_by t heard ≡ Ok done → after ≡ cond (is_due t) (counted builds) builds
-    → (archives_after_taking t archives ≡ archives_after_run (ran_of done) archives) × (after ≡ builds_after_run (ran_of done) builds)
-left_by taken.None heard done archives builds after goes count =
-    let made : outcome.None ≡ done = cc in
+left_by : (t : Taken) (heard : Result BuildResult BuildFault) (went : Outcome) (archives : Archives) (builds after : ℕ) → outcome_by t heard ≡ Ok went → after ≡ cond (is_due t) (counted builds) builds
+    → (archives_after_taking t archives ≡ archives_after_run (ran_of went) archives) × (after ≡ builds_after_run (ran_of went) builds)
+left_by taken.None heard went archives builds after goes count =
+    let made : outcome.None ≡ went = cc in
     subst (λ (d : Outcome). (archives ≡ archives_after_run (ran_of d) archives) × (after ≡ builds_after_run (ran_of d) builds)) made (refl, count)
-left_by (taken.Unlisted tc) heard done archives builds after goes count =
-    let made : outcome.Unlisted tc ≡ done = cc in
+left_by (taken.Unlisted tc) heard went archives builds after goes count =
+    let made : outcome.Unlisted tc ≡ went = cc in
     subst (λ (d : Outcome). (archives ≡ archives_after_run (ran_of d) archives) × (after ≡ builds_after_run (ran_of d) builds)) made (refl, count)
-left_by (taken.Folder tc) heard done archives builds after goes count =
-    let made : outcome.Folder tc ≡ done = cc in
+left_by (taken.Folder tc) heard went archives builds after goes count =
+    let made : outcome.Folder tc ≡ went = cc in
     subst (λ (d : Outcome). (archives_after_taking (taken.Folder tc) archives ≡ archives_after_run (ran_of d) archives) × (after ≡ builds_after_run (ran_of d) builds)) made (refl, count)
-left_by (taken.Read tc archive) (Ok result) done archives builds after goes count =
-    let made : outcome.Built tc result ≡ done = cc in
+left_by (taken.Read tc archive) (Ok result) went archives builds after goes count =
+    let made : outcome.Built tc result ≡ went = cc in
     subst (λ (d : Outcome). (archives_after_taking (taken.Read tc archive) archives ≡ archives_after_run (ran_of d) archives) × (after ≡ builds_after_run (ran_of d) builds)) made (refl, count)
-left_by (taken.Read tc archive) (Err build.Refused) done archives builds after goes count =
-    let made : outcome.Refused tc ≡ done = cc in
+left_by (taken.Read tc archive) (Err build.Refused) went archives builds after goes count =
+    let made : outcome.Refused tc ≡ went = cc in
     subst (λ (d : Outcome). (archives_after_taking (taken.Read tc archive) archives ≡ archives_after_run (ran_of d) archives) × (after ≡ builds_after_run (ran_of d) builds)) made (refl, count)
-left_by (taken.Read tc archive) (Err build.Memory) done archives builds after goes count = absurd cc
+left_by (taken.Read tc archive) (Err build.Memory) went archives builds after goes count = absurd cc
 
-pub run_after : (s : SetupServer) (st : Station) (new : Books) (job : JobId) (t : Taken) (heard : Result BuildResult BuildFault) (done : Outcome) (after : ℕ) → IsTaken job st.state new t
-    → outcome_by t heard ≡ Ok done → after ≡ cond (is_due t) (counted st.builds) st.builds
-    → now_of s (with_books st new after) ≡ stepped (Some (record { server = s.addr; kind = kinds.Ran job (ran_of done) (built_of done) })) (now_of s st)
-run_after s st new job t heard done after is goes count =
-    let left = left_by t heard done st.state.archives st.builds after goes count in
+pub run_after : (s : SetupServer) (st : Station) (new : Books) (job : JobId) (t : Taken) (heard : Result BuildResult BuildFault) (went : Outcome) (after : ℕ) → IsTaken job st.state new t
+    → outcome_by t heard ≡ Ok went → after ≡ cond (is_due t) (counted st.builds) st.builds
+    → now_of s (with_books st new after) ≡ stepped (Some (record { server = s.addr; kind = kinds.Ran job (ran_of went) (built_of went) })) (now_of s st)
+run_after s st new job t heard went after is goes count =
+    let left = left_by t heard went st.state.archives st.builds after goes count in
     ap (λ (h : Table). record (now_of s (with_books st new after)) { held = h }) is.held
     ∙ ap (λ (a : Archives). record { setup = s; life = st.life; key = st.authorizer; nonce = st.nonce; held = without_job job st.state.held; archives = a; builds = after }) (is.archives ∙ left.0)
-    ∙ ap (λ (n : ℕ). record { setup = s; life = st.life; key = st.authorizer; nonce = st.nonce; held = without_job job st.state.held; archives = archives_after_run (ran_of done) st.state.archives; builds = n }) left.1
-    ∙ sym (own_step (now_of s st) (kinds.Ran job (ran_of done) (built_of done)))
+    ∙ ap (λ (n : ℕ). record { setup = s; life = st.life; key = st.authorizer; nonce = st.nonce; held = without_job job st.state.held; archives = archives_after_run (ran_of went) st.state.archives; builds = n }) left.1
+    ∙ sym (own_step (now_of s st) (kinds.Ran job (ran_of went) (built_of went)))
 
-held_folder : (t : Taken) (heard : Result BuildResult BuildFault) (done : Outcome) → outcome_by t heard ≡ Ok done → NotBroken (ran_of done) → FolderHeld t
-held_folder taken.None heard done goes sound = tt
-held_folder (taken.Unlisted tc) heard done goes sound = tt
-held_folder (taken.Folder tc) heard done goes sound =
-    let made : outcome.Folder tc ≡ done = cc in
+held_folder : (t : Taken) (heard : Result BuildResult BuildFault) (went : Outcome) → outcome_by t heard ≡ Ok went → NotBroken (ran_of went) → FolderHeld t
+held_folder taken.None heard went goes sound = tt
+held_folder (taken.Unlisted tc) heard went goes sound = tt
+held_folder (taken.Folder tc) heard went goes sound =
+    let made : outcome.Folder tc ≡ went = cc in
     absurd (subst (λ (d : Outcome). NotBroken (ran_of d)) (sym made) sound)
-held_folder (taken.Read tc archive) heard done goes sound = tt
+held_folder (taken.Read tc archive) heard went goes sound = tt
 
-pub run_well : (s : SetupServer) (st : Station) (new : Books) (job : JobId) (t : Taken) (heard : Result BuildResult BuildFault) (done : Outcome) (after : ℕ) → IsWell s st → IsTaken job st.state new t
-    → outcome_by t heard ≡ Ok done → NotBroken (ran_of done) → IsWell s (with_books st new after)
-run_well s st new job t heard done after well is goes sound = well_books s st new after well is.place.capacity is.place.path (is.step (held_folder t heard done goes sound))
+pub run_well : (s : SetupServer) (st : Station) (new : Books) (job : JobId) (t : Taken) (heard : Result BuildResult BuildFault) (went : Outcome) (after : ℕ) → IsWell s st → IsTaken job st.state new t
+    → outcome_by t heard ≡ Ok went → NotBroken (ran_of went) → IsWell s (with_books st new after)
+run_well s st new job t heard went after well is goes sound = well_books s st new after well is.place.capacity is.place.path (is.step (held_folder t heard went goes sound))
+
+-- ---- a restart
+
+pub restart_after : (s : SetupServer) (st after : Station) (key : List ℕ) (nonce : ℕ) (opened : Archives) → opened ≡ st.state.archives
+    → now_of s after ≡ record { setup = s; life = counted st.life; key = key; nonce = nonce; held = []; archives = st.state.archives; builds = st.builds }
+    → now_of s after ≡ stepped (Some (record { server = s.addr; kind = kinds.Opened opened })) (restarted (Some (key, nonce)) (now_of s st))
+restart_after s st after key nonce opened same is =
+    is ∙ ap (λ (a : Archives). record { setup = s; life = counted st.life; key = key; nonce = nonce; held = []; archives = a; builds = st.builds }) (sym same)
+    ∙ sym (own_step (restarted (Some (key, nonce)) (now_of s st)) (kinds.Opened opened))

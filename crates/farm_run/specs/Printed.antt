@@ -257,13 +257,18 @@ kept_archive_text addr p = codes "archive " ⧺ addr_text addr ⧺ codes " " ⧺
 abbrev pub server_text : ServerNow → List ℕ
 server_text s = flat_map (held_text s.setup.addr) s.held ++ flat_map (kept_archive_text s.setup.addr) s.archives
 
--- the ids, the registrations that stand after the whole log, by rising number, the reservations that are unended, by rising id, and what each
--- server keeps, in the order of the setup
+-- the registrations that stand after the whole log, by rising number, the reservations that are unended, by rising id, and what each server
+-- keeps, in the order of the setup
+abbrev pub standing_text : Setup → List Entry → List ℕ
+standing_text setup entries =
+    flat_map row_text (servers_of (core_log entries)) ++ flat_map job_text (held_by_id (core_log entries))
+    ++ flat_map (λ s. server_text (server_of s entries)) setup.servers ++ codes "end\n"
+
+-- the ids, and what stands
 abbrev pub books_text : Setup → List Entry → List ℕ
 books_text setup entries =
     (codes "books\nids base " ⧺ decimal setup.scheduler.base ⧺ codes " count " ⧺ decimal (ids_given setup.scheduler (core_log entries)) ⧺ codes "\n")
-    ++ flat_map row_text (servers_of (core_log entries)) ++ flat_map job_text (held_by_id (core_log entries))
-    ++ flat_map (λ s. server_text (server_of s entries)) setup.servers ++ codes "end\n"
+    ++ standing_text setup entries
 
 -- the whole text
 abbrev pub run_text : Setup → List Entry → List ℕ

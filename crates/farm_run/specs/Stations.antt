@@ -2,6 +2,8 @@
 use Rattle.std.specs.Prelude.{◌≡◌, ◌≢◌, ℕ, List, [], ◌∷◌, length, map, slice_get, set, Option, Some, codes}
 use Rattle.std.specs.List.{AllByRecursion}
 use Rattle.dist_types.specs.declared.addr.Addr.{Addr}
+use Rattle.build_server.specs.declared.run.Ran.{Ran}
+use Rattle.build_server.specs.declared.run.Ran.TheVariants as ran
 use Rattle.disk_cache.specs.Archives.{IsInStep}
 use Rattle.farm_script.specs.declared.setup.Setup.{Setup}
 use Rattle.farm_script.specs.declared.setup.SetupServer.{SetupServer}
@@ -49,3 +51,11 @@ AreApart (a ∷ addrs) = AllByRecursion (λ b. b ≢ a) addrs × AreApart addrs
 -- the addresses of the scheduler and of its servers differ
 abbrev pub HasApart : Setup → Type 0
 HasApart setup = AreApart (setup.scheduler.addr ∷ map (λ s. s.addr) setup.servers)
+
+-- that no failing folder is told of a run
+abbrev pub NotBroken : Ran → Type 0
+NotBroken (ran.Folder tc) = ⊥
+NotBroken ran.None = Unit {0}
+NotBroken (ran.Unlisted tc) = Unit {0}
+NotBroken (ran.Built tc) = Unit {0}
+NotBroken (ran.Refused tc) = Unit {0}

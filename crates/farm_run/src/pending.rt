@@ -41,11 +41,7 @@ pub enum Ask {
     /// The scheduler asks that a server takes the job of a reservation.
     Assign(Reservation),
     /// The server at that address tells the scheduler something, in that life of its.
-    Report {
-        server: Addr,
-        life: u64,
-        told: Told,
-    },
+    Report { server: Addr, life: u64, told: Told },
 }
 
 /// What is kept of a call that waits.

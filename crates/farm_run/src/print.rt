@@ -1,7 +1,7 @@
 //! The printed run.
 ghost use Rattle.std.specs.Prelude.{◌≡◌, ◌+◌, ◌++◌, ◌<◌, ◌^◌, Some, slice_get, OnOk, IfOk, IfErr, string_bytes};
 ghost use Rattle.std.specs.List.{flat_map};
-ghost use Rattle.farm_run.specs.Printed.{entry_text, entries_text, core_count, row_text, job_text, held_text, kept_archive_text, server_text, books_text, run_text};
+ghost use Rattle.farm_run.specs.Printed.{entry_text, entries_text, core_count, row_text, job_text, held_text, kept_archive_text, server_text, books_text, standing_text, run_text};
 ghost use Rattle.farm_run.specs.Servers.{server_of};
 ghost use Rattle.farm_run.specs.Seen.{core_log};
 ghost use Rattle.sched_core.specs.Rows.{held_by_id};
@@ -11,7 +11,8 @@ use crate::entry::Entry;
 use crate::run::Farm;
 use crate::station::Station;
 use crate::text::{
-    ArchiveLine, CallLine, CoreLine, HeldLine, JobLine, Kind, ReplyLine, RowLine, StepLine, WordLine,
+    ArchiveLine, CallLine, CoreLine, HeldLine, JobLine, Kind, ReplyLine, RowLine, StepLine,
+    WordLine,
 };
 use dist_types::addr::Addr;
 use farm_script::fault::FarmFault;
@@ -141,6 +142,17 @@ fn push_servers(out: &mut String, farm: &Farm) -> Result<(), AllocError>
     Ok(())
 }
 
+/// Writes what stands in the books of a farm.
+fn push_standing(out: &mut String, farm: &Farm) -> Result<(), AllocError>
+    ensures { OnOk result (string_bytes out.new ≡ string_bytes out.old ++ standing_text farm.now.setup farm.now.entries) }
+{
+    push_rows(out, farm.servers())?;
+    push_jobs(out, farm)?;
+    push_servers(out, farm)?;
+    out.push_str("end\n")?;
+    Ok(())
+}
+
 /// Writes the books of a farm.
 fn push_books(out: &mut String, farm: &Farm) -> Result<(), AllocError>
     ensures { OnOk result (string_bytes out.new ≡ string_bytes out.old ++ books_text farm.now.setup farm.now.entries) }
@@ -148,10 +160,7 @@ fn push_books(out: &mut String, farm: &Farm) -> Result<(), AllocError>
     let base = farm.setup().scheduler.base;
     let count = farm.ids_given();
     write!(out, "books\nids base {base} count {count}\n")?;
-    push_rows(out, farm.servers())?;
-    push_jobs(out, farm)?;
-    push_servers(out, farm)?;
-    out.push_str("end\n")?;
+    push_standing(out, farm)?;
     Ok(())
 }
 

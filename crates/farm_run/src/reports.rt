@@ -1,10 +1,8 @@
 //! What follows the settlement of a build server's calls.
-ghost use Rattle.std.specs.Prelude.{◌≡◌, ◌≢◌, ℕ, List, Some, None, Ok, Err, Result, drop, slice_get, if◌then◌else◌, IfOk, IfErr, OnOk, option_copied};
+ghost use Rattle.std.specs.Prelude.{◌≡◌, Some, None, Ok, Err, Result, drop, slice_get, if◌then◌else◌, IfOk, IfErr, OnOk, option_copied};
 ghost use Rattle.build_server.specs.Books.{held_for};
-ghost use Rattle.build_server.specs.Rules.{submit_verdict};
+ghost use Rattle.build_server.specs.Rules.{submit_verdict, NotFolder};
 ghost use Rattle.build_server.specs.Builds.{ran_of, built_of, is_due, outcome_by};
-ghost use Rattle.build_server.specs.declared.submit.Submitted.TheVariants as submitted;
-ghost use Rattle.build_server.specs.declared.run.Ran.TheVariants as ran;
 ghost use Rattle.dist_types.specs.Cause.{counted};
 ghost use Rattle.dist_types.specs.declared.outgoing.CallFault.{CallFault as Cause};
 ghost use Rattle.dist_types.specs.declared.results.UpdateJobStateResult.{UpdateJobStateResult as Accepted};
@@ -15,7 +13,7 @@ ghost use Rattle.farm_run.specs.Effects.{step_effect};
 ghost use Rattle.farm_run.specs.Served.{books_of, build_answer, run_outcome};
 ghost use Rattle.farm_run.specs.Servers.{stepped};
 ghost use Rattle.farm_run.specs.Settled.{IsUpdated, IsHeard, unreported, submission, running, ready_end, started_end, complete_end, heard_as, failure_of, ended_response, Reports};
-ghost use Rattle.farm_run.specs.Stations.{now_of, IsWell};
+ghost use Rattle.farm_run.specs.Stations.{now_of, IsWell, NotBroken};
 ghost use Rattle.farm_script.specs.declared.fault.FarmFault.TheVariants as fault;
 
 use crate::builder::{build_answer, copy_result};
@@ -103,17 +101,13 @@ fn unreported(
 {
     let response = to_fault(alloc, &RouteFault::UpdateFailed(cause))?;
     let reply = reply(alloc, root, &response)?;
-    Ok(Effect::of_step_reply(
-        addr,
-        StepKind::Unreported { job },
-        reply,
-    ))
+    Ok(Effect::of_step_reply(addr, StepKind::Unreported { job }, reply))
 }
 
 /// An outcome that is no failing folder: a folder in memory that fails is told as want of memory.
 fn sound(outcome: Submitted) -> Result<Submitted, FarmFault>
     ensures same { IfOk result (λ o. o ≡ outcome) }
-    ensures verdict { IfOk result (λ o. (gone : List (List ℕ)) → o ≢ submitted.Folder gone) }
+    ensures sound { IfOk result NotFolder }
     ensures err { IfErr result (λ e. e ≡ fault.Memory) }
 {
     match outcome {
@@ -259,7 +253,7 @@ fn run_job(
 /// A run whose folder did not fail: a folder in memory that fails is told as want of memory.
 fn read_well(done: RunDone) -> Result<RunDone, FarmFault>
     ensures same { IfOk result (λ d. d ≡ done) }
-    ensures sound { IfOk result (λ d. (tc : List ℕ) → ran_of d ≢ ran.Folder tc) }
+    ensures sound { IfOk result (λ d. NotBroken (ran_of d)) }
     ensures err { IfErr result (λ e. e ≡ fault.Memory) }
 {
     match done.ran() {
@@ -440,11 +434,7 @@ fn end_complete(
             let ended = done.end_run(Ok(accepted));
             let response = ended_response(alloc, back.json, ended)?;
             let reply = reply(alloc, back.root, &response)?;
-            Ok(Effect::of_step_reply(
-                addr,
-                StepKind::Finished { job },
-                reply,
-            ))
+            Ok(Effect::of_step_reply(addr, StepKind::Finished { job }, reply))
         }
     }
 }
@@ -465,11 +455,7 @@ fn heard_as(told: Result<HeartbeatServerResult, CallFault>) -> HeardAs
 }
 
 /// Ends a heartbeat.
-fn end_beat(
-    alloc: Global,
-    addr: Addr,
-    reply: Option<&[u8]>,
-) -> Result<Effect, FarmFault>
+fn end_beat(alloc: Global, addr: Addr, reply: Option<&[u8]>) -> Result<Effect, FarmFault>
     ensures made { IfOk result (λ x. (r : Result Heard Cause) × IsHeard (option_copied reply.entry) r × (x ≡ step_effect addr (StepKind.Heard (heard_as r)))) }
     ensures err { IfErr result (λ e. e ≡ fault.Memory) }
 {

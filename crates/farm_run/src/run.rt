@@ -264,18 +264,28 @@ fn call_at(entries: &[Entry], call: u64) -> Option<&OutCall>
 fn place_of(setup: &Setup, addr: Addr) -> Option<usize>
     ensures place { result ≡ position (λ s. same_addr s.addr addr) setup.now.servers }
 {
-    setup.servers.get().iter().position(|server| server.addr == addr)
+    setup
+        .servers
+        .get()
+        .iter()
+        .position(|server| server.addr == addr)
+}
+
+/// Whether an address is the scheduler's.
+fn is_scheduler(setup: &Setup, addr: Addr) -> bool
+    ensures { result ≡ same_addr addr setup.now.scheduler.addr }
+{
+    addr == setup.scheduler.addr
 }
 
 /// Whether a call goes to the scheduler, or to a server of the farm.
-#[tactic(auto, using(crate::proofs::ServerLemmas::inside_is))]
 fn is_inside(setup: &Setup, entries: &[Entry], call: u64) -> bool
     ensures { result ≡ is_inside setup.now (call_at entries.now call) }
 {
     match call_at(entries, call) {
         None => false,
         Some(out) => {
-            if out.target == setup.scheduler.addr {
+            if is_scheduler(setup, out.target) {
                 return true;
             }
             place_of(setup, out.target).is_some()
@@ -381,7 +391,7 @@ fn arrive(
     ensures desk { IfOk result (λ m. desk.new ≡ acted desk.old m.effect.core) }
     ensures err { IfErr result (λ e. e ≡ fault.Memory) }
 {
-    if target == desk.setup.scheduler.addr {
+    if is_scheduler(&desk.setup, target) {
         let made = serve(desk, arrival)?;
         return Ok(made);
     }
@@ -820,10 +830,7 @@ fn make(
 }
 
 /// The stations of servers as they were set up.
-fn opened_stations(
-    alloc: Global,
-    servers: &[SetupServer],
-) -> Result<Vec<Station>, FarmFault>
+fn opened_stations(alloc: Global, servers: &[SetupServer]) -> Result<Vec<Station>, FarmFault>
     ensures ok { IfOk result (λ v. AreStations servers.now [] v.items) }
     ensures err { IfErr result (λ e. e ≡ fault.Memory) }
 {

@@ -74,11 +74,7 @@ pub fn state_call(
 }
 
 /// The call of a server's heartbeat.
-fn beat_call(
-    desk: &Desk,
-    server: &SetupServer,
-    station: &Station,
-) -> Result<OutCall, FarmFault>
+fn beat_call(desk: &Desk, server: &SetupServer, station: &Station) -> Result<OutCall, FarmFault>
     requires { IsPlain desk.now.setup.scheduler.auth }
     ensures ok { IfOk result (λ c. c ≡ beat_call desk.now.setup (now_of server.now station.now)) }
     ensures err { IfErr result (λ e. e ≡ fault.Memory) }

@@ -17,5 +17,5 @@ returns-in_ok-entry-in-Err-clause-made c =
     let made = rule c.args.state.now (call.Update c.args.now c.args.server c.args.job c.args.to) in
     let log = leaves_logged c.in-Err.error c.args.state.now c.update.new.self made c.in_ok-response-in-Err.ensures.known c.in-Err.ensures.err in (
       last_is c.args.state.now c.update.new.self made c.in_ok-entry-in-Err.entry log (rw c.history-in-Err.ensures.log at c.in_ok-entry-in-Err.ensures),
-      c.in_ok-response-in-Err.ensures c.args.json (update_by made.kind) (sym (c.in-Err.ensures.answer (λ h. c.in_ok-response-in-Err.ensures.known cc))),
+      c.in_ok-response-in-Err.ensures.ok c.args.json (update_by made.kind) (sym (c.in-Err.ensures.answer (λ h. c.in_ok-response-in-Err.ensures.known cc))),
     )
