@@ -1,5 +1,5 @@
 -- Each build goes on from an accepted start of a run request, and no job is built twice.
-use Rattle.std.proofs.Common.{◌≡◌, ◌⊎◌, inl, inr, ℕ, zero, suc, ◌+◌, ◌<◌, ◌≤◌, ◌^◌, ◌&&◌, ◌||◌, ◌==◌, not, Bool, true, false, cond, List, [], ◌∷◌, ◌++◌, length, take, drop, codes, Option, Some, None, Result, Ok, Err, refl, ap, ◌∙◌, sym, subst, arith}
+use Rattle.std.proofs.Common.{◌≡◌, inl, inr, ℕ, zero, suc, ◌+◌, ◌<◌, ◌≤◌, ◌^◌, ◌||◌, ◌==◌, not, Bool, true, false, cond, List, [], ◌∷◌, length, take, drop, codes, Option, Some, None, Result, Ok, Err, refl, ap, ◌∙◌, sym, subst, arith}
 use Rattle.std.specs.Prelude.{slice_get, find, is_some, ⊤}
 use Rattle.std.specs.List.{AllByRecursion, list_any, cons_option}
 use Rattle.std.specs.Option.{option_map}
@@ -42,7 +42,7 @@ use Rattle.http_routes.specs.Replies.{update_reply}
 use Rattle.http_routes.specs.Reply.{reply_text}
 use Rattle.http_routes.specs.RunHead.{run_in}
 use Rattle.http_routes.specs.Sender.{job_test, ShowsJob}
-use Rattle.http_routes.specs.ServerRoute.{assign_of, submit_of, run_of, server_asked_of, server_answered, server_question, IsServerAsked}
+use Rattle.http_routes.specs.ServerRoute.{assign_of, submit_of, run_of, server_asked_of, server_answered, IsServerAsked}
 use Rattle.http_routes.specs.declared.refusal.Refusal.{Refusal}
 use Rattle.http_routes.specs.declared.refusal.Refusal.TheVariants.{NoRoute}
 use Rattle.http_routes.specs.declared.route.Asked.{Asked}
@@ -81,8 +81,8 @@ use Rattle.farm_run.specs.declared.pending.Pending.{Pending}
 use Rattle.farm_run.specs.declared.pending.Told.{Told}
 use Rattle.farm_run.specs.declared.pending.Told.TheVariants as told
 use Rattle.farm_run.specs.Answers.{hears, allocated, answer_to}
-use Rattle.farm_run.specs.Begun.{IsMadeBy, IsCallOf, completion_by, completion_at, completion_of}
-use Rattle.farm_run.specs.Builds.{SettlesCall, AreSettledOnce, build_by, IsBuild, AreBuiltOnce, IsRunRequest, IsStart, IsTaken, IsStarted, AreStarted, AreBuilds, HasWords}
+use Rattle.farm_run.specs.Begun.{IsMadeBy, IsCallOf, completion_by, completion_of}
+use Rattle.farm_run.specs.Builds.{SettlesCall, build_by, IsBuild, AreBuiltOnce, IsRunRequest, IsStart, IsTaken, IsStarted, AreStarted, AreBuilds, HasWords}
 use Rattle.farm_run.specs.Calls.{call_at, delivered_by, delivery_at, settles_by, is_void, waiting_at}
 use Rattle.farm_run.specs.Effects.{word_effect, effect_of, entry_of}
 use Rattle.farm_run.specs.Next.{GoesOn, IsSettled, IsMade, IsNext, EachNext}
@@ -507,7 +507,7 @@ module _ (setup : Setup) (words : HasWords setup) (entries : List Entry) (n : �
   nothing past =
       let none : call_at (take d entries) n ≡ None = ap (λ (o : Option Entry). o >>= λ y. y.call) (get_past entries n d past) in
       let way : way_of setup (take d entries) e.event.kind ≡ to_nothing =
-          ap (way_of setup (take d entries)) delivers ∙ ap (λ (o : Option OutCall). delivery_way setup (take d entries) (caller_of setup (take d entries) (slice_get (take d entries) n)) o) none in
+      ap (way_of setup (take d entries)) delivers ∙ ap (λ (o : Option OutCall). delivery_way setup (take d entries) (caller_of setup (take d entries) (slice_get (take d entries) n)) o) none in
       let void : x ≡ word_effect Void = subst (λ (w : Way). IsMade setup (take d entries) e.event.at w x) way made in
       let no : None ≡ Some r = sym (ap (λ (z : Effect). z.reply) void) ∙ sym (ap (λ (y : Entry). y.reply) is) ∙ replies in
       cc
@@ -529,9 +529,9 @@ module _ (setup : Setup) (words : HasWords setup) (entries : List Entry) (n : �
       let one : a ≡ wanted = one_question sent.bytes server setup.scheduler.client (token_of setup.scheduler.auth) a wanted shown (started_asked setup server job words is_addr fits) in
       let answer = advance (open_rows s.log) server job Started in
       let same : x ≡ answer_to s (length (take d entries)) e.event.at false (asked.Update server job Started) =
-          x_is ∙ ap (λ (c : Asked). answer_to s (length (take d entries)) e.event.at c.json c.what) one in
+      x_is ∙ ap (λ (c : Asked). answer_to s (length (take d entries)) e.event.at c.json c.what) one in
       let reply_is : r.bytes ≡ reply_text (update_reply false answer server job Started) =
-          ap (λ (y : Reply). y.bytes) (same_Some r _ (sym replies ∙ ap (λ (y : Entry). y.reply) is ∙ ap (λ (z : Effect). z.reply) same)) in
+      ap (λ (y : Reply). y.bytes) (same_Some r _ (sym replies ∙ ap (λ (y : Entry). y.reply) is ∙ ap (λ (z : Effect). z.reply) same)) in
       let accepted : answer ≡ Accepted = told_accepted update_at false answer server job u fits is_addr (subst (λ (b : List ℕ). IsAnswer update_at b (Ok u)) reply_is is_told) in
       record {
         before = lt;
@@ -640,8 +640,7 @@ module _ (setup : Setup) (events : List Event) (entries : List Entry) (fits : se
         → (a : ℕ) × (a < b) × IsTaken setup entries a server h.now.life job
     is_taken reply h =
         let f = found_now setup (take b entries) server h.now h.now_is in
-        let t = held_took f.server entries b job h.tc (ap (λ (s : ServerNow). held_for job s.held) f.is ∙ h.held) in
-        (
+        let t = held_took f.server entries b job h.tc (ap (λ (s : ServerNow). held_for job s.held) f.is ∙ h.held) in (
           t.place,
           t.before,
           record {
@@ -661,7 +660,7 @@ module _ (setup : Setup) (events : List Event) (entries : List Entry) (fits : se
         let g = get_front entries n b h.of_call.entry h.of_call.there in
         let (y, made, y_is) = next n h.of_call.entry g.1 in
         let by : IsMadeBy setup (take n entries) (way_of setup (take n entries) h.of_call.entry.event.kind) (effect_of h.of_call.entry) h.pending =
-            subst (λ (l : List Entry). IsMadeBy setup l (way_of setup l h.of_call.entry.event.kind) (effect_of h.of_call.entry) h.pending) (take_take entries n b (omega (arith, g.0))) h.of_call.made in
+        subst (λ (l : List Entry). IsMadeBy setup l (way_of setup l h.of_call.entry.event.kind) (effect_of h.of_call.entry) h.pending) (take_take entries n b (omega (arith, g.0))) h.of_call.made in
         (g.0, requested setup entries n h.of_call.entry g.1 h.pending server h.now.life job h.run h.place h.asks (way_of setup (take n entries) h.of_call.entry.event.kind) refl by y y_is made)
 
     settles : (reply : Option (List ℕ)) → way_of setup (take b entries) e.event.kind ≡ to_call n reply → Ended setup (take b entries) n reply x server job → SettlesCall entries n b
@@ -678,7 +677,7 @@ module _ (setup : Setup) (events : List Event) (entries : List Entry) (fits : se
         let (a, took, taken) = is_taken (Some bytes) h in
         let here : call_at (take b entries) n ≡ Some (state_call setup server job Started) = ap (λ (o : Option Entry). o >>= λ y. y.call) (get_take entries n b before ∙ req.there) ∙ req.tells in
         let inside : is_inside setup (call_at (take b entries) n) ≡ true =
-            ap (is_inside setup) here ∙ ap (λ (c : Bool). c || is_some (server_at setup setup.scheduler.addr)) (same_self setup.scheduler.addr) in
+        ap (is_inside setup) here ∙ ap (λ (c : Bool). c || is_some (server_at setup setup.scheduler.addr)) (same_self setup.scheduler.addr) in
         let (d, returns, delivery) = by_kind setup (take b entries) n bytes inside e.event.kind way (way_settles setup (take b entries) e.event.kind n (Some bytes) way) in
         let v = delivered (take b entries) d n bytes delivery in
         let g = get_front entries d b v.entry v.there in
@@ -686,7 +685,7 @@ module _ (setup : Setup) (events : List Event) (entries : List Entry) (fits : se
         let id : job.0 < 2 ^ 64 = omega (arith, req.names.says.1, req.names.says.2) in
         let f = found_now setup (take b entries) server h.now h.now_is in
         let s = start_of setup words entries n server h.now.life job req (found_addr setup (take b entries) server h.now words f) id d v.entry g.1 v.delivers v.reply v.replies
-            h.answer (subst (λ (t : List ℕ). IsAnswer update_at t (Ok h.answer)) (sym v.text) h.accepted) y made y_is in
+        h.answer (subst (λ (t : List ℕ). IsAnswer update_at t (Ok h.answer)) (sym v.text) h.accepted) y made y_is in
         record {
           started = record {
             entry = e;
@@ -710,8 +709,8 @@ module _ (setup : Setup) (events : List Event) (entries : List Entry) (fits : se
   full b e server job there build =
       let (x, made, is) = next b e there in
       let tells : Tells x server job =
-          ap built_in (sym (ap (λ (y : Entry). y.step) is) ∙ build.there) ∙ ap (option_map (λ (j : JobId). let p : Addr × JobId = (build.step.server, j) in p)) build.builds
-          ∙ ap (λ (a : Addr). let p : Addr × JobId = (a, job) in Some p) build.at in
+      ap built_in (sym (ap (λ (y : Entry). y.step) is) ∙ build.there) ∙ ap (option_map (λ (j : JobId). let p : Addr × JobId = (build.step.server, j) in p)) build.builds
+      ∙ ap (λ (a : Addr). let p : Addr × JobId = (a, job) in Some p) build.at in
       let (n, reply, way, h) = way_ended setup (take b entries) e.event.at (way_of setup (take b entries) e.event.kind) x server job tells made in
       full_of b e server job there x is n reply way h
 

@@ -1,17 +1,14 @@
 -- A report that a server of a farm writes is read as that server's update; and a reply that takes one tells that it was accepted.
-use Rattle.std.proofs.Common.{◌≡◌, ◌≢◌, inl, inr, ℕ, suc, ◌+◌, ◌<◌, ◌≤◌, ◌^◌, ◌&&◌, nat_lt, Bool, true, false, cond, List, [], ◌∷◌, ◌++◌, length, codes, decimal, Option, Some, None, Result, Ok, Err, refl, ap, ◌∙◌, sym, subst, arith, length-append}
-use Rattle.std.specs.Prelude.{IsUtf8}
-use Rattle.std.specs.List.{list_all, AllByRecursion}
+use Rattle.std.proofs.Common.{◌≡◌, ◌≢◌, inl, inr, ℕ, ◌<◌, ◌≤◌, ◌^◌, nat_lt, Bool, true, false, List, [], ◌∷◌, ◌++◌, length, codes, decimal, Option, Ok, Err, refl, ap, ◌∙◌, sym, arith, length-append}
+use Rattle.std.specs.List.{list_all}
 use Rattle.std.specs.Char.{is_ascii_graphic}
 use Rattle.std.proofs.lemmas.Bool.{false≢true}
 use Rattle.std.proofs.lemmas.Bool.Decides.{nat_tests}
 use Rattle.std.proofs.lemmas.Fmt.{length-decimal-le}
-
-use Rattle.dist_types.specs.Addr.{IsAddr, addr_text, ip_of}
+use Rattle.dist_types.specs.Addr.{IsAddr, addr_text}
 use Rattle.dist_types.specs.Ids.{state_text}
 use Rattle.dist_types.specs.declared.addr.Addr.{Addr}
 use Rattle.dist_types.specs.declared.ids.JobId.{JobId}
-use Rattle.dist_types.specs.declared.outgoing.CallFault.{CallFault}
 use Rattle.dist_types.specs.declared.results.JobState.{JobState}
 use Rattle.dist_types.specs.declared.results.JobState.TheVariants.{Pending, Ready, Started, Complete}
 use Rattle.dist_types.proofs.AddrLemmas.{printed_graphic}
@@ -22,22 +19,17 @@ use Rattle.sched_core.specs.Log.{latest}
 use Rattle.sched_core.proofs.AllLemmas.{and_left, and_right, both}
 use Rattle.sched_core.specs.declared.entry.UpdateAnswer.{UpdateAnswer}
 use Rattle.sched_core.specs.declared.entry.UpdateAnswer.TheVariants.{Accepted, Unknown, Wrong, Transition}
-use Rattle.http_head.specs.declared.error.HttpError.{HttpError}
 use Rattle.http_head.specs.declared.error.HttpError.TheVariants.{ParseError, Status as StatusFault}
-use Rattle.http_head.specs.declared.reply.Reply.{Reply}
-use Rattle.http_head.specs.Head.{IsReply}
 use Rattle.http_head.specs.WrittenRequest.{is_printed, IsToken, IsWithinLimits}
 use Rattle.http_head.proofs.LineLemmas.{weaker}
 use Rattle.http_head.proofs.ReplyLemmas.{one_reply}
 use Rattle.http_head.proofs.WrittenRequestLemmas.{ascii_text}
 use Rattle.http_routes.specs.declared.fault.RouteFault.TheVariants.{UnknownJob, WrongServer, BadTransition}
-use Rattle.http_routes.specs.declared.reply.Response.{Response}
 use Rattle.http_routes.specs.declared.reply.Response.TheVariants.{ServerError}
-use Rattle.http_routes.specs.declared.route.Asked.{Asked}
 use Rattle.http_routes.specs.declared.route.SchedRouted.TheVariants.{Update}
 use Rattle.http_routes.specs.Asked.{IsAsked}
 use Rattle.http_routes.specs.Admission.{equal_admission}
-use Rattle.http_routes.specs.Calls.{told_by, Tells, answer_by, IsAnswer}
+use Rattle.http_routes.specs.Calls.{told_by, answer_by, IsAnswer}
 use Rattle.http_routes.specs.ErrJson.{err_text}
 use Rattle.http_routes.specs.Fault.{fault_text}
 use Rattle.http_routes.specs.ReadBack.{seen}

@@ -1,13 +1,12 @@
 -- Entries of a run by their places; a call is settled at most once.
-use Rattle.std.proofs.Common.{◌≡◌, ◌⊎◌, inl, inr, ℕ, zero, suc, ◌<◌, ◌≤◌, ◌&&◌, ◌||◌, ◌==◌, nat_lt, not, Bool, true, false, cond, List, [], ◌∷◌, ◌++◌, length, take, drop, Option, Some, None, refl, ap, ◌∙◌, sym, subst, append_assoc, append-nil, arith}
+use Rattle.std.proofs.Common.{◌≡◌, ◌⊎◌, inl, inr, ℕ, zero, suc, ◌<◌, ◌≤◌, ◌&&◌, ◌||◌, nat_lt, not, Bool, true, false, cond, List, [], ◌∷◌, ◌++◌, length, take, drop, Option, Some, None, refl, ap, ◌∙◌, sym, subst, append_assoc, append-nil, arith}
 use Rattle.std.specs.Prelude.{slice_get}
 use Rattle.std.specs.List.{list_any}
 use Rattle.std.specs.Option.{option_map}
 use Rattle.std.proofs.lemmas.Bool.{cases_lt, eqb-true, false≢true}
 use Rattle.std.proofs.lemmas.Option.{same_Some}
-use Rattle.dist_types.specs.Addr.{◌>>=◌}
 use Rattle.dist_types.proofs.AddrLemmas.{bind_some}
-use Rattle.sched_core.specs.Cuts.{Cut, cuts_behind}
+use Rattle.sched_core.specs.Cuts.{cuts_behind}
 use Rattle.sched_core.proofs.AllLemmas.{and_left, and_right, not_true, or_true, true_false}
 use Rattle.farm_script.proofs.WordLemmas.{guard_off}
 use Rattle.farm_script.specs.declared.event.Event.{Event}
@@ -22,7 +21,6 @@ use Rattle.farm_run.specs.Calls.{call_at, delivery_at, settles_by, is_void, is_o
 use Rattle.farm_run.specs.Effects.{word_effect, entry_of}
 use Rattle.farm_run.specs.Next.{IsSettled, IsMade, IsNext, EachNext}
 use Rattle.farm_run.specs.Ways.{Way, return_way, is_inside, way_of, to_nothing, to_call}
-use Rattle.farm_run.proofs.NextLemmas.{way_settles}
 
 -- ---- places
 
@@ -156,7 +154,7 @@ module _ (setup : Setup) (events : List Event) (entries : List Entry) (each : Ea
       let s = settlement n (take k entries) (drop (suc k) entries) b.entry b.settles in
       let w = settles_waiting setup (take k entries) b.entry n s.reply (next_at setup [] events entries k b.entry each b.there) s.silent s.names in
       let before : settled_at n (record { before = take j (take k entries); at = a.entry; after = [] }) ≡ true =
-          ap (λ (l : List Entry). settled_at n (record { before = l; at = a.entry; after = [] })) (take_take entries j k (omega (arith, less))) ∙ a.settles in
+      ap (λ (l : List Entry). settled_at n (record { before = l; at = a.entry; after = [] })) (take_take entries j k (omega (arith, less))) ∙ a.settles in
       true_false (is_settled (take k entries) n) (settled_among n [] (take k entries) j a.entry (get_take entries j k less ∙ a.there) before) (waits_unsettled (take k entries) n w.0 w.1)
 
   pub settled_once : AreSettledOnce entries

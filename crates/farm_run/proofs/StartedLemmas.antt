@@ -1,8 +1,8 @@
 -- A job is accepted as started at most once, and was ready before.
-use Rattle.std.proofs.Common.{◌≡◌, ℕ, ◌<◌, ◌^◌, Bool, true, false, cond, ◌&&◌, ◌||◌, List, [], ◌∷◌, ◌++◌, map, filter, Option, Some, None, refl, ap, ◌∙◌, sym, subst}
+use Rattle.std.proofs.Common.{◌≡◌, ℕ, ◌<◌, ◌^◌, Bool, true, false, cond, ◌&&◌, ◌||◌, List, [], ◌∷◌, ◌++◌, map, Option, Some, None, refl, ap, ◌∙◌, sym, subst}
 use Rattle.std.specs.Prelude.{option_to_list, if◌then◌else◌}
-use Rattle.std.specs.List.{AllByRecursion, list_any, find, filter_map}
-use Rattle.std.proofs.lemmas.Bool.{false≢true, cases_Bool}
+use Rattle.std.specs.List.{AllByRecursion, list_any, find}
+use Rattle.std.proofs.lemmas.Bool.{false≢true}
 use Rattle.std.proofs.lemmas.List.Elements.{filter_map-append}
 use Rattle.dist_types.specs.declared.addr.Addr.{Addr}
 use Rattle.dist_types.specs.declared.ids.JobId.{JobId}
@@ -11,7 +11,6 @@ use Rattle.dist_types.specs.declared.results.JobState.TheVariants.{Pending, Read
 use Rattle.sched_core.specs.declared.entry.CoreEntry.{CoreEntry}
 use Rattle.sched_core.specs.declared.entry.CoreKind.{CoreKind}
 use Rattle.sched_core.specs.declared.entry.CoreKind.TheVariants.{Beat, Reserve, Commit, Undo, Update, Status}
-use Rattle.sched_core.specs.declared.entry.UpdateAnswer.{UpdateAnswer}
 use Rattle.sched_core.specs.declared.entry.UpdateAnswer.TheVariants.{Accepted, Wrong, Transition}
 use Rattle.sched_core.specs.declared.rows.OpenRow.{OpenRow}
 use Rattle.sched_core.specs.Log.{same_job, latest, newest}
@@ -19,13 +18,13 @@ use Rattle.sched_core.specs.Reservation.{is_accepted, is_started}
 use Rattle.sched_core.specs.Job.{Committed, commits, moves_by, moves_of, state_now, state_of, is_open, open_jobs}
 use Rattle.sched_core.specs.Rows.{open_of, open_rows}
 use Rattle.sched_core.specs.Advance.{follows, is_at, advance_by, advance}
-use Rattle.sched_core.specs.Laws.{IsRule, IsLegal, AreDistinct, IsChain, HasOrder}
-use Rattle.sched_core.proofs.LegalLemmas.{core_of, legal_has, legal-push}
+use Rattle.sched_core.specs.Laws.{IsRule, IsLegal, IsChain, HasOrder}
+use Rattle.sched_core.proofs.LegalLemmas.{core_of, legal_has}
 use Rattle.sched_core.proofs.Lists.{list_any-map, list_any-push, cons_nil}
-use Rattle.sched_core.proofs.AllLemmas.{and_left, and_right, both, same_job-eq, same_job-refl, all-weaker, all-both, all-filter, any-append, any-end, any-weaker, any-all, any-kept, found, each_same, only}
+use Rattle.sched_core.proofs.AllLemmas.{and_left, and_right, both, same_job-eq, all-both, all-filter, any-append, any-end, any-weaker, any-all, any-kept, found, each_same, only}
 use Rattle.sched_core.proofs.StepLemmas.{committed, grown_commit, commits-push}
 use Rattle.sched_core.proofs.FactLemmas.{Facts, facts}
-use Rattle.sched_core.proofs.OnceLemmas.{Once, legal_all}
+use Rattle.sched_core.proofs.OnceLemmas.{legal_all}
 
 -- whether an entry accepts that the job is started
 abbrev pub starts_by : CoreKind → JobId → Bool
@@ -192,8 +191,8 @@ module _ (base count : ℕ) (log : List CoreEntry) (e : CoreEntry) (j : JobId) (
   pub once : list_any (starts j) log ≡ true → ⊥
   once before =
       let c = found (λ c. HasOrder c × (same_job c.job j ≡ true → follows (state_now c) Started ≡ true)) (has_started j) (commits log)
-          (all-both HasOrder (λ c. same_job c.job j ≡ true → follows (state_now c) Started ≡ true) (λ c. HasOrder c × (same_job c.job j ≡ true → follows (state_now c) Started ≡ true)) (λ c a b. (a, b)) (commits log) (legal_all base count log fits legal).order each)
-          (are_moved base count log legal j before) in
+      (all-both HasOrder (λ c. same_job c.job j ≡ true → follows (state_now c) Started ≡ true) (λ c. HasOrder c × (same_job c.job j ≡ true → follows (state_now c) Started ≡ true)) (λ c a b. (a, b)) (commits log) (legal_all base count log fits legal).order each)
+      (are_moved base count log legal j before) in
       let same = and_left (same_job c.0.job j) (list_any is_started (moves_of c.0)) c.2 in
       let past = chain_started c.0.state (moves_of c.0) c.1.0.1 (and_right (same_job c.0.job j) (list_any is_started (moves_of c.0)) c.2) in
       false≢true (sym (ap is_past (only_ready (state_now c.0) (c.1.1 same))) ∙ past)
@@ -203,6 +202,6 @@ module _ (base count : ℕ) (log : List CoreEntry) (e : CoreEntry) (j : JobId) (
   was_ready =
       let one = only (λ c. c.job) j (commits log) (legal_all base count log fits legal).committed (any-weaker (startable j) (λ c. same_job c.job j) (λ c h. and_left (same_job c.job j) (follows (state_now c) Started) h) (commits log) there) in
       let all : AllByRecursion (λ c. follows (state_now c) Started ≡ true) (one.0 ∷ []) =
-          subst (AllByRecursion (λ c. follows (state_now c) Started ≡ true)) one.1
-          (all-filter (λ c. same_job c.job j ≡ true → follows (state_now c) Started ≡ true) (λ c. follows (state_now c) Started ≡ true) (λ c. same_job c.job j) (λ c h same. h same) (commits log) each) in
+      subst (AllByRecursion (λ c. follows (state_now c) Started ≡ true)) one.1
+      (all-filter (λ c. same_job c.job j ≡ true → follows (state_now c) Started ≡ true) (λ c. follows (state_now c) Started ≡ true) (λ c. same_job c.job j) (λ c h same. h same) (commits log) each) in
       ap (λ (cs : List Committed). newest None (map state_now cs)) one.1 ∙ ap (λ (s : JobState). Some s) (only_ready (state_now one.0) all.0)

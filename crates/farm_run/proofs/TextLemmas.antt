@@ -1,8 +1,8 @@
 -- How long the text of an address is at most, and a text in quotes.
-use Rattle.std.proofs.Common.{◌≡◌, ℕ, zero, suc, ◌+◌, ◌*◌, ◌/◌, ◌%◌, ◌<◌, ◌≤◌, ◌^◌, Bool, true, false, cond, List, [], ◌∷◌, ◌++◌, length, take, drop, codes, decimal, refl, ap, ◌∙◌, sym, subst, arith, length-append}
+use Rattle.std.proofs.Common.{◌≡◌, ℕ, zero, suc, ◌+◌, ◌*◌, ◌/◌, ◌%◌, ◌<◌, ◌≤◌, Bool, true, false, cond, List, [], ◌∷◌, ◌++◌, length, take, drop, codes, decimal, arith, length-append}
 use Rattle.std.specs.Prelude.{slice_index, flat_map, bytes_eq, nat_lt}
 use Rattle.std.specs.Char.{digit_char}
-use Rattle.std.specs.Net.Text.{leading_zero_digits, dotted_text, hex, groups_text, longest_zero_run, compressed_text, hex_groups_text, ipv4_text, ipv6_text}
+use Rattle.std.specs.Net.Text.{leading_zero_digits, dotted_text, hex, groups_text, longest_zero_run, hex_groups_text, ipv4_text, ipv6_text}
 use Rattle.std.specs.Net.Addr.{octets_of}
 use Rattle.std.proofs.lemmas.Fmt.{length-decimal-le}
 use Rattle.json.specs.Print.{escape, escape_byte, escape_letter}
