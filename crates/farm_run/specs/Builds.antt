@@ -58,12 +58,15 @@ pub record IsBuild (e : Entry) (server : Addr) (job : JobId) : Type 0 where
 
 -- No id is built twice: two entries that tell a build of one job, by whichever servers, are one.
 abbrev pub AreBuiltOnce : List Entry → Type 0
-AreBuiltOnce log = (j k : ℕ) (d e : Entry) (s t : Addr) (job : JobId) → slice_get log j ≡ Some d → slice_get log k ≡ Some e → IsBuild d s job → IsBuild e t job → j ≡ k
+AreBuiltOnce log =
+    (j k : ℕ) (d e : Entry) (s t : Addr) (job : JobId) → slice_get log j ≡ Some d → slice_get log k ≡ Some e
+    → IsBuild d s job → IsBuild e t job → j ≡ k
 
 -- ---- what a build goes on from
 
--- Entry n is a run request of the job at the server in that life: its bytes come to the server, are a request to run the job that shows a
--- token which is accepted for the job under the key of the life, and the server calls the scheduler to tell that the job is started.
+-- Entry n is a run request of the job at the server in that life: its bytes come to the server, are a request to run
+-- the job that shows a token which is accepted for the job under the key of the life, and the server calls the
+-- scheduler to tell that the job is started.
 pub record IsRunRequest (setup : Setup) (log : List Entry) (n : ℕ) (server : Addr) (life : ℕ) (job : JobId) : Type 0 where
   pub entry : Entry
   pub there : slice_get log n ≡ Some entry
@@ -98,8 +101,9 @@ pub record IsTaken (setup : Setup) (log : List Entry) (a : ℕ) (server : Addr) 
   pub at : server_now setup (take (suc a) log) server ≡ Some now
   pub lives : now.life ≡ life
 
--- The build of entry b goes on from a start: entry b brings back the reply of delivery d, which delivered the call of the run request that
--- is entry n, and moved the job from ready to started; the server is in the life of the request, and took the job in that life before.
+-- The build of entry b goes on from a start: the entry brings back the reply of a delivery, which delivered the call of
+-- a run request and moved the job from ready to started; the server is in the life of the request, and took the job in
+-- that life before.
 pub record IsStarted (setup : Setup) (log : List Entry) (b : ℕ) (server : Addr) (job : JobId) : Type 0 where
   pub entry : Entry
   pub there : slice_get log b ≡ Some entry
@@ -116,9 +120,12 @@ pub record IsStarted (setup : Setup) (log : List Entry) (b : ℕ) (server : Addr
 
 -- each build goes on from a start
 abbrev pub AreStarted : Setup → List Entry → Type 0
-AreStarted setup log = (b : ℕ) (e : Entry) (server : Addr) (job : JobId) → slice_get log b ≡ Some e → IsBuild e server job → IsStarted setup log b server job
+AreStarted setup log =
+    (b : ℕ) (e : Entry) (server : Addr) (job : JobId) → slice_get log b ≡ Some e → IsBuild e server job
+    → IsStarted setup log b server job
 
--- Builds at every prefix: after each front of the entries each build goes on from a start, and no id is built twice.
+-- Builds at every prefix: after each front of the entries each build goes on from a start, no id is built twice, and a
+-- call is settled at most once.
 pub record AreBuilds (setup : Setup) (entries : List Entry) : Type 0 where
   pub started : (n : ℕ) → AreStarted setup (take n entries)
   pub once : (n : ℕ) → AreBuiltOnce (take n entries)
@@ -131,7 +138,8 @@ abbrev pub HasToken : SetupAuth → Type 0
 HasToken (Plain token) = (1 ≤ length token) × (length token ≤ 1024) × (list_all is_visible token ≡ true)
 HasToken (Jwt key) = ⊥
 
--- What every script says of its farm, where its servers have one token: the token is visible, and the addresses are addresses.
+-- What every script says of its farm, where its servers have one token: the token is visible, and the addresses are
+-- addresses.
 pub record HasWords (setup : Setup) : Type 0 where
   pub token : HasToken setup.scheduler.auth
   pub scheduler : IsAddr setup.scheduler.addr
