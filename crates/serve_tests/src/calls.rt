@@ -1,0 +1,150 @@
+//! Connections in memory, and what the scheduler answers over them.
+use dist_http::connection::serve_scheduler_connection;
+use dist_http::served::Served;
+use dist_token::checks::{EqCheck, PlainServerCheck};
+use dist_token::job_token::JWTJobAuthorizer;
+use dist_types::addr::Addr;
+use dist_types::clock::MemClock;
+use dist_types::dialer::MemDialer;
+use dist_types::link::{Link, MemLink};
+use dist_types::sink::MemSink;
+use dist_types::source::{MemSource, read_up_to};
+use dist_types::text::Bytes;
+use sched::pass::Pass;
+use sched::scheduler::Scheduler;
+use std::alloc::{AllocError, Global};
+use std::sync::Wait;
+use std::test::Fail;
+
+/// The scheduler of the tests.
+pub type TestScheduler = Scheduler<JWTJobAuthorizer>;
+
+/// A status request.
+pub const STATUS: &[u8] = b"GET /api/v1/scheduler/status HTTP/1.1\r\n\r\n";
+
+/// Serves one connection from port 40000, of a scheduler whose clients show `c1` and whose servers `s1`.
+pub fn serve<R: Wait, L: Link>(
+    rt: &R,
+    alloc: Global,
+    scheduler: &TestScheduler,
+    pass: &mut Pass,
+    dialer: &mut MemDialer,
+    link: &mut L,
+) -> Result<Served, AllocError> {
+    let peer = Addr::V4([127, 0, 0, 1], 40000);
+    let mut clock = MemClock::new(Vec::new(alloc));
+    let mut client = EqCheck::new(String::from_str(alloc, "c1")?);
+    let server = PlainServerCheck::new(String::from_str(alloc, "s1")?);
+    let served = serve_scheduler_connection(
+        rt,
+        alloc,
+        scheduler,
+        pass,
+        link,
+        peer,
+        dialer,
+        &mut clock,
+        &mut client,
+        &server,
+    );
+    Ok(served)
+}
+
+/// A connection with these bytes to read, whose reads and writes of the given numbers fail.
+pub fn link(
+    alloc: Global,
+    bytes: &[u8],
+    reads: &[u64],
+    writes: &[u64],
+) -> Result<MemLink, AllocError> {
+    let bytes = Vec::from_slice(alloc, bytes)?;
+    let reads = Vec::from_slice(alloc, reads)?;
+    let writes = Vec::from_slice(alloc, writes)?;
+    Ok(MemLink::new(MemSource::new(bytes, reads), MemSink::new(alloc, writes)))
+}
+
+/// A dialer with these replies.
+pub fn dialer(alloc: Global, reply: &[u8]) -> Result<MemDialer, AllocError> {
+    let mut replies = Vec::new(alloc);
+    replies.push(Bytes::from_slice(alloc, reply)?)?;
+    Ok(MemDialer::new(alloc, replies, Vec::new(alloc)))
+}
+
+/// A heartbeat of 127.0.0.1:10501 with one processor, the key 1, 2, 2 and the nonce 7, and an allocation of `abc`.
+const BEAT: &[u8] =
+    b"POST /api/v1/scheduler/heartbeat_server HTTP/1.1\r\nAuthorization: Bearer 127.0.0.1:10501 s1\r\nContent-Type: application/octet-stream\r\nContent-Length: 27\r\n\r\n\x03\0\0\0\0\0\0\0\x01\x02\x02\x01\0\0\0\0\0\0\0\x07\0\0\0\0\0\0\0";
+
+const ALLOC: &[u8] =
+    b"POST /api/v1/scheduler/alloc_job HTTP/1.1\r\nAuthorization: Bearer c1\r\nContent-Type: application/octet-stream\r\nContent-Length: 72\r\n\r\n\x40\0\0\0\0\0\0\0ba7816bf8f01cfea414140de5dae2223b00361a396177a9cb410ff61f20015ad";
+
+/// Whether the text stands somewhere in the bytes.
+fn holds(bytes: &[u8], text: &[u8]) -> bool {
+    for i in 0..bytes.len() {
+        if bytes[i..].starts_with(text) {
+            return true;
+        }
+    }
+    false
+}
+
+/// The reply to one request.
+fn reply<R: Wait>(
+    rt: &R,
+    alloc: Global,
+    scheduler: &TestScheduler,
+    pass: &mut Pass,
+    dialer: &mut MemDialer,
+    request: &[u8],
+) -> Result<MemLink, Fail> {
+    let mut link = link(alloc, request, &[], &[])?;
+    match serve(rt, alloc, scheduler, pass, dialer, &mut link)? {
+        Served::Answered => Ok(link),
+        _ => Err(Fail::from("not answered")),
+    }
+}
+
+/// A server that answers 503 to an assignment: its job is un-assigned, and the reply tells both.
+#[test]
+fn refused_assignment(rt: HostRuntime) -> Result<(), Fail> {
+    let alloc = rt.alloc();
+    let (scheduler, mut pass) = TestScheduler::new(alloc, 4096)?;
+    let mut dialer = dialer(alloc, b"HTTP/1.1 503 Service Unavailable\r\n\r\n")?;
+    let beat = reply(&rt, alloc, &scheduler, &mut pass, &mut dialer, BEAT)?;
+    assert!(&rt; beat.sink().bytes().starts_with(b"HTTP/1.1 200 OK\r\n"));
+    let refused = reply(&rt, alloc, &scheduler, &mut pass, &mut dialer, ALLOC)?;
+    let bytes = refused.sink().bytes();
+    assert!(&rt; bytes.starts_with(b"HTTP/1.1 500 Internal Server Error\r\n"));
+    assert!(&rt; holds(bytes, b"\"description\":\"Error 503\""));
+    assert!(&rt; holds(bytes, b"job un-assigned from the server"));
+    assert_eq!(&rt; pass.count(), 3);
+    assert_eq!(&rt; dialer.asked().len(), 1);
+    Ok(())
+}
+
+/// A server that is ready: the job is allocated, and counted by the next status.
+#[test]
+fn assigned(rt: HostRuntime) -> Result<(), Fail> {
+    let alloc = rt.alloc();
+    let (scheduler, mut pass) = TestScheduler::new(alloc, 4096)?;
+    let ready = b"HTTP/1.1 200 OK\r\nContent-Length: 5\r\n\r\n\x01\0\0\0\0";
+    let mut dialer = dialer(alloc, ready)?;
+    reply(&rt, alloc, &scheduler, &mut pass, &mut dialer, BEAT)?;
+    let given = reply(&rt, alloc, &scheduler, &mut pass, &mut dialer, ALLOC)?;
+    assert!(&rt; given.sink().bytes().starts_with(b"HTTP/1.1 200 OK\r\n"));
+    let place = [
+        0u8, 16, 0, 0, 0, 0, 0, 0, 0, 0, 0, 0, 127, 0, 0, 1, 5, 41, 0,
+    ];
+    assert!(&rt; given.sink().bytes().ends_with(place.as_slice()));
+    let asked = dialer.asked();
+    assert_eq!(&rt; asked.len(), 1);
+    assert_eq!(&rt; (asked[0].host.get(), asked[0].port), ("127.0.0.1", 10501));
+    let target = b"POST /api/v1/distserver/assign_job/4096 HTTP/1.1\r\nHost: 127.0.0.1:10501\r\n";
+    assert!(&rt; asked[0].request.get().starts_with(target));
+    let mut counted = reply(&rt, alloc, &scheduler, &mut pass, &mut dialer, STATUS)?;
+    let counts = [
+        1u8, 0, 0, 0, 0, 0, 0, 0, 1, 0, 0, 0, 0, 0, 0, 0, 1, 0, 0, 0, 0, 0, 0, 0,
+    ];
+    assert!(&rt; counted.sink().bytes().ends_with(counts.as_slice()));
+    assert_eq!(&rt; read_up_to(alloc, &mut counted, 1)?.len(), 0);
+    Ok(())
+}

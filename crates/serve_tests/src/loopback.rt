@@ -1,0 +1,97 @@
+//! The scheduler over loopback.
+use crate::calls::STATUS;
+use dist_config::config::{ClientAuth, SchedulerConfig, ServerAuth, ServerConfig};
+use dist_config::serve::Serve;
+use dist_http::real_serve::RealServe;
+use dist_http::run_scheduler::serve_scheduler;
+use dist_http::start::StartFault;
+use dist_types::addr::Addr;
+use dist_types::dialer::Dialer;
+use dist_types::fault::Failed;
+use dist_types::results::SchedulerStatusResult;
+use dist_types::tcp::TcpDialer;
+use http_routes::calls::answer;
+use rand_core::SeedableRng;
+use rand_xoshiro::SplitMix64;
+use std::alloc::Global;
+use std::net::{Net, TcpListener};
+use std::test::Fail;
+use std::thread;
+use std::time::{Clock, Duration};
+
+/// How often a peer is asked before one gives up, ten milliseconds between.
+const MAX_TRIES: u64 = 500;
+
+/// A port that nobody listens at.
+fn free_port<R: Net>(net: &R) -> std::io::Result<u16> {
+    let listener = TcpListener::bind(net, "127.0.0.1:0")?;
+    Ok(std::net::OpenListener::local_addr(&listener)?.port())
+}
+
+/// Asks for the counts until there is a reply.
+fn counts<R: Net + Clock>(rt: &R, alloc: Global, port: u16) -> Option<SchedulerStatusResult> {
+    let mut dialer = TcpDialer::new(alloc, rt);
+    for _ in 0..MAX_TRIES {
+        match dialer.ask("127.0.0.1", port, STATUS) {
+            Ok(reply) => return answer(alloc, &reply).ok()?.ok(),
+            Err(_) => thread::sleep(rt, Duration::from_millis(10)),
+        }
+    }
+    None
+}
+
+/// A scheduler that ends after one connection answers a status request.
+#[test]
+fn one_status(rt: HostRuntime) -> Result<(), Fail> {
+    let alloc = rt.alloc();
+    let port = free_port(&rt)?;
+    let config = SchedulerConfig {
+        public_addr: Addr::V4([127, 0, 0, 1], port),
+        client_auth: ClientAuth::Insecure,
+        server_auth: ServerAuth::Insecure,
+    };
+    let mut serve = RealServe::with_limits(
+        Box::new(alloc, move |config: &SchedulerConfig, start| {
+            serve_scheduler(&rt, alloc, config, start)
+        })?,
+        Box::new(alloc, |_config: &ServerConfig, _start| Err(StartFault))?,
+        SplitMix64::seed_from_u64(1),
+        1,
+        Some(1),
+        2_000,
+    );
+    let (counts, served) = thread::join(
+        &rt,
+        || counts(&rt, alloc, port),
+        || serve.scheduler(&config),
+    );
+    assert_eq!(&rt; served, Ok(()));
+    let counts = counts.ok_or("no reply")?;
+    assert_eq!(&rt;
+        (counts.num_servers, counts.num_cpus, counts.in_progress),
+        (0, 0, 0)
+    );
+    Ok(())
+}
+
+/// An address that is taken is a fault at once.
+#[test]
+fn taken_address(rt: HostRuntime) -> Result<(), Fail> {
+    let alloc = rt.alloc();
+    let listener = TcpListener::bind(&rt, "127.0.0.1:0")?;
+    let config = SchedulerConfig {
+        public_addr: Addr::V4([127, 0, 0, 1], listener.local_addr()?.port()),
+        client_auth: ClientAuth::Insecure,
+        server_auth: ServerAuth::Insecure,
+    };
+    let mut serve = RealServe::new(
+        Box::new(alloc, move |config: &SchedulerConfig, start| {
+            serve_scheduler(&rt, alloc, config, start)
+        })?,
+        Box::new(alloc, |_config: &ServerConfig, _start| Err(StartFault))?,
+        SplitMix64::seed_from_u64(1),
+        1,
+    );
+    assert_eq!(&rt; serve.scheduler(&config), Err(Failed));
+    Ok(())
+}
