@@ -1,11 +1,11 @@
 //! One history of a cache of archives, over the folders in memory and over one of the system.
-use dist_types::toolchain::Toolchain;
 use disk_cache::calls::Calls;
 use disk_cache::folder::Folder;
 use disk_cache::mem_folder::MemFolder;
 use disk_cache::real_folder::RealFolder;
 use disk_cache::reliable_folder::ReliableFolder;
 use disk_cache::{Error, TcCache};
+use dist_types::toolchain::Toolchain;
 use std::alloc::Global;
 use std::process::Abort;
 use std::test::Fail;
@@ -53,7 +53,10 @@ fn fill<F: Folder + Drop>(rt: &impl Abort, cache: &mut TcCache<F>) -> Result<(),
     cache.insert_bytes(&abc, b"abc")?;
     cache.insert_bytes(&blocks, BLOCKS.as_bytes())?;
     cache.insert_bytes(&nothing, b"")?;
-    assert_eq!(rt; cache.insert_bytes(&nothing, b"x").err(), Some(Error::WrongDigest));
+    assert_eq!(rt;
+        cache.insert_bytes(&nothing, b"x").err(),
+        Some(Error::WrongDigest)
+    );
     lists(rt, cache, &[(ABC, 3), (TWO_BLOCKS, 56), (NOTHING, 0)])?;
     assert_eq!(rt; cache.get_file(&abc)?.as_slice(), b"abc".as_slice());
     lists(rt, cache, &[(TWO_BLOCKS, 56), (NOTHING, 0), (ABC, 3)])
