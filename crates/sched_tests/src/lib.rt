@@ -1,7 +1,10 @@
-//! The running scheduler at work: what its calls answer, and what its passes count. Tests alone; nothing above uses this crate.
+//! The running scheduler at work: what its calls answer, what its passes count, and that no lock is held while a
+//! server is asked. Tests alone; nothing above uses this crate.
 #![tactic(auto)]
 
 #[cfg(test)]
 mod answers;
+#[cfg(test)]
+mod gate;
 #[cfg(test)]
 mod running;

@@ -1,0 +1,113 @@
+//! No lock is held while a server is asked.
+use crate::answers::{ABC, TestScheduler, beat, still};
+use dist_types::ids::{JobId, ServerId};
+use dist_types::outgoing::{CallFault, SchedulerOutgoing};
+use dist_types::results::{AllocJobResult, AssignJobResult, JobState};
+use dist_types::toolchain::Toolchain;
+use sched::pass::Pass;
+use std::alloc::Global;
+use std::sync::Wait;
+use std::sync::atomic::{AtomicBool, Ordering};
+use std::test::Fail;
+use std::thread;
+use std::thread::Threads;
+
+/// How often a flag is looked at before one gives up.
+const MAX_LOOKS: u64 = 1_000_000_000;
+
+/// Looks for the flag, and yields now and then; false where it gave up.
+fn is_set(flag: &AtomicBool) -> bool {
+    for look in 0..MAX_LOOKS {
+        if flag.load(Ordering::SeqCst) {
+            return true;
+        }
+        if look % 1024 == 0 {
+            thread::yield_now();
+        }
+    }
+    false
+}
+
+/// Whether the first call has begun, and whether the second was answered.
+#[derive(Drop)]
+struct Gate {
+    begun: AtomicBool,
+    answered: AtomicBool,
+}
+
+/// Holds each assignment until the second call was answered, and gives up with status 504.
+#[derive(Drop)]
+struct Held<'a>(&'a Gate);
+
+impl SchedulerOutgoing for Held<'_> {
+    ghost use Rattle.std.specs.Prelude.{None};
+
+    ghost assigned = { λ _. None };
+
+    ghost faults = { λ _. 0 };
+
+    fn do_assign_job(
+        &mut self,
+        _server_id: ServerId,
+        _job_id: JobId,
+        _tc: &Toolchain,
+        _auth: &str,
+    ) -> Result<AssignJobResult, CallFault> {
+        self.0.begun.store(true, Ordering::SeqCst);
+        if is_set(&self.0.answered) {
+            Ok(AssignJobResult {
+                state: JobState::Ready,
+                need_toolchain: false,
+            })
+        } else {
+            Err(CallFault::Status(504))
+        }
+    }
+}
+
+/// Waits until the first call has begun, makes a heartbeat, and says so.
+fn second<R: Wait>(
+    rt: &R,
+    alloc: Global,
+    scheduler: &TestScheduler,
+    pass: &mut Pass,
+    gate: &Gate,
+) -> bool {
+    let waited = is_set(&gate.begun);
+    let heard = beat(rt, alloc, scheduler, pass).is_ok();
+    gate.answered.store(true, Ordering::SeqCst);
+    waited && heard
+}
+
+/// Whether the assignment was let go and the heartbeat answered behind it, and how many entries both made.
+fn both<R: Threads + Wait + Sync>(rt: &R, alloc: Global, gate: &Gate) -> Result<(bool, u64), Fail> {
+    let (scheduler, mut pass) = TestScheduler::new(alloc, 4096)?;
+    beat(rt, alloc, &scheduler, &mut pass)?;
+    let mut other = scheduler.split(rt, &mut pass)?;
+    let tc = Toolchain::new(ABC)?;
+    let mut held = Held(gate);
+    let mut clock = still(alloc);
+    let (given, heard) = thread::join(
+        rt,
+        || scheduler.handle_alloc_job(rt, &mut pass, &mut clock, &mut held, &tc),
+        || second(rt, alloc, &scheduler, &mut other, gate),
+    );
+    let let_go = match &given {
+        Ok(AllocJobResult::Success { .. }) => true,
+        Ok(AllocJobResult::Fail { .. }) => false,
+        Err(_) => false,
+    };
+    scheduler.join(&mut pass, other);
+    Ok((let_go && heard, pass.count()))
+}
+
+/// A heartbeat is answered while an assignment is asked.
+#[test]
+fn gate_assign(rt: HostRuntime) -> Result<(), Fail> {
+    let gate = Gate {
+        begun: AtomicBool::new(false),
+        answered: AtomicBool::new(false),
+    };
+    assert_eq!(&rt; both(&rt, rt.alloc(), &gate)?, (true, 4));
+    Ok(())
+}
