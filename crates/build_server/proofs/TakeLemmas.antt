@@ -1,7 +1,6 @@
 -- What taking a job out comes to.
-use Rattle.std.proofs.Common.{◌≡◌, ℕ, ◌≤◌, Bool, true, false, cond, List, [], ◌∷◌, Option, Some, None, Result, Ok, Err, refl, sym, ◌∙◌, ap, subst, arith}
-use Rattle.std.specs.Prelude.{not, filter}
-use Rattle.std.specs.Map.{lookup}
+use Rattle.std.proofs.Common.{◌≡◌, ℕ, Bool, true, false, cond, List, [], ◌∷◌, Some, None, Ok, refl, sym, ◌∙◌, ap, subst, arith}
+use Rattle.std.specs.Prelude.{not}
 use Rattle.dist_types.specs.declared.ids.JobId.{JobId}
 use Rattle.disk_cache.specs.Entries.{promoted_key}
 use Rattle.build_server.specs.Books.{Books, Table, is_job, held_for, without_job, is_listed, KeepsStep}
@@ -15,7 +14,9 @@ pub not_held : (job : JobId) (table : Table) → held_for job table ≡ None →
 not_held job [] e = refl
 not_held job (h ∷ hs) e = by (is_job job h.0) (not_held job hs) e
   where
-    by : (b : Bool) → (held_for job hs ≡ None → without_job job hs ≡ hs) → cond b (Some h.1) (held_for job hs) ≡ None → cond (not b) (h ∷ without_job job hs) (without_job job hs) ≡ h ∷ hs
+    by : (b : Bool) → (held_for job hs ≡ None → without_job job hs ≡ hs)
+        → cond b (Some h.1) (held_for job hs) ≡ None
+        → cond (not b) (h ∷ without_job job hs) (without_job job hs) ≡ h ∷ hs
     by true rest e = cc
     by false rest e = ap (λ l. h ∷ l) (rest e)
 
@@ -29,19 +30,26 @@ nothing_held job old e = record {
   place = record { capacity = refl; path = refl; later = omega arith };
 }
 
-pub took_none : (job : JobId) (old seen : Books) (outcome : Taken) → old ≡ seen → held_for job old.held ≡ None → outcome ≡ taken.None → IsTaken job seen seen outcome
-took_none job old seen outcome same e is = subst (λ x. IsTaken job seen seen x) (sym is) (nothing_held job seen (subst (λ o. held_for job o.held ≡ None) same e))
+pub took_none : (job : JobId) (old seen : Books) (outcome : Taken) → old ≡ seen
+    → held_for job old.held ≡ None → outcome ≡ taken.None → IsTaken job seen seen outcome
+took_none job old seen outcome same e is = subst (λ x. IsTaken job seen seen x) (sym is)
+    (nothing_held job seen (subst (λ o. held_for job o.held ≡ None) same e))
 
 -- its archive is not listed
-pub took_unlisted : (job : JobId) (tc : List ℕ) (old seen new : Books) (outcome : Taken) → old ≡ seen → held_for job old.held ≡ Some tc → is_listed tc old.archives ≡ false
-    → new ≡ record old { held = without_job job old.held } → outcome ≡ taken.Unlisted tc → IsTaken job seen new outcome
+pub took_unlisted : (job : JobId) (tc : List ℕ) (old seen new : Books) (outcome : Taken) → old ≡ seen
+    → held_for job old.held ≡ Some tc → is_listed tc old.archives ≡ false
+    → new ≡ record old { held = without_job job old.held } → outcome ≡ taken.Unlisted tc
+    → IsTaken job seen new outcome
 took_unlisted job tc old seen new outcome same e unlisted made is =
     subst (λ o. IsTaken job o new outcome) same
-    (subst (λ n. IsTaken job old n outcome) (sym made) (subst (λ x. IsTaken job old (record old { held = without_job job old.held }) x) (sym is) taken_out))
+    (subst (λ n. IsTaken job old n outcome) (sym made)
+    (subst (λ x. IsTaken job old (record old { held = without_job job old.held }) x)
+    (sym is) taken_out))
   where
     taken_out : IsTaken job old (record old { held = without_job job old.held }) (taken.Unlisted tc)
     taken_out = record {
-      finds = subst (λ found. Finds found old (record old { held = without_job job old.held }) (taken.Unlisted tc)) (sym e) (refl, unlisted, refl);
+      finds = subst (λ found. Finds found old (record old { held = without_job job old.held })
+          (taken.Unlisted tc)) (sym e) (refl, unlisted, refl);
       held = refl;
       archives = refl;
       step = λ _ s. s;
@@ -49,8 +57,10 @@ took_unlisted job tc old seen new outcome same e unlisted made is =
     }
 
 -- its archive was read, or the folder failed
-read_by : (job : JobId) (tc : List ℕ) (outcome : Taken) (old new : Books) → held_for job old.held ≡ Some tc → is_listed tc old.archives ≡ true
-    → Reads tc (Ok outcome) old.archives new.archives old.folder new.folder → new.held ≡ without_job job old.held → (FolderHeld outcome → KeepsStep old new) → SamePlace old new
+read_by : (job : JobId) (tc : List ℕ) (outcome : Taken) (old new : Books) → held_for job old.held ≡ Some tc
+    → is_listed tc old.archives ≡ true
+    → Reads tc (Ok outcome) old.archives new.archives old.folder new.folder
+    → new.held ≡ without_job job old.held → (FolderHeld outcome → KeepsStep old new) → SamePlace old new
     → IsTaken job old new outcome
 read_by job tc (taken.Folder t) old new e listed h held step place = record {
   finds = subst (λ found. Finds found old new (taken.Folder t)) (sym e) (h.0, listed, h.2);
@@ -69,8 +79,12 @@ read_by job tc (taken.Read t archive) old new e listed h held step place = recor
 read_by job tc taken.None old new e listed h held step place = absurd h
 read_by job tc (taken.Unlisted t) old new e listed h held step place = absurd h
 
-pub took_read : (job : JobId) (tc : List ℕ) (found outcome : Taken) (old seen new : Books) → old ≡ seen → held_for job old.held ≡ Some tc → is_listed tc old.archives ≡ true
-    → Reads tc (Ok found) old.archives new.archives old.folder new.folder → new.held ≡ without_job job old.held → (FolderHeld found → KeepsStep old new) → SamePlace old new
+pub took_read : (job : JobId) (tc : List ℕ) (found outcome : Taken) (old seen new : Books) → old ≡ seen
+    → held_for job old.held ≡ Some tc → is_listed tc old.archives ≡ true
+    → Reads tc (Ok found) old.archives new.archives old.folder new.folder
+    → new.held ≡ without_job job old.held → (FolderHeld found → KeepsStep old new) → SamePlace old new
     → outcome ≡ found → IsTaken job seen new outcome
 took_read job tc found outcome old seen new same e listed h held step place is =
-    subst (λ o. IsTaken job o new outcome) same (subst (λ x. IsTaken job old new x) (sym is) (read_by job tc found old new e listed h held step place))
+    subst (λ o. IsTaken job o new outcome) same
+    (subst (λ x. IsTaken job old new x) (sym is)
+    (read_by job tc found old new e listed h held step place))

@@ -41,8 +41,8 @@ ids archives = map (λ a. a.0) archives
 abbrev pub without_ids : List (List ℕ) → Archives → Archives
 without_ids gone archives = filter (λ a. not (list_any (bytes_eq a.0) gone)) archives
 
--- What a server keeps: the jobs that it holds, its archives with their sizes, least recent first, the most that these
--- sum to, the path of their directory, and what their folder tells.
+-- What a server keeps: the jobs that it holds, its archives with their sizes, least recent first, the most
+-- that these sum to, the path of their directory, and what their folder tells.
 pub record Books : Type 0 where
   pub held : Table
   pub archives : Archives
@@ -54,7 +54,8 @@ pub record Books : Type 0 where
 abbrev pub Fails : Held → Held → Type 0
 Fails old new = Rose old.faults new.faults ⊎ (old.files ≡ None)
 
--- Where the archives among the folder's files were those listed, in their order, they are so still: what reopening stands on.
+-- Where the archives among the folder's files were those listed, in their order, they are so still: what
+-- reopening stands on.
 abbrev pub KeepsStep : Books → Books → Type 0
 KeepsStep old new = IsInStep old.path old.folder old.archives → IsInStep new.path new.folder new.archives
 

@@ -41,8 +41,10 @@ builder_of built refusals b = record { rows = built b; refusals = refusals b }
 abbrev pub row_for : List ℕ → List ℕ → Order → Result BuildResult BuildFault → Built
 row_for tc archive order heard = built_row tc (sha256 archive) order.command order.outputs order.inputs heard
 
--- The builder was called once: one row more, which is left out at most where memory ran out. It refused only where its count rose.
-pub record IsBuilt (tc archive : List ℕ) (order : Order) (heard : Result BuildResult BuildFault) (old new : Builder) : Type 0 where
+-- The builder was called once: one row more, which is left out at most where memory ran out. It refused
+-- only where its count rose.
+pub record IsBuilt (tc archive : List ℕ) (order : Order) (heard : Result BuildResult BuildFault)
+    (old new : Builder) : Type 0 where
   pub row : heard ≢ Err build.Memory → Recorded (row_for tc archive order heard) old.rows new.rows
   pub memory : heard ≡ Err build.Memory → KeptOrRecorded (row_for tc archive order heard) old.rows new.rows
   pub steady : OnOk heard (new.refusals ≡ old.refusals)
@@ -57,7 +59,8 @@ outcome_of tc archive (Err build.Refused) = Ok (outcome.Refused tc)
 outcome_of tc archive (Err build.Memory) = Err (taken.Read tc archive, record {})
 
 -- a build in an archive that was read
-pub record BuildsIn (tc archive : List ℕ) (order : Order) (old new : Builder) (result : Result Outcome (Taken × want.Memory)) : Type 0 where
+pub record BuildsIn (tc archive : List ℕ) (order : Order) (old new : Builder)
+    (result : Result Outcome (Taken × want.Memory)) : Type 0 where
   pub heard : Result BuildResult BuildFault
   pub built : IsBuilt tc archive order heard old new
   pub gives : result ≡ outcome_of tc archive heard
@@ -108,7 +111,8 @@ run_answer (outcome.Folder tc) = Err (fault.BuildFailed cause.Folder)
 run_answer (outcome.Built tc built) = Ok (answer.Complete (complete_of built))
 run_answer (outcome.Refused tc) = Err (fault.BuildFailed cause.Refused)
 
--- what a run answers, by what the scheduler answered to Complete: where that is not accepted the outcome is hidden
+-- what a run answers, by what the scheduler answered to Complete: where that is not accepted the outcome is
+-- hidden
 abbrev pub ended : Outcome → Update → Result RunJobResult ServerFault
 ended outcome (Ok x) = run_answer outcome
 ended outcome (Err e) = Err (fault_of e)

@@ -1,7 +1,7 @@
 -- What follows for a reader from what a running server's calls leave.
 use Rattle.std.specs.Prelude.{◌≡◌, ◌⊎◌, ◌++◌, [], ◌∷◌, ℕ, List, Option, Result, Ok, Err}
 use Rattle.std.specs.Option.{option_map}
-use Rattle.dist_types.specs.Builder.{Built, built_row}
+use Rattle.dist_types.specs.Builder.{built_row}
 use Rattle.dist_types.specs.Cause.{Rose}
 use Rattle.dist_types.specs.Content.{Recorded}
 use Rattle.dist_types.specs.Outgoing.{Updated, Peer, updated_row}
@@ -23,22 +23,28 @@ use Rattle.build_server.specs.declared.fault.BuildCause.TheVariants as cause
 use Rattle.build_server.specs.declared.fault.ServerFault.{ServerFault}
 use Rattle.build_server.specs.declared.fault.ServerFault.TheVariants as fault
 
--- the builder's record has one row more, where it is told: a build of this order, in some archive, with this answer
+-- the builder's record has one row more, where it is told: a build of this order, in some archive, with
+-- this answer
 pub record HasBuilt (order : Order) (heard : Result BuildResult BuildFault) (old new : Builder) : Type 0 where
   pub toolchain : List ℕ
   pub digest : List ℕ
-  pub row : Recorded (built_row toolchain digest order.command order.outputs order.inputs heard) old.rows new.rows
+  pub row : Recorded (built_row toolchain digest order.command order.outputs order.inputs heard) old.rows
+      new.rows
 
 -- The builder's record has no row more, or one, of this order.
 abbrev pub MayHaveBuilt : Order → Builder → Builder → Type 0
-MayHaveBuilt order old new = (new.rows ≡ old.rows) ⊎ ((heard : Result BuildResult BuildFault) × HasBuilt order heard old new)
+MayHaveBuilt order old new = (new.rows ≡ old.rows)
+    ⊎ ((heard : Result BuildResult BuildFault) × HasBuilt order heard old new)
 
--- What a run's answer says of its builder: Complete is what the builder's one new row gave, Refused is where that row refused, and elsewhere
--- the builder has no new row; an update that was not accepted, and want of memory, hide what was built, which was one build at most.
+-- What a run's answer says of its builder: Complete is what the builder's one new row gave, Refused is
+-- where that row refused, and elsewhere the builder has no new row; an update that was not accepted, and
+-- want of memory, hide what was built, which was one build at most.
 abbrev pub AnswersBuild : Order → Builder → Builder → Result RunJobResult ServerFault → Type 0
 AnswersBuild order old new (Ok run.JobNotFound) = new ≡ old
-AnswersBuild order old new (Ok (run.Complete x)) = (built : BuildResult) × (x ≡ complete_of built) × HasBuilt order (Ok built) old new
-AnswersBuild order old new (Err (fault.BuildFailed cause.Refused)) = HasBuilt order (Err build.Refused) old new × Rose old.refusals new.refusals
+AnswersBuild order old new (Ok (run.Complete x)) =
+    (built : BuildResult) × (x ≡ complete_of built) × HasBuilt order (Ok built) old new
+AnswersBuild order old new (Err (fault.BuildFailed cause.Refused)) =
+    HasBuilt order (Err build.Refused) old new × Rose old.refusals new.refusals
 AnswersBuild order old new (Err (fault.BuildFailed other)) = new ≡ old
 AnswersBuild order old new (Err (fault.UpdateFailed e)) = MayHaveBuilt order old new
 AnswersBuild order old new (Err fault.Memory) = MayHaveBuilt order old new
@@ -51,37 +57,51 @@ RecordedAll more old new = new ≡ option_map (λ rows. rows ++ more) old
 -- one Started row that was accepted, and then one Complete row with this answer
 abbrev pub ReportedBoth : JobId → Update → Reports → Reports → Type 0
 ReportedBoth job complete old new = (started : UpdateJobStateResult)
-    × RecordedAll (updated_row job.0 Started (Ok started) ∷ updated_row job.0 Complete complete ∷ []) old.rows new.rows
+    × RecordedAll (updated_row job.0 Started (Ok started) ∷ updated_row job.0 Complete complete ∷ [])
+    old.rows new.rows
 
--- What a run's answer says of its reports: where it is told how the run went, Started and Complete were accepted; where an update was not
--- accepted, it is the one that is told, and the last. Of want of memory nothing is said but that the rows are a front of these.
+-- What a run's answer says of its reports: where it is told how the run went, Started and Complete were
+-- accepted; where an update was not accepted, it is the one that is told, and the last. Of want of memory
+-- nothing is said but that the rows are a front of these.
 abbrev pub AnswersReports : JobId → Reports → Reports → Result RunJobResult ServerFault → Type 0
 AnswersReports job old new (Ok x) = (complete : UpdateJobStateResult) × ReportedBoth job (Ok complete) old new
-AnswersReports job old new (Err (fault.BuildFailed c)) = (complete : UpdateJobStateResult) × ReportedBoth job (Ok complete) old new
-AnswersReports job old new (Err (fault.UpdateFailed e)) = RecordedAll (updated_row job.0 Started (Err e) ∷ []) old.rows new.rows ⊎ ReportedBoth job (Err e) old new
+AnswersReports job old new (Err (fault.BuildFailed c)) =
+    (complete : UpdateJobStateResult) × ReportedBoth job (Ok complete) old new
+AnswersReports job old new (Err (fault.UpdateFailed e)) =
+    RecordedAll (updated_row job.0 Started (Err e) ∷ []) old.rows new.rows
+    ⊎ ReportedBoth job (Err e) old new
 AnswersReports job old new (Err fault.Memory) =
-    (new.rows ≡ old.rows) ⊎ ((started : Update) × RecordedAll (updated_row job.0 Started started ∷ []) old.rows new.rows) ⊎ ((complete : Update) × ReportedBoth job complete old new)
+    (new.rows ≡ old.rows) ⊎ ((started : Update)
+    × RecordedAll (updated_row job.0 Started started ∷ []) old.rows new.rows)
+    ⊎ ((complete : Update) × ReportedBoth job complete old new)
 AnswersReports job old new (Err (fault.AlreadyAssigned j)) = ⊥
 
 -- a run's answer is what its rows say
-pub record RunIsTold (job : JobId) (order : Order) (before after : Reports) (builder built : Builder) (answer : Result RunJobResult ServerFault) : Type 0 where
+pub record RunIsTold (job : JobId) (order : Order) (before after : Reports) (builder built : Builder)
+    (answer : Result RunJobResult ServerFault) : Type 0 where
   pub build : AnswersBuild order builder built answer
   pub reports : AnswersReports job before after answer
 
 abbrev pub RunsAreTold : (Peer → Updated → Asked → Type 0) → Type 0
 RunsAreTold says = (job : JobId) (order : Order) (kept turned : Option Books) (before after : Reports)
     (builder built : Builder) (answer : Result RunJobResult ServerFault)
-    → IsRunOn says job order kept turned before after builder built answer → RunIsTold job order before after builder built answer
+    → IsRunOn says job order kept turned before after builder built answer
+    → RunIsTold job order before after builder built answer
 
--- What a submission's answer says of its report: UpdateFailed exactly where the one Ready row was not accepted.
+-- What a submission's answer says of its report: UpdateFailed exactly where the one Ready row was not
+-- accepted.
 abbrev pub AnswersReady : JobId → Reports → Reports → Result SubmitToolchainResult ServerFault → Type 0
-AnswersReady job old new (Ok x) = (ready : UpdateJobStateResult) × RecordedAll (updated_row job.0 Ready (Ok ready) ∷ []) old.rows new.rows
-AnswersReady job old new (Err (fault.UpdateFailed e)) = RecordedAll (updated_row job.0 Ready (Err e) ∷ []) old.rows new.rows
-AnswersReady job old new (Err fault.Memory) = (new.rows ≡ old.rows) ⊎ ((ready : Update) × RecordedAll (updated_row job.0 Ready ready ∷ []) old.rows new.rows)
+AnswersReady job old new (Ok x) = (ready : UpdateJobStateResult)
+    × RecordedAll (updated_row job.0 Ready (Ok ready) ∷ []) old.rows new.rows
+AnswersReady job old new (Err (fault.UpdateFailed e)) =
+    RecordedAll (updated_row job.0 Ready (Err e) ∷ []) old.rows new.rows
+AnswersReady job old new (Err fault.Memory) = (new.rows ≡ old.rows)
+    ⊎ ((ready : Update) × RecordedAll (updated_row job.0 Ready ready ∷ []) old.rows new.rows)
 AnswersReady job old new (Err (fault.BuildFailed c)) = ⊥
 AnswersReady job old new (Err (fault.AlreadyAssigned j)) = ⊥
 
 abbrev pub SubmissionsAreTold : (Peer → Updated → Asked → Type 0) → Type 0
-SubmissionsAreTold says = (job : JobId) (kept turned : Option Books) (before after : Reports) (old new : Reading)
+SubmissionsAreTold says = (job : JobId) (kept turned : Option Books) (before after : Reports)
+    (old new : Reading)
     (answer : Result SubmitToolchainResult ServerFault)
     → IsSubmitOn says job kept turned before after old new answer → AnswersReady job before after answer

@@ -1,5 +1,5 @@
 -- The rules of a build server, over what it keeps.
-use Rattle.std.specs.Prelude.{◌≡◌, ◌≢◌, ◌≤◌, ◌⊎◌, ℕ, Bool, true, false, not, nat_lt, is_some, if◌then◌else◌, List, [], ◌∷◌, ◌++◌, ◌-◌, length, take, Option, Some, None, Result, Ok, Err, OnOk, OnErr}
+use Rattle.std.specs.Prelude.{◌≡◌, ◌≢◌, ◌≤◌, ◌⊎◌, ℕ, Bool, true, false, not, nat_lt, is_some, if◌then◌else◌, List, [], ◌∷◌, ◌++◌, ◌-◌, length, Option, Some, None, Result, Ok, Err, OnOk, OnErr}
 use Rattle.std.specs.Str.{bytes_eq}
 use Rattle.dist_types.specs.declared.ids.JobId.{JobId}
 use Rattle.dist_types.specs.declared.outgoing.CallFault.{CallFault}
@@ -13,7 +13,7 @@ use Rattle.disk_cache.specs.Archives.{Archives, id_of}
 use Rattle.disk_cache.specs.Disk.{dropped}
 use Rattle.disk_cache.specs.Entries.{promoted_key}
 use Rattle.disk_cache.specs.Held.{Held, Holds}
-use Rattle.build_server.specs.Books.{Books, Table, held_for, placed, without_job, is_listed, ids, without_ids, Fails, KeepsStep}
+use Rattle.build_server.specs.Books.{Books, held_for, placed, without_job, is_listed, ids, without_ids, Fails, KeepsStep}
 use Rattle.build_server.specs.declared.fault.ServerFault.{ServerFault}
 use Rattle.build_server.specs.declared.fault.ServerFault.TheVariants as fault
 use Rattle.build_server.specs.declared.submit.Submitted.{Submitted}
@@ -40,10 +40,13 @@ need_by false = record { state = Pending; need_toolchain = true }
 -- the answer to an assignment
 abbrev pub assign_verdict : Books → JobId → List ℕ → Result AssignJobResult ServerFault
 assign_verdict old job tc =
-    if is_some (held_for job old.held) then Err (fault.AlreadyAssigned job) else Ok (need_by (is_listed tc old.archives))
+    if is_some (held_for job old.held) then Err (fault.AlreadyAssigned job) else Ok
+    (need_by (is_listed tc old.archives))
 
--- A job is assigned with a toolchain: it is held where the answer is Ok, and else nothing changes. Memory may come in place of any answer.
-pub record Assigns (job : JobId) (tc : List ℕ) (old new : Books) (result : Result AssignJobResult ServerFault) : Type 0 where
+-- A job is assigned with a toolchain: it is held where the answer is Ok, and else nothing changes. Memory
+-- may come in place of any answer.
+pub record Assigns (job : JobId) (tc : List ℕ) (old new : Books)
+    (result : Result AssignJobResult ServerFault) : Type 0 where
   pub answer : result ≢ Err fault.Memory → result ≡ assign_verdict old job tc
   pub ok : OnOk result (new ≡ record old { held = placed job tc old.held })
   pub err : OnErr result (new ≡ old)
@@ -55,7 +58,8 @@ TellsAssign job (Err e) = (e ≡ fault.AlreadyAssigned job) ⊎ (e ≡ fault.Mem
 
 -- submitting
 
--- what an archive that is not listed comes to, within a capacity, where the folder does not fail: its digest is tested before its size
+-- what an archive that is not listed comes to, within a capacity, where the folder does not fail: its
+-- digest is tested before its size
 abbrev pub store_verdict : ℕ → Archives → List ℕ → List ℕ → Submitted
 store_verdict capacity archives tc bytes =
     if not (bytes_eq (id_of bytes) tc) then submitted.Digest
@@ -73,21 +77,24 @@ abbrev pub IsFrontOfDropped : Submitted → List (List ℕ) → Type 0
 IsFrontOfDropped (submitted.Stored size dropped) gone = (rest : List (List ℕ)) × (dropped ≡ gone ++ rest)
 IsFrontOfDropped other gone = ⊥
 
--- Which outcome an accepted submission has: the verdict's, and the folder's count stays; or Folder, only where a store was due and the
--- folder failed.
+-- Which outcome an accepted submission has: the verdict's, and the folder's count stays; or Folder, only
+-- where a store was due and the folder failed.
 abbrev pub Comes : Submitted → Submitted → Held → Held → Type 0
 Comes verdict (submitted.Folder gone) old new = IsFrontOfDropped verdict gone × Fails old new
 Comes verdict other old new = (other ≡ verdict) × (new.faults ≡ old.faults)
 
--- the archives behind a submission for this toolchain: the dropped ones go, and a stored one is the most recent
+-- the archives behind a submission for this toolchain: the dropped ones go, and a stored one is the most
+-- recent
 abbrev pub archives_after_submit : Option (List ℕ) → Submitted → Archives → Archives
-archives_after_submit (Some tc) (submitted.Stored size dropped) archives = without_ids dropped archives ++ (tc, size) ∷ []
+archives_after_submit (Some tc) (submitted.Stored size dropped) archives =
+    without_ids dropped archives ++ (tc, size) ∷ []
 archives_after_submit tc (submitted.Folder dropped) archives = without_ids dropped archives
 archives_after_submit tc other archives = archives
 
 -- some of those went that a store of these bytes would drop
 abbrev pub MayDrop : ℕ → List ℕ → Archives → List (List ℕ) → Type 0
-MayDrop capacity bytes archives gone = (rest : List (List ℕ)) × (ids (dropped (capacity - length bytes) archives) ≡ gone ++ rest)
+MayDrop capacity bytes archives gone = (rest : List (List ℕ))
+    × (ids (dropped (capacity - length bytes) archives) ≡ gone ++ rest)
 
 -- what no call changes
 pub record SamePlace (old new : Books) : Type 0 where
@@ -112,7 +119,8 @@ pub record IsSubmitted (job : JobId) (bytes : List ℕ) (old new : Books) (outco
 pub record SubmitStarved (job : JobId) (bytes : List ℕ) (old new : Books) : Type 0 where
   pub held : new.held ≡ old.held
   pub archives : (new.archives ≡ old.archives)
-      ⊎ ((gone : List (List ℕ)) × MayDrop old.capacity bytes old.archives gone × (new.archives ≡ without_ids gone old.archives))
+      ⊎ ((gone : List (List ℕ)) × MayDrop old.capacity bytes old.archives gone
+      × (new.archives ≡ without_ids gone old.archives))
   pub place : SamePlace old new
 
 abbrev pub TakesIn : JobId → List ℕ → Books → Books → Result Submitted ServerFault → Type 0
@@ -136,14 +144,17 @@ submit_result (submitted.Folder dropped) = answer.CannotCache
 
 -- taking out
 
--- Which outcome the taking out has, by the toolchain that was held: that toolchain, and whether it is listed. The archive that was read has
--- the toolchain's id, where the folder tells its files.
+-- Which outcome the taking out has, by the toolchain that was held: that toolchain, and whether it is
+-- listed. The archive that was read has the toolchain's id, where the folder tells its files.
 abbrev pub Finds : Option (List ℕ) → Books → Books → Taken → Type 0
 Finds None old new taken.None = new.folder ≡ old.folder
-Finds (Some held) old new (taken.Unlisted tc) = (tc ≡ held) × (is_listed held old.archives ≡ false) × (new.folder ≡ old.folder)
-Finds (Some held) old new (taken.Folder tc) = (tc ≡ held) × (is_listed held old.archives ≡ true) × Fails old.folder new.folder
+Finds (Some held) old new (taken.Unlisted tc) =
+    (tc ≡ held) × (is_listed held old.archives ≡ false) × (new.folder ≡ old.folder)
+Finds (Some held) old new (taken.Folder tc) = (tc ≡ held) × (is_listed held old.archives ≡ true)
+    × Fails old.folder new.folder
 Finds (Some held) old new (taken.Read tc archive) =
-    (tc ≡ held) × (is_listed held old.archives ≡ true) × Holds old.folder (λ files. id_of archive ≡ held) × (new.folder.faults ≡ old.folder.faults)
+    (tc ≡ held) × (is_listed held old.archives ≡ true) × Holds old.folder (λ files. id_of archive ≡ held)
+    × (new.folder.faults ≡ old.folder.faults)
 Finds found old new other = ⊥
 
 -- the archives behind a look-up: a listed one is the most recent
@@ -165,7 +176,8 @@ pub record IsTaken (job : JobId) (old new : Books) (outcome : Taken) : Type 0 wh
   pub step : FolderHeld outcome → KeepsStep old new
   pub place : SamePlace old new
 
--- What want of memory leaves of a taking out: the job stays held, and its archive in its place or most recent.
+-- What want of memory leaves of a taking out: the job stays held, and its archive in its place or most
+-- recent.
 pub record TakeStarved (job : JobId) (old new : Books) : Type 0 where
   pub held : new.held ≡ old.held
   pub archives : (new.archives ≡ old.archives)

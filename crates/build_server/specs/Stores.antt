@@ -16,7 +16,8 @@ use Rattle.build_server.specs.declared.submit.Submitted.{Submitted}
 use Rattle.build_server.specs.declared.submit.Submitted.TheVariants as submitted
 
 -- a store ended so: which outcome, and the archives behind it
-pub record IsStored (capacity : ℕ) (tc bytes : List ℕ) (outcome : Submitted) (old new : Archives) (before after : Held) : Type 0 where
+pub record IsStored (capacity : ℕ) (tc bytes : List ℕ) (outcome : Submitted) (old new : Archives)
+    (before after : Held) : Type 0 where
   pub comes : Comes (store_verdict capacity old tc bytes) outcome before after
   pub archives : new ≡ archives_after_submit (Some tc) outcome old
 
@@ -25,8 +26,10 @@ abbrev pub StoreStarved : ℕ → List ℕ → Archives → Archives → Type 0
 StoreStarved capacity bytes old new =
     (new ≡ old) ⊎ ((gone : List (List ℕ)) × MayDrop capacity bytes old gone × (new ≡ without_ids gone old))
 
-abbrev pub Stores : ℕ → List ℕ → List ℕ → Result Submitted ServerFault → Archives → Archives → Held → Held → Type 0
-Stores capacity tc bytes (Ok outcome) old new before after = IsStored capacity tc bytes outcome old new before after
+abbrev pub Stores : ℕ → List ℕ → List ℕ → Result Submitted ServerFault → Archives → Archives → Held → Held
+    → Type 0
+Stores capacity tc bytes (Ok outcome) old new before after =
+    IsStored capacity tc bytes outcome old new before after
 Stores capacity tc bytes (Err fault.Memory) old new before after = StoreStarved capacity bytes old new
 Stores capacity tc bytes (Err other) old new before after = ⊥
 
@@ -47,8 +50,10 @@ refusal other gone = Err fault.Memory
 
 -- a listed archive was read, or the folder failed; want of memory leaves it in its place or most recent
 abbrev pub Reads : List ℕ → Result Taken want.Memory → Archives → Archives → Held → Held → Type 0
-Reads tc (Ok (taken.Folder t)) old new before after = (t ≡ tc) × (new ≡ promoted_key tc old) × Fails before after
+Reads tc (Ok (taken.Folder t)) old new before after =
+    (t ≡ tc) × (new ≡ promoted_key tc old) × Fails before after
 Reads tc (Ok (taken.Read t archive)) old new before after =
-    (t ≡ tc) × (new ≡ promoted_key tc old) × Holds before (λ files. id_of archive ≡ tc) × (after.faults ≡ before.faults)
+    (t ≡ tc) × (new ≡ promoted_key tc old) × Holds before (λ files. id_of archive ≡ tc)
+    × (after.faults ≡ before.faults)
 Reads tc (Ok other) old new before after = ⊥
 Reads tc (Err e) old new before after = (new ≡ old) ⊎ (new ≡ promoted_key tc old)

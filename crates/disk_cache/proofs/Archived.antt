@@ -1,9 +1,8 @@
 -- What an opening lists of archives.
-use Rattle.std.proofs.Common.{◌≡◌, ℕ, ◌≤◌, Bool, true, false, cond, nat_le, List, [], ◌∷◌, ◌++◌, length, filter, filter_map, Option, Some, None, refl, sym, ap, subst, ◌∙◌, arith, le-leb}
+use Rattle.std.proofs.Common.{◌≡◌, ℕ, ◌≤◌, cond, nat_le, List, [], ◌∷◌, filter, refl, ap, ◌∙◌, arith, le-leb}
 use Rattle.std.proofs.lemmas.List.Sums.{sum_by-cons}
-use Rattle.disk_cache.specs.Files.{Files}
-use Rattle.disk_cache.specs.Entries.{Entries, total, trim}
-use Rattle.disk_cache.specs.Archives.{Archives, archives_in, sound_archives, opened_archives}
+use Rattle.disk_cache.specs.Entries.{total, trim}
+use Rattle.disk_cache.specs.Archives.{Archives}
 use Rattle.disk_cache.specs.Archiving.{ArchivesReopen}
 use Rattle.disk_cache.proofs.Trims.{trim_fits}
 

@@ -16,7 +16,7 @@ module _ (P : List ℕ → Type 0) where
   all_end [] f h last = (last, tt)
   all_end (g ∷ gs) f h last = (h.0, all_end gs f h.1 last)
 
-distinct_filtered : (p : List ℕ × List ℕ → Bool) (files : Files) → IsDistinct bytes_eq (keys_of files) → IsDistinct bytes_eq (keys_of (filter p files))
+pub distinct_filtered : (p : List ℕ × List ℕ → Bool) (files : Files) → IsDistinct bytes_eq (keys_of files) → IsDistinct bytes_eq (keys_of (filter p files))
 unfolding IsDistinct
 distinct_filtered p [] h = tt
 distinct_filtered p (f ∷ fs) h =

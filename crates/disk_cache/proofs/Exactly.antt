@@ -1,12 +1,16 @@
 -- What the files are exactly behind each step.
 use Rattle.std.proofs.Common.{◌≡◌, ℕ, ◌<◌, ◌≤◌, Bool, true, false, cond, nat_le, List, [], ◌∷◌, ◌++◌, take, drop, slice_get, Option, Some, None, is_some, Result, Ok, Err, OnOk, refl, sym, ap, subst, ◌∙◌, true≢false, arith, le-leb, leb-true}
 use Rattle.std.specs.Option.{option_map}
-use Rattle.disk_cache.specs.Files.{Files, put, without, moved, touched, PartWritten, DoneOrNot, Same}
+use Rattle.std.specs.Str.{bytes_eq}
+use Rattle.std.proofs.lemmas.Slice.Eq.{bytes_eq-Decides}
+use Rattle.disk_cache.proofs.Became.{became_map, became_same, became_then}
+use Rattle.disk_cache.proofs.Lookups.{without_other, without_same}
+use Rattle.disk_cache.specs.Files.{Files, file_at, put, without, moved, touched, PartWritten, DoneOrNot}
 use Rattle.disk_cache.specs.Held.{Held, Lacks, Never, Became, Made, Changes}
 use Rattle.disk_cache.specs.declared.fault.FolderFault.{FolderFault}
 use Rattle.disk_cache.specs.declared.fault.FolderFault.TheVariants.{Missing, Failed, Memory}
 use Rattle.disk_cache.specs.Entries.{Entries, Listed, total}
-use Rattle.disk_cache.specs.Disk.{Counts, dropped, without_each, files_placed, files_stored}
+use Rattle.disk_cache.specs.Disk.{Counts, OnlyRemoved, SameAt, dropped, without_each}
 
 -- ---- functions on told files
 
@@ -117,3 +121,36 @@ later_of (Ok x) old new h = omega (arith, h)
 later_of (Err Missing) old new h = h.1
 later_of (Err Failed) old new h = h.1
 later_of (Err Memory) old new h = h
+
+-- ---- what is only removed
+
+without_was : (p q b : List ℕ) (files : Files) → file_at (without p files) q ≡ Some b → file_at files q ≡ Some b
+without_was p q b files found = by (bytes_eq p q) refl
+  where
+    by : (c : Bool) → bytes_eq p q ≡ c → file_at files q ≡ Some b
+    by false other = sym (without_other p q files other) ∙ found
+    by true same =
+        let P : List ℕ → Type 0 = λ x. file_at (without p files) x ≡ None in
+        absurd (true≢false (ap is_some (sym found ∙ subst P ((bytes_eq-Decides p q).0 same) (without_same p files))))
+
+pub removed_only : (path : List ℕ) (old new : Option Files) → Became (λ f g. g ≡ without path f) old new → Became OnlyRemoved old new
+removed_only path old new h =
+    became_map (λ f g. g ≡ without path f) OnlyRemoved old new (λ f g is q b found. without_was path q b f (sym (ap (λ l. file_at l q) is) ∙ found)) h
+
+pub none_removed : (o : Option Files) → Became OnlyRemoved o o
+none_removed o = became_same OnlyRemoved o (λ f q b h. h)
+
+pub removed_then : {T : Type 0} (result : Result T FolderFault) (one two three : Option Files) → Became OnlyRemoved one two → OnOk result (Became OnlyRemoved two three) → OnOk result (Became OnlyRemoved one three)
+removed_then (Ok x) one two three a b = became_then OnlyRemoved OnlyRemoved OnlyRemoved one two three (λ f g h x y q c found. x q c (y q c found)) a b
+removed_then (Err e) one two three a b = tt
+
+removed_both : (one two three : Option Files) → Became OnlyRemoved one two → Became OnlyRemoved two three → Became OnlyRemoved one three
+removed_both one two three a b = became_then OnlyRemoved OnlyRemoved OnlyRemoved one two three (λ f g h x y q c found. x q c (y q c found)) a b
+
+-- where nothing is changed before
+pub same_removed : (one two three : Option Files) → Became SameAt one two → Became OnlyRemoved two three → Became OnlyRemoved one three
+same_removed one two three a b =
+    became_then SameAt OnlyRemoved OnlyRemoved one two three (λ f g h x y q c found. sym (x q) ∙ y q c found) a b
+
+pub removed_twice : (one two three four : Option Files) → Became SameAt one two → Became OnlyRemoved two three → Became OnlyRemoved three four → Became OnlyRemoved one four
+removed_twice one two three four a b c = same_removed one two four a (removed_both two three four b c)

@@ -14,7 +14,7 @@ use Rattle.disk_cache.specs.Key.{is_key, temp_name}
 use Rattle.disk_cache.specs.Entries.{Entries, Listed}
 use Rattle.disk_cache.specs.Disk.{Stands, AllKeys, Avoids, Keeps, ButAt, ButListed, ButUnder, ButUnderAnd, IsTemp, Counts}
 use Rattle.disk_cache.proofs.Paths.{same_front, temp_differs}
-use Rattle.disk_cache.proofs.Standing.{all_both, stands_others}
+use Rattle.disk_cache.proofs.Standing.{all_both}
 
 -- ---- the temporary file
 

@@ -1,16 +1,15 @@
 -- The archives among the files, behind each step.
-use Rattle.std.proofs.Common.{◌≡◌, ℕ, Bool, true, false, cond, not, nat_le, List, [], ◌∷◌, ◌++◌, length, take, drop, get_or, filter, is_some, Option, Some, None, refl, sym, ap, subst, ◌∙◌, true≢false, arith}
+use Rattle.std.proofs.Common.{◌≡◌, ℕ, Bool, true, false, cond, not, nat_le, List, [], ◌∷◌, ◌++◌, length, drop, get_or, is_some, Option, Some, None, refl, sym, ap, subst, ◌∙◌, true≢false, arith}
 use Rattle.std.specs.List.{AllByRecursion, IsDistinct, cons_option}
 use Rattle.std.specs.Map.{keys_of, lookup, lookup_entry, remove_entry}
 use Rattle.std.specs.Option.{option_map, option_map_or}
 use Rattle.std.specs.Str.{bytes_eq}
-use Rattle.std.proofs.lemmas.List.{append_cancel_left}
 use Rattle.std.proofs.lemmas.List.Elements.{filter_map-append}
 use Rattle.std.proofs.lemmas.Slice.Eq.{bytes_eq-Decides}
-use Rattle.disk_cache.specs.Files.{Files, file_at, front, without, put, moved, touched, put_found}
+use Rattle.disk_cache.specs.Files.{Files, file_at, front, without, put, touched, put_found}
 use Rattle.disk_cache.specs.Key.{temp_name}
 use Rattle.disk_cache.specs.Entries.{Entries, total, trim, promoted_key}
-use Rattle.disk_cache.specs.Disk.{Avoids, IsTemp, dropped, without_each, files_placed, files_stored, without_key, stored}
+use Rattle.disk_cache.specs.Disk.{Avoids, dropped, without_each, files_stored, without_key, stored}
 use Rattle.disk_cache.specs.Archives.{Archives, id_of, archive_of, archive_key, archive_path, archive_in, archives_in}
 use Rattle.disk_cache.specs.Keyed.{id_in, unkeyed, AllArchiveKeys}
 use Rattle.disk_cache.proofs.Distinct.{apart}
@@ -67,7 +66,7 @@ temp_no_key n id = slash_differs n (archive_key id) (slash_second id)
 
 -- ---- one file more or less
 
-in_more : (path : List ℕ) (f : List ℕ × List ℕ) (fs : Files) (b : Bool) → bytes_eq f.0 (archive_path path (id_of f.1)) ≡ b → archives_in path (f ∷ fs) ≡ cond b (archive_of f.1 ∷ archives_in path fs) (archives_in path fs)
+pub in_more : (path : List ℕ) (f : List ℕ × List ℕ) (fs : Files) (b : Bool) → bytes_eq f.0 (archive_path path (id_of f.1)) ≡ b → archives_in path (f ∷ fs) ≡ cond b (archive_of f.1 ∷ archives_in path fs) (archives_in path fs)
 in_more path f fs true is = ap (λ b. cons_option (cond b (Some (archive_of f.1)) None) (archives_in path fs)) is
 in_more path f fs false is = ap (λ b. cons_option (cond b (Some (archive_of f.1)) None) (archives_in path fs)) is
 

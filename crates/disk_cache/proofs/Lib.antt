@@ -24,3 +24,7 @@ pub mod Exactly
 pub mod InStep
 pub mod TcSteps
 pub mod ArchiveKeys
+pub mod Ids
+pub mod Judged
+pub mod ArchiveOpens
+pub mod OverFolder

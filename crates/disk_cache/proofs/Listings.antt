@@ -20,10 +20,10 @@ use Rattle.disk_cache.proofs.Standing.{all_both}
 use Rattle.disk_cache.proofs.Strips.{begins}
 
 -- the entry that a file gives
-abbrev entry : List ℕ → List ℕ × List ℕ → List ℕ × ℕ
+abbrev pub entry : List ℕ → List ℕ × List ℕ → List ℕ × ℕ
 entry root f = (drop (length root) f.0, length f.1)
 
-listing_more : (root : List ℕ) (f : List ℕ × List ℕ) (fs : Files) (b : Bool) → is_behind root f.0 ≡ b → listing root (f ∷ fs) ≡ cond b (entry root f ∷ listing root fs) (listing root fs)
+pub listing_more : (root : List ℕ) (f : List ℕ × List ℕ) (fs : Files) (b : Bool) → is_behind root f.0 ≡ b → listing root (f ∷ fs) ≡ cond b (entry root f ∷ listing root fs) (listing root fs)
 listing_more root f fs true is =
     ap (λ b. keyed root (map (λ (x : List ℕ × List ℕ). let made : Found = record { path = x.0; size = length x.1 } in made) (cond b (f ∷ filter (λ x. is_behind root x.0) fs) (filter (λ x. is_behind root x.0) fs)))) is
     ∙ ap (λ b. with_key (cond b (Some (drop (length root) f.0)) None) (length f.1) (listing root fs)) is
@@ -31,7 +31,7 @@ listing_more root f fs false is =
     ap (λ b. keyed root (map (λ (x : List ℕ × List ℕ). let made : Found = record { path = x.0; size = length x.1 } in made) (cond b (f ∷ filter (λ x. is_behind root x.0) fs) (filter (λ x. is_behind root x.0) fs)))) is
 
 -- what holds of each path holds of each listed one
-all_listing : (P : List ℕ → Type 0) (root : List ℕ) (fs : Files) → AllByRecursion P (keys_of fs) → AllByRecursion (λ e. P (root ++ e.0)) (listing root fs)
+pub all_listing : (P : List ℕ → Type 0) (root : List ℕ) (fs : Files) → AllByRecursion P (keys_of fs) → AllByRecursion (λ e. P (root ++ e.0)) (listing root fs)
 all_listing P root [] h = tt
 all_listing P root (f ∷ fs) h = by (is_behind root f.0) refl (all_listing P root fs h.1)
   where

@@ -89,11 +89,11 @@ all_keys (e ∷ es) h =
     ap (λ b. cond b (e ∷ filter (λ x. is_key x.0) es) (filter (λ x. is_key x.0) es)) h.0 ∙ ap (λ l. e ∷ l) (all_keys es h.1)
 
 -- no other file is left
-pub opens_cleared : (root : List ℕ) (rest entries : Entries) (new : Held) → (IsDistinct bytes_eq (keys_of rest) → entries ≡ rest) → Shows root new rest → Holds new (λ files. listing root files ≡ entries)
+pub opens_cleared : (root : List ℕ) (rest entries : Entries) (new : Held) → (IsDistinct bytes_eq (keys_of rest) → entries ≡ rest) → Shows root new rest → Shows root new entries
 opens_cleared root rest entries new list shows = λ files told.
     let w = shows files told in
     let same = list (subst (λ l. IsDistinct bytes_eq (keys_of l)) w.1 (distinct_listing root files w.0)) in
-    w.1 ∙ sym same
+    (w.0, w.1 ∙ sym same)
 
 -- and the list is in step with the files
 pub opens_in_step : (root : List ℕ) (capacity : ℕ) (found : List Found) (good rest entries : Entries) (new : Held) → good ≡ kept root capacity found → rest ≡ trim capacity good → (IsDistinct bytes_eq (keys_of rest) → entries ≡ rest)

@@ -1,7 +1,7 @@
 -- What a write or an addition that is done leaves, where it then fails or not.
-use Rattle.std.proofs.Common.{◌≡◌, ℕ, ◌≤◌, Bool, true, false, if◌then◌else◌, ◌++◌, List, length, Option, Some, None, is_some, true≢false, Result, Ok, Err, inr, refl, sym, ap, subst, ◌∙◌, arith}
+use Rattle.std.proofs.Common.{◌≡◌, ℕ, ◌≤◌, Bool, true, false, if◌then◌else◌, ◌++◌, List, length, Option, Some, is_some, true≢false, Result, Ok, Err, inr, refl, sym, ap, subst, ◌∙◌, arith}
 use Rattle.std.proofs.Math.Seq.{take-length}
-use Rattle.std.specs.Option.{option_copied, option_map}
+use Rattle.std.specs.Option.{option_map}
 use Rattle.disk_cache.specs.Files.{Files, file_at, put, put_found, appended, PartWritten, PartAppended}
 use Rattle.dist_types.specs.Cause.{counted}
 use Rattle.disk_cache.specs.Held.{Lacks, Never, Changes}

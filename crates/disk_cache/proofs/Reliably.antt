@@ -1,5 +1,5 @@
 -- Over a folder that never fails no fault has a cause.
-use Rattle.std.proofs.Common.{◌≡◌, Some, None, is_some, sym, ap, true≢false, arith}
+use Rattle.std.proofs.Common.{is_some, ap, true≢false, arith}
 use Rattle.disk_cache.specs.declared.fault.FolderFault.TheVariants.{Missing, Failed, Memory}
 use Rattle.disk_cache.specs.Reliable.{NeverFails}
 

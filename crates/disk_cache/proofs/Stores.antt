@@ -1,13 +1,12 @@
 -- What a cache is behind each call.
-use Rattle.std.proofs.Common.{◌≡◌, ℕ, ◌+◌, ◌-◌, ◌≤◌, List, [], ◌∷◌, ◌++◌, length, Option, None, Result, Ok, Err, OnOk, OnErr, inl, inr, refl, sym, ap, subst, ◌∙◌, arith}
-use Rattle.std.proofs.lemmas.List.Sums.{sum_by-append, sum_by-cons}
+use Rattle.std.proofs.Common.{◌≡◌, ℕ, ◌+◌, ◌≤◌, List, ◌++◌, length, None, Result, Ok, Err, OnOk, OnErr, inl, inr, sym, ap, subst, ◌∙◌, arith}
+use Rattle.std.proofs.lemmas.List.Sums.{sum_by-append}
 use Rattle.std.specs.Map.{lookup, remove_entry}
 use Rattle.std.specs.Str.{bytes_eq}
 use Rattle.lru_metered.proofs.Lookups.{size-others, total-promoted}
-use Rattle.disk_cache.specs.Files.{front}
 use Rattle.disk_cache.specs.Held.{Held, Became, Made}
 use Rattle.disk_cache.specs.declared.fault.FolderFault.{FolderFault}
-use Rattle.disk_cache.specs.Entries.{Entries, Listed, total, sizes, trim, promoted_key, IsEnd}
+use Rattle.disk_cache.specs.Entries.{Entries, Listed, total, sizes, promoted_key, IsEnd}
 use Rattle.disk_cache.specs.Disk.{Stands, ButAt, SameAt, IsTemp, Left, staying, stored, dropped, files_stored, without_key}
 use Rattle.disk_cache.specs.Reserved.{Reservation, held_size}
 use Rattle.disk_cache.specs.Store.{Disk, Store, IsStore, room_beside}
@@ -59,5 +58,5 @@ pub stored_exact : {F : Type 0} (held : F → Held) (folder : F) (d : Disk) (now
 stored_exact {F} held folder d now new from path own key bytes limit view temp path_is own_is limit_is made =
     let P : List ℕ → List ℕ → ℕ → Type 0 = λ p k n. Made (files_stored d.root from p bytes (dropped n (without_key k d.entries))) (held folder).files new.files in
     let Q : Store F → Type 0 = λ s. limit ≡ room_beside s.disk (length bytes)
-        → (temp : List ℕ) × IsTemp s.disk.root temp × Made (files_stored s.disk.root temp (s.disk.root ++ key) bytes (dropped (room_beside s.disk (length bytes)) (without_key key s.disk.entries))) (held s.folder).files new.files in
+    → (temp : List ℕ) × IsTemp s.disk.root temp × Made (files_stored s.disk.root temp (s.disk.root ++ key) bytes (dropped (room_beside s.disk (length bytes)) (without_key key s.disk.entries))) (held s.folder).files new.files in
     subst Q view (λ l. (from, temp, subst (λ n. P (d.root ++ key) key n) l (subst (λ k. P (d.root ++ key) k limit) own_is (subst (λ p. P p own limit) path_is made)))) limit_is

@@ -1,7 +1,7 @@
 -- What a call of the disk cache is to the cache of archives over it.
-use Rattle.std.proofs.Common.{◌≡◌, ℕ, ◌+◌, ◌-◌, ◌≤◌, ◌⊎◌, Bool, true, false, cond, not, nat_le, nat_lt, List, [], ◌∷◌, ◌++◌, length, Option, Some, None, is_some, IsSome, Result, Ok, Err, is_ok, IfOk, IfErr, OnOk, OnErr, inl, inr, refl, sym, ap, subst, ◌∙◌, true≢false, arith}
+use Rattle.std.proofs.Common.{◌≡◌, ℕ, ◌+◌, ◌-◌, ◌⊎◌, Bool, true, false, cond, nat_le, nat_lt, List, [], ◌∷◌, ◌++◌, length, Option, Some, None, IsSome, Result, Ok, Err, is_ok, IfOk, IfErr, OnOk, OnErr, inl, inr, refl, sym, ap, subst, ◌∙◌, true≢false, arith}
 use Rattle.std.specs.List.{AllByRecursion, IsDistinct}
-use Rattle.std.specs.Map.{keys_of, lookup, remove_entry}
+use Rattle.std.specs.Map.{keys_of, lookup}
 use Rattle.std.specs.Option.{option_map}
 use Rattle.std.specs.Str.{bytes_eq}
 use Rattle.std.proofs.lemmas.Bool.Decides.{nat_tests}
@@ -15,8 +15,8 @@ use Rattle.disk_cache.specs.declared.error.Error.TheVariants.{FileTooLarge, File
 use Rattle.disk_cache.specs.Entries.{Entries, promoted_key}
 use Rattle.disk_cache.specs.Disk.{Keeps, SameAt, IsTemp, Left, staying, dropped, files_stored, without_key}
 use Rattle.disk_cache.specs.Reserved.{held_size}
-use Rattle.disk_cache.specs.Store.{Disk, IoCause, LeftBy, Refuses, looked_up, removed, inserted, room_beside, insert_verdict, InsertFails, LookUpFails, RemoveFails}
-use Rattle.disk_cache.specs.Archives.{Archives, is_id, id_of, archive_of, archive_key, archive_path, archives_in, IsInStep}
+use Rattle.disk_cache.specs.Store.{Disk, LeftBy, Refuses, looked_up, removed, inserted, room_beside, insert_verdict, InsertFails, LookUpFails, RemoveFails}
+use Rattle.disk_cache.specs.Archives.{is_id, id_of, archive_of, archive_key, archive_path, archives_in, IsInStep}
 use Rattle.disk_cache.specs.Archiving.{with_archive, archive_verdict, StoreFails, FindFails, DropFails}
 use Rattle.disk_cache.specs.Keyed.{id_in, unkeyed, IsArchiveKey, AllArchiveKeys, AllHold, IsKeyed}
 use Rattle.disk_cache.proofs.ArchiveKeys.{id_is_key}

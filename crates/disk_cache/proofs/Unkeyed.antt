@@ -1,5 +1,5 @@
 -- Archives seen through their keys: each step on keys with sizes is that on ids.
-use Rattle.std.proofs.Common.{◌≡◌, ℕ, ◌≤◌, Bool, true, false, cond, is_some, nat_le, List, [], ◌∷◌, ◌++◌, length, take, drop, map, Option, Some, None, inl, inr, refl, sym, ap, subst, ◌∙◌, true≢false, arith}
+use Rattle.std.proofs.Common.{◌≡◌, ℕ, ◌≤◌, Bool, true, false, cond, is_some, nat_le, List, [], ◌∷◌, ◌++◌, length, Option, Some, None, inl, inr, refl, sym, ap, subst, ◌∙◌, true≢false, arith}
 use Rattle.std.specs.List.{AllByRecursion, IsDistinct}
 use Rattle.std.specs.Map.{keys_of, lookup, lookup_entry, remove_entry}
 use Rattle.std.specs.Option.{option_map, option_map_or}
@@ -12,8 +12,8 @@ use Rattle.disk_cache.specs.Files.{Files, file_at, front}
 use Rattle.disk_cache.specs.Held.{Held}
 use Rattle.disk_cache.specs.Entries.{Entries, total, trim, promoted_key}
 use Rattle.disk_cache.specs.Disk.{without_key, staying, stored, dropped, Left}
-use Rattle.disk_cache.specs.Store.{Disk, IsStore}
-use Rattle.disk_cache.specs.Archives.{Archives, is_id, archive_key, archive_of, AllVerified, IsArchiveStore}
+use Rattle.disk_cache.specs.Store.{Disk}
+use Rattle.disk_cache.specs.Archives.{is_id, archive_key, archive_of, AllVerified, IsArchiveStore}
 use Rattle.disk_cache.specs.Keyed.{id_in, unkeyed, IsArchiveKey, AllArchiveKeys, AllHold, IsKeyed}
 use Rattle.disk_cache.proofs.KeyLemmas.{id_long}
 
@@ -46,7 +46,7 @@ key_is_archive id fit =
 
 -- ---- lists of keys, read by a test
 
-abbrev un : List ℕ × ℕ → List ℕ × ℕ
+abbrev pub un : List ℕ × ℕ → List ℕ × ℕ
 un e = (id_in e.0, e.1)
 
 module _ (test other : List ℕ → Bool) where
@@ -113,7 +113,7 @@ trim_un limit (e ∷ es) =
 
 -- ---- what keys all have stays
 
-keys_trimmed : (P : List ℕ × ℕ → Type 0) (limit : ℕ) (es : Entries) → AllByRecursion P es → AllByRecursion P (trim limit es)
+pub keys_trimmed : (P : List ℕ × ℕ → Type 0) (limit : ℕ) (es : Entries) → AllByRecursion P es → AllByRecursion P (trim limit es)
 keys_trimmed P limit [] h = tt
 keys_trimmed P limit (e ∷ es) h =
     elim (nat_le (total (e ∷ es)) limit) as (λ b. AllByRecursion P (cond b (e ∷ es) (trim limit es))) [ true ↦ h | false ↦ keys_trimmed P limit es h.1 ]

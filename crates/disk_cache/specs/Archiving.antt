@@ -1,14 +1,13 @@
 -- What each call of a cache of archives answers and leaves.
-use Rattle.std.specs.Prelude.{◌≡◌, ℕ, ◌-◌, ◌≤◌, [], ◌∷◌, ◌⊎◌, not, nat_lt, nat_le, if◌then◌else◌, List, None, Some, Result, Ok, Err, length}
+use Rattle.std.specs.Prelude.{◌≡◌, ℕ, ◌-◌, ◌≤◌, ◌⊎◌, not, nat_lt, if◌then◌else◌, List, None, Some, Result, Ok, Err, length}
 use Rattle.std.specs.List.{AllByRecursion}
 use Rattle.std.specs.Map.{lookup}
 use Rattle.std.specs.Str.{bytes_eq}
 use Rattle.disk_cache.specs.Files.{Files}
 use Rattle.disk_cache.specs.Held.{Held}
-use Rattle.disk_cache.specs.declared.fault.FolderFault.{FolderFault}
 use Rattle.disk_cache.specs.declared.error.Error.{Error}
 use Rattle.disk_cache.specs.declared.error.Error.TheVariants.{FileTooLarge, FileNotInCache, Io, PendingSpace, BadKey, NotPending, WrongDigest, WriterRefused, Memory as NoMemory}
-use Rattle.disk_cache.specs.Entries.{total, trim, promoted_key}
+use Rattle.disk_cache.specs.Entries.{total, promoted_key}
 use Rattle.disk_cache.specs.Disk.{Left, stored, dropped, without_key}
 use Rattle.disk_cache.specs.Store.{IoCause}
 use Rattle.disk_cache.specs.Archives.{Archives, id_of, AllVerified, archives_in, sound_archives, opened_archives}

@@ -28,6 +28,10 @@ pub record Stands (root : List ℕ) (held : Held) (entries : Entries) : Type 0 w
 abbrev pub SameAt : Files → Files → Type 0
 SameAt old new = (q : List ℕ) → file_at new q ≡ file_at old q
 
+-- each file that is left is as it was
+abbrev pub OnlyRemoved : Files → Files → Type 0
+OnlyRemoved old new = (q bytes : List ℕ) → file_at new q ≡ Some bytes → file_at old q ≡ Some bytes
+
 -- the file at each path but this one is as it was
 abbrev pub ButAt : List ℕ → Files → Files → Type 0
 ButAt path old new = (q : List ℕ) → bytes_eq path q ≡ false → file_at new q ≡ file_at old q

@@ -11,4 +11,6 @@ pub mod Reserved
 pub mod Archives
 pub mod Archiving
 pub mod Keyed
+pub mod Cleaned
 pub mod Reliable
+pub mod Real

@@ -8,8 +8,8 @@ ghost use Rattle.disk_cache.specs.Files.{file_at, front, touched, without};
 ghost use Rattle.disk_cache.specs.Held.{Holds, Became, Made, Lacks};
 ghost use Rattle.disk_cache.specs.Key.{is_key, temp_name};
 ghost use Rattle.disk_cache.specs.Entries.{total, IsTable};
-ghost use Rattle.disk_cache.specs.Opened.{InStep, listing};
-ghost use Rattle.disk_cache.specs.Disk.{Stands, ButAt, ButUnder, IsTemp, Keeps, SameAt, staying, dropped, files_stored, without_key};
+ghost use Rattle.disk_cache.specs.Opened.{InStep, Shows};
+ghost use Rattle.disk_cache.specs.Disk.{Stands, ButAt, ButUnder, IsTemp, Keeps, SameAt, staying, dropped, files_stored, without_key, OnlyRemoved};
 ghost use Rattle.disk_cache.specs.Reserved.{held_size};
 
 use crate::error::{Error, Result, io};
@@ -64,7 +64,8 @@ impl<F: Folder> LruDiskCache<F> {
         ensures empty { IfOk result (λ c. (c.disk.path ≡ path.now) × (c.disk.capacity ≡ size) × (c.disk.pending ≡ [])) }
         ensures in_step { IfOk result (λ c. Holds (F.held c.folder) (λ files. InStep c.disk.root files c.disk.entries)) }
         ensures stands { IfOk result (λ c. IsStore (F.held c.folder) c.disk) }
-        ensures cleared { IfOk result (λ c. Holds (F.held c.folder) (λ files. listing c.disk.root files ≡ c.disk.entries)) }
+        ensures cleared { IfOk result (λ c. Shows c.disk.root (F.held c.folder) c.disk.entries) }
+        ensures removed { IfOk result (λ c. Became OnlyRemoved (F.held folder).files (F.held c.folder).files) }
         ensures steady { IfOk result (λ c. (F.held c.folder).faults ≡ (F.held folder).faults) }
         ensures later { IfErr result (λ e. (F.held folder).faults ≤ (F.held e.1).faults) }
         ensures fails { IfErr result (λ e. OpenFails e.0 (F.held folder) (F.held e.1)) }
@@ -300,8 +301,8 @@ impl<F: Folder> LruDiskCache<F> {
     }
 }
 
-// A path, and what the path of each file below it begins with.
-fn place_of(alloc: Global, path: &str) -> std::result::Result<(Text, Text), AllocError>
+/// A path, and what the path of each file below it begins with.
+pub(crate) fn place_of(alloc: Global, path: &str) -> std::result::Result<(Text, Text), AllocError>
     ensures { IfOk result (λ p. (p.0 ≡ path.now) × (p.1 ≡ front path.now)) }
 {
     let root = front_of(alloc, path)?;

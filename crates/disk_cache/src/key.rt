@@ -8,7 +8,7 @@ use std::alloc::{AllocError, Global};
 
 /// Whether a text is not empty, not `.` or `..`, and has no NUL byte.
 #[tactic(auto, unfolding(crate::specs::Key::is_plain))]
-fn is_plain(part: &str) -> bool
+pub(crate) fn is_plain(part: &str) -> bool
     ensures { result ≡ is_plain part.now }
 {
     part != "" && part != "." && part != ".." && !part.as_bytes().contains(&0)

@@ -5,10 +5,10 @@ ghost use Rattle.std.specs.Map.{keys_of, remove_entry};
 ghost use Rattle.std.specs.Option.{option_copied};
 ghost use Rattle.std.specs.Str.{bytes_eq};
 ghost use Rattle.disk_cache.specs.Files.{front};
-ghost use Rattle.disk_cache.specs.Held.{Holds};
+ghost use Rattle.disk_cache.specs.Held.{Holds, Became};
 ghost use Rattle.disk_cache.specs.Entries.{Entries, total, trim};
-ghost use Rattle.disk_cache.specs.Disk.{Stands, AllKeys, Counts};
-ghost use Rattle.disk_cache.specs.Opened.{stripped, keyed, kept, opened, listing, Shows, InStep};
+ghost use Rattle.disk_cache.specs.Disk.{Stands, AllKeys, OnlyRemoved, Counts};
+ghost use Rattle.disk_cache.specs.Opened.{stripped, keyed, kept, opened, Shows, InStep};
 
 use crate::fault::FolderFault;
 use crate::folder::{Folder, Found};
@@ -37,6 +37,7 @@ fn sort_one<F: Folder>(
     ensures list { OnOk result (good.new.items ≡ good.old.items ++ kept root.now capacity (file.now ∷ [])) }
     ensures shows { (rest : Entries) → Shows root.now (F.held folder.old) (good.old.items ++ (keyed root.now (file.now ∷ []) ++ rest)) → OnOk result (Shows root.now (F.held folder.new) (good.new.items ++ rest)) }
     ensures found { ¬ (result ≡ Err FolderFault.Missing) }
+    ensures removed { OnOk result (Became OnlyRemoved (F.held folder.old).files (F.held folder.new).files) }
     ensures counts { Counts result (F.held folder.old) (F.held folder.new) }
 {
     let Some(key) = stripped(root.get(), file.path.get()) else {
@@ -67,6 +68,7 @@ fn sort_out<F: Folder>(
     ensures list { OnOk result (good.new.items ≡ good.old.items ++ kept root.now capacity found.now) }
     ensures shows { OnOk result (Shows root.now (F.held folder.new) good.new.items) }
     ensures found { ¬ (result ≡ Err FolderFault.Missing) }
+    ensures removed { OnOk result (Became OnlyRemoved (F.held folder.old).files (F.held folder.new).files) }
     ensures counts { Counts result (F.held folder.old) (F.held folder.new) }
 {
     match found {
@@ -104,6 +106,7 @@ fn drop_old<'a, F: Folder>(
     ensures list { IfOk result (λ r. r.now ≡ trim capacity good.now) }
     ensures shows { IfOk result (λ r. Shows root.now (F.held folder.new) r.now) }
     ensures found { ¬ (result ≡ Err FolderFault.Missing) }
+    ensures removed { OnOk result (Became OnlyRemoved (F.held folder.old).files (F.held folder.new).files) }
     ensures counts { Counts result (F.held folder.old) (F.held folder.new) }
 {
     match good {
@@ -160,7 +163,8 @@ pub(crate) fn open<F: Folder>(
     ensures opened { IfOk result (λ t. Holds (F.held folder.old) (λ files. t.entries ≡ opened root.now capacity files)) }
     ensures in_step { IfOk result (λ t. Holds (F.held folder.new) (λ files. InStep root.now files t.entries)) }
     ensures stands { IfOk result (λ t. Stands root.now (F.held folder.new) t.entries) }
-    ensures cleared { IfOk result (λ t. Holds (F.held folder.new) (λ files. listing root.now files ≡ t.entries)) }
+    ensures cleared { IfOk result (λ t. Shows root.now (F.held folder.new) t.entries) }
+    ensures removed { OnOk result (Became OnlyRemoved (F.held folder.old).files (F.held folder.new).files) }
     ensures counts { Counts result (F.held folder.old) (F.held folder.new) }
 {
     let alloc = root.alloc();

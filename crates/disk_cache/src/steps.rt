@@ -6,7 +6,7 @@ ghost use Rattle.disk_cache.specs.Files.{file_at, size_at, put, without, moved, 
 ghost use Rattle.disk_cache.specs.Held.{Holds, Became, Made, Lacks};
 ghost use Rattle.disk_cache.specs.Key.{is_key};
 ghost use Rattle.disk_cache.specs.Entries.{total, trim, IsTable};
-ghost use Rattle.disk_cache.specs.Disk.{Stands, Avoids, ButAt, ButListed, ButUnder, ButUnderAnd, IsTemp, Keeps, Counts, Drops, stored, staying, dropped, without_each, files_placed, files_stored, without_key, Left, SameAt};
+ghost use Rattle.disk_cache.specs.Disk.{Stands, Avoids, ButAt, ButListed, ButUnder, ButUnderAnd, IsTemp, Keeps, Counts, Drops, stored, staying, dropped, without_each, files_placed, files_stored, without_key, Left, OnlyRemoved, SameAt};
 
 use crate::fault::FolderFault;
 use crate::folder::Folder;
@@ -38,6 +38,7 @@ pub(crate) fn remove_file<F: Folder>(
     ensures found { ¬ (result ≡ Err FolderFault.Missing) }
     ensures exact { OnOk result (Became (λ old new. new ≡ without (root.now ++ key.now) old) (F.held folder.old).files (F.held folder.new).files) }
     ensures gone { OnOk result (Holds (F.held folder.new) (Lacks (root.now ++ key.now))) }
+    ensures removed { OnOk result (Became OnlyRemoved (F.held folder.old).files (F.held folder.new).files) }
     ensures others { Became (ButAt (root.now ++ key.now)) (F.held folder.old).files (F.held folder.new).files }
     ensures counts { Counts result (F.held folder.old) (F.held folder.new) }
 {

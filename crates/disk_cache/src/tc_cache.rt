@@ -1,5 +1,5 @@
 //! `TcCache`: archives of toolchains, known by the SHA-256 of their content.
-ghost use Rattle.std.specs.Prelude.{◌≡◌, ◌≤◌, length, map, nat_le, is_some, Some, None, Ok, IsSome, IfOk, IfErr, OnOk, OnErr};
+ghost use Rattle.std.specs.Prelude.{◌≡◌, ◌≤◌, ◌⊎◌, [], true, false, length, map, nat_le, is_some, Some, None, Ok, IsSome, IfOk, IfErr, OnOk, OnErr};
 ghost use Rattle.std.specs.Map.{lookup};
 ghost use Rattle.std.specs.Str.{bytes_eq};
 ghost use Rattle.disk_cache.specs.Files.{file_at, front};
@@ -7,12 +7,16 @@ ghost use Rattle.disk_cache.specs.Held.{Holds, Became, Lacks};
 ghost use Rattle.disk_cache.specs.Entries.{total, promoted_key};
 ghost use Rattle.disk_cache.specs.Disk.{ButUnder, without_key};
 ghost use Rattle.disk_cache.specs.Archives.{id_of, archive_path, opened_archives, paths_under, IsInStep, IsArchiveStore};
+ghost use Rattle.disk_cache.specs.Cleaned.{are_archive_keys};
+ghost use Rattle.disk_cache.specs.Keyed.{unkeyed, AllHold};
 ghost use Rattle.disk_cache.specs.Archiving.{archive_verdict, with_archive, StoreFails, FindFails, DropFails, Relists};
 
 use crate::archives::Archives;
-use crate::cache::LruDiskCache;
+use crate::cache::{LruDiskCache, place_of};
+use crate::cleaning::{are_archive_keys, clean};
 use crate::digest::{is_archive, key_of};
-use crate::error::{Error, Result};
+use crate::error::{Error, Result, io};
+use crate::fault::FolderFault;
 use crate::folder::Folder;
 use dist_types::toolchain::Toolchain;
 use std::alloc::Global;
@@ -46,7 +50,7 @@ impl<F: Folder> TcCache<F> {
     /// handed back.
     pub fn new(
         alloc: Global,
-        folder: F,
+        mut folder: F,
         cache_dir: &str,
         cache_size: u64,
     ) -> std::result::Result<Self, (Error, F)>
@@ -60,10 +64,17 @@ impl<F: Folder> TcCache<F> {
         ensures later { IfErr result (λ e. (F.held folder).faults ≤ (F.held e.1).faults) }
         ensures fails { IfErr result (λ e. OpenFails e.0 (F.held folder) (F.held e.1)) }
     {
-        let _alloc = alloc;
-        let _path = cache_dir;
-        let _size = cache_size;
-        Err((Error::Memory, folder))
+        let Ok((path, root)) = place_of(alloc, cache_dir) else {
+            return Err((Error::Memory, folder));
+        };
+        match clean(&mut folder, &path, &root, cache_size) {
+            Ok(()) => {}
+            Err(fault) => return Err((io(fault), folder)),
+        }
+        match LruDiskCache::new(alloc, folder, cache_dir, cache_size) {
+            Ok(cache) => TcCache::over(alloc, cache),
+            Err(refusal) => Err(refusal),
+        }
     }
 
     /// Whether the archive of a toolchain is listed. It keeps the order and takes no memory. Whatever failed
@@ -212,5 +223,27 @@ impl<F: Folder> TcCache<F> {
     {
         let _len = self.cache.len();
         let _sum = self.cache.size();
+    }
+
+    // A cache of archives over one whose keys are all theirs, as they are where files are told.
+    fn over(alloc: Global, cache: LruDiskCache<F>) -> std::result::Result<Self, (Error, F)>
+        requires hold { Holds (F.held cache.folder) (λ files. AllHold cache.disk.root files cache.disk.entries) }
+        requires none { cache.disk.pending ≡ [] }
+        requires root { cache.disk.root ≡ front cache.disk.path }
+        ensures ok { IfOk result (λ t. t ≡ record { path = cache.disk.path; capacity = cache.disk.capacity; archives = unkeyed cache.disk.entries; folder = cache.folder }) }
+        ensures keys { OnOk result (are_archive_keys cache.disk.entries ≡ true) }
+        ensures stands { IfOk result (λ t. IsArchiveStore t.path t.capacity t.archives (F.held t.folder)) }
+        ensures folder { IfErr result (λ e. e.1 ≡ cache.folder) }
+        ensures why { IfErr result (λ e. (e.0 ≡ Error.Memory) ⊎ ((e.0 ≡ Error.Io FolderFault.Missing) × (are_archive_keys cache.disk.entries ≡ false))) }
+    {
+        let Ok(all) = are_archive_keys(alloc, cache.entries()) else {
+            return Err((Error::Memory, cache.into_folder()));
+        };
+        if !all {
+            return Err((Error::Io(FolderFault::Missing), cache.into_folder()));
+        }
+        let opened = TcCache { alloc, cache };
+        opened.shown();
+        Ok(opened)
     }
 }

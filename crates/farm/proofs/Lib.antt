@@ -1,1 +1,4 @@
-pub mod CommandLemmas
+pub mod ReportLemmas
+pub mod ScriptRunLemmas
+pub mod DoneLemmas
+pub mod AnswerLemmas

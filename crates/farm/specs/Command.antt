@@ -1,35 +1,32 @@
--- What the command has to do: print the text of a run, or tell a fault.
-use Rattle.std.specs.Prelude.{◌≡◌, ◌⊎◌, ℕ, ◌<◌, nat_eq, Bool, true, false, List, [], ◌∷◌, Option, IfSome, Result, Ok, Err, codes}
-use Rattle.std.specs.Fmt.{decimal}
-use Rattle.std.specs.Cmp.Lexicographic.{pointwise}
+-- What the command has to do: what its words ask for, or tell a fault.
+use Rattle.std.specs.Prelude.{◌≡◌, ◌⊎◌, ℕ, ◌<◌, List, [], ◌∷◌, Option, Some, None, IfSome, Result, Ok, Err, ⊤, codes}
+use Rattle.rand_core.specs.Stream.{Stream}
 use Rattle.dist_types.specs.Cause.{Rose}
-use Rattle.dist_types.specs.Content.{Added, Began, left_behind}
+use Rattle.dist_types.specs.Content.{Added, Began, Recorded, KeptOrRecorded, left_behind}
+use Rattle.dist_types.specs.declared.fault.Failed.{Failed}
+use Rattle.dist_config.specs.Serve.{scheduler_call, server_call}
+use Rattle.dist_config.specs.declared.serve.ServeCall.{ServeCall}
+use Rattle.farm_script.specs.declared.fault.ConfigCause.{ConfigCause}
+use Rattle.farm_script.specs.declared.fault.ConfigCause.TheVariants.{Key}
 use Rattle.farm_script.specs.declared.fault.FarmFault.{FarmFault}
 use Rattle.farm_script.specs.declared.fault.FarmFault.TheVariants.{Usage, BadLine, DuplicateAddress, ScopedAddress, ReadFault, WriteFault, BadConfig, ServeFault, Memory}
-use Rattle.farm_run.specs.RunText.{IsRunText}
-use Rattle.farm_script.specs.FaultText.{cause_text}
-use Rattle.farm_script.specs.Script.{script, Tells}
+use Rattle.farm_script.specs.FaultText.{said_text}
 use Rattle.farm_script.specs.FirstFaulty.{IsFirstFaulty}
 use Rattle.farm_script.specs.Texts.{◌⧺◌}
+use Rattle.farm_config.specs.declared.files.NamedFile.{NamedFile}
+use Rattle.farm_words.specs.declared.command.Command.{Command}
+use Rattle.farm_words.specs.declared.command.Command.TheVariants as command
+use Rattle.farm_words.specs.declared.command.AuthSubcommand.{AuthSubcommand}
+use Rattle.farm_words.specs.Asked.{Asked, asked_by}
+use Rattle.farm_words.specs.Parsed.{IsParsed}
+use Rattle.farm_auth.specs.Line.{auth_line, stream_left}
+use Rattle.farm_run.specs.RunText.{IsRunText}
 
--- the program's name and the word farm
-abbrev pub names_farm : List (List ℕ) → Bool
-names_farm [] = false
-names_farm (name ∷ []) = false
-names_farm (name ∷ word ∷ []) = pointwise nat_eq word (codes "farm")
-names_farm (name ∷ word ∷ more ∷ others) = false
+-- ---- texts and statuses
 
 -- what stands on errs
-abbrev pub fault_text : FarmFault → List ℕ
-fault_text Usage = codes "sccache-dist: these words name no command\n"
-fault_text (BadLine n) = codes "sccache-dist: bad line " ⧺ decimal n ⧺ codes "\n"
-fault_text (DuplicateAddress n) = codes "sccache-dist: duplicate address on line " ⧺ decimal n ⧺ codes "\n"
-fault_text (ScopedAddress n) = codes "sccache-dist: scoped address on line " ⧺ decimal n ⧺ codes "\n"
-fault_text ReadFault = codes "sccache-dist: read fault\n"
-fault_text WriteFault = codes "sccache-dist: write fault\n"
-fault_text (BadConfig cause) = codes "sccache-dist: bad configuration: " ⧺ cause_text cause ⧺ codes "\n"
-fault_text ServeFault = codes "sccache-dist: serve fault\n"
-fault_text Memory = codes "sccache-dist: out of memory\n"
+unfoldable pub fault_text : FarmFault → List ℕ
+fault_text f = codes "sccache-dist: " ⧺ said_text f ⧺ codes "\n"
 
 -- the status of a fault that is told
 abbrev pub fault_status : FarmFault → ℕ
@@ -43,54 +40,134 @@ fault_status WriteFault = 5
 fault_status (BadConfig cause) = 6
 fault_status ServeFault = 7
 
--- why a script has no run: a line is faulty, or memory ran out
-abbrev pub HasNoRun : FarmFault → List ℕ → Type 0
-HasNoRun f bytes = Tells f (script bytes)
+-- a fault that names a line
+abbrev pub NamesLine : FarmFault → Type 0
+NamesLine (BadLine n) = Unit {0}
+NamesLine (DuplicateAddress n) = Unit {0}
+NamesLine (ScopedAddress n) = Unit {0}
+NamesLine other = ⊥
+
+-- ---- what a call meets
 
 -- input, out or errs, as a moment finds it: what input has left, or what the other two hold, where that is told, and the count of faults
 pub record Side : Type 0 where
   pub content : Option (List ℕ)
   pub faults : ℕ
 
--- a call of the command: its words, and input and out before and after it
+-- the record of what serves, where it is told, and its count of faults
+pub record Serving : Type 0 where
+  pub calls : Option (List ServeCall)
+  pub faults : ℕ
+
+-- all but errs, as a moment finds it
+pub record Moment : Type 0 where
+  pub input : Side
+  pub out : Side
+  pub files : Option (List NamedFile)
+  pub file_faults : ℕ
+  pub random : Stream
+  pub serve : Serving
+
+-- the same where no file is read
+abbrev pub moment : Side → Side → Stream → Serving → Moment
+moment input out random serve = record { input = input; out = out; files = None; file_faults = 0; random = random; serve = serve }
+
+-- a call of the command: its words, and what it meets, before and after it
 pub record Called : Type 0 where
   pub words : List (List ℕ)
-  pub input : Side
-  pub input_after : Side
-  pub out : Side
-  pub out_after : Side
+  pub before : Moment
+  pub after : Moment
+
+-- ---- the run of a script
 
 -- Input was read to its end, or to one byte past the limit of scripts: it has left what stands behind that, and did not fail.
 abbrev pub IsReadWhole : Side → Side → Type 0
 IsReadWhole before after = (after.content ≡ left_behind 67108865 before.content) × (after.faults ≡ before.faults)
 
--- The text of the script's run was written.
-abbrev pub IsPrinted : Called → Type 0
-IsPrinted c = (names_farm c.words ≡ true) × IsReadWhole c.input c.input_after × (c.out_after.faults ≡ c.out.faults)
-    × IfSome c.input.content (λ bytes. (text : List ℕ) × IsRunText bytes text × Added text c.out.content c.out_after.content)
+-- Input was read whole, a line of it is the first faulty one, and nothing was written.
+abbrev pub IsRefused : FarmFault → Side → Side → Side → Side → Type 0
+IsRefused f input input_after out out_after =
+    IsReadWhole input input_after × (out_after ≡ out) × IfSome input.content (λ bytes. IsFirstFaulty bytes f)
 
--- A line is faulty, for that cause: input was read whole, and nothing was written.
-abbrev pub IsLineCause : FarmFault → Called → Type 0
-IsLineCause f c = (names_farm c.words ≡ true) × IsReadWhole c.input c.input_after × (c.out_after ≡ c.out) × IfSome c.input.content (λ bytes. IsFirstFaulty bytes f)
+-- Input is read whole, before a line is judged; nothing is written before every line was. The text of the script's run was written; or a fault has its cause.
+abbrev pub IsFarmRun : Result ⊤ FarmFault → Side → Side → Side → Side → Type 0
+IsFarmRun (Ok x) input input_after out out_after = IsReadWhole input input_after × (out_after.faults ≡ out.faults)
+    × IfSome input.content (λ bytes. (text : List ℕ) × IsRunText bytes text × Added text out.content out_after.content)
+IsFarmRun (Err (BadLine n)) input input_after out out_after = IsRefused (BadLine n) input input_after out out_after
+IsFarmRun (Err (DuplicateAddress n)) input input_after out out_after = IsRefused (DuplicateAddress n) input input_after out out_after
+IsFarmRun (Err (ScopedAddress n)) input input_after out out_after = IsRefused (ScopedAddress n) input input_after out out_after
+IsFarmRun (Err ReadFault) input input_after out out_after = Rose input.faults input_after.faults × (out_after ≡ out)
+IsFarmRun (Err WriteFault) input input_after out out_after = IsReadWhole input input_after × Rose out.faults out_after.faults
+    × IfSome input.content (λ bytes. (text : List ℕ) × IsRunText bytes text × Began text out.content out_after.content)
+IsFarmRun (Err Memory) input input_after out out_after = (input_after.faults ≡ input.faults) × (out_after ≡ out)
+IsFarmRun (Err other) input input_after out out_after = ⊥
 
--- Why a call met a fault, and what it left: the words are judged first; then input is read whole, before a line is judged; nothing is written before
--- every line was, and then a front of the run's text.
-abbrev pub IsCause : FarmFault → Called → Type 0
-IsCause Usage c = (names_farm c.words ≡ false) × (c.input_after ≡ c.input) × (c.out_after ≡ c.out)
-IsCause (BadLine n) c = IsLineCause (BadLine n) c
-IsCause (DuplicateAddress n) c = IsLineCause (DuplicateAddress n) c
-IsCause (ScopedAddress n) c = IsLineCause (ScopedAddress n) c
-IsCause ReadFault c = (names_farm c.words ≡ true) × Rose c.input.faults c.input_after.faults × (c.out_after ≡ c.out)
-IsCause WriteFault c = (names_farm c.words ≡ true) × IsReadWhole c.input c.input_after × Rose c.out.faults c.out_after.faults
-    × IfSome c.input.content (λ bytes. (text : List ℕ) × IsRunText bytes text × Began text c.out.content c.out_after.content)
-IsCause (BadConfig cause) c = ⊥
-IsCause ServeFault c = ⊥
-IsCause Memory c = (names_farm c.words ≡ true) × (c.input_after.faults ≡ c.input.faults) × (c.out_after ≡ c.out)
+-- ---- keys and tokens
 
--- The run was printed, or a fault met.
-abbrev pub IsDone : {A : Type 0} → Result A FarmFault → Called → Type 0
-IsDone (Ok x) c = IsPrinted c
-IsDone (Err f) c = IsCause f c
+-- The line of the command was written; or a front of it, and out failed; or its key is not base64url.
+abbrev pub IsAuthRun : AuthSubcommand → Result ⊤ FarmFault → Stream → Stream → Side → Side → Type 0
+IsAuthRun auth (Ok x) random random_after out out_after = (line : List ℕ) × (auth_line auth random ≡ Some line) × (random_after ≡ stream_left auth random)
+    × Added line out.content out_after.content × (out_after.faults ≡ out.faults)
+IsAuthRun auth (Err WriteFault) random random_after out out_after = (line : List ℕ) × (auth_line auth random ≡ Some line)
+    × Began line out.content out_after.content × Rose out.faults out_after.faults
+IsAuthRun auth (Err (BadConfig (Key key))) random random_after out out_after = (auth_line auth random ≡ None) × (key ≡ codes "secret_key") × (out_after ≡ out)
+IsAuthRun auth (Err Memory) random random_after out out_after = out_after ≡ out
+IsAuthRun auth (Err other) random random_after out out_after = ⊥
+
+-- ---- serving
+
+-- The configuration was handed on once, and what serves answered Ok; or it failed, and counted that.
+abbrev pub IsStarted : (Result (Unit {0}) Failed → ServeCall) → Result ⊤ FarmFault → Serving → Serving → Type 0
+IsStarted row (Ok x) serve serve_after = Recorded (row (Ok tt)) serve.calls serve_after.calls × (serve_after.faults ≡ serve.faults)
+IsStarted row (Err ServeFault) serve serve_after = Rose serve.faults serve_after.faults × (e : Failed) × KeptOrRecorded (row (Err e)) serve.calls serve_after.calls
+IsStarted row (Err other) serve serve_after = ⊥
+
+-- ---- the whole call
+
+-- A command was carried out, or met a fault; what it does not use is as it was.
+abbrev pub IsCarriedOut : Command → Result ⊤ FarmFault → Moment → Moment → Type 0
+IsCarriedOut command.Farm result before after =
+    IsFarmRun result before.input after.input before.out after.out × (after.random ≡ before.random) × (after.serve ≡ before.serve)
+IsCarriedOut (command.Auth auth) result before after =
+    IsAuthRun auth result before.random after.random before.out after.out × (after.input ≡ before.input) × (after.serve ≡ before.serve)
+IsCarriedOut (command.Scheduler config) result before after =
+    IsStarted (scheduler_call config) result before.serve after.serve × (after.input ≡ before.input) × (after.out ≡ before.out) × (after.random ≡ before.random)
+IsCarriedOut (command.Server config) result before after =
+    IsStarted (server_call config) result before.serve after.serve × (after.input ≡ before.input) × (after.out ≡ before.out) × (after.random ≡ before.random)
+
+-- nothing but files may have been read
+pub record IsUntouched (before after : Moment) : Type 0 where
+  pub input : after.input ≡ before.input
+  pub out : after.out ≡ before.out
+  pub random : after.random ≡ before.random
+  pub serve : after.serve ≡ before.serve
+
+-- no command is there: the words' own fault is told
+abbrev pub IsUnparsed : Asked → Result ⊤ FarmFault → Moment → Moment → Type 0
+IsUnparsed what (Ok x) before after = ⊥
+IsUnparsed what (Err f) before after = IsParsed what (Err f) before.files before.file_faults after.file_faults × IsUntouched before after
+
+-- The command that is asked for over the files was carried out, or met a fault.
+pub record IsWorked (what : Asked) (result : Result ⊤ FarmFault) (before after : Moment) : Type 0 where
+  pub command : Command
+  pub parsed : IsParsed what (Ok command) before.files before.file_faults after.file_faults
+  pub carried_out : IsCarriedOut command result before after
+
+-- that words name no command
+abbrev pub IsUsage : Result ⊤ FarmFault → Type 0
+IsUsage (Ok x) = ⊥
+IsUsage (Err f) = f ≡ Usage
+
+-- The words are judged first. Where they stand in no row that is the fault, and nothing was touched. Else the configuration that they name is read,
+-- and then the command is carried out.
+abbrev pub IsDoneBy : Option Asked → Result ⊤ FarmFault → Moment → Moment → Type 0
+IsDoneBy None result before after = IsUsage result × IsUntouched before after × (after.file_faults ≡ before.file_faults)
+IsDoneBy (Some what) result before after = IsUnparsed what result before after ⊎ IsWorked what result before after
+
+abbrev pub IsDone : Result ⊤ FarmFault → Called → Type 0
+IsDone result c = IsDoneBy (asked_by c.words) result c.before c.after
+
+-- ---- what is told
 
 -- A text was written on errs, and the answer is its status; or errs failed, has a front of it, and the answer is 5.
 abbrev pub IsSaid : List ℕ → ℕ → ℕ → Side → Side → Type 0
@@ -102,24 +179,24 @@ IsSaid text status answer before after =
 abbrev pub IsTold : FarmFault → ℕ → Side → Side → Type 0
 IsTold f answer before after = IsSaid (fault_text f) (fault_status f) answer before after
 
--- the text of the fault takes memory
-abbrev pub TakesMemory : FarmFault → Type 0
-TakesMemory (BadLine n) = Unit {0}
-TakesMemory (DuplicateAddress n) = Unit {0}
-TakesMemory (ScopedAddress n) = Unit {0}
-TakesMemory (BadConfig cause) = Unit {0}
-TakesMemory other = ⊥
+-- a fault whose text takes memory: it names a line or a key
+abbrev pub IsLong : FarmFault → Type 0
+IsLong (BadLine n) = Unit {0}
+IsLong (DuplicateAddress n) = Unit {0}
+IsLong (ScopedAddress n) = Unit {0}
+IsLong (BadConfig (Key key)) = Unit {0}
+IsLong other = ⊥
 
 -- What is told of a fault: the fault, or want of memory, where memory ran out for its text.
 abbrev pub StandsFor : FarmFault → FarmFault → Type 0
-StandsFor met told = (told ≡ met) ⊎ ((told ≡ Memory) × TakesMemory met)
+StandsFor met told = (told ≡ met) ⊎ ((told ≡ Memory) × IsLong met)
 
 -- 0 where there is no fault, and errs is as it was; else the fault is told.
-abbrev pub IsReported : {A : Type 0} → Result A FarmFault → ℕ → Side → Side → Type 0
+abbrev pub IsReported : Result ⊤ FarmFault → ℕ → Side → Side → Type 0
 IsReported (Ok x) answer before after = (answer ≡ 0) × (after ≡ before)
 IsReported (Err met) answer before after = (told : FarmFault) × StandsFor met told × IsTold told answer before after
 
--- What the status answers: 0 where the run was printed, and then errs is as it was; else a fault that has its cause is told.
+-- What the status answers: 0 where what the words ask for was done, and then errs is as it was; else a fault that has its cause is told.
 pub record IsAnswered (answer : ℕ) (c : Called) (errs errs_after : Side) : Type 0 where
-  pub printed : answer ≡ 0 → IsPrinted c × (errs_after ≡ errs)
-  pub told : 0 < answer → (f : FarmFault) × IsCause f c × IsTold f answer errs errs_after
+  pub done : answer ≡ 0 → IsDone (Ok tt) c × (errs_after ≡ errs)
+  pub told : 0 < answer → (f : FarmFault) × IsDone (Err f) c × IsTold f answer errs errs_after

@@ -1,46 +1,36 @@
 //! The command.
-ghost use Rattle.std.specs.Prelude.{◌≡◌, ◌≢◌, ◌≤◌, ◌⊎◌, ℕ, map, string_bytes, IfOk, IfErr, IfSome, OnOk, OnErr, true, false};
+ghost use Rattle.std.specs.Prelude.{◌≡◌, ◌≢◌, ◌≤◌, ◌⊎◌, ℕ, map, string_bytes, IfOk, IfErr, IfSome, OnOk, OnErr, Some, None, Ok, Err};
 ghost use Rattle.std.specs.Vec.Iter.{into_iter_items};
 ghost use Rattle.std.specs.IoError.{error_kind};
 ghost use Rattle.dist_types.specs.Cause.{Rose};
 ghost use Rattle.dist_types.specs.Content.{left_behind};
+ghost use Rattle.dist_config.specs.Serve.{scheduler_call, server_call};
 ghost use Rattle.farm_script.specs.Script.{script};
 ghost use Rattle.farm_script.specs.FirstFaulty.{IsFirstFaulty, IsFaultless};
 ghost use Rattle.farm_script.specs.declared.fault.FarmFault.{FarmFault as Fault};
-ghost use Rattle.farm_run.specs.RunText.{IsReadText};
-ghost use Rattle.farm.specs.Command.{names_farm, HasNoRun, fault_text, IsDone, IsSaid, IsTold, IsReported, IsAnswered};
 ghost use Rattle.farm_script.specs.declared.fault.FarmFault.TheVariants as fault;
+ghost use Rattle.farm_script.specs.declared.fault.ConfigCause.{ConfigCause as Cause};
+ghost use Rattle.farm_words.specs.Asked.{Asked, asked_by, farm};
+ghost use Rattle.farm_words.specs.Parsed.{command_in};
+ghost use Rattle.farm.specs.Command.{IsFarmRun, IsAuthRun, IsStarted, IsCarriedOut, moment, IsDone, IsTold, IsAnswered};
 
+use crate::report::report;
+use crate::script_run::run_of;
+use dist_config::config::{SchedulerConfig, ServerConfig};
+use dist_config::serve::Serve;
+use dist_config::start::{Scheduler, Server};
 use dist_types::sink::{Sink, write_all};
 use dist_types::source::{ReadError, Source, read_up_to};
-use farm_run::print::print_run;
-use farm_run::run::Farm;
-use farm_script::fault::{ConfigCause, FarmFault};
-use farm_script::script::{MAX_SCRIPT_BYTES, read_script};
+use farm_auth::line::auth_line;
+use farm_config::files::Files;
+use farm_script::fault::FarmFault;
+use farm_script::script::MAX_SCRIPT_BYTES;
+use farm_words::command::{AuthSubcommand, Command};
+use farm_words::parse::try_parse_from;
+use rand_core::Rng;
 use std::alloc::{AllocError, Global};
 use std::env::Args;
 use std::io::{self, ErrorKind};
-
-const USAGE: &[u8] = b"sccache-dist: these words name no command\n";
-
-const SERVE_FAULT: &[u8] = b"sccache-dist: serve fault\n";
-
-const READ_FAULT: &[u8] = b"sccache-dist: read fault\n";
-
-const WRITE_FAULT: &[u8] = b"sccache-dist: write fault\n";
-
-const MEMORY: &[u8] = b"sccache-dist: out of memory\n";
-
-fn is_farm(words: &[String]) -> bool
-    ensures { result ≡ names_farm (map string_bytes words.now) }
-{
-    match words {
-        [] => false,
-        [_] => false,
-        [_, word] => word.as_str() == "farm",
-        [_, _, _, ..] => false,
-    }
-}
 
 /// Reads the input, to its end or to one byte past the limit of scripts.
 fn read_input<S: Source>(alloc: Global, input: &mut S) -> Result<Vec<u8>, FarmFault>
@@ -58,40 +48,14 @@ fn read_input<S: Source>(alloc: Global, input: &mut S) -> Result<Vec<u8>, FarmFa
     }
 }
 
-/// The text of the run of a script.
-fn run_of(alloc: Global, bytes: &[u8]) -> Result<String, FarmFault>
-    ensures ok { IfOk result (λ text. IsReadText bytes.now (string_bytes text)) }
-    ensures err { IfErr result (λ f. HasNoRun f bytes.now) }
+/// Reads a script and writes the text of its run.
+fn run_farm<S: Source, K: Sink>(alloc: Global, input: &mut S, out: &mut K) -> Result<(), FarmFault>
+    ensures run { IsFarmRun result
+        (record { content = S.left input.old; faults = S.faults input.old })
+        (record { content = S.left input.new; faults = S.faults input.new })
+        (record { content = K.held out.old; faults = K.faults out.old })
+        (record { content = K.held out.new; faults = K.faults out.new }) }
 {
-    let (setup, events) = match read_script(alloc, bytes) {
-        Ok(read) => read,
-        Err(fault) => return Err(fault),
-    };
-    let farm = Farm::new(alloc, &setup)?;
-    match farm.run(&events) {
-        Ok(farm) => print_run(alloc, &farm),
-        Err(_) => Err(FarmFault::Memory),
-    }
-}
-
-/// Does what the words say, and writes to out.
-fn run_words<S: Source, K: Sink>(
-    alloc: Global,
-    words: &[String],
-    input: &mut S,
-    out: &mut K,
-) -> Result<(), FarmFault>
-    ensures done { IsDone result (record {
-      words = map string_bytes words.now;
-      input = record { content = S.left input.old; faults = S.faults input.old };
-      input_after = record { content = S.left input.new; faults = S.faults input.new };
-      out = record { content = K.held out.old; faults = K.faults out.old };
-      out_after = record { content = K.held out.new; faults = K.faults out.new };
-    }) }
-{
-    if !is_farm(words) {
-        return Err(FarmFault::Usage);
-    }
     let bytes = match read_input(alloc, input) {
         Ok(bytes) => bytes,
         Err(fault) => return Err(fault),
@@ -106,114 +70,180 @@ fn run_words<S: Source, K: Sink>(
     }
 }
 
-/// Writes a text on errs, and answers its status, or 5 where errs failed.
-fn say<E: Sink>(errs: &mut E, text: &[u8], status: u8) -> u8
-    ensures said { IsSaid text.now status result
-        (record { content = E.held errs.old; faults = E.faults errs.old })
-        (record { content = E.held errs.new; faults = E.faults errs.new }) }
+/// Writes the line of a command for an authority.
+fn run_auth<K: Sink, R: Rng>(
+    alloc: Global,
+    auth: &AuthSubcommand,
+    random: &mut R,
+    out: &mut K,
+) -> Result<(), FarmFault>
+    ensures run { IsAuthRun auth.now result (R.stream random.old) (R.stream random.new)
+        (record { content = K.held out.old; faults = K.faults out.old })
+        (record { content = K.held out.new; faults = K.faults out.new }) }
 {
-    match write_all(errs, text) {
-        Ok(()) => status,
-        Err(_) => 5,
+    let line = match auth_line(alloc, auth, random) {
+        Ok(line) => line,
+        Err(fault) => return Err(fault),
+    };
+    match write_all(out, line.as_bytes()) {
+        Ok(()) => Ok(()),
+        Err(_) => Err(FarmFault::WriteFault),
     }
 }
 
-fn twice_text(alloc: Global, n: u64) -> Result<String, AllocError>
-    ensures { IfOk result (λ text. string_bytes text ≡ fault_text (fault.DuplicateAddress n)) }
+/// Hands a scheduler's configuration on.
+fn start_scheduler<N: Serve>(config: SchedulerConfig, serve: &mut N) -> Result<(), FarmFault>
+    ensures started { IsStarted (scheduler_call config) result
+        (record { calls = N.calls serve.old; faults = N.faults serve.old })
+        (record { calls = N.calls serve.new; faults = N.faults serve.new }) }
 {
-    format!(in alloc; "sccache-dist: duplicate address on line {n}\n")
+    match Scheduler::new(config).start(serve) {
+        Ok(()) => Ok(()),
+        Err(_) => Err(FarmFault::ServeFault),
+    }
 }
 
-fn scoped_text(alloc: Global, n: u64) -> Result<String, AllocError>
-    ensures { IfOk result (λ text. string_bytes text ≡ fault_text (fault.ScopedAddress n)) }
+/// Hands a build server's configuration on.
+fn start_server<N: Serve>(config: ServerConfig, serve: &mut N) -> Result<(), FarmFault>
+    ensures started { IsStarted (server_call config) result
+        (record { calls = N.calls serve.old; faults = N.faults serve.old })
+        (record { calls = N.calls serve.new; faults = N.faults serve.new }) }
 {
-    format!(in alloc; "sccache-dist: scoped address on line {n}\n")
+    match Server::new(config).start(serve) {
+        Ok(()) => Ok(()),
+        Err(_) => Err(FarmFault::ServeFault),
+    }
 }
 
-fn config_text(alloc: Global, cause: &ConfigCause) -> Result<String, AllocError>
-    ensures { IfOk result (λ text. string_bytes text ≡ fault_text (fault.BadConfig cause.now)) }
+/// Carries a command out.
+fn carry_out<S: Source, K: Sink, R: Rng, N: Serve>(
+    alloc: Global,
+    command: Command,
+    input: &mut S,
+    out: &mut K,
+    random: &mut R,
+    serve: &mut N,
+) -> Result<(), FarmFault>
+    ensures done { IsCarriedOut command result
+        (moment (record { content = S.left input.old; faults = S.faults input.old })
+        (record { content = K.held out.old; faults = K.faults out.old }) (R.stream random.old)
+        (record { calls = N.calls serve.old; faults = N.faults serve.old }))
+        (moment (record { content = S.left input.new; faults = S.faults input.new })
+        (record { content = K.held out.new; faults = K.faults out.new }) (R.stream random.new)
+        (record { calls = N.calls serve.new; faults = N.faults serve.new })) }
 {
-    format!(in alloc; "sccache-dist: bad configuration: {cause}\n")
+    match command {
+        Command::Farm => run_farm(alloc, input, out),
+        Command::Auth(auth) => run_auth(alloc, &auth, random, out),
+        Command::Scheduler(config) => start_scheduler(config, serve),
+        Command::Server(config) => start_server(config, serve),
+    }
 }
 
-fn line_text(alloc: Global, n: u64) -> Result<String, AllocError>
-    ensures { IfOk result (λ text. string_bytes text ≡ fault_text (fault.BadLine n)) }
+/// Does what the words say.
+fn run_words<S: Source, K: Sink, D: Files, R: Rng, N: Serve>(
+    alloc: Global,
+    words: &[String],
+    input: &mut S,
+    out: &mut K,
+    files: &mut D,
+    random: &mut R,
+    serve: &mut N,
+) -> Result<(), FarmFault>
+    ensures done { IsDone result (record {
+      words = map string_bytes words.now;
+      before = record {
+        input = record { content = S.left input.old; faults = S.faults input.old };
+        out = record { content = K.held out.old; faults = K.faults out.old };
+        files = D.files files.old;
+        file_faults = D.faults files.old;
+        random = R.stream random.old;
+        serve = record { calls = N.calls serve.old; faults = N.faults serve.old };
+      };
+      after = record {
+        input = record { content = S.left input.new; faults = S.faults input.new };
+        out = record { content = K.held out.new; faults = K.faults out.new };
+        files = D.files files.new;
+        file_faults = D.faults files.new;
+        random = R.stream random.new;
+        serve = record { calls = N.calls serve.new; faults = N.faults serve.new };
+      };
+    }) }
+    ensures kept { D.files files.new ≡ D.files files.old }
 {
-    format!(in alloc; "sccache-dist: bad line {n}\n")
-}
-
-/// Answers 0 where all was done; else tells the fault on errs, and answers its status, or 5 where errs
-/// failed. Want of memory is told in place of a fault where memory runs out for its text.
-fn report<E: Sink>(alloc: Global, done: Result<(), FarmFault>, errs: &mut E) -> u8
-    ensures reported { IsReported done result
-        (record { content = E.held errs.old; faults = E.faults errs.old })
-        (record { content = E.held errs.new; faults = E.faults errs.new }) }
-{
-    match done {
-        Ok(()) => 0,
-        Err(FarmFault::Usage) => say(errs, USAGE, 2),
-        Err(FarmFault::BadLine(n)) => match line_text(alloc, n) {
-            Ok(text) => say(errs, text.as_bytes(), 1),
-            Err(_) => say(errs, MEMORY, 3),
-        },
-        Err(FarmFault::DuplicateAddress(n)) => match twice_text(alloc, n) {
-            Ok(text) => say(errs, text.as_bytes(), 1),
-            Err(_) => say(errs, MEMORY, 3),
-        },
-        Err(FarmFault::ScopedAddress(n)) => match scoped_text(alloc, n) {
-            Ok(text) => say(errs, text.as_bytes(), 1),
-            Err(_) => say(errs, MEMORY, 3),
-        },
-        Err(FarmFault::BadConfig(cause)) => match config_text(alloc, &cause) {
-            Ok(text) => say(errs, text.as_bytes(), 6),
-            Err(_) => say(errs, MEMORY, 3),
-        },
-        Err(FarmFault::ServeFault) => say(errs, SERVE_FAULT, 7),
-        Err(FarmFault::ReadFault) => say(errs, READ_FAULT, 4),
-        Err(FarmFault::WriteFault) => say(errs, WRITE_FAULT, 5),
-        Err(FarmFault::Memory) => say(errs, MEMORY, 3),
+    match try_parse_from(alloc, words, files) {
+        Ok(command) => carry_out(alloc, command, input, out, random, serve),
+        Err(fault) => Err(fault),
     }
 }
 
 /// The command: does what the words say, tells a fault on errs, and answers the status. `words[0]` is the
-/// program's name; the one command is `farm`, which reads a script from input and writes its printed run
-/// to out. The words are judged first, then input is read to its end, or to one byte past the limit of
-/// scripts, before any line is judged; nothing is written before every line was.
-pub fn dist_main<S: Source, K: Sink, E: Sink>(
+/// program's name. The words are judged first; then the configuration that they name is read, and the
+/// command is carried out. `farm` reads a script from input, to its end or to one byte past the limit of
+/// scripts, before any line is judged, and writes its printed run to out; nothing is written before every
+/// line was judged.
+pub fn dist_main<S: Source, K: Sink, E: Sink, D: Files, R: Rng, N: Serve>(
     alloc: Global,
     words: &[String],
     input: &mut S,
     out: &mut K,
     errs: &mut E,
+    files: &mut D,
+    random: &mut R,
+    serve: &mut N,
 ) -> u8
-    // 0: the text of the script's run was written, and no fault is told. 1: the first faulty line is named.
-    // 2: the words name no command. 3: memory ran out. 4: input failed. 5: out failed. Each from 1 to 5 has
-    // its cause in this call, and errs has its text; or it is 5, errs failed and has a front of that text.
+    // 0: what the words ask for was done, and no fault is told. 1: the first faulty line is named. 2: the
+    // words name no command. 3: memory ran out. 4: input failed. 5: out failed. 6: the configuration has a
+    // fault. 7: what serves failed. Each from 1 to 7 has its cause in this call, and errs has its text; or
+    // it is 5, errs failed and has a front of that text.
     ensures answered { IsAnswered result (record {
       words = map string_bytes words.now;
-      input = record { content = S.left input.old; faults = S.faults input.old };
-      input_after = record { content = S.left input.new; faults = S.faults input.new };
-      out = record { content = K.held out.old; faults = K.faults out.old };
-      out_after = record { content = K.held out.new; faults = K.faults out.new };
+      before = record {
+        input = record { content = S.left input.old; faults = S.faults input.old };
+        out = record { content = K.held out.old; faults = K.faults out.old };
+        files = D.files files.old;
+        file_faults = D.faults files.old;
+        random = R.stream random.old;
+        serve = record { calls = N.calls serve.old; faults = N.faults serve.old };
+      };
+      after = record {
+        input = record { content = S.left input.new; faults = S.faults input.new };
+        out = record { content = K.held out.new; faults = K.faults out.new };
+        files = D.files files.new;
+        file_faults = D.faults files.new;
+        random = R.stream random.new;
+        serve = record { calls = N.calls serve.new; faults = N.faults serve.new };
+      };
     })
         (record { content = E.held errs.old; faults = E.faults errs.old })
         (record { content = E.held errs.new; faults = E.faults errs.new }) }
     // There is no other status.
-    ensures statuses { result ≤ 5 }
+    ensures statuses { result ≤ 7 }
+    // No file changes.
+    ensures kept { D.files files.new ≡ D.files files.old }
     // Where a line is faulty it is 1, and where none is it is 0, without want of memory and faults.
-    ensures faulty { names_farm (map string_bytes words.now) ≡ true → IfSome (S.left input.old) (λ bytes.
+    ensures faulty { asked_by (map string_bytes words.now) ≡ Some farm → IfSome (S.left input.old) (λ bytes.
         (f : Fault) → IsFirstFaulty bytes f → (result ≡ 1) ⊎ (result ≡ 3) ⊎ (result ≡ 4) ⊎ (result ≡ 5)) }
-    ensures faultless { names_farm (map string_bytes words.now) ≡ true → IfSome (S.left input.old) (λ bytes.
+    ensures faultless { asked_by (map string_bytes words.now) ≡ Some farm → IfSome (S.left input.old) (λ bytes.
         IsFaultless bytes → (result ≡ 0) ⊎ (result ≡ 3) ⊎ (result ≡ 4) ⊎ (result ≡ 5)) }
     // Where the lines were judged, input has left what stands behind one byte past the limit, and no more.
-    ensures left { result ≤ 1 → S.left input.new ≡ left_behind 67108865 (S.left input.old) }
+    ensures left { asked_by (map string_bytes words.now) ≡ Some farm → result ≤ 1
+        → S.left input.new ≡ left_behind 67108865 (S.left input.old) }
     // A fault of input comes before what its bytes say, and out and errs fail in no status but 5.
-    ensures order { result ≤ 3 → S.faults input.new ≡ S.faults input.old }
-    ensures counts { result ≤ 4 → (K.faults out.new ≡ K.faults out.old) × (E.faults errs.new ≡ E.faults errs.old) }
-    // Without the words of a command it is 2, or 5 where errs failed.
-    ensures no_command { names_farm (map string_bytes words.now) ≡ false → (result ≡ 2) ⊎ (result ≡ 5) }
+    ensures order { result ≢ 4 → result ≢ 5 → S.faults input.new ≡ S.faults input.old }
+    ensures counts { result ≢ 5
+        → (K.faults out.new ≡ K.faults out.old) × (E.faults errs.new ≡ E.faults errs.old) }
+    // Without the words of a command it is 2, or 5 where errs failed; with them it is not 2.
+    ensures no_command { asked_by (map string_bytes words.now) ≡ None → (result ≡ 2) ⊎ (result ≡ 5) }
+    ensures command { (what : Asked) → asked_by (map string_bytes words.now) ≡ Some what → result ≢ 2 }
+    // Where the configuration that the words name has a fault it is 6, without want of memory.
+    ensures configured { IfSome (D.files files.old) (λ told. (what : Asked) (cause : Cause)
+        → asked_by (map string_bytes words.now) ≡ Some what → command_in what told ≡ Err cause
+        → (result ≡ 6) ⊎ (result ≡ 3) ⊎ (result ≡ 5)) }
+    // What serves fails in no status but 7, or 5 where errs failed.
+    ensures served { result ≢ 7 → result ≢ 5 → N.faults serve.new ≡ N.faults serve.old }
 {
-    let done = run_words(alloc, words, input, out);
+    let done = run_words(alloc, words, input, out, files, random, serve);
     report(alloc, done, errs)
 }
 
@@ -237,25 +267,41 @@ fn words_in(alloc: Global, args: Args) -> Result<Vec<String>, AllocError>
 }
 
 /// The command over the words that the system gave, or did not give: a word that is not UTF-8 is told as
-/// words that name no command, and want of memory as that; then neither input nor out is touched.
-pub fn run_command_line<S: Source, K: Sink, E: Sink>(
+/// words that name no command, and want of memory as that; then nothing but errs is touched.
+pub fn run_command_line<S: Source, K: Sink, E: Sink, D: Files, R: Rng, N: Serve>(
     alloc: Global,
     given: io::Result<Args>,
     input: &mut S,
     out: &mut K,
     errs: &mut E,
+    files: &mut D,
+    random: &mut R,
+    serve: &mut N,
 ) -> u8
     // What `dist_main` answers of these words, unless memory ran out before.
     ensures given { IfOk given (λ args. IsAnswered result (record {
       words = map string_bytes (into_iter_items args);
-      input = record { content = S.left input.old; faults = S.faults input.old };
-      input_after = record { content = S.left input.new; faults = S.faults input.new };
-      out = record { content = K.held out.old; faults = K.faults out.old };
-      out_after = record { content = K.held out.new; faults = K.faults out.new };
+      before = record {
+        input = record { content = S.left input.old; faults = S.faults input.old };
+        out = record { content = K.held out.old; faults = K.faults out.old };
+        files = D.files files.old;
+        file_faults = D.faults files.old;
+        random = R.stream random.old;
+        serve = record { calls = N.calls serve.old; faults = N.faults serve.old };
+      };
+      after = record {
+        input = record { content = S.left input.new; faults = S.faults input.new };
+        out = record { content = K.held out.new; faults = K.faults out.new };
+        files = D.files files.new;
+        file_faults = D.faults files.new;
+        random = R.stream random.new;
+        serve = record { calls = N.calls serve.new; faults = N.faults serve.new };
+      };
     })
         (record { content = E.held errs.old; faults = E.faults errs.old })
         (record { content = E.held errs.new; faults = E.faults errs.new })
-        ⊎ ((input.new ≡ input.old) × (out.new ≡ out.old) × IsTold fault.Memory result
+        ⊎ ((input.new ≡ input.old) × (out.new ≡ out.old) × (files.new ≡ files.old)
+        × (random.new ≡ random.old) × (serve.new ≡ serve.old) × IsTold fault.Memory result
         (record { content = E.held errs.old; faults = E.faults errs.old })
         (record { content = E.held errs.new; faults = E.faults errs.new }))) }
     // Where the system gave no words, memory ran out, or a word is not UTF-8.
@@ -265,11 +311,12 @@ pub fn run_command_line<S: Source, K: Sink, E: Sink>(
     ensures usage { IfErr given (λ e. error_kind e ≢ ErrorKind.OutOfMemory → IsTold fault.Usage result
         (record { content = E.held errs.old; faults = E.faults errs.old })
         (record { content = E.held errs.new; faults = E.faults errs.new })) }
-    ensures untouched { OnErr given ((input.new ≡ input.old) × (out.new ≡ out.old)) }
+    ensures untouched { OnErr given ((input.new ≡ input.old) × (out.new ≡ out.old) × (files.new ≡ files.old)
+        × (random.new ≡ random.old) × (serve.new ≡ serve.old)) }
 {
     match given {
         Ok(args) => match words_in(alloc, args) {
-            Ok(words) => dist_main(alloc, &words, input, out, errs),
+            Ok(words) => dist_main(alloc, &words, input, out, errs, files, random, serve),
             Err(_) => report(alloc, Err(FarmFault::Memory), errs),
         },
         Err(error) => report(alloc, Err(words_fault(error.kind())), errs),

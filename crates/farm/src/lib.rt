@@ -7,7 +7,13 @@
 //! are exported again from the crates below.
 #![tactic(auto)]
 
+pub use dist_config::{config, serve, start};
+pub use farm_auth::line;
+pub use farm_config::{files, read};
 pub use farm_run::{entry, print, run};
 pub use farm_script::{event, fault, lines, pieces, script, setup};
+pub use farm_words::{option_words, parse, token_length};
 
 pub mod command;
+mod report;
+mod script_run;

@@ -1,3 +1,4 @@
+pub mod BuildLemmas
 pub mod CallLemmas
 pub mod HexLemmas
 pub mod IdLemmas
@@ -6,11 +7,16 @@ pub mod NextLemmas
 pub mod NumberLemmas
 pub mod OneLemmas
 pub mod OwnLemmas
+pub mod ReportLemmas
 pub mod RowLemmas
 pub mod RunLemmas
 pub mod ServeLemmas
 pub mod ServerLemmas
+pub mod SettleLemmas
 pub mod SoundLemmas
+pub mod StartedLemmas
 pub mod StationLemmas
+pub mod TakenLemmas
+pub mod TextLemmas
 pub mod ThereLemmas
 pub mod WaitLemmas

@@ -1,5 +1,6 @@
 pub mod Answers
 pub mod Begun
+pub mod Builds
 pub mod Calls
 pub mod Effects
 pub mod Farm

@@ -8,6 +8,7 @@
 //! use `Farm::new`, `Farm::run`, `Farm::history` and `print_run`.
 #![tactic(auto)]
 
+pub mod build_laws;
 mod builder;
 mod copies;
 mod desk;

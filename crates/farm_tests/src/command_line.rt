@@ -1,9 +1,12 @@
 //! The command over the words that the system gave, or did not give.
 use crate::first_run::{FIRST_RUN, FIRST_SCRIPT};
 use crate::ran::Ran;
+use command_tests::zeros::Zeros;
+use dist_config::serve::MemServe;
 use dist_types::sink::MemSink;
 use dist_types::source::MemSource;
 use farm::command::run_command_line;
+use farm::files::MemFiles;
 use std::alloc::Global;
 use std::env::Args;
 use std::io::{self, ErrorKind};
@@ -16,7 +19,12 @@ fn ran(alloc: Global, given: io::Result<Args>) -> Result<(Ran, usize), Fail> {
     let mut input = MemSource::new(script, Vec::new(alloc));
     let mut out = MemSink::new(alloc, Vec::new(alloc));
     let mut errs = MemSink::new(alloc, Vec::new(alloc));
-    let status = run_command_line(alloc, given, &mut input, &mut out, &mut errs);
+    let mut files = MemFiles::new(alloc, Vec::new(alloc), Vec::new(alloc));
+    let mut zeros = Zeros;
+    let mut serve = MemServe::new(alloc, Vec::new(alloc));
+    let status = run_command_line(
+        alloc, given, &mut input, &mut out, &mut errs, &mut files, &mut zeros, &mut serve,
+    );
     let rest = dist_types::source::read_up_to(alloc, &mut input, 1_000_000)?;
     let ran = Ran {
         status,

@@ -1,7 +1,10 @@
 //! One call of the command over a source and sinks in memory.
+use command_tests::zeros::Zeros;
+use dist_config::serve::MemServe;
 use dist_types::sink::MemSink;
 use dist_types::source::MemSource;
 use farm::command::dist_main;
+use farm::files::MemFiles;
 use std::alloc::Global;
 use std::process::Abort;
 use std::test::Fail;
@@ -40,7 +43,12 @@ pub fn called(alloc: Global, word: &str, script: Vec<u8>, failing: Failing) -> R
     let mut input = MemSource::new(script, vec![in alloc; failing.read]?);
     let mut out = MemSink::new(alloc, vec![in alloc; failing.write]?);
     let mut errs = MemSink::new(alloc, vec![in alloc; failing.tell]?);
-    let status = dist_main(alloc, &words, &mut input, &mut out, &mut errs);
+    let mut files = MemFiles::new(alloc, Vec::new(alloc), Vec::new(alloc));
+    let mut zeros = Zeros;
+    let mut serve = MemServe::new(alloc, Vec::new(alloc));
+    let status = dist_main(
+        alloc, &words, &mut input, &mut out, &mut errs, &mut files, &mut zeros, &mut serve,
+    );
     Ok(Ran {
         status,
         out: Vec::from_slice(alloc, out.bytes())?,

@@ -65,15 +65,21 @@ digit_plain : (b : ℕ) → is_ascii_digit b ≡ true → is_plain_byte b ≡ tr
 digit_plain b h = grind (arith, nat_tests)
 
 number_plain : (n : ℕ) → n < 2 ^ 64 → IsPlain (decimal n)
-number_plain n fits = (decimal_nonempty n fits, weaker is_ascii_digit is_plain_byte digit_plain (decimal n) (digits_decimal digits n fits))
+number_plain n fits = (
+  decimal_nonempty n fits,
+  weaker is_ascii_digit is_plain_byte digit_plain (decimal n)
+      (digits_decimal digits n fits),
+)
 
 pub state_path : (n : ℕ) → n < 2 ^ 64 → IsAbsolutePath (codes "/api/v1/scheduler/job_state/" ++ decimal n)
 state_path n fits = record {
   first = codes "api";
   others = codes "v1" ∷ codes "scheduler" ∷ codes "job_state" ∷ decimal n ∷ [];
   some = lit< tt;
-  each = plain_segments (codes "api" ∷ codes "v1" ∷ codes "scheduler" ∷ codes "job_state" ∷ decimal n ∷ [])
-      ((lit< tt, refl), ((lit< tt, refl), ((lit< tt, refl), ((lit< tt, refl), (number_plain n fits, record {})))));
+  each = plain_segments (codes "api" ∷ codes "v1" ∷ codes "scheduler" ∷ codes "job_state" ∷ decimal n ∷ []) (
+    (lit< tt, refl),
+    ((lit< tt, refl), ((lit< tt, refl), ((lit< tt, refl), (number_plain n fits, record {})))),
+  );
   joined = ap (λ (t : List ℕ). codes "/api/v1/scheduler/job_state/" ++ t) (sym (append-nil (decimal n)));
 }
 
@@ -82,19 +88,26 @@ assign_path n fits = record {
   first = codes "api";
   others = codes "v1" ∷ codes "distserver" ∷ codes "assign_job" ∷ decimal n ∷ [];
   some = lit< tt;
-  each = plain_segments (codes "api" ∷ codes "v1" ∷ codes "distserver" ∷ codes "assign_job" ∷ decimal n ∷ [])
-      ((lit< tt, refl), ((lit< tt, refl), ((lit< tt, refl), ((lit< tt, refl), (number_plain n fits, record {})))));
+  each = plain_segments (codes "api" ∷ codes "v1" ∷ codes "distserver" ∷ codes "assign_job" ∷ decimal n ∷ []) (
+    (lit< tt, refl),
+    ((lit< tt, refl), ((lit< tt, refl), ((lit< tt, refl), (number_plain n fits, record {})))),
+  );
   joined = ap (λ (t : List ℕ). codes "/api/v1/distserver/assign_job/" ++ t) (sym (append-nil (decimal n)));
 }
 
-pub submit_path : (n : ℕ) → n < 2 ^ 64 → IsAbsolutePath (codes "/api/v1/distserver/submit_toolchain/" ++ decimal n)
+pub submit_path : (n : ℕ) → n < 2 ^ 64
+    → IsAbsolutePath (codes "/api/v1/distserver/submit_toolchain/" ++ decimal n)
 submit_path n fits = record {
   first = codes "api";
   others = codes "v1" ∷ codes "distserver" ∷ codes "submit_toolchain" ∷ decimal n ∷ [];
   some = lit< tt;
-  each = plain_segments (codes "api" ∷ codes "v1" ∷ codes "distserver" ∷ codes "submit_toolchain" ∷ decimal n ∷ [])
-      ((lit< tt, refl), ((lit< tt, refl), ((lit< tt, refl), ((lit< tt, refl), (number_plain n fits, record {})))));
-  joined = ap (λ (t : List ℕ). codes "/api/v1/distserver/submit_toolchain/" ++ t) (sym (append-nil (decimal n)));
+  each = plain_segments (codes "api" ∷ codes "v1" ∷ codes "distserver" ∷ codes "submit_toolchain" ∷ decimal n
+      ∷ []) (
+        (lit< tt, refl),
+        ((lit< tt, refl), ((lit< tt, refl), ((lit< tt, refl), (number_plain n fits, record {})))),
+      );
+  joined =
+      ap (λ (t : List ℕ). codes "/api/v1/distserver/submit_toolchain/" ++ t) (sym (append-nil (decimal n)));
 }
 
 pub run_path : (n : ℕ) → n < 2 ^ 64 → IsAbsolutePath (codes "/api/v1/distserver/run_job/" ++ decimal n)
@@ -102,50 +115,89 @@ run_path n fits = record {
   first = codes "api";
   others = codes "v1" ∷ codes "distserver" ∷ codes "run_job" ∷ decimal n ∷ [];
   some = lit< tt;
-  each = plain_segments (codes "api" ∷ codes "v1" ∷ codes "distserver" ∷ codes "run_job" ∷ decimal n ∷ [])
-      ((lit< tt, refl), ((lit< tt, refl), ((lit< tt, refl), ((lit< tt, refl), (number_plain n fits, record {})))));
+  each = plain_segments (codes "api" ∷ codes "v1" ∷ codes "distserver" ∷ codes "run_job" ∷ decimal n ∷ []) (
+    (lit< tt, refl),
+    ((lit< tt, refl), ((lit< tt, refl), ((lit< tt, refl), (number_plain n fits, record {})))),
+  );
   joined = ap (λ (t : List ℕ). codes "/api/v1/distserver/run_job/" ++ t) (sym (append-nil (decimal n)));
 }
 
 -- ---- to the scheduler
 
 module _ (base : Parts) (valid : IsValid base) (http : IsHttp base) where
-  pub alloc_asks : (token tc : List ℕ) → SpellsToolchain tc (bytes_text tc) → IsToken token → IsWithinLimits (alloc_request base token tc)
+  pub alloc_asks : (token tc : List ℕ) → SpellsToolchain tc (bytes_text tc) → IsToken token
+      → IsWithinLimits (alloc_request base token tc)
       → (lets : List ℕ → Admission) (serves : List ℕ → Option Addr) (peer : Addr) → lets token ≡ Admitted
-      → IsAskedUnder lets serves (request_text (alloc_request base token tc)) peer (record { what = Alloc tc; json = false })
+      → IsAskedUnder lets serves (request_text (alloc_request base token tc)) peer
+      (record { what = Alloc tc; json = false })
   alloc_asks token tc spelled carried limits lets serves peer admitted =
-      allocations_read_back lets serves peer (host_of base) token tc record { visible = (clean base valid http).host; carried = carried; limits = limits } spelled admitted
+      allocations_read_back lets serves peer (host_of base) token tc record {
+        visible =
+            (clean base valid http).host;
+        carried = carried;
+        limits = limits;
+      } spelled admitted
 
   pub status_asks : IsWithinLimits (status_request base)
       → (lets : List ℕ → Admission) (serves : List ℕ → Option Addr) (peer : Addr)
-      → IsAskedUnder lets serves (request_text (status_request base)) peer (record { what = Status; json = false })
-  status_asks limits lets serves peer = statuses_read_back lets serves peer (host_of base) (clean base valid http).host limits
+      → IsAskedUnder lets serves (request_text (status_request base)) peer
+      (record { what = Status; json = false })
+  status_asks limits lets serves peer =
+      statuses_read_back lets serves peer (host_of base) (clean base valid http).host limits
 
-  pub state_asks : (token : List ℕ) (job : JobId) (state : JobState) → job.0 < 2 ^ 64 → IsToken token → IsWithinLimits (state_request base token job state)
-      → (lets : List ℕ → Admission) (serves : List ℕ → Option Addr) (peer server : Addr) → serves token ≡ Some server → ip_of peer ≡ ip_of server
-      → IsAskedUnder lets serves (request_text (state_request base token job state)) peer (record { what = Update server job state; json = false })
+  pub state_asks : (token : List ℕ) (job : JobId) (state : JobState) → job.0 < 2 ^ 64 → IsToken token
+      → IsWithinLimits (state_request base token job state)
+      → (lets : List ℕ → Admission) (serves : List ℕ → Option Addr) (peer server : Addr)
+      → serves token ≡ Some server → ip_of peer ≡ ip_of server
+      → IsAskedUnder lets serves (request_text (state_request base token job state)) peer
+      (record { what = Update server job state; json = false })
   state_asks token job state fits carried limits lets serves peer server own ip =
-      states_read_back lets serves peer (host_of base) token job state server record { visible = (clean base valid http).host; carried = carried; limits = limits } fits own ip
+      states_read_back lets serves peer (host_of base) token job state server record {
+        visible =
+            (clean base valid http).host;
+        carried = carried;
+        limits = limits;
+      } fits own ip
 
-  pub heartbeat_asks : (token : List ℕ) (beat : HeartbeatServerHttpRequest) → SpellsHeartbeat beat (heartbeat_text beat) → IsToken token
+  pub heartbeat_asks : (token : List ℕ) (beat : HeartbeatServerHttpRequest)
+      → SpellsHeartbeat beat (heartbeat_text beat) → IsToken token
       → IsWithinLimits (heartbeat_request base token beat)
-      → (lets : List ℕ → Admission) (serves : List ℕ → Option Addr) (peer server : Addr) → serves token ≡ Some server → ip_of peer ≡ ip_of server
-      → IsAskedUnder lets serves (request_text (heartbeat_request base token beat)) peer (record { what = Beat server beat; json = false })
+      → (lets : List ℕ → Admission) (serves : List ℕ → Option Addr) (peer server : Addr)
+      → serves token ≡ Some server → ip_of peer ≡ ip_of server
+      → IsAskedUnder lets serves (request_text (heartbeat_request base token beat)) peer
+      (record { what = Beat server beat; json = false })
   heartbeat_asks token beat spelled carried limits lets serves peer server own ip =
-      heartbeats_read_back lets serves peer (host_of base) token beat server record { visible = (clean base valid http).host; carried = carried; limits = limits } spelled own ip
+      heartbeats_read_back lets serves peer (host_of base) token beat server record {
+        visible =
+            (clean base valid http).host;
+        carried = carried;
+        limits = limits;
+      } spelled own ip
 
 -- ---- to a server
 
 module _ (server : Addr) (is : IsAddr server) (token : List ℕ) (job : JobId) (fits : job.0 < 2 ^ 64) where
-  pub submit_asks : (archive : List ℕ) → IsToken token → IsWithinLimits (submit_with (addr_text server) token job archive)
+  pub submit_asks : (archive : List ℕ) → IsToken token
+      → IsWithinLimits (submit_with (addr_text server) token job archive)
       → (verdict : ℕ → List ℕ → Result ⊤ TokenError) → verdict job.0 token ≡ Ok tt
       → AsksSubmit verdict (request_text (submit_with (addr_text server) token job archive)) job archive
   submit_asks archive carried limits verdict own =
-      submissions_read_back verdict (addr_text server) token archive job record { visible = addr_visible server is; carried = carried; limits = limits } fits own
+      submissions_read_back verdict (addr_text server) token archive job record {
+        visible =
+            addr_visible server is;
+        carried = carried;
+        limits = limits;
+      } fits own
 
-  pub run_asks : (run : RunJobHttpRequest) (inputs : List ℕ) → SpellsRun run (run_text run) → length (run_text run) < 2 ^ 32
+  pub run_asks : (run : RunJobHttpRequest) (inputs : List ℕ) → SpellsRun run (run_text run)
+      → length (run_text run) < 2 ^ 32
       → IsToken token → IsWithinLimits (run_with (addr_text server) token job run inputs)
       → (verdict : ℕ → List ℕ → Result ⊤ TokenError) → verdict job.0 token ≡ Ok tt
       → AsksRun verdict (request_text (run_with (addr_text server) token job run inputs)) job run inputs
   run_asks run inputs spelled low carried limits verdict own =
-      runs_read_back verdict (addr_text server) token inputs job run record { visible = addr_visible server is; carried = carried; limits = limits } fits spelled low own
+      runs_read_back verdict (addr_text server) token inputs job run record {
+        visible =
+            addr_visible server is;
+        carried = carried;
+        limits = limits;
+      } fits spelled low own

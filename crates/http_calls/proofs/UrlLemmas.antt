@@ -42,24 +42,35 @@ host_byte_visible : (b : ℕ) → IsHostByte b → IsSeen b
 host_byte_visible b h = let above = h.above in let below = h.below in grind (arith, nat_tests)
 
 decimal_seen : (n : ℕ) → n < 2 ^ 64 → All IsSeen (decimal n)
-decimal_seen n fits = all_pass is_visible (decimal n) (weaker is_ascii_digit is_visible digit_visible (decimal n) (digits_decimal digits n fits))
+decimal_seen n fits =
+    all_pass is_visible (decimal n)
+    (weaker is_ascii_digit is_visible digit_visible (decimal n) (digits_decimal digits n fits))
 
 -- ---- the target
 
-query_seen : (query : Option (List ℕ)) → IfSome query (All (IsKept SPECIAL_QUERY)) → All IsSeen (query_text query)
+query_seen : (query : Option (List ℕ)) → IfSome query (All (IsKept SPECIAL_QUERY))
+    → All IsSeen (query_text query)
 query_seen None h = All-nil IsSeen
-query_seen (Some q) h = All-cons IsSeen 63 q refl (All-weaker (IsKept SPECIAL_QUERY) IsSeen (passes_from_kept SPECIAL_QUERY is_visible refl) q h)
+query_seen (Some q) h =
+    All-cons IsSeen 63 q refl
+    (All-weaker (IsKept SPECIAL_QUERY) IsSeen (passes_from_kept SPECIAL_QUERY is_visible refl) q h)
 
-query_is_text : (query : Option (List ℕ)) → IfSome query (All (IsKept SPECIAL_QUERY)) → IsUtf8 (query_text query)
+query_is_text : (query : Option (List ℕ)) → IfSome query (All (IsKept SPECIAL_QUERY))
+    → IsUtf8 (query_text query)
 query_is_text None h = ascii_text [] refl
-query_is_text (Some q) h = IsUtf8-append (63 ∷ []) q (ascii_text (63 ∷ []) refl) (IsUtf8-from_ascii q (IsAscii_from_kept SPECIAL_QUERY q h))
+query_is_text (Some q) h =
+    IsUtf8-append (63 ∷ []) q (ascii_text (63 ∷ []) refl)
+    (IsUtf8-from_ascii q (IsAscii_from_kept SPECIAL_QUERY q h))
 
-own_query : (url : Parts) → IsValid url → kind_of url ≡ SpecialNotFile → IfSome url.query (All (IsKept SPECIAL_QUERY))
-own_query url valid kind = subst (λ (k : SchemeType). IfSome url.query (All (IsKept (query_set k)))) kind valid.query
+own_query : (url : Parts) → IsValid url → kind_of url ≡ SpecialNotFile
+    → IfSome url.query (All (IsKept SPECIAL_QUERY))
+own_query url valid kind =
+    subst (λ (k : SchemeType). IfSome url.query (All (IsKept (query_set k)))) kind valid.query
 
 -- ---- the host
 
-port_seen : (scheme : List ℕ) (port : Option ℕ) → IsPortOf scheme port → All IsSeen (decimal (unwrap_or port 80))
+port_seen : (scheme : List ℕ) (port : Option ℕ) → IsPortOf scheme port
+    → All IsSeen (decimal (unwrap_or port 80))
 port_seen scheme None h = decimal_seen 80 (omega arith)
 port_seen scheme (Some n) h = decimal_seen n (omega (arith, h.0))
 
@@ -73,15 +84,21 @@ clean url valid http =
     let query = own_query url valid kind in
     let nonempty = path.1 special in
     let total = length-append url.path (query_text url.query) in
-    let host = All-weaker IsHostByte IsSeen host_byte_visible (host_text (host_or_empty url)) (host_text_plain (kind_of url) (host_or_empty url) (own_host url valid.head authority)) in
+    let host =
+    All-weaker IsHostByte IsSeen host_byte_visible (host_text (host_or_empty url))
+    (host_text_plain (kind_of url) (host_or_empty url) (own_host url valid.head authority)) in
     record {
       some = omega arith;
-      text = IsUtf8-append url.path (query_text url.query) (IsUtf8-from_ascii url.path (IsAscii_from_kept PATH url.path kept)) (query_is_text url.query query);
+      text = IsUtf8-append url.path (query_text url.query)
+          (IsUtf8-from_ascii url.path (IsAscii_from_kept PATH url.path kept)) (query_is_text url.query query);
       target = list_all_from_All is_visible (target_of url)
-          (All-append IsSeen url.path (query_text url.query) (All-weaker (IsKept PATH) IsSeen (passes_from_kept PATH is_visible refl) url.path kept) (query_seen url.query query));
+          (All-append IsSeen url.path (query_text url.query)
+          (All-weaker (IsKept PATH) IsSeen (passes_from_kept PATH is_visible refl) url.path kept)
+          (query_seen url.query query));
       host = list_all_from_All is_visible (host_of url)
           (All-append IsSeen (host_text (host_or_empty url)) (58 ∷ decimal (unwrap_or url.port 80)) host
-          (All-cons IsSeen 58 (decimal (unwrap_or url.port 80)) refl (port_seen url.scheme url.port valid.head.port)));
+          (All-cons IsSeen 58 (decimal (unwrap_or url.port 80)) refl
+          (port_seen url.scheme url.port valid.head.port)));
     }
 
 -- the URL with another path names that path as its target

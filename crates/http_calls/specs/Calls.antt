@@ -13,7 +13,8 @@ use Rattle.http_calls.specs.declared.error.CallError.{CallError}
 use Rattle.http_calls.specs.declared.error.CallError.TheVariants.{BadBase, Memory}
 use Rattle.http_calls.specs.Urls.{IsHttp, host_of}
 
--- why a call to the scheduler at a base is not begun: the base is no `http` URL; or it is one, and memory ran out
+-- why a call to the scheduler at a base is not begun: the base is no `http` URL; or it is one, and memory ran
+-- out
 abbrev pub RefusesBase : Parts → CallError → Type 0
 RefusesBase base e = ((e ≡ BadBase) × ¬ (IsHttp base)) ⊎ ((e ≡ Memory) × IsHttp base)
 

@@ -7,7 +7,8 @@ use Rattle.http_routes.specs.Calls.{Tells}
 use Rattle.http_calls.specs.declared.error.CallError.{CallError}
 use Rattle.http_calls.specs.declared.error.CallError.TheVariants.{ParseError, Status, LinkFault, Memory}
 
--- why the bytes of a reply give no answer: they are none, or hold no message, or tell another status; want of memory says nothing of them
+-- why the bytes of a reply give no answer: they are none, or hold no message, or tell another status; want of
+-- memory says nothing of them
 abbrev pub ReplyRefused : {M : Type 0} → (List ℕ → Option (M × List ℕ)) → List ℕ → CallError → Type 0
 ReplyRefused {M} at bytes ParseError = Tells {M = M} at bytes (Err http.ParseError)
 ReplyRefused {M} at bytes (Status code body) = Tells {M = M} at bytes (Err (http.Status code body))
@@ -15,6 +16,7 @@ ReplyRefused at bytes Memory = Unit {0}
 ReplyRefused at bytes other = ⊥
 
 -- a call goes on: its answer is what the reply says, or LinkFault where none came
-abbrev pub Resumes : {M : Type 0} → (List ℕ → Option (M × List ℕ)) → Result (Bor (List ℕ)) Failed → Result M CallError → Type 0
+abbrev pub Resumes : {M : Type 0} → (List ℕ → Option (M × List ℕ)) → Result (Bor (List ℕ)) Failed
+    → Result M CallError → Type 0
 Resumes at (Ok bytes) answer = MatchResult answer (λ m. Tells at bytes.now (Ok m)) (ReplyRefused at bytes.now)
 Resumes at (Err failed) answer = answer ≡ Err LinkFault

@@ -12,7 +12,8 @@ use Rattle.url.specs.Path.{IsSegment, join_segments}
 abbrev pub IsHttp : Parts → Type 0
 IsHttp url = url.scheme ≡ codes "http"
 
--- a path of segments, each behind a slash, of which the first is not empty, so that it does not read as a host
+-- a path of segments, each behind a slash, of which the first is not empty, so that it does not read as a
+-- host
 pub record IsAbsolutePath (path : List ℕ) : Type 0 where
   pub first : List ℕ
   pub others : List (List ℕ)

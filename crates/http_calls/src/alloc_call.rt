@@ -48,8 +48,10 @@ impl AllocCall {
         tc: &Toolchain,
     ) -> Result<AllocCall, CallError>
         ensures text { IfOk result (λ call. call ≡ request_text (alloc_request base.now token.now tc.now)) }
-        ensures asks { IfOk result (λ call. IsToken token.now → IsWithinLimits (alloc_request base.now token.now tc.now)
-            → (lets : List ℕ → Admission) (serves : List ℕ → Option Addr) (peer : Addr) → lets token.now ≡ Admitted
+        ensures asks { IfOk result (λ call. IsToken token.now
+            → IsWithinLimits (alloc_request base.now token.now tc.now)
+            → (lets : List ℕ → Admission) (serves : List ℕ → Option Addr) (peer : Addr)
+            → lets token.now ≡ Admitted
             → IsAskedUnder lets serves call peer (record { what = Alloc tc.now; json = false })) }
         ensures err { IfErr result (RefusesBase base.now) }
     {

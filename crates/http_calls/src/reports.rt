@@ -29,7 +29,8 @@ pub fn state_report(
     state: JobState,
 ) -> Result<Bytes, CallError>
     ensures text { IfOk result (λ bytes. bytes ≡ request_text (state_request base.now token.now job state)) }
-    ensures asks { IfOk result (λ bytes. IsToken token.now → IsWithinLimits (state_request base.now token.now job state)
+    ensures asks { IfOk result (λ bytes. IsToken token.now
+        → IsWithinLimits (state_request base.now token.now job state)
         → (lets : List ℕ → Admission) (serves : List ℕ → Option Addr) (peer server : Addr)
         → serves token.now ≡ Some server → ip_of peer ≡ ip_of server
         → IsAskedUnder lets serves bytes peer (record { what = Update server job state; json = false })) }
@@ -49,7 +50,8 @@ pub fn heartbeat(
     beat: &HeartbeatServerHttpRequest,
 ) -> Result<Bytes, CallError>
     ensures text { IfOk result (λ bytes. bytes ≡ request_text (heartbeat_request base.now token.now beat.now)) }
-    ensures asks { IfOk result (λ bytes. IsToken token.now → IsWithinLimits (heartbeat_request base.now token.now beat.now)
+    ensures asks { IfOk result (λ bytes. IsToken token.now
+        → IsWithinLimits (heartbeat_request base.now token.now beat.now)
         → (lets : List ℕ → Admission) (serves : List ℕ → Option Addr) (peer server : Addr)
         → serves token.now ≡ Some server → ip_of peer ≡ ip_of server
         → IsAskedUnder lets serves bytes peer (record { what = Beat server beat.now; json = false })) }

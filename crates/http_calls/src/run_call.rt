@@ -56,10 +56,13 @@ impl RunCall {
         outputs: Vec<String>,
         inputs: &[u8],
     ) -> Result<RunCall, CallError>
-        ensures text { let run : RunJobHttpRequest = record { command = command; outputs = map string_bytes outputs.items } in
+        ensures text { let run : RunJobHttpRequest =
+            record { command = command; outputs = map string_bytes outputs.items } in
             IfOk result (λ call. call ≡ request_text (written.run_request job.now run inputs.now)) }
-        ensures asks { let run : RunJobHttpRequest = record { command = command; outputs = map string_bytes outputs.items } in
-            IfOk result (λ call. IsToken job.now.auth → IsWithinLimits (written.run_request job.now run inputs.now)
+        ensures asks { let run : RunJobHttpRequest =
+            record { command = command; outputs = map string_bytes outputs.items } in
+            IfOk result (λ call. IsToken job.now.auth
+            → IsWithinLimits (written.run_request job.now run inputs.now)
             → (verdict : ℕ → List ℕ → Result ⊤ TokenError) → verdict job.now.job_id.0 job.now.auth ≡ Ok tt
             → AsksRun verdict call job.now.job_id run inputs.now) }
         ensures err { IfErr result (λ e. (e ≡ CallError.Memory) ⊎ ((e ≡ CallError.HeadTooLong)

@@ -67,7 +67,8 @@ fn submit_text(
     job: JobId,
     archive: &[u8],
 ) -> Result<Bytes, CallError>
-    ensures text { IfOk result (λ bytes. bytes ≡ request_text (submit_with (addr_text server) token.now job archive.now)) }
+    ensures text { IfOk result (λ bytes. bytes
+        ≡ request_text (submit_with (addr_text server) token.now job archive.now)) }
     ensures err { IfErr result (λ e. e ≡ CallError.Memory) }
 {
     let target = format!(in alloc; "/api/v1/distserver/submit_toolchain/{job}")?;
@@ -87,7 +88,8 @@ pub(crate) fn submit_request(
     job: JobId,
     archive: &[u8],
 ) -> Result<Bytes, CallError>
-    ensures text { IfOk result (λ bytes. bytes ≡ request_text (submit_with (addr_text server) token.now job archive.now)) }
+    ensures text { IfOk result (λ bytes. bytes
+        ≡ request_text (submit_with (addr_text server) token.now job archive.now)) }
     ensures asks { IfOk result (λ bytes. IsToken token.now
         → IsWithinLimits (submit_with (addr_text server) token.now job archive.now)
         → (verdict : ℕ → List ℕ → Result ⊤ TokenError) → verdict job.0 token.now ≡ Ok tt
@@ -132,7 +134,8 @@ fn run_text(
     run: &RunJobHttpRequest,
     inputs: &[u8],
 ) -> Result<Bytes, CallError>
-    ensures text { IfOk result (λ bytes. bytes ≡ request_text (run_with (addr_text server) token.now job run.now inputs.now)) }
+    ensures text { IfOk result (λ bytes. bytes
+        ≡ request_text (run_with (addr_text server) token.now job run.now inputs.now)) }
     ensures low { OnOk result (length (spelling.run_text run.now) < 2 ^ 32) }
     ensures spelled { OnOk result (SpellsRun run.now (spelling.run_text run.now)) }
     ensures err { IfErr result (λ e. (e ≡ CallError.Memory)
@@ -156,7 +159,8 @@ pub(crate) fn run_request(
     run: &RunJobHttpRequest,
     inputs: &[u8],
 ) -> Result<Bytes, CallError>
-    ensures text { IfOk result (λ bytes. bytes ≡ request_text (run_with (addr_text server) token.now job run.now inputs.now)) }
+    ensures text { IfOk result (λ bytes. bytes
+        ≡ request_text (run_with (addr_text server) token.now job run.now inputs.now)) }
     ensures asks { IfOk result (λ bytes. IsToken token.now
         → IsWithinLimits (run_with (addr_text server) token.now job run.now inputs.now)
         → (verdict : ℕ → List ℕ → Result ⊤ TokenError) → verdict job.0 token.now ≡ Ok tt

@@ -35,7 +35,8 @@ fn port_of(addr: Addr) -> u16
 /// A URL of some host.
 #[tactic(auto, using(crate::proofs::ServerLemmas::started))]
 fn somewhere(alloc: Global) -> Result<Url, CallError>
-    ensures ok { IfOk result (λ url. url ≡ http_url (Ipv4 (record { octets = 0 ∷ 0 ∷ 0 ∷ 0 ∷ [] })) None (codes "/")) }
+    ensures ok { IfOk result (λ url. url
+        ≡ http_url (Ipv4 (record { octets = 0 ∷ 0 ∷ 0 ∷ 0 ∷ [] })) None (codes "/")) }
     ensures err { IfErr result (λ e. e ≡ CallError.Memory) }
 {
     match Url::parse(alloc, "http://0.0.0.0/") {

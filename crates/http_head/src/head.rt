@@ -19,7 +19,7 @@ pub const MAX_HEAD_BYTES: usize = 65536;
 
 /// Parses the request's head that begins the bytes, within the limits: how many bytes it has. None exactly
 /// where none begins them.
-fn parse_head<'b>(head: &mut httparse::Request<'_, 'b>, bytes: &'b [u8]) -> Option<usize>
+pub(crate) fn parse_head<'b>(head: &mut httparse::Request<'_, 'b>, bytes: &'b [u8]) -> Option<usize>
     requires { length head.now.headers.now ≡ 100 }
     ensures { FindsHead bytes.now head.new result }
 {
@@ -53,7 +53,10 @@ fn parse_reply_head<'b>(head: &mut httparse::Response<'_, 'b>, bytes: &'b [u8]) 
     Some(len)
 }
 
-fn copy_headers(alloc: Global, headers: &[Header<'_>]) -> Result<Items<(Text, Bytes)>, AllocError>
+pub(crate) fn copy_headers(
+    alloc: Global,
+    headers: &[Header<'_>],
+) -> Result<Items<(Text, Bytes)>, AllocError>
     ensures { IfOk result (λ h. h ≡ map header_parts headers.now) }
 {
     let mut copies = Vec::with_capacity(alloc, headers.len())?;

@@ -1,9 +1,11 @@
 //! Tests of requests and replies: heads by their rule, what each route asks and refuses, replies and faults to the
-//! byte, and what the reply to a call says.
+//! byte, what a client's calls write, and what the reply to a call says.
 #![tactic(auto)]
 
 #[cfg(test)]
 mod calls;
+#[cfg(test)]
+mod client_calls;
 #[cfg(test)]
 mod heads;
 #[cfg(test)]
@@ -12,3 +14,9 @@ mod refusals;
 mod replies;
 #[cfg(test)]
 mod routes;
+#[cfg(test)]
+mod server_refusals;
+#[cfg(test)]
+mod server_routes;
+#[cfg(test)]
+mod urls;

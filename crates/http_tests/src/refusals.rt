@@ -1,8 +1,8 @@
 //! What each refusal of a request is told, one at a time.
+use dist_types::addr::Addr;
 use http_routes::asked::asked;
 use http_routes::error::HttpError;
 use http_routes::route::SchedRouted;
-use dist_types::addr::Addr;
 use std::alloc::{AllocError, Global};
 use std::process::Abort;
 use std::test::Fail;

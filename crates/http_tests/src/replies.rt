@@ -1,14 +1,14 @@
 //! The bytes of replies.
-use http_routes::err_json::ErrJson;
-use http_routes::fault::{RouteFault, dropped_text, fault_response, no_room_text};
-use http_routes::head::{read_head, read_reply_head};
-use http_routes::refusal::RouilleBincodeError;
-use http_routes::reply::{Response, Word, bincode_response, prepare_response, respond};
 use dist_types::addr::Addr;
 use dist_types::ids::{JobId, ServerId};
 use dist_types::outgoing::CallFault;
 use dist_types::results::{HeartbeatServerResult, JobState, SchedulerStatusResult};
 use dist_types::text::Text;
+use http_routes::err_json::ErrJson;
+use http_routes::fault::{RouteFault, dropped_text, fault_response, no_room_text};
+use http_routes::head::{read_head, read_reply_head};
+use http_routes::refusal::RouilleBincodeError;
+use http_routes::reply::{Response, Word, bincode_response, prepare_response, respond};
 use sched_core::answers::Undone;
 use std::alloc::Global;
 use std::process::Abort;

@@ -1,8 +1,8 @@
 //! What requests in order ask.
-use http_routes::asked::asked;
-use http_routes::route::{Asked, SchedRouted};
 use dist_types::addr::Addr;
 use dist_types::results::JobState;
+use http_routes::asked::asked;
+use http_routes::route::{Asked, SchedRouted};
 use std::alloc::Global;
 use std::process::Abort;
 use std::test::Fail;

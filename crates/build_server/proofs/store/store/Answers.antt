@@ -1,6 +1,4 @@
-use Rattle.std.proofs.Common.{◌≡◌, refl, sym, ◌∙◌, ap, subst, ◌-◌, ◌≤◌, length, arith, List, ℕ}
-use Rattle.disk_cache.specs.Disk.{dropped}
-use Rattle.build_server.specs.Books.{ids}
+use Rattle.std.proofs.Common.{refl, ◌∙◌, ◌-◌, ◌≤◌, length, arith}
 use Rattle.build_server.proofs.StoreLemmas.{store_refused, store_shorter, store_made}
 use Rattle.build_server.proofs.store.store.Goals as goal
 

@@ -2,6 +2,9 @@ use Rattle.std.proofs.Common.{ap, sym, ◌∙◌}
 use Rattle.disk_cache.specs.Files.{front}
 use Rattle.disk_cache.specs.Entries.{Listed, trim}
 use Rattle.disk_cache.proofs.Opens.{opens, opens_stands, opens_in_step, opens_cleared, from_empty, keys_from_empty, kept_from_empty, room_in_empty}
+use Rattle.disk_cache.specs.Held.{Never}
+use Rattle.disk_cache.proofs.CallLemmas.{left_same}
+use Rattle.disk_cache.proofs.Exactly.{removed_twice}
 use Rattle.disk_cache.proofs.opening.open.Goals as goal
 
 pub list_all-requires : goal.list_all-requires
@@ -38,3 +41,7 @@ returns-clause-cleared g c =
     let empty = ap (λ (t : Listed). t.entries) c.in-Ok.ensures in
     let list = from_empty c.in-Ok.table.entries c.in_ok-rest.rest.now c.list_all.new.table.entries empty c.in-Ok-list_all.ensures.list in
     opens_cleared c.args.root.now c.in_ok-rest.rest.now c.list_all.new.table.entries (g.F.Folder.held c.drop_old.new.folder) list c.in_ok-rest.ensures.shows
+
+pub returns-clause-removed : goal.returns-clause-removed
+returns-clause-removed g c =
+    removed_twice (g.F.Folder.held c.args.folder.now).files (g.F.Folder.held c.list.new.self).files (g.F.Folder.held c.sort_out.new.folder).files (g.F.Folder.held c.drop_old.new.folder).files (left_same Never c.list.result (g.F.Folder.held c.args.folder.now) (g.F.Folder.held c.list.new.self) c.list.ensures.leaves) c.in_ok-sort_out.ensures.removed c.in_ok-rest.ensures.removed

@@ -3,7 +3,6 @@ use Rattle.disk_cache.specs.Held.{Became}
 use Rattle.disk_cache.specs.Disk.{Stands}
 use Rattle.disk_cache.specs.Entries.{Listed}
 use Rattle.disk_cache.proofs.Renames.{renamed, Carried}
-use Rattle.disk_cache.proofs.Standing.{none_lost}
 use Rattle.disk_cache.proofs.Trims.{undone}
 use Rattle.disk_cache.proofs.steps.place.Goals as goal
 

@@ -1,6 +1,5 @@
-use Rattle.std.proofs.Common.{length, sym, ap, subst, ◌∙◌, Some}
+use Rattle.std.proofs.Common.{length, sym, ap, ◌∙◌, Some}
 use Rattle.disk_cache.proofs.Fills.{temp_apart, temp_avoided, keeps_temp, stands_kept, under_temp, under_both, kept_behind, left_behind, content_written, on_err}
-use Rattle.disk_cache.specs.Entries.{Listed}
 use Rattle.std.specs.Option.{option_map}
 use Rattle.disk_cache.proofs.steps.store.Goals as goal
 

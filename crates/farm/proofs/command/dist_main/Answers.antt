@@ -1,4 +1,4 @@
-use Rattle.farm.proofs.CommandLemmas.{answered, statuses_of, faulty_of, faultless_of, left_of, order_of, counts_of, no_command_of}
+use Rattle.farm.proofs.AnswerLemmas.{answered, statuses_of, faulty_of, faultless_of, left_of, order_of, counts_of, no_command_of, command_of, configured_of, served_of}
 use Rattle.farm.proofs.command.dist_main.Goals as goal
 
 -- what was done, reported
@@ -28,3 +28,12 @@ returns-clause-counts g c = counts_of c.report.result _ _ _ (told g c)
 
 pub returns-clause-no_command : goal.returns-clause-no_command
 returns-clause-no_command g c = no_command_of c.report.result _ _ _ (told g c)
+
+pub returns-clause-command : goal.returns-clause-command
+returns-clause-command g c = command_of c.report.result _ _ _ (told g c)
+
+pub returns-clause-configured : goal.returns-clause-configured
+returns-clause-configured g c = configured_of c.report.result _ _ _ (told g c)
+
+pub returns-clause-served : goal.returns-clause-served
+returns-clause-served g c = served_of c.report.result _ _ _ (told g c)

@@ -1,38 +1,6 @@
-use Rattle.std.proofs.Common.{◌≡◌, true, map, string_bytes, refl, rules}
-use Rattle.farm.specs.Command.{names_farm}
-use Rattle.farm.proofs.CommandLemmas.{no_run, text_added, text_began}
+use Rattle.farm.proofs.DoneLemmas.{carried_out_at, done_parsed}
 use Rattle.farm.proofs.command.run_words.Goals as goal
 
-pub returns-in-Err-run_of : goal.returns-in-Err-run_of
-returns-in-Err-run_of g c =
-    let named : names_farm (map string_bytes c.args.words.now) ≡ true = search rules in
-    record {
-      done = no_run c.in-Err-run_of.fault _ c.in-Ok.bytes.items named (c.in-Ok.ensures.left, c.in-Ok.ensures.steady) refl c.in-Ok.ensures.ok
-          (rw c.deref.ensures.value at c.in-Err-run_of.ensures.err);
-    }
-
-pub returns-in-Ok-write_all : goal.returns-in-Ok-write_all
-returns-in-Ok-write_all g c =
-    let named : names_farm (map string_bytes c.args.words.now) ≡ true = search rules in
-    record {
-      done = (
-        named,
-        (c.in-Ok.ensures.left, c.in-Ok.ensures.steady),
-        c.in-Ok-write_all.ensures.steady,
-        text_added (g.S.Source.left c.args.input.now) c.in-Ok.bytes.items (string_bytes c.in-Ok-run_of.text) (g.K.Sink.held c.args.out.now) (g.K.Sink.held c.write_all.new.out)
-            c.in-Ok.ensures.ok (rw c.deref.ensures.value at c.in-Ok-run_of.ensures.ok) (rw c.as_bytes.ensures.value at c.in-Ok-write_all.ensures.ok),
-      );
-    }
-
-pub returns : goal.returns
-returns g c =
-    let named : names_farm (map string_bytes c.args.words.now) ≡ true = search rules in
-    record {
-      done = (
-        named,
-        (c.in-Ok.ensures.left, c.in-Ok.ensures.steady),
-        c.in-Err-write_all.ensures.cause,
-        text_began (g.S.Source.left c.args.input.now) c.in-Ok.bytes.items (string_bytes c.in-Ok-run_of.text) (g.K.Sink.held c.args.out.now) (g.K.Sink.held c.write_all.new.out)
-            c.in-Ok.ensures.ok (rw c.deref.ensures.value at c.in-Ok-run_of.ensures.ok) (rw c.as_bytes.ensures.value at c.in-Err-write_all.ensures.began),
-      );
-    }
+pub returns-in-Ok-clause-done : goal.returns-in-Ok-clause-done
+returns-in-Ok-clause-done g c =
+    done_parsed _ c.in-Ok.command c.carry_out.result _ _ c.in-Ok.ensures.usage c.in-Ok.ensures.parsed (carried_out_at c.in-Ok.command c.carry_out.result _ _ c.carry_out.ensures.done)

@@ -18,5 +18,7 @@ returns-clause-text c =
     (c.in_ok-builder-2.ensures.ok
     ∙ ap (λ (b : WrittenRequest). record b { token = Some c.args.token.now })
     (c.in_ok-builder.ensures.ok
-    ∙ ap (λ (u : Parts). let w : WrittenRequest = record { method = Post; target = target_of u; host = host_of u; token = None; body = None } in w) c.in_ok-url.ensures.ok))
+    ∙ ap (λ (u : Parts). let w : WrittenRequest =
+    record { method = Post; target = target_of u; host = host_of u; token = None; body = None } in
+    w) c.in_ok-url.ensures.ok))
     ∙ state_written c.args.base.now c.args.token.now c.args.job c.args.state)))

@@ -7,4 +7,6 @@ pub returns-clause-text : goal.returns-clause-text
 unfolding run_with
 returns-clause-text c =
     c.in_ok-bytes.ensures.text
-    ∙ (λ i. request_text (post_with (c.in_ok-target.ensures.ok i) (c.in_ok-host.ensures.ok i) c.args.token.now (c.in_ok-body.ensures.body i)))
+    ∙ (λ i. request_text
+    (post_with (c.in_ok-target.ensures.ok i) (c.in_ok-host.ensures.ok i) c.args.token.now
+    (c.in_ok-body.ensures.body i)))

@@ -1,4 +1,4 @@
-use Rattle.std.proofs.Common.{◌≡◌, refl, sym, ◌∙◌, ap, subst}
+use Rattle.std.proofs.Common.{sym, ◌∙◌, ap}
 use Rattle.build_server.proofs.TakeLemmas.{took_none, took_unlisted, took_read}
 use Rattle.build_server.proofs.state.ServerState.take_out.Goals as goal
 

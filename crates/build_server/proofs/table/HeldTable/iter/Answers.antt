@@ -1,4 +1,4 @@
-use Rattle.std.proofs.Common.{refl, ◌∙◌, sym, ap, subst, rules}
+use Rattle.std.proofs.Common.{refl, subst}
 use Rattle.build_server.specs.Books.{AreRising}
 use Rattle.build_server.proofs.TableLemmas.{rising}
 use Rattle.build_server.proofs.table.HeldTable.iter.Goals as goal

@@ -1,4 +1,4 @@
-use Rattle.std.proofs.Common.{refl, ◌∙◌, sym, ap, rules}
+use Rattle.std.proofs.Common.{refl, ◌∙◌, ap}
 use Rattle.build_server.specs.Books.{without_job}
 use Rattle.build_server.proofs.TableLemmas.{removed}
 use Rattle.build_server.proofs.table.HeldTable.remove.Goals as goal

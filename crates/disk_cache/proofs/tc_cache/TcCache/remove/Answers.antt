@@ -1,12 +1,12 @@
-use Rattle.std.proofs.Common.{◌≡◌, ◌∙◌, ◌≤◌, ℕ, List, length, Result, IsSome, Ok, IfOk, IfErr, OnOk, sym, ap, subst, arith}
+use Rattle.std.proofs.Common.{◌≡◌, ◌∙◌, ◌≤◌, IsSome, IfErr, OnOk, sym, subst, arith}
 use Rattle.std.specs.Map.{keys_of, lookup}
 use Rattle.std.specs.List.{IsDistinct}
 use Rattle.std.specs.Str.{bytes_eq}
 use Rattle.disk_cache.specs.Held.{Holds, Lacks}
-use Rattle.disk_cache.specs.Entries.{total, promoted_key}
+use Rattle.disk_cache.specs.Entries.{total}
 use Rattle.disk_cache.specs.Disk.{without_key}
-use Rattle.disk_cache.specs.Archives.{ArchiveStore, id_of, archive_path, IsInStep, IsArchiveStore}
-use Rattle.disk_cache.specs.Archiving.{with_archive, archive_verdict, StoreFails, FindFails, DropFails}
+use Rattle.disk_cache.specs.Archives.{archive_path, IsInStep}
+use Rattle.disk_cache.specs.Archiving.{DropFails}
 use Rattle.disk_cache.specs.Keyed.{unkeyed, IsKeyed}
 use Rattle.disk_cache.proofs.Unkeyed.{keyed_store}
 use Rattle.disk_cache.proofs.TcSteps.{removed_keyed, removed_ok, removed_gone, removed_fails, removed_in_step}

@@ -1,0 +1,6 @@
+//! The tests of disk_cache: a cache of archives over each folder. Tests alone; nothing above uses this
+//! crate.
+#![tactic(auto)]
+
+#[cfg(test)]
+mod archives;

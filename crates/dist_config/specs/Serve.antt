@@ -1,0 +1,32 @@
+-- The rows of a record of what serves, and what the one in memory shows.
+use Rattle.std.specs.Prelude.{ℕ, List, Result}
+use Rattle.dist_types.specs.declared.fault.Failed.{Failed}
+use Rattle.dist_config.specs.declared.config.SchedulerConfig.{SchedulerConfig}
+use Rattle.dist_config.specs.declared.config.ServerConfig.{ServerConfig}
+use Rattle.dist_config.specs.declared.serve.Configuration.TheVariants.{Scheduler, Server}
+use Rattle.dist_config.specs.declared.serve.ServeCall.{ServeCall}
+use Rattle.dist_config.specs.declared.serve.MemServe.{MemServe}
+
+-- the row of a scheduler's configuration and its answer
+abbrev pub scheduler_call : SchedulerConfig → Result (Unit {0}) Failed → ServeCall
+scheduler_call config answer = record { config = Scheduler config; answer = answer }
+
+-- the row of a build server's configuration and its answer
+abbrev pub server_call : ServerConfig → Result (Unit {0}) Failed → ServeCall
+server_call config answer = record { config = Server config; answer = answer }
+
+-- the numbers of the calls that are to fail
+abbrev pub serve_fails : MemServe → List ℕ
+serve_fails s = s.fails.items
+
+-- how many calls were made, which is the number of the next one
+abbrev pub serve_made : MemServe → ℕ
+serve_made s = s.made
+
+-- how often it failed
+abbrev pub serve_faults : MemServe → ℕ
+serve_faults s = s.faults
+
+-- the record
+abbrev pub serve_calls : MemServe → List ServeCall
+serve_calls s = s.calls.items

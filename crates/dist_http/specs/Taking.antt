@@ -1,0 +1,22 @@
+-- What is taken of a connection, and what it is read as.
+use Rattle.std.specs.Prelude.{◌≡◌, ◌⊎◌, ℕ, ◌≤◌, ◌<◌, List, length, drop, Option, Some, None}
+use Rattle.dist_types.specs.Content.{Taken, IsAtEnd}
+use Rattle.http_head.specs.Cut.{IsCut}
+use Rattle.http_head.specs.Head.{IsRequest, IsNoRequest}
+use Rattle.http_head.specs.declared.request.Request.{Request}
+
+-- the request that the bytes are, or that they are none
+abbrev pub Reads : List ℕ → Option Request → Type 0
+Reads cut (Some request) = IsRequest cut request
+Reads cut None = IsNoRequest cut
+
+-- The cut of the bytes was taken, and it was read.
+abbrev pub TakesCut : List ℕ → Option (List ℕ) → Option Request → Type 0
+TakesCut bytes new request = (cut : List ℕ) × IsCut bytes cut × Taken cut (Some bytes) new × Reads cut request
+
+-- the body behind a head of so many bytes: where the head is the whole stop, up to n bytes of the connection, and fewer
+-- only at its end; else the rest of the stop
+abbrev pub IsBodyAt : List ℕ → ℕ → ℕ → List ℕ → Option (List ℕ) → Option (List ℕ) → Type 0
+IsBodyAt stop len n body old new =
+    ((len ≡ length stop) × Taken body old new × (length body ≤ n) × ((length body ≡ n) ⊎ IsAtEnd new))
+    ⊎ ((len < length stop) × (body ≡ drop len stop) × (new ≡ old))

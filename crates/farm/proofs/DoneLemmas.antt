@@ -1,0 +1,38 @@
+-- What was done, from what each step did.
+use Rattle.std.proofs.Common.{◌≡◌, ◌⊎◌, inl, inr, ℕ, Option, Some, None, Result, Ok, Err, refl}
+use Rattle.std.specs.Prelude.{IfSome, ⊤}
+use Rattle.rand_core.specs.Stream.{Stream}
+use Rattle.farm_config.specs.declared.files.NamedFile.{NamedFile}
+use Rattle.farm_script.specs.declared.fault.FarmFault.{FarmFault}
+use Rattle.farm_script.specs.declared.fault.FarmFault.TheVariants.{Usage}
+use Rattle.farm_words.specs.declared.command.Command.{Command}
+use Rattle.farm_words.specs.declared.command.Command.TheVariants.{Farm, Auth, Scheduler, Server}
+use Rattle.farm_words.specs.Asked.{Asked}
+use Rattle.farm_words.specs.Parsed.{IsParsed}
+use Rattle.farm.specs.Command.{Moment, moment, IsCarriedOut, IsUntouched, IsUsage, IsDoneBy}
+
+-- what is carried out looks at no file
+pub carried_out_at : (command : Command) (result : Result ⊤ FarmFault) (before after : Moment)
+    → IsCarriedOut command result (moment before.input before.out before.random before.serve) (moment after.input after.out after.random after.serve)
+    → IsCarriedOut command result before after
+carried_out_at Farm result before after h = h
+carried_out_at (Auth auth) result before after h = h
+carried_out_at (Scheduler config) result before after h = h
+carried_out_at (Server config) result before after h = h
+
+-- a command was parsed and carried out
+pub done_parsed : (o : Option Asked) (command : Command) (result : Result ⊤ FarmFault) (before after : Moment)
+    → (o ≡ None → ◌≡◌ {A = Result Command FarmFault} (Ok command) (Err Usage)) → IfSome o (λ what. IsParsed what (Ok command) before.files before.file_faults after.file_faults)
+    → IsCarriedOut command result before after → IsDoneBy o result before after
+done_parsed None command result before after usage parsed out = absurd (let e = usage refl in cc)
+done_parsed (Some what) command result before after usage parsed out = inr (record { command = command; parsed = parsed; carried_out = out })
+
+usage_is : (f : FarmFault) → ◌≡◌ {A = Result Command FarmFault} (Err f) (Err Usage) → f ≡ Usage
+usage_is f e = cc
+
+-- no command was parsed
+pub done_unparsed : (o : Option Asked) (f : FarmFault) (before after : Moment) → (o ≡ None → ◌≡◌ {A = Result Command FarmFault} (Err f) (Err Usage))
+    → (o ≡ None → after.file_faults ≡ before.file_faults) → IfSome o (λ what. IsParsed what (Err f) before.files before.file_faults after.file_faults)
+    → IsUntouched before after → IsDoneBy o (Err f) before after
+done_unparsed None f before after usage unread parsed same = (usage_is f (usage refl), same, unread refl)
+done_unparsed (Some what) f before after usage unread parsed same = inl (parsed, same)

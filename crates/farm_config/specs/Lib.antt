@@ -1,0 +1,5 @@
+pub mod Files
+pub mod Told
+pub mod Values
+pub mod Profile
+pub mod Reading

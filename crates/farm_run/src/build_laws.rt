@@ -1,0 +1,25 @@
+//! Laws of runs on calls and builds, each a clause that quantifies over every input.
+ghost use Rattle.std.specs.Prelude.{◌≡◌, ◌<◌, ◌^◌, List, [], ℕ};
+ghost use Rattle.farm_run.specs.Builds.{AreSettledOnce, AreBuiltOnce, AreBuilds, HasWords};
+ghost use Rattle.farm_run.specs.Next.{EachNext};
+ghost use Rattle.farm_script.specs.declared.setup.Setup.{Setup};
+ghost use Rattle.farm_script.specs.declared.event.Event.{Event};
+ghost use Rattle.farm_run.specs.declared.entry.Entry.{Entry};
+
+/// A call is settled at most once.
+pub fn calls_are_settled_once()
+    ensures { (setup : Setup) (events : List Event) (entries : List Entry)
+        → EachNext setup [] events entries → AreSettledOnce entries }
+{}
+
+/// At every prefix of a run each build goes on from an accepted start of a run request, and no id is built twice.
+pub fn builds_are_accepted()
+    ensures { (setup : Setup) (events : List Event) (entries : List Entry) → setup.scheduler.count < 2 ^ 64
+        → HasWords setup → EachNext setup [] events entries → AreBuilds setup entries }
+{}
+
+/// No id is built twice.
+pub fn no_id_is_built_twice()
+    ensures { (setup : Setup) (events : List Event) (entries : List Entry) → setup.scheduler.count < 2 ^ 64
+        → HasWords setup → EachNext setup [] events entries → AreBuiltOnce entries }
+{}

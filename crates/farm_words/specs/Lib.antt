@@ -1,0 +1,5 @@
+pub mod Options
+pub mod Asked
+pub mod Views
+pub mod Parsed
+pub mod Signed

@@ -1,0 +1,13 @@
+//! The words of a command line: which command they ask for, and with what.
+//!
+//! The contract: words ask for a command exactly where they stand in its row, by one definition over the
+//! words alone; where a command has a configuration, its file and nothing else is read, once.
+//!
+//! The layer above uses `parse::try_parse_from` and the types `command::{Command, AuthSubcommand}`.
+#![tactic(auto)]
+
+pub mod asked;
+pub mod command;
+pub mod option_words;
+pub mod parse;
+pub mod token_length;
