@@ -34,9 +34,9 @@ fn main(rt: HostRuntime) -> ExitCode {
         }
     }
     let mut random = ChaCha20Rng::from_seed(seeds[0]);
-    let scheduler = move |config: &SchedulerConfig, start: Start| serve_scheduler(
-        &rt, alloc, config, start,
-    );
+    let scheduler = move |config: &SchedulerConfig, start: Start| {
+        serve_scheduler(&rt, alloc, config, start)
+    };
     // No build server is served yet: each start of one is refused.
     let server = |_config: &ServerConfig, _start: Start| Err(StartFault);
     let (Ok(scheduler), Ok(server)) = (Box::new(alloc, scheduler), Box::new(alloc, server)) else {
