@@ -1,5 +1,5 @@
 -- Each build goes on from an accepted start of a run request, and no job is built twice.
-use Rattle.std.proofs.Common.{◌≡◌, inl, inr, ℕ, zero, suc, ◌+◌, ◌<◌, ◌≤◌, ◌^◌, ◌||◌, ◌==◌, not, Bool, true, false, cond, List, [], ◌∷◌, length, take, drop, codes, Option, Some, None, Result, Ok, Err, refl, ap, ◌∙◌, sym, subst, arith}
+use Rattle.std.proofs.Common.{◌≡◌, inl, inr, ℕ, zero, suc, ◌+◌, ◌<◌, ◌≤◌, ◌^◌, ◌||◌, ◌==◌, not, Bool, true, false, cond, List, [], ◌∷◌, ◌++◌, length, take, drop, codes, Option, Some, None, Result, Ok, Err, refl, ap, ◌∙◌, sym, subst, arith}
 use Rattle.std.specs.Prelude.{slice_get, find, is_some, ⊤}
 use Rattle.std.specs.List.{AllByRecursion, list_any, cons_option}
 use Rattle.std.specs.Option.{option_map}
@@ -34,6 +34,7 @@ use Rattle.sched_core.proofs.AddressLemmas.{same_is, same_self}
 use Rattle.sched_core.proofs.AllLemmas.{or_true, same_job-refl}
 use Rattle.http_head.specs.Head.{IsRequest}
 use Rattle.http_head.specs.declared.request.Request.{Request}
+use Rattle.http_routes.specs.Admission.{equal_admission}
 use Rattle.http_routes.specs.Calls.{IsAnswer}
 use Rattle.http_routes.specs.InOrder.{NamesJob}
 use Rattle.http_routes.specs.Message.{message_in}
@@ -51,7 +52,7 @@ use Rattle.http_routes.specs.declared.route.SchedRouted.TheVariants as asked
 use Rattle.http_routes.specs.declared.server_route.ServerAsked.{ServerAsked}
 use Rattle.http_routes.specs.declared.server_route.ServerRouted.{ServerRouted}
 use Rattle.http_routes.specs.declared.server_route.ServerRouted.TheVariants as server_asked
-use Rattle.http_routes.proofs.HeadLemmas.{one_question}
+use Rattle.http_routes.proofs.AskLemmas.{one_question}
 use Rattle.http_routes.proofs.PlaceLemmas.{job_named}
 use Rattle.http_routes.proofs.SenderLemmas.{job_shown}
 use Rattle.http_routes.proofs.ServerLemmas.{one_question as one_server_question}
@@ -82,11 +83,12 @@ use Rattle.farm_run.specs.declared.pending.Told.{Told}
 use Rattle.farm_run.specs.declared.pending.Told.TheVariants as told
 use Rattle.farm_run.specs.Answers.{hears, allocated, answer_to}
 use Rattle.farm_run.specs.Begun.{IsMadeBy, IsCallOf, completion_by, completion_of}
-use Rattle.farm_run.specs.Builds.{SettlesCall, build_by, IsBuild, AreBuiltOnce, IsRunRequest, IsStart, IsTaken, IsStarted, AreStarted, AreBuilds, HasWords}
+use Rattle.farm_run.specs.Builds.{SettlesCall, build_by, IsBuild, AreBuiltOnce, IsRunRequest, IsStart, IsTaken, IsStarted, AreStarted, AreBuilds, HasToken, HasWords}
 use Rattle.farm_run.specs.Calls.{call_at, delivered_by, delivery_at, settles_by, is_void, waiting_at}
 use Rattle.farm_run.specs.Effects.{word_effect, effect_of, entry_of}
+use Rattle.farm_run.specs.Farm.{Farmed, Runs}
 use Rattle.farm_run.specs.Next.{GoesOn, IsSettled, IsMade, IsNext, EachNext}
-use Rattle.farm_run.specs.Seen.{core_log, core_of, token_of}
+use Rattle.farm_run.specs.Seen.{core_log, core_of, serves}
 use Rattle.farm_run.specs.Served.{assigned, served, told_of, books_of, state_call, run_outcome}
 use Rattle.farm_run.specs.Servers.{ServerNow, server_of, server_at, server_now, is_over}
 use Rattle.farm_run.specs.Settled.{IsUpdated, assignment_end, running, ready_end, started_end, complete_end, Reports, Lives, ReportsIn}
@@ -526,7 +528,7 @@ module _ (setup : Setup) (words : HasWords setup) (entries : List Entry) (n : �
       let s = core_of setup (take d entries) in
       let (a, shown, x_is) = subst (λ (w : Way). IsMade setup (take d entries) e.event.at w x) (arrives lt) made in
       let wanted : Asked = record { what = asked.Update server job Started; json = false } in
-      let one : a ≡ wanted = one_question sent.bytes server setup.scheduler.client (token_of setup.scheduler.auth) a wanted shown (started_asked setup server job words is_addr fits) in
+      let one : a ≡ wanted = one_question (equal_admission setup.scheduler.client) (serves setup.scheduler.auth) sent.bytes server a wanted shown (started_asked setup server job words is_addr fits) in
       let answer = advance (open_rows s.log) server job Started in
       let same : x ≡ answer_to s (length (take d entries)) e.event.at false (asked.Update server job Started) =
       x_is ∙ ap (λ (c : Asked). answer_to s (length (take d entries)) e.event.at c.json c.what) one in
@@ -751,3 +753,19 @@ are_builds setup events entries fits words each = record {
   once = λ n. built_once setup (take n events) (take n entries) fits words (each_front setup [] events entries n each);
   settled = λ n. settled_once setup (take n events) (take n entries) (each_front setup [] events entries n each);
 }
+
+-- the entries of a farm that ran events from none
+pub Runs-builds : (old : Farmed) (events : List Event) (new : Farmed) → old.setup.scheduler.count < 2 ^ 64 → (HasToken old.setup.scheduler.auth → HasWords old.setup) → Runs old events new
+    → old.entries ≡ [] → HasToken old.setup.scheduler.auth → AreBuilds new.setup new.entries
+Runs-builds old events new fits words run none token =
+    let each : EachNext old.setup [] events run.0 = subst (λ (es : List Entry). EachNext old.setup es events run.0) none run.1 in
+    let builds : AreBuilds old.setup run.0 = are_builds old.setup events run.0 fits (words token) each in
+    let same : old.entries ++ run.0 ≡ run.0 = ap (λ (es : List Entry). es ++ run.0) none in
+    subst (λ (f : Farmed). AreBuilds f.setup f.entries) (sym run.2) (subst (λ (es : List Entry). AreBuilds old.setup es) (sym same) builds)
+
+-- the same of the entries that were handed back
+pub Runs-stopped : (old : Farmed) (events : List Event) (mid : Farmed) (entries : List Entry) → old.setup.scheduler.count < 2 ^ 64 → (HasToken old.setup.scheduler.auth → HasWords old.setup) → Runs old events mid
+    → entries ≡ mid.entries → old.entries ≡ [] → HasToken old.setup.scheduler.auth → AreBuilds old.setup entries
+Runs-stopped old events mid entries fits words run same none token =
+    let builds = Runs-builds old events mid fits words run none token in
+    subst (λ (s : Setup). AreBuilds s entries) (ap (λ (f : Farmed). f.setup) run.2) (subst (λ (es : List Entry). AreBuilds mid.setup es) (sym same) builds)

@@ -13,6 +13,7 @@ pub mod RunLemmas
 pub mod ServeLemmas
 pub mod ServerLemmas
 pub mod SettleLemmas
+pub mod ShownLemmas
 pub mod SoundLemmas
 pub mod StartedLemmas
 pub mod StationLemmas

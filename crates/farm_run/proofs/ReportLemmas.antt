@@ -1,9 +1,5 @@
 -- A report that a server of a farm writes is read as that server's update; and a reply that takes one tells that it was accepted.
-use Rattle.std.proofs.Common.{◌≡◌, ◌≢◌, inl, inr, ℕ, ◌<◌, ◌≤◌, ◌^◌, nat_lt, Bool, true, false, List, [], ◌∷◌, ◌++◌, length, codes, decimal, Option, Ok, Err, refl, ap, ◌∙◌, sym, arith, length-append}
-use Rattle.std.specs.List.{list_all}
-use Rattle.std.specs.Char.{is_ascii_graphic}
-use Rattle.std.proofs.lemmas.Bool.{false≢true}
-use Rattle.std.proofs.lemmas.Bool.Decides.{nat_tests}
+use Rattle.std.proofs.Common.{◌≡◌, ◌≢◌, inl, inr, ℕ, ◌<◌, ◌≤◌, ◌^◌, Bool, false, List, [], ◌∷◌, ◌++◌, length, codes, decimal, Option, Ok, Err, refl, ap, ◌∙◌, sym, arith, length-append}
 use Rattle.std.proofs.lemmas.Fmt.{length-decimal-le}
 use Rattle.dist_types.specs.Addr.{IsAddr, addr_text}
 use Rattle.dist_types.specs.Ids.{state_text}
@@ -11,23 +7,15 @@ use Rattle.dist_types.specs.declared.addr.Addr.{Addr}
 use Rattle.dist_types.specs.declared.ids.JobId.{JobId}
 use Rattle.dist_types.specs.declared.results.JobState.{JobState}
 use Rattle.dist_types.specs.declared.results.JobState.TheVariants.{Pending, Ready, Started, Complete}
-use Rattle.dist_types.proofs.AddrLemmas.{printed_graphic}
-use Rattle.dist_token.specs.Token.{plain_text}
-use Rattle.dist_token.specs.Verdict.{plain_server}
-use Rattle.dist_token.proofs.ServerTokens.{plain_accepted}
-use Rattle.sched_core.specs.Log.{latest}
-use Rattle.sched_core.proofs.AllLemmas.{and_left, and_right, both}
 use Rattle.sched_core.specs.declared.entry.UpdateAnswer.{UpdateAnswer}
 use Rattle.sched_core.specs.declared.entry.UpdateAnswer.TheVariants.{Accepted, Unknown, Wrong, Transition}
 use Rattle.http_head.specs.declared.error.HttpError.TheVariants.{ParseError, Status as StatusFault}
-use Rattle.http_head.specs.WrittenRequest.{is_printed, IsToken, IsWithinLimits}
-use Rattle.http_head.proofs.LineLemmas.{weaker}
+use Rattle.http_head.specs.WrittenRequest.{IsWithinLimits}
 use Rattle.http_head.proofs.ReplyLemmas.{one_reply}
-use Rattle.http_head.proofs.WrittenRequestLemmas.{ascii_text}
 use Rattle.http_routes.specs.declared.fault.RouteFault.TheVariants.{UnknownJob, WrongServer, BadTransition}
 use Rattle.http_routes.specs.declared.reply.Response.TheVariants.{ServerError}
 use Rattle.http_routes.specs.declared.route.SchedRouted.TheVariants.{Update}
-use Rattle.http_routes.specs.Asked.{IsAsked}
+use Rattle.http_routes.specs.Asked.{IsAskedUnder}
 use Rattle.http_routes.specs.Admission.{equal_admission}
 use Rattle.http_routes.specs.Calls.{told_by, answer_by, IsAnswer}
 use Rattle.http_routes.specs.ErrJson.{err_text}
@@ -40,68 +28,11 @@ use Rattle.dist_wire.specs.Written.{state_bytes}
 use Rattle.http_routes.specs.Written.{post_with, state_with, state_request_text, CanGo}
 use Rattle.http_routes.proofs.BackLemmas.{read_back}
 use Rattle.http_routes.proofs.ToldLemmas.{addr_visible, states_read_back}
-use Rattle.farm_script.specs.Words.{is_visible}
 use Rattle.farm_script.specs.declared.setup.Setup.{Setup}
-use Rattle.farm_script.specs.declared.setup.SetupAuth.{SetupAuth}
-use Rattle.farm_script.specs.declared.setup.SetupAuth.TheVariants.{Plain, Jwt}
-use Rattle.farm_run.specs.Builds.{HasToken, HasWords}
-use Rattle.farm_run.specs.Seen.{token_of, server_token}
+use Rattle.farm_run.specs.Builds.{HasWords}
+use Rattle.farm_run.specs.Seen.{serves, server_token}
+use Rattle.farm_run.proofs.ShownLemmas.{shows}
 use Rattle.farm_run.proofs.TextLemmas.{addr_short, escape_short}
-
--- ---- the token of a server
-
-all_append : (p : ℕ → Bool) (xs ys : List ℕ) → list_all p xs ≡ true → list_all p ys ≡ true → list_all p (xs ++ ys) ≡ true
-all_append p [] ys h k = k
-all_append p (x ∷ xs) ys h k = both (p x) (list_all p (xs ++ ys)) (and_left (p x) (list_all p xs) h) (all_append p xs ys (and_right (p x) (list_all p xs) h) k)
-
-graphic_small : (b : ℕ) → is_ascii_graphic b ≡ true → nat_lt b 128 ≡ true
-graphic_small b h = grind (arith, nat_tests)
-
-graphic_printed : (b : ℕ) → is_ascii_graphic b ≡ true → is_printed b ≡ true
-graphic_printed b h = grind (arith, nat_tests)
-
-visible_small : (b : ℕ) → is_visible b ≡ true → nat_lt b 128 ≡ true
-visible_small b h = grind (arith, nat_tests)
-
-visible_printed : (b : ℕ) → is_visible b ≡ true → is_printed b ≡ true
-visible_printed b h = grind (arith, nat_tests)
-
-latest-append : (d : ℕ) (xs ys : List ℕ) → latest d (xs ++ ys) ≡ latest (latest d xs) ys
-latest-append d [] ys = refl
-latest-append d (x ∷ xs) ys = latest-append x xs ys
-
-latest_all : (p : ℕ → Bool) (d : ℕ) (xs : List ℕ) → p d ≡ true → list_all p xs ≡ true → p (latest d xs) ≡ true
-latest_all p d [] first h = first
-latest_all p d (x ∷ xs) first h = latest_all p x xs (and_left (p x) (list_all p xs) h) (and_right (p x) (list_all p xs) h)
-
--- the last byte of a text that ends in visible bytes is no space
-no_space : (front shared more : List ℕ) → 1 ≤ length shared → list_all is_visible shared ≡ true → front ++ 32 ∷ shared ≢ more ++ (32 ∷ [])
-no_space front [] more some h = λ e. absurd (omega (arith, some))
-no_space front (b ∷ bs) more some h = λ e.
-    let last : latest 0 (front ++ 32 ∷ b ∷ bs) ≡ latest b bs = latest-append 0 front (32 ∷ b ∷ bs) in
-    let space : latest 0 (more ++ (32 ∷ [])) ≡ 32 = latest-append 0 more (32 ∷ []) in
-    let same : latest b bs ≡ 32 = sym last ∙ ap (latest 0) e ∙ space in
-    false≢true (sym (ap is_visible same) ∙ latest_all is_visible b bs (and_left (is_visible b) (list_all is_visible bs) h) (and_right (is_visible b) (list_all is_visible bs) h))
-
-record Shared (token : List ℕ) : Type 0 where
-  some : 1 ≤ length token
-  short : length token ≤ 1024
-  visible : list_all is_visible token ≡ true
-
-shared_of : (auth : SetupAuth) → HasToken auth → Shared (token_of auth)
-shared_of (Plain token) has = record { some = has.0; short = has.1; visible = has.2 }
-shared_of (Jwt key) has = absurd has
-
-is_token : (address shared : List ℕ) → list_all is_ascii_graphic address ≡ true → Shared shared → IsToken (plain_text address shared)
-is_token address shared graphic s =
-    let total = length-append address (32 ∷ shared) in
-    record {
-      some = omega (arith, total);
-      text = ascii_text (plain_text address shared)
-          (all_append (λ b. nat_lt b 128) address (32 ∷ shared) (weaker is_ascii_graphic (λ b. nat_lt b 128) graphic_small address graphic) (weaker is_visible (λ b. nat_lt b 128) visible_small shared s.visible));
-      printed = all_append is_printed address (32 ∷ shared) (weaker is_ascii_graphic is_printed graphic_printed address graphic) (weaker is_visible is_printed visible_printed shared s.visible);
-      end = λ front. no_space address shared front s.some s.visible;
-    }
 
 -- ---- a report that a job is started
 
@@ -120,21 +51,20 @@ limits host token job fits short_host short_token =
 can_go : (setup : Setup) (server : Addr) (job : JobId) → HasWords setup → IsAddr server → job.0 < 2 ^ 64
     → CanGo (addr_text setup.scheduler.addr) (server_token setup server) (state_with (addr_text setup.scheduler.addr) (server_token setup server) job Started)
 can_go setup server job words is fits =
-    let shared = shared_of setup.scheduler.auth words.token in
-    let total = length-append (addr_text server) (32 ∷ token_of setup.scheduler.auth) in
+    let s = shows setup.scheduler.auth server words.token is in
     record {
       visible = addr_visible setup.scheduler.addr words.scheduler;
-      carried = is_token (addr_text server) (token_of setup.scheduler.auth) (printed_graphic server is) shared;
-      limits = limits (addr_text setup.scheduler.addr) (server_token setup server) job fits (addr_short setup.scheduler.addr words.scheduler) (omega (arith, total, shared.short, addr_short server is));
+      carried = s.carried;
+      limits = limits (addr_text setup.scheduler.addr) (server_token setup server) job fits (addr_short setup.scheduler.addr words.scheduler) s.short;
     }
 
 -- the scheduler reads it as that server's update of that job
 pub started_asked : (setup : Setup) (server : Addr) (job : JobId) → HasWords setup → IsAddr server → job.0 < 2 ^ 64
-    → IsAsked (state_request_text setup.scheduler.addr (server_token setup server) job Started) server setup.scheduler.client (token_of setup.scheduler.auth)
+    → IsAskedUnder (equal_admission setup.scheduler.client) (serves setup.scheduler.auth) (state_request_text setup.scheduler.addr (server_token setup server) job Started) server
     (record { what = Update server job Started; json = false })
 started_asked setup server job words is fits =
-    states_read_back (equal_admission setup.scheduler.client) (plain_server (token_of setup.scheduler.auth)) server (addr_text setup.scheduler.addr) (server_token setup server) job Started server
-    (can_go setup server job words is fits) fits (plain_accepted server (token_of setup.scheduler.auth) is) refl
+    states_read_back (equal_admission setup.scheduler.client) (serves setup.scheduler.auth) server (addr_text setup.scheduler.addr) (server_token setup server) job Started server
+    (can_go setup server job words is fits) fits (shows setup.scheduler.auth server words.token is).accepted refl
 
 -- ---- its reply
 

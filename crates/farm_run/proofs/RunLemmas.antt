@@ -11,9 +11,12 @@ use Rattle.farm_run.specs.Next.{IsNext, EachNext}
 use Rattle.farm_run.specs.Seen.{core_log, core_of}
 use Rattle.farm_script.specs.declared.setup.Setup.{Setup}
 use Rattle.farm_script.specs.Script.{script}
+use Rattle.farm_script.specs.Setups.{IsSetup}
+use Rattle.farm_run.specs.Builds.{AreBuilds, HasToken}
 use Rattle.farm_run.specs.Printed.{run_text}
 use Rattle.farm_run.specs.RunText.{IsReadText}
 use Rattle.farm_run.specs.Farm.{Farmed, with_entries, with_core, Runs, AreLawful}
+use Rattle.farm_run.proofs.ShownLemmas.{has_token}
 
 one_core : {X : Type 0} (o : Option X) → cons_option o [] ≡ option_to_list o
 one_core None = refl
@@ -63,10 +66,13 @@ Runs-lawful old events mid entries run same laws =
 
 -- the text of a farm that ran a script's events is that of the script's run
 pub run_text_is : {X : Type 0} (view : X → List ℕ) (r : Result X FarmFault) (bytes : List ℕ) (setup : Setup) (events run_events : List Event) (start farm : Farmed)
-    → script bytes ≡ Ok (setup, events) → start ≡ record { setup = setup; entries = [] } → run_events ≡ events → Runs start run_events farm → AreLawful farm.setup farm.entries
+    → script bytes ≡ Ok (setup, events) → IsSetup setup → start ≡ record { setup = setup; entries = [] } → run_events ≡ events → Runs start run_events farm → AreLawful farm.setup farm.entries
+    → (start.entries ≡ [] → HasToken start.setup.scheduler.auth → AreBuilds farm.setup farm.entries)
     → IfOk r (λ t. view t ≡ run_text farm.setup farm.entries) → IfOk r (λ t. IsReadText bytes (view t))
-run_text_is view (Err f) bytes setup events run_events start farm read start-is events-is run laws h = tt
-run_text_is view (Ok t) bytes setup events run_events start farm read start-is events-is run laws h =
+run_text_is view (Err f) bytes setup events run_events start farm read set start-is events-is run laws builds h = tt
+run_text_is view (Ok t) bytes setup events run_events start farm read set start-is events-is run laws builds h =
+    let none : start.entries ≡ [] = ap (λ (f : Farmed). f.entries) start-is in
+    let token : HasToken start.setup.scheduler.auth = subst (λ (f : Farmed). HasToken f.setup.scheduler.auth) (sym start-is) (has_token setup.scheduler.auth set.auth) in
     let begun : Farmed = record { setup = setup; entries = [] } in
     let whole : Runs begun events farm = subst (λ (es : List Event). Runs begun es farm) events-is (subst (λ (s : Farmed). Runs s run_events farm) start-is run) in
     record {
@@ -76,5 +82,6 @@ run_text_is view (Ok t) bytes setup events run_events start farm read start-is e
       read = read;
       each = whole.1;
       lawful = subst (λ (f : Farmed). AreLawful f.setup f.entries) whole.2 laws;
+      builds = subst (λ (f : Farmed). AreBuilds f.setup f.entries) whole.2 (builds none token);
       is = h ∙ ap (λ (f : Farmed). run_text f.setup f.entries) whole.2;
     }

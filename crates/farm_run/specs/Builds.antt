@@ -133,12 +133,12 @@ pub record AreBuilds (setup : Setup) (entries : List Entry) : Type 0 where
 
 -- ---- farms whose calls can be read
 
--- one token of 1 to 1,024 visible bytes for all build servers
+-- one token of 1 to 1,024 visible bytes for all build servers; or a key, whatever it is
 abbrev pub HasToken : SetupAuth → Type 0
 HasToken (Plain token) = (1 ≤ length token) × (length token ≤ 1024) × (list_all is_visible token ≡ true)
-HasToken (Jwt key) = ⊥
+HasToken (Jwt key) = Unit {0}
 
--- What every script says of its farm, where its servers have one token: the token is visible, and the addresses are
+-- What every script says of its farm: where its servers have one token, that is visible; and the addresses are
 -- addresses.
 pub record HasWords (setup : Setup) : Type 0 where
   pub token : HasToken setup.scheduler.auth

@@ -6,13 +6,15 @@ use Rattle.farm_script.specs.Script.{script}
 use Rattle.farm_script.specs.FirstFaulty.{IsFaultless}
 use Rattle.farm_script.specs.Spelled.{Says}
 use Rattle.farm_run.specs.declared.entry.Entry.{Entry}
+use Rattle.farm_run.specs.Builds.{AreBuilds}
 use Rattle.farm_run.specs.Next.{EachNext}
 use Rattle.farm_run.specs.Farm.{AreLawful}
 use Rattle.farm_run.specs.Printed.{run_text}
 
 -- The text is that of a script's run: no line of the script is faulty, its lines say a setup and events, and the text is that of
 -- the farm that is set up so and of a list that has one entry for each event, each next over those before it. After each front of the
--- entries the laws of the scheduler hold.
+-- entries the laws of the scheduler hold; and each build goes on from an accepted start, no id is built twice, and a call is settled at
+-- most once.
 pub record IsRunText (bytes text : List ℕ) : Type 0 where
   pub setup : Setup
   pub events : List Event
@@ -21,6 +23,7 @@ pub record IsRunText (bytes text : List ℕ) : Type 0 where
   pub says : Says bytes setup events
   pub each : EachNext setup [] events entries
   pub lawful : AreLawful setup entries
+  pub builds : AreBuilds setup entries
   pub is : text ≡ run_text setup entries
 
 -- the same, where the script is what reading it gives
@@ -31,4 +34,5 @@ pub record IsReadText (bytes text : List ℕ) : Type 0 where
   pub read : script bytes ≡ Ok (setup, events)
   pub each : EachNext setup [] events entries
   pub lawful : AreLawful setup entries
+  pub builds : AreBuilds setup entries
   pub is : text ≡ run_text setup entries

@@ -23,3 +23,4 @@ mod servers;
 mod settle;
 mod station;
 mod text;
+mod words;

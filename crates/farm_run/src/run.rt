@@ -1,5 +1,5 @@
 //! A farm, and its runs.
-ghost use Rattle.std.specs.Prelude.{◌≡◌, ◌++◌, ◌∷◌, [], ◌<◌, ◌≤◌, ◌-◌, ℕ, length, take, set, slice_get, position, IfOk, IfErr, OnOk, OnErr, MatchOption, map, Some, None, List, option_copied};
+ghost use Rattle.std.specs.Prelude.{◌≡◌, ◌++◌, ◌∷◌, [], ◌<◌, ◌≤◌, ◌-◌, ◌^◌, ℕ, length, take, set, slice_get, position, IfOk, IfErr, OnOk, OnErr, MatchOption, map, Some, None, List, option_copied};
 ghost use Rattle.std.specs.Option.{option_map};
 ghost use Rattle.dist_types.specs.Addr.{same_addr};
 ghost use Rattle.dist_types.specs.declared.addr.Addr.{Addr as Place};
@@ -9,6 +9,7 @@ ghost use Rattle.farm_script.specs.declared.event.EventKind.TheVariants as kind;
 ghost use Rattle.farm_script.specs.declared.fault.FarmFault.TheVariants as fault;
 ghost use Rattle.farm_script.specs.declared.setup.SetupServer.{SetupServer as Site};
 ghost use Rattle.farm_run.specs.declared.station.Station.{Station as Post};
+ghost use Rattle.farm_run.specs.Builds.{AreBuilds, HasToken, HasWords};
 ghost use Rattle.farm_run.specs.Begun.{IsBegunBy, Keeps, completion_at, completion_of};
 ghost use Rattle.farm_run.specs.Calls.{call_at, delivery_at};
 ghost use Rattle.farm_run.specs.Effects.{word_effect, entry_of};
@@ -31,6 +32,7 @@ use crate::serve::{Arrival, Stamp, serve};
 use crate::servers::{beat, serve_at};
 use crate::settle::{Settlement, Turn, end_assignment};
 use crate::station::Station;
+use crate::words::has_addresses;
 use dist_types::addr::Addr;
 use dist_types::ids::ServerNonce;
 use dist_types::text::Items;
@@ -222,6 +224,14 @@ impl Farm {
         let _ = self.log.entries.len();
     }
 
+    /// That its calls can be read, where its servers have a token or a key.
+    fn words(&self)
+        ensures words { HasToken self.now.setup.scheduler.auth → HasWords self.now.setup }
+        ensures count { self.now.setup.scheduler.count < 2 ^ 64 }
+    {
+        has_addresses(&self.desk.setup);
+    }
+
     /// Runs events in order. Stopped for want of memory alone, with the entries of the events that were
     /// done whole.
     pub fn run(self, events: &[Event]) -> Result<Farm, Stopped>
@@ -231,12 +241,20 @@ impl Farm {
         // have different jobs, each open job has exactly one unended reservation, at a registration that
         // stands, and no load is over its bound.
         ensures laws { IfOk result (λ farm. AreLawful farm.setup farm.entries) }
-        // Both hold also of the events before the one that memory ran out in.
+        // From no entries: after each front each build goes on from an accepted start, which is the return of
+        // an earlier delivery that moved the job from ready to started; no id is built twice; a call is
+        // settled at most once. Where build servers have one token, that has 1 to 1,024 visible bytes.
+        ensures builds { IfOk result (λ farm. self.entries ≡ [] → HasToken self.setup.scheduler.auth
+            → AreBuilds farm.setup farm.entries) }
+        // All hold also of the events before the one that memory ran out in.
         ensures err { IfErr result (λ s. (n : ℕ) × (n < length events.now)
             × Runs self (take n events.now) (record { setup = self.setup; entries = s.entries })) }
         ensures stopped_laws { IfErr result (λ s. AreLawful self.setup s.entries) }
+        ensures stopped_builds { IfErr result (λ s. self.entries ≡ [] → HasToken self.setup.scheduler.auth
+            → AreBuilds self.setup s.entries) }
     {
         let mut farm = self;
+        farm.words();
         for event in events {
             farm = farm.step(event)?;
         }

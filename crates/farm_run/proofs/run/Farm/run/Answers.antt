@@ -1,6 +1,7 @@
 use Rattle.std.proofs.Common.{◌≡◌, ◌+◌, ◌++◌, ◌∷◌, [], take, ap, ◌∙◌, sym}
 use Rattle.std.proofs.lemmas.List.{take_more}
 use Rattle.std.proofs.lemmas.Result.{err_from_is_err_and}
+use Rattle.farm_run.proofs.BuildLemmas.{Runs-builds, Runs-stopped}
 use Rattle.farm_run.proofs.RunLemmas.{Runs-push, Runs-entries, Runs-lawful}
 use Rattle.farm_run.proofs.run.Farm.run.Goals as goal
 
@@ -27,3 +28,15 @@ returns-in_err-farm-clause-stopped_laws c =
     Runs-lawful c.args.self (take c.loop-event.event-index c.args.events.now) c.loop-event.farm c.in_err-farm.field-0.0.entries c.loop-event.invariant c.in_err-farm.ensures.err
     c.in_err-farm.ensures.laws
     )
+
+pub returns-in_err-farm-clause-stopped_builds : goal.returns-in_err-farm-clause-stopped_builds
+returns-in_err-farm-clause-stopped_builds c =
+    let p = err_from_is_err_and c.from_residual.result c.from_residual.ensures.1 in
+    rw (p.1, p.2) (
+    Runs-stopped c.args.self (take c.loop-event.event-index c.args.events.now) c.loop-event.farm c.in_err-farm.field-0.0.entries c.words.ensures.count c.words.ensures.words c.loop-event.invariant
+    c.in_err-farm.ensures.err
+    )
+
+pub returns-clause-builds : goal.returns-clause-builds
+returns-clause-builds c =
+    Runs-builds c.args.self (take c.loop-event.event-index c.args.events.now) c.loop-event.farm c.words.ensures.count c.words.ensures.words c.loop-event.invariant
