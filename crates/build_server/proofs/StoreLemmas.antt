@@ -4,16 +4,16 @@ use Rattle.std.specs.Prelude.{nat_lt, not}
 use Rattle.std.specs.List.{IsDistinct}
 use Rattle.std.specs.Map.{keys_of}
 use Rattle.std.specs.Str.{bytes_eq}
-use Rattle.disk_cache.specs.Archives.{Archives, id_of}
-use Rattle.disk_cache.specs.Archiving.{archive_verdict, with_archive, StoreFails}
-use Rattle.disk_cache.specs.Disk.{Left, dropped}
-use Rattle.disk_cache.specs.Entries.{trim}
-use Rattle.disk_cache.specs.Held.{Held}
-use Rattle.disk_cache.specs.Store.{IoCause}
-use Rattle.disk_cache.specs.declared.error.Error.{Error}
-use Rattle.disk_cache.specs.declared.error.Error.TheVariants as error
-use Rattle.disk_cache.specs.declared.fault.FolderFault.{FolderFault}
-use Rattle.disk_cache.specs.declared.fault.FolderFault.TheVariants as folder
+use Rattle.lru_disk_cache.specs.Archives.{Archives, id_of}
+use Rattle.lru_disk_cache.specs.Archiving.{archive_verdict, with_archive, StoreFails}
+use Rattle.lru_disk_cache.specs.Disk.{Left, dropped}
+use Rattle.lru_disk_cache.specs.Entries.{trim}
+use Rattle.lru_disk_cache.specs.Held.{Held}
+use Rattle.lru_disk_cache.specs.Store.{IoCause}
+use Rattle.lru_disk_cache.specs.declared.error.Error.{Error}
+use Rattle.lru_disk_cache.specs.declared.error.Error.TheVariants as error
+use Rattle.lru_disk_cache.specs.declared.fault.FolderFault.{FolderFault}
+use Rattle.lru_disk_cache.specs.declared.fault.FolderFault.TheVariants as folder
 use Rattle.build_server.specs.Books.{ids, without_ids, is_listed, Fails}
 use Rattle.build_server.specs.Rules.{store_verdict, IsFrontOfDropped}
 use Rattle.build_server.specs.Stores.{IsStored, Stores, refusal}

@@ -9,10 +9,10 @@ use Rattle.dist_types.specs.declared.results.JobState.TheVariants.{Pending, Read
 use Rattle.dist_types.specs.declared.results.SubmitToolchainResult.{SubmitToolchainResult}
 use Rattle.dist_types.specs.declared.results.SubmitToolchainResult.TheVariants as answer
 use Rattle.dist_types.specs.declared.results.UpdateJobStateResult.{UpdateJobStateResult}
-use Rattle.disk_cache.specs.Archives.{Archives, id_of}
-use Rattle.disk_cache.specs.Disk.{dropped}
-use Rattle.disk_cache.specs.Entries.{promoted_key}
-use Rattle.disk_cache.specs.Held.{Held, Holds}
+use Rattle.lru_disk_cache.specs.Archives.{Archives, id_of}
+use Rattle.lru_disk_cache.specs.Disk.{dropped}
+use Rattle.lru_disk_cache.specs.Entries.{promoted_key}
+use Rattle.lru_disk_cache.specs.Held.{Held, Holds}
 use Rattle.build_server.specs.Books.{Books, held_for, placed, without_job, is_listed, ids, without_ids, Fails, KeepsStep}
 use Rattle.build_server.specs.declared.fault.ServerFault.{ServerFault}
 use Rattle.build_server.specs.declared.fault.ServerFault.TheVariants as fault

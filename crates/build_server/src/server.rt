@@ -9,7 +9,6 @@ use crate::keeping::{Keeping, assign_on, run_on, submit_on};
 use crate::run::RunHeld;
 use crate::state::ServerState;
 use crate::submit::{Submit, Submitted};
-use disk_cache::folder::Folder;
 use dist_types::builder::BuilderIncoming;
 use dist_types::command::CompileCommand;
 use dist_types::ids::JobId;
@@ -19,6 +18,7 @@ use dist_types::results::{AssignJobResult, RunJobResult, SubmitToolchainResult};
 use dist_types::source::Source;
 use dist_types::text::Text;
 use dist_types::toolchain::Toolchain;
+use lru_disk_cache::folder::Folder;
 use std::alloc::Global;
 use std::sync::{Mutex, Wait};
 

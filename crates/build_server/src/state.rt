@@ -9,11 +9,11 @@ use crate::run::{RunHeld, Taken};
 use crate::store::{read, store};
 use crate::submit::{Submit, Submitted};
 use crate::table::{Held, HeldTable};
-use disk_cache::folder::Folder;
-use disk_cache::{Archives, TcCache};
 use dist_types::ids::JobId;
 use dist_types::results::{AssignJobResult, JobState};
 use dist_types::toolchain::Toolchain;
+use lru_disk_cache::folder::Folder;
+use lru_disk_cache::{Archives, TcCache};
 use std::alloc::Global;
 use std::marker::Model;
 

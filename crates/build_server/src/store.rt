@@ -1,8 +1,8 @@
 //! What a server asks of its cache: to store an archive that is not listed, and to read one that is.
 ghost use Rattle.std.specs.Prelude.{◌≡◌, ◌≤◌, ◌-◌, length, take, is_some, true, false, IfOk, IfErr, OnOk, Ok, Err};
-ghost use Rattle.disk_cache.specs.Archives.{IsInStep, IsArchiveStore};
-ghost use Rattle.disk_cache.specs.Disk.{dropped};
-ghost use Rattle.disk_cache.specs.Entries.{total};
+ghost use Rattle.lru_disk_cache.specs.Archives.{IsInStep, IsArchiveStore};
+ghost use Rattle.lru_disk_cache.specs.Disk.{dropped};
+ghost use Rattle.lru_disk_cache.specs.Entries.{total};
 ghost use Rattle.build_server.specs.Books.{ids, is_listed};
 ghost use Rattle.build_server.specs.Rules.{NotFolder, FolderHeld};
 ghost use Rattle.build_server.specs.Stores.{Stores, MayRefuse, refusal, Reads};
@@ -10,12 +10,12 @@ ghost use Rattle.build_server.specs.Stores.{Stores, MayRefuse, refusal, Reads};
 use crate::fault::ServerFault;
 use crate::run::Taken;
 use crate::submit::Submitted;
-use disk_cache::folder::Folder;
-use disk_cache::{Error, TcCache};
 use dist_types::fault::Memory;
 use dist_types::text::{Bytes, Items};
 use dist_types::toolchain::Toolchain;
 use dist_types::try_clone::push;
+use lru_disk_cache::folder::Folder;
+use lru_disk_cache::{Error, TcCache};
 use std::alloc::Global;
 
 /// The sum of the sizes of the archives, in bytes.

@@ -1,11 +1,11 @@
 //! One history of a cache of archives, over the folders in memory and over one of the system.
-use disk_cache::calls::Calls;
-use disk_cache::folder::Folder;
-use disk_cache::mem_folder::MemFolder;
-use disk_cache::real_folder::RealFolder;
-use disk_cache::reliable_folder::ReliableFolder;
-use disk_cache::{Error, TcCache};
 use dist_types::toolchain::Toolchain;
+use lru_disk_cache::calls::Calls;
+use lru_disk_cache::folder::Folder;
+use lru_disk_cache::mem_folder::MemFolder;
+use lru_disk_cache::real_folder::RealFolder;
+use lru_disk_cache::reliable_folder::ReliableFolder;
+use lru_disk_cache::{Error, TcCache};
 use std::alloc::Global;
 use std::process::Abort;
 use std::test::Fail;

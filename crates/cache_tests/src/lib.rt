@@ -1,4 +1,4 @@
-//! The tests of disk_cache: a cache of archives over each folder. Tests alone; nothing above uses this
+//! The tests of lru_disk_cache: a cache of archives over each folder. Tests alone; nothing above uses this
 //! crate.
 #![tactic(auto)]
 

@@ -6,7 +6,7 @@ use Rattle.dist_types.specs.declared.builder.BuildFault.{BuildFault}
 use Rattle.dist_types.specs.declared.builder.BuildFault.TheVariants as build
 use Rattle.dist_types.specs.declared.ids.JobId.{JobId}
 use Rattle.dist_types.specs.declared.results.BuildResult.{BuildResult}
-use Rattle.disk_cache.specs.Archives.{Archives}
+use Rattle.lru_disk_cache.specs.Archives.{Archives}
 use Rattle.sched_core.proofs.AddressLemmas.{same_self}
 use Rattle.build_server.specs.Books.{Books, Table, held_for, placed, without_job, KeepsStep}
 use Rattle.build_server.specs.Builds.{ran_of, built_of, is_due, outcome_by}

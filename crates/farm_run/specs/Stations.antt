@@ -4,7 +4,7 @@ use Rattle.std.specs.List.{AllByRecursion}
 use Rattle.dist_types.specs.declared.addr.Addr.{Addr}
 use Rattle.build_server.specs.declared.run.Ran.{Ran}
 use Rattle.build_server.specs.declared.run.Ran.TheVariants as ran
-use Rattle.disk_cache.specs.Archives.{IsInStep}
+use Rattle.lru_disk_cache.specs.Archives.{IsInStep}
 use Rattle.farm_script.specs.Setups.{AreApart}
 use Rattle.farm_script.specs.declared.setup.Setup.{Setup}
 use Rattle.farm_script.specs.declared.setup.SetupServer.{SetupServer}

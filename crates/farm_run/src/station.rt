@@ -1,17 +1,14 @@
 //! The stations of a farm's build servers.
 ghost use Rattle.std.specs.Prelude.{◌≡◌, ◌≤◌, [], codes, IfOk, IfErr, OnOk};
 ghost use Rattle.dist_types.specs.Cause.{counted};
-ghost use Rattle.disk_cache.specs.Archives.{opened_archives, IsInStep};
-ghost use Rattle.disk_cache.specs.Entries.{total};
-ghost use Rattle.disk_cache.specs.InMemory.{reliable_files};
+ghost use Rattle.lru_disk_cache.specs.Archives.{opened_archives, IsInStep};
+ghost use Rattle.lru_disk_cache.specs.Entries.{total};
+ghost use Rattle.lru_disk_cache.specs.InMemory.{reliable_files};
 ghost use Rattle.farm_run.specs.Servers.{server_begun, restarted};
 ghost use Rattle.farm_run.specs.Stations.{now_of, IsWell};
 ghost use Rattle.farm_script.specs.declared.fault.FarmFault.TheVariants as fault;
 
 use build_server::state::ServerState;
-use disk_cache::TcCache;
-use disk_cache::laws::reopening_gives_the_archives;
-use disk_cache::reliable_folder::ReliableFolder;
 use dist_token::job_token::JWTJobAuthorizer;
 use dist_types::ids::ServerNonce;
 use dist_types::roles::JobAuthorizer;
@@ -19,6 +16,9 @@ use dist_types::text::Items;
 use dist_types::toolchain::Toolchain;
 use farm_script::fault::FarmFault;
 use farm_script::setup::SetupServer;
+use lru_disk_cache::TcCache;
+use lru_disk_cache::laws::reopening_gives_the_archives;
+use lru_disk_cache::reliable_folder::ReliableFolder;
 use std::alloc::{AllocError, Global};
 
 /// A build server of a farm: its life, what it keeps over a folder in memory, and how many builds its

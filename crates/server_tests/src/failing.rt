@@ -5,7 +5,7 @@ use crate::plain::{Ended, Plain};
 use build_server::run::Ran;
 use build_server::state::ServerState;
 use build_server::submit::Submitted;
-use disk_cache::mem_folder::MemFolder;
+use lru_disk_cache::mem_folder::MemFolder;
 use std::alloc::Global;
 use std::process::Abort;
 

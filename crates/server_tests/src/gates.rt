@@ -3,7 +3,6 @@
 use crate::outside::{Scheduler, archive, command, names, reader};
 use crate::running::{assigned, server_of, submitted};
 use build_server::server::{Server, ServerIncoming};
-use disk_cache::mem_folder::MemFolder;
 use dist_types::builder::{BuildFault, BuilderIncoming};
 use dist_types::command::CompileCommand;
 use dist_types::fault::raise;
@@ -15,6 +14,7 @@ use dist_types::results::{
 };
 use dist_types::text::{Bytes, Items, Text};
 use dist_types::toolchain::Toolchain;
+use lru_disk_cache::mem_folder::MemFolder;
 use std::alloc::Global;
 use std::process::Abort;
 use std::sync::Wait;

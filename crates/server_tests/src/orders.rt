@@ -6,10 +6,10 @@ use build_server::fault::ServerFault;
 use build_server::run::{Ran, RunDone};
 use build_server::state::ServerState;
 use build_server::submit::Submitted;
-use disk_cache::mem_folder::MemFolder;
 use dist_types::ids::JobId;
 use dist_types::results::{JobState, UpdateJobStateResult};
 use dist_types::toolchain::Toolchain;
+use lru_disk_cache::mem_folder::MemFolder;
 use std::alloc::Global;
 use std::process::Abort;
 

@@ -1,8 +1,5 @@
 //! What the tests hand to a server: archives with their ids, caches, a scheduler that answers every report
 //! alike, and one build.
-use disk_cache::TcCache;
-use disk_cache::calls::Calls;
-use disk_cache::mem_folder::MemFolder;
 use dist_types::command::CompileCommand;
 use dist_types::fault::raise;
 use dist_types::ids::JobId;
@@ -12,6 +9,9 @@ use dist_types::results::{JobState, UpdateJobStateResult};
 use dist_types::source::MemSource;
 use dist_types::text::{Items, Text};
 use dist_types::toolchain::Toolchain;
+use lru_disk_cache::TcCache;
+use lru_disk_cache::calls::Calls;
+use lru_disk_cache::mem_folder::MemFolder;
 use std::alloc::Global;
 use std::process::Abort;
 

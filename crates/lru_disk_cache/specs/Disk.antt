@@ -1,0 +1,115 @@
+-- What stands on a disk behind its list, and what each step leaves.
+use Rattle.std.specs.Prelude.{◌≡◌, ℕ, ◌<◌, ◌≤◌, ◌^◌, nat_le, if◌then◌else◌, false, true, List, [], ◌∷◌, ◌++◌, ◌⊎◌, Some, None, Result, Ok, Err}
+use Rattle.std.specs.List.{AllByRecursion}
+use Rattle.std.specs.Map.{remove_entry}
+use Rattle.std.specs.Str.{bytes_eq}
+use Rattle.dist_types.specs.Cause.{Rose}
+use Rattle.lru_disk_cache.specs.Files.{Files, file_at, size_at, put, without, moved}
+use Rattle.lru_disk_cache.specs.Held.{Held, Holds, Became}
+use Rattle.lru_disk_cache.specs.declared.fault.FolderFault.{FolderFault}
+use Rattle.lru_disk_cache.specs.declared.fault.FolderFault.TheVariants.{Missing, Failed, Memory}
+use Rattle.lru_disk_cache.specs.Key.{is_key, temp_name}
+use Rattle.lru_disk_cache.specs.Entries.{Entries, Listed, total, trim, IsEnd}
+
+-- each entry has a file of its size
+abbrev pub Backed : List ℕ → Files → Entries → Type 0
+Backed root files entries = AllByRecursion (λ e. size_at files (root ++ e.0) ≡ Some e.1) entries
+
+-- each entry's key is one
+abbrev pub AllKeys : Entries → Type 0
+AllKeys entries = AllByRecursion (λ e. is_key e.0 ≡ true) entries
+
+-- Every listed key is one, and has a file of its size where files are told.
+pub record Stands (root : List ℕ) (held : Held) (entries : Entries) : Type 0 where
+  pub keys : AllKeys entries
+  pub backed : Holds held (λ files. Backed root files entries)
+
+-- the file at each path is as it was
+abbrev pub SameAt : Files → Files → Type 0
+SameAt old new = (q : List ℕ) → file_at new q ≡ file_at old q
+
+-- each file that is left is as it was
+abbrev pub OnlyRemoved : Files → Files → Type 0
+OnlyRemoved old new = (q bytes : List ℕ) → file_at new q ≡ Some bytes → file_at old q ≡ Some bytes
+
+-- the file at each path but this one is as it was
+abbrev pub ButAt : List ℕ → Files → Files → Type 0
+ButAt path old new = (q : List ℕ) → bytes_eq path q ≡ false → file_at new q ≡ file_at old q
+
+-- no entry has its file at this path
+abbrev pub Avoids : List ℕ → List ℕ → Entries → Type 0
+Avoids root path entries = AllByRecursion (λ e. bytes_eq (root ++ e.0) path ≡ false) entries
+
+-- the file at each path that is no entry's is as it was
+abbrev pub ButListed : List ℕ → Entries → Files → Files → Type 0
+ButListed root entries old new = (q : List ℕ) → Avoids root q entries → file_at new q ≡ file_at old q
+
+-- the file at each path outside the root is as it was
+abbrev pub ButUnder : List ℕ → Files → Files → Type 0
+ButUnder root old new = (q : List ℕ) → ((k : List ℕ) → bytes_eq (root ++ k) q ≡ false) → file_at new q ≡ file_at old q
+
+-- the file at each path outside the root but one is as it was
+abbrev pub ButUnderAnd : List ℕ → List ℕ → Files → Files → Type 0
+ButUnderAnd root from old new = (q : List ℕ) → ((k : List ℕ) → bytes_eq (root ++ k) q ≡ false) → bytes_eq from q ≡ false → file_at new q ≡ file_at old q
+
+-- it is the path of a temporary file under a root
+abbrev pub IsTemp : List ℕ → List ℕ → Type 0
+IsTemp root path = (n : ℕ) × (n < 2 ^ 64) × (path ≡ root ++ temp_name n)
+
+-- the file of each of these entries is as it was
+abbrev pub Keeps : List ℕ → Entries → Files → Files → Type 0
+Keeps root entries old new = AllByRecursion (λ e. file_at new (root ++ e.0) ≡ file_at old (root ++ e.0)) entries
+
+-- Why a step failed: Failed only where the count rose, and Missing only where files are not told. The count never falls.
+abbrev pub Caused : FolderFault → Held → Held → Type 0
+Caused Failed old new = Rose old.faults new.faults × (old.faults ≤ new.faults)
+Caused Missing old new = (old.files ≡ None) × (old.faults ≤ new.faults)
+Caused Memory old new = old.faults ≤ new.faults
+
+-- a step that succeeds has no fault, and one that fails has its cause
+abbrev pub Counts : {T : Type 0} → Result T FolderFault → Held → Held → Type 0
+Counts (Ok x) old new = new.faults ≡ old.faults
+Counts (Err e) old new = Caused e old new
+
+-- Entries went from the front, and only where those left were past the limit. What is left stands, and no other file changed.
+pub record Drops (root : List ℕ) (limit : ℕ) (old new : Listed) (before after : Held) : Type 0 where
+  pub capacity : new.capacity ≡ old.capacity
+  pub rest : IsEnd new.entries old.entries
+  pub needed : trim limit new.entries ≡ trim limit old.entries
+  pub stands : Stands root after new.entries
+  pub others : Became (ButListed root old.entries) before.files after.files
+  pub kept : Became (Keeps root new.entries) before.files after.files
+
+-- the entries without a key
+abbrev pub without_key : List ℕ → Entries → Entries
+without_key key entries = remove_entry (bytes_eq key) entries
+
+-- the entries besides a key that stay where that is stored, within a limit
+abbrev pub staying : List ℕ → ℕ → Entries → Entries
+staying key limit entries = trim limit (without_key key entries)
+
+-- the entries once a key is stored with a size, the others within a limit
+abbrev pub stored : List ℕ → ℕ → ℕ → Entries → Entries
+stored key size limit entries = staying key limit entries ++ (key, size) ∷ []
+
+-- What a failed insert leaves: the list as it was, or the key out and then some of the least recent, none more than had to go.
+abbrev pub Left : List ℕ → ℕ → Entries → Entries → Type 0
+Left key limit old new = (new ≡ old) ⊎ (IsEnd new (without_key key old) × (trim limit new ≡ trim limit (without_key key old)))
+
+-- the entries that go from the front so that the others fit a limit
+abbrev pub dropped : ℕ → Entries → Entries
+dropped limit [] = []
+dropped limit (e ∷ es) = if nat_le (total (e ∷ es)) limit then [] else e ∷ dropped limit es
+
+-- without the files of these entries
+abbrev pub without_each : List ℕ → Entries → Files → Files
+without_each root [] files = files
+without_each root (e ∷ es) files = without_each root es (without (root ++ e.0) files)
+
+-- with the files of these entries gone, and the file of one path at another
+abbrev pub files_placed : List ℕ → List ℕ → List ℕ → Entries → Files → Files
+files_placed root from path gone files = moved from path (without_each root gone files)
+
+-- the same, where bytes are written under that one path first
+abbrev pub files_stored : List ℕ → List ℕ → List ℕ → List ℕ → Entries → Files → Files
+files_stored root from path bytes gone files = files_placed root from path gone (put from bytes files)

@@ -1,0 +1,43 @@
+-- What a folder tells of itself, and what a call leaves.
+use Rattle.std.specs.Prelude.{◌≡◌, ℕ, ◌≤◌, List, Option, Some, None, Result, Ok, Err}
+use Rattle.std.specs.Option.{option_map}
+use Rattle.dist_types.specs.Cause.{Rose}
+use Rattle.lru_disk_cache.specs.Files.{Files, file_at}
+use Rattle.lru_disk_cache.specs.declared.fault.FolderFault.{FolderFault}
+use Rattle.lru_disk_cache.specs.declared.fault.FolderFault.TheVariants.{Missing, Failed, Memory}
+
+-- the files, where a folder tells them, and how often it failed
+pub record Held : Type 0 where
+  pub files : Option Files
+  pub faults : ℕ
+
+-- what holds of the files, where they are told
+abbrev pub Holds : Held → (Files → Type 0) → Type 0
+Holds held P = (files : Files) → held.files ≡ Some files → P files
+
+-- there is no file at the path
+abbrev pub Lacks : List ℕ → Files → Type 0
+Lacks path files = file_at files path ≡ None
+
+-- such a call always finds what it wants
+abbrev pub Never : Files → Type 0
+Never files = ⊥
+
+-- the files became so, and are told where they were
+abbrev pub Became : (Files → Files → Type 0) → Option Files → Option Files → Type 0
+Became part None new = new ≡ None
+Became part (Some old) new = (files : Files) × (new ≡ Some files) × part old files
+
+-- A call does this where it succeeds, and its files were not lacking. Missing says that they were, and leaves all. Failed and Memory leave
+-- a part of what the call does, and Failed only where the count rose.
+abbrev pub Changes : {T : Type 0} → (Files → Type 0) → (Files → Files) → (Files → Files → Type 0) → Result T FolderFault → Held → Held → Type 0
+Changes lacking done part (Ok x) old new =
+    (new ≡ record { files = option_map done old.files; faults = old.faults }) × Holds old (λ files. ¬ (lacking files))
+Changes lacking done part (Err Missing) old new = (new ≡ old) × Holds old lacking
+Changes lacking done part (Err Failed) old new =
+    Became part old.files new.files × Rose old.faults new.faults × (old.faults ≤ new.faults)
+Changes lacking done part (Err Memory) old new = Became part old.files new.files × (old.faults ≤ new.faults)
+
+-- the files became exactly what this makes of them
+abbrev pub Made : (Files → Files) → Option Files → Option Files → Type 0
+Made done old new = new ≡ option_map done old

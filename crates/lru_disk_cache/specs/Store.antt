@@ -1,0 +1,137 @@
+-- A disk cache: its disk and its folder, and what each call leaves.
+use Rattle.std.specs.Prelude.{◌≡◌, ℕ, ◌+◌, ◌-◌, ◌≤◌, [], ◌⊎◌, not, nat_lt, if◌then◌else◌, List, None, Result, Ok, Err}
+use Rattle.std.specs.Map.{lookup}
+use Rattle.std.specs.Str.{bytes_eq}
+use Rattle.dist_types.specs.Cause.{Rose}
+use Rattle.lru_disk_cache.specs.Files.{Files, front}
+use Rattle.lru_disk_cache.specs.Held.{Held}
+use Rattle.lru_disk_cache.specs.declared.fault.FolderFault.{FolderFault}
+use Rattle.lru_disk_cache.specs.declared.fault.FolderFault.TheVariants.{Missing, Failed, Memory}
+use Rattle.lru_disk_cache.specs.declared.error.Error.{Error}
+use Rattle.lru_disk_cache.specs.declared.error.Error.TheVariants.{FileTooLarge, FileNotInCache, Io, PendingSpace, BadKey, NotPending, WrongDigest, WriterRefused, Memory as NoMemory}
+use Rattle.lru_disk_cache.specs.Key.{is_key}
+use Rattle.lru_disk_cache.specs.Entries.{Entries, total, promoted_key}
+use Rattle.lru_disk_cache.specs.Opened.{opened}
+use Rattle.lru_disk_cache.specs.Disk.{Stands, stored, Left, without_key}
+use Rattle.lru_disk_cache.specs.Reserved.{Reservation, held_size, AllReserved}
+
+-- The path of a cache and what the path of each of its files begins with, its capacity, its keys with sizes, least recent first, and its
+-- open reservations.
+pub record Disk : Type 0 where
+  pub path : List ℕ
+  pub root : List ℕ
+  pub capacity : ℕ
+  pub entries : Entries
+  pub pending : List Reservation
+
+-- a cache over a folder
+pub record Store (F : Type 0) : Type 0 where
+  pub disk : Disk
+  pub folder : F
+
+-- a cache whose files stand, and whose entries and reservations fit its capacity
+pub record IsStore (held : Held) (d : Disk) : Type 0 where
+  pub stands : Stands d.root held d.entries
+  pub root : d.root ≡ front d.path
+  pub fits : total d.entries + held_size d.pending ≤ d.capacity
+  pub reserved : AllReserved d.root d.pending
+
+-- a fault of the folder, as the cache tells it
+abbrev pub error_of : FolderFault → Error
+error_of Missing = Io Missing
+error_of Failed = Io Failed
+error_of Memory = NoMemory
+
+-- why the folder failed: the count rose, or files are not told
+abbrev pub IoCause : FolderFault → Held → Held → Type 0
+IoCause Failed old new = Rose old.faults new.faults
+IoCause Missing old new = old.files ≡ None
+IoCause Memory old new = ⊥
+
+-- whether a key may be stored with a size
+abbrev pub insert_verdict : Disk → List ℕ → ℕ → Result (Unit {0}) Error
+insert_verdict d key size =
+    if not (is_key key) then Err BadKey
+    else if nat_lt d.capacity size then Err FileTooLarge
+    else if nat_lt d.capacity (held_size d.pending + size) then Err PendingSpace
+    else Ok (tt {0})
+
+-- what the sizes of the other entries may sum to where one of this size is stored
+abbrev pub room_beside : Disk → ℕ → ℕ
+room_beside d size = d.capacity - (held_size d.pending + size)
+
+-- the disk once a key is stored with a size
+abbrev pub inserted : Disk → List ℕ → ℕ → Disk
+inserted d key size = record d { entries = stored key size (room_beside d size) d.entries }
+
+-- the disk once a key was looked up
+abbrev pub looked_up : Disk → List ℕ → Disk
+looked_up d key = record d { entries = promoted_key key d.entries }
+
+-- the disk without a key
+abbrev pub removed : Disk → List ℕ → Disk
+removed d key = record d { entries = without_key key d.entries }
+
+-- the disk that an opening makes of the files
+abbrev pub opened_disk : List ℕ → ℕ → Files → Disk
+opened_disk path capacity files = record { path = path; root = front path; capacity = capacity; entries = opened (front path) capacity files; pending = [] }
+
+-- why an opening failed
+abbrev pub OpenFails : Error → Held → Held → Type 0
+OpenFails (Io fault) old new = IoCause fault old new
+OpenFails NoMemory old new = Unit {0}
+OpenFails BadKey old new = ⊥
+OpenFails FileTooLarge old new = ⊥
+OpenFails FileNotInCache old new = ⊥
+OpenFails PendingSpace old new = ⊥
+OpenFails NotPending old new = ⊥
+OpenFails WrongDigest old new = ⊥
+OpenFails WriterRefused old new = ⊥
+
+-- what a failed insert leaves: the list as it was, or the key out and some of the least recent gone, none more than had to go
+pub record LeftBy (key : List ℕ) (limit : ℕ) (old new : Disk) : Type 0 where
+  pub path : new.path ≡ old.path
+  pub root : new.root ≡ old.root
+  pub capacity : new.capacity ≡ old.capacity
+  pub pending : new.pending ≡ old.pending
+  pub entries : Left key limit old.entries new.entries
+
+-- a refusal by the verdict leaves all as it was
+abbrev pub Refuses : List ℕ → ℕ → Error → Disk → Disk → Held → Held → Type 0
+Refuses key size error d e old new = (e ≡ d) × (new ≡ old) × (insert_verdict d key size ≡ Err error)
+
+-- why an insert failed, and what it leaves
+abbrev pub InsertFails : List ℕ → ℕ → Error → Disk → Disk → Held → Held → Type 0
+InsertFails key size BadKey d e old new = Refuses key size BadKey d e old new
+InsertFails key size FileTooLarge d e old new = Refuses key size FileTooLarge d e old new
+InsertFails key size PendingSpace d e old new = Refuses key size PendingSpace d e old new
+InsertFails key size (Io fault) d e old new = LeftBy key (room_beside d size) d e × IoCause fault old new
+InsertFails key size NoMemory d e old new = LeftBy key (room_beside d size) d e
+InsertFails key size FileNotInCache d e old new = ⊥
+InsertFails key size NotPending d e old new = ⊥
+InsertFails key size WrongDigest d e old new = ⊥
+InsertFails key size WriterRefused d e old new = ⊥
+
+-- why a look-up failed, and what it leaves
+abbrev pub LookUpFails : List ℕ → Error → Disk → Disk → Held → Held → Type 0
+LookUpFails key FileNotInCache d e old new = (e ≡ d) × (new ≡ old) × (lookup (bytes_eq key) d.entries ≡ None)
+LookUpFails key (Io fault) d e old new = (e ≡ looked_up d key) × IoCause fault old new
+LookUpFails key NoMemory d e old new = (e ≡ d) ⊎ (e ≡ looked_up d key)
+LookUpFails key BadKey d e old new = ⊥
+LookUpFails key FileTooLarge d e old new = ⊥
+LookUpFails key PendingSpace d e old new = ⊥
+LookUpFails key NotPending d e old new = ⊥
+LookUpFails key WrongDigest d e old new = ⊥
+LookUpFails key WriterRefused d e old new = ⊥
+
+-- why a removal failed, and what it leaves
+abbrev pub RemoveFails : List ℕ → Error → Disk → Disk → Held → Held → Type 0
+RemoveFails key (Io fault) d e old new = (e ≡ removed d key) × IoCause fault old new
+RemoveFails key NoMemory d e old new = (e ≡ d) ⊎ (e ≡ removed d key)
+RemoveFails key FileNotInCache d e old new = ⊥
+RemoveFails key BadKey d e old new = ⊥
+RemoveFails key FileTooLarge d e old new = ⊥
+RemoveFails key PendingSpace d e old new = ⊥
+RemoveFails key NotPending d e old new = ⊥
+RemoveFails key WrongDigest d e old new = ⊥
+RemoveFails key WriterRefused d e old new = ⊥

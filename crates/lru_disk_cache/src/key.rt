@@ -1,0 +1,56 @@
+//! Keys, and the files that they name.
+ghost use Rattle.std.specs.Prelude.{◌≡◌, ◌++◌, IfOk, codes};
+ghost use Rattle.lru_disk_cache.specs.Key.{is_key, is_plain, is_temporary, temp_name};
+
+use crate::rows::joined;
+use dist_types::text::Text;
+use std::alloc::{AllocError, Global};
+
+/// Whether a text is not empty, not `.` or `..`, and has no NUL byte.
+#[tactic(auto, unfolding(crate::specs::Key::is_plain))]
+pub(crate) fn is_plain(part: &str) -> bool
+    ensures { result ≡ is_plain part.now }
+{
+    part != "" && part != "." && part != ".." && !part.as_bytes().contains(&0)
+}
+
+/// Whether a text may be a key: a relative path of parts joined by `/`, none of which is empty, `.` or
+/// `..` or has a NUL byte, and the last of which does not begin with `.sccachetmp`. It takes no memory.
+#[tactic(auto, using(crate::proofs::KeyParts::none_temporary))]
+pub fn is_key(text: &str) -> bool
+    ensures { result ≡ is_key text.now }
+{
+    let mut plain = true;
+    let mut temporary = false;
+    for part in text.split('/') {
+        let good = is_plain(part);
+        let last = is_temporary(part);
+        temporary = last;
+        plain = plain && good;
+    }
+    plain && !temporary
+}
+
+/// Whether it is the name of a temporary file.
+#[tactic(auto, unfolding(crate::specs::Key::is_temporary))]
+fn is_temporary(name: &str) -> bool
+    ensures { result ≡ is_temporary name.now }
+{
+    name.as_bytes().starts_with(b".sccachetmp")
+}
+
+/// The path of the temporary file of a number under a root.
+#[tactic(auto, unfolding(crate::specs::Key::temp_name))]
+pub(crate) fn temp_path(alloc: Global, root: &Text, number: u64) -> Result<Text, AllocError>
+    ensures path { IfOk result (λ t. t ≡ root.now ++ temp_name number) }
+{
+    let name = format!(in alloc; ".sccachetmp{number}")?;
+    joined(alloc, root.get(), name.as_str())
+}
+
+/// The path of the file of a key under a root.
+pub(crate) fn path_of(root: &Text, key: &Text) -> Result<Text, AllocError>
+    ensures path { IfOk result (λ t. t ≡ root.now ++ key.now) }
+{
+    joined(root.alloc(), root.get(), key.get())
+}

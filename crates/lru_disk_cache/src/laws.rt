@@ -1,0 +1,19 @@
+//! Laws of disk caches. The functions do nothing.
+ghost use Rattle.lru_disk_cache.specs.Archiving.{ArchivesReopen};
+ghost use Rattle.lru_disk_cache.specs.Opened.{Reopens};
+ghost use Rattle.lru_disk_cache.specs.Reliable.{NeverFails};
+
+/// A list that is in step with the files of its folder, and that fits, is what an opening lists.
+pub fn reopening_gives_the_list()
+    ensures { Reopens }
+{}
+
+/// Archives that are in step with the files of their folder, and that fit, are what an opening lists.
+pub fn reopening_gives_the_archives()
+    ensures { ArchivesReopen }
+{}
+
+/// Over a folder that never fails, no call of a cache answers `Error::Io`.
+pub fn reliable_folders_never_fail()
+    ensures { NeverFails }
+{}

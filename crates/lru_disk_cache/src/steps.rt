@@ -1,0 +1,214 @@
+//! The steps of a disk cache: writing the temporary file, dropping what is least recent, and putting the file in its place.
+ghost use Rattle.std.specs.Prelude.{◌≡◌, ◌+◌, ◌-◌, ◌≤◌, ◌<◌, ◌++◌, ◌∷◌, [], length, take, drop, true, false, Some, None, Err, IfOk, OnOk, OnErr};
+ghost use Rattle.std.specs.Map.{lookup};
+ghost use Rattle.std.specs.Str.{bytes_eq};
+ghost use Rattle.lru_disk_cache.specs.Files.{file_at, size_at, put, without, moved, touched};
+ghost use Rattle.lru_disk_cache.specs.Held.{Holds, Became, Made, Lacks};
+ghost use Rattle.lru_disk_cache.specs.Key.{is_key};
+ghost use Rattle.lru_disk_cache.specs.Entries.{total, trim, IsTable};
+ghost use Rattle.lru_disk_cache.specs.Disk.{Stands, Avoids, ButAt, ButListed, ButUnder, ButUnderAnd, IsTemp, Keeps, Counts, Drops, stored, staying, dropped, without_each, files_placed, files_stored, without_key, Left, OnlyRemoved, SameAt};
+
+use crate::fault::FolderFault;
+use crate::folder::Folder;
+use crate::key::path_of;
+use crate::table::Table;
+use dist_types::text::Text;
+
+/// A file that is to stand under a key.
+#[derive(Drop)]
+pub(crate) struct Arrival {
+    /// Where it is.
+    pub(crate) from: Text,
+    /// Where it is to be.
+    pub(crate) path: Text,
+    /// Its key.
+    pub(crate) key: Text,
+    /// How many bytes it has.
+    pub(crate) size: u64,
+    /// What the sizes of the other entries may sum to.
+    pub(crate) limit: u64,
+}
+
+/// Removes the file of a key that is not listed any more. One that is missing already is no fault.
+pub(crate) fn remove_file<F: Folder>(
+    folder: &mut F,
+    root: &Text,
+    key: &Text,
+) -> Result<(), FolderFault>
+    ensures found { ¬ (result ≡ Err FolderFault.Missing) }
+    ensures exact { OnOk result (Became (λ old new. new ≡ without (root.now ++ key.now) old) (F.held folder.old).files (F.held folder.new).files) }
+    ensures gone { OnOk result (Holds (F.held folder.new) (Lacks (root.now ++ key.now))) }
+    ensures removed { OnOk result (Became OnlyRemoved (F.held folder.old).files (F.held folder.new).files) }
+    ensures others { Became (ButAt (root.now ++ key.now)) (F.held folder.old).files (F.held folder.new).files }
+    ensures counts { Counts result (F.held folder.old) (F.held folder.new) }
+{
+    let path = path_of(root, key)?;
+    match folder.remove(path.get()) {
+        Ok(()) => Ok(()),
+        Err(FolderFault::Missing) => Ok(()),
+        Err(FolderFault::Failed) => Err(FolderFault::Failed),
+        Err(FolderFault::Memory) => Err(FolderFault::Memory),
+    }
+}
+
+/// Drops the least recent entry and then its file.
+fn drop_first<F: Folder>(folder: &mut F, table: &mut Table, root: &Text) -> Result<(), FolderFault>
+    requires table { IsTable table.old }
+    requires stands { Stands root.now (F.held folder.old) table.old.entries }
+    ensures rest { table.new ≡ record table.old { entries = drop 1 table.old.entries } }
+    ensures stands { Stands root.now (F.held folder.new) table.new.entries }
+    ensures others { Became (ButListed root.now table.old.entries) (F.held folder.old).files (F.held folder.new).files }
+    ensures kept { Became (Keeps root.now table.new.entries) (F.held folder.old).files (F.held folder.new).files }
+    ensures exact { OnOk result (Made (without_each root.now (take 1 table.old.entries)) (F.held folder.old).files (F.held folder.new).files) }
+    ensures counts { Counts result (F.held folder.old) (F.held folder.new) }
+{
+    let Some((key, _)) = table.take_first() else {
+        return Ok(());
+    };
+    remove_file(folder, root, &key)
+}
+
+/// Drops the least recent entries and their files until the others fit a limit.
+pub(crate) fn make_room<F: Folder>(
+    folder: &mut F,
+    table: &mut Table,
+    root: &Text,
+    limit: u64,
+) -> Result<(), FolderFault>
+    requires { Stands root.now (F.held folder.old) table.old.entries }
+    ensures ok { OnOk result (table.new.entries ≡ trim limit table.old.entries) }
+    ensures fits { OnOk result (total table.new.entries ≤ limit) }
+    ensures drops { Drops root.now limit table.old table.new (F.held folder.old) (F.held folder.new) }
+    ensures exact { OnOk result (Made (without_each root.now (dropped limit table.old.entries)) (F.held folder.old).files (F.held folder.new).files) }
+    ensures counts { Counts result (F.held folder.old) (F.held folder.new) }
+{
+    while table.size() > limit {
+        drop_first(folder, table, root)?;
+    }
+    Ok(())
+}
+
+/// Lists a key as the most recent and puts the file in its place. Where that fails it is not listed.
+pub(crate) fn place<F: Folder>(
+    folder: &mut F,
+    table: &mut Table,
+    root: &Text,
+    arrival: &Arrival,
+    listed: Text,
+) -> Result<(), FolderFault>
+    requires key { is_key arrival.now.key ≡ true }
+    requires same { listed ≡ arrival.now.key }
+    requires path { arrival.now.path ≡ root.now ++ arrival.now.key }
+    requires apart { bytes_eq arrival.now.path arrival.now.from ≡ false }
+    requires avoids { Avoids root.now arrival.now.from table.old.entries }
+    requires absent { lookup (bytes_eq arrival.now.key) table.old.entries ≡ None }
+    requires room { total table.old.entries + arrival.now.size ≤ table.old.capacity }
+    requires stands { Stands root.now (F.held folder.old) table.old.entries }
+    requires written { Holds (F.held folder.old) (λ files. size_at files arrival.now.from ≡ Some arrival.now.size) }
+    ensures ok { OnOk result (table.new ≡ record table.old { entries = table.old.entries ++ (arrival.now.key, arrival.now.size) ∷ [] }) }
+    ensures err { OnErr result (table.new ≡ table.old) }
+    ensures stands { Stands root.now (F.held folder.new) table.new.entries }
+    ensures content { OnOk result (Became (λ old new. file_at new arrival.now.path ≡ file_at old arrival.now.from) (F.held folder.old).files (F.held folder.new).files) }
+    ensures others { Became (ButUnderAnd root.now arrival.now.from) (F.held folder.old).files (F.held folder.new).files }
+    ensures kept { Became (Keeps root.now table.old.entries) (F.held folder.old).files (F.held folder.new).files }
+    ensures exact { OnOk result (Made (moved arrival.now.from arrival.now.path) (F.held folder.old).files (F.held folder.new).files) }
+    ensures counts { Counts result (F.held folder.old) (F.held folder.new) }
+{
+    let Ok(()) = table.push(listed, arrival.size) else {
+        return Err(FolderFault::Memory);
+    };
+    match folder.rename(arrival.from.get(), arrival.path.get()) {
+        Ok(()) => Ok(()),
+        Err(fault) => {
+            table.unlist(&arrival.key);
+            Err(fault)
+        }
+    }
+}
+
+/// Makes the directories above a file and writes the temporary one.
+pub(crate) fn write_temp<F: Folder>(
+    folder: &mut F,
+    path: &Text,
+    temp: &Text,
+    bytes: &[u8],
+) -> Result<(), FolderFault>
+    ensures written { OnOk result (Holds (F.held folder.new) (λ files. file_at files temp.now ≡ Some bytes.now)) }
+    ensures others { Became (ButAt temp.now) (F.held folder.old).files (F.held folder.new).files }
+    ensures exact { OnOk result (Made (put temp.now bytes.now) (F.held folder.old).files (F.held folder.new).files) }
+    ensures counts { Counts result (F.held folder.old) (F.held folder.new) }
+{
+    folder.make_parents(path.get())?;
+    folder.write(temp.get(), bytes)
+}
+
+/// Takes the key out, makes room, and puts the file in its place.
+pub(crate) fn fill<F: Folder>(
+    folder: &mut F,
+    table: &mut Table,
+    root: &Text,
+    arrival: &Arrival,
+) -> Result<(), FolderFault>
+    requires key { is_key arrival.now.key ≡ true }
+    requires path { arrival.now.path ≡ root.now ++ arrival.now.key }
+    requires apart { bytes_eq arrival.now.path arrival.now.from ≡ false }
+    requires avoids { Avoids root.now arrival.now.from table.old.entries }
+    requires fits { arrival.now.limit + arrival.now.size ≤ table.old.capacity }
+    requires stands { Stands root.now (F.held folder.old) table.old.entries }
+    requires written { Holds (F.held folder.old) (λ files. size_at files arrival.now.from ≡ Some arrival.now.size) }
+    ensures ok { OnOk result (table.new ≡ record table.old { entries = stored arrival.now.key arrival.now.size arrival.now.limit table.old.entries }) }
+    ensures err { OnErr result ((table.new.capacity ≡ table.old.capacity) × Left arrival.now.key arrival.now.limit table.old.entries table.new.entries) }
+    ensures stands { Stands root.now (F.held folder.new) table.new.entries }
+    ensures content { OnOk result (Became (λ old new. file_at new arrival.now.path ≡ file_at old arrival.now.from) (F.held folder.old).files (F.held folder.new).files) }
+    ensures others { Became (ButUnderAnd root.now arrival.now.from) (F.held folder.old).files (F.held folder.new).files }
+    ensures kept { OnOk result (Became (Keeps root.now (staying arrival.now.key arrival.now.limit table.old.entries)) (F.held folder.old).files (F.held folder.new).files) }
+    ensures left { OnErr result (Became (Keeps root.now table.new.entries) (F.held folder.old).files (F.held folder.new).files) }
+    ensures exact { OnOk result (Made (files_placed root.now arrival.now.from arrival.now.path (dropped arrival.now.limit (without_key arrival.now.key table.old.entries))) (F.held folder.old).files (F.held folder.new).files) }
+    ensures counts { Counts result (F.held folder.old) (F.held folder.new) }
+{
+    let listed = arrival.key.copy(root.alloc())?;
+    table.unlist(&arrival.key);
+    make_room(folder, table, root, arrival.limit)?;
+    place(folder, table, root, arrival, listed)
+}
+
+/// Stores bytes under a key: writes them to a temporary file, takes the key out, makes room, and puts the
+/// file in its place.
+pub(crate) fn store<F: Folder>(
+    folder: &mut F,
+    table: &mut Table,
+    root: &Text,
+    arrival: &Arrival,
+    bytes: &[u8],
+) -> Result<(), FolderFault>
+    requires key { is_key arrival.now.key ≡ true }
+    requires path { arrival.now.path ≡ root.now ++ arrival.now.key }
+    requires temp { IsTemp root.now arrival.now.from }
+    requires size { arrival.now.size ≡ length bytes.now }
+    requires fits { arrival.now.limit + arrival.now.size ≤ table.old.capacity }
+    requires stands { Stands root.now (F.held folder.old) table.old.entries }
+    ensures ok { OnOk result (table.new ≡ record table.old { entries = stored arrival.now.key arrival.now.size arrival.now.limit table.old.entries }) }
+    ensures err { OnErr result ((table.new.capacity ≡ table.old.capacity) × Left arrival.now.key arrival.now.limit table.old.entries table.new.entries) }
+    ensures stands { Stands root.now (F.held folder.new) table.new.entries }
+    ensures content { OnOk result (Holds (F.held folder.new) (λ files. file_at files arrival.now.path ≡ Some bytes.now)) }
+    ensures others { Became (ButUnder root.now) (F.held folder.old).files (F.held folder.new).files }
+    ensures kept { OnOk result (Became (Keeps root.now (staying arrival.now.key arrival.now.limit table.old.entries)) (F.held folder.old).files (F.held folder.new).files) }
+    ensures left { OnErr result (Became (Keeps root.now table.new.entries) (F.held folder.old).files (F.held folder.new).files) }
+    ensures exact { OnOk result (Made (files_stored root.now arrival.now.from arrival.now.path bytes.now (dropped arrival.now.limit (without_key arrival.now.key table.old.entries))) (F.held folder.old).files (F.held folder.new).files) }
+    ensures counts { Counts result (F.held folder.old) (F.held folder.new) }
+{
+    write_temp(folder, &arrival.path, &arrival.from, bytes)?;
+    fill(folder, table, root, arrival)
+}
+
+/// Makes a file the most recent and reads it. It is there.
+pub(crate) fn fetch<F: Folder>(folder: &mut F, path: &Text) -> Result<Vec<u8>, FolderFault>
+    requires { Holds (F.held folder.old) (λ files. ¬ (Lacks path.now files)) }
+    ensures content { IfOk result (λ v. Holds (F.held folder.old) (λ files. file_at files path.now ≡ Some v.items)) }
+    ensures others { Became SameAt (F.held folder.old).files (F.held folder.new).files }
+    ensures exact { OnOk result (Made (touched path.now) (F.held folder.old).files (F.held folder.new).files) }
+    ensures counts { Counts result (F.held folder.old) (F.held folder.new) }
+{
+    folder.touch(path.get())?;
+    folder.read(path.get())
+}

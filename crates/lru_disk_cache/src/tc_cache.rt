@@ -1,0 +1,249 @@
+//! `TcCache`: archives of toolchains, known by the SHA-256 of their content.
+ghost use Rattle.std.specs.Prelude.{◌≡◌, ◌≤◌, ◌⊎◌, [], true, false, length, map, nat_le, is_some, Some, None, Ok, IsSome, IfOk, IfErr, OnOk, OnErr};
+ghost use Rattle.std.specs.Map.{lookup};
+ghost use Rattle.std.specs.Str.{bytes_eq};
+ghost use Rattle.lru_disk_cache.specs.Files.{file_at, front};
+ghost use Rattle.lru_disk_cache.specs.Held.{Holds, Became, Lacks};
+ghost use Rattle.lru_disk_cache.specs.Entries.{total, promoted_key};
+ghost use Rattle.lru_disk_cache.specs.Disk.{ButUnder, without_key};
+ghost use Rattle.lru_disk_cache.specs.Archives.{id_of, archive_path, opened_archives, paths_under, IsInStep, IsArchiveStore};
+ghost use Rattle.lru_disk_cache.specs.Cleaned.{are_archive_keys};
+ghost use Rattle.lru_disk_cache.specs.Keyed.{unkeyed, AllHold};
+ghost use Rattle.lru_disk_cache.specs.Archiving.{archive_verdict, with_archive, StoreFails, FindFails, DropFails, Relists};
+
+use crate::archives::Archives;
+use crate::cache::{LruDiskCache, place_of};
+use crate::cleaning::{are_archive_keys, clean};
+use crate::digest::{is_archive, key_of};
+use crate::error::{Error, Result, io};
+use crate::fault::FolderFault;
+use crate::folder::Folder;
+use dist_types::toolchain::Toolchain;
+use std::alloc::Global;
+use std::marker::Model;
+
+/// A cache of archives of toolchains under a path of a folder, whose sizes sum to no more than a capacity.
+/// Each is known by the SHA-256 of its content; what is least recent goes first.
+#[derive(Drop)]
+pub struct TcCache<F: Folder> {
+    alloc: Global,
+    cache: LruDiskCache<F>,
+}
+
+impl<F: Folder> Model for TcCache<F> {
+    ghost use Rattle.lru_disk_cache.specs.Archives.{ArchiveStore};
+    ghost use Rattle.lru_disk_cache.specs.Keyed.{unkeyed, IsKeyed};
+
+    ghost Value = { ArchiveStore F };
+
+    ghost view = { λ t. record { path = t.cache.disk.path; capacity = t.cache.disk.capacity; archives = unkeyed t.cache.disk.entries; folder = t.cache.folder } };
+
+    ghost invariant = { λ t. IsKeyed (F.held t.cache.folder) t.cache.disk };
+}
+
+impl<F: Folder> TcCache<F> {
+    ghost use Rattle.lru_disk_cache.specs.Store.{OpenFails};
+
+    /// Opens a cache of `cache_size` bytes of the archives below a path, which is empty or a key. A file is
+    /// removed that does not stand where its SHA-256 says or that is larger than that, and the least recent
+    /// where the others exceed it. Where that fails, as `Error::Io` or for want of memory, the folder is
+    /// handed back.
+    pub fn new(
+        alloc: Global,
+        mut folder: F,
+        cache_dir: &str,
+        cache_size: u64,
+    ) -> std::result::Result<Self, (Error, F)>
+        ensures opened { IfOk result (λ t. Holds (F.held folder) (λ files. t.archives ≡ opened_archives cache_dir.now cache_size files)) }
+        ensures at { IfOk result (λ t. (t.path ≡ cache_dir.now) × (t.capacity ≡ cache_size)) }
+        ensures relists { IfOk result (λ t. Holds (F.held folder) (λ files. Relists cache_dir.now cache_size files t.archives)) }
+        ensures in_step { IfOk result (λ t. IsInStep cache_dir.now (F.held t.folder) t.archives) }
+        ensures cleared { IfOk result (λ t. Holds (F.held t.folder) (λ files. paths_under cache_dir.now files ≡ map (λ a. archive_path cache_dir.now a.0) t.archives)) }
+        ensures stands { IfOk result (λ t. IsArchiveStore t.path t.capacity t.archives (F.held t.folder)) }
+        ensures steady { IfOk result (λ t. (F.held t.folder).faults ≡ (F.held folder).faults) }
+        ensures later { IfErr result (λ e. (F.held folder).faults ≤ (F.held e.1).faults) }
+        ensures fails { IfErr result (λ e. OpenFails e.0 (F.held folder) (F.held e.1)) }
+    {
+        let Ok((path, root)) = place_of(alloc, cache_dir) else {
+            return Err((Error::Memory, folder));
+        };
+        match clean(&mut folder, &path, &root, cache_size) {
+            Ok(()) => {}
+            Err(fault) => return Err((io(fault), folder)),
+        }
+        match LruDiskCache::new(alloc, folder, cache_dir, cache_size) {
+            Ok(cache) => TcCache::over(alloc, cache),
+            Err(refusal) => Err(refusal),
+        }
+    }
+
+    /// Whether the archive of a toolchain is listed. It keeps the order and takes no memory. Whatever failed
+    /// so far, each listed archive has a file of its size whose SHA-256 is its id, where files are told.
+    pub fn contains_toolchain(&self, tc: &Toolchain) -> bool
+        ensures listed { result ≡ is_some (lookup (bytes_eq tc.now) self.now.archives) }
+        ensures stands { IsArchiveStore self.now.path self.now.capacity self.now.archives (F.held self.now.folder) }
+    {
+        self.shown();
+        for (id, _size) in self.archives() {
+            if tc.archive_id() == id.archive_id() {
+                return true;
+            }
+        }
+        false
+    }
+
+    /// How many archives are listed. It takes no memory.
+    pub fn len(&self) -> usize
+        ensures { result ≡ length self.now.archives }
+    {
+        self.cache.len()
+    }
+
+    /// Whether no archive is listed. It takes no memory.
+    pub fn is_empty(&self) -> bool
+        ensures { result ≡ nat_le (length self.now.archives) 0 }
+    {
+        self.cache.len() == 0
+    }
+
+    /// The most that the sizes sum to, in bytes. It takes no memory.
+    pub fn capacity(&self) -> u64
+        ensures { result ≡ self.now.capacity }
+    {
+        self.cache.capacity()
+    }
+
+    /// The toolchains of the archives with their sizes, least recent first. It takes no memory.
+    pub fn archives(&self) -> Archives<'_>
+        ensures rest { result ≡ self.now.archives }
+    {
+        Archives::of(self.cache.entries())
+    }
+
+    /// The folder. It takes no memory.
+    pub fn into_folder(self) -> F
+        ensures { result ≡ self.folder }
+    {
+        let TcCache {
+            alloc: _alloc,
+            cache,
+        } = self;
+        cache.into_folder()
+    }
+
+    /// Stores bytes as the archive of a toolchain, as the most recent. The least recent go where they have
+    /// to, and their files. It hashes the bytes once and copies none.
+    ///
+    /// Refused as `Error::WrongDigest`, where the SHA-256 of the bytes is not the toolchain's id, and as
+    /// `Error::FileTooLarge`, in this order, which leave all as it was; then as `Error::Io` or for want of
+    /// memory, which leave the list as it was, or the archive unlisted and some of the least recent gone,
+    /// none more than had to go.
+    pub fn insert_bytes(&mut self, tc: &Toolchain, bytes: &[u8]) -> Result<()>
+        ensures ok { OnOk result (self.new.archives ≡ with_archive self.old.capacity tc.now (length bytes.now) self.old.archives) }
+        ensures admits { OnOk result (archive_verdict self.old.capacity tc.now bytes.now ≡ Ok tt) }
+        ensures content { OnOk result (Holds (F.held self.new.folder) (λ files. file_at files (archive_path self.old.path tc.now) ≡ Some bytes.now)) }
+        ensures fails { IfErr result (λ e. StoreFails self.old.capacity tc.now bytes.now e self.old.archives self.new.archives (F.held self.old.folder) (F.held self.new.folder)) }
+        ensures in_step { IsInStep self.old.path (F.held self.old.folder) self.old.archives → OnOk result (IsInStep self.new.path (F.held self.new.folder) self.new.archives) }
+        ensures at { (self.new.path ≡ self.old.path) × (self.new.capacity ≡ self.old.capacity) }
+        ensures others { Became (ButUnder (front self.old.path)) (F.held self.old.folder).files (F.held self.new.folder).files }
+        ensures steady { OnOk result ((F.held self.new.folder).faults ≡ (F.held self.old.folder).faults) }
+        ensures later { (F.held self.old.folder).faults ≤ (F.held self.new.folder).faults }
+        ensures stands { IsArchiveStore self.new.path self.new.capacity self.new.archives (F.held self.new.folder) }
+    {
+        self.shown();
+        if !is_archive(tc, bytes) {
+            return Err(Error::WrongDigest);
+        }
+        if !self.cache.can_store(bytes.len() as u64) {
+            return Err(Error::FileTooLarge);
+        }
+        let Ok(key) = key_of(self.alloc, tc) else {
+            return Err(Error::Memory);
+        };
+        let answer = self.cache.insert_bytes(key.get(), bytes);
+        let _len = self.cache.len();
+        answer
+    }
+
+    /// The archive of a toolchain, which becomes the most recent. Where files are told its SHA-256 is the
+    /// toolchain's id.
+    ///
+    /// Refused as `Error::FileNotInCache` exactly where it is not listed, which leaves all as it was; as
+    /// `Error::Io`, which leaves it listed and most recent; and for want of memory, which leaves it listed,
+    /// in its place or most recent.
+    pub fn get_file(&mut self, tc: &Toolchain) -> Result<Vec<u8>>
+        ensures ok { OnOk result (self.new.archives ≡ promoted_key tc.now self.old.archives) }
+        ensures found { OnOk result (IsSome (lookup (bytes_eq tc.now) self.old.archives)) }
+        ensures content { IfOk result (λ v. Holds (F.held self.old.folder) (λ files. file_at files (archive_path self.old.path tc.now) ≡ Some v.items)) }
+        ensures digest { IfOk result (λ v. Holds (F.held self.old.folder) (λ files. id_of v.items ≡ tc.now)) }
+        ensures fails { IfErr result (λ e. FindFails tc.now e self.old.archives self.new.archives (F.held self.old.folder) (F.held self.new.folder)) }
+        ensures in_step { IsInStep self.old.path (F.held self.old.folder) self.old.archives → OnOk result (IsInStep self.new.path (F.held self.new.folder) self.new.archives) }
+        ensures at { (self.new.path ≡ self.old.path) × (self.new.capacity ≡ self.old.capacity) }
+        ensures others { Became (ButUnder (front self.old.path)) (F.held self.old.folder).files (F.held self.new.folder).files }
+        ensures steady { OnOk result ((F.held self.new.folder).faults ≡ (F.held self.old.folder).faults) }
+        ensures later { (F.held self.old.folder).faults ≤ (F.held self.new.folder).faults }
+        ensures stands { IsArchiveStore self.new.path self.new.capacity self.new.archives (F.held self.new.folder) }
+    {
+        self.shown();
+        let Ok(key) = key_of(self.alloc, tc) else {
+            return Err(Error::Memory);
+        };
+        let answer = self.cache.get_file(key.get());
+        let _len = self.cache.len();
+        answer
+    }
+
+    /// Takes the archive of a toolchain out and removes its file. It answers Ok where it is not listed.
+    ///
+    /// Refused as `Error::Io`, which leaves it unlisted, and for want of memory, which leaves it listed or
+    /// not.
+    pub fn remove(&mut self, tc: &Toolchain) -> Result<()>
+        ensures ok { OnOk result (self.new.archives ≡ without_key tc.now self.old.archives) }
+        ensures gone { OnOk result (IsSome (lookup (bytes_eq tc.now) self.old.archives) → Holds (F.held self.new.folder) (Lacks (archive_path self.old.path tc.now))) }
+        ensures fails { IfErr result (λ e. DropFails tc.now e self.old.archives self.new.archives (F.held self.old.folder) (F.held self.new.folder)) }
+        ensures in_step { IsInStep self.old.path (F.held self.old.folder) self.old.archives → OnOk result (IsInStep self.new.path (F.held self.new.folder) self.new.archives) }
+        ensures at { (self.new.path ≡ self.old.path) × (self.new.capacity ≡ self.old.capacity) }
+        ensures others { Became (ButUnder (front self.old.path)) (F.held self.old.folder).files (F.held self.new.folder).files }
+        ensures steady { OnOk result ((F.held self.new.folder).faults ≡ (F.held self.old.folder).faults) }
+        ensures later { (F.held self.old.folder).faults ≤ (F.held self.new.folder).faults }
+        ensures stands { IsArchiveStore self.new.path self.new.capacity self.new.archives (F.held self.new.folder) }
+    {
+        self.shown();
+        let Ok(key) = key_of(self.alloc, tc) else {
+            return Err(Error::Memory);
+        };
+        let answer = self.cache.remove(key.get());
+        let _len = self.cache.len();
+        answer
+    }
+
+    // What holds of the cache, whatever failed so far.
+    fn shown(&self)
+        ensures stands { IsArchiveStore self.now.path self.now.capacity self.now.archives (F.held self.now.folder) }
+    {
+        let _len = self.cache.len();
+        let _sum = self.cache.size();
+    }
+
+    // A cache of archives over one whose keys are all theirs, as they are where files are told.
+    fn over(alloc: Global, cache: LruDiskCache<F>) -> std::result::Result<Self, (Error, F)>
+        requires hold { Holds (F.held cache.folder) (λ files. AllHold cache.disk.root files cache.disk.entries) }
+        requires none { cache.disk.pending ≡ [] }
+        requires root { cache.disk.root ≡ front cache.disk.path }
+        ensures ok { IfOk result (λ t. t ≡ record { path = cache.disk.path; capacity = cache.disk.capacity; archives = unkeyed cache.disk.entries; folder = cache.folder }) }
+        ensures keys { OnOk result (are_archive_keys cache.disk.entries ≡ true) }
+        ensures stands { IfOk result (λ t. IsArchiveStore t.path t.capacity t.archives (F.held t.folder)) }
+        ensures folder { IfErr result (λ e. e.1 ≡ cache.folder) }
+        ensures why { IfErr result (λ e. (e.0 ≡ Error.Memory) ⊎ ((e.0 ≡ Error.Io FolderFault.Missing) × (are_archive_keys cache.disk.entries ≡ false))) }
+    {
+        let Ok(all) = are_archive_keys(alloc, cache.entries()) else {
+            return Err((Error::Memory, cache.into_folder()));
+        };
+        if !all {
+            return Err((Error::Io(FolderFault::Missing), cache.into_folder()));
+        }
+        let opened = TcCache { alloc, cache };
+        opened.shown();
+        Ok(opened)
+    }
+}
