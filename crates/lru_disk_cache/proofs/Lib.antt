@@ -28,3 +28,5 @@ pub mod Ids
 pub mod Judged
 pub mod ArchiveOpens
 pub mod OverFolder
+pub mod Asides
+pub mod Reserving
