@@ -4,3 +4,7 @@
 
 #[cfg(test)]
 mod archives;
+#[cfg(test)]
+mod model;
+#[cfg(test)]
+mod orders;

@@ -1,5 +1,5 @@
 -- Calls on files that lie elsewhere, and what stands behind them.
-use Rattle.std.proofs.Common.{◌≡◌, ℕ, false, true, List, [], ◌∷◌, ◌++◌, take, Option, Some, None, Result, Ok, Err, inl, inr, refl, sym, ap, subst, ◌∙◌}
+use Rattle.std.proofs.Common.{◌≡◌, ℕ, false, true, List, [], ◌∷◌, ◌++◌, take, Option, Some, None, Result, Ok, Err, OnErr, inl, inr, refl, sym, ap, subst, ◌∙◌}
 use Rattle.std.specs.List.{AllByRecursion}
 use Rattle.std.specs.Str.{bytes_eq}
 use Rattle.lru_disk_cache.specs.Files.{Files, file_at, front, put, put_found, without, moved, PartWritten, DoneOrNot, Same}
@@ -11,9 +11,10 @@ use Rattle.lru_disk_cache.specs.Disk.{Keeps, SameBelow, SameAt, IsOutside}
 use Rattle.lru_disk_cache.specs.Reserved.{Reservation, AllReserved, AllSure, KeepsReserved}
 use Rattle.lru_disk_cache.specs.Store.{Disk, IsStore}
 use Rattle.lru_disk_cache.specs.Archives.{Archives, archive_key, archive_path, archives_in, IsInStep}
-use Rattle.lru_disk_cache.proofs.Became.{became_of, became_map, became_from}
+use Rattle.lru_disk_cache.proofs.Became.{became_of, became_map, became_from, became_same}
 use Rattle.lru_disk_cache.proofs.Distinct.{apart}
-use Rattle.lru_disk_cache.proofs.Fills.{stands_kept}
+use Rattle.lru_disk_cache.proofs.Fills.{stands_kept, on_err}
+use Rattle.lru_disk_cache.proofs.Standing.{kept_none}
 use Rattle.lru_disk_cache.proofs.InStep.{in_put_other, in_without_other}
 use Rattle.lru_disk_cache.proofs.Lookups.{put_other, part_other, moved_other, done_or_not}
 
@@ -116,3 +117,19 @@ archives_renamed path from to result old new one two h =
     | inl same ↦ ap (archives_in path) same
     | inr done ↦ ap (archives_in path) done ∙ moves f
     ]) h
+
+-- ---- the files are those that they were
+
+pub keeps_equal : (root : List ℕ) (es : Entries) (old new : Option Files) → new ≡ old → Became (Keeps root es) old new
+keeps_equal root es old new is = subst (Became (Keeps root es) old) (sym is) (became_same (Keeps root es) old (λ f. kept_none root es f))
+
+pub reserved_equal : (ps : List Reservation) (old new : Option Files) → new ≡ old → Became (KeepsReserved ps) old new
+reserved_equal ps old new is = subst (Became (KeepsReserved ps) old) (sym is) (became_same (KeepsReserved ps) old (λ f. reserved_same ps f f (λ q. refl)))
+
+pub store_equal : (d : Disk) (old new : Held) → IsStore old d → new.files ≡ old.files → IsStore new d
+store_equal d old new h is =
+    store_after d old new h (keeps_equal d.root d.entries old.files new.files is) (reserved_equal d.pending old.files new.files is)
+
+-- what that leaves of a disk that is as it was
+pub left_equal : {T E : Type 0} (result : Result T E) (d e : Disk) (old new : Option Files) → e ≡ d → new ≡ old → OnErr result (Became (Keeps d.root e.entries) old new)
+left_equal result d e old new is files = on_err result (keeps_equal d.root e.entries old new files)

@@ -1,5 +1,5 @@
 -- What an insert leaves, step by step.
-use Rattle.std.proofs.Common.{◌≡◌, ℕ, ◌<◌, ◌≤◌, ◌^◌, false, true, List, [], ◌∷◌, ◌++◌, length, Option, Some, None, Result, Ok, Err, OnOk, OnErr, refl, sym, ap, subst, ◌∙◌}
+use Rattle.std.proofs.Common.{◌≡◌, ℕ, ◌<◌, ◌≤◌, ◌^◌, false, true, List, [], ◌∷◌, ◌++◌, length, Option, Some, None, Result, Ok, Err, IfOk, OnOk, OnErr, refl, sym, ap, subst, ◌∙◌}
 use Rattle.std.specs.Map.{remove_entry}
 use Rattle.std.specs.Option.{option_map}
 use Rattle.std.specs.Str.{bytes_eq}
@@ -238,3 +238,16 @@ same_kept root es (Ok x) one two three same h = both_keep root es one two three 
 pub same_left : (root : List ℕ) (es : Entries) (result : Result (Unit {0}) FolderFault) (one two three : Option Files) → Became SameAt one two → OnErr result (Became (Keeps root es) two three) → OnErr result (Became (Keeps root es) one three)
 same_left root es (Ok x) one two three same h = tt
 same_left root es (Err e) one two three same h = both_keep root es one two three (same_keeps root es one two same) h
+
+pub on_ok : {T E P : Type 0} (result : Result T E) → P → OnOk result P
+on_ok (Ok x) p = p
+on_ok (Err e) p = tt
+
+-- what holds of the files holds where they are the same
+pub if_same : {T E : Type 0} (P : T → Files → Type 0) (result : Result T E) (old new : Held) → OnOk result (new ≡ old) → IfOk result (λ x. Holds old (P x)) → IfOk result (λ x. Holds new (P x))
+if_same P (Ok x) old new same h = subst (λ k. Holds k (P x)) (sym same) h
+if_same P (Err e) old new same h = tt
+
+pub counts_ok : {T : Type 0} (result : Result T FolderFault) (old new : Held) → Counts result old new → OnOk result (new.faults ≡ old.faults)
+counts_ok (Ok x) old new counts = counts
+counts_ok (Err e) old new counts = tt

@@ -30,3 +30,4 @@ pub mod ArchiveOpens
 pub mod OverFolder
 pub mod Asides
 pub mod Reserving
+pub mod Moves

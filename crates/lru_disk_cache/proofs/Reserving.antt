@@ -1,25 +1,29 @@
 -- Open reservations, and what stands behind each call on them.
-use Rattle.std.proofs.Common.{◌≡◌, ℕ, ◌+◌, ◌<◌, ◌≤◌, ◌^◌, ◌==◌, ◌&&◌, ◌||◌, ◌⊎◌, Bool, true, false, cond, not, is_some, List, [], ◌∷◌, ◌++◌, Option, Some, None, Result, Ok, Err, IfErr, OnOk, inl, inr, refl, sym, ap, subst, ◌∙◌, true≢false, arith}
+use Rattle.std.proofs.Common.{◌≡◌, ℕ, ◌+◌, ◌<◌, ◌≤◌, ◌^◌, ◌==◌, ◌&&◌, ◌||◌, ◌⊎◌, Bool, true, false, cond, not, is_some, List, [], ◌∷◌, ◌++◌, take, Option, Some, None, Result, Ok, Err, IfErr, OnOk, inl, inr, refl, sym, ap, subst, ◌∙◌, true≢false, append_assoc, arith}
 use Rattle.std.proofs.lemmas.Bool.{eqb-true, eqb-false}
 use Rattle.std.proofs.lemmas.List.Sums.{sum_by-append, sum_by-cons}
 use Rattle.std.proofs.lemmas.Slice.Eq.{bytes_eq-Decides}
-use Rattle.std.specs.List.{AllByRecursion, list_any}
+use Rattle.std.proofs.lemmas.List.Splits.{slice_split-cons_yes, slice_split-cons_no}
+use Rattle.std.specs.List.{AllByRecursion, list_any, onto_first, slice_split}
 use Rattle.std.specs.Map.{lookup}
+use Rattle.std.specs.Option.{option_map}
 use Rattle.std.specs.Str.{bytes_eq}
-use Rattle.dist_types.specs.Cause.{Rose}
-use Rattle.lru_disk_cache.specs.Files.{Files, file_at}
+use Rattle.lru_disk_cache.specs.Files.{Files, file_at, front, put_found, appended, PartAppended, Same}
 use Rattle.lru_disk_cache.specs.Held.{Held, Holds, Lacks, Became, Changes}
 use Rattle.lru_disk_cache.specs.declared.fault.FolderFault.{FolderFault}
 use Rattle.lru_disk_cache.specs.declared.fault.FolderFault.TheVariants.{Missing, Failed, Memory}
-use Rattle.lru_disk_cache.specs.Key.{is_key, temp_name}
+use Rattle.lru_disk_cache.specs.declared.error.Error.{Error}
+use Rattle.lru_disk_cache.specs.declared.error.Error.TheVariants.{FileTooLarge, FileNotInCache, Io, PendingSpace, BadKey, NotPending, WrongDigest, WriterRefused, Memory as NoMemory}
+use Rattle.lru_disk_cache.specs.Key.{is_key, is_temporary, last_behind, names_temporary, temp_name}
 use Rattle.lru_disk_cache.specs.Entries.{Entries}
-use Rattle.lru_disk_cache.specs.Disk.{AllKeys, ButAt, ButThese}
+use Rattle.lru_disk_cache.specs.Disk.{AllKeys, ButAt, ButThese, Counts}
 use Rattle.lru_disk_cache.specs.Reserved.{Reservation, AddEntry, IsReserved, AllReserved, AllSure, KeepsReserved, NumbersDiffer, has, held_size, is_of, is_pending, is_sure, temp_of, without_number, doubted, unsure}
-use Rattle.lru_disk_cache.specs.Store.{Disk, error_of}
-use Rattle.lru_disk_cache.specs.Adding.{entry_path, EntryCause, WriteFails}
-use Rattle.lru_disk_cache.proofs.Became.{became_map, became_same}
-use Rattle.lru_disk_cache.proofs.Fills.{temp_avoids}
-use Rattle.lru_disk_cache.proofs.Paths.{same_front, temp_differs, temps_differ}
+use Rattle.lru_disk_cache.specs.Store.{Disk, IsStore, error_of}
+use Rattle.lru_disk_cache.specs.Adding.{entry_path, abandoned, abandon_answer, CallFails, WriteFails, AbandonFails}
+use Rattle.lru_disk_cache.proofs.Became.{became_map, became_of, became_same}
+use Rattle.lru_disk_cache.proofs.Fills.{temp_avoids, keeps_avoided, stands_kept}
+use Rattle.lru_disk_cache.proofs.Lookups.{put_same, put_other}
+use Rattle.lru_disk_cache.proofs.Paths.{same_front, temp_differs, temps_differ, temp_split, begins_so}
 
 -- ---- the path of a temporary file is none else
 
@@ -100,19 +104,19 @@ module _ (P : Reservation → Type 0) (n : ℕ) where
 
 pub none_without : (n : ℕ) (ps : List Reservation) → has n (without_number n ps) ≡ false
 none_without n [] = refl
-none_without n (r ∷ rs) = by (r.number == n) refl
+none_without n (r ∷ rs) = by (r.number == n) refl (none_without n rs)
   where
-    by : (b : Bool) → (r.number == n) ≡ b → has n (cond (not b) (r ∷ without_number n rs) (without_number n rs)) ≡ false
-    by true is = none_without n rs
-    by false is = ap (λ b. b || has n (without_number n rs)) is ∙ none_without n rs
+    by : (b : Bool) → (r.number == n) ≡ b → has n (without_number n rs) ≡ false → has n (cond (not b) (r ∷ without_number n rs) (without_number n rs)) ≡ false
+    by true is rest = rest
+    by false is rest = ap (λ b. b || has n (without_number n rs)) is ∙ rest
 
 fewer_has : (n m : ℕ) (ps : List Reservation) → has m ps ≡ false → has m (without_number n ps) ≡ false
 fewer_has n m [] h = refl
-fewer_has n m (r ∷ rs) h = by (r.number == n) (none_first (r.number == m) (has m rs) h)
+fewer_has n m (r ∷ rs) h = let two = none_first (r.number == m) (has m rs) h in by (r.number == n) two.0 (fewer_has n m rs two.1)
   where
-    by : (b : Bool) → ((r.number == m) ≡ false) × (has m rs ≡ false) → has m (cond (not b) (r ∷ without_number n rs) (without_number n rs)) ≡ false
-    by true two = fewer_has n m rs two.1
-    by false two = ap (λ b. b || has m (without_number n rs)) two.0 ∙ fewer_has n m rs two.1
+    by : (b : Bool) → (r.number == m) ≡ false → has m (without_number n rs) ≡ false → has m (cond (not b) (r ∷ without_number n rs) (without_number n rs)) ≡ false
+    by true other rest = rest
+    by false other rest = ap (λ b. b || has m (without_number n rs)) other ∙ rest
 
 pub differ_without : (n : ℕ) (ps : List Reservation) → NumbersDiffer ps → NumbersDiffer (without_number n ps)
 differ_without n [] h = tt
@@ -121,11 +125,11 @@ differ_without n (r ∷ rs) h =
 
 pub held_without : (n : ℕ) (ps : List Reservation) → held_size (without_number n ps) ≤ held_size ps
 held_without n [] = omega arith
-held_without n (r ∷ rs) = by (r.number == n)
+held_without n (r ∷ rs) = by (r.number == n) (held_without n rs)
   where
-    by : (b : Bool) → held_size (cond (not b) (r ∷ without_number n rs) (without_number n rs)) ≤ held_size (r ∷ rs)
-    by true = omega (arith, held_without n rs, sum_by-cons (λ (x : Reservation). x.size) r rs)
-    by false = omega (arith, held_without n rs, sum_by-cons (λ (x : Reservation). x.size) r rs, sum_by-cons (λ (x : Reservation). x.size) r (without_number n rs))
+    by : (b : Bool) → held_size (without_number n rs) ≤ held_size rs → held_size (cond (not b) (r ∷ without_number n rs) (without_number n rs)) ≤ held_size (r ∷ rs)
+    by true rest = omega (arith, rest, sum_by-cons (λ (x : Reservation). x.size) r rs)
+    by false rest = omega (arith, rest, sum_by-cons (λ (x : Reservation). x.size) r rs, sum_by-cons (λ (x : Reservation). x.size) r (without_number n rs))
 
 -- ---- one that is not sure any more
 
@@ -156,13 +160,13 @@ both_true false false h = absurd (true≢false (sym h))
 -- where the files of the others are as they were
 pub unsure_sure : (n : ℕ) (ps : List Reservation) (f g : Files) → AllSure f ps → KeepsReserved (without_number n ps) f g → AllSure g (unsure n ps)
 unsure_sure n [] f g h keeps = tt
-unsure_sure n (r ∷ rs) f g h keeps = by (r.number == n) refl keeps
+unsure_sure n (r ∷ rs) f g h keeps = by (r.number == n) refl keeps (unsure_sure n rs f g h.1)
   where
-    by : (b : Bool) → (r.number == n) ≡ b → KeepsReserved (cond (not b) (r ∷ without_number n rs) (without_number n rs)) f g → AllSure g (unsure n (r ∷ rs))
-    by true is k =
-        (λ sure lacks. absurd (true≢false (sym (both_true r.sure (not (r.number == n)) sure).1 ∙ ap not is)), unsure_sure n rs f g h.1 k)
-    by false is k =
-        (λ sure lacks. h.0 (both_true r.sure (not (r.number == n)) sure).0 (sym k.0 ∙ lacks), unsure_sure n rs f g h.1 k.1)
+    by : (b : Bool) → (r.number == n) ≡ b → KeepsReserved (cond (not b) (r ∷ without_number n rs) (without_number n rs)) f g → (KeepsReserved (without_number n rs) f g → AllSure g (unsure n rs)) → AllSure g (unsure n (r ∷ rs))
+    by true is k rest =
+        (λ sure lacks. absurd (true≢false (sym (both_true r.sure (not (r.number == n)) sure).1 ∙ ap not is)), rest k)
+    by false is k rest =
+        (λ sure lacks. h.0 (both_true r.sure (not (r.number == n)) sure).0 (sym k.0 ∙ lacks), rest k.1)
 
 -- ---- one more
 
@@ -232,28 +236,16 @@ temp_none e (r ∷ rs) none = by (is_of e r) refl none (temp_none e rs)
 
 pub sure_there : (root : List ℕ) (e : AddEntry) (ps : List Reservation) (files : Files) → AllReserved root ps → AllSure files ps → Lacks (root ++ temp_name e.number) files → is_sure e ps ≡ false
 sure_there root e [] files all sure lacks = refl
-sure_there root e (r ∷ rs) files all sure lacks = by (is_of e r) r.sure refl refl
+sure_there root e (r ∷ rs) files all sure lacks = by (is_of e r) r.sure refl refl (sure_there root e rs files all.1 sure.1 lacks)
   where
-    by : (a b : Bool) → is_of e r ≡ a → r.sure ≡ b → (is_of e r && r.sure || is_sure e rs) ≡ false
-    by true true own is = absurd (sure.0 is (ap (file_at files) (own_path root e r own all.0).0 ∙ lacks))
-    by true false own is = (λ i. own i && is i || is_sure e rs) ∙ sure_there root e rs files all.1 sure.1 lacks
-    by false b own is = ap (λ a. a && r.sure || is_sure e rs) own ∙ sure_there root e rs files all.1 sure.1 lacks
+    by : (a b : Bool) → is_of e r ≡ a → r.sure ≡ b → is_sure e rs ≡ false → (is_of e r && r.sure || is_sure e rs) ≡ false
+    by true true own is rest = absurd (sure.0 is (ap (file_at files) (own_path root e r own all.0).0 ∙ lacks))
+    by true false own is rest = (λ i. own i && is i || is_sure e rs) ∙ rest
+    by false b own is rest = ap (λ a. a && r.sure || is_sure e rs) own ∙ rest
 
 not_told : (o : Option Files) (b : Bool) → ((f : Files) → o ≡ Some f → b ≡ false) → (o ≡ None) ⊎ (b ≡ false)
 not_told None b h = inl refl
 not_told (Some f) b h = inr (h f refl)
-
-pub record Entered (d : Disk) (held : Held) : Type 0 where
-  pub reserved : AllReserved d.root d.pending
-  pub sure : Holds held (λ f. AllSure f d.pending)
-
--- why a call on its temporary file failed
-pub entry_fails : {T : Type 0} (e : AddEntry) (d now : Disk) (path : List ℕ) (done : Files → Files) (part : Files → Files → Type 0) (result : Result T FolderFault) (old new : Held) → Entered d old → path ≡ entry_path d e → Changes (Lacks path) done part result old new → IfErr result (λ fault. WriteFails e (error_of fault) d now old new)
-entry_fails e d now path done part (Ok x) old new h is changes = tt
-entry_fails e d now path done part (Err Missing) old new h is changes =
-    not_told old.files (is_sure e d.pending) (λ f told. sure_there d.root e d.pending f h.reserved (h.sure f told) (ap (file_at f) (sym is) ∙ changes.1 f told))
-entry_fails e d now path done part (Err Failed) old new h is changes = changes.1
-entry_fails e d now path done part (Err Memory) old new h is changes = tt
 
 each_same : (ps : List Reservation) (f : Files) → KeepsReserved ps f f
 each_same [] f = tt
@@ -262,3 +254,163 @@ each_same (r ∷ rs) f = (refl, each_same rs f)
 -- where nothing changed
 pub none_reserved : (ps : List Reservation) (o : Option Files) → Became (KeepsReserved ps) o o
 none_reserved ps o = became_same (KeepsReserved ps) o (λ f. each_same ps f)
+
+-- ---- a call of the folder, as the cache tells it
+
+same_files : (o n : Option Files) → Became Same o n → n ≡ o
+same_files None n h = h
+same_files (Some f) n h = h.1 ∙ ap Some h.2
+
+-- a call that changes nothing leaves the files
+pub files_left : {T : Type 0} (lacking : Files → Type 0) (result : Result T FolderFault) (old new : Held) → Changes lacking (λ files. files) Same result old new → new.files ≡ old.files
+files_left lacking (Ok x) old new h = ap (λ k. k.files) h.0 ∙ by old.files
+  where
+    by : (o : Option Files) → option_map (λ files. files) o ≡ o
+    by None = refl
+    by (Some f) = refl
+files_left lacking (Err Missing) old new h = ap (λ k. k.files) h.0
+files_left lacking (Err Failed) old new h = same_files old.files new.files h.0
+files_left lacking (Err Memory) old new h = same_files old.files new.files h.0
+
+-- and where it succeeds the count
+pub held_left : {T : Type 0} (lacking : Files → Type 0) (x : T) (old new : Held) → (let ok : Result T FolderFault = Ok x in Changes lacking (λ files. files) Same ok old new) → new ≡ old
+held_left lacking x old new h = h.0 ∙ by old
+  where
+    by : (k : Held) → record { files = option_map (λ (files : Files). files) k.files; faults = k.faults } ≡ k
+    by k = ap (λ o. record { files = o; faults = k.faults }) (each k.files)
+      where
+        each : (o : Option Files) → option_map (λ (files : Files). files) o ≡ o
+        each None = refl
+        each (Some f) = refl
+
+-- what an addition leaves
+added_by : (o : Option (List ℕ)) (p q bytes : List ℕ) (files : Files) → bytes_eq p q ≡ false → file_at (put_found (option_map (λ old. old ++ bytes) o) p files files) q ≡ file_at files q
+added_by None p q bytes files other = refl
+added_by (Some b) p q bytes files other = put_other p q (b ++ bytes) files other
+
+pub added_others : {T : Type 0} (path bytes : List ℕ) (result : Result T FolderFault) (old new : Held) → Changes (Lacks path) (appended path bytes) (PartAppended path bytes) result old new → Became (ButAt path) old.files new.files
+added_others path bytes result old new h =
+    became_of (Lacks path) (appended path bytes) (PartAppended path bytes) (ButAt path) result old new (λ f q other. refl) (λ f q other. added_by (file_at f path) path q bytes f other) (λ f g part q other. elim part [
+    | inl same ↦ ap (λ l. file_at l q) same
+    | inr some ↦ ap (λ l. file_at l q) some.1 ∙ added_by (file_at f path) path q (take some.0 bytes) f other
+    ]) h
+
+there_by : (o : Option (List ℕ)) (p bytes : List ℕ) (files : Files) → file_at files p ≡ o → ¬ (Lacks p files) → ¬ (Lacks p (put_found (option_map (λ old. old ++ bytes) o) p files files))
+there_by None p bytes files is there = there
+there_by (Some b) p bytes files is there = λ lacks. let both : Some (b ++ bytes) ≡ None = sym (put_same p (b ++ bytes) files) ∙ lacks in absurd (true≢false (ap is_some both))
+
+-- a file that was there is there still
+abbrev pub StaysThere : List ℕ → Files → Files → Type 0
+StaysThere path old new = ¬ (Lacks path old) → ¬ (Lacks path new)
+
+pub added_there : {T : Type 0} (path bytes : List ℕ) (result : Result T FolderFault) (old new : Held) → Changes (Lacks path) (appended path bytes) (PartAppended path bytes) result old new → Became (StaysThere path) old.files new.files
+added_there path bytes result old new h =
+    became_of (Lacks path) (appended path bytes) (PartAppended path bytes) (StaysThere path) result old new (λ f there. there) (λ f there. there_by (file_at f path) path bytes f refl there) (λ f g part there lacks. elim part [
+    | inl same ↦ there (ap (λ l. file_at l path) (sym same) ∙ lacks)
+    | inr some ↦ there_by (file_at f path) path (take some.0 bytes) f refl there (ap (λ l. file_at l path) (sym some.1) ∙ lacks)
+    ]) h
+
+-- ---- the reservations behind an addition
+
+sure_each : (root path : List ℕ) (n : ℕ) (ps : List Reservation) (f g : Files) → path ≡ root ++ temp_name n → n < 2 ^ 64 → AllReserved root ps → ButAt path f g → StaysThere path f g → AllSure f ps → AllSure g ps
+sure_each root path n [] f g is below all but stays h = tt
+sure_each root path n (r ∷ rs) f g is below all but stays h = (by (r.number == n) refl, sure_each root path n rs f g is below all.1 but stays h.1)
+  where
+    by : (b : Bool) → (r.number == n) ≡ b → r.sure ≡ true → ¬ (Lacks r.temp g)
+    by true same sure =
+        let here : path ≡ r.temp = is ∙ (ap (λ m. root ++ temp_name m) (sym (eqb-true r.number n same)) ∙ sym all.0.temp) in
+        subst (λ q. ¬ (Lacks q f) → ¬ (Lacks q g)) here stays (h.0 sure)
+    by false other sure = λ lacks.
+        h.0 sure (sym (but r.temp (ap (λ p. bytes_eq p r.temp) is ∙ number_apart root n r below other all.0)) ∙ lacks)
+
+into_both : (P Q : Files → Files → Type 0) (o n : Option Files) (files : Files) → Became P o n → Became Q o n → n ≡ Some files → (before : Files) × (o ≡ Some before) × P before files × Q before files
+into_both P Q None n files p q told = let none : None ≡ Some files = sym p ∙ told in absurd (true≢false (sym (ap is_some none)))
+into_both P Q (Some f) n files p q told =
+    let one : p.0 ≡ files = let both : Some p.0 ≡ Some files = sym p.1 ∙ told in cc in
+    let two : q.0 ≡ files = let both : Some q.0 ≡ Some files = sym q.1 ∙ told in cc in
+    (f, refl, subst (P f) one p.2, subst (Q f) two q.2)
+
+-- a disk stands behind bytes that were added to the file of a reservation
+pub added_store : (d : Disk) (path : List ℕ) (n : ℕ) (old new : Held) → IsStore old d → path ≡ d.root ++ temp_name n → n < 2 ^ 64 → Became (ButAt path) old.files new.files → Became (StaysThere path) old.files new.files → IsStore new d
+added_store d path n old new h is below but stays = record {
+  stands = stands_kept d.root d.entries old new h.stands (keeps_avoided d.root path d.entries old.files new.files (temp_avoids d.root path n d.entries below is h.stands.keys) but);
+  root = h.root;
+  fits = h.fits;
+  reserved = h.reserved;
+  numbers = h.numbers;
+  sure = λ files told.
+      let w = into_both (ButAt path) (StaysThere path) old.files new.files files but stays told in
+      sure_each d.root path n d.pending w.0 files is below h.reserved w.2 w.3 (h.sure w.0 w.1);
+}
+
+-- ---- a path whose last part is no temporary file's
+
+cut : (xs t : List ℕ) → (first : List ℕ) × (more : List (List ℕ)) × (slice_split (λ b. b == 47) (xs ++ 47 ∷ t) ≡ first ∷ (more ++ slice_split (λ b. b == 47) t))
+cut [] t = ([], [], slice_split-cons_yes (λ b. b == 47) 47 t refl)
+cut (x ∷ xs) t = by (x == 47) refl (cut xs t)
+  where
+    by : (b : Bool) → (x == 47) ≡ b → (first : List ℕ) × (more : List (List ℕ)) × (slice_split (λ b. b == 47) (xs ++ 47 ∷ t) ≡ first ∷ (more ++ slice_split (λ b. b == 47) t))
+        → (first : List ℕ) × (more : List (List ℕ)) × (slice_split (λ b. b == 47) (x ∷ xs ++ 47 ∷ t) ≡ first ∷ (more ++ slice_split (λ b. b == 47) t))
+    by true is w = ([], w.0 ∷ w.1, slice_split-cons_yes (λ b. b == 47) x (xs ++ 47 ∷ t) is ∙ ap (λ l. [] ∷ l) w.2)
+    by false is w = (x ∷ w.0, w.1, slice_split-cons_no (λ b. b == 47) x (xs ++ 47 ∷ t) is ∙ ap (onto_first x) w.2)
+
+last_is : (part : List ℕ) (more : List (List ℕ)) (t : List ℕ) → last_behind part (more ++ t ∷ []) ≡ t
+last_is part [] t = refl
+last_is part (m ∷ ms) t = last_is m ms t
+
+front_named : (p : List ℕ) (n : ℕ) → n < 2 ^ 64 → names_temporary (front p ++ temp_name n) ≡ true
+front_named [] n below = ap (λ parts. is_temporary (last_behind [] parts)) (temp_split n below) ∙ begins_so n
+front_named (b ∷ bs) n below =
+    let w = cut (b ∷ bs) (temp_name n) in
+    ap names_temporary (append_assoc (b ∷ bs) (47 ∷ []) (temp_name n))
+    ∙ (ap (λ parts. is_temporary (last_behind [] parts)) (w.2 ∙ ap (λ parts. w.0 ∷ (w.1 ++ parts)) (temp_split n below))
+    ∙ (ap is_temporary (last_is w.0 w.1 (temp_name n)) ∙ begins_so n))
+
+named_apart : (path root from : List ℕ) (r : Reservation) → root ≡ front path → names_temporary from ≡ false → IsReserved root r → bytes_eq from r.temp ≡ false
+named_apart path root from r root_is named h = by (bytes_eq from r.temp) refl
+  where
+    by : (b : Bool) → bytes_eq from r.temp ≡ b → b ≡ false
+    by false is = refl
+    by true is =
+        let same : from ≡ front path ++ temp_name r.number = (bytes_eq-Decides from r.temp).0 is ∙ (h.temp ∙ ap (λ x. x ++ temp_name r.number) root_is) in
+        absurd (true≢false (sym (front_named path r.number h.number) ∙ (ap names_temporary (sym same) ∙ named)))
+
+named_each : (path root from to key : List ℕ) (es : Entries) (ps : List Reservation) (f g : Files) → root ≡ front path → names_temporary from ≡ false → to ≡ root ++ key → is_key key ≡ true → AllKeys es → AllReserved root ps → ButThese root from to es f g → KeepsReserved ps f g
+named_each path root from to key es [] f g root_is named to_is fit keys all but = tt
+named_each path root from to key es (r ∷ rs) f g root_is named to_is fit keys all but =
+    (but r.temp (named_apart path root from r root_is named all.0) (ap (λ p. bytes_eq p r.temp) to_is ∙ key_apart root key r fit all.0) (temp_avoids root r.temp r.number es all.0.number all.0.temp keys), named_each path root from to key es rs f g root_is named to_is fit keys all.1 but)
+
+-- so moving its file keeps those of the reservations
+pub named_reserved : (path root from to key : List ℕ) (es : Entries) (ps : List Reservation) (old new : Option Files) → root ≡ front path → names_temporary from ≡ false → to ≡ root ++ key → is_key key ≡ true → AllKeys es → AllReserved root ps → Became (ButThese root from to es) old new → Became (KeepsReserved ps) old new
+named_reserved path root from to key es ps old new root_is named to_is fit keys all but =
+    became_map (ButThese root from to es) (KeepsReserved ps) old new (λ f g h. named_each path root from to key es ps f g root_is named to_is fit keys all h) but
+
+-- ---- the answers of the calls
+
+-- why a call on the temporary file of an entry failed
+pub write_fails : {T : Type 0} (e : AddEntry) (d now : Disk) (path : List ℕ) (result : Result T Error) (old new : Held) → IsStore old d → path ≡ entry_path d e → IfErr result (λ x. CallFails (Lacks path) x old new) → IfErr result (λ x. WriteFails e x d now old new)
+write_fails e d now path (Ok x) old new h is fails = tt
+write_fails e d now path (Err (Io Missing)) old new h is fails =
+    not_told old.files (is_sure e d.pending) (λ f told. sure_there d.root e d.pending f h.reserved (h.sure f told) (ap (file_at f) (sym is) ∙ fails.1 f told))
+write_fails e d now path (Err (Io Failed)) old new h is fails = fails
+write_fails e d now path (Err (Io Memory)) old new h is fails = fails
+write_fails e d now path (Err NoMemory) old new h is fails = tt
+write_fails e d now path (Err BadKey) old new h is fails = absurd fails
+write_fails e d now path (Err FileTooLarge) old new h is fails = absurd fails
+write_fails e d now path (Err FileNotInCache) old new h is fails = absurd fails
+write_fails e d now path (Err PendingSpace) old new h is fails = absurd fails
+write_fails e d now path (Err NotPending) old new h is fails = absurd fails
+write_fails e d now path (Err WrongDigest) old new h is fails = absurd fails
+write_fails e d now path (Err WriterRefused) old new h is fails = absurd fails
+
+pub closed_ok : (P : Type 0) (answer : Result (Unit {0}) FolderFault) (result : Result (Unit {0}) (Error × Option AddEntry)) → result ≡ abandon_answer answer → OnOk answer P → OnOk result P
+closed_ok P (Ok x) result is h = subst (λ r. OnOk r P) (sym is) h
+closed_ok P (Err fault) result is h = subst (λ r. OnOk r P) (sym is) tt
+
+pub closed_fails : (entry : AddEntry) (d e : Disk) (answer : Result (Unit {0}) FolderFault) (result : Result (Unit {0}) (Error × Option AddEntry)) (old new : Held) → result ≡ abandon_answer answer → ¬ (answer ≡ Err Missing) → Counts answer old new → e ≡ abandoned d entry → is_pending entry d.pending ≡ true → IfErr result (λ x. AbandonFails entry x.0 x.1 d e old new)
+closed_fails entry d e (Ok x) result old new is found counts disk pending = subst (λ r. IfErr r (λ x. AbandonFails entry x.0 x.1 d e old new)) (sym is) tt
+closed_fails entry d e (Err Missing) result old new is found counts disk pending = absurd (found refl)
+closed_fails entry d e (Err Failed) result old new is found counts disk pending =
+    subst (λ r. IfErr r (λ x. AbandonFails entry x.0 x.1 d e old new)) (sym is) (refl, disk, pending, counts.0)
+closed_fails entry d e (Err Memory) result old new is found counts disk pending =
+    subst (λ r. IfErr r (λ x. AbandonFails entry x.0 x.1 d e old new)) (sym is) (refl, disk, pending)

@@ -59,7 +59,7 @@ module _ (path root : List ℕ) (pending : List Reservation) where
     | inr less ↦ omega (arith, end_total (without_key key old) new less.0, size-others (bytes_eq key) sizes old)
   ]
 
-  stored_fits : (key : List ℕ) (n limit capacity : ℕ) (es : Entries) → limit + n + held_size pending ≤ capacity → total (stored key n limit es) + held_size pending ≤ capacity
+  pub stored_fits : (key : List ℕ) (n limit capacity : ℕ) (es : Entries) → limit + n + held_size pending ≤ capacity → total (stored key n limit es) + held_size pending ≤ capacity
   stored_fits key n limit capacity es room =
       omega (arith, room, total_more (staying key limit es) key n, trim_within limit (without_key key es))
 

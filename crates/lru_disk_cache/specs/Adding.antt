@@ -11,7 +11,7 @@ use Rattle.lru_disk_cache.specs.Key.{is_key, temp_name}
 use Rattle.lru_disk_cache.specs.Entries.{Entries, trim, IsEnd}
 use Rattle.lru_disk_cache.specs.Disk.{Left, stored, without_each}
 use Rattle.lru_disk_cache.specs.Reserved.{Reservation, AddEntry, held_size, is_pending, is_sure, without_number, unsure}
-use Rattle.lru_disk_cache.specs.Store.{Disk, room_beside, insert_verdict, Refuses, IoCause}
+use Rattle.lru_disk_cache.specs.Store.{Disk, room_beside, insert_verdict, error_of, Refuses, IoCause}
 
 -- ---- a reservation is made
 
@@ -50,6 +50,24 @@ PrepareFails key size WrongDigest d e old new = ⊥
 PrepareFails key size WriterRefused d e old new = ⊥
 
 -- ---- it is used
+
+-- why the folder failed: the count rose, or there was no file for the call, which leaves all
+abbrev pub CallCause : (Files → Type 0) → FolderFault → Held → Held → Type 0
+CallCause lacking Failed old new = Rose old.faults new.faults
+CallCause lacking Missing old new = (new ≡ old) × Holds old lacking
+CallCause lacking Memory old new = ⊥
+
+-- why a call of it failed
+abbrev pub CallFails : (Files → Type 0) → Error → Held → Held → Type 0
+CallFails lacking (Io fault) old new = CallCause lacking fault old new
+CallFails lacking NoMemory old new = Unit {0}
+CallFails lacking BadKey old new = ⊥
+CallFails lacking FileTooLarge old new = ⊥
+CallFails lacking FileNotInCache old new = ⊥
+CallFails lacking PendingSpace old new = ⊥
+CallFails lacking NotPending old new = ⊥
+CallFails lacking WrongDigest old new = ⊥
+CallFails lacking WriterRefused old new = ⊥
 
 -- why the folder failed: the count rose, or files are not told, or the temporary file is not sure to be there
 abbrev pub EntryCause : AddEntry → Disk → FolderFault → Held → Held → Type 0
@@ -130,6 +148,11 @@ CommitFails entry WriterRefused d e old new = ⊥
 -- the disk once the reservation of an entry is closed
 abbrev pub abandoned : Disk → AddEntry → Disk
 abandoned d e = record d { pending = without_number e.number d.pending }
+
+-- the answer, by that of the removal of its file
+abbrev pub abandon_answer : Result (Unit {0}) FolderFault → Result (Unit {0}) (Error × Option AddEntry)
+abandon_answer (Ok x) = Ok (tt {0})
+abandon_answer (Err fault) = Err (error_of fault, None)
 
 -- Why that failed. The entry comes back where it was not pending, and else its reservation is closed.
 abbrev pub AbandonFails : AddEntry → Error → Option AddEntry → Disk → Disk → Held → Held → Type 0

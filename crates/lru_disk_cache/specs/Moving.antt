@@ -55,7 +55,19 @@ MoveFails key path WriterRefused d e old new = ⊥
 -- A call of the closure at an empty vector may give this answer, and leave these bytes.
 abbrev pub Wrote : {W V : Type 0} → Once W (MutBor V × Unit {0}) (Result (Unit {0}) WriteFault × (MutBor V × Unit {0})) → (V → List ℕ) → W → Result (Unit {0}) WriteFault → List ℕ → Type 0
 Wrote {W} {V} call seen closure answer bytes =
-    (empty filled : V) × (seen empty ≡ []) × FnOnceReturnsAtMut call closure empty answer filled × (seen filled ≡ bytes)
+    (empty filled : V) × FnOnceReturnsAtMut call closure empty answer filled × (seen empty ≡ []) × (seen filled ≡ bytes)
+
+-- why a closure wrote nothing that is to be stored
+abbrev pub WriterFails : (Result (Unit {0}) WriteFault → List ℕ → Type 0) → Error → Type 0
+WriterFails wrote WriterRefused = (bytes : List ℕ) × wrote (Err Refused) bytes
+WriterFails wrote NoMemory = Unit {0}
+WriterFails wrote BadKey = ⊥
+WriterFails wrote FileTooLarge = ⊥
+WriterFails wrote FileNotInCache = ⊥
+WriterFails wrote (Io fault) = ⊥
+WriterFails wrote PendingSpace = ⊥
+WriterFails wrote NotPending = ⊥
+WriterFails wrote WrongDigest = ⊥
 
 -- a refusal of such a store of bytes is that of the bytes that were written
 abbrev pub OfBytes : (Result (Unit {0}) WriteFault → List ℕ → Type 0) → (List ℕ → Type 0) → Type 0

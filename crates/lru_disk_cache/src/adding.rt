@@ -2,15 +2,17 @@
 ghost use Rattle.std.specs.Prelude.{◌≡◌, ◌+◌, ◌++◌, ◌≤◌, ◌⊎◌, [], true, Some, Ok, Err, IfOk, IfErr, OnOk, OnErr};
 ghost use Rattle.lru_disk_cache.specs.Files.{file_at, without, appended, PartAppended};
 ghost use Rattle.lru_disk_cache.specs.Held.{Holds, Became, Made, Lacks};
+ghost use Rattle.lru_disk_cache.specs.Key.{is_key};
 ghost use Rattle.lru_disk_cache.specs.Disk.{ButAt, ButUnder, Keeps, dropped, files_placed, without_key};
 ghost use Rattle.lru_disk_cache.specs.Reserved.{held_size, is_pending, without_number, IsLeastFree, KeepsReserved};
-ghost use Rattle.lru_disk_cache.specs.Adding.{entry_path, prepared, files_prepared, held_beside, room_for, commit_verdict, committed, abandoned, HasSize, PrepareFails, WriteFails, CommitFails, AbandonFails};
+ghost use Rattle.lru_disk_cache.specs.Adding.{entry_path, prepared, files_prepared, held_beside, room_for, commit_verdict, committed, abandoned, abandon_answer, HasSize, PrepareFails, WriteFails, CommitFails, AbandonFails};
 
 use crate::cache::{LruDiskCache, arrival_of};
 use crate::entry::LruDiskCacheAddEntry;
 use crate::error::{Error, Result, io};
+use crate::fault::FolderFault;
 use crate::folder::Folder;
-use crate::steps::{announce, fill, remove_at};
+use crate::steps::{add_to, announce, fill, measure, remove_at};
 use dist_types::text::Text;
 
 impl<F: Folder> LruDiskCache<F> {
@@ -79,10 +81,7 @@ impl<F: Folder> LruDiskCache<F> {
         let Some(temp) = self.pending.temp_of(entry) else {
             return Err(Error::NotPending);
         };
-        match self.folder.append(temp, bytes) {
-            Ok(()) => Ok(()),
-            Err(fault) => Err(io(fault)),
-        }
+        add_to(&mut self.folder, temp, bytes)
     }
 
     /// Stores the temporary file of an entry under its key, as the most recent, with the size that the file
@@ -145,14 +144,14 @@ impl<F: Folder> LruDiskCache<F> {
         };
         let answer = remove_at(&mut self.folder, temp);
         self.pending.settle(entry.spend());
-        match answer {
-            Ok(()) => Ok(()),
-            Err(fault) => Err((io(fault), None)),
-        }
+        closed(answer)
     }
 
     // How many bytes the temporary file of an entry has.
     fn entry_size(&mut self, entry: &LruDiskCacheAddEntry) -> Result<u64>
+        ensures key { OnOk result (is_key entry.now.key ≡ true) }
+        ensures now { IfOk result (λ n. HasSize self.new.disk entry.now (F.held self.new.folder) n) }
+        ensures stands { IsStore (F.held self.new.folder) self.new.disk }
         ensures size { IfOk result (λ n. HasSize self.old.disk entry.now (F.held self.old.folder) n) }
         ensures pending { OnOk result (is_pending entry.now self.old.disk.pending ≡ true) }
         ensures same { OnOk result (F.held self.new.folder ≡ F.held self.old.folder) }
@@ -164,10 +163,7 @@ impl<F: Folder> LruDiskCache<F> {
         let Some(temp) = self.pending.temp_of(entry) else {
             return Err(Error::NotPending);
         };
-        match self.folder.size(temp) {
-            Ok(size) => Ok(size),
-            Err(fault) => Err(io(fault)),
-        }
+        measure(&mut self.folder, temp)
     }
 
     // Whether the file of an entry may be stored with a size. Gives what the other entries may sum to then.
@@ -234,5 +230,17 @@ impl<F: Folder> LruDiskCache<F> {
                 Err(io(fault))
             }
         }
+    }
+}
+
+// The answer of an entry that was pending, by that of the removal of its file.
+fn closed(
+    answer: std::result::Result<(), FolderFault>,
+) -> std::result::Result<(), (Error, Option<LruDiskCacheAddEntry>)>
+    ensures { result ≡ abandon_answer answer }
+{
+    match answer {
+        Ok(()) => Ok(()),
+        Err(fault) => Err((io(fault), None)),
     }
 }

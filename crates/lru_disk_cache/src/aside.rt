@@ -1,12 +1,15 @@
 //! Files that are kept beside a cache, in its folder.
-ghost use Rattle.std.specs.Prelude.{◌≡◌, Some, IfOk};
+ghost use Rattle.std.specs.Prelude.{◌≡◌, ◌≤◌, Some, IfOk, IfErr, OnOk};
+ghost use Rattle.lru_disk_cache.specs.Adding.{CallFails};
 ghost use Rattle.lru_disk_cache.specs.Files.{file_at, size_at, put, moved, PartWritten, DoneOrNot, Same};
 ghost use Rattle.lru_disk_cache.specs.Held.{Holds, Lacks, Never, Changes};
 ghost use Rattle.lru_disk_cache.specs.Disk.{IsOutside};
 
 use crate::cache::LruDiskCache;
+use crate::error;
 use crate::fault::FolderFault;
 use crate::folder::Folder;
+use crate::steps::measure;
 
 impl<F: Folder> LruDiskCache<F> {
     ghost use Rattle.lru_disk_cache.specs.Store.{IsStore};
@@ -22,13 +25,16 @@ impl<F: Folder> LruDiskCache<F> {
     }
 
     /// How many bytes a file of the folder has. The cache stays as it is.
-    pub(crate) fn size_aside(&mut self, path: &str) -> Result<u64, FolderFault>
+    pub(crate) fn path_size(&mut self, path: &str) -> error::Result<u64>
         ensures size { IfOk result (λ n. Holds (F.held self.old.folder) (λ files. size_at files path.now ≡ Some n)) }
-        ensures leaves { Changes (Lacks path.now) (λ files. files) Same result (F.held self.old.folder) (F.held self.new.folder) }
+        ensures same { OnOk result (F.held self.new.folder ≡ F.held self.old.folder) }
+        ensures files { (F.held self.new.folder).files ≡ (F.held self.old.folder).files }
+        ensures fails { IfErr result (λ e. CallFails (Lacks path.now) e (F.held self.old.folder) (F.held self.new.folder)) }
+        ensures later { (F.held self.old.folder).faults ≤ (F.held self.new.folder).faults }
         ensures disk { self.new.disk ≡ self.old.disk }
         ensures stands { IsStore (F.held self.new.folder) self.new.disk }
     {
-        self.folder.size(path)
+        measure(&mut self.folder, path)
     }
 
     /// Writes a file of the folder that does not lie below the path of the cache, which stays as it is.

@@ -8,7 +8,7 @@ ghost use Rattle.lru_disk_cache.specs.Held.{Holds, Became, Made};
 ghost use Rattle.lru_disk_cache.specs.Key.{names_temporary};
 ghost use Rattle.lru_disk_cache.specs.Disk.{Avoids, ButUnderAnd, ButUnder, Keeps, SameAt, dropped, files_placed, without_key};
 ghost use Rattle.lru_disk_cache.specs.Reserved.{KeepsReserved};
-ghost use Rattle.lru_disk_cache.specs.Moving.{IsSized, MoveFails, Wrote, WithFails};
+ghost use Rattle.lru_disk_cache.specs.Moving.{IsSized, MoveFails, Wrote, WriterFails, WithFails};
 
 use crate::cache::{LruDiskCache, arrival_from};
 use crate::error::{Error, Result, WriteFault, io};
@@ -17,6 +17,7 @@ use crate::key::{is_key, path_of};
 use crate::reading::Opened;
 use crate::steps::move_in;
 use dist_types::text::Text;
+use std::alloc::Global;
 
 impl<F: Folder> LruDiskCache<F> {
     ghost use Rattle.lru_disk_cache.specs.Store.{IsStore, inserted, looked_up, room_beside, insert_verdict, LookUpFails};
@@ -43,12 +44,13 @@ impl<F: Folder> LruDiskCache<F> {
         ensures later { (F.held self.old.folder).faults ≤ (F.held self.new.folder).faults }
         ensures stands { IsStore (F.held self.new.folder) self.new.disk }
     {
+        let _sum = self.size();
         if !is_key(key) {
             return Err(Error::BadKey);
         }
-        let size = match self.size_aside(path) {
+        let size = match self.path_size(path) {
             Ok(size) => size,
-            Err(fault) => return Err(io(fault)),
+            Err(error) => return Err(error),
         };
         match self.admit(key, size) {
             Ok(()) => {}
@@ -91,13 +93,10 @@ impl<F: Folder> LruDiskCache<F> {
         if !is_key(key) {
             return Err(Error::BadKey);
         }
-        let mut bytes = Vec::new(self.alloc);
-        match with(&mut bytes) {
-            Ok(()) => {}
-            Err(WriteFault::Refused) => return Err(Error::WriterRefused),
-            Err(WriteFault::Memory) => return Err(Error::Memory),
+        match written(self.alloc, with) {
+            Ok(bytes) => self.insert_bytes(key, &bytes),
+            Err(error) => Err(error),
         }
-        self.insert_bytes(key, &bytes)
     }
 
     /// The file of a key, opened for reading. The key becomes the most recent.
@@ -143,5 +142,22 @@ impl<F: Folder> LruDiskCache<F> {
         }
         self.table.promote(&key);
         Ok(Some(path.into_inner()))
+    }
+}
+
+/// What a closure writes. It is called once, with an empty vector.
+pub(crate) fn written<W: FnOnce(&mut Vec<u8>) -> std::result::Result<(), WriteFault>>(
+    alloc: Global,
+    with: W,
+) -> Result<Vec<u8>>
+    requires { W.IsAlwaysCallable with }
+    ensures ok { IfOk result (λ b. Wrote W.FnOnce (λ v. v.items) with (Ok tt) b.items) }
+    ensures fails { IfErr result (λ e. WriterFails (Wrote W.FnOnce (λ v. v.items) with) e) }
+{
+    let mut bytes = Vec::new(alloc);
+    match with(&mut bytes) {
+        Ok(()) => Ok(bytes),
+        Err(WriteFault::Refused) => Err(Error::WriterRefused),
+        Err(WriteFault::Memory) => Err(Error::Memory),
     }
 }

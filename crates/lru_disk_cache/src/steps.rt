@@ -1,14 +1,15 @@
 //! The steps of a disk cache: writing the temporary file, dropping what is least recent, and putting the file in its place.
-ghost use Rattle.std.specs.Prelude.{◌≡◌, ◌+◌, ◌-◌, ◌≤◌, ◌<◌, ◌++◌, ◌∷◌, [], length, take, drop, true, false, Some, None, Err, IfOk, OnOk, OnErr};
+ghost use Rattle.std.specs.Prelude.{◌≡◌, ◌+◌, ◌-◌, ◌≤◌, ◌<◌, ◌++◌, ◌∷◌, [], length, take, drop, true, false, Some, None, Err, IfOk, IfErr, OnOk, OnErr};
 ghost use Rattle.std.specs.Map.{lookup};
 ghost use Rattle.std.specs.Str.{bytes_eq};
-ghost use Rattle.lru_disk_cache.specs.Files.{file_at, size_at, put, without, moved, touched};
+ghost use Rattle.lru_disk_cache.specs.Files.{file_at, size_at, put, without, moved, touched, appended, PartAppended};
 ghost use Rattle.lru_disk_cache.specs.Held.{Holds, Became, Made, Lacks};
 ghost use Rattle.lru_disk_cache.specs.Key.{is_key};
 ghost use Rattle.lru_disk_cache.specs.Entries.{total, trim, IsEnd, IsTable};
-ghost use Rattle.lru_disk_cache.specs.Adding.{files_prepared};
+ghost use Rattle.lru_disk_cache.specs.Adding.{files_prepared, CallFails};
 ghost use Rattle.lru_disk_cache.specs.Disk.{Stands, Avoids, ButAt, ButListed, ButUnder, ButUnderAnd, ButThese, IsTemp, Keeps, Counts, Drops, stored, staying, dropped, without_each, files_placed, files_stored, without_key, Left, OnlyRemoved, SameAt};
 
+use crate::error::{self, io};
 use crate::fault::FolderFault;
 use crate::folder::Folder;
 use crate::key::path_of;
@@ -49,6 +50,40 @@ pub(crate) fn remove_file<F: Folder>(
         Err(FolderFault::Missing) => Ok(()),
         Err(FolderFault::Failed) => Err(FolderFault::Failed),
         Err(FolderFault::Memory) => Err(FolderFault::Memory),
+    }
+}
+
+/// How many bytes a file has.
+pub(crate) fn measure<F: Folder>(folder: &mut F, path: &str) -> error::Result<u64>
+    ensures size { IfOk result (λ n. Holds (F.held folder.old) (λ files. size_at files path.now ≡ Some n)) }
+    ensures same { OnOk result (F.held folder.new ≡ F.held folder.old) }
+    ensures files { (F.held folder.new).files ≡ (F.held folder.old).files }
+    ensures fails { IfErr result (λ e. CallFails (Lacks path.now) e (F.held folder.old) (F.held folder.new)) }
+    ensures later { (F.held folder.old).faults ≤ (F.held folder.new).faults }
+{
+    match folder.size(path) {
+        Ok(size) => Ok(size),
+        Err(fault) => Err(io(fault)),
+    }
+}
+
+/// Adds bytes at the end of a file.
+pub(crate) fn add_to<F: Folder>(
+    folder: &mut F,
+    path: &str,
+    bytes: &[u8],
+) -> error::Result<()>
+    ensures ok { OnOk result (Made (appended path.now bytes.now) (F.held folder.old).files (F.held folder.new).files) }
+    ensures part { OnErr result (Became (PartAppended path.now bytes.now) (F.held folder.old).files (F.held folder.new).files) }
+    ensures others { Became (ButAt path.now) (F.held folder.old).files (F.held folder.new).files }
+    ensures there { Became (λ old new. ¬ (Lacks path.now old) → ¬ (Lacks path.now new)) (F.held folder.old).files (F.held folder.new).files }
+    ensures fails { IfErr result (λ e. CallFails (Lacks path.now) e (F.held folder.old) (F.held folder.new)) }
+    ensures steady { OnOk result ((F.held folder.new).faults ≡ (F.held folder.old).faults) }
+    ensures later { (F.held folder.old).faults ≤ (F.held folder.new).faults }
+{
+    match folder.append(path, bytes) {
+        Ok(()) => Ok(()),
+        Err(fault) => Err(io(fault)),
     }
 }
 

@@ -19,6 +19,7 @@ use crate::digest::{is_archive, key_of, toolchain_of};
 use crate::error::{Error, Result, WriteFault, io};
 use crate::fault::FolderFault;
 use crate::folder::Folder;
+use crate::moving::written;
 use crate::reading::Opened;
 use dist_types::toolchain::Toolchain;
 use std::alloc::Global;
@@ -256,13 +257,10 @@ impl<F: Folder> TcCache<F> {
         ensures stands { IsArchiveStore self.new.path self.new.capacity self.new.archives (F.held self.new.folder) }
     {
         self.shown();
-        let mut bytes = Vec::new(self.alloc);
-        match with(&mut bytes) {
-            Ok(()) => {}
-            Err(WriteFault::Refused) => return Err(Error::WriterRefused),
-            Err(WriteFault::Memory) => return Err(Error::Memory),
+        match written(self.alloc, with) {
+            Ok(bytes) => self.insert_bytes(tc, &bytes),
+            Err(error) => Err(error),
         }
-        self.insert_bytes(tc, &bytes)
     }
 
     /// Stores bytes as the archive that they are, as the most recent, and gives its toolchain. The least

@@ -10,9 +10,6 @@ pub returns-in-Err-Failed-clause-others : goal.returns-in-Err-Failed-clause-othe
 returns-in-Err-Failed-clause-others g c =
     removed_others c.args.path.now c.remove.result _ _ c.remove.ensures.removes
 
-pub returns-clause-others : goal.returns-clause-others
-returns-clause-others g c = removed_others c.args.path.now c.remove.result _ _ c.remove.ensures.removes
-
 pub returns-in-Ok-clause-gone : goal.returns-in-Ok-clause-gone
 returns-in-Ok-clause-gone g c =
     gone_ok c.args.path.now c.args.path.now c.in-Ok.field-0 (g.F.Folder.held c.args.folder.now) (g.F.Folder.held c.remove.new.self) refl c.in-Ok.ensures.removes
@@ -24,3 +21,7 @@ returns-in-Ok-clause-exact g c =
 pub returns-in-Err-Missing-clause-exact : goal.returns-in-Err-Missing-clause-exact
 returns-in-Err-Missing-clause-exact g c =
     taken_missing c.args.path.now c.args.path.now c.remove.result (g.F.Folder.held c.args.folder.now) (g.F.Folder.held c.remove.new.self) (c.in-Err-Missing.is ∙ ap Err c.in-Err-Missing.field-0-is) refl c.remove.ensures.removes
+
+pub returns-in-Err-Memory-clause-others : goal.returns-in-Err-Memory-clause-others
+returns-in-Err-Memory-clause-others g c =
+    removed_others c.args.path.now c.remove.result _ _ c.remove.ensures.removes
