@@ -5,6 +5,8 @@
 #[cfg(test)]
 mod archives;
 #[cfg(test)]
+mod entries;
+#[cfg(test)]
 mod model;
 #[cfg(test)]
 mod orders;

@@ -5,20 +5,20 @@ use lru_disk_cache::calls::Calls;
 use lru_disk_cache::fault::FolderFault;
 use lru_disk_cache::folder::Folder;
 use lru_disk_cache::mem_folder::MemFolder;
+use lru_disk_cache::real_folder::RealFolder;
 use lru_disk_cache::{Error, LruDiskCache, LruDiskCacheAddEntry, ReadSeek, WriteFault};
 use std::alloc::Global;
 use std::process::Abort;
 use std::test::Fail;
+use std::{env, fs};
 
 /// How many orders there are, and how many calls each has.
-const ORDERS: u64 = 30;
+const ORDERS: u64 = 300;
 
-const STEPS: u64 = 7;
+const STEPS: u64 = 6;
 
 /// No call has this number.
 const NONE: u64 = u64::MAX;
-
-type Cache = LruDiskCache<MemFolder>;
 
 /// One step of an order: its kind, a key and a size, and another key and size for what comes in between.
 #[derive(Clone, Copy)]
@@ -68,7 +68,7 @@ fn key_at(place: usize) -> Result<&'static str, Fail> {
 }
 
 /// The lists, their sizes and the sum agree.
-fn same_list(rt: &impl Abort, cache: &Cache, plain: &Plain) -> Result<(), Fail> {
+fn same_list<F: Folder + Drop>(rt: &impl Abort, cache: &LruDiskCache<F>, plain: &Plain) -> Result<(), Fail> {
     let mut at = 0usize;
     let mut sum = plain.held;
     for (key, size) in cache.entries() {
@@ -114,7 +114,7 @@ fn same_content(
 }
 
 /// What is read of an open file, a few bytes at a time.
-fn read_all(alloc: Global, cache: &mut Cache, key: &str) -> Result<Result<Vec<u8>, Error>, Fail> {
+fn read_all<F: Folder + Drop>(alloc: Global, cache: &mut LruDiskCache<F>, key: &str) -> Result<Result<Vec<u8>, Error>, Fail> {
     let mut opened = match cache.get(key) {
         Ok(opened) => opened,
         Err(error) => return Ok(Err(error)),
@@ -133,10 +133,10 @@ fn read_all(alloc: Global, cache: &mut Cache, key: &str) -> Result<Result<Vec<u8
 }
 
 /// An entry is announced, another key is stored, the entry is written twice, and then committed or abandoned.
-fn add(
+fn add<F: Folder + Drop>(
     rt: &impl Abort,
     alloc: Global,
-    cache: &mut Cache,
+    cache: &mut LruDiskCache<F>,
     plain: &mut Plain,
     step: &Step,
 ) -> Result<(), Fail> {
@@ -157,10 +157,10 @@ fn add(
     }
 }
 
-fn fill_entry(
+fn fill_entry<F: Folder + Drop>(
     rt: &impl Abort,
     alloc: Global,
-    cache: &mut Cache,
+    cache: &mut LruDiskCache<F>,
     plain: &mut Plain,
     step: &Step,
     entry: &LruDiskCacheAddEntry,
@@ -178,9 +178,9 @@ fn fill_entry(
     same_list(rt, cache, plain)
 }
 
-fn spend(
+fn spend<F: Folder + Drop>(
     rt: &impl Abort,
-    cache: &mut Cache,
+    cache: &mut LruDiskCache<F>,
     plain: &mut Plain,
     step: &Step,
     entry: LruDiskCacheAddEntry,
@@ -201,9 +201,9 @@ fn spend(
     }
 }
 
-fn give_up(
+fn give_up<F: Folder + Drop>(
     rt: &impl Abort,
-    cache: &mut Cache,
+    cache: &mut LruDiskCache<F>,
     plain: &mut Plain,
     entry: LruDiskCacheAddEntry,
 ) -> Result<(), Fail> {
@@ -217,10 +217,10 @@ fn give_up(
 }
 
 /// One step, on the cache and on the model.
-fn act(
+fn act<F: Folder + Drop>(
     rt: &impl Abort,
     alloc: Global,
-    cache: &mut Cache,
+    cache: &mut LruDiskCache<F>,
     plain: &mut Plain,
     step: &Step,
 ) -> Result<(), Fail> {
@@ -277,14 +277,14 @@ fn folder_with(alloc: Global, before: u64, after: u64) -> Result<MemFolder, Fail
 }
 
 /// The first steps of an order, with these calls failing. Gives how many calls the folder got.
-fn run(
+fn run<F: Folder + Drop>(
     rt: &impl Abort,
     alloc: Global,
     order: u64,
     steps: u64,
     plain: &mut Plain,
-    folder: MemFolder,
-) -> Result<MemFolder, Fail> {
+    folder: F,
+) -> Result<F, Fail> {
     let wanted = plain.open();
     let mut cache = match LruDiskCache::new(alloc, folder, "c", CAPACITY) {
         Ok(cache) => cache,
@@ -326,14 +326,19 @@ fn run_and_open(
     Ok(calls)
 }
 
-/// Each front of an order, without faults and with each call in turn failing.
+/// Each front of an order without faults; and each call in turn failing, up to the step that makes it and to
+/// the end of the order.
 fn every_run(rt: &impl Abort, alloc: Global, order: u64) -> Result<(), Fail> {
+    let mut done = 0u64;
     for steps in 0..=STEPS {
         let calls = run_and_open(rt, alloc, order, steps, NONE, NONE)?;
-        for number in 0..calls {
+        for number in done..calls {
             run_and_open(rt, alloc, order, steps, number, NONE)?;
             run_and_open(rt, alloc, order, steps, NONE, number)?;
+            run_and_open(rt, alloc, order, STEPS, number, NONE)?;
+            run_and_open(rt, alloc, order, STEPS, NONE, number)?;
         }
+        done = calls;
     }
     Ok(())
 }
@@ -344,5 +349,23 @@ fn generated_orders_are_those_of_the_model(rt: HostRuntime) -> Result<(), Fail> 
     for order in 0..ORDERS {
         every_run(&rt, alloc, order)?;
     }
+    Ok(())
+}
+
+#[test]
+fn orders_over_a_folder_of_the_system_are_those_of_the_model(rt: HostRuntime) -> Result<(), Fail> {
+    let alloc = rt.alloc();
+    let dir = env::temp_dir(&rt)?;
+    let top = format!(in alloc; "{}/cache_tests_orders", dir.as_path().as_str())?;
+    for order in 0..ORDERS {
+        let _ = fs::remove_dir_all(&rt, top.as_str());
+        fs::create_dir_all(&rt, top.as_str())?;
+        let mut plain = Plain::new(alloc, NONE, NONE);
+        let folder = RealFolder::new(&rt, top.as_str())?;
+        let folder = run(&rt, alloc, order, STEPS, &mut plain, folder)?;
+        let folder = run(&rt, alloc, order, 0, &mut plain, folder)?;
+        assert_eq!(&rt; folder.faults(), 0);
+    }
+    fs::remove_dir_all(&rt, top.as_str())?;
     Ok(())
 }

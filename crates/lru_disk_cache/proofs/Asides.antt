@@ -1,6 +1,5 @@
 -- Calls on files that lie elsewhere, and what stands behind them.
-use Rattle.std.proofs.Common.{◌≡◌, ℕ, false, true, List, [], ◌∷◌, ◌++◌, take, Option, Some, None, Result, Ok, Err, OnErr, inl, inr, refl, sym, ap, subst, ◌∙◌}
-use Rattle.std.specs.List.{AllByRecursion}
+use Rattle.std.proofs.Common.{◌≡◌, ℕ, false, List, [], ◌∷◌, ◌++◌, take, Option, Some, None, Result, OnErr, inl, inr, refl, sym, ap, subst, ◌∙◌}
 use Rattle.std.specs.Str.{bytes_eq}
 use Rattle.lru_disk_cache.specs.Files.{Files, file_at, front, put, put_found, without, moved, PartWritten, DoneOrNot, Same}
 use Rattle.lru_disk_cache.specs.Held.{Held, Holds, Lacks, Never, Became, Changes}
@@ -101,8 +100,8 @@ away_of path q away id = apart (archive_path path id) q (away (archive_key id))
 pub archives_wrote : (path q bytes : List ℕ) (result : Result (Unit {0}) FolderFault) (old new : Held) → IsOutside path q → Changes Never (put q bytes) (PartWritten q bytes) result old new → Became (SameArchives path) old.files new.files
 archives_wrote path q bytes result old new away h =
     became_of Never (put q bytes) (PartWritten q bytes) (SameArchives path) result old new (λ f. refl) (λ f. in_put_other path q bytes f (away_of path q away)) (λ f g part. elim part [
-    | inl same ↦ ap (archives_in path) same
-    | inr some ↦ ap (archives_in path) some.1 ∙ in_put_other path q (take some.0 bytes) f (away_of path q away)
+      | inl same ↦ ap (archives_in path) same
+      | inr some ↦ ap (archives_in path) some.1 ∙ in_put_other path q (take some.0 bytes) f (away_of path q away)
     ]) h
 
 in_moved_by : (o : Option (List ℕ)) (path from to : List ℕ) (f : Files) → IsOutside path from → IsOutside path to → archives_in path (put_found o to f (without from f)) ≡ archives_in path f
@@ -114,8 +113,8 @@ pub archives_renamed : (path from to : List ℕ) (result : Result (Unit {0}) Fol
 archives_renamed path from to result old new one two h =
     let moves : (f : Files) → archives_in path (moved from to f) ≡ archives_in path f = λ f. in_moved_by (file_at f from) path from to f one two in
     became_of (Lacks from) (moved from to) (DoneOrNot (moved from to)) (SameArchives path) result old new (λ f. refl) moves (λ f g part. elim part [
-    | inl same ↦ ap (archives_in path) same
-    | inr done ↦ ap (archives_in path) done ∙ moves f
+      | inl same ↦ ap (archives_in path) same
+      | inr done ↦ ap (archives_in path) done ∙ moves f
     ]) h
 
 -- ---- the files are those that they were

@@ -1,8 +1,6 @@
 -- Storing a file of the folder, or what a closure writes.
-use Rattle.std.proofs.Common.{◌≡◌, ◌+◌, ℕ, Bool, true, false, not, nat_lt, if◌then◌else◌, List, length, Some, is_ok, true≢false, ap, Result, Ok, Err, IfErr, OnOk, inl, inr, refl}
-use Rattle.lru_disk_cache.specs.Files.{Files, file_at}
-use Rattle.lru_disk_cache.specs.Held.{Held, Holds, Lacks}
-use Rattle.lru_disk_cache.specs.declared.fault.FolderFault.{FolderFault}
+use Rattle.std.proofs.Common.{◌≡◌, ◌+◌, ℕ, Bool, true, false, not, nat_lt, if◌then◌else◌, List, length, is_ok, true≢false, ap, Result, Ok, Err, IfErr, OnOk, inl, inr, refl}
+use Rattle.lru_disk_cache.specs.Held.{Held, Lacks}
 use Rattle.lru_disk_cache.specs.declared.fault.FolderFault.TheVariants.{Missing, Failed, Memory}
 use Rattle.lru_disk_cache.specs.declared.error.Error.{Error}
 use Rattle.lru_disk_cache.specs.declared.error.Error.TheVariants.{FileTooLarge, FileNotInCache, Io, PendingSpace, BadKey, NotPending, WrongDigest, WriterRefused, Memory as NoMemory}
@@ -72,9 +70,10 @@ module _ (wrote : Result (Unit {0}) WriteFault → List ℕ → Type 0) where
   with_fails key bytes d e (Err WriterRefused) old new w h = absurd h
 
   -- and where it is
-  pub with_ok : {T E : Type 0} (P : List ℕ → Type 0) (bytes : List ℕ) (result : Result T E) → wrote (Ok (tt {0})) bytes → OnOk result (P bytes) → OnOk result ((x : List ℕ) × wrote (Ok (tt {0})) x × P x)
-  with_ok P bytes (Ok x) w h = (bytes, w, h)
-  with_ok P bytes (Err e) w h = tt
+  pub with_ok : {T E : Type 0} (P Q R : List ℕ → Type 0) (bytes : List ℕ) (result : Result T E) → wrote (Ok (tt {0})) bytes → OnOk result (P bytes) → OnOk result (Q bytes) → OnOk result (R bytes)
+      → OnOk result ((x : List ℕ) × wrote (Ok (tt {0})) x × P x × Q x × R x)
+  with_ok P Q R bytes (Ok x) w p q r = (bytes, w, p, q, r)
+  with_ok P Q R bytes (Err e) w p q r = tt
 
   pub store_failed : (capacity : ℕ) (id : List ℕ) (a : Archives) (error : Error) (old : Held) → WriterFails wrote error → StoreWithFails wrote capacity id error a a old old
   store_failed capacity id a WriterRefused old h = (refl, refl, h)
@@ -98,8 +97,3 @@ module _ (wrote : Result (Unit {0}) WriteFault → List ℕ → Type 0) where
   store_fails capacity id bytes a b (Err FileNotInCache) old new w h = absurd h
   store_fails capacity id bytes a b (Err NotPending) old new w h = absurd h
   store_fails capacity id bytes a b (Err WriterRefused) old new w h = absurd h
-
--- three facts of one answer
-pub ok_three : {T E : Type 0} (P Q R : Type 0) (result : Result T E) → OnOk result P → OnOk result Q → OnOk result R → OnOk result (P × Q × R)
-ok_three P Q R (Ok x) p q r = (p, q, r)
-ok_three P Q R (Err e) p q r = tt

@@ -4,12 +4,12 @@ use Rattle.std.proofs.lemmas.Bool.{eqb-true, eqb-false}
 use Rattle.std.proofs.lemmas.List.Sums.{sum_by-append, sum_by-cons}
 use Rattle.std.proofs.lemmas.Slice.Eq.{bytes_eq-Decides}
 use Rattle.std.proofs.lemmas.List.Splits.{slice_split-cons_yes, slice_split-cons_no}
-use Rattle.std.specs.List.{AllByRecursion, list_any, onto_first, slice_split}
+use Rattle.std.specs.List.{AllByRecursion, onto_first, slice_split}
 use Rattle.std.specs.Map.{lookup}
 use Rattle.std.specs.Option.{option_map}
 use Rattle.std.specs.Str.{bytes_eq}
 use Rattle.lru_disk_cache.specs.Files.{Files, file_at, front, put_found, appended, PartAppended, Same}
-use Rattle.lru_disk_cache.specs.Held.{Held, Holds, Lacks, Became, Changes}
+use Rattle.lru_disk_cache.specs.Held.{Held, Lacks, Became, Changes}
 use Rattle.lru_disk_cache.specs.declared.fault.FolderFault.{FolderFault}
 use Rattle.lru_disk_cache.specs.declared.fault.FolderFault.TheVariants.{Missing, Failed, Memory}
 use Rattle.lru_disk_cache.specs.declared.error.Error.{Error}
@@ -18,7 +18,7 @@ use Rattle.lru_disk_cache.specs.Key.{is_key, is_temporary, last_behind, names_te
 use Rattle.lru_disk_cache.specs.Entries.{Entries}
 use Rattle.lru_disk_cache.specs.Disk.{AllKeys, ButAt, ButThese, Counts}
 use Rattle.lru_disk_cache.specs.Reserved.{Reservation, AddEntry, IsReserved, AllReserved, AllSure, KeepsReserved, NumbersDiffer, has, held_size, is_of, is_pending, is_sure, temp_of, without_number, doubted, unsure}
-use Rattle.lru_disk_cache.specs.Store.{Disk, IsStore, error_of}
+use Rattle.lru_disk_cache.specs.Store.{Disk, IsStore}
 use Rattle.lru_disk_cache.specs.Adding.{entry_path, abandoned, abandon_answer, CallFails, WriteFails, AbandonFails}
 use Rattle.lru_disk_cache.proofs.Became.{became_map, became_of, became_same}
 use Rattle.lru_disk_cache.proofs.Fills.{temp_avoids, keeps_avoided, stands_kept}
@@ -291,8 +291,8 @@ added_by (Some b) p q bytes files other = put_other p q (b ++ bytes) files other
 pub added_others : {T : Type 0} (path bytes : List ℕ) (result : Result T FolderFault) (old new : Held) → Changes (Lacks path) (appended path bytes) (PartAppended path bytes) result old new → Became (ButAt path) old.files new.files
 added_others path bytes result old new h =
     became_of (Lacks path) (appended path bytes) (PartAppended path bytes) (ButAt path) result old new (λ f q other. refl) (λ f q other. added_by (file_at f path) path q bytes f other) (λ f g part q other. elim part [
-    | inl same ↦ ap (λ l. file_at l q) same
-    | inr some ↦ ap (λ l. file_at l q) some.1 ∙ added_by (file_at f path) path q (take some.0 bytes) f other
+      | inl same ↦ ap (λ l. file_at l q) same
+      | inr some ↦ ap (λ l. file_at l q) some.1 ∙ added_by (file_at f path) path q (take some.0 bytes) f other
     ]) h
 
 there_by : (o : Option (List ℕ)) (p bytes : List ℕ) (files : Files) → file_at files p ≡ o → ¬ (Lacks p files) → ¬ (Lacks p (put_found (option_map (λ old. old ++ bytes) o) p files files))
@@ -306,8 +306,8 @@ StaysThere path old new = ¬ (Lacks path old) → ¬ (Lacks path new)
 pub added_there : {T : Type 0} (path bytes : List ℕ) (result : Result T FolderFault) (old new : Held) → Changes (Lacks path) (appended path bytes) (PartAppended path bytes) result old new → Became (StaysThere path) old.files new.files
 added_there path bytes result old new h =
     became_of (Lacks path) (appended path bytes) (PartAppended path bytes) (StaysThere path) result old new (λ f there. there) (λ f there. there_by (file_at f path) path bytes f refl there) (λ f g part there lacks. elim part [
-    | inl same ↦ there (ap (λ l. file_at l path) (sym same) ∙ lacks)
-    | inr some ↦ there_by (file_at f path) path (take some.0 bytes) f refl there (ap (λ l. file_at l path) (sym some.1) ∙ lacks)
+      | inl same ↦ there (ap (λ l. file_at l path) (sym same) ∙ lacks)
+      | inr some ↦ there_by (file_at f path) path (take some.0 bytes) f refl there (ap (λ l. file_at l path) (sym some.1) ∙ lacks)
     ]) h
 
 -- ---- the reservations behind an addition

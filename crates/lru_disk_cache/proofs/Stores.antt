@@ -1,21 +1,21 @@
 -- What a cache is behind each call.
-use Rattle.std.proofs.Common.{◌≡◌, ℕ, ◌+◌, ◌<◌, ◌≤◌, ◌^◌, true, false, is_some, List, [], ◌∷◌, ◌++◌, length, Option, Some, None, Result, Ok, Err, OnOk, OnErr, inl, inr, sym, ap, subst, ◌∙◌, true≢false, arith}
+use Rattle.std.proofs.Common.{◌≡◌, ℕ, ◌+◌, ◌<◌, ◌≤◌, ◌^◌, true, false, is_some, List, [], ◌∷◌, ◌++◌, length, Some, None, Result, Ok, Err, OnOk, OnErr, inl, inr, sym, ap, subst, ◌∙◌, true≢false, arith}
 use Rattle.std.proofs.lemmas.List.Sums.{sum_by-append}
 use Rattle.std.specs.Map.{lookup, remove_entry}
 use Rattle.std.specs.Str.{bytes_eq}
 use Rattle.lru_metered.proofs.Lookups.{size-others, total-promoted}
-use Rattle.lru_disk_cache.specs.Files.{Files, file_at}
+use Rattle.lru_disk_cache.specs.Files.{file_at}
 use Rattle.lru_disk_cache.specs.Held.{Held, Holds, Became, Made}
 use Rattle.lru_disk_cache.specs.declared.fault.FolderFault.{FolderFault}
 use Rattle.lru_disk_cache.specs.Entries.{Entries, Listed, total, sizes, promoted_key, IsEnd}
 use Rattle.lru_disk_cache.specs.Disk.{Stands, ButAt, SameAt, IsTemp, Left, staying, stored, dropped, files_stored, without_key}
 use Rattle.lru_disk_cache.specs.Key.{is_key, temp_name}
-use Rattle.lru_disk_cache.specs.Reserved.{Reservation, IsReserved, AllReserved, AllSure, KeepsReserved, has, held_size, without_number, unsure}
+use Rattle.lru_disk_cache.specs.Reserved.{Reservation, IsReserved, AllSure, KeepsReserved, has, held_size, without_number, unsure}
 use Rattle.lru_disk_cache.specs.Store.{Disk, Store, IsStore, room_beside}
 use Rattle.lru_disk_cache.proofs.Asides.{sure_kept, reserved_same}
 use Rattle.lru_disk_cache.proofs.Became.{became_map, became_from}
 use Rattle.lru_disk_cache.proofs.Opens.{trim_within}
-use Rattle.lru_disk_cache.proofs.Reserving.{listed_key, key_reserved, all_without, differ_without, held_without, unsure_reserved, unsure_differ, unsure_held, unsure_sure, all_more, held_more, differ_more}
+use Rattle.lru_disk_cache.proofs.Reserving.{listed_key, key_reserved, all_without, differ_without, unsure_reserved, unsure_differ, unsure_held, unsure_sure, all_more, held_more, differ_more}
 use Rattle.lru_disk_cache.proofs.Standing.{stands_promoted, stands_absent, stands_removed}
 use Rattle.lru_disk_cache.proofs.Trims.{total_more}
 

@@ -2,16 +2,16 @@
 use Rattle.std.specs.Prelude.{◌≡◌, ℕ, ◌+◌, ◌-◌, ◌⊎◌, true, false, nat_lt, if◌then◌else◌, List, [], ◌∷◌, ◌++◌, None, Option, Some, Result, Ok, Err}
 use Rattle.dist_types.specs.Cause.{Rose}
 use Rattle.lru_disk_cache.specs.Files.{Files, size_at, put}
-use Rattle.lru_disk_cache.specs.Held.{Held, Holds, Lacks}
+use Rattle.lru_disk_cache.specs.Held.{Held, Holds}
 use Rattle.lru_disk_cache.specs.declared.fault.FolderFault.{FolderFault}
 use Rattle.lru_disk_cache.specs.declared.fault.FolderFault.TheVariants.{Missing, Failed, Memory}
 use Rattle.lru_disk_cache.specs.declared.error.Error.{Error}
 use Rattle.lru_disk_cache.specs.declared.error.Error.TheVariants.{FileTooLarge, FileNotInCache, Io, PendingSpace, BadKey, NotPending, WrongDigest, WriterRefused, Memory as NoMemory}
-use Rattle.lru_disk_cache.specs.Key.{is_key, temp_name}
+use Rattle.lru_disk_cache.specs.Key.{temp_name}
 use Rattle.lru_disk_cache.specs.Entries.{Entries, trim, IsEnd}
 use Rattle.lru_disk_cache.specs.Disk.{Left, stored, without_each}
 use Rattle.lru_disk_cache.specs.Reserved.{Reservation, AddEntry, held_size, is_pending, is_sure, without_number, unsure}
-use Rattle.lru_disk_cache.specs.Store.{Disk, room_beside, insert_verdict, error_of, Refuses, IoCause}
+use Rattle.lru_disk_cache.specs.Store.{Disk, room_beside, error_of, Refuses, IoCause}
 
 -- ---- a reservation is made
 

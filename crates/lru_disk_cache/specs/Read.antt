@@ -1,5 +1,5 @@
 -- What is opened for reading.
-use Rattle.std.specs.Prelude.{◌≡◌, ℕ, ◌+◌, List, ◌++◌, length, take, drop, min}
+use Rattle.std.specs.Prelude.{ℕ, List, length, drop, min}
 
 -- a content, and the place where the next byte is read
 pub record Reading : Type 0 where

@@ -1,5 +1,6 @@
 //! Storing a file of the folder, and what a closure writes.
 ghost use Rattle.std.specs.Prelude.{◌≡◌, ◌++◌, ◌≤◌, length, false, is_some, if◌then◌else◌, string_bytes, Some, None, Ok, IsSome, IfOk, IfErr, OnOk, OnErr};
+ghost use Rattle.std.specs.Fn.{FnOnceReturnsAtMut};
 ghost use Rattle.std.specs.Map.{lookup};
 ghost use Rattle.std.specs.Option.{option_map};
 ghost use Rattle.std.specs.Str.{bytes_eq};
@@ -155,9 +156,20 @@ pub(crate) fn written<W: FnOnce(&mut Vec<u8>) -> std::result::Result<(), WriteFa
     ensures fails { IfErr result (λ e. WriterFails (Wrote W.FnOnce (λ v. v.items) with) e) }
 {
     let mut bytes = Vec::new(alloc);
-    match with(&mut bytes) {
+    match write_into(&mut bytes, with) {
         Ok(()) => Ok(bytes),
         Err(WriteFault::Refused) => Err(Error::WriterRefused),
         Err(WriteFault::Memory) => Err(Error::Memory),
     }
+}
+
+// Calls a closure on a vector.
+fn write_into<W: FnOnce(&mut Vec<u8>) -> std::result::Result<(), WriteFault>>(
+    out: &mut Vec<u8>,
+    with: W,
+) -> std::result::Result<(), WriteFault>
+    requires { W.IsAlwaysCallable with }
+    ensures { FnOnceReturnsAtMut W.FnOnce with out.old result out.new }
+{
+    with(out)
 }

@@ -68,11 +68,7 @@ pub(crate) fn measure<F: Folder>(folder: &mut F, path: &str) -> error::Result<u6
 }
 
 /// Adds bytes at the end of a file.
-pub(crate) fn add_to<F: Folder>(
-    folder: &mut F,
-    path: &str,
-    bytes: &[u8],
-) -> error::Result<()>
+pub(crate) fn add_to<F: Folder>(folder: &mut F, path: &str, bytes: &[u8]) -> error::Result<()>
     ensures ok { OnOk result (Made (appended path.now bytes.now) (F.held folder.old).files (F.held folder.new).files) }
     ensures part { OnErr result (Became (PartAppended path.now bytes.now) (F.held folder.old).files (F.held folder.new).files) }
     ensures others { Became (ButAt path.now) (F.held folder.old).files (F.held folder.new).files }

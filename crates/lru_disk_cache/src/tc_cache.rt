@@ -303,11 +303,7 @@ impl<F: Folder> TcCache<F> {
 
     /// Writes a file of the folder that does not lie below the path of the cache. The archives and their
     /// files stay as they are.
-    pub fn write_aside(
-        &mut self,
-        path: &str,
-        bytes: &[u8],
-    ) -> std::result::Result<(), FolderFault>
+    pub fn write_aside(&mut self, path: &str, bytes: &[u8]) -> std::result::Result<(), FolderFault>
         requires { IsOutside self.old.path path.now }
         ensures writes { Changes Never (put path.now bytes.now) (PartWritten path.now bytes.now) result (F.held self.old.folder) (F.held self.new.folder) }
         ensures at { (self.new.path ≡ self.old.path) × (self.new.capacity ≡ self.old.capacity) × (self.new.archives ≡ self.old.archives) }

@@ -1,4 +1,4 @@
-use Rattle.std.proofs.Common.{◌≡◌, ◌∙◌, sym, ap, subst}
+use Rattle.std.proofs.Common.{◌∙◌, sym, subst}
 use Rattle.std.specs.Str.{IsUtf8}
 use Rattle.dist_types.proofs.ToolchainLemmas.{lower_is_text}
 use Rattle.lru_disk_cache.specs.Archives.{id_of}

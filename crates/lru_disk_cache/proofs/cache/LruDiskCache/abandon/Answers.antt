@@ -5,7 +5,6 @@ use Rattle.lru_disk_cache.specs.Entries.{total}
 use Rattle.lru_disk_cache.specs.Disk.{ButAt, Keeps}
 use Rattle.lru_disk_cache.specs.Reserved.{IsReserved, KeepsReserved, held_size, is_pending, without_number}
 use Rattle.lru_disk_cache.specs.Adding.{entry_path, abandoned, AbandonFails}
-use Rattle.lru_disk_cache.proofs.Exactly.{later_of}
 use Rattle.lru_disk_cache.proofs.Fills.{on_ok, counts_ok, keeps_avoided, temp_avoids, stands_kept}
 use Rattle.lru_disk_cache.proofs.Standing.{none_lost}
 use Rattle.lru_disk_cache.proofs.Stores.{closed_store}

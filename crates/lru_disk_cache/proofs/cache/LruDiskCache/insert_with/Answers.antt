@@ -3,7 +3,7 @@ use Rattle.lru_disk_cache.specs.Files.{file_at}
 use Rattle.lru_disk_cache.specs.Held.{Holds}
 use Rattle.lru_disk_cache.specs.Store.{inserted, insert_verdict}
 use Rattle.lru_disk_cache.specs.Moving.{Wrote}
-use Rattle.lru_disk_cache.proofs.Moves.{with_failed, with_fails, with_ok, ok_three}
+use Rattle.lru_disk_cache.proofs.Moves.{with_failed, with_fails, with_ok}
 use Rattle.lru_disk_cache.proofs.Reserving.{none_reserved}
 use Rattle.lru_disk_cache.proofs.Standing.{none_lost}
 use Rattle.lru_disk_cache.proofs.cache.LruDiskCache.insert_with.Goals as goal
@@ -11,7 +11,7 @@ use Rattle.lru_disk_cache.proofs.cache.LruDiskCache.insert_with.Goals as goal
 pub returns-in-Ok-clause-ok : goal.returns-in-Ok-clause-ok
 returns-in-Ok-clause-ok g c =
     let wrote = subst (Wrote g.W.FnOnce (λ v. v.items) c.args.with (Ok (tt {0}))) (sym c.deref.ensures.value) c.in-Ok.ensures.ok in
-    with_ok (Wrote g.W.FnOnce (λ v. v.items) c.args.with) (λ b. (insert_verdict c.args.self.now.disk c.args.key.now (length b) ≡ Ok (tt {0})) × (c.insert_bytes.new.self.disk ≡ inserted c.args.self.now.disk c.args.key.now (length b)) × Holds (g.F.Folder.held c.insert_bytes.new.self.folder) (λ files. file_at files (c.args.self.now.disk.root ++ c.args.key.now) ≡ Some b)) c.deref.result.now c.insert_bytes.result wrote (ok_three (insert_verdict c.args.self.now.disk c.args.key.now (length c.deref.result.now) ≡ Ok (tt {0})) (c.insert_bytes.new.self.disk ≡ inserted c.args.self.now.disk c.args.key.now (length c.deref.result.now)) (Holds (g.F.Folder.held c.insert_bytes.new.self.folder) (λ files. file_at files (c.args.self.now.disk.root ++ c.args.key.now) ≡ Some c.deref.result.now)) c.insert_bytes.result c.insert_bytes.ensures.admits c.insert_bytes.ensures.ok c.insert_bytes.ensures.content)
+    with_ok (Wrote g.W.FnOnce (λ v. v.items) c.args.with) (λ b. insert_verdict c.args.self.now.disk c.args.key.now (length b) ≡ Ok (tt {0})) (λ b. c.insert_bytes.new.self.disk ≡ inserted c.args.self.now.disk c.args.key.now (length b)) (λ b. Holds (g.F.Folder.held c.insert_bytes.new.self.folder) (λ files. file_at files (c.args.self.now.disk.root ++ c.args.key.now) ≡ Some b)) c.deref.result.now c.insert_bytes.result wrote c.insert_bytes.ensures.admits c.insert_bytes.ensures.ok c.insert_bytes.ensures.content
 
 pub returns-in-Ok-clause-fails : goal.returns-in-Ok-clause-fails
 returns-in-Ok-clause-fails g c =

@@ -1,6 +1,5 @@
-use Rattle.std.proofs.Common.{◌≡◌, ◌≤◌, sym, ap, subst, arith}
+use Rattle.std.proofs.Common.{◌≡◌, ◌≤◌, ap, subst, arith}
 use Rattle.lru_disk_cache.specs.Held.{Lacks}
-use Rattle.lru_disk_cache.specs.Disk.{IsOutside}
 use Rattle.lru_disk_cache.specs.Entries.{total}
 use Rattle.lru_disk_cache.specs.Store.{Disk}
 use Rattle.lru_disk_cache.specs.Archives.{IsInStep}

@@ -1,5 +1,4 @@
 use Rattle.std.proofs.Common.{◌≡◌, ◌≤◌, sym, ap, subst, arith}
-use Rattle.lru_disk_cache.specs.Held.{Lacks}
 use Rattle.lru_disk_cache.specs.Disk.{IsOutside}
 use Rattle.lru_disk_cache.specs.Entries.{total}
 use Rattle.lru_disk_cache.specs.Store.{Disk}
