@@ -10,10 +10,10 @@ use Rattle.slab.proofs.SlabLemmas.{Contains-cons, Contains-cons_cases, ContainsK
 use Rattle.lru_metered.specs.declared.chain.Node.{Node}
 use Rattle.lru_metered.specs.Chain.{Ends, following, walk, first_or, last_or, Linked, Avoids, Apart, IsChain, Changes, with_ends, with_previous, with_next, without, links, items_of, ends_of, item_of}
 
-some≢none : {X : Type 0} (x : X) → Some x ≢ None
+pub some≢none : {X : Type 0} (x : X) → Some x ≢ None
 some≢none x is = true≢false (ap is_some is)
 
-some-inj : {X : Type 0} (x y : X) → Some x ≡ Some y → x ≡ y
+pub some-inj : {X : Type 0} (x y : X) → Some x ≡ Some y → x ≡ y
 some-inj x y is = ap (λ o. unwrap_or o x) is
 
 -- the ends of two lists in a row

@@ -72,6 +72,7 @@ placed at bucket home x = if nat_eq x at then bucket else home x
 abbrev pub below : ℕ → (ℕ → Option ℕ) → ℕ → Option ℕ
 below bound home x = if nat_lt x bound then home x else None
 
--- the entry that names this one as its next, or the head of the bucket does
+-- in the bucket that begins at the head the previous entry names this one, or with none the head does
 abbrev pub Leads : (ℕ → Option (Option ℕ)) → Option ℕ → Option ℕ → Option ℕ → Type 0
-Leads next head previous at = MatchOption previous (head ≡ at) (λ p. next p ≡ Some at)
+Leads next head previous at =
+    (list : List ℕ) → Lists next head list → MatchOption previous (head ≡ at) (λ p. Contains list p × (next p ≡ Some at))

@@ -50,13 +50,14 @@ module _ {K V : Type 0} where
     pub differ : Differ eq (pairs_at c.items)
     pub indexed : IsIndexed hash c.items heads
 
-  -- the pairs that an iterator has left, which begin at a place of the list
+  -- the pairs that an iterator has left: so many, and the last is the one before this place of the list
   abbrev pub left_of : Chained (Entry K V) → ℕ → ℕ → List (K × V)
-  left_of c place left = filter_map (pairs_at c.items) (take left (drop place c.order))
+  left_of c end left = filter_map (pairs_at c.items) (take left (drop (end - left) c.order))
 
   -- they lie in the list, and these are the first and the last
-  pub record IsPart (c : Chained (Entry K V)) (place left : ℕ) (first last : Option ℕ) : Type 0 where
+  pub record IsPart (c : Chained (Entry K V)) (end left : ℕ) (first last : Option ℕ) : Type 0 where
     pub full : IsFull c
-    pub within : place + left ≤ length c.order
-    pub starts : 0 < left → first ≡ slice_get c.order place
-    pub ends : 0 < left → last ≡ slice_get c.order (place + left - 1)
+    pub within : left ≤ end
+    pub ends_within : end ≤ length c.order
+    pub starts : 0 < left → first ≡ slice_get c.order (end - left)
+    pub ends : 0 < left → last ≡ slice_get c.order (end - 1)

@@ -1,5 +1,5 @@
 //! The entries of a table, and the buckets by which their keys are found. A bucket is a list of entries, each of which names the next.
-ghost use Rattle.std.specs.Prelude.{◌≡◌, ℕ, ◌<◌, ◌≤◌, List, Some, None, length, slice_index_or, IfSome, IfNone, IfOk, OnOk, OnErr, MatchOption, Contains, IsSome};
+ghost use Rattle.std.specs.Prelude.{◌≡◌, ℕ, ◌<◌, ◌≤◌, List, Option, Some, None, length, slice_index_or, IfSome, IfNone, IfOk, OnOk, OnErr, MatchOption, Contains, IsSome};
 ghost use Rattle.slab.specs.Slab.{get, ContainsKey, slab_len};
 ghost use Rattle.lru_metered.specs.Index.{hash_of, bucket_in, pairs_at, nexts, Matches, Relinks, Lists, IsBucketed, IsIndexed, homes, placed, below, Leads};
 
@@ -109,6 +109,7 @@ pub(crate) fn unhook<K, V>(
 )
     requires within { found.bucket < length heads.old }
     requires held { ContainsKey nodes.old.items found.at }
+    requires lists { (list : List ℕ) × Lists (nexts nodes.old.items) (slice_index_or heads.old found.bucket None) list }
     requires leads { Leads (nexts nodes.old.items) (slice_index_or heads.old found.bucket None) found.previous (Some found.at) }
     ensures relinks { Relinks nodes.old nodes.new }
     ensures len { length heads.new ≡ length heads.old }

@@ -211,7 +211,7 @@ impl<K: Eq + Hash, V, S: BuildHasher> Table<K, V, S> {
         ensures { self.new ≡ [] }
     {
         self.nodes.clear();
-        self.heads.as_mut_slice().fill(None);
+        self.heads.clear();
     }
 
     /// A table with clones of the pairs, in their order.
@@ -228,11 +228,11 @@ impl<K: Eq + Hash, V, S: BuildHasher> Table<K, V, S> {
             return Err(Memory);
         };
         let mut copy = Table::new(*self.heads.allocator(), hasher);
-        for (key, value) in self.iter() {
-            let Ok(key) = key.clone() else {
+        for (k, v) in self.iter() {
+            let Ok(key) = k.clone() else {
                 return Err(Memory);
             };
-            let Ok(value) = value.clone() else {
+            let Ok(value) = v.clone() else {
                 return Err(Memory);
             };
             let Ok(_) = copy.put_new(key, value) else {
