@@ -1,5 +1,5 @@
 -- Buckets: an entry is put at the front of one, or taken out of one, and each still lists what belongs there.
-use Rattle.std.proofs.Common.{◌≡◌, ◌≢◌, ◌↔◌, ℕ, zero, suc, ◌+◌, ◌<◌, ◌≤◌, ◌⊎◌, inl, inr, Bool, true, false, cond, ltb, List, [], ◌∷◌, ◌++◌, length, Option, Some, None, is_some, refl, sym, ap, ◌∙◌, subst, true≢false, unwrap_or, arith, nat_eq, nat_lt, get_or, set, count_by, Contains, lt-ltb, le-ltb, MatchOption}
+use Rattle.std.proofs.Common.{◌≡◌, ◌≢◌, ◌↔◌, ℕ, zero, suc, ◌<◌, ◌≤◌, inl, inr, true, cond, List, [], ◌∷◌, ◌++◌, length, Option, Some, None, is_some, refl, sym, ap, ◌∙◌, subst, true≢false, unwrap_or, arith, nat_eq, get_or, set, Contains, lt-ltb, le-ltb}
 use Rattle.std.specs.Option.{option_map, option_map_or}
 use Rattle.std.proofs.lemmas.Bool.{cases_eq, eq-eqb, ne_eqb}
 use Rattle.std.proofs.lemmas.List.{get_or-set_same, get_or-set_other}
@@ -8,8 +8,8 @@ use Rattle.slab.specs.Slab.{Slab, get}
 use Rattle.slab.proofs.SlabLemmas.{Contains-cons, Contains-cons_cases}
 use Rattle.lru_metered.specs.declared.index.Entry.{Entry}
 use Rattle.lru_metered.specs.Chain.{first_or, Avoids, Apart}
-use Rattle.lru_metered.specs.Index.{Run, Lists, IsBucketed, placed, below, Leads, nexts}
-use Rattle.lru_metered.proofs.ChainLemmas.{Held, length-held, Cut, cut, some≢none, some-inj, avoids-absent}
+use Rattle.lru_metered.specs.Index.{Run, Lists, IsBucketed, placed, below, nexts}
+use Rattle.lru_metered.proofs.ChainLemmas.{Held, length-held, cut, some≢none, some-inj, avoids-absent}
 
 -- a key that a list avoids is not in it
 pub avoids-has : (key : ℕ) (xs : List ℕ) (x : ℕ) → Avoids (Some key) xs → Contains xs x → x ≢ key

@@ -1,5 +1,5 @@
 -- The pairs of a list of entries: one is read, written, moved to the end, taken out or put at the end.
-use Rattle.std.proofs.Common.{◌≡◌, ◌≢◌, ◌↔◌, ℕ, zero, suc, ◌+◌, ◌-◌, ◌<◌, ◌≤◌, ◌⊎◌, inl, inr, Bool, true, false, cond, List, [], ◌∷◌, ◌++◌, length, Option, Some, None, is_some, refl, sym, ap, ◌∙◌, subst, true≢false, unwrap_or, arith, Contains, slice_get, length-append, append-nil}
+use Rattle.std.proofs.Common.{◌≡◌, ◌≢◌, ℕ, zero, suc, ◌+◌, ◌⊎◌, inl, inr, Bool, true, false, cond, List, [], ◌∷◌, ◌++◌, length, Option, Some, None, is_some, refl, sym, ap, ◌∙◌, subst, true≢false, unwrap_or, arith, Contains, slice_get, length-append}
 use Rattle.std.specs.List.{filter_map, cons_option, IsDistinct, AllByRecursion}
 use Rattle.std.specs.Option.{option_map, IsSomeAnd}
 use Rattle.std.specs.Cmp.{IsEquivalence}
@@ -11,9 +11,9 @@ use Rattle.slab.specs.Slab.{slab_len}
 use Rattle.slab.proofs.SlabLemmas.{Contains-cons, Contains-cons_cases}
 use Rattle.lru_metered.specs.declared.index.Entry.{Entry}
 use Rattle.lru_metered.specs.Chain.{Chained, Avoids, Apart, without}
-use Rattle.lru_metered.specs.Index.{pairs_at, Matches, Relinks, IsIndexed}
-use Rattle.lru_metered.specs.Listing.{pairs_of, IsFull, Differ, IsTable}
-use Rattle.lru_metered.proofs.ChainLemmas.{Cut, cut, without-cut, avoids-none, avoids-append, avoids-left, avoids-right, avoids-across, across-without, across-one, apart-left, apart-right, apart-across, apart-append, avoids-absent, some≢none}
+use Rattle.lru_metered.specs.Index.{pairs_at, Matches, Relinks}
+use Rattle.lru_metered.specs.Listing.{pairs_of, IsFull, Differ}
+use Rattle.lru_metered.proofs.ChainLemmas.{cut, without-cut, avoids-none, avoids-append, avoids-across, across-without, across-one, apart-left, apart-right, apart-across, apart-append, avoids-absent, some≢none}
 use Rattle.lru_metered.proofs.IndexLemmas.{avoids-has}
 
 -- membership in two lists in a row

@@ -1,5 +1,5 @@
 -- The two ends of a list of entries, and the part of it that an iterator has left.
-use Rattle.std.proofs.Common.{◌≡◌, ◌≢◌, ℕ, zero, suc, ◌+◌, ◌-◌, ◌<◌, ◌≤◌, List, [], ◌∷◌, ◌++◌, length, Option, Some, None, refl, sym, ap, ◌∙◌, subst, unwrap_or, inl, inr, arith, Contains, slice_get, get_or, take, drop, length-append, length-drop}
+use Rattle.std.proofs.Common.{◌≡◌, ◌≢◌, ℕ, zero, suc, ◌+◌, ◌-◌, ◌<◌, ◌≤◌, List, [], ◌∷◌, ◌++◌, length, Option, Some, None, refl, sym, ap, ◌∙◌, subst, unwrap_or, inl, inr, arith, Contains, slice_get, get_or, take, drop, length-drop}
 use Rattle.std.specs.List.{filter_map, cons_option}
 use Rattle.std.proofs.lemmas.List.{get_or-drop, take_more, take_all, length-take}
 use Rattle.std.proofs.lemmas.List.Elements.{filter_map-append}

@@ -1,5 +1,5 @@
 -- What runs of an iterator give that is seen as the list of what it has left.
-use Rattle.std.proofs.Common.{◌≡◌, List, [], ◌∷◌, ◌++◌, length, Option, Some, None, ap, ◌<◌, arith, length-append}
+use Rattle.std.proofs.Common.{List, [], ◌∷◌, length, Option, Some, None, ap, arith, length-append}
 use Rattle.std.specs.Iterator.{MakesProgress, at_most}
 use Rattle.std.specs.Map.Iter.{TakesFirst, TakesLast, ShowsInOrder, ShowsInReverse, GivesInOrder, GivesInReverse}
 use Rattle.std.proofs.iter.runs.Sources.{from_front, from_back, as_is, as_is_back}

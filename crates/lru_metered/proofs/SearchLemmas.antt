@@ -1,5 +1,5 @@
 -- The walk of one bucket for a key.
-use Rattle.std.proofs.Common.{◌≡◌, ◌≢◌, ℕ, ◌<◌, ◌⊎◌, inl, inr, Bool, true, false, List, [], ◌∷◌, length, Option, Some, None, IfNone, get_or, refl, sym, ap, ◌∙◌, subst, true≢false, arith, Contains}
+use Rattle.std.proofs.Common.{◌≡◌, ℕ, ◌<◌, inl, inr, Bool, true, false, List, [], length, Option, Some, None, IfNone, get_or, refl, sym, ap, ◌∙◌, subst, true≢false, arith, Contains}
 use Rattle.std.proofs.lemmas.List.{get_or_past}
 use Rattle.std.specs.Option.{option_map, IsSomeAnd}
 use Rattle.slab.specs.Slab.{Slab, get}
@@ -7,7 +7,6 @@ use Rattle.slab.proofs.SlabLemmas.{Contains-cons, Contains-cons_cases}
 use Rattle.lru_metered.specs.declared.index.Entry.{Entry}
 use Rattle.lru_metered.specs.Chain.{first_or}
 use Rattle.lru_metered.specs.Index.{pair_of, pairs_at, nexts, homes, Matches, Lists, Leads, IsBucketed}
-use Rattle.lru_metered.proofs.ChainLemmas.{some≢none}
 use Rattle.lru_metered.proofs.IndexLemmas.{Heads, lists-head, lists-same, first-none, trail, trail-lists}
 
 module _ {K V : Type 0} (test : K → Bool) (items : Slab (Entry K V)) (head : Option ℕ) where

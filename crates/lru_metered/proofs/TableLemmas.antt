@@ -1,10 +1,10 @@
 -- A table after each of its steps: what its entries, its list and its buckets are then.
-use Rattle.std.proofs.Common.{◌≡◌, ◌≢◌, ◌↔◌, ℕ, zero, suc, ◌+◌, ◌-◌, ◌<◌, ◌≤◌, ◌⊎◌, inl, inr, Bool, true, false, cond, List, [], ◌∷◌, ◌++◌, length, Option, Some, None, is_some, refl, sym, ap, ◌∙◌, subst, true≢false, unwrap_or, arith, Contains, slice_get, get_or, set, count_by, drop, replicate, IfNone, IfSome, MatchOption}
+use Rattle.std.proofs.Common.{◌≡◌, ◌≢◌, ℕ, ◌+◌, ◌<◌, ◌≤◌, inl, inr, Bool, true, false, cond, List, [], ◌∷◌, ◌++◌, length, Option, Some, None, is_some, refl, sym, ap, ◌∙◌, subst, true≢false, unwrap_or, arith, Contains, slice_get, get_or, count_by, replicate, IfNone, IfSome}
 use Rattle.std.specs.List.{filter_map, IsDistinct, AllByRecursion}
 use Rattle.std.proofs.lemmas.Map.Keys.{IsDistinct-head, IsDistinct-tail}
 use Rattle.std.specs.Option.{option_map, option_map_or, IsSomeAnd}
 use Rattle.std.specs.Cmp.{IsEquivalence}
-use Rattle.std.specs.Map.{keys_of, values_of, lookup, lookup_key, lookup_entry, remove_entry}
+use Rattle.std.specs.Map.{keys_of, values_of, lookup, lookup_key, remove_entry}
 use Rattle.std.proofs.lemmas.Bool.{cases_eq, cases_lt}
 use Rattle.std.proofs.lemmas.List.{get_or-set_same, get_or-set_other, get_or-replicate, get_or_past, length-replicate}
 use Rattle.std.proofs.lemmas.List.Sums.{sum_by-set}
@@ -12,13 +12,13 @@ use Rattle.std.proofs.lemmas.Option.{slice_get-map}
 use Rattle.slab.specs.Slab.{Slab, get, with_value, slab_len, Updates}
 use Rattle.slab.proofs.SlabLemmas.{ContainsKey-within}
 use Rattle.lru_metered.specs.declared.index.Entry.{Entry}
-use Rattle.lru_metered.specs.Chain.{Chained, Avoids, Apart, without, first_or}
-use Rattle.lru_metered.specs.Index.{pair_of, pairs_at, nexts, homes, bucket_in, Matches, Relinks, Lists, IsBucketed, IsIndexed, placed, below, Leads}
-use Rattle.lru_metered.specs.Listing.{pairs_of, IsFull, Differ, IsTable, Renewed, Pushed, HasSlots}
+use Rattle.lru_metered.specs.Chain.{Chained, Apart, without}
+use Rattle.lru_metered.specs.Index.{pair_of, pairs_at, nexts, homes, bucket_in, Matches, Relinks, IsBucketed, IsIndexed, placed, below}
+use Rattle.lru_metered.specs.Listing.{pairs_of, IsFull, IsTable, Renewed, Pushed, HasSlots}
 use Rattle.lru_metered.specs.Metered.{promoted, set_at}
-use Rattle.lru_metered.proofs.ChainLemmas.{some≢none, some-inj, avoids-append}
-use Rattle.lru_metered.proofs.IndexLemmas.{avoids-has, bucketed-home, bucketed-kept, bucketed-none, bucketed-first, bucketed-behind, placed-same, placed-other, below-in, below-out, first-none}
-use Rattle.lru_metered.proofs.ListingLemmas.{Spot, spot, spot-from, place-cut, some-of, Gives, full-taken, full-moved, full-pushed, full-held, full-relinked, pairs-relinked, listed-written, listed-taken, listed-moved, listed-pushed, listed-same, differ-same, differ-taken, differ-put, absent-listed, test-fails, matches-pair, found-listed, found-gives, passes, only-one, length-pairs}
+use Rattle.lru_metered.proofs.ChainLemmas.{some≢none, avoids-append}
+use Rattle.lru_metered.proofs.IndexLemmas.{avoids-has, bucketed-home, bucketed-kept, bucketed-none, placed-same, placed-other, below-in, below-out}
+use Rattle.lru_metered.proofs.ListingLemmas.{Spot, spot, spot-from, place-cut, Gives, full-taken, full-moved, full-pushed, full-held, full-relinked, listed-written, listed-taken, listed-moved, listed-pushed, differ-same, differ-taken, differ-put, absent-listed, matches-pair, found-listed, found-gives, passes, only-one}
 use Rattle.lru_metered.proofs.Lookups.{slice_get-cut, set_at-cut}
 use Rattle.lru_metered.proofs.SearchLemmas.{home-of}
 

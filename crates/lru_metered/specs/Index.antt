@@ -1,5 +1,5 @@
 -- The buckets by which a table finds a key: which entries each lists, and in which order.
-use Rattle.std.specs.Prelude.{◌≡◌, ◌≢◌, ℕ, ◌-◌, ◌<◌, ◌↔◌, Bool, true, List, [], ◌∷◌, length, Option, Some, None, slice_index_or, bit_and, fold, MatchOption, IsSomeAnd, Contains, if◌then◌else◌, nat_eq, nat_lt}
+use Rattle.std.specs.Prelude.{◌≡◌, ℕ, ◌-◌, ◌↔◌, Bool, true, List, [], ◌∷◌, length, Option, Some, None, slice_index_or, bit_and, fold, MatchOption, IsSomeAnd, Contains, if◌then◌else◌, nat_eq, nat_lt}
 use Rattle.std.specs.Hash.{HashWrites}
 use Rattle.std.specs.Option.{option_map}
 use Rattle.std.specs.declared.hash.Hasher as hasher

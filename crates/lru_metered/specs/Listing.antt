@@ -1,5 +1,5 @@
 -- The pairs of a table in their order, and what holds of every table.
-use Rattle.std.specs.Prelude.{◌≡◌, ◌≢◌, ℕ, ◌+◌, ◌-◌, ◌<◌, ◌≤◌, ◌↔◌, Bool, true, List, [], ◌∷◌, ◌++◌, length, take, drop, Option, Some, None, IsSome, slice_get, filter_map, Contains}
+use Rattle.std.specs.Prelude.{◌≡◌, ◌≢◌, ℕ, ◌-◌, ◌<◌, ◌≤◌, ◌↔◌, Bool, true, List, [], ◌∷◌, ◌++◌, length, take, drop, Option, Some, None, IsSome, slice_get, filter_map, Contains}
 use Rattle.slab.specs.Slab.{slab_len}
 use Rattle.lru_metered.specs.declared.index.Entry.{Entry}
 use Rattle.lru_metered.specs.Chain.{Chained, Apart, without}

@@ -1,7 +1,11 @@
-//! The entries of a table, and the buckets by which their keys are found. A bucket is a list of entries, each of which names the next.
-ghost use Rattle.std.specs.Prelude.{◌≡◌, ℕ, ◌<◌, ◌≤◌, List, Option, Some, None, length, slice_index_or, IfSome, IfNone, IfOk, OnOk, OnErr, MatchOption, Contains, IsSome};
+//! The entries of a table, and the buckets by which their keys are found. A bucket is a list of
+//! entries, each of which names the next.
+ghost use Rattle.std.specs.Prelude.{◌≡◌, ℕ, ◌<◌, ◌≤◌, List, Option, Some, None, length, slice_index_or};
+ghost use Rattle.std.specs.Prelude.{IfSome, IfNone, IfOk, OnOk, OnErr, MatchOption, Contains, IsSome};
+ghost use Rattle.std.specs.Prelude.{replicate};
 ghost use Rattle.slab.specs.Slab.{get, ContainsKey, slab_len};
-ghost use Rattle.lru_metered.specs.Index.{hash_of, bucket_in, pairs_at, nexts, Matches, Relinks, Lists, IsBucketed, IsIndexed, homes, placed, below, Leads};
+ghost use Rattle.lru_metered.specs.Index.{hash_of, bucket_in, pairs_at, nexts, Matches, Relinks, Lists};
+ghost use Rattle.lru_metered.specs.Index.{IsBucketed, IsIndexed, homes, placed, below, Leads};
 
 use crate::chain::Chain;
 use std::alloc::{AllocError, Global};
@@ -27,7 +31,8 @@ pub struct Found {
 /// The bucket of a key, of so many.
 pub(crate) fn bucket_of<K: Hash, S: BuildHasher>(hasher: &S, key: &K, buckets: usize) -> usize
     requires { 0 < buckets }
-    ensures place { result ≡ bucket_in buckets (hash_of S.BuildHasher S.Hasher.Hasher hasher.now (K.hash_input key.now)) }
+    ensures place { result ≡ bucket_in buckets (hash_of S.BuildHasher S.Hasher.Hasher hasher.now
+        (K.hash_input key.now)) }
     ensures within { result < buckets }
 {
     hasher.hash_one(key) as usize & (buckets - 1)
@@ -41,11 +46,15 @@ fn search<K: Eq, V>(
     key: &K,
 ) -> Option<Found>
     requires within { bucket < length heads.now }
-    requires lists { (list : List ℕ) × Lists (nexts nodes.now.items) (slice_index_or heads.now bucket None) list }
+    requires lists { (list : List ℕ) × Lists (nexts nodes.now.items) (slice_index_or heads.now bucket None)
+        list }
     ensures bucket { IfSome result (λ f. f.bucket ≡ bucket) }
-    ensures leads { IfSome result (λ f. Leads (nexts nodes.now.items) (slice_index_or heads.now bucket None) f.previous (Some f.at)) }
+    ensures leads { IfSome result (λ f. Leads (nexts nodes.now.items) (slice_index_or heads.now bucket None)
+        f.previous (Some f.at)) }
     ensures matches { IfSome result (λ f. Matches (K.eq key.now) (pairs_at nodes.now.items) f.at) }
-    ensures absent { IfNone result ((list : List ℕ) (x : ℕ) → Lists (nexts nodes.now.items) (slice_index_or heads.now bucket None) list → Contains list x → ¬ (Matches (K.eq key.now) (pairs_at nodes.now.items) x)) }
+    ensures absent { IfNone result ((list : List ℕ) (x : ℕ) → Lists (nexts nodes.now.items) (slice_index_or
+        heads.now bucket None) list → Contains list x → ¬ (Matches (K.eq key.now) (pairs_at nodes.now.items)
+        x)) }
 {
     let mut previous = None;
     let mut current = heads[bucket];
@@ -71,10 +80,13 @@ pub(crate) fn find<K: Eq + Hash, V, S: BuildHasher>(
     hasher: &S,
     key: &K,
 ) -> Option<Found>
-    requires { IsIndexed (λ k. hash_of S.BuildHasher S.Hasher.Hasher hasher.now (K.hash_input k)) nodes.now.items heads.now }
+    requires { IsIndexed (λ k. hash_of S.BuildHasher S.Hasher.Hasher hasher.now (K.hash_input k))
+        nodes.now.items heads.now }
     ensures within { IfSome result (λ f. f.bucket < length heads.now) }
-    ensures bucket { IfSome result (λ f. f.bucket ≡ bucket_in (length heads.now) (hash_of S.BuildHasher S.Hasher.Hasher hasher.now (K.hash_input key.now))) }
-    ensures leads { IfSome result (λ f. Leads (nexts nodes.now.items) (slice_index_or heads.now f.bucket None) f.previous (Some f.at)) }
+    ensures bucket { IfSome result (λ f. f.bucket ≡ bucket_in (length heads.now) (hash_of S.BuildHasher
+        S.Hasher.Hasher hasher.now (K.hash_input key.now))) }
+    ensures leads { IfSome result (λ f. Leads (nexts nodes.now.items) (slice_index_or heads.now f.bucket
+        None) f.previous (Some f.at)) }
     ensures matches { IfSome result (λ f. Matches (K.eq key.now) (pairs_at nodes.now.items) f.at) }
     ensures absent { IfNone result ((x : ℕ) → ¬ (Matches (K.eq key.now) (pairs_at nodes.now.items) x)) }
 {
@@ -95,7 +107,8 @@ pub(crate) fn hook<K, V>(
     requires held { ContainsKey nodes.old.items at }
     ensures relinks { Relinks nodes.old nodes.new }
     ensures len { length heads.new ≡ length heads.old }
-    ensures bucketed { (home : ℕ → Option ℕ) → IsBucketed (nexts nodes.old.items) home heads.old → home at ≡ None → IsBucketed (nexts nodes.new.items) (placed at (Some bucket) home) heads.new }
+    ensures bucketed { (home : ℕ → Option ℕ) → IsBucketed (nexts nodes.old.items) home heads.old → home at ≡
+        None → IsBucketed (nexts nodes.new.items) (placed at (Some bucket) home) heads.new }
 {
     let next = mem::replace(&mut heads[bucket], Some(at));
     nodes.item_mut(at).next = next;
@@ -109,11 +122,15 @@ pub(crate) fn unhook<K, V>(
 )
     requires within { found.bucket < length heads.old }
     requires held { ContainsKey nodes.old.items found.at }
-    requires lists { (list : List ℕ) × Lists (nexts nodes.old.items) (slice_index_or heads.old found.bucket None) list }
-    requires leads { Leads (nexts nodes.old.items) (slice_index_or heads.old found.bucket None) found.previous (Some found.at) }
+    requires lists { (list : List ℕ) × Lists (nexts nodes.old.items) (slice_index_or heads.old found.bucket
+        None) list }
+    requires leads { Leads (nexts nodes.old.items) (slice_index_or heads.old found.bucket None)
+        found.previous (Some found.at) }
     ensures relinks { Relinks nodes.old nodes.new }
     ensures len { length heads.new ≡ length heads.old }
-    ensures bucketed { (home : ℕ → Option ℕ) → IsBucketed (nexts nodes.old.items) home heads.old → home found.at ≡ Some found.bucket → IsBucketed (nexts nodes.new.items) (placed found.at None home) heads.new }
+    ensures bucketed { (home : ℕ → Option ℕ) → IsBucketed (nexts nodes.old.items) home heads.old → home
+        found.at ≡ Some found.bucket → IsBucketed (nexts nodes.new.items) (placed found.at None home)
+        heads.new }
 {
     let next = nodes.item(found.at).next;
     match found.previous {
@@ -132,13 +149,25 @@ fn hook_at<K: Hash, V, S: BuildHasher>(
     requires { 0 < length heads.old }
     ensures relinks { Relinks nodes.old nodes.new }
     ensures len { length heads.new ≡ length heads.old }
-    ensures bucketed { (home : ℕ → Option ℕ) → IsBucketed (nexts nodes.old.items) home heads.old → home at ≡ None → IsBucketed (nexts nodes.new.items) (placed at (homes (λ k. bucket_in (length heads.old) (hash_of S.BuildHasher S.Hasher.Hasher hasher.now (K.hash_input k))) (pairs_at nodes.old.items) at) home) heads.new }
+    ensures bucketed { (home : ℕ → Option ℕ) → IsBucketed (nexts nodes.old.items) home heads.old → home at ≡
+        None → IsBucketed (nexts nodes.new.items) (placed at (homes (λ k. bucket_in (length heads.old)
+        (hash_of S.BuildHasher S.Hasher.Hasher hasher.now (K.hash_input k))) (pairs_at nodes.old.items) at)
+        home) heads.new }
 {
     let Some(entry) = nodes.get(at) else {
         return;
     };
     let bucket = bucket_of(hasher, &entry.key, heads.len());
     hook(nodes, heads, bucket, at);
+}
+
+// The first entries of so many empty buckets.
+fn no_heads(alloc: Global, buckets: usize) -> Result<Vec<Option<usize>>, AllocError>
+    ensures items { IfOk result (λ heads. heads.items ≡ replicate buckets None) }
+{
+    let mut heads = Vec::new(alloc);
+    heads.resize(buckets, None)?;
+    Ok(heads)
 }
 
 /// So many buckets that list the entries. Where there is no memory nothing changes.
@@ -151,10 +180,11 @@ pub(crate) fn rehash<K: Hash, V, S: BuildHasher>(
     requires { 0 < buckets }
     ensures len { IfOk result (λ heads. length heads.items ≡ buckets) }
     ensures relinks { OnOk result (Relinks nodes.old nodes.new) }
-    ensures indexed { IfOk result (λ heads. IsIndexed (λ k. hash_of S.BuildHasher S.Hasher.Hasher hasher.now (K.hash_input k)) nodes.new.items heads.items) }
+    ensures indexed { IfOk result (λ heads. IsIndexed (λ k. hash_of S.BuildHasher S.Hasher.Hasher hasher.now
+        (K.hash_input k)) nodes.new.items heads.items) }
     ensures err { OnErr result (nodes.new ≡ nodes.old) }
 {
-    let mut heads = vec![in alloc; None; buckets]?;
+    let mut heads = no_heads(alloc, buckets)?;
     for at in 0..nodes.key_bound() {
         hook_at(nodes, heads.as_mut_slice(), hasher, at);
     }

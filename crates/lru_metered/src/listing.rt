@@ -1,5 +1,6 @@
 //! The entries of a table in their order: each is in the list, once.
-ghost use Rattle.std.specs.Prelude.{◌≡◌, ◌≢◌, ℕ, ◌<◌, [], ◌∷◌, ◌++◌, Some, None, length, IfErr, OnOk, OnErr, Contains};
+ghost use Rattle.std.specs.Prelude.{◌≡◌, ◌≢◌, ℕ, ◌<◌, [], ◌∷◌, ◌++◌, Some, None, length, IfErr, OnOk};
+ghost use Rattle.std.specs.Prelude.{OnErr, Contains};
 ghost use Rattle.slab.specs.Slab.{get, Updates};
 ghost use Rattle.lru_metered.specs.Chain.{without};
 ghost use Rattle.lru_metered.specs.Index.{pairs_at, nexts};
@@ -29,12 +30,7 @@ pub(crate) fn take_out<K, V>(nodes: &mut Chain<Entry<K, V>>, at: usize) -> (K, V
 }
 
 /// Gives an entry another pair, and the old value back. The entry goes last, and its next stays.
-pub(crate) fn renew<K: Drop, V>(
-    nodes: &mut Chain<Entry<K, V>>,
-    at: usize,
-    key: K,
-    value: V,
-) -> V
+pub(crate) fn renew<K: Drop, V>(nodes: &mut Chain<Entry<K, V>>, at: usize, key: K, value: V) -> V
     requires full { IsFull nodes.old }
     requires listed { Contains nodes.old.order at }
     ensures renewed { Renewed nodes.old nodes.new at (key, value) }
@@ -46,7 +42,8 @@ pub(crate) fn renew<K: Drop, V>(
     mem::replace(&mut entry.value, value)
 }
 
-/// Stores a pair, at the front of a bucket and at the end of the list. Where there is no memory the pair is handed back.
+/// Stores a pair, at the front of a bucket and at the end of the list. Where there is no memory the
+/// pair is handed back.
 pub(crate) fn push<K, V>(
     nodes: &mut Chain<Entry<K, V>>,
     heads: &mut [Option<usize>],

@@ -1,5 +1,6 @@
 //! `Table`: the pairs of a cache, each found by its key, least recent first.
-ghost use Rattle.std.specs.Prelude.{◌≡◌, ◌-◌, ◌<◌, [], ◌∷◌, ◌++◌, None, length, drop, slice_get, is_some, IfNone, IfOk, IfErr, OnOk, OnErr};
+ghost use Rattle.std.specs.Prelude.{◌≡◌, ◌-◌, ◌<◌, [], ◌∷◌, ◌++◌, None, length, drop, slice_get, is_some};
+ghost use Rattle.std.specs.Prelude.{IfNone, IfOk, IfErr, OnOk, OnErr};
 ghost use Rattle.std.specs.Borrow.{sem};
 ghost use Rattle.std.specs.List.{IsDistinct};
 ghost use Rattle.std.specs.Map.{lookup, lookup_key, remove_entry, keys_of, values_of};
@@ -28,8 +29,10 @@ fn widen<K: Hash, V, S: BuildHasher>(
     heads: &mut Vec<Option<usize>>,
     hasher: &S,
 ) -> Result<(), AllocError>
-    requires { IsIndexed (λ k. hash_of S.BuildHasher S.Hasher.Hasher hasher.now (K.hash_input k)) nodes.old.items heads.old.items }
-    ensures indexed { IsIndexed (λ k. hash_of S.BuildHasher S.Hasher.Hasher hasher.now (K.hash_input k)) nodes.new.items heads.new.items }
+    requires { IsIndexed (λ k. hash_of S.BuildHasher S.Hasher.Hasher hasher.now (K.hash_input k))
+        nodes.old.items heads.old.items }
+    ensures indexed { IsIndexed (λ k. hash_of S.BuildHasher S.Hasher.Hasher hasher.now (K.hash_input k))
+        nodes.new.items heads.new.items }
     ensures relinks { Relinks nodes.old nodes.new }
     ensures room { OnOk result (0 < length heads.new.items) }
 {
@@ -43,7 +46,8 @@ fn widen<K: Hash, V, S: BuildHasher>(
 
 /// The pairs of a cache, least recent first. No two keys are equal.
 ///
-/// They stand in a slab, and a chain of its keys is their order. Each bucket lists the entries of the hashes that fall into it.
+/// They stand in a slab, and a chain of its keys is their order. Each bucket lists the entries of the
+/// hashes that fall into it.
 #[derive(Drop)]
 pub struct Table<K: Eq + Hash, V, S: BuildHasher> {
     nodes: Chain<Entry<K, V>>,
@@ -123,7 +127,8 @@ impl<K: Eq + Hash, V, S: BuildHasher> Table<K, V, S> {
     /// The value of the last pair, to write.
     pub(crate) fn latest_mut(&mut self) -> &mut V
         requires { 0 < length self.old }
-        ensures* writes_back { sem 𝓛 (lends_latest K.row V.row S.row S.Hasher.row K.Hash S.BuildHasher S.Hasher.Hasher self.entry result) }
+        ensures* writes_back { sem 𝓛 (lends_latest K.row V.row S.row S.Hasher.row K.Hash S.BuildHasher
+            S.Hasher.Hasher self.entry result) }
         ensures value { slice_get (values_of self.old) (length self.old - 1) ≡ Some result.now }
     {
         let at = self.nodes.last().unwrap();
@@ -143,7 +148,13 @@ impl<K: Eq + Hash, V, S: BuildHasher> Table<K, V, S> {
             return Err((key, value));
         }
         let bucket = bucket_of(&self.hasher, &key, self.heads.len());
-        match push(&mut self.nodes, self.heads.as_mut_slice(), bucket, key, value) {
+        match push(
+            &mut self.nodes,
+            self.heads.as_mut_slice(),
+            bucket,
+            key,
+            value,
+        ) {
             Ok(()) => Ok(None),
             Err(pair) => Err(pair),
         }

@@ -1,6 +1,8 @@
-//! `PlainTable`: the pairs of a cache in an index map, in the order of their use. It has the clauses of the cache's own table, by another way:
+//! `PlainTable`: the pairs of a cache in an index map, in the order of their use. It has the clauses of
+//! the cache's own table, by another way:
 //! a pair that is moved to the end, or out, moves those behind it.
-ghost use Rattle.std.specs.Prelude.{◌≡◌, ◌-◌, ◌<◌, [], ◌∷◌, ◌++◌, length, drop, slice_get, is_some, IfNone, IfOk, IfErr, OnOk, OnErr};
+ghost use Rattle.std.specs.Prelude.{◌≡◌, ◌-◌, ◌<◌, [], ◌∷◌, ◌++◌, length, drop, slice_get, is_some, IfNone};
+ghost use Rattle.std.specs.Prelude.{IfOk, IfErr, OnOk, OnErr};
 ghost use Rattle.std.specs.List.{IsDistinct};
 ghost use Rattle.std.specs.Map.{lookup, lookup_key, remove_entry, keys_of, values_of};
 ghost use Rattle.std.specs.Map.Iter.{deref_pair};

@@ -1,4 +1,4 @@
-use Rattle.std.proofs.Common.{◌≡◌, ℕ, Some, length, sym, ap, ◌∙◌, rules}
+use Rattle.std.proofs.Common.{◌≡◌, Some, length, sym, ap, ◌∙◌, rules}
 use Rattle.lru_metered.specs.Index.{hash_of, bucket_in, pairs_at, nexts, homes}
 use Rattle.lru_metered.proofs.SearchLemmas.{if-none, home-of, none-home}
 use Rattle.lru_metered.proofs.index.find.Goals as goal

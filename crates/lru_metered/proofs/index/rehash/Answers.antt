@@ -1,4 +1,4 @@
-use Rattle.std.proofs.Common.{◌≡◌, ℕ, ◌+◌, ◌≤◌, None, length, replicate, sym, ap, ◌∙◌, subst, arith, get_or}
+use Rattle.std.proofs.Common.{◌≡◌, ◌+◌, None, length, replicate, sym, ap, ◌∙◌, subst, arith, get_or}
 use Rattle.std.proofs.lemmas.List.{with_items_is, length-replicate}
 use Rattle.lru_metered.specs.Index.{hash_of, bucket_in, pairs_at, nexts, homes, below, placed, IsBucketed}
 use Rattle.lru_metered.proofs.TableLemmas.{relinks-none, rehash-start, rehash-step, rehash-end, none-replicated}
@@ -8,7 +8,7 @@ use Rattle.lru_metered.proofs.index.rehash.Goals as goal
 pub loop-at-init : goal.loop-at-init
 loop-at-init g c =
     let hash = λ (k : g.row.K.Denot). hash_of g.S.BuildHasher g.S.Hasher.Hasher c.args.hasher.now (g.K.Hash.hash_input k) in
-    let all : c.in_ok-heads.heads.items ≡ replicate c.args.buckets None = c.in_ok-heads.ensures.items_if_clones_equal (λ y k. k) in
+    let all : c.in_ok-heads.heads.items ≡ replicate c.args.buckets None = c.in_ok-heads.ensures.items in
     record {
       relinks = relinks-none c.args.nodes.now;
       len = ap length all ∙ length-replicate c.args.buckets None;

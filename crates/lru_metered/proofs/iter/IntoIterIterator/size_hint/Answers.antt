@@ -1,4 +1,4 @@
-use Rattle.std.proofs.Common.{length, sym, ap, ◌∙◌, arith}
+use Rattle.std.proofs.Common.{length, ap, arith}
 use Rattle.lru_metered.proofs.ListingLemmas.{length-pairs}
 use Rattle.lru_metered.proofs.iter.IntoIterIterator.size_hint.Goals as goal
 

@@ -1,4 +1,4 @@
-use Rattle.std.proofs.Common.{◌<◌, sym, ◌∙◌, arith}
+use Rattle.std.proofs.Common.{sym, ◌∙◌, arith}
 use Rattle.std.specs.Map.Iter.{deref_pair}
 use Rattle.lru_metered.proofs.RunLemmas.{last_progress}
 use Rattle.lru_metered.proofs.PartLemmas.{part-last, part-back}

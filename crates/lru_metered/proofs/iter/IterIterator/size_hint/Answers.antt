@@ -1,4 +1,4 @@
-use Rattle.std.proofs.Common.{length, sym, ap, ◌∙◌, arith}
+use Rattle.std.proofs.Common.{length, ap, arith}
 use Rattle.lru_metered.proofs.PartLemmas.{length-left}
 use Rattle.lru_metered.proofs.iter.IterIterator.size_hint.Goals as goal
 

@@ -1,9 +1,6 @@
-use Rattle.std.proofs.Common.{◌≡◌, ℕ, ◌<◌, ◌-◌, [], ◌∷◌, Some, None, IfSome, IfNone, length, get_or, drop, slice_get, is_some, true, refl, sym, ap, ◌∙◌, subst, arith, rules, Contains}
+use Rattle.std.proofs.Common.{sym, ap, subst}
 use Rattle.std.specs.Option.{option_map}
-use Rattle.std.specs.Map.{lookup, lookup_key}
-use Rattle.slab.specs.Slab.{get}
-use Rattle.lru_metered.specs.Index.{hash_of, bucket_in, pair_of, pairs_at, nexts, IsBucketed, IsIndexed, Matches}
-use Rattle.lru_metered.specs.Listing.{pairs_of}
+use Rattle.lru_metered.specs.Index.{hash_of, pair_of, IsIndexed}
 use Rattle.lru_metered.proofs.ListingLemmas.{absent-listed}
 use Rattle.lru_metered.proofs.TableLemmas.{key-found, value-found}
 use Rattle.lru_metered.proofs.table.Table.get_pair.Goals as goal
@@ -12,7 +9,6 @@ pub find-requires : goal.find-requires
 find-requires g c =
     let hash = λ (l : g.row.K.Denot). hash_of g.S.BuildHasher g.S.Hasher.Hasher c.self.inside.hasher (g.K.Hash.hash_input l) in
     subst (λ h. IsIndexed hash c.self.inside.nodes.items h) (sym c.as_slice.ensures.value) c.self.invariant.indexed
-
 
 pub returns-in_err-found-clause-key : goal.returns-in_err-found-clause-key
 returns-in_err-found-clause-key g c =

@@ -1,8 +1,6 @@
-use Rattle.std.proofs.Common.{◌≡◌, ℕ, ◌<◌, ◌-◌, [], ◌∷◌, Some, None, IfSome, IfNone, length, get_or, drop, slice_get, is_some, true, refl, sym, ap, ◌∙◌, subst, arith, rules, Contains, unwrap_or}
-use Rattle.std.specs.Option.{option_map}
-use Rattle.std.specs.Map.{lookup, lookup_key}
+use Rattle.std.proofs.Common.{◌≡◌, ◌<◌, ◌-◌, Some, length, is_some, true, refl, sym, ap, ◌∙◌, subst, arith, unwrap_or}
 use Rattle.slab.specs.Slab.{get}
-use Rattle.lru_metered.specs.Index.{hash_of, bucket_in, pair_of, pairs_at, nexts, IsBucketed, IsIndexed, Matches}
+use Rattle.lru_metered.specs.Index.{hash_of}
 use Rattle.lru_metered.specs.Listing.{pairs_of}
 use Rattle.lru_metered.proofs.PartLemmas.{last-there, got-has}
 use Rattle.lru_metered.proofs.TableLemmas.{held-entry, value-there}

@@ -1,10 +1,7 @@
-use Rattle.std.proofs.Common.{◌≡◌, ℕ, ◌<◌, ◌-◌, [], ◌∷◌, Some, None, IfSome, IfNone, length, get_or, drop, slice_get, is_some, true, refl, sym, ap, ◌∙◌, subst, arith, rules, Contains}
-use Rattle.std.specs.Option.{option_map}
-use Rattle.std.specs.Map.{lookup, lookup_key}
-use Rattle.slab.specs.Slab.{get}
-use Rattle.lru_metered.specs.Index.{hash_of, bucket_in, pair_of, pairs_at, nexts, IsBucketed, IsIndexed, Matches}
+use Rattle.std.proofs.Common.{◌≡◌, Some, IfSome, length, drop, slice_get, refl, sym, ap, ◌∙◌, subst}
+use Rattle.lru_metered.specs.Index.{hash_of, bucket_in, pairs_at, nexts, IsBucketed, IsIndexed, Matches}
 use Rattle.std.proofs.lemmas.List.{with_items_is}
-use Rattle.lru_metered.specs.Listing.{pairs_of, IsTable}
+use Rattle.lru_metered.specs.Listing.{IsTable}
 use Rattle.lru_metered.specs.declared.index.Found.{Found}
 use Rattle.lru_metered.specs.Chain.{without}
 use Rattle.lru_metered.proofs.PartLemmas.{none-listed, first-taken, got-has}
@@ -56,7 +53,7 @@ returns-clause-pair g c =
     let mid = c.unhook.new.nodes in let new = c.take_out.new.nodes in
     let there : slice_get nodes.order 0 ≡ Some f.at = sym c.in_ok-at.ensures ∙ ap (λ n. Some n) (sym (found-self eq hash law nodes heads t k f.at m at e c.item.ensures refl)) in
     let pairs = first-taken nodes new t.full f.at c.take_out.result (sym (c.unhook.ensures.relinks.pairs f.at) ∙ c.take_out.ensures.pair) (c.take_out.ensures.order ∙ ap (without f.at) c.unhook.ensures.relinks.order)
-        (taken-others eq hash law nodes heads t k f.at m mid new c.unhook.ensures.relinks c.take_out.ensures.full c.take_out.ensures.order c.take_out.ensures.updates) there in
+    (taken-others eq hash law nodes heads t k f.at m mid new c.unhook.ensures.relinks c.take_out.ensures.full c.take_out.ensures.order c.take_out.ensures.updates) there in
     rw (← c.self.view_is) (sym (ap (λ l. slice_get l 0) pairs))
 
 pub returns-clause-rest : goal.returns-clause-rest
@@ -69,5 +66,5 @@ returns-clause-rest g c =
     let mid = c.unhook.new.nodes in let new = c.take_out.new.nodes in
     let there : slice_get nodes.order 0 ≡ Some f.at = sym c.in_ok-at.ensures ∙ ap (λ n. Some n) (sym (found-self eq hash law nodes heads t k f.at m at e c.item.ensures refl)) in
     let pairs = first-taken nodes new t.full f.at c.take_out.result (sym (c.unhook.ensures.relinks.pairs f.at) ∙ c.take_out.ensures.pair) (c.take_out.ensures.order ∙ ap (without f.at) c.unhook.ensures.relinks.order)
-        (taken-others eq hash law nodes heads t k f.at m mid new c.unhook.ensures.relinks c.take_out.ensures.full c.take_out.ensures.order c.take_out.ensures.updates) there in
+    (taken-others eq hash law nodes heads t k f.at m mid new c.unhook.ensures.relinks c.take_out.ensures.full c.take_out.ensures.order c.take_out.ensures.updates) there in
     rw (← c.self.view_is) (sym (ap (drop 1) pairs))

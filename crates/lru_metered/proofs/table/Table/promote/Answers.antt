@@ -1,9 +1,5 @@
-use Rattle.std.proofs.Common.{◌≡◌, ℕ, ◌<◌, ◌-◌, [], ◌∷◌, Some, None, IfSome, IfNone, length, get_or, drop, slice_get, is_some, true, refl, sym, ap, ◌∙◌, subst, arith, rules, Contains}
-use Rattle.std.specs.Option.{option_map}
-use Rattle.std.specs.Map.{lookup, lookup_key}
-use Rattle.slab.specs.Slab.{get}
-use Rattle.lru_metered.specs.Index.{hash_of, bucket_in, pair_of, pairs_at, nexts, IsBucketed, IsIndexed, Matches}
-use Rattle.lru_metered.specs.Listing.{pairs_of}
+use Rattle.std.proofs.Common.{ℕ, IfNone, is_some, sym, ap, subst}
+use Rattle.lru_metered.specs.Index.{hash_of, pairs_at, IsIndexed, Matches}
 use Rattle.lru_metered.proofs.ListingLemmas.{absent-listed}
 use Rattle.lru_metered.proofs.TableLemmas.{promoted-absent, table-moved, pairs-moved, found-some}
 use Rattle.lru_metered.proofs.table.Table.promote.Goals as goal
@@ -12,7 +8,6 @@ pub find-requires : goal.find-requires
 find-requires g c =
     let hash = λ (l : g.row.K.Denot). hash_of g.S.BuildHasher g.S.Hasher.Hasher c.self.inside.hasher (g.K.Hash.hash_input l) in
     subst (λ h. IsIndexed hash c.self.inside.nodes.items h) (sym c.as_slice.ensures.value) c.self.invariant.indexed
-
 
 pub returns-in_default-clause-pairs : goal.returns-in_default-clause-pairs
 returns-in_default-clause-pairs g c =

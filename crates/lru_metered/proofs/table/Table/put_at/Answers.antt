@@ -1,8 +1,5 @@
-use Rattle.std.proofs.Common.{◌≡◌, ℕ, ◌<◌, ◌-◌, [], ◌∷◌, Some, None, IfSome, IfNone, length, get_or, drop, slice_get, is_some, true, refl, sym, ap, ◌∙◌, subst, arith, rules, Contains, unwrap_or}
-use Rattle.std.specs.Option.{option_map}
-use Rattle.std.specs.Map.{lookup, lookup_key}
-use Rattle.slab.specs.Slab.{get}
-use Rattle.lru_metered.specs.Index.{hash_of, bucket_in, pair_of, pairs_at, nexts, IsBucketed, IsIndexed, Matches}
+use Rattle.std.proofs.Common.{◌≡◌, Some, length, slice_get, is_some, refl, sym, ap, ◌∙◌, arith, unwrap_or}
+use Rattle.lru_metered.specs.Index.{hash_of}
 use Rattle.lru_metered.specs.Listing.{pairs_of}
 use Rattle.lru_metered.specs.Metered.{set_at}
 use Rattle.lru_metered.proofs.ListingLemmas.{length-pairs}
