@@ -1,5 +1,5 @@
 -- Each build goes on from an accepted start of a run request, and no job is built twice.
-use Rattle.std.proofs.Common.{◌≡◌, inl, inr, ℕ, zero, suc, ◌+◌, ◌<◌, ◌≤◌, ◌^◌, ◌||◌, ◌==◌, not, Bool, true, false, cond, List, [], ◌∷◌, ◌++◌, length, take, drop, codes, Option, Some, None, Result, Ok, Err, refl, ap, ◌∙◌, sym, subst, arith}
+use Rattle.std.proofs.Common.{◌≡◌, inl, inr, ℕ, zero, suc, ◌+◌, ◌<◌, ◌≤◌, ◌^◌, ◌||◌, ◌==◌, not, Bool, true, false, cond, List, [], ◌∷◌, ◌++◌, length, map, take, drop, codes, Option, Some, None, Result, Ok, Err, refl, ap, ◌∙◌, sym, subst, arith}
 use Rattle.std.specs.Prelude.{slice_get, find, is_some, ⊤}
 use Rattle.std.specs.List.{AllByRecursion, list_any, cons_option}
 use Rattle.std.specs.Option.{option_map}
@@ -87,7 +87,7 @@ use Rattle.farm_run.specs.Builds.{SettlesCall, build_by, IsBuild, AreBuiltOnce, 
 use Rattle.farm_run.specs.Calls.{call_at, delivered_by, delivery_at, settles_by, is_void, waiting_at}
 use Rattle.farm_run.specs.Effects.{word_effect, effect_of, entry_of}
 use Rattle.farm_run.specs.Farm.{Farmed, Runs}
-use Rattle.farm_run.specs.Next.{GoesOn, IsSettled, IsMade, IsNext, EachNext}
+use Rattle.farm_run.specs.Next.{GoesOn, IsSettled, IsMade, IsNext, EachNext, IsRun}
 use Rattle.farm_run.specs.Seen.{core_log, core_of, serves}
 use Rattle.farm_run.specs.Served.{assigned, served, told_of, books_of, state_call, run_outcome}
 use Rattle.farm_run.specs.Servers.{ServerNow, server_of, server_at, server_now, is_over}
@@ -95,6 +95,7 @@ use Rattle.farm_run.specs.Settled.{IsUpdated, assignment_end, running, ready_end
 use Rattle.farm_run.specs.Ways.{Way, server_way, caller_by, caller_of, target_of, delivery_way, return_way, is_inside, beat_way, restart_way, way_of, brought_at, to_nothing, to_nobody, to_scheduler, to_server, to_call, to_beat, to_restart}
 use Rattle.farm_run.proofs.NextLemmas.{settles_it, way_settles, runs_lawful}
 use Rattle.farm_run.proofs.ReportLemmas.{started_asked, told_accepted}
+use Rattle.farm_run.proofs.RunLemmas.{Runs-is}
 use Rattle.farm_run.proofs.ServerLemmas.{server_setup}
 use Rattle.farm_run.proofs.SettleLemmas.{take_take, get_front, get_take, next_at, each_front, settled_once}
 use Rattle.farm_run.proofs.StartedLemmas.{starts_by, once, was_ready}
@@ -140,14 +141,14 @@ core_among p (x ∷ xs) (suc n) (suc m) e c lt at is on = by_core x.core (core_a
 
 -- ---- the server at an address
 
-record Found (setup : Setup) (log : List Entry) (addr : Addr) (s : ServerNow) : Type 0 where
-  server : SetupServer
-  found : server_at setup addr ≡ Some server
-  is : server_of server log ≡ s
-  at : server.addr ≡ addr
-  own : s.setup.addr ≡ addr
+pub record Found (setup : Setup) (log : List Entry) (addr : Addr) (s : ServerNow) : Type 0 where
+  pub server : SetupServer
+  pub found : server_at setup addr ≡ Some server
+  pub is : server_of server log ≡ s
+  pub at : server.addr ≡ addr
+  pub own : s.setup.addr ≡ addr
 
-found_now : (setup : Setup) (log : List Entry) (addr : Addr) (s : ServerNow) → server_now setup log addr ≡ Some s → Found setup log addr s
+pub found_now : (setup : Setup) (log : List Entry) (addr : Addr) (s : ServerNow) → server_now setup log addr ≡ Some s → Found setup log addr s
 found_now setup log addr s e =
     let m = mapped (λ (x : SetupServer). server_of x log) (server_at setup addr) s e in
     let at : m.0.addr ≡ addr = same_is m.0.addr addr (find_has (λ x. Unit {0}) (λ (x : SetupServer). same_addr x.addr addr) setup.servers m.0 (every setup.servers) m.1).1 in
@@ -446,23 +447,23 @@ way_comes : (b : Bool) (peer : Addr) (bytes bs : List ℕ) (o : Option ServerNow
 way_comes true peer bytes bs o s e = absurd cc
 way_comes false peer bytes bs o s e = server_comes bytes bs o s e
 
-no_return : (o : Option (ℕ × List ℕ)) (s : ServerNow) (bytes : List ℕ) → return_way o ≡ to_server s bytes → ⊥
+pub no_return : (o : Option (ℕ × List ℕ)) (s : ServerNow) (bytes : List ℕ) → return_way o ≡ to_server s bytes → ⊥
 no_return None s bytes e = cc
 no_return (Some p) s bytes e = cc
 
-no_outside : (b : Bool) (c : ℕ) (bs : List ℕ) (s : ServerNow) (bytes : List ℕ) → cond b to_nothing (to_call c (Some bs)) ≡ to_server s bytes → ⊥
+pub no_outside : (b : Bool) (c : ℕ) (bs : List ℕ) (s : ServerNow) (bytes : List ℕ) → cond b to_nothing (to_call c (Some bs)) ≡ to_server s bytes → ⊥
 no_outside true c bs s bytes e = cc
 no_outside false c bs s bytes e = cc
 
-no_beat : (o : Option ServerNow) (s : ServerNow) (bytes : List ℕ) → beat_way o ≡ to_server s bytes → ⊥
+pub no_beat : (o : Option ServerNow) (s : ServerNow) (bytes : List ℕ) → beat_way o ≡ to_server s bytes → ⊥
 no_beat None s bytes e = cc
 no_beat (Some t) s bytes e = cc
 
-no_restart : (key : List ℕ) (nonce : ℕ) (o : Option ServerNow) (s : ServerNow) (bytes : List ℕ) → restart_way key nonce o ≡ to_server s bytes → ⊥
+pub no_restart : (key : List ℕ) (nonce : ℕ) (o : Option ServerNow) (s : ServerNow) (bytes : List ℕ) → restart_way key nonce o ≡ to_server s bytes → ⊥
 no_restart key nonce None s bytes e = cc
 no_restart key nonce (Some t) s bytes e = cc
 
-call_later : (entries : List Entry) (c n d : ℕ) (oc : OutCall) → n < d → call_at (take n entries) c ≡ Some oc → call_at (take d entries) c ≡ Some oc
+pub call_later : (entries : List Entry) (c n d : ℕ) (oc : OutCall) → n < d → call_at (take n entries) c ≡ Some oc → call_at (take d entries) c ≡ Some oc
 call_later entries c n d oc lt is =
     let a = bind_some (slice_get (take n entries) c) _ oc is in
     let g = get_front entries c n a.0 a.1 in
@@ -754,18 +755,18 @@ are_builds setup events entries fits words each = record {
   settled = λ n. settled_once setup (take n events) (take n entries) (each_front setup [] events entries n each);
 }
 
--- the entries of a farm that ran events from none
+-- the entries of a farm that ran events
+pub run_builds : (setup : Setup) (entries : List Entry) → setup.scheduler.count < 2 ^ 64 → (HasToken setup.scheduler.auth → HasWords setup) → IsRun setup entries → HasToken setup.scheduler.auth → AreBuilds setup entries
+run_builds setup entries fits words run token = are_builds setup (map (λ (e : Entry). e.event) entries) entries fits (words token) run
+
 pub Runs-builds : (old : Farmed) (events : List Event) (new : Farmed) → old.setup.scheduler.count < 2 ^ 64 → (HasToken old.setup.scheduler.auth → HasWords old.setup) → Runs old events new
-    → old.entries ≡ [] → HasToken old.setup.scheduler.auth → AreBuilds new.setup new.entries
-Runs-builds old events new fits words run none token =
-    let each : EachNext old.setup [] events run.0 = subst (λ (es : List Entry). EachNext old.setup es events run.0) none run.1 in
-    let builds : AreBuilds old.setup run.0 = are_builds old.setup events run.0 fits (words token) each in
-    let same : old.entries ++ run.0 ≡ run.0 = ap (λ (es : List Entry). es ++ run.0) none in
-    subst (λ (f : Farmed). AreBuilds f.setup f.entries) (sym run.2) (subst (λ (es : List Entry). AreBuilds old.setup es) (sym same) builds)
+    → IsRun new.setup new.entries → HasToken old.setup.scheduler.auth → AreBuilds new.setup new.entries
+Runs-builds old events new fits words run is token =
+    let same : new.setup ≡ old.setup = ap (λ (f : Farmed). f.setup) run.2 in
+    let own : IsRun old.setup new.entries = subst (λ (s : Setup). IsRun s new.entries) same is in
+    subst (λ (s : Setup). AreBuilds s new.entries) (sym same) (run_builds old.setup new.entries fits words own token)
 
 -- the same of the entries that were handed back
 pub Runs-stopped : (old : Farmed) (events : List Event) (mid : Farmed) (entries : List Entry) → old.setup.scheduler.count < 2 ^ 64 → (HasToken old.setup.scheduler.auth → HasWords old.setup) → Runs old events mid
-    → entries ≡ mid.entries → old.entries ≡ [] → HasToken old.setup.scheduler.auth → AreBuilds old.setup entries
-Runs-stopped old events mid entries fits words run same none token =
-    let builds = Runs-builds old events mid fits words run none token in
-    subst (λ (s : Setup). AreBuilds s entries) (ap (λ (f : Farmed). f.setup) run.2) (subst (λ (es : List Entry). AreBuilds mid.setup es) (sym same) builds)
+    → entries ≡ mid.entries → IsRun mid.setup mid.entries → HasToken old.setup.scheduler.auth → AreBuilds old.setup entries
+Runs-stopped old events mid entries fits words run same is token = run_builds old.setup entries fits words (Runs-is old events mid entries run same is) token

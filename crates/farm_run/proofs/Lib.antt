@@ -6,7 +6,8 @@ pub mod MadeLemmas
 pub mod NextLemmas
 pub mod NumberLemmas
 pub mod OneLemmas
-pub mod OwnLemmas
+pub mod ReliableLemmas
+pub mod RepliedLemmas
 pub mod ReportLemmas
 pub mod RowLemmas
 pub mod RunLemmas

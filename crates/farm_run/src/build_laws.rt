@@ -2,6 +2,7 @@
 ghost use Rattle.std.specs.Prelude.{◌≡◌, ◌<◌, ◌^◌, List, [], ℕ};
 ghost use Rattle.farm_run.specs.Builds.{AreSettledOnce, AreBuiltOnce, AreBuilds, HasWords};
 ghost use Rattle.farm_run.specs.Next.{EachNext};
+ghost use Rattle.farm_run.specs.Reliable.{IsReliable};
 ghost use Rattle.farm_script.specs.declared.setup.Setup.{Setup};
 ghost use Rattle.farm_script.specs.declared.event.Event.{Event};
 ghost use Rattle.farm_run.specs.declared.entry.Entry.{Entry};
@@ -22,4 +23,11 @@ pub fn builds_are_accepted()
 pub fn no_id_is_built_twice()
     ensures { (setup : Setup) (events : List Event) (entries : List Entry) → setup.scheduler.count < 2 ^ 64
         → HasWords setup → EachNext setup [] events entries → AreBuiltOnce entries }
+{}
+
+/// An entry is replied to at most once; a request whose calls come back granted gets the reply that its row
+/// names; a restart keeps the archives.
+pub fn runs_are_reliable()
+    ensures { (setup : Setup) (events : List Event) (entries : List Entry)
+        → EachNext setup [] events entries → IsReliable setup entries }
 {}
