@@ -1,5 +1,6 @@
 pub mod BuildLemmas
 pub mod CallLemmas
+pub mod DecideLemmas
 pub mod HexLemmas
 pub mod IdLemmas
 pub mod MadeLemmas

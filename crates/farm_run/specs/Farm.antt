@@ -106,9 +106,9 @@ pub record IsLawful (base count : ℕ) (log : List CoreEntry) : Type 0 where
 abbrev pub AreLawful : Setup → List Entry → Type 0
 AreLawful setup entries = (n : ℕ) → IsLawful setup.scheduler.base setup.scheduler.count (core_log (take n entries))
 
--- No event is without a next entry: that there is none is refuted. (Nothing computes whether bytes are a request, so the entry itself is not shown.)
+-- each event, whatever it is, has a next entry
 abbrev pub HasNext : Setup → List Entry → Type 0
-HasNext setup log = (event : Event) → ((e : Entry) → IsNext setup log event e → ⊥) → ⊥
+HasNext setup log = (event : Event) → (e : Entry) × IsNext setup log event e
 
 -- ---- farms
 

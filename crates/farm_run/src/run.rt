@@ -204,7 +204,7 @@ impl Farm {
         let _ = self.log.entries.len();
     }
 
-    /// That over the entries no event is without a next one.
+    /// That over the entries each event, whatever it is, has a next one.
     #[tactic(auto, using(crate::proofs::ThereLemmas::has_next))]
     pub fn goes_on(&self)
         ensures { HasNext self.now.setup self.now.entries }
