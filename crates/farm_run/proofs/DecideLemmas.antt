@@ -277,11 +277,15 @@ section_step text rec = by_line (decides_newline text)
     by_rest : (f : Field) (middle : List ℕ) → FieldLine f text middle → Decided Section middle → Decided Section text
     by_rest f middle x (inl ((fs, last), rest, y)) =
         let lines = flat_map print_field fs in
-        inl ((f ∷ fs, last), rest, (
-          All-cons IsField f fs x.0 y.0,
-          x.1 ∙ ap (λ (t : List ℕ). print_field f ++ t) y.1
-              ∙ sym (ap (λ (t : List ℕ). t ++ rest) (append_assoc (print_field f) lines (print_end last)) ∙ append_assoc (print_field f) (lines ++ print_end last) rest),
-        ))
+        inl (
+          (f ∷ fs, last),
+          rest,
+          (
+            All-cons IsField f fs x.0 y.0,
+            x.1 ∙ ap (λ (t : List ℕ). print_field f ++ t) y.1
+                ∙ sym (ap (λ (t : List ℕ). t ++ rest) (append_assoc (print_field f) lines (print_end last)) ∙ append_assoc (print_field f) (lines ++ print_end last) rest),
+          ),
+        )
     by_rest f middle x (inr none) = inr (λ z.
         let s = Section_skip (f ∷ []) z.0.0 z.0.1 text middle z.1 (All-cons IsField f [] x.0 (All-nil IsField), x.1 ∙ ap (λ (t : List ℕ). t ++ middle) (sym (append-nil (print_field f)))) z.2 in
         none ((s.0, z.0.1), z.1, s.2))
