@@ -94,7 +94,7 @@ use Rattle.farm_run.specs.Servers.{ServerNow, server_of, server_at, server_now, 
 use Rattle.farm_run.specs.Settled.{IsUpdated, assignment_end, running, ready_end, started_end, complete_end, Reports, Lives, ReportsIn}
 use Rattle.farm_run.specs.Ways.{Way, server_way, caller_by, caller_of, target_of, delivery_way, return_way, is_inside, beat_way, restart_way, way_of, brought_at, to_nothing, to_nobody, to_scheduler, to_server, to_call, to_beat, to_restart}
 use Rattle.farm_run.proofs.NextLemmas.{settles_it, way_settles, runs_lawful}
-use Rattle.farm_run.proofs.ReportLemmas.{started_asked, told_accepted}
+use Rattle.farm_run.proofs.ReportLemmas.{state_asked, told_accepted}
 use Rattle.farm_run.proofs.RunLemmas.{Runs-is}
 use Rattle.farm_run.proofs.ServerLemmas.{server_setup}
 use Rattle.farm_run.proofs.SettleLemmas.{take_take, get_front, get_take, next_at, each_front, settled_once}
@@ -103,7 +103,7 @@ use Rattle.farm_run.proofs.TakenLemmas.{held_took}
 
 -- ---- lists
 
-mapped : {A B : Type 0} (f : A → B) (o : Option A) (y : B) → option_map f o ≡ Some y → (x : A) × (o ≡ Some x) × (f x ≡ y)
+pub mapped : {A B : Type 0} (f : A → B) (o : Option A) (y : B) → option_map f o ≡ Some y → (x : A) × (o ≡ Some x) × (f x ≡ y)
 mapped f None y e = absurd cc
 mapped f (Some x) y e = (x, refl, same_Some (f x) y e)
 
@@ -119,7 +119,7 @@ find_has {X = X} P p (y ∷ ys) x all e = by_test (p y) refl (find_has P p ys x 
     by_test true is rest e = subst (λ (z : X). P z × (p z ≡ true)) (same_Some y x e) (all.0, is)
     by_test false is rest e = rest e
 
-get_past : {X : Type 0} (xs : List X) (n m : ℕ) → m ≤ n → slice_get (take m xs) n ≡ None
+pub get_past : {X : Type 0} (xs : List X) (n m : ℕ) → m ≤ n → slice_get (take m xs) n ≡ None
 get_past [] n zero h = refl
 get_past [] n (suc m) h = refl
 get_past (x ∷ xs) n zero h = refl
@@ -161,7 +161,7 @@ found_now setup log addr s e =
     }
 
 -- its address is one
-found_addr : (setup : Setup) (log : List Entry) (addr : Addr) (s : ServerNow) → HasWords setup → Found setup log addr s → IsAddr addr
+pub found_addr : (setup : Setup) (log : List Entry) (addr : Addr) (s : ServerNow) → HasWords setup → Found setup log addr s → IsAddr addr
 found_addr setup log addr s words f =
     subst IsAddr f.at (find_has (λ (x : SetupServer). IsAddr x.addr) (λ (x : SetupServer). same_addr x.addr addr) setup.servers f.server words.servers f.found).0
 
@@ -358,7 +358,7 @@ module _ (verdict : ℕ → List ℕ → Result ⊤ TokenError) (r : Request) (j
       by_jobs None None (Some j) at_u h = run_shows j at_u h
       by_jobs None None None at_u h = absurd cc
 
-run_asked : (verdict : ℕ → List ℕ → Result ⊤ TokenError) (bytes : List ℕ) (a : ServerAsked) (job : JobId) (run : RunJobHttpRequest) (place : ℕ) → IsServerAsked verdict bytes a → a.what ≡ server_asked.Run job run place
+pub run_asked : (verdict : ℕ → List ℕ → Result ⊤ TokenError) (bytes : List ℕ) (a : ServerAsked) (job : JobId) (run : RunJobHttpRequest) (place : ℕ) → IsServerAsked verdict bytes a → a.what ≡ server_asked.Run job run place
     → (r : Request) × IsRequest bytes r × NamesJob r run_front job × ShowsJob r verdict job
 run_asked verdict bytes a job run place (inr (none, e)) is =
     let no = sym (ap (λ (c : ServerAsked). c.what) e) ∙ is in
@@ -470,7 +470,7 @@ call_later entries c n d oc lt is =
     ap (λ (o : Option Entry). o >>= λ e. e.call) (get_take entries c d (omega (arith, lt, g.0)) ∙ g.1) ∙ a.2
 
 -- who makes the call of an entry whose event comes to a server is that server
-caller_is : (setup : Setup) (entries : List Entry) (n d : ℕ) (step : Option Step) (k : EventKind) (s : ServerNow) (bytes : List ℕ) → n < d → way_of setup (take n entries) k ≡ to_server s bytes
+pub caller_is : (setup : Setup) (entries : List Entry) (n d : ℕ) (step : Option Step) (k : EventKind) (s : ServerNow) (bytes : List ℕ) → n < d → way_of setup (take n entries) k ≡ to_server s bytes
     → caller_by setup (take d entries) step k ≡ s.setup.addr
 caller_is setup entries n d step (Brings target peer bs) s bytes lt e =
     sym (found_now setup (take n entries) target s (way_comes (same_addr target setup.scheduler.addr) peer bytes bs (server_now setup (take n entries) target) s e)).own
@@ -529,13 +529,13 @@ module _ (setup : Setup) (words : HasWords setup) (entries : List Entry) (n : �
       let s = core_of setup (take d entries) in
       let (a, shown, x_is) = subst (λ (w : Way). IsMade setup (take d entries) e.event.at w x) (arrives lt) made in
       let wanted : Asked = record { what = asked.Update server job Started; json = false } in
-      let one : a ≡ wanted = one_question (equal_admission setup.scheduler.client) (serves setup.scheduler.auth) sent.bytes server a wanted shown (started_asked setup server job words is_addr fits) in
+      let one : a ≡ wanted = one_question (equal_admission setup.scheduler.client) (serves setup.scheduler.auth) sent.bytes server a wanted shown (state_asked setup server job Started words is_addr fits) in
       let answer = advance (open_rows s.log) server job Started in
       let same : x ≡ answer_to s (length (take d entries)) e.event.at false (asked.Update server job Started) =
       x_is ∙ ap (λ (c : Asked). answer_to s (length (take d entries)) e.event.at c.json c.what) one in
       let reply_is : r.bytes ≡ reply_text (update_reply false answer server job Started) =
       ap (λ (y : Reply). y.bytes) (same_Some r _ (sym replies ∙ ap (λ (y : Entry). y.reply) is ∙ ap (λ (z : Effect). z.reply) same)) in
-      let accepted : answer ≡ Accepted = told_accepted update_at false answer server job u fits is_addr (subst (λ (b : List ℕ). IsAnswer update_at b (Ok u)) reply_is is_told) in
+      let accepted : answer ≡ Accepted = told_accepted update_at false answer server job Started u fits is_addr (subst (λ (b : List ℕ). IsAnswer update_at b (Ok u)) reply_is is_told) in
       record {
         before = lt;
         entry = e;
@@ -565,15 +565,15 @@ deliver_kind (Beat server) n e = absurd cc
 deliver_kind (Restart server key nonce) n e = absurd cc
 
 -- the parts of a delivery that got a reply
-record Delivered (log : List Entry) (d n : ℕ) (bytes : List ℕ) : Type 0 where
-  entry : Entry
-  there : slice_get log d ≡ Some entry
-  delivers : entry.event.kind ≡ Deliver n
-  reply : Reply
-  replies : entry.reply ≡ Some reply
-  text : reply.bytes ≡ bytes
+pub record Delivered (log : List Entry) (d n : ℕ) (bytes : List ℕ) : Type 0 where
+  pub entry : Entry
+  pub there : slice_get log d ≡ Some entry
+  pub delivers : entry.event.kind ≡ Deliver n
+  pub reply : Reply
+  pub replies : entry.reply ≡ Some reply
+  pub text : reply.bytes ≡ bytes
 
-delivered : (log : List Entry) (d n : ℕ) (bytes : List ℕ) → ◌≡◌ {A = Option (ℕ × List ℕ)} (delivery_at log d) (Some (n, bytes)) → Delivered log d n bytes
+pub delivered : (log : List Entry) (d n : ℕ) (bytes : List ℕ) → ◌≡◌ {A = Option (ℕ × List ℕ)} (delivery_at log d) (Some (n, bytes)) → Delivered log d n bytes
 delivered log d n bytes e =
     let p = bind_some (slice_get log d) (λ x. delivered_by x.event.kind >>= λ c. x.reply >>= λ r. Some (c, r.bytes)) (n, bytes) e in
     let q = bind_some (delivered_by p.0.event.kind) (λ c. p.0.reply >>= λ r. Some (c, r.bytes)) (n, bytes) p.2 in

@@ -1,6 +1,7 @@
 pub mod BuildLemmas
 pub mod CallLemmas
 pub mod DecideLemmas
+pub mod GrantLemmas
 pub mod HexLemmas
 pub mod IdLemmas
 pub mod MadeLemmas

@@ -280,7 +280,7 @@ module _ (setup : Setup) (events : List Event) (entries : List Entry) (each : Ea
     ran_step : g.back.settles.entry.step ≡ Some (record { server = server; kind = step.Ran job (ran_of went) (built_of went) })
     ran_step = ap (λ (y : Entry). y.step) first.is ∙ ap (λ (z : Effect). z.step) (run_is first)
 
-    run_by : IsRunBy setup entries j server job went
+    pub run_by : IsRunBy setup entries j server job went
     run_by = record {
       entry = g.back.settles.entry;
       there = g.back.settles.there;

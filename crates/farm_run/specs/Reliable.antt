@@ -7,6 +7,8 @@ use Rattle.dist_types.specs.declared.results.AssignJobResult.{AssignJobResult}
 use Rattle.dist_types.specs.declared.results.JobState.TheVariants as state
 use Rattle.dist_types.specs.declared.results.UpdateJobStateResult.{UpdateJobStateResult}
 use Rattle.dist_wire.specs.declared.run.RunJobHttpRequest.{RunJobHttpRequest}
+use Rattle.http_head.specs.Head.{IsReply}
+use Rattle.http_head.specs.declared.reply.Reply.{Reply as HttpReply}
 use Rattle.http_routes.specs.Calls.{IsAssigned}
 use Rattle.http_routes.specs.Replies.{commit_response, submit_response}
 use Rattle.http_routes.specs.declared.reply.Response.{Response}
@@ -23,7 +25,7 @@ use Rattle.build_server.specs.Builds.{ran_of, built_of, run_answer}
 use Rattle.build_server.specs.Rules.{submit_verdict, submit_result}
 use Rattle.build_server.specs.declared.run.Outcome.{Outcome}
 use Rattle.build_server.specs.declared.submit.Submitted.{Submitted}
-use Rattle.farm_script.specs.declared.event.EventKind.TheVariants.{Restart}
+use Rattle.farm_script.specs.declared.event.EventKind.TheVariants.{Return, Restart}
 use Rattle.farm_script.specs.declared.setup.Setup.{Setup}
 use Rattle.farm_run.specs.declared.entry.Entry.{Entry}
 use Rattle.farm_run.specs.declared.entry.Reply.{Reply}
@@ -91,6 +93,19 @@ pub record IsGranted (setup : Setup) (log : List Entry) (n k : ℕ) (server : Ad
   pub back : BringsBack log n k bytes
   pub answer : UpdateJobStateResult
   pub granted : IsUpdated (Some bytes) (Ok answer)
+  pub at : server_now setup (take k log) server ≡ Some now
+  pub lives : now.life ≡ life
+
+-- The call of entry n, a report of the server in that life, comes back in that life by entry k, which returns a delivery of it that got a 200.
+-- The server is then that.
+pub record IsReturned (setup : Setup) (log : List Entry) (n k : ℕ) (server : Addr) (life : ℕ) (now : ServerNow) : Type 0 where
+  pub bytes : List ℕ
+  pub back : BringsBack log n k bytes
+  pub delivery : ℕ
+  pub returns : back.settles.entry.event.kind ≡ Return delivery
+  pub reply : HttpReply
+  pub is : IsReply bytes reply
+  pub ok : reply.code ≡ 200
   pub at : server_now setup (take k log) server ≡ Some now
   pub lives : now.life ≡ life
 
@@ -163,3 +178,18 @@ pub record IsReliable (setup : Setup) (log : List Entry) : Type 0 where
   pub submissions : SubmissionsEnd setup log
   pub runs : RunsEnd setup log
   pub restarts : RestartsKeep setup log
+
+-- ---- what a 200 of the scheduler grants
+
+-- Where the farm's words can be read, the return of a delivery that got a 200 grants a server's report: that of a submission, that a run
+-- starts, and that it is complete.
+pub record ReturnsGrant (setup : Setup) (log : List Entry) : Type 0 where
+  pub submissions : (n k : ℕ) (server : Addr) (life : ℕ) (job : JobId) (json : Bool) (body : ℕ) (bytes : List ℕ) (now : ServerNow)
+      → AsksAt setup log n server life bytes (record { what = server_asked.Submit job; json = json; body = body }) → IsReturned setup log n k server life now
+      → IsGranted setup log n k server life now
+  pub starts : (n j : ℕ) (server : Addr) (life : ℕ) (job : JobId) (run : RunJobHttpRequest) (at : ℕ) (json : Bool) (body : ℕ) (bytes : List ℕ) (now : ServerNow)
+      → AsksAt setup log n server life bytes (record { what = server_asked.Run job run at; json = json; body = body }) → IsReturned setup log n j server life now
+      → IsGranted setup log n j server life now
+  pub ends : (n j k : ℕ) (server : Addr) (life : ℕ) (job : JobId) (run : RunJobHttpRequest) (at : ℕ) (json : Bool) (body : ℕ) (bytes : List ℕ) (now later : ServerNow)
+      → AsksAt setup log n server life bytes (record { what = server_asked.Run job run at; json = json; body = body }) → IsGranted setup log n j server life now
+      → IsReturned setup log j k server life later → IsGranted setup log j k server life later
