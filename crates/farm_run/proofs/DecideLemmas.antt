@@ -1,5 +1,5 @@
 -- Whether bytes are a request, and whether they are a reply, is decided: piece by piece of the grammar of heads, each of which is read in one way only.
-use Rattle.std.proofs.Common.{◌≡◌, ◌≢◌, ◌⊎◌, inl, inr, ℕ, zero, suc, ◌+◌, ◌<◌, ◌≤◌, Bool, true, false, List, [], ◌∷◌, ◌++◌, length, map, Option, Some, None, refl, sym, ap, subst, ◌∙◌, arith, append_assoc, append-nil, length-append}
+use Rattle.std.proofs.Common.{◌≡◌, ◌≢◌, ◌⊎◌, inl, inr, ℕ, zero, suc, ◌<◌, ◌≤◌, Bool, true, false, List, [], ◌∷◌, ◌++◌, length, map, Option, Some, None, refl, sym, ap, subst, ◌∙◌, arith, append_assoc, append-nil, length-append}
 use Rattle.std.specs.Prelude.{IsUtf8}
 use Rattle.std.specs.Char.{is_ascii_digit}
 use Rattle.std.specs.List.{flat_map}
@@ -9,10 +9,10 @@ use Rattle.std.proofs.lemmas.List.Elements.{All-cons, All-nil, All-head, All-tai
 use Rattle.std.proofs.lemmas.Option.{same_Some}
 use Rattle.std.proofs.lemmas.Str.{IsUtf8-from_is_utf8, is_utf8-from_IsUtf8}
 use Rattle.httparse.specs.Grammar.{is_token_byte, is_uri_byte, is_value_byte, AllPass, LineEnd, crlf, lf, print_end, print_blank, print_version, Field, print_field, IsField, RequestHead, print_request, ReadsRequest, ResponseHead, print_response, ReadsResponse, status_code}
-use Rattle.httparse.specs.Pieces.{Piece, Begins, Then, Stops, is_newline, Bytes, Newline, Blank, Word, Method, Target, Version, Digit, Code, Text, Reason, FieldLine, BeginsLine, Section, RequestStart, ResponseStart}
+use Rattle.httparse.specs.Pieces.{Piece, Begins, Then, Stops, is_newline, Bytes, Newline, Blank, Word, Target, Version, Digit, Text, Reason, FieldLine, BeginsLine, Section, RequestStart, ResponseStart}
 use Rattle.httparse.specs.Spans.{name_and_value}
 use Rattle.httparse.proofs.GrammarLemmas.{request_tree, request_head, request_pieces, request_from_pieces, request_unique, response_head, response_pieces, response_from_pieces, response_unique}
-use Rattle.httparse.proofs.PieceLemmas.{IsDeterministic, Then_deterministic, Bytes_deterministic, print_end_unique, Blank_deterministic, Word_deterministic, Method_deterministic, Target_deterministic, Version_deterministic, Digit_deterministic, Code_deterministic, Name_deterministic, space_ends_token, colon_ends_token, print_field-append, FieldLine_parts, Section_skip, Section_line, RequestStart_deterministic, ResponseStart_deterministic}
+use Rattle.httparse.proofs.PieceLemmas.{IsDeterministic, Bytes_deterministic, print_end_unique, Blank_deterministic, Word_deterministic, Method_deterministic, Target_deterministic, Version_deterministic, Digit_deterministic, Code_deterministic, Name_deterministic, space_ends_token, colon_ends_token, print_field-append, FieldLine_parts, Section_skip, Section_line, RequestStart_deterministic, ResponseStart_deterministic}
 use Rattle.httparse.proofs.RunLemmas.{run_unique}
 use Rattle.http_head.specs.Fields.{body_length, allows}
 use Rattle.http_head.specs.Head.{IsRequest, IsRequestWith, IsNoRequest, IsReply, IsReplyWith, IsNoReply}

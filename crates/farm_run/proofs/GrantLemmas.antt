@@ -42,11 +42,11 @@ use Rattle.farm_run.specs.Builds.{HasWords}
 use Rattle.farm_run.specs.Calls.{call_at, delivery_at, settles_by}
 use Rattle.farm_run.specs.Effects.{word_effect, entry_of}
 use Rattle.farm_run.specs.Next.{IsMade, IsNext, EachNext}
-use Rattle.farm_run.specs.Reliable.{AsksAt, IsReturned, IsGranted, IsRunBy, ReturnsGrant}
+use Rattle.farm_run.specs.Reliable.{AsksAt, IsReturned, IsGranted, ReturnsGrant}
 use Rattle.farm_run.specs.Seen.{core_of, serves}
 use Rattle.farm_run.specs.Served.{served, state_call}
 use Rattle.farm_run.specs.Servers.{ServerNow, server_now}
-use Rattle.farm_run.specs.Ways.{Way, server_way, stepper, caller_by, caller_of, delivery_way, way_of, to_nothing, to_scheduler, to_server}
+use Rattle.farm_run.specs.Ways.{Way, server_way, stepper, caller_by, caller_of, delivery_way, way_of, to_nothing, to_scheduler}
 use Rattle.farm_run.proofs.BuildLemmas.{mapped, get_past, found_now, found_addr, caller_is, delivered, run_asked}
 use Rattle.farm_run.proofs.OneLemmas.{one_server_asked}
 use Rattle.farm_run.proofs.ReliableLemmas.{run_by}

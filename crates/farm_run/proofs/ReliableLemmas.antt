@@ -1,5 +1,5 @@
 -- Which requests get the reply that their row names, and what a restart keeps.
-use Rattle.std.proofs.Common.{◌≡◌, ◌⊎◌, inl, inr, ℕ, suc, ◌+◌, ◌<◌, ◌≤◌, not, ◌==◌, Bool, true, false, cond, List, [], ◌∷◌, ◌++◌, length, map, take, drop, Option, Some, None, Result, Ok, Err, refl, ap, ◌∙◌, sym, subst, arith}
+use Rattle.std.proofs.Common.{◌≡◌, ◌⊎◌, inl, inr, ℕ, suc, ◌+◌, ◌<◌, not, Bool, true, false, cond, List, [], length, map, take, drop, Option, Some, None, Ok, refl, ap, ◌∙◌, sym, subst, arith}
 use Rattle.std.specs.Prelude.{slice_get}
 use Rattle.std.specs.Option.{option_map}
 use Rattle.std.proofs.lemmas.Bool.{eq-eqb}
@@ -8,24 +8,19 @@ use Rattle.dist_types.specs.Addr.{same_addr}
 use Rattle.dist_types.specs.Cause.{counted}
 use Rattle.dist_types.specs.declared.addr.Addr.{Addr}
 use Rattle.dist_types.specs.declared.ids.JobId.{JobId}
-use Rattle.dist_types.specs.declared.results.AssignJobResult.{AssignJobResult}
-use Rattle.dist_types.specs.declared.results.BuildResult.{BuildResult}
-use Rattle.dist_types.specs.declared.results.JobState.TheVariants as state
-use Rattle.dist_types.specs.declared.results.UpdateJobStateResult.{UpdateJobStateResult}
 use Rattle.dist_wire.specs.declared.run.RunJobHttpRequest.{RunJobHttpRequest}
 use Rattle.sched_core.specs.Rule.{rule}
 use Rattle.sched_core.specs.Ticket.{Ticket}
 use Rattle.sched_core.specs.declared.call.Call.TheVariants as call
 use Rattle.sched_core.specs.declared.entry.CoreEntry.{CoreEntry}
 use Rattle.sched_core.proofs.AddressLemmas.{same_self}
-use Rattle.http_routes.specs.Calls.{IsAssigned}
 use Rattle.http_routes.specs.declared.route.Asked.{Asked}
 use Rattle.http_routes.specs.declared.route.SchedRouted.TheVariants as asked
 use Rattle.http_routes.specs.declared.server_route.ServerAsked.{ServerAsked}
 use Rattle.http_routes.specs.declared.server_route.ServerRouted.TheVariants as server_asked
 use Rattle.build_server.specs.Books.{held_for}
 use Rattle.build_server.specs.Builds.{ran_of, built_of, run_answer}
-use Rattle.build_server.specs.Rules.{submit_verdict, submit_result}
+use Rattle.build_server.specs.Rules.{submit_verdict}
 use Rattle.build_server.specs.declared.run.Outcome.{Outcome}
 use Rattle.build_server.specs.declared.run.Outcome.TheVariants as outcome
 use Rattle.farm_script.specs.declared.event.Event.{Event}
@@ -35,7 +30,6 @@ use Rattle.farm_script.specs.declared.setup.Setup.{Setup}
 use Rattle.farm_script.specs.declared.setup.SetupServer.{SetupServer}
 use Rattle.farm_run.specs.declared.entry.Effect.{Effect}
 use Rattle.farm_run.specs.declared.entry.Entry.{Entry}
-use Rattle.farm_run.specs.declared.entry.EntryWord.TheVariants.{Void}
 use Rattle.farm_run.specs.declared.entry.OutCall.{OutCall}
 use Rattle.farm_run.specs.declared.entry.Step.{Step}
 use Rattle.farm_run.specs.declared.entry.StepKind.TheVariants as step
@@ -43,17 +37,16 @@ use Rattle.farm_run.specs.declared.pending.Ask.TheVariants.{Assign, Report}
 use Rattle.farm_run.specs.declared.pending.Pending.{Pending}
 use Rattle.farm_run.specs.declared.pending.Told.{Told}
 use Rattle.farm_run.specs.declared.pending.Told.TheVariants as told
-use Rattle.farm_run.specs.Begun.{IsAssignment, IsBegunBy, IsFirstCall, IsMadeBy, IsCallOf, outcome_of, completion_at, completion_of}
+use Rattle.farm_run.specs.Begun.{IsBegunBy, IsFirstCall, IsMadeBy, IsCallOf, outcome_of, completion_at, completion_of}
 use Rattle.farm_run.specs.Builds.{SettlesCall}
 use Rattle.farm_run.specs.Calls.{call_at, delivery_at, settles_by, is_void, waiting_at}
 use Rattle.farm_run.specs.Effects.{effect_of, entry_of}
 use Rattle.farm_run.specs.Next.{GoesOn, IsSettled, IsMade, IsNext, EachNext, IsRun}
-use Rattle.farm_run.specs.Reliable.{IsReserved, AsksAt, BringsBack, IsGranted, IsCommitted, EndsBy, AllocationsEnd, SubmissionsEnd, IsRunBy, RunsEnd, RestartsKeep, IsReliable}
+use Rattle.farm_run.specs.Reliable.{IsReserved, AsksAt, IsGranted, EndsBy, AllocationsEnd, SubmissionsEnd, IsRunBy, RestartsKeep, IsReliable}
 use Rattle.farm_run.specs.Seen.{core_log, core_of}
-use Rattle.farm_run.specs.Served.{AsksServer, IsReport, report_of, told_of, books_of, state_call, run_outcome, restart_effect}
-use Rattle.farm_run.specs.Servers.{ServerNow, restart_by, restarted, kind_after, stepped, server_after, server_of, server_at, server_now}
+use Rattle.farm_run.specs.Served.{AsksServer, IsReport, report_of, told_of, books_of, run_outcome, restart_effect}
+use Rattle.farm_run.specs.Servers.{ServerNow, restart_by, restarted, kind_after, stepped, server_after, server_of, server_now}
 use Rattle.farm_run.specs.Settled.{assignment_end, ready_end, started_end, complete_end, ended_response, running, Reports, Lives, ReportsIn}
-use Rattle.farm_run.specs.Tickets.{ticket_of}
 use Rattle.farm_run.specs.Ways.{Way, server_way, delivery_way, caller_of, is_inside, restart_way, way_of, brought_by, brought_of, brought_at, bytes_of, to_nothing, to_scheduler, to_server, to_call, to_restart}
 use Rattle.farm_run.proofs.BuildLemmas.{found_now, call_later, no_return, no_outside, no_beat, no_restart}
 use Rattle.farm_run.proofs.OneLemmas.{one_asked, one_server_asked, one_outcome, one_update}

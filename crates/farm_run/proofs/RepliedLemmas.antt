@@ -1,5 +1,5 @@
 -- An entry is replied to at most once.
-use Rattle.std.proofs.Common.{◌≡◌, ◌⊎◌, inl, inr, ℕ, suc, ◌<◌, ◌≤◌, not, Bool, true, false, cond, List, [], length, take, drop, Option, Some, None, Result, Ok, Err, refl, ap, ◌∙◌, sym, subst, arith}
+use Rattle.std.proofs.Common.{◌≡◌, ◌⊎◌, inl, inr, ℕ, suc, not, Bool, true, false, cond, List, [], length, take, drop, Option, Some, None, Result, Ok, Err, refl, ap, ◌∙◌, sym, subst, arith}
 use Rattle.std.specs.Prelude.{slice_get}
 use Rattle.std.proofs.lemmas.List.{length-take}
 use Rattle.std.proofs.lemmas.Option.{same_Some, slice_get_within}
@@ -50,7 +50,7 @@ use Rattle.farm_run.specs.declared.pending.Pending.{Pending}
 use Rattle.farm_run.specs.declared.pending.Told.{Told}
 use Rattle.farm_run.specs.declared.pending.Told.TheVariants as told
 use Rattle.farm_run.specs.Answers.{hears, update_by, allocated, answer_to}
-use Rattle.farm_run.specs.Begun.{IsBegunBy, IsFirstCall, IsMadeBy, IsCallOf, completion_by, completion_at, completion_of}
+use Rattle.farm_run.specs.Begun.{IsBegunBy, IsMadeBy, IsCallOf, completion_by, completion_at, completion_of}
 use Rattle.farm_run.specs.Builds.{SettlesCall}
 use Rattle.farm_run.specs.Calls.{is_void, waiting_at}
 use Rattle.farm_run.specs.Effects.{word_effect, reply_effect, step_reply_effect, effect_of, entry_of, reply_to}

@@ -1,5 +1,5 @@
 -- A report that a server of a farm writes is read as that server's update; a reply that takes one tells that it was accepted; and a 200 to one begins with an answer.
-use Rattle.std.proofs.Common.{◌≡◌, ◌≢◌, inl, inr, ℕ, ◌<◌, ◌≤◌, ◌^◌, Bool, false, List, [], ◌∷◌, ◌++◌, length, codes, decimal, Option, Some, Ok, Err, refl, append-nil, ap, ◌∙◌, sym, arith, length-append}
+use Rattle.std.proofs.Common.{◌≡◌, inl, inr, ℕ, ◌<◌, ◌≤◌, ◌^◌, Bool, false, List, [], ◌∷◌, ◌++◌, length, codes, decimal, Option, Some, Ok, Err, refl, append-nil, ap, ◌∙◌, sym, arith, length-append}
 use Rattle.std.proofs.lemmas.Fmt.{length-decimal-le}
 use Rattle.dist_types.specs.Addr.{IsAddr, addr_text}
 use Rattle.dist_types.specs.Ids.{state_text}

@@ -1,5 +1,5 @@
 -- What whoever asks a farm may count on: how often an entry is replied to, which requests get the reply that their row names, and what a restart keeps.
-use Rattle.std.specs.Prelude.{◌≡◌, ℕ, ◌+◌, suc, List, [], take, drop, slice_get, Bool, true, Option, Some, None, Ok}
+use Rattle.std.specs.Prelude.{◌≡◌, ℕ, ◌+◌, suc, List, [], take, drop, slice_get, Bool, true, Some, Ok}
 use Rattle.dist_types.specs.Cause.{counted}
 use Rattle.dist_types.specs.declared.addr.Addr.{Addr}
 use Rattle.dist_types.specs.declared.ids.JobId.{JobId}
@@ -24,7 +24,6 @@ use Rattle.build_server.specs.Books.{held_for}
 use Rattle.build_server.specs.Builds.{ran_of, built_of, run_answer}
 use Rattle.build_server.specs.Rules.{submit_verdict, submit_result}
 use Rattle.build_server.specs.declared.run.Outcome.{Outcome}
-use Rattle.build_server.specs.declared.submit.Submitted.{Submitted}
 use Rattle.farm_script.specs.declared.event.EventKind.TheVariants.{Return, Restart}
 use Rattle.farm_script.specs.declared.setup.Setup.{Setup}
 use Rattle.farm_run.specs.declared.entry.Entry.{Entry}
