@@ -4,7 +4,7 @@ use Rattle.farm_run.specs.declared.pending.Made.{Made}
 use Rattle.farm_run.specs.Effects.{entry_of}
 use Rattle.farm_run.proofs.ServerLemmas.{stations_same}
 use Rattle.farm_run.proofs.RowLemmas.{end_step}
-use Rattle.farm_run.proofs.run.go_on.Goals as goal
+use Rattle.farm_run.proofs.settlements.go_on.Goals as goal
 
 pub returns-in_ok-effect-in-Assign-clause-stations : goal.returns-in_ok-effect-in-Assign-clause-stations
 returns-in_ok-effect-in-Assign-clause-stations c = λ event still.

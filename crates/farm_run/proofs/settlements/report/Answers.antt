@@ -10,7 +10,7 @@ use Rattle.farm_run.specs.Stations.{now_of}
 use Rattle.farm_run.proofs.NextLemmas.{reports_in_core}
 use Rattle.farm_run.proofs.ServerLemmas.{place_found, are_well, stations_same, stations_stepped}
 use Rattle.farm_run.proofs.RowLemmas.{report_step, no_report, report_there}
-use Rattle.farm_run.proofs.run.report.Goals as goal
+use Rattle.farm_run.proofs.settlements.report.Goals as goal
 
 pub report_at-requires : goal.report_at-requires
 report_at-requires c = record { well = are_well c.args.desk.now.setup.servers c.args.entries.now c.args.stations.now.items c.requires.stations }

@@ -3,7 +3,7 @@ use Rattle.std.specs.Prelude.{slice_get}
 use Rattle.std.proofs.lemmas.Option.{same_Some, slice_get_read}
 use Rattle.farm_script.specs.declared.setup.SetupServer.{SetupServer}
 use Rattle.farm_run.proofs.RowLemmas.{kept_same, step_same}
-use Rattle.farm_run.proofs.run.arrive_at.Goals as goal
+use Rattle.farm_run.proofs.arrivals.arrive_at.Goals as goal
 
 pub returns-in_ok-made-in-Some-get_mut-clause-kept : goal.returns-in_ok-made-in-Some-get_mut-clause-kept
 returns-in_ok-made-in-Some-get_mut-clause-kept c = λ s st at bt.

@@ -1,7 +1,7 @@
 use Rattle.std.specs.Prelude.{option_copied}
 use Rattle.std.proofs.Common.{sym}
 use Rattle.farm_run.proofs.MadeLemmas.{settled_none, settled_by, settling_still}
-use Rattle.farm_run.proofs.run.take_back.Goals as goal
+use Rattle.farm_run.proofs.settlements.take_back.Goals as goal
 
 pub returns-in-None-clause-made : goal.returns-in-None-clause-made
 returns-in-None-clause-made c = λ event moment comes.

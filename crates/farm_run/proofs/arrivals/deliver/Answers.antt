@@ -2,7 +2,7 @@ use Rattle.farm_run.specs.Effects.{entry_of}
 use Rattle.farm_run.specs.declared.pending.Made.{Made}
 use Rattle.std.proofs.Common.{ap}
 use Rattle.farm_run.proofs.ServerLemmas.{stations_same}
-use Rattle.farm_run.proofs.run.deliver.Goals as goal
+use Rattle.farm_run.proofs.arrivals.deliver.Goals as goal
 
 pub returns-in-None-clause-stations : goal.returns-in-None-clause-stations
 returns-in-None-clause-stations c = λ event still.

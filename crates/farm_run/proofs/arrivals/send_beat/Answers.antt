@@ -4,7 +4,7 @@ use Rattle.std.proofs.lemmas.Option.{slice_get_read}
 use Rattle.farm_script.specs.declared.setup.SetupServer.{SetupServer}
 use Rattle.farm_run.proofs.ServerLemmas.{IsFound, found_is}
 use Rattle.farm_run.proofs.RowLemmas.{beat_received, no_beat_received}
-use Rattle.farm_run.proofs.run.send_beat.Goals as goal
+use Rattle.farm_run.proofs.arrivals.send_beat.Goals as goal
 
 pub returns-in-None-clause-received : goal.returns-in-None-clause-received
 returns-in-None-clause-received c = λ at.

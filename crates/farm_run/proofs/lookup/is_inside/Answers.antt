@@ -3,7 +3,7 @@ use Rattle.std.specs.Prelude.{is_some, ◌||◌}
 use Rattle.farm_run.specs.Servers.{server_at}
 use Rattle.farm_run.specs.Ways.{is_inside}
 use Rattle.farm_run.proofs.ServerLemmas.{inside_is}
-use Rattle.farm_run.proofs.run.is_inside.Goals as goal
+use Rattle.farm_run.proofs.lookup.is_inside.Goals as goal
 
 pub returns-else-is_scheduler : goal.returns-else-is_scheduler
 returns-else-is_scheduler c =

@@ -5,7 +5,7 @@ use Rattle.farm_run.specs.declared.station.Station.{Station}
 use Rattle.farm_run.specs.Servers.{restarted, stepped}
 use Rattle.farm_run.specs.Stations.{now_of}
 use Rattle.farm_run.proofs.StationLemmas.{restart_after}
-use Rattle.farm_run.proofs.run.restart_in.Goals as goal
+use Rattle.farm_run.proofs.arrivals.restart_in.Goals as goal
 
 pub returns-clause-after : goal.returns-clause-after
 returns-clause-after c =

@@ -7,7 +7,7 @@ use Rattle.farm_run.specs.Farm.{acted}
 use Rattle.farm_run.specs.Stations.{now_of}
 use Rattle.farm_run.proofs.ServerLemmas.{place_found, are_well, stations_same, stations_stepped}
 use Rattle.farm_run.proofs.RowLemmas.{answered_of, scheduler_step, server_core, nobody_received, server_received}
-use Rattle.farm_run.proofs.run.arrive.Goals as goal
+use Rattle.farm_run.proofs.arrivals.arrive.Goals as goal
 
 pub returns-then-is_scheduler-clause-stations : goal.returns-then-is_scheduler-clause-stations
 returns-then-is_scheduler-clause-stations c = λ event still.

@@ -7,7 +7,7 @@ use Rattle.farm_run.specs.declared.pending.Made.{Made}
 use Rattle.farm_run.specs.Servers.{restarted, stepped}
 use Rattle.farm_run.specs.Stations.{now_of}
 use Rattle.farm_run.proofs.RowLemmas.{no_restart, restart_at}
-use Rattle.farm_run.proofs.run.restart.Goals as goal
+use Rattle.farm_run.proofs.arrivals.restart.Goals as goal
 
 pub returns-in_ok-effect-in-Some-get_mut-clause-none : goal.returns-in_ok-effect-in-Some-get_mut-clause-none
 returns-in_ok-effect-in-Some-get_mut-clause-none c = λ none. no_restart _ c.args.desk.now.setup c.args.addr c.in-Some.place (sym c.in-Some.ensures.place) none
