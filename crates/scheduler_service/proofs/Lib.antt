@@ -1,0 +1,2 @@
+pub mod RepliedLemmas
+pub mod RequestedLemmas
