@@ -1,6 +1,7 @@
 //! Doing what is asked of the scheduler, and the reply that tells its answer.
 ghost use Rattle.std.specs.Prelude.{◌≡◌, IfOk, Some, None, Ok, Err};
 ghost use Rattle.sched.specs.Outside.{moments};
+ghost use Rattle.sched.specs.Pass.{held_of};
 ghost use Rattle.http_routes.specs.Fault.{fault_response_of};
 ghost use Rattle.scheduler_service.specs.Replied.{fault_of, report_fault, IsTold, IsTellable, IsReportable, IsHeardAndTold, IsUpdatedAndTold, IsCountedAndTold, IsAllocatedAndTold, IsDone};
 
@@ -88,8 +89,9 @@ fn hear<R: Wait, C: Clock>(
     server: ServerId,
     beat: HeartbeatServerHttpRequest,
 ) -> Result<Response, Memory>
-    ensures { IfOk result (IsHeardAndTold json server beat pass.old pass.new
+    ensures told { IfOk result (IsHeardAndTold json server beat pass.old pass.new
         (moments C.moments C.last clock.old) (moments C.moments C.last clock.new)) }
+    ensures holds { held_of pass.new ≡ held_of pass.old }
 {
     let HeartbeatServerHttpRequest {
         jwt_key,
@@ -119,8 +121,9 @@ fn update<R: Wait, C: Clock>(
     job: JobId,
     state: JobState,
 ) -> Result<Response, Memory>
-    ensures { IfOk result (IsUpdatedAndTold json server job state pass.old pass.new
+    ensures told { IfOk result (IsUpdatedAndTold json server job state pass.old pass.new
         (moments C.moments C.last clock.old) (moments C.moments C.last clock.new)) }
+    ensures holds { held_of pass.new ≡ held_of pass.old }
 {
     match scheduler.handle_update_job_state(rt, pass, clock, job, server, state) {
         Ok(answer) => {
@@ -141,8 +144,9 @@ fn count<R: Wait, C: Clock>(
     clock: &mut C,
     json: bool,
 ) -> Result<Response, Memory>
-    ensures { IfOk result (IsCountedAndTold json pass.old pass.new
+    ensures told { IfOk result (IsCountedAndTold json pass.old pass.new
         (moments C.moments C.last clock.old) (moments C.moments C.last clock.new)) }
+    ensures holds { held_of pass.new ≡ held_of pass.old }
 {
     match scheduler.handle_status(rt, pass, clock) {
         Ok(answer) => {
@@ -165,9 +169,10 @@ fn allocate<R: Wait, D: Dialer, C: Clock>(
     json: bool,
     tc: &Toolchain,
 ) -> Result<Response, Memory>
-    ensures { IfOk result (IsAllocatedAndTold json tc.now
+    ensures told { IfOk result (IsAllocatedAndTold json tc.now
         (record { pass = pass.old; clock = moments C.moments C.last clock.old; asked = D.asked dialer.old; faults = D.faults dialer.old })
         (record { pass = pass.new; clock = moments C.moments C.last clock.new; asked = D.asked dialer.new; faults = D.faults dialer.new })) }
+    ensures holds { held_of pass.new ≡ held_of pass.old }
 {
     let mut asking = Asking::new(alloc, dialer);
     match scheduler.handle_alloc_job(rt, pass, clock, &mut asking, tc) {
@@ -190,9 +195,10 @@ pub fn answer<R: Wait, D: Dialer, C: Clock>(
     json: bool,
     asked: SchedRouted,
 ) -> Result<Response, Memory>
-    ensures { IfOk result (IsDone json asked
+    ensures told { IfOk result (IsDone json asked
         (record { pass = pass.old; clock = moments C.moments C.last clock.old; asked = D.asked dialer.old; faults = D.faults dialer.old })
         (record { pass = pass.new; clock = moments C.moments C.last clock.new; asked = D.asked dialer.new; faults = D.faults dialer.new })) }
+    ensures holds { held_of pass.new ≡ held_of pass.old }
 {
     match asked {
         SchedRouted::Alloc(tc) => allocate(rt, alloc, scheduler, pass, dialer, clock, json, &tc),

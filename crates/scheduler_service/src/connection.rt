@@ -1,6 +1,7 @@
 //! Serving one connection of a scheduler: take, answer, send.
-ghost use Rattle.std.specs.Prelude.{IfOk};
+ghost use Rattle.std.specs.Prelude.{◌≡◌, IfOk};
 ghost use Rattle.sched.specs.Outside.{moments};
+ghost use Rattle.sched.specs.Pass.{held_of};
 ghost use Rattle.scheduler_service.specs.Connection.{IsReplied};
 ghost use Rattle.http_connections.specs.Served.{IsServedBy};
 ghost use Rattle.http_routes.specs.Route.{IsRouted};
@@ -39,7 +40,7 @@ fn reply_to<R: Wait, D: Dialer, C: Clock, K: ClientAuthCheck, V: ServerAuthCheck
     server: &V,
     request: &Option<Request>,
 ) -> Result<Response, Memory>
-    ensures { IfOk result (IsReplied (λ r. IsRouted K.may_answer K.shown (V.server_of server.now) r peer) request.now
+    ensures replied { IfOk result (IsReplied (λ r. IsRouted K.may_answer K.shown (V.server_of server.now) r peer) request.now
         (record {
           means = record { pass = pass.old; clock = moments C.moments C.last clock.old; asked = D.asked dialer.old; faults = D.faults dialer.old };
           client = client.old;
@@ -48,6 +49,7 @@ fn reply_to<R: Wait, D: Dialer, C: Clock, K: ClientAuthCheck, V: ServerAuthCheck
           means = record { pass = pass.new; clock = moments C.moments C.last clock.new; asked = D.asked dialer.new; faults = D.faults dialer.new };
           client = client.new;
         })) }
+    ensures holds { held_of pass.new ≡ held_of pass.old }
 {
     let now = clock.now();
     let routed = route(alloc, request, peer, now, client, server)?;
@@ -65,6 +67,7 @@ fn reply_to<R: Wait, D: Dialer, C: Clock, K: ClientAuthCheck, V: ServerAuthCheck
 
 /// Takes one request, answers it, and sends the reply. ReadFault and WriteFault come only where that half's count
 /// rose; ReadFault and Memory write nothing. An end of input inside a request gets the reply to a bad head.
+/// Whatever it answers, the pass holds what it held.
 pub fn serve_scheduler_connection<
     R: Wait,
     L: Link,
@@ -96,6 +99,7 @@ pub fn serve_scheduler_connection<
           client = client.new;
         })
         result }
+    ensures holds { held_of pass.new ≡ held_of pass.old }
 {
     let request = match take(alloc, link) {
         Ok(request) => request,

@@ -1,6 +1,7 @@
 //! Workers: each serves the connections of its kit in a thread of its own, and all come back.
 ghost use Rattle.std.specs.Prelude.{◌≡◌, ◌+◌, ◌<◌, ◌≤◌, [], ℕ, length, map, IfOk, OnOk, OnErr, slice_index_or, vec_len, vec_capacity};
-ghost use Rattle.sched.specs.Pass.{count_of};
+ghost use Rattle.std.specs.List.{sum_by};
+ghost use Rattle.sched.specs.Pass.{held_of, Rises};
 ghost use Rattle.http_connections.specs.Tally.{Worked};
 
 use crate::connection::serve_scheduler_connection;
@@ -54,6 +55,7 @@ fn work<
 )
     ensures worked { Worked (λ l. record { left = T.L.left l; held = T.L.held l; reads = T.L.Source.faults l; writes = T.L.Sink.faults l })
         (T.told worker.old.kit.tasks) (T.told worker.new.kit.tasks) }
+    ensures holds { held_of worker.new.pass ≡ held_of worker.old.pass }
 {
     for _ in rt.forever() {
         let Some((mut link, peer)) = worker.kit.tasks.take() else {
@@ -94,6 +96,8 @@ fn work_all<
     ensures worked { (i : ℕ) (d : _) → i < length workers.old
         → Worked (λ l. record { left = T.L.left l; held = T.L.held l; reads = T.L.Source.faults l; writes = T.L.Sink.faults l })
         (T.told (slice_index_or workers.old i d).kit.tasks) (T.told (slice_index_or workers.new i d).kit.tasks) }
+    ensures holds { (i : ℕ) (d : _) → i < length workers.old
+        → held_of (slice_index_or workers.new i d).pass ≡ held_of (slice_index_or workers.old i d).pass }
 {
     let threads = workers.len();
     if threads == 0 {
@@ -106,13 +110,15 @@ fn work_all<
         &|_, w: &mut Worker<T, D, C, K>| -> ()
             ensures worked { Worked (λ l. record { left = T.L.left l; held = T.L.held l; reads = T.L.Source.faults l; writes = T.L.Sink.faults l })
                 (T.told w.entry.now.kit.tasks) (T.told w.exit.now.kit.tasks) }
+            ensures holds { held_of w.exit.now.pass ≡ held_of w.entry.now.pass }
         {
             work(rt, alloc, scheduler, server, w);
         },
     );
 }
 
-/// A worker for each kit, each with a pass of its own. Where memory ran out, the passes that were made are joined.
+/// A worker for each kit, each with a fresh pass of its own. Where memory ran out, the passes that were made are
+/// joined.
 fn hire<R: Wait, T: Tasks, D: Dialer + Drop, C: Clock + Drop, K: ClientAuthCheck + Drop>(
     rt: &R,
     scheduler: &Scheduler<JWTJobAuthorizer>,
@@ -123,7 +129,9 @@ fn hire<R: Wait, T: Tasks, D: Dialer + Drop, C: Clock + Drop, K: ClientAuthCheck
     requires room { vec_len workers + vec_len kits ≤ vec_capacity workers }
     requires fresh { workers.items ≡ [] }
     ensures kits { IfOk result (λ ws. map (λ w. w.kit) ws.items ≡ kits.items) }
+    ensures hold { IfOk result (λ ws. sum_by (λ w. held_of w.pass) ws.items ≡ length kits.items) }
     ensures same { OnOk result (pass.new ≡ pass.old) }
+    ensures joined { OnErr result ((n : ℕ) × Rises n (held_of pass.old) (held_of pass.new)) }
 {
     for kit in kits {
         match scheduler.split(rt, pass) {
@@ -142,7 +150,10 @@ fn dismiss<T: Tasks, D: Dialer + Drop, C: Clock + Drop, K: ClientAuthCheck + Dro
     scheduler: &Scheduler<JWTJobAuthorizer>,
     pass: &mut Pass,
     workers: Vec<Worker<T, D, C, K>>,
-) {
+)
+    ensures joined { Rises (sum_by (λ w. held_of w.pass) workers.items) (held_of pass.old) (held_of pass.new) }
+{
+    let _held = pass.held();
     for worker in workers {
         let Worker {
             kit: _,
@@ -161,8 +172,10 @@ fn gather<T: Tasks, D: Dialer + Drop, C: Clock + Drop, K: ClientAuthCheck + Drop
 ) -> Vec<Kit<T, D, C, K>>
     requires room { vec_len kits + vec_len workers ≤ vec_capacity kits }
     requires fresh { kits.items ≡ [] }
-    ensures { result.items ≡ map (λ w. w.kit) workers.items }
+    ensures kits { result.items ≡ map (λ w. w.kit) workers.items }
+    ensures joined { Rises (sum_by (λ w. held_of w.pass) workers.items) (held_of pass.old) (held_of pass.new) }
 {
+    let _held = pass.held();
     for worker in workers {
         let Worker { kit, pass: theirs } = worker;
         scheduler.join(pass, theirs);
@@ -172,7 +185,7 @@ fn gather<T: Tasks, D: Dialer + Drop, C: Clock + Drop, K: ClientAuthCheck + Drop
 }
 
 /// Runs a worker for each kit, and gives the kits back once all their connections were served; the workers' passes
-/// are joined. Each link that a kit gave came back once, in order, with what its connection answered, and none is
+/// are joined, so that the pass then holds one more for each kit. Each link that a kit gave came back once, in order, with what its connection answered, and none is
 /// left. A worker that gets no thread is run by the caller. Refused for want of memory alone, before any connection
 /// was taken: the passes that were made are then joined, and the kits dropped.
 pub fn serve_scheduler_workers<
@@ -194,6 +207,7 @@ pub fn serve_scheduler_workers<
     ensures worked { IfOk result (λ back. (i : ℕ) (d : _) → i < length kits.items
         → Worked (λ l. record { left = T.L.left l; held = T.L.held l; reads = T.L.Source.faults l; writes = T.L.Sink.faults l })
         (T.told (slice_index_or kits.items i d).tasks) (T.told (slice_index_or back.items i d).tasks)) }
+    ensures holds { OnOk result (Rises (length kits.items) (held_of pass.old) (held_of pass.new)) }
 {
     let back = Vec::with_capacity(alloc, kits.len())?;
     let workers = Vec::with_capacity(alloc, kits.len())?;

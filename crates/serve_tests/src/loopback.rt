@@ -22,7 +22,7 @@ use std::time::{Clock, Duration};
 const MAX_TRIES: u64 = 500;
 
 /// A port that nobody listens at.
-fn free_port<R: Net>(net: &R) -> std::io::Result<u16> {
+pub fn free_port<R: Net>(net: &R) -> std::io::Result<u16> {
     let listener = TcpListener::bind(net, "127.0.0.1:0")?;
     Ok(std::net::OpenListener::local_addr(&listener)?.port())
 }

@@ -1,5 +1,5 @@
 -- A call of a dialer that was lent, and what is heard of it.
-use Rattle.std.proofs.Common.{◌≡◌, ◌≢◌, ◌⊎◌, ℕ, List, [], ◌∷◌, ◌++◌, Option, Some, None, Result, Ok, Err, refl, ◌∙◌, ap, inr}
+use Rattle.std.proofs.Common.{◌≡◌, ◌≢◌, ◌⊎◌, ℕ, List, [], ◌∷◌, ◌++◌, Option, Some, None, Result, Ok, Err, refl, ◌∙◌, ap, inr, arith}
 use Rattle.std.specs.Prelude.{IfSome}
 use Rattle.dist_types.specs.Content.{Recorded}
 use Rattle.dist_types.specs.Dialer.{asked_row}
@@ -7,7 +7,7 @@ use Rattle.dist_types.specs.Outgoing.{Peer, Calls, updated_row}
 use Rattle.dist_types.specs.declared.dialer.Asked.{Asked}
 use Rattle.dist_types.specs.declared.ids.JobId.{JobId}
 use Rattle.dist_types.specs.declared.outgoing.CallFault.{CallFault}
-use Rattle.dist_types.specs.declared.outgoing.CallFault.TheVariants.{Memory}
+use Rattle.dist_types.specs.declared.outgoing.CallFault.TheVariants.{Lost, Memory}
 use Rattle.dist_types.specs.declared.results.JobState.{JobState}
 use Rattle.dist_types.specs.declared.results.UpdateJobStateResult.{UpdateJobStateResult}
 use Rattle.dist_wire.specs.Reading.{update_at, heard_at}
@@ -16,7 +16,8 @@ use Rattle.http_head.specs.WrittenRequest.{request_text}
 use Rattle.http_routes.specs.Calls.{IsAnswer}
 use Rattle.http_routes.specs.Written.{state_with, heartbeat_with}
 use Rattle.http_connections.specs.Hearing.{Hears}
-use Rattle.server_service.specs.Heartbeat.{Heard, IsBeatOf}
+use Rattle.server_service.specs.Heartbeat.{Heard, IsBeatOf, IsBeaten}
+use Rattle.server_service.specs.Replied.{Dialing}
 use Rattle.server_service.specs.Told.{host_at, lent_of, IsToldOf}
 
 one_more : (old new : Option (List Asked)) (a : Asked) (Is : Asked → Type 0) → Recorded a old new → Is a
@@ -53,3 +54,10 @@ pub beaten : (peer : Peer) (beat : HeartbeatServerHttpRequest) (old new : Option
 beaten peer beat old new host request reply port heard recorded is_host is_port is_request means =
     called (IsBeatOf peer beat) (λ (h : Heard). h) heard_at 0 peer old new host request reply port heard recorded means
     (λ answer says. record { host = is_host; port = is_port; request = is_request; answer = says })
+
+-- a reply was heard, so the dialer's count stays
+pub heard_beat : (peer : Peer) (beat : HeartbeatServerHttpRequest) (heard : Heard) (old new : Dialing)
+    → Calls (IsBeatOf peer beat) (λ (h : Heard). h) heard (lent_of 0 peer old.asked) (lent_of 0 peer new.asked)
+    → new.faults ≡ old.faults → heard ≢ Err Lost → IsBeaten peer beat heard old new
+heard_beat peer beat (Ok h) old new calls same came = record { calls = calls; steady = same; uncounted = λ e. same; later = omega (arith, same); cause = λ e. absurd (came e) }
+heard_beat peer beat (Err f) old new calls same came = record { calls = calls; steady = tt; uncounted = λ e. same; later = omega (arith, same); cause = λ e. absurd (came e) }

@@ -3,6 +3,7 @@ ghost use Rattle.std.specs.Prelude.{◌≡◌, IfOk};
 ghost use Rattle.build_server.specs.Builds.{builder_of};
 ghost use Rattle.http_calls.specs.Urls.{IsHttp};
 ghost use Rattle.http_routes.specs.Fault.{fault_response_of};
+ghost use Rattle.http_routes.specs.Replies.{run_response};
 ghost use Rattle.server_service.specs.Replied.{failure_of, fault_of, IsTold, IsAssignedAndTold, IsSubmittedAndTold, IsRunAndTold, IsDone, order_of};
 ghost use Rattle.server_service.specs.Told.{peer_of};
 
@@ -15,6 +16,7 @@ use dist_types::builder::BuilderIncoming;
 use dist_types::dialer::Dialer;
 use dist_types::fault::Memory;
 use dist_types::ids::JobId;
+use dist_types::results::RunJobResult;
 use dist_types::toolchain::Toolchain;
 use dist_wire::run::RunJobHttpRequest;
 use http_routes::fault::{BuildFailure, RouteFault};
@@ -104,6 +106,14 @@ fn submit<K: Keeping, D: Dialer>(
     }
 }
 
+/// The reply to a run that gave an answer.
+fn reply_ran(alloc: Global, json: bool, answer: RunJobResult) -> Result<Response, Memory>
+    ensures { IfOk result (λ r. r ≡ run_response json answer) }
+{
+    let response = to_run(alloc, json, &answer)?;
+    Ok(response)
+}
+
 /// Runs a job over these inputs.
 fn run<K: Keeping, D: Dialer, B: BuilderIncoming>(
     alloc: Global,
@@ -142,10 +152,7 @@ fn run<K: Keeping, D: Dialer, B: BuilderIncoming>(
         outputs,
         inputs,
     ) {
-        Ok(answer) => {
-            let response = to_run(alloc, json, &answer)?;
-            Ok(response)
-        }
+        Ok(answer) => reply_ran(alloc, json, answer),
         Err(fault) => reply_refusal(alloc, fault),
     }
 }

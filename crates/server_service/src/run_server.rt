@@ -16,6 +16,7 @@ use dist_wire::heartbeat::HeartbeatServerHttpRequest;
 use http_connections::accepting::{Accepting, Sharing, WORKERS, socket_addr};
 use http_connections::start::{Start, StartFault};
 use lru_disk_cache::TcCache;
+use lru_disk_cache::folder::Folder;
 use lru_disk_cache::real_folder::RealFolder;
 use std::alloc::Global;
 use std::net::{Net, TcpListener, TcpStream};
@@ -143,18 +144,13 @@ fn server_kits<'a, R: Net + Clock>(
 /// Serves all connections of the kits, and tells that the listener ended.
 fn serve_until_ended<
     'a,
-    R: Threads
-        + Wait
-        + Sync
-        + Clock
-        + Net<Listener = TcpListener, Stream = TcpStream>
-        + Files
-        + AllocGlobal,
+    R: Threads + Wait + Sync + Clock + Net<Listener = TcpListener, Stream = TcpStream>,
+    F: Folder + Send,
 >(
-    rt: &'a R,
+    rt: &R,
     alloc: Global,
     ending: &Ending,
-    server: &Server<RealFolder<&'a R>>,
+    server: &Server<F>,
     key: &JWTJobAuthorizer,
     kits: Vec<ServerKit<'a, R>>,
     config: &ServerConfig,
@@ -177,21 +173,15 @@ fn serve_until_ended<
     }
 }
 
-/// Serves and tells heartbeats beside each other, until the listener ended and the last wait is over. Refused where no
-/// thread can be started.
+/// Serves, and tells heartbeats in a thread of its own, until the listener ended.
 fn serve_and_beat<
     'a,
-    R: Threads
-        + Wait
-        + Sync
-        + Clock
-        + Net<Listener = TcpListener, Stream = TcpStream>
-        + Files
-        + AllocGlobal,
+    R: Threads + Wait + Sync + Clock + Net<Listener = TcpListener, Stream = TcpStream>,
+    F: Folder + Send,
 >(
-    rt: &'a R,
+    rt: &R,
     alloc: Global,
-    server: &Server<RealFolder<&'a R>>,
+    server: &Server<F>,
     key: &JWTJobAuthorizer,
     kits: Vec<ServerKit<'a, R>>,
     config: &ServerConfig,
@@ -200,24 +190,29 @@ fn serve_and_beat<
     requires http { IsHttp config.now.scheduler_url }
 {
     let ending = Ending::new();
-    let rung = &ending;
-    thread::scope(
-        thread::scope_env(),
+    let (_, served) = thread::join(
         rt,
-        move |scope| -> Result<(), StartFault>
+        || -> ()
             requires { IsHttp config.now.scheduler_url }
         {
-            let beating = scope.spawn(
-                move ||
-                    requires { IsHttp config.now.scheduler_url }
-                { beat_until_ended(rt, alloc, rung, config, beat) },
-            );
-            if beating.is_err() {
-                return Err(StartFault);
-            }
-            serve_until_ended(rt, alloc, rung, server, key, kits, config)
+            beat_until_ended(rt, alloc, &ending, config, beat);
         },
-    )
+        || -> Result<(), StartFault>
+            requires { IsHttp config.now.scheduler_url }
+        { serve_until_ended(rt, alloc, &ending, server, key, kits, config) },
+    );
+    served
+}
+
+/// Whether a thread can be started.
+fn has_thread<R: Threads>(rt: &R) -> bool {
+    match thread::spawn(rt, || ()) {
+        Ok(thread) => {
+            thread.join(rt);
+            true
+        }
+        Err(_) => false,
+    }
 }
 
 /// Serves as a build server until the listener ends. Refused at once where the address is taken, the folder cannot be
@@ -230,7 +225,11 @@ pub fn serve_server<
         + Net<Listener = TcpListener, Stream = TcpStream>
         + Files
         + AllocGlobal,
->(rt: &R, alloc: Global, config: &ServerConfig, start: Start) -> Result<(), StartFault> {
+>(rt: &R, alloc: Global, config: &ServerConfig, start: Start) -> Result<(), StartFault>
+where
+    R::File: Send,
+    R::Dir: Send,
+{
     tested(&config.scheduler_url)?;
     let listener = TcpListener::bind(rt, socket_addr(config.bind_address))?;
     let tickets = AtomicU64::new(0);
@@ -244,6 +243,9 @@ pub fn serve_server<
         tickets: &tickets,
         start,
     };
+    if !has_thread(rt) {
+        return Err(StartFault);
+    }
     let kits = server_kits(&sharing)?;
     serve_and_beat(rt, alloc, &server, &key, kits, config, &beat)
 }

@@ -11,6 +11,6 @@ returns-clause-worked g c =
     each_kit (λ w. w.kit)
     (λ a b. Worked (λ c. record { left = g.T.L.Source.left c; held = g.T.L.Sink.held c; reads = g.T.L.Source.faults c; writes = g.T.L.Sink.faults c }) (g.T.Tasks.told a.tasks) (g.T.Tasks.told b.tasks))
     hired.items c.work_all.new.workers _ _
-    c.in_ok-workers-2.ensures.kits (c.gather.ensures ∙ ap (map (λ w. w.kit)) back) same
+    c.in_ok-workers-2.ensures.kits (c.gather.ensures.kits ∙ ap (map (λ w. w.kit)) back) same
     (λ d. record { kit = d; pass = record { count = 0; held = 0 } })
     (rw c.deref_mut.ensures.value at c.work_all.ensures.worked)

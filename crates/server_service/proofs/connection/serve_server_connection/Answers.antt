@@ -8,7 +8,7 @@ returns-in-Ok-replied g c =
     let same = ap (λ p. p.0) (sym (alone c.take.new.link) ∙ (sym c.send.ensures.apart ∙ alone c.send.new.link)) in
     record {
       served = sent _ _ _ c.in-Ok.request c.in-Ok-replied.reply c.send.result _ _ _ _ _ _ _ _ _ _ _
-          c.in-Ok.ensures.cut same c.in-Ok.ensures.writes.0 c.in-Ok.ensures.writes.1 c.in-Ok-replied.ensures
+          c.in-Ok.ensures.cut same c.in-Ok.ensures.writes.0 c.in-Ok.ensures.writes.1 c.in-Ok-replied.ensures.replied
           (record {
             answered = c.send.ensures.answered;
             failed = c.send.ensures.failed;

@@ -7,5 +7,5 @@ loop-init g c = none_yet _ _
 
 pub loop-preserved : goal.loop-preserved
 loop-preserved g c =
-    one_more _ _ _ _ _ (c.in-Some-take.link, c.in-Some-take.peer) c.serve_server_connection-served.new.link c.serve_server_connection-served.result
+    one_more _ _ _ _ _ (c.in-Some-take.link, c.in-Some-take._peer) c.serve_server_connection-served.new.link c.serve_server_connection-served.result
     c.loop.invariant c.in-Some-take.ensures.some c.done.ensures (told _ _ _ _ _ _ c.serve_server_connection-served.ensures.served)
