@@ -1,6 +1,6 @@
 use Rattle.std.proofs.Common.{◌∙◌}
-use Rattle.dist_http.proofs.RequestedLemmas.{replied}
-use Rattle.dist_http.proofs.asking.AskingSchedulerOutgoing.do_assign_job.Goals as goal
+use Rattle.scheduler_service.proofs.RequestedLemmas.{replied}
+use Rattle.scheduler_service.proofs.asking.AskingSchedulerOutgoing.do_assign_job.Goals as goal
 
 pub returns-in-Ok-ask-clause-lent : goal.returns-in-Ok-ask-clause-lent
 returns-in-Ok-ask-clause-lent g c =
