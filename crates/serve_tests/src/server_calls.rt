@@ -49,19 +49,19 @@ pub fn serve_server<L: Link>(
     let Ok(scheduler) = Url::parse(alloc, "http://127.0.0.1:10600") else {
         return Err(Fail::from("no URL"));
     };
-    if scheduler.scheme() != "http" {
-        return Err(Fail::from("another scheme"));
+    if scheduler.scheme() == "http" {
+        let mut builder = EchoBuilder::new(alloc);
+        Ok(serve_server_connection(
+            alloc,
+            state,
+            &key,
+            link,
+            dialer,
+            &scheduler,
+            "127.0.0.1:10501 s1",
+            &mut builder,
+        ))
+    } else {
+        Err(Fail::from("another scheme"))
     }
-    let mut builder = EchoBuilder::new(alloc);
-    let served = serve_server_connection(
-        alloc,
-        state,
-        &key,
-        link,
-        dialer,
-        &scheduler,
-        "127.0.0.1:10501 s1",
-        &mut builder,
-    );
-    Ok(served)
 }
