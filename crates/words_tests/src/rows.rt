@@ -21,7 +21,10 @@ const ROWS: &[(&str, bool)] = &[
     ("x|auth|generate-shared-token|--bits|56", false),
     ("x|auth|generate-shared-token|--bits|4104", false),
     ("x|auth|generate-shared-token|--bits|8000", false),
-    ("x|auth|generate-shared-token|--bits|18446744073709551616", false),
+    (
+        "x|auth|generate-shared-token|--bits|18446744073709551616",
+        false,
+    ),
     ("x|auth|generate-shared-token|--bits|not_a_num", false),
     ("x|auth|generate-shared-token|--bits|-64", false),
     ("x|auth|generate-shared-token|--bits=-64", false),
@@ -38,35 +41,98 @@ const ROWS: &[(&str, bool)] = &[
     ("x|auth|generate-shared-token|--bit|64", false),
     ("x|auth|generate-shared-token|--config|FILE", false),
     ("x|auth|--bits|64|generate-shared-token", false),
-    ("x|auth|generate-jwt-hs256-server-token|--server|127.0.0.1:4321|--secret-key|AQIC", true),
-    ("x|auth|generate-jwt-hs256-server-token|--secret-key|AQIC|--server|127.0.0.1:4321", true),
-    ("x|auth|generate-jwt-hs256-server-token|--server=127.0.0.1:4321|--secret-key=AQIC", true),
-    ("x|auth|generate-jwt-hs256-server-token|--server=127.0.0.1:4321|--secret-key|AQIC", true),
-    ("x|auth|generate-jwt-hs256-server-token|--server|[::1]:4321|--secret-key|AQIC", true),
-    ("x|auth|generate-jwt-hs256-server-token|--server|127.0.0.1:4321|--config|FILE", true),
-    ("x|auth|generate-jwt-hs256-server-token|--server|127.0.0.1:4321|--config=FILE", true),
-    ("x|auth|generate-jwt-hs256-server-token|--server|127.0.0.1:4321|--config|PLAIN", true),
-    ("x|auth|generate-jwt-hs256-server-token|--server|127.0.0.1:4321|--config|NONE", true),
+    (
+        "x|auth|generate-jwt-hs256-server-token|--server|127.0.0.1:4321|--secret-key|AQIC",
+        true,
+    ),
+    (
+        "x|auth|generate-jwt-hs256-server-token|--secret-key|AQIC|--server|127.0.0.1:4321",
+        true,
+    ),
+    (
+        "x|auth|generate-jwt-hs256-server-token|--server=127.0.0.1:4321|--secret-key=AQIC",
+        true,
+    ),
+    (
+        "x|auth|generate-jwt-hs256-server-token|--server=127.0.0.1:4321|--secret-key|AQIC",
+        true,
+    ),
+    (
+        "x|auth|generate-jwt-hs256-server-token|--server|[::1]:4321|--secret-key|AQIC",
+        true,
+    ),
+    (
+        "x|auth|generate-jwt-hs256-server-token|--server|127.0.0.1:4321|--config|FILE",
+        true,
+    ),
+    (
+        "x|auth|generate-jwt-hs256-server-token|--server|127.0.0.1:4321|--config=FILE",
+        true,
+    ),
+    (
+        "x|auth|generate-jwt-hs256-server-token|--server|127.0.0.1:4321|--config|PLAIN",
+        true,
+    ),
+    (
+        "x|auth|generate-jwt-hs256-server-token|--server|127.0.0.1:4321|--config|NONE",
+        true,
+    ),
     (
         "x|auth|generate-jwt-hs256-server-token|--server|127.0.0.1:4321|--secret-key|very secret",
         true,
     ),
-    ("x|auth|generate-jwt-hs256-server-token|--server|127.0.0.1:4321|--secret-key|AQI=", true),
-    ("x|auth|generate-jwt-hs256-server-token|--server|127.0.0.1:4321|--secret-key|AQJ", true),
-    ("x|auth|generate-jwt-hs256-server-token|--server|127.0.0.1:4321|--secret-key=-", true),
-    ("x|auth|generate-jwt-hs256-server-token|--server|127.0.0.1:4321|--secret-key|-", true),
-    ("x|auth|generate-jwt-hs256-server-token|--server|127.0.0.1:4321|--secret-key=-_-_", true),
-    ("x|auth|generate-jwt-hs256-server-token|--server|127.0.0.1:4321|--secret-key|-_-_", false),
-    ("x|auth|generate-jwt-hs256-server-token|--server|127.0.0.1:4321|--secret-key|", false),
-    ("x|auth|generate-jwt-hs256-server-token|--server|127.0.0.1:4321", false),
+    (
+        "x|auth|generate-jwt-hs256-server-token|--server|127.0.0.1:4321|--secret-key|AQI=",
+        true,
+    ),
+    (
+        "x|auth|generate-jwt-hs256-server-token|--server|127.0.0.1:4321|--secret-key|AQJ",
+        true,
+    ),
+    (
+        "x|auth|generate-jwt-hs256-server-token|--server|127.0.0.1:4321|--secret-key=-",
+        true,
+    ),
+    (
+        "x|auth|generate-jwt-hs256-server-token|--server|127.0.0.1:4321|--secret-key|-",
+        true,
+    ),
+    (
+        "x|auth|generate-jwt-hs256-server-token|--server|127.0.0.1:4321|--secret-key=-_-_",
+        true,
+    ),
+    (
+        "x|auth|generate-jwt-hs256-server-token|--server|127.0.0.1:4321|--secret-key|-_-_",
+        false,
+    ),
+    (
+        "x|auth|generate-jwt-hs256-server-token|--server|127.0.0.1:4321|--secret-key|",
+        false,
+    ),
+    (
+        "x|auth|generate-jwt-hs256-server-token|--server|127.0.0.1:4321",
+        false,
+    ),
     (
         "x|auth|generate-jwt-hs256-server-token|--server|127.0.0.1:4321|--secret-key|AQIC|--config|FILE",
         false,
     ),
-    ("x|auth|generate-jwt-hs256-server-token|--secret-key|AQIC", false),
-    ("x|auth|generate-jwt-hs256-server-token|--server|localhost:4321|--secret-key|AQIC", false),
-    ("x|auth|generate-jwt-hs256-server-token|--server|127.0.0.1|--secret-key|AQIC", false),
-    ("x|auth|generate-jwt-hs256-server-token|--server|[fe80::1%3]:80|--secret-key|AQIC", false),
+    (
+        "x|auth|generate-jwt-hs256-server-token|--secret-key|AQIC",
+        false,
+    ),
+    (
+        "x|auth|generate-jwt-hs256-server-token|--server|localhost:4321|--secret-key|AQIC",
+        false,
+    ),
+    (
+        "x|auth|generate-jwt-hs256-server-token|--server|127.0.0.1|--secret-key|AQIC",
+        false,
+    ),
+    (
+        "x|auth|generate-jwt-hs256-server-token|--server|[fe80::1%3]:80|--secret-key|AQIC",
+        false,
+    ),
     (
         "x|auth|generate-jwt-hs256-server-token|--server|127.0.0.1:4321|--server|127.0.0.1:4321|--secret-key|AQIC",
         false,
@@ -102,7 +168,10 @@ const ROWS: &[(&str, bool)] = &[
     ("x|scheduler|--=a", false),
     ("x|scheduler|--config|a|--", false),
     ("x|server|-c|a", false),
-    ("x|auth|generate-shared-token|--bits|64|--secret-key|AQIC", false),
+    (
+        "x|auth|generate-shared-token|--bits|64|--secret-key|AQIC",
+        false,
+    ),
 ];
 
 fn holds(rt: &impl Abort, alloc: Global, text: &str, is_row: bool) -> Result<(), Fail> {
@@ -131,7 +200,9 @@ fn options_are_taken_by_name(rt: HostRuntime) -> Result<(), Fail> {
     for word in ["--config", "-", "--server=a=b"] {
         words.push(String::from_str(alloc, word)?)?;
     }
-    let said = options_in(alloc, &words).expect(&rt, "memory").expect(&rt, "options");
+    let said = options_in(alloc, &words)
+        .expect(&rt, "memory")
+        .expect(&rt, "options");
     assert_eq!(rt; said.config, Some("-"));
     assert_eq!(rt; said.server, Some("a=b"));
     assert_eq!(rt; said.bits, None);
