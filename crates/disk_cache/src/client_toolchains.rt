@@ -53,9 +53,12 @@ impl<F: Folder> Model for ClientToolchains<F> {
 
     ghost Value = { Toolchains };
 
-    ghost view = { λ t. record { dir = t.names.dir; capacity = t.cache.capacity; archives = t.cache.archives; weak = t.weak; configs = t.configs.items; taken = t.taken.items; held = F.held t.cache.folder } };
+    ghost view = { λ t. record { dir = t.names.dir; capacity = t.cache.capacity; archives =
+        t.cache.archives; weak = t.weak; configs = t.configs.items; taken = t.taken.items; held = F.held
+        t.cache.folder } };
 
-    ghost invariant = { λ t. IsShelf t.names t.cache.path t.cache.capacity t.cache.archives (F.held t.cache.folder) };
+    ghost invariant = { λ t. IsShelf t.names t.cache.path t.cache.capacity t.cache.archives (F.held
+        t.cache.folder) };
 }
 
 impl<F: Folder> ClientToolchains<F> {
@@ -75,16 +78,20 @@ impl<F: Folder> ClientToolchains<F> {
     ) -> Result<Self, ToolchainError>
     where
         F: Drop,
-        ensures at { IfOk result (λ t. (t.dir ≡ cache_dir.now) × (t.capacity ≡ cache_size) × (t.configs ≡ configs.now) × (t.taken ≡ [])) }
-        ensures archives { IfOk result (λ t. Holds (F.held folder) (λ files. t.archives ≡ opened_archives (cache_path cache_dir.now) cache_size files)) }
-        ensures weak { IfOk result (λ t. Holds (F.held folder) (λ files. weak_map_at cache_dir.now files ≡ Some t.weak)) }
+        ensures at { IfOk result (λ t. (t.dir ≡ cache_dir.now) × (t.capacity ≡ cache_size) × (t.configs ≡
+            configs.now) × (t.taken ≡ [])) }
+        ensures archives { IfOk result (λ t. Holds (F.held folder) (λ files. t.archives ≡ opened_archives
+            (cache_path cache_dir.now) cache_size files)) }
+        ensures weak { IfOk result (λ t. Holds (F.held folder) (λ files. weak_map_at cache_dir.now files ≡
+            Some t.weak)) }
         ensures written { IfOk result IsWritten }
         ensures emptied { IfOk result (λ t. Holds t.held (IsEmpty (temp_dir cache_dir.now))) }
         ensures others { IfOk result (λ t. Became (ButOwn cache_dir.now) (F.held folder).files t.held.files) }
         ensures judged { OnOk result (config_verdict configs.now ≡ Ok tt) }
         ensures stands { IfOk result IsClient }
         ensures steady { IfOk result (λ t. t.held.faults ≡ (F.held folder).faults) }
-        ensures fails { IfErr result (λ e. (left : F) × OpeningFails e cache_dir.now configs.now (F.held folder) (F.held left)) }
+        ensures fails { IfErr result (λ e. (left : F) × OpeningFails e cache_dir.now configs.now (F.held
+            folder) (F.held left)) }
     {
         match ClientToolchains::open(alloc, folder, cache_dir, cache_size, configs) {
             Ok(opened) => Ok(opened),
@@ -100,16 +107,20 @@ impl<F: Folder> ClientToolchains<F> {
         cache_size: u64,
         configs: &[DistToolchainConfig],
     ) -> Result<Self, (ToolchainError, F)>
-        ensures at { IfOk result (λ t. (t.dir ≡ cache_dir.now) × (t.capacity ≡ cache_size) × (t.configs ≡ configs.now) × (t.taken ≡ [])) }
-        ensures archives { IfOk result (λ t. Holds (F.held folder) (λ files. t.archives ≡ opened_archives (cache_path cache_dir.now) cache_size files)) }
-        ensures weak { IfOk result (λ t. Holds (F.held folder) (λ files. weak_map_at cache_dir.now files ≡ Some t.weak)) }
+        ensures at { IfOk result (λ t. (t.dir ≡ cache_dir.now) × (t.capacity ≡ cache_size) × (t.configs ≡
+            configs.now) × (t.taken ≡ [])) }
+        ensures archives { IfOk result (λ t. Holds (F.held folder) (λ files. t.archives ≡ opened_archives
+            (cache_path cache_dir.now) cache_size files)) }
+        ensures weak { IfOk result (λ t. Holds (F.held folder) (λ files. weak_map_at cache_dir.now files ≡
+            Some t.weak)) }
         ensures written { IfOk result IsWritten }
         ensures emptied { IfOk result (λ t. Holds t.held (IsEmpty (temp_dir cache_dir.now))) }
         ensures others { IfOk result (λ t. Became (ButOwn cache_dir.now) (F.held folder).files t.held.files) }
         ensures judged { OnOk result (config_verdict configs.now ≡ Ok tt) }
         ensures stands { IfOk result IsClient }
         ensures steady { IfOk result (λ t. t.held.faults ≡ (F.held folder).faults) }
-        ensures fails { IfErr result (λ e. OpeningFails e.0 cache_dir.now configs.now (F.held folder) (F.held e.1)) }
+        ensures fails { IfErr result (λ e. OpeningFails e.0 cache_dir.now configs.now (F.held folder)
+            (F.held e.1)) }
     {
         let Ok(names) = names_of(alloc, cache_dir) else {
             return Err((ToolchainError::Memory, folder));
@@ -166,7 +177,8 @@ impl<F: Folder> ClientToolchains<F> {
         &mut self,
         compiler_path: &str,
     ) -> Option<Result<(Toolchain, String, String), ToolchainError>>
-        ensures tells { TellsCustom (custom_of compiler_path.now self.old.configs) compiler_path.now (customs_seen result) self.old self.new }
+        ensures tells { TellsCustom (custom_of compiler_path.now self.old.configs) compiler_path.now
+            (customs_seen result) self.old self.new }
         ensures later { self.old.held.faults ≤ self.new.held.faults }
         ensures stands { IsClient self.new }
     {
@@ -189,7 +201,8 @@ impl<F: Folder> ClientToolchains<F> {
         weak_key: &str,
         packager: &mut dyn ToolchainPackager,
     ) -> Result<(Toolchain, Option<(String, String)>), ToolchainError>
-        ensures puts { Puts (packager.new ≡ packager.old) (packs packager.old) (refusals packager.old) (refusals packager.new) compiler_path.now weak_key.now (placed_seen result) self.old self.new }
+        ensures puts { Puts (packager.new ≡ packager.old) (packs packager.old) (refusals packager.old)
+            (refusals packager.new) compiler_path.now weak_key.now (placed_seen result) self.old self.new }
         ensures later { self.old.held.faults ≤ self.new.held.faults }
         ensures stands { IsClient self.new }
     {
@@ -239,7 +252,8 @@ impl<F: Folder> ClientToolchains<F> {
         &mut self,
         path: &str,
     ) -> Option<Result<(Toolchain, String, String), ToolchainError>>
-        ensures tells { TellsCustom (custom_of path.now self.old.configs) path.now (customs_seen result) self.old self.new }
+        ensures tells { TellsCustom (custom_of path.now self.old.configs) path.now (customs_seen result)
+            self.old self.new }
         ensures later { self.old.held.faults ≤ self.new.held.faults }
     {
         match self.custom_of(path) {
@@ -258,7 +272,8 @@ impl<F: Folder> ClientToolchains<F> {
         key: &str,
         packager: &mut dyn ToolchainPackager,
     ) -> Result<(Toolchain, Option<(String, String)>), ToolchainError>
-        ensures puts { Puts (packager.new ≡ packager.old) (packs packager.old) (refusals packager.old) (refusals packager.new) path.now key.now (placed_seen result) self.old self.new }
+        ensures puts { Puts (packager.new ≡ packager.old) (packs packager.old) (refusals packager.old)
+            (refusals packager.new) path.now key.now (placed_seen result) self.old self.new }
         ensures later { self.old.held.faults ≤ self.new.held.faults }
     {
         match self.place(path, key, packager) {
@@ -315,7 +330,8 @@ impl<F: Folder> ClientToolchains<F> {
 
     // The content of a configured archive.
     fn read_custom(&mut self, archive: &Text) -> Result<Vec<u8>, ToolchainError>
-        ensures ok { IfOk result (λ v. Holds self.old.held (λ files. file_at files archive.now ≡ Some v.items)) }
+        ensures ok { IfOk result (λ v. Holds self.old.held (λ files. file_at files archive.now ≡ Some
+            v.items)) }
         ensures same { OnOk result (self.new ≡ self.old) }
         ensures fails { IfErr result (λ e. Unread archive.now e self.old self.new) }
         ensures later { self.old.held.faults ≤ self.new.held.faults }
@@ -340,8 +356,10 @@ impl<F: Folder> ClientToolchains<F> {
     // The archive of a toolchain in the cache.
     fn find(&mut self, tc: &Toolchain) -> Result<Vec<u8>, Error>
         ensures ok { IfOk result (λ v. IsFound tc.now v.items self.old self.new) }
-        ensures changes { self.new ≡ with_state self.old self.new.archives self.old.weak self.old.taken self.new.held }
-        ensures fails { IfErr result (λ e. FindFails tc.now e self.old.archives self.new.archives self.old.held self.new.held) }
+        ensures changes { self.new ≡ with_state self.old self.new.archives self.old.weak self.old.taken
+            self.new.held }
+        ensures fails { IfErr result (λ e. FindFails tc.now e self.old.archives self.new.archives
+            self.old.held self.new.held) }
         ensures later { self.old.held.faults ≤ self.new.held.faults }
     {
         match self.cache.get_file(tc) {
@@ -391,7 +409,8 @@ impl<F: Folder> ClientToolchains<F> {
         bytes: &[u8],
     ) -> Result<Custom, ToolchainError>
         ensures ok { IfOk result (λ answer. answer ≡ custom_as (id_of bytes.now) custom) }
-        ensures noted { OnOk result (self.new ≡ with_state self.old self.old.archives self.old.weak (self.old.taken ++ taking path.now (id_of bytes.now) custom.archive ∷ []) self.old.held) }
+        ensures noted { OnOk result (self.new ≡ with_state self.old self.old.archives self.old.weak
+            (self.old.taken ++ taking path.now (id_of bytes.now) custom.archive ∷ []) self.old.held) }
         ensures err { IfErr result (λ e. (e ≡ ToolchainError.Memory) × (self.new ≡ self.old)) }
     {
         let id = toolchain_of(bytes);
@@ -492,7 +511,8 @@ impl<F: Folder> ClientToolchains<F> {
         key: &str,
         packager: &mut dyn ToolchainPackager,
     ) -> Result<Toolchain, ToolchainError>
-        ensures packages { Packages (packs packager.old) (refusals packager.old) (refusals packager.new) key.now result self.old self.new }
+        ensures packages { Packages (packs packager.old) (refusals packager.old) (refusals packager.new)
+            key.now result self.old self.new }
         ensures later { self.old.held.faults ≤ self.new.held.faults }
     {
         match packed(self.alloc(), packager) {
@@ -507,7 +527,8 @@ impl<F: Folder> ClientToolchains<F> {
         key: &str,
         packager: &mut dyn ToolchainPackager,
     ) -> Result<Placed, ToolchainError>
-        ensures puts { PutsPackage (packs packager.old) (refusals packager.old) (refusals packager.new) key.now result self.old self.new }
+        ensures puts { PutsPackage (packs packager.old) (refusals packager.old) (refusals packager.new)
+            key.now result self.old self.new }
         ensures later { self.old.held.faults ≤ self.new.held.faults }
     {
         match self.package(key, packager) {
@@ -522,7 +543,8 @@ impl<F: Folder> ClientToolchains<F> {
         key: &str,
         packager: &mut dyn ToolchainPackager,
     ) -> Result<Placed, ToolchainError>
-        ensures puts { LooksThenPackages (packager.new ≡ packager.old) (packs packager.old) (refusals packager.old) (refusals packager.new) key.now result self.old self.new }
+        ensures puts { LooksThenPackages (packager.new ≡ packager.old) (packs packager.old) (refusals
+            packager.old) (refusals packager.new) key.now result self.old self.new }
         ensures later { self.old.held.faults ≤ self.new.held.faults }
     {
         match self.look_up(key) {
@@ -552,7 +574,8 @@ impl<F: Folder> ClientToolchains<F> {
         key: &str,
         packager: &mut dyn ToolchainPackager,
     ) -> Result<Placed, ToolchainError>
-        ensures puts { Puts (packager.new ≡ packager.old) (packs packager.old) (refusals packager.old) (refusals packager.new) path.now key.now result self.old self.new }
+        ensures puts { Puts (packager.new ≡ packager.old) (packs packager.old) (refusals packager.old)
+            (refusals packager.new) path.now key.now result self.old self.new }
         ensures later { self.old.held.faults ≤ self.new.held.faults }
     {
         match self.choice_of(path) {

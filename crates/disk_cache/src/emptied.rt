@@ -13,7 +13,8 @@ use lru_disk_cache::folder::Folder;
 
 /// Removes a file. One that is missing already is no fault.
 fn discard<F: Folder>(folder: &mut F, path: &Text) -> Result<(), FolderFault>
-    ensures exact { OnOk result (Became (λ old new. new ≡ without path.now old) (F.held folder.old).files (F.held folder.new).files) }
+    ensures exact { OnOk result (Became (λ old new. new ≡ without path.now old) (F.held folder.old).files
+        (F.held folder.new).files) }
     ensures counts { Counts result (F.held folder.old) (F.held folder.new) }
     ensures found { ¬ (result ≡ Err FolderFault.Missing) }
 {
@@ -28,8 +29,10 @@ fn discard<F: Folder>(folder: &mut F, path: &Text) -> Result<(), FolderFault>
 /// Removes all files below a directory. Those beside it stay, and so do the archives of a cache beside it.
 pub(crate) fn empty<F: Folder>(folder: &mut F, under: &Text) -> Result<(), FolderFault>
     ensures emptied { OnOk result (Holds (F.held folder.new) (IsEmpty under.now)) }
-    ensures others { OnOk result (Became (ButUnder (front under.now)) (F.held folder.old).files (F.held folder.new).files) }
-    ensures archives { (path : List ℕ) → AreApart path under.now → OnOk result (Became (SameArchives path) (F.held folder.old).files (F.held folder.new).files) }
+    ensures others { OnOk result (Became (ButUnder (front under.now)) (F.held folder.old).files (F.held
+        folder.new).files) }
+    ensures archives { (path : List ℕ) → AreApart path under.now → OnOk result (Became (SameArchives path)
+        (F.held folder.old).files (F.held folder.new).files) }
     ensures counts { Counts result (F.held folder.old) (F.held folder.new) }
 {
     let found = match folder.list(under.get()) {
@@ -49,8 +52,10 @@ pub(crate) fn empty<F: Folder>(folder: &mut F, under: &Text) -> Result<(), Folde
 pub(crate) fn prepare<F: Folder>(folder: &mut F, names: &Names) -> Result<(), FolderFault>
     requires { AreNames names.now }
     ensures emptied { OnOk result (Holds (F.held folder.new) (IsEmpty (temp_dir names.now.dir))) }
-    ensures others { OnOk result (Became (ButUnder (front (temp_dir names.now.dir))) (F.held folder.old).files (F.held folder.new).files) }
-    ensures archives { (path : List ℕ) → AreApart path (temp_dir names.now.dir) → OnOk result (Became (SameArchives path) (F.held folder.old).files (F.held folder.new).files) }
+    ensures others { OnOk result (Became (ButUnder (front (temp_dir names.now.dir))) (F.held
+        folder.old).files (F.held folder.new).files) }
+    ensures archives { (path : List ℕ) → AreApart path (temp_dir names.now.dir) → OnOk result (Became
+        (SameArchives path) (F.held folder.old).files (F.held folder.new).files) }
     ensures counts { Counts result (F.held folder.old) (F.held folder.new) }
 {
     match empty(folder, &names.temp_dir) {

@@ -23,12 +23,17 @@ pub(crate) fn save<F: Folder>(
 ) -> Result<(), FolderFault>
     requires names { AreNames names.now }
     requires path { cache.old.path ≡ names.now.cache }
-    ensures at { (cache.new.path ≡ cache.old.path) × (cache.new.capacity ≡ cache.old.capacity) × (cache.new.archives ≡ cache.old.archives) }
-    ensures stands { IsArchiveStore cache.new.path cache.new.capacity cache.new.archives (F.held cache.new.folder) }
-    ensures written { OnOk result (Holds (F.held cache.new.folder) (λ files. file_at files (weak_path names.now.dir) ≡ Some text.now)) }
+    ensures at { (cache.new.path ≡ cache.old.path) × (cache.new.capacity ≡ cache.old.capacity) ×
+        (cache.new.archives ≡ cache.old.archives) }
+    ensures stands { IsArchiveStore cache.new.path cache.new.capacity cache.new.archives (F.held
+        cache.new.folder) }
+    ensures written { OnOk result (Holds (F.held cache.new.folder) (λ files. file_at files (weak_path
+        names.now.dir) ≡ Some text.now)) }
     ensures gone { OnOk result (Holds (F.held cache.new.folder) (Lacks (temp_path names.now.dir))) }
-    ensures left { Became (OldOr (weak_path names.now.dir) text.now) (F.held cache.old.folder).files (F.held cache.new.folder).files }
-    ensures others { Became (ButTwo (temp_path names.now.dir) (weak_path names.now.dir)) (F.held cache.old.folder).files (F.held cache.new.folder).files }
+    ensures left { Became (OldOr (weak_path names.now.dir) text.now) (F.held cache.old.folder).files
+        (F.held cache.new.folder).files }
+    ensures others { Became (ButTwo (temp_path names.now.dir) (weak_path names.now.dir)) (F.held
+        cache.old.folder).files (F.held cache.new.folder).files }
     ensures steady { OnOk result ((F.held cache.new.folder).faults ≡ (F.held cache.old.folder).faults) }
     ensures fails { IfErr result (λ e. SaveFails e (F.held cache.old.folder) (F.held cache.new.folder)) }
 {
@@ -50,13 +55,18 @@ fn begin<F: Folder>(
 ) -> Result<WeakMap, ToolchainError>
     requires names { AreNames names.now }
     requires path { cache.old.path ≡ names.now.cache }
-    requires stands { IsArchiveStore cache.old.path cache.old.capacity cache.old.archives (F.held cache.old.folder) }
-    ensures at { (cache.new.path ≡ cache.old.path) × (cache.new.capacity ≡ cache.old.capacity) × (cache.new.archives ≡ cache.old.archives) }
-    ensures stands { IsArchiveStore cache.new.path cache.new.capacity cache.new.archives (F.held cache.new.folder) }
+    requires stands { IsArchiveStore cache.old.path cache.old.capacity cache.old.archives (F.held
+        cache.old.folder) }
+    ensures at { (cache.new.path ≡ cache.old.path) × (cache.new.capacity ≡ cache.old.capacity) ×
+        (cache.new.archives ≡ cache.old.archives) }
+    ensures stands { IsArchiveStore cache.new.path cache.new.capacity cache.new.archives (F.held
+        cache.new.folder) }
     ensures none { IfOk result (λ map. map ≡ []) }
-    ensures written { IfOk result (λ map. Holds (F.held cache.new.folder) (λ files. weak_map_at names.now.dir files ≡ Some map)) }
+    ensures written { IfOk result (λ map. Holds (F.held cache.new.folder) (λ files. weak_map_at
+        names.now.dir files ≡ Some map)) }
     ensures gone { OnOk result (Holds (F.held cache.new.folder) (Lacks (temp_path names.now.dir))) }
-    ensures others { Became (ButTwo (temp_path names.now.dir) (weak_path names.now.dir)) (F.held cache.old.folder).files (F.held cache.new.folder).files }
+    ensures others { Became (ButTwo (temp_path names.now.dir) (weak_path names.now.dir)) (F.held
+        cache.old.folder).files (F.held cache.new.folder).files }
     ensures steady { OnOk result ((F.held cache.new.folder).faults ≡ (F.held cache.old.folder).faults) }
     ensures fails { IfErr result (λ e. BeginFails e (F.held cache.old.folder) (F.held cache.new.folder)) }
 {
@@ -73,7 +83,8 @@ fn begin<F: Folder>(
 /// The weak map that bytes are.
 fn map_of(alloc: Global, bytes: &[u8]) -> Result<WeakMap, ToolchainError>
     ensures ok { IfOk result (λ map. weak_map_in bytes.now ≡ Some map) }
-    ensures err { IfErr result (λ e. (e ≡ ToolchainError.Memory) ⊎ ((e ≡ ToolchainError.BadWeakMap) × (weak_map_in bytes.now ≡ None))) }
+    ensures err { IfErr result (λ e. (e ≡ ToolchainError.Memory) ⊎ ((e ≡ ToolchainError.BadWeakMap) ×
+        (weak_map_in bytes.now ≡ None))) }
 {
     match WeakMap::read(alloc, bytes) {
         Ok(found) => match found {
@@ -92,14 +103,21 @@ pub(crate) fn load<F: Folder>(
 ) -> Result<WeakMap, ToolchainError>
     requires names { AreNames names.now }
     requires path { cache.old.path ≡ names.now.cache }
-    ensures at { (cache.new.path ≡ cache.old.path) × (cache.new.capacity ≡ cache.old.capacity) × (cache.new.archives ≡ cache.old.archives) }
-    ensures stands { IsArchiveStore cache.new.path cache.new.capacity cache.new.archives (F.held cache.new.folder) }
-    ensures found { IfOk result (λ map. Holds (F.held cache.old.folder) (λ files. weak_map_at names.now.dir files ≡ Some map)) }
-    ensures written { IfOk result (λ map. Holds (F.held cache.new.folder) (λ files. weak_map_at names.now.dir files ≡ Some map)) }
-    ensures clean { Holds (F.held cache.old.folder) (Lacks (temp_path names.now.dir)) → OnOk result (Holds (F.held cache.new.folder) (Lacks (temp_path names.now.dir))) }
-    ensures others { Became (ButTwo (temp_path names.now.dir) (weak_path names.now.dir)) (F.held cache.old.folder).files (F.held cache.new.folder).files }
+    ensures at { (cache.new.path ≡ cache.old.path) × (cache.new.capacity ≡ cache.old.capacity) ×
+        (cache.new.archives ≡ cache.old.archives) }
+    ensures stands { IsArchiveStore cache.new.path cache.new.capacity cache.new.archives (F.held
+        cache.new.folder) }
+    ensures found { IfOk result (λ map. Holds (F.held cache.old.folder) (λ files. weak_map_at names.now.dir
+        files ≡ Some map)) }
+    ensures written { IfOk result (λ map. Holds (F.held cache.new.folder) (λ files. weak_map_at
+        names.now.dir files ≡ Some map)) }
+    ensures clean { Holds (F.held cache.old.folder) (Lacks (temp_path names.now.dir)) → OnOk result (Holds
+        (F.held cache.new.folder) (Lacks (temp_path names.now.dir))) }
+    ensures others { Became (ButTwo (temp_path names.now.dir) (weak_path names.now.dir)) (F.held
+        cache.old.folder).files (F.held cache.new.folder).files }
     ensures steady { OnOk result ((F.held cache.new.folder).faults ≡ (F.held cache.old.folder).faults) }
-    ensures fails { IfErr result (λ e. LoadFails names.now.dir e (F.held cache.old.folder) (F.held cache.new.folder)) }
+    ensures fails { IfErr result (λ e. LoadFails names.now.dir e (F.held cache.old.folder) (F.held
+        cache.new.folder)) }
 {
     match cache.read_aside(names.weak.get()) {
         Ok(bytes) => map_of(alloc, &bytes),

@@ -151,7 +151,8 @@ fn with_member(
     key: &str,
     text: &str,
 ) -> Result<Map<String, Value>, AllocError>
-    ensures { IfOk result (λ m. members_view m.entries ≡ put key.now (string text.now) (members_view members.entries)) }
+    ensures { IfOk result (λ m. members_view m.entries ≡ put key.now (string text.now) (members_view
+        members.entries)) }
 {
     let mut members = members;
     let text = Value::String(String::from_str(alloc, text)?);
