@@ -1,9 +1,11 @@
 -- What a running server's answers say of its rows.
-use Rattle.std.proofs.Common.{◌≡◌, inl, inr, ℕ, List, [], ◌∷◌, ◌++◌, Option, Some, None, Result, Ok, Err, refl, sym, ◌∙◌, ap, subst, append_assoc}
+use Rattle.std.proofs.Common.{◌≡◌, ◌≤◌, ◌<◌, inl, inr, ℕ, List, [], ◌∷◌, ◌++◌, length, Option, Some, None, Result, Ok, Err, refl, sym, ◌∙◌, ap, subst, append_assoc, append-nil, arith}
+use Rattle.std.specs.Prelude.{IfSome, OnOk}
 use Rattle.std.specs.Option.{option_map}
 use Rattle.sha2.specs.Sha256.{sha256}
 use Rattle.dist_types.specs.Builder.{built_row}
-use Rattle.dist_types.specs.Content.{Recorded, KeptOrRecorded}
+use Rattle.dist_types.specs.Cause.{Rose}
+use Rattle.dist_types.specs.Content.{Recorded, KeptOrRecorded, Taken as Took, IsAtEnd}
 use Rattle.dist_types.specs.Outgoing.{Updated, Peer, updated_row}
 use Rattle.dist_types.specs.declared.builder.BuildFault.{BuildFault}
 use Rattle.dist_types.specs.declared.builder.BuildFault.TheVariants as build
@@ -17,13 +19,14 @@ use Rattle.dist_types.specs.declared.results.JobState.{JobState}
 use Rattle.dist_types.specs.declared.results.JobState.TheVariants.{Ready, Started, Complete}
 use Rattle.dist_types.specs.declared.results.RunJobResult.{RunJobResult}
 use Rattle.dist_types.specs.declared.results.SubmitToolchainResult.{SubmitToolchainResult}
+use Rattle.dist_types.specs.declared.results.SubmitToolchainResult.TheVariants.{CannotCache}
 use Rattle.dist_types.specs.declared.results.UpdateJobStateResult.{UpdateJobStateResult}
 use Rattle.dist_types.specs.declared.source.ReadError.{ReadError}
 use Rattle.dist_types.specs.declared.source.ReadError.TheVariants as read
 use Rattle.build_server.specs.Books.{Books}
 use Rattle.build_server.specs.Builds.{Order, Builder, IsBuilt, Builds, outcome_of, run_answer, ended}
-use Rattle.build_server.specs.Laws.{MayHaveBuilt, AnswersBuild, RecordedAll, ReportedBoth, AnswersReports, RunsAreTold, AnswersReady, SubmissionsAreTold}
-use Rattle.build_server.specs.Rows.{Reports, Reading, IsReported, Unread, Fetches, Submitting, submit_answer, Follows, Proceeds, Running}
+use Rattle.build_server.specs.Laws.{MayHaveBuilt, AnswersBuild, RecordedAll, ReportedBoth, AnswersReports, RunsAreTold, AnswersReady, AnswersReading, SubmissionsAreTold}
+use Rattle.build_server.specs.Rows.{Reports, Reading, IsReported, IsWhole, Unread, Ends, Fetches, Submitting, submit_answer, Follows, Proceeds, Running}
 use Rattle.build_server.specs.Rules.{Update, fault_of, TellsUpdate}
 use Rattle.build_server.specs.declared.fault.ServerFault.{ServerFault}
 use Rattle.build_server.specs.declared.fault.ServerFault.TheVariants as fault
@@ -254,11 +257,11 @@ unread_ready : (says : Peer → Updated → Asked → Type 0) (job : JobId) (x :
     → Recorded (updated_row job.0 Ready (Ok x)) before.rows after.rows → Unread e old new answer
     → AnswersReady job before after answer
 unread_ready says job x read.Failed before after old new answer r u =
-    subst (AnswersReady job before after) (sym u.1) (x, r)
+    subst (AnswersReady job before after) (sym u.2) (x, r)
 unread_ready says job x read.TooLong before after old new answer r u =
-    subst (AnswersReady job before after) (sym u.1) (x, r)
+    subst (AnswersReady job before after) (sym u.3) (x, r)
 unread_ready says job x read.Memory before after old new answer r u =
-    subst (AnswersReady job before after) (sym u) (inr (Ok x, r))
+    subst (AnswersReady job before after) (sym u.2) (inr (Ok x, r))
 
 ends_ready : (job : JobId) (x : UpdateJobStateResult) (done : Result Submitted ServerFault)
     (before after : Reports) → TellsUpdate (Ok x) done
@@ -304,6 +307,123 @@ submitting_ready says job (Ok x) kept turned before after old new answer r s =
 submitting_ready says job (Err e) kept turned before after old new answer r s =
     subst (AnswersReady job before after) (sym s.0) (refused_ready says job e before after r)
 
+-- the reader
+
+on_ok : {T E : Type 0} (r : Result T E) (P : Type 0) → P → OnOk r P
+on_ok (Ok x) P p = p
+on_ok (Err e) P p = tt
+
+-- what was read to the end is all that was left
+all_left : (bytes : List ℕ) (left : List ℕ) (rest : Option (List ℕ)) → Took bytes (Some left) rest
+    → IsAtEnd rest → bytes ≡ left
+all_left bytes left None t e = cc t
+all_left bytes left (Some []) t e = sym (cc (t ∙ ap Some (append-nil bytes)))
+all_left bytes left (Some (x ∷ xs)) t e = cc e
+
+-- the books of a submission of which nothing was read are as they were
+none_read : (job : JobId) (kept turned : Option Books) (old new : Reading)
+    (answer : Result SubmitToolchainResult ServerFault) (e : ServerFault) → answer ≡ Err e → turned ≡ kept
+    → new.faults ≡ old.faults → AnswersReading job kept turned old new answer
+none_read job kept turned old new answer e is same steady = record {
+  failed = λ n. absurd (n steady);
+  long = by old.left;
+  whole = at old.left;
+}
+  where
+    by : (left : Option (List ℕ)) → IfSome left (λ left. 1073741824 < length left
+        → OnOk answer (answer ≡ Ok CannotCache) × (turned ≡ kept))
+    by None = tt
+    by (Some left) = λ l. (subst (λ w. OnOk w (w ≡ Ok CannotCache)) (sym is) tt, same)
+
+    at : (left : Option (List ℕ)) → IfSome left (λ left. length left ≤ 1073741824
+        → ¬ Rose old.faults new.faults
+        → OnOk answer ((ready : UpdateJobStateResult) × Ends job (Ok ready) left kept turned answer))
+    at None = tt
+    at (Some left) = λ l n. subst (λ w. OnOk w ((ready : UpdateJobStateResult)
+        × Ends job (Ok ready) left kept turned w)) (sym is) tt
+
+-- an archive that was not read whole
+unread_reading : (job : JobId) (e : ReadError) (kept turned : Option Books) (old new : Reading)
+    (answer : Result SubmitToolchainResult ServerFault) → Unread e old new answer → turned ≡ kept
+    → AnswersReading job kept turned old new answer
+unread_reading job read.Failed kept turned old new answer u same = record {
+  failed = λ n. (u.2, same);
+  long = by old.left;
+  whole = at old.left;
+}
+  where
+    by : (left : Option (List ℕ)) → IfSome left (λ left. 1073741824 < length left
+        → OnOk answer (answer ≡ Ok CannotCache) × (turned ≡ kept))
+    by None = tt
+    by (Some left) = λ l. (subst (λ w. OnOk w (w ≡ Ok CannotCache)) (sym u.2) refl, same)
+
+    at : (left : Option (List ℕ)) → IfSome left (λ left. length left ≤ 1073741824
+        → ¬ Rose old.faults new.faults
+        → OnOk answer ((ready : UpdateJobStateResult) × Ends job (Ok ready) left kept turned answer))
+    at None = tt
+    at (Some left) = λ l n. absurd (n u.0)
+unread_reading job read.TooLong kept turned old new answer u same = record {
+  failed = λ n. (u.3, same);
+  long = by old.left;
+  whole = at old.left u.1;
+}
+  where
+    by : (left : Option (List ℕ)) → IfSome left (λ left. 1073741824 < length left
+        → OnOk answer (answer ≡ Ok CannotCache) × (turned ≡ kept))
+    by None = tt
+    by (Some left) = λ l. (subst (λ w. OnOk w (w ≡ Ok CannotCache)) (sym u.3) refl, same)
+
+    at : (left : Option (List ℕ)) → IfSome left (λ left. 1073741824 < length left)
+        → IfSome left (λ left. length left ≤ 1073741824 → ¬ Rose old.faults new.faults
+        → OnOk answer ((ready : UpdateJobStateResult) × Ends job (Ok ready) left kept turned answer))
+    at None m = tt
+    at (Some left) m = λ l n. absurd (omega (arith, l, m))
+unread_reading job read.Memory kept turned old new answer u same =
+    none_read job kept turned old new answer fault.Memory u.2 same u.0
+
+-- an archive that was read whole
+whole_reading : (job : JobId) (x : UpdateJobStateResult) (bytes : List ℕ) (kept turned : Option Books)
+    (old new : Reading) (answer : Result SubmitToolchainResult ServerFault) → IsWhole bytes old new
+    → Ends job (Ok x) bytes kept turned answer → AnswersReading job kept turned old new answer
+whole_reading job x bytes kept turned old new answer w ends = record {
+  failed = λ n. absurd (n w.steady);
+  long = by old.left w.all;
+  whole = at old.left w.all;
+}
+  where
+    by : (left : Option (List ℕ)) → Took bytes left new.left
+        → IfSome left (λ left. 1073741824 < length left
+        → OnOk answer (answer ≡ Ok CannotCache) × (turned ≡ kept))
+    by None t = tt
+    by (Some left) t = λ l. let e = all_left bytes left new.left t w.at_end in
+        let s : length bytes ≤ 1073741824 = w.short in
+        absurd (omega (arith, l, subst (λ b. length b ≤ 1073741824) e s))
+
+    at : (left : Option (List ℕ)) → Took bytes left new.left
+        → IfSome left (λ left. length left ≤ 1073741824 → ¬ Rose old.faults new.faults
+        → OnOk answer ((ready : UpdateJobStateResult) × Ends job (Ok ready) left kept turned answer))
+    at None t = tt
+    at (Some left) t = λ l n. let e = all_left bytes left new.left t w.at_end in
+        on_ok answer _ (x, subst (λ b. Ends job (Ok x) b kept turned answer) e ends)
+
+fetches_reading : (job : JobId) (x : UpdateJobStateResult) (fetched : Result (List ℕ) ReadError)
+    (kept turned : Option Books) (old new : Reading) (answer : Result SubmitToolchainResult ServerFault)
+    → Fetches job (Ok x) fetched kept turned old new answer → AnswersReading job kept turned old new answer
+fetches_reading job x (Ok bytes) kept turned old new answer f =
+    whole_reading job x bytes kept turned old new answer f.0 f.1
+fetches_reading job x (Err e) kept turned old new answer f =
+    unread_reading job e kept turned old new answer f.0 f.1
+
+submitting_reading : (job : JobId) (ready : Update) (kept turned : Option Books) (old new : Reading)
+    (answer : Result SubmitToolchainResult ServerFault) → Submitting job ready kept turned old new answer
+    → AnswersReading job kept turned old new answer
+submitting_reading job (Ok x) kept turned old new answer s =
+    fetches_reading job x s.0 kept turned old new answer s.1
+submitting_reading job (Err e) kept turned old new answer s =
+    none_read job kept turned old new answer (fault_of e) s.0 s.1 (ap (λ w. w.faults) s.2)
+
 pub submissions_told : (says : Peer → Updated → Asked → Type 0) → SubmissionsAreTold says
-submissions_told says job kept turned before after old new answer s =
-    submitting_ready says job s.ready kept turned before after old new answer s.reported s.submitting
+submissions_told says job kept turned before after old new answer s = record {
+  ready = submitting_ready says job s.ready kept turned before after old new answer s.reported s.submitting;
+  reading = submitting_reading job s.ready kept turned old new answer s.submitting;
+}

@@ -1,5 +1,5 @@
 -- What follows for a reader from what a running server's calls leave.
-use Rattle.std.specs.Prelude.{◌≡◌, ◌⊎◌, ◌++◌, [], ◌∷◌, ℕ, List, Option, Result, Ok, Err}
+use Rattle.std.specs.Prelude.{◌≡◌, ◌≢◌, ◌≤◌, ◌<◌, ◌⊎◌, ◌++◌, [], ◌∷◌, ℕ, List, length, Option, IfSome, Result, Ok, Err, OnOk}
 use Rattle.std.specs.Option.{option_map}
 use Rattle.dist_types.specs.Builder.{built_row}
 use Rattle.dist_types.specs.Cause.{Rose}
@@ -17,7 +17,8 @@ use Rattle.dist_types.specs.declared.results.SubmitToolchainResult.{SubmitToolch
 use Rattle.dist_types.specs.declared.results.UpdateJobStateResult.{UpdateJobStateResult}
 use Rattle.build_server.specs.Books.{Books}
 use Rattle.build_server.specs.Builds.{Order, Builder, complete_of}
-use Rattle.build_server.specs.Rows.{Reports, Reading, IsSubmitOn, IsRunOn}
+use Rattle.dist_types.specs.declared.results.SubmitToolchainResult.TheVariants.{CannotCache}
+use Rattle.build_server.specs.Rows.{Reports, Reading, Ends, IsSubmitOn, IsRunOn}
 use Rattle.build_server.specs.Rules.{Update}
 use Rattle.build_server.specs.declared.fault.BuildCause.TheVariants as cause
 use Rattle.build_server.specs.declared.fault.ServerFault.{ServerFault}
@@ -100,8 +101,27 @@ AnswersReady job old new (Err fault.Memory) = (new.rows ≡ old.rows)
 AnswersReady job old new (Err (fault.BuildFailed c)) = ⊥
 AnswersReady job old new (Err (fault.AlreadyAssigned j)) = ⊥
 
+-- What a submission's answer says of its reader. Where the count of faults changed, a read failed: the answer
+-- is CannotCache, whatever is held, and nothing is stored. So it is where the reader tells that more than
+-- 1,073,741,824 bytes were left, unless Ready was not accepted or memory ran out. Where it tells that no more
+-- were left, and no read failed, what the submission ended with is all of it.
+pub record AnswersReading (job : JobId) (kept turned : Option Books) (old new : Reading)
+    (answer : Result SubmitToolchainResult ServerFault) : Type 0 where
+  pub failed : new.faults ≢ old.faults → (answer ≡ Ok CannotCache) × (turned ≡ kept)
+  pub long : IfSome old.left (λ left. 1073741824 < length left
+      → OnOk answer (answer ≡ Ok CannotCache) × (turned ≡ kept))
+  pub whole : IfSome old.left (λ left. length left ≤ 1073741824 → ¬ Rose old.faults new.faults
+      → OnOk answer ((ready : UpdateJobStateResult) × Ends job (Ok ready) left kept turned answer))
+
+-- a submission's answer is what its row and its reader say
+pub record SubmissionIsTold (job : JobId) (kept turned : Option Books) (before after : Reports)
+    (old new : Reading) (answer : Result SubmitToolchainResult ServerFault) : Type 0 where
+  pub ready : AnswersReady job before after answer
+  pub reading : AnswersReading job kept turned old new answer
+
 abbrev pub SubmissionsAreTold : (Peer → Updated → Asked → Type 0) → Type 0
 SubmissionsAreTold says = (job : JobId) (kept turned : Option Books) (before after : Reports)
     (old new : Reading)
     (answer : Result SubmitToolchainResult ServerFault)
-    → IsSubmitOn says job kept turned before after old new answer → AnswersReady job before after answer
+    → IsSubmitOn says job kept turned before after old new answer
+    → SubmissionIsTold job kept turned before after old new answer

@@ -2,7 +2,7 @@
 -- they were given.
 use Rattle.std.specs.Prelude.{◌≡◌, ◌≢◌, ◌≤◌, ◌<◌, ℕ, List, length, Option, IfSome, Result, Ok, Err, OnOk}
 use Rattle.dist_types.specs.Cause.{Rose}
-use Rattle.dist_types.specs.Content.{Recorded, KeptOrRecorded, IsAtEnd}
+use Rattle.dist_types.specs.Content.{Recorded, KeptOrRecorded, IsAtEnd, TookFront, left_behind}
 use Rattle.dist_types.specs.Content as content
 use Rattle.dist_types.specs.Outgoing.{Updated, Lent, Peer, Calls, updated_row}
 use Rattle.dist_types.specs.declared.dialer.Asked.{Asked}
@@ -55,19 +55,24 @@ pub record Reading : Type 0 where
 abbrev pub reading : {R : Type 0} → (R → Option (List ℕ)) → (R → ℕ) → R → Reading
 reading left faults reader = record { left = left reader; faults = faults reader }
 
--- all that was left was read, no more than 1,073,741,824 bytes
+-- all that was left was read, no more than 1,073,741,824 bytes, and no read failed
 pub record IsWhole (bytes : List ℕ) (old new : Reading) : Type 0 where
   pub all : content.Taken bytes old.left new.left
   pub at_end : IsAtEnd new.left
   pub short : length bytes ≤ 1073741824
+  pub steady : new.faults ≡ old.faults
 
--- why not all was read, and what is answered: a read failed, or too much came, and then the toolchain
--- cannot be kept; or memory ran out
+-- Why not all was read, what is left, and what is answered: a read failed, which the count shows, behind a
+-- front of what was left; or more came than is taken, and was read to one byte past that: then the toolchain
+-- cannot be kept. Or memory ran out.
 abbrev pub Unread : ReadError → Reading → Reading → Result SubmitToolchainResult ServerFault → Type 0
-Unread read.Failed old new answer = Rose old.faults new.faults × (answer ≡ Ok CannotCache)
-Unread read.TooLong old new answer = IfSome old.left (λ left. 1073741824 < length left)
+Unread read.Failed old new answer = Rose old.faults new.faults × TookFront old.left new.left
     × (answer ≡ Ok CannotCache)
-Unread read.Memory old new answer = answer ≡ Err fault.Memory
+Unread read.TooLong old new answer = (new.faults ≡ old.faults)
+    × IfSome old.left (λ left. 1073741824 < length left)
+    × (new.left ≡ left_behind 1073741825 old.left) × (answer ≡ Ok CannotCache)
+Unread read.Memory old new answer = (new.faults ≡ old.faults) × TookFront old.left new.left
+    × (answer ≡ Err fault.Memory)
 
 -- what a submission answers, by how it ended
 abbrev pub submit_answer : Result Submitted ServerFault → Result SubmitToolchainResult ServerFault

@@ -97,9 +97,10 @@ fn fetch<K: Keeping, R: Source>(
     ready: UpdateJobStateResult,
     reader: &mut R,
 ) -> Result<SubmitToolchainResult, ServerFault>
-    ensures { (fetched : Result (List ℕ) Unread) × Fetches submit (Ok ready) fetched
+    ensures fetches { (fetched : Result (List ℕ) Unread) × Fetches submit (Ok ready) fetched
         (K.kept keeper.old) (K.kept keeper.new)
         (reading R.left R.faults reader.old) (reading R.left R.faults reader.new) result }
+    ensures apart { R.apart reader.new ≡ R.apart reader.old }
 {
     match read_whole(alloc, reader, MAX_ARCHIVE) {
         Ok(archive) => end_with(keeper, submit, ready, &archive),
@@ -122,6 +123,7 @@ pub fn submit_from<K: Keeping, O: ServerOutgoing, R: Source>(
     ensures submit { IsSubmitOn O.says job_id (K.kept keeper.old) (K.kept keeper.new)
         (reports O.updated O.faults O.lent requester.old) (reports O.updated O.faults O.lent requester.new)
         (reading R.left R.faults reader.old) (reading R.left R.faults reader.new) result }
+    ensures apart { R.apart reader.new ≡ R.apart reader.old }
 {
     let submit = keeper.begin_submit(job_id);
     match requester.do_update_job_state(job_id, JobState::Ready) {
@@ -130,20 +132,21 @@ pub fn submit_from<K: Keeping, O: ServerOutgoing, R: Source>(
     }
 }
 
-/// The same over a reader that is handed in, which ends as some reader.
-pub fn submit_on<K: Keeping, O: ServerOutgoing, R: Source + Drop>(
+/// The same over the reader of an archive, which is lent: what is left of it is told.
+pub fn submit_on<K: Keeping, O: ServerOutgoing, R: Source>(
     alloc: Global,
     keeper: &mut K,
     requester: &mut O,
     job_id: JobId,
-    tc_rdr: ToolchainReader<R>,
+    tc_rdr: ToolchainReader<&mut R>,
 ) -> Result<SubmitToolchainResult, ServerFault>
-    ensures submit { (after : R) × IsSubmitOn O.says job_id (K.kept keeper.old) (K.kept keeper.new)
+    ensures submit { IsSubmitOn O.says job_id (K.kept keeper.old) (K.kept keeper.new)
         (reports O.updated O.faults O.lent requester.old) (reports O.updated O.faults O.lent requester.new)
-        (reading R.left R.faults tc_rdr.0) (reading R.left R.faults after) result }
+        (reading R.left R.faults tc_rdr.entry.0.now) (reading R.left R.faults tc_rdr.exit.0.now) result }
+    ensures apart { R.apart tc_rdr.exit.0.now ≡ R.apart tc_rdr.entry.0.now }
 {
-    let mut reader = tc_rdr.0;
-    submit_from(alloc, keeper, requester, job_id, &mut reader)
+    let ToolchainReader(reader) = tc_rdr;
+    submit_from(alloc, keeper, requester, job_id, reader)
 }
 
 /// A build that is asked for, under a job.

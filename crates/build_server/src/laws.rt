@@ -11,7 +11,9 @@ pub fn runs_are_told<O: ServerOutgoing>()
     ensures { RunsAreTold O.says }
 {}
 
-/// A submission reports Ready once, and answers UpdateFailed exactly where that is not accepted.
+/// A submission reports Ready once, and answers UpdateFailed exactly where that is not accepted. Where a read
+/// failed, which the reader's count shows, or more than 1,073,741,824 bytes came, it answers CannotCache,
+/// whatever is held, and nothing is stored; else it ends with all that the reader had left.
 pub fn submissions_are_told<O: ServerOutgoing>()
     ensures { SubmissionsAreTold O.says }
 {}

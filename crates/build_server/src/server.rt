@@ -94,18 +94,22 @@ pub trait ServerIncoming {
     ) -> Result<AssignJobResult, ServerFault>
         ensures tells { TellsAssign job_id result };
 
-    /// Takes a toolchain that is submitted under a job, as `submit_on` does.
-    fn handle_submit_toolchain<W: Wait, O: ServerOutgoing, R: Source + Drop>(
+    /// Takes a toolchain that is submitted under a job, as `submit_on` does: the reader is lent, and read to its
+    /// end after Ready was accepted. Where a read failed, which its count shows, or more than 1,073,741,824 bytes
+    /// came, the answer is CannotCache, whatever is held, and nothing is stored.
+    fn handle_submit_toolchain<W: Wait, O: ServerOutgoing, R: Source>(
         &self,
         rt: &W,
         requester: &mut O,
         job_id: JobId,
-        tc_rdr: ToolchainReader<R>,
+        tc_rdr: ToolchainReader<&mut R>,
     ) -> Result<SubmitToolchainResult, ServerFault>
-        ensures submit { (after : R) × IsSubmitOn O.says job_id None None
+        ensures submit { IsSubmitOn O.says job_id None None
             (reports O.updated O.faults O.lent requester.old)
             (reports O.updated O.faults O.lent requester.new)
-            (reading R.left R.faults tc_rdr.0) (reading R.left R.faults after) result };
+            (reading R.left R.faults tc_rdr.entry.0.now)
+            (reading R.left R.faults tc_rdr.exit.0.now) result }
+        ensures apart { R.apart tc_rdr.exit.0.now ≡ R.apart tc_rdr.entry.0.now };
 
     /// Runs a job, as `run_on` does.
     fn handle_run_job<W: Wait, O: ServerOutgoing, B: BuilderIncoming>(
@@ -136,12 +140,12 @@ impl<F: Folder> ServerIncoming for Server<F> {
         assign_on(&mut self.keeper(rt), job_id, tc)
     }
 
-    fn handle_submit_toolchain<W: Wait, O: ServerOutgoing, R: Source + Drop>(
+    fn handle_submit_toolchain<W: Wait, O: ServerOutgoing, R: Source>(
         &self,
         rt: &W,
         requester: &mut O,
         job_id: JobId,
-        tc_rdr: ToolchainReader<R>,
+        tc_rdr: ToolchainReader<&mut R>,
     ) -> Result<SubmitToolchainResult, ServerFault> {
         submit_on(self.alloc, &mut self.keeper(rt), requester, job_id, tc_rdr)
     }

@@ -45,7 +45,7 @@ setup_apart s is = is.apart
 same_text : (v bytes text : List ℕ) → script v ≡ script bytes → IsReadText v text → IsRunText bytes text
 same_text v bytes text e r =
     let said = (script_is_said bytes r.setup r.events).0 (sym e ∙ r.read) in
-    record { setup = r.setup; events = r.events; entries = r.entries; fine = said.0; says = said.1; each = r.each; lawful = r.lawful; builds = r.builds; is = r.is }
+    record { setup = r.setup; events = r.events; entries = r.entries; fine = said.0; says = said.1; each = r.each; lawful = r.lawful; builds = r.builds; reliable = r.reliable; is = r.is }
 
 pub text_added : (o : Option (List ℕ)) (v text : List ℕ) (old new : Option (List ℕ)) → IfSome o (λ bytes. script v ≡ script bytes) → IsReadText v text → Added text old new
     → IfSome o (λ bytes. (t : List ℕ) × IsRunText bytes t × Added t old new)

@@ -1,5 +1,5 @@
 -- Each build goes on from an accepted start of a run request, and no job is built twice.
-use Rattle.std.proofs.Common.{◌≡◌, inl, inr, ℕ, zero, suc, ◌+◌, ◌<◌, ◌≤◌, ◌^◌, ◌||◌, ◌==◌, not, Bool, true, false, cond, List, [], ◌∷◌, ◌++◌, length, take, drop, codes, Option, Some, None, Result, Ok, Err, refl, ap, ◌∙◌, sym, subst, arith}
+use Rattle.std.proofs.Common.{◌≡◌, inl, inr, ℕ, zero, suc, ◌+◌, ◌<◌, ◌≤◌, ◌^◌, ◌||◌, ◌==◌, not, Bool, true, false, cond, List, [], ◌∷◌, length, map, take, drop, codes, Option, Some, None, Result, Ok, Err, refl, ap, ◌∙◌, sym, subst, arith}
 use Rattle.std.specs.Prelude.{slice_get, find, is_some, ⊤}
 use Rattle.std.specs.List.{AllByRecursion, list_any, cons_option}
 use Rattle.std.specs.Option.{option_map}
@@ -87,14 +87,15 @@ use Rattle.farm_run.specs.Builds.{SettlesCall, build_by, IsBuild, AreBuiltOnce, 
 use Rattle.farm_run.specs.Calls.{call_at, delivered_by, delivery_at, settles_by, is_void, waiting_at}
 use Rattle.farm_run.specs.Effects.{word_effect, effect_of, entry_of}
 use Rattle.farm_run.specs.Farm.{Farmed, Runs}
-use Rattle.farm_run.specs.Next.{GoesOn, IsSettled, IsMade, IsNext, EachNext}
+use Rattle.farm_run.specs.Next.{GoesOn, IsSettled, IsMade, IsNext, EachNext, IsRun}
 use Rattle.farm_run.specs.Seen.{core_log, core_of, serves}
 use Rattle.farm_run.specs.Served.{assigned, served, told_of, books_of, state_call, run_outcome}
 use Rattle.farm_run.specs.Servers.{ServerNow, server_of, server_at, server_now, is_over}
 use Rattle.farm_run.specs.Settled.{IsUpdated, assignment_end, running, ready_end, started_end, complete_end, Reports, Lives, ReportsIn}
 use Rattle.farm_run.specs.Ways.{Way, server_way, caller_by, caller_of, target_of, delivery_way, return_way, is_inside, beat_way, restart_way, way_of, brought_at, to_nothing, to_nobody, to_scheduler, to_server, to_call, to_beat, to_restart}
 use Rattle.farm_run.proofs.NextLemmas.{settles_it, way_settles, runs_lawful}
-use Rattle.farm_run.proofs.ReportLemmas.{started_asked, told_accepted}
+use Rattle.farm_run.proofs.ReportLemmas.{state_asked, told_accepted}
+use Rattle.farm_run.proofs.RunLemmas.{Runs-is}
 use Rattle.farm_run.proofs.ServerLemmas.{server_setup}
 use Rattle.farm_run.proofs.SettleLemmas.{take_take, get_front, get_take, next_at, each_front, settled_once}
 use Rattle.farm_run.proofs.StartedLemmas.{starts_by, once, was_ready}
@@ -102,7 +103,7 @@ use Rattle.farm_run.proofs.TakenLemmas.{held_took}
 
 -- ---- lists
 
-mapped : {A B : Type 0} (f : A → B) (o : Option A) (y : B) → option_map f o ≡ Some y → (x : A) × (o ≡ Some x) × (f x ≡ y)
+pub mapped : {A B : Type 0} (f : A → B) (o : Option A) (y : B) → option_map f o ≡ Some y → (x : A) × (o ≡ Some x) × (f x ≡ y)
 mapped f None y e = absurd cc
 mapped f (Some x) y e = (x, refl, same_Some (f x) y e)
 
@@ -118,7 +119,7 @@ find_has {X = X} P p (y ∷ ys) x all e = by_test (p y) refl (find_has P p ys x 
     by_test true is rest e = subst (λ (z : X). P z × (p z ≡ true)) (same_Some y x e) (all.0, is)
     by_test false is rest e = rest e
 
-get_past : {X : Type 0} (xs : List X) (n m : ℕ) → m ≤ n → slice_get (take m xs) n ≡ None
+pub get_past : {X : Type 0} (xs : List X) (n m : ℕ) → m ≤ n → slice_get (take m xs) n ≡ None
 get_past [] n zero h = refl
 get_past [] n (suc m) h = refl
 get_past (x ∷ xs) n zero h = refl
@@ -140,14 +141,14 @@ core_among p (x ∷ xs) (suc n) (suc m) e c lt at is on = by_core x.core (core_a
 
 -- ---- the server at an address
 
-record Found (setup : Setup) (log : List Entry) (addr : Addr) (s : ServerNow) : Type 0 where
-  server : SetupServer
-  found : server_at setup addr ≡ Some server
-  is : server_of server log ≡ s
-  at : server.addr ≡ addr
-  own : s.setup.addr ≡ addr
+pub record Found (setup : Setup) (log : List Entry) (addr : Addr) (s : ServerNow) : Type 0 where
+  pub server : SetupServer
+  pub found : server_at setup addr ≡ Some server
+  pub is : server_of server log ≡ s
+  pub at : server.addr ≡ addr
+  pub own : s.setup.addr ≡ addr
 
-found_now : (setup : Setup) (log : List Entry) (addr : Addr) (s : ServerNow) → server_now setup log addr ≡ Some s → Found setup log addr s
+pub found_now : (setup : Setup) (log : List Entry) (addr : Addr) (s : ServerNow) → server_now setup log addr ≡ Some s → Found setup log addr s
 found_now setup log addr s e =
     let m = mapped (λ (x : SetupServer). server_of x log) (server_at setup addr) s e in
     let at : m.0.addr ≡ addr = same_is m.0.addr addr (find_has (λ x. Unit {0}) (λ (x : SetupServer). same_addr x.addr addr) setup.servers m.0 (every setup.servers) m.1).1 in
@@ -160,7 +161,7 @@ found_now setup log addr s e =
     }
 
 -- its address is one
-found_addr : (setup : Setup) (log : List Entry) (addr : Addr) (s : ServerNow) → HasWords setup → Found setup log addr s → IsAddr addr
+pub found_addr : (setup : Setup) (log : List Entry) (addr : Addr) (s : ServerNow) → HasWords setup → Found setup log addr s → IsAddr addr
 found_addr setup log addr s words f =
     subst IsAddr f.at (find_has (λ (x : SetupServer). IsAddr x.addr) (λ (x : SetupServer). same_addr x.addr addr) setup.servers f.server words.servers f.found).0
 
@@ -357,7 +358,7 @@ module _ (verdict : ℕ → List ℕ → Result ⊤ TokenError) (r : Request) (j
       by_jobs None None (Some j) at_u h = run_shows j at_u h
       by_jobs None None None at_u h = absurd cc
 
-run_asked : (verdict : ℕ → List ℕ → Result ⊤ TokenError) (bytes : List ℕ) (a : ServerAsked) (job : JobId) (run : RunJobHttpRequest) (place : ℕ) → IsServerAsked verdict bytes a → a.what ≡ server_asked.Run job run place
+pub run_asked : (verdict : ℕ → List ℕ → Result ⊤ TokenError) (bytes : List ℕ) (a : ServerAsked) (job : JobId) (run : RunJobHttpRequest) (place : ℕ) → IsServerAsked verdict bytes a → a.what ≡ server_asked.Run job run place
     → (r : Request) × IsRequest bytes r × NamesJob r run_front job × ShowsJob r verdict job
 run_asked verdict bytes a job run place (inr (none, e)) is =
     let no = sym (ap (λ (c : ServerAsked). c.what) e) ∙ is in
@@ -446,30 +447,30 @@ way_comes : (b : Bool) (peer : Addr) (bytes bs : List ℕ) (o : Option ServerNow
 way_comes true peer bytes bs o s e = absurd cc
 way_comes false peer bytes bs o s e = server_comes bytes bs o s e
 
-no_return : (o : Option (ℕ × List ℕ)) (s : ServerNow) (bytes : List ℕ) → return_way o ≡ to_server s bytes → ⊥
+pub no_return : (o : Option (ℕ × List ℕ)) (s : ServerNow) (bytes : List ℕ) → return_way o ≡ to_server s bytes → ⊥
 no_return None s bytes e = cc
 no_return (Some p) s bytes e = cc
 
-no_outside : (b : Bool) (c : ℕ) (bs : List ℕ) (s : ServerNow) (bytes : List ℕ) → cond b to_nothing (to_call c (Some bs)) ≡ to_server s bytes → ⊥
+pub no_outside : (b : Bool) (c : ℕ) (bs : List ℕ) (s : ServerNow) (bytes : List ℕ) → cond b to_nothing (to_call c (Some bs)) ≡ to_server s bytes → ⊥
 no_outside true c bs s bytes e = cc
 no_outside false c bs s bytes e = cc
 
-no_beat : (o : Option ServerNow) (s : ServerNow) (bytes : List ℕ) → beat_way o ≡ to_server s bytes → ⊥
+pub no_beat : (o : Option ServerNow) (s : ServerNow) (bytes : List ℕ) → beat_way o ≡ to_server s bytes → ⊥
 no_beat None s bytes e = cc
 no_beat (Some t) s bytes e = cc
 
-no_restart : (key : List ℕ) (nonce : ℕ) (o : Option ServerNow) (s : ServerNow) (bytes : List ℕ) → restart_way key nonce o ≡ to_server s bytes → ⊥
+pub no_restart : (key : List ℕ) (nonce : ℕ) (o : Option ServerNow) (s : ServerNow) (bytes : List ℕ) → restart_way key nonce o ≡ to_server s bytes → ⊥
 no_restart key nonce None s bytes e = cc
 no_restart key nonce (Some t) s bytes e = cc
 
-call_later : (entries : List Entry) (c n d : ℕ) (oc : OutCall) → n < d → call_at (take n entries) c ≡ Some oc → call_at (take d entries) c ≡ Some oc
+pub call_later : (entries : List Entry) (c n d : ℕ) (oc : OutCall) → n < d → call_at (take n entries) c ≡ Some oc → call_at (take d entries) c ≡ Some oc
 call_later entries c n d oc lt is =
     let a = bind_some (slice_get (take n entries) c) _ oc is in
     let g = get_front entries c n a.0 a.1 in
     ap (λ (o : Option Entry). o >>= λ e. e.call) (get_take entries c d (omega (arith, lt, g.0)) ∙ g.1) ∙ a.2
 
 -- who makes the call of an entry whose event comes to a server is that server
-caller_is : (setup : Setup) (entries : List Entry) (n d : ℕ) (step : Option Step) (k : EventKind) (s : ServerNow) (bytes : List ℕ) → n < d → way_of setup (take n entries) k ≡ to_server s bytes
+pub caller_is : (setup : Setup) (entries : List Entry) (n d : ℕ) (step : Option Step) (k : EventKind) (s : ServerNow) (bytes : List ℕ) → n < d → way_of setup (take n entries) k ≡ to_server s bytes
     → caller_by setup (take d entries) step k ≡ s.setup.addr
 caller_is setup entries n d step (Brings target peer bs) s bytes lt e =
     sym (found_now setup (take n entries) target s (way_comes (same_addr target setup.scheduler.addr) peer bytes bs (server_now setup (take n entries) target) s e)).own
@@ -528,13 +529,13 @@ module _ (setup : Setup) (words : HasWords setup) (entries : List Entry) (n : �
       let s = core_of setup (take d entries) in
       let (a, shown, x_is) = subst (λ (w : Way). IsMade setup (take d entries) e.event.at w x) (arrives lt) made in
       let wanted : Asked = record { what = asked.Update server job Started; json = false } in
-      let one : a ≡ wanted = one_question (equal_admission setup.scheduler.client) (serves setup.scheduler.auth) sent.bytes server a wanted shown (started_asked setup server job words is_addr fits) in
+      let one : a ≡ wanted = one_question (equal_admission setup.scheduler.client) (serves setup.scheduler.auth) sent.bytes server a wanted shown (state_asked setup server job Started words is_addr fits) in
       let answer = advance (open_rows s.log) server job Started in
       let same : x ≡ answer_to s (length (take d entries)) e.event.at false (asked.Update server job Started) =
       x_is ∙ ap (λ (c : Asked). answer_to s (length (take d entries)) e.event.at c.json c.what) one in
       let reply_is : r.bytes ≡ reply_text (update_reply false answer server job Started) =
       ap (λ (y : Reply). y.bytes) (same_Some r _ (sym replies ∙ ap (λ (y : Entry). y.reply) is ∙ ap (λ (z : Effect). z.reply) same)) in
-      let accepted : answer ≡ Accepted = told_accepted update_at false answer server job u fits is_addr (subst (λ (b : List ℕ). IsAnswer update_at b (Ok u)) reply_is is_told) in
+      let accepted : answer ≡ Accepted = told_accepted update_at false answer server job Started u fits is_addr (subst (λ (b : List ℕ). IsAnswer update_at b (Ok u)) reply_is is_told) in
       record {
         before = lt;
         entry = e;
@@ -564,15 +565,15 @@ deliver_kind (Beat server) n e = absurd cc
 deliver_kind (Restart server key nonce) n e = absurd cc
 
 -- the parts of a delivery that got a reply
-record Delivered (log : List Entry) (d n : ℕ) (bytes : List ℕ) : Type 0 where
-  entry : Entry
-  there : slice_get log d ≡ Some entry
-  delivers : entry.event.kind ≡ Deliver n
-  reply : Reply
-  replies : entry.reply ≡ Some reply
-  text : reply.bytes ≡ bytes
+pub record Delivered (log : List Entry) (d n : ℕ) (bytes : List ℕ) : Type 0 where
+  pub entry : Entry
+  pub there : slice_get log d ≡ Some entry
+  pub delivers : entry.event.kind ≡ Deliver n
+  pub reply : Reply
+  pub replies : entry.reply ≡ Some reply
+  pub text : reply.bytes ≡ bytes
 
-delivered : (log : List Entry) (d n : ℕ) (bytes : List ℕ) → ◌≡◌ {A = Option (ℕ × List ℕ)} (delivery_at log d) (Some (n, bytes)) → Delivered log d n bytes
+pub delivered : (log : List Entry) (d n : ℕ) (bytes : List ℕ) → ◌≡◌ {A = Option (ℕ × List ℕ)} (delivery_at log d) (Some (n, bytes)) → Delivered log d n bytes
 delivered log d n bytes e =
     let p = bind_some (slice_get log d) (λ x. delivered_by x.event.kind >>= λ c. x.reply >>= λ r. Some (c, r.bytes)) (n, bytes) e in
     let q = bind_some (delivered_by p.0.event.kind) (λ c. p.0.reply >>= λ r. Some (c, r.bytes)) (n, bytes) p.2 in
@@ -754,18 +755,18 @@ are_builds setup events entries fits words each = record {
   settled = λ n. settled_once setup (take n events) (take n entries) (each_front setup [] events entries n each);
 }
 
--- the entries of a farm that ran events from none
+-- the entries of a farm that ran events
+pub run_builds : (setup : Setup) (entries : List Entry) → setup.scheduler.count < 2 ^ 64 → (HasToken setup.scheduler.auth → HasWords setup) → IsRun setup entries → HasToken setup.scheduler.auth → AreBuilds setup entries
+run_builds setup entries fits words run token = are_builds setup (map (λ (e : Entry). e.event) entries) entries fits (words token) run
+
 pub Runs-builds : (old : Farmed) (events : List Event) (new : Farmed) → old.setup.scheduler.count < 2 ^ 64 → (HasToken old.setup.scheduler.auth → HasWords old.setup) → Runs old events new
-    → old.entries ≡ [] → HasToken old.setup.scheduler.auth → AreBuilds new.setup new.entries
-Runs-builds old events new fits words run none token =
-    let each : EachNext old.setup [] events run.0 = subst (λ (es : List Entry). EachNext old.setup es events run.0) none run.1 in
-    let builds : AreBuilds old.setup run.0 = are_builds old.setup events run.0 fits (words token) each in
-    let same : old.entries ++ run.0 ≡ run.0 = ap (λ (es : List Entry). es ++ run.0) none in
-    subst (λ (f : Farmed). AreBuilds f.setup f.entries) (sym run.2) (subst (λ (es : List Entry). AreBuilds old.setup es) (sym same) builds)
+    → IsRun new.setup new.entries → HasToken old.setup.scheduler.auth → AreBuilds new.setup new.entries
+Runs-builds old events new fits words run is token =
+    let same : new.setup ≡ old.setup = ap (λ (f : Farmed). f.setup) run.2 in
+    let own : IsRun old.setup new.entries = subst (λ (s : Setup). IsRun s new.entries) same is in
+    subst (λ (s : Setup). AreBuilds s new.entries) (sym same) (run_builds old.setup new.entries fits words own token)
 
 -- the same of the entries that were handed back
 pub Runs-stopped : (old : Farmed) (events : List Event) (mid : Farmed) (entries : List Entry) → old.setup.scheduler.count < 2 ^ 64 → (HasToken old.setup.scheduler.auth → HasWords old.setup) → Runs old events mid
-    → entries ≡ mid.entries → old.entries ≡ [] → HasToken old.setup.scheduler.auth → AreBuilds old.setup entries
-Runs-stopped old events mid entries fits words run same none token =
-    let builds = Runs-builds old events mid fits words run none token in
-    subst (λ (s : Setup). AreBuilds s entries) (ap (λ (f : Farmed). f.setup) run.2) (subst (λ (es : List Entry). AreBuilds mid.setup es) (sym same) builds)
+    → entries ≡ mid.entries → IsRun mid.setup mid.entries → HasToken old.setup.scheduler.auth → AreBuilds old.setup entries
+Runs-stopped old events mid entries fits words run same is token = run_builds old.setup entries fits words (Runs-is old events mid entries run same is) token

@@ -1,12 +1,15 @@
 pub mod BuildLemmas
 pub mod CallLemmas
+pub mod DecideLemmas
+pub mod GrantLemmas
 pub mod HexLemmas
 pub mod IdLemmas
 pub mod MadeLemmas
 pub mod NextLemmas
 pub mod NumberLemmas
 pub mod OneLemmas
-pub mod OwnLemmas
+pub mod ReliableLemmas
+pub mod RepliedLemmas
 pub mod ReportLemmas
 pub mod RowLemmas
 pub mod RunLemmas

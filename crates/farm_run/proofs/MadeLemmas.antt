@@ -48,7 +48,7 @@ use Rattle.farm_run.specs.Settled.{assignment_end, ready_end, started_end, compl
 use Rattle.farm_run.specs.Ways.{Way, way_of, brought_at, to_nothing, to_nobody, to_scheduler, to_server, to_call, to_beat, to_restart}
 use Rattle.farm_run.proofs.CallLemmas.{waiting-end}
 use Rattle.farm_run.proofs.NextLemmas.{call_ticket, settles_it, way_settles, sound_next}
-use Rattle.farm_run.proofs.RunLemmas.{core_of-push}
+use Rattle.farm_run.proofs.RunLemmas.{core_of-push, IsRun-push}
 use Rattle.farm_run.proofs.WaitLemmas.{call-end, kept-left, kept-settled, kept-push}
 
 -- ---- entries that settle nothing
@@ -228,7 +228,7 @@ report_loud : (setup : Setup) (life : ℕ) (bytes : List ℕ) (root : ℕ) (json
 report_loud setup life bytes root json reply t None x is = ap (λ (y : Effect). is_void y.word) is
 report_loud setup life bytes root json reply t (Some s) x is = lives_loud setup life s bytes root json reply t (is_over life s) x is
 
-goes_loud : (setup : Setup) (log : List Entry) (at root : ℕ) (json : Bool) (reply : Option (List ℕ)) (ask : Ask) (x : Effect) → GoesOn setup log at root json reply ask x → is_void x.word ≡ false
+pub goes_loud : (setup : Setup) (log : List Entry) (at root : ℕ) (json : Bool) (reply : Option (List ℕ)) (ask : Ask) (x : Effect) → GoesOn setup log at root json reply ask x → is_void x.word ≡ false
 goes_loud setup log at root json reply (Assign t) x is = ap (λ (y : Effect). is_void y.word) is.2 ∙ end_loud (core_of setup log) root json at t is.0
 goes_loud setup log at root json reply (Report server life t) x is = report_loud setup life (brought_at log root) root json reply t (server_now setup log server) x is
 
@@ -380,6 +380,7 @@ farm_next setup next s new log ps left sts after event m is made same core-is =
     let farm : IsFarm setup new (log ++ e ∷ []) (left ++ m.pending ∷ []) after = record {
       fits = is.fits;
       apart = is.apart;
+      run = IsRun-push setup log e is.run (m.effect, made.made, refl);
       core_is = core-is ∙ ap (λ (c : Core). with_core c m.effect.core) is.core_is ∙ core_of-push setup log e;
       sound = sound_next setup log event e is.fits is.sound (m.effect, made.made, refl);
       kept = kept-push setup log e left m.pending made.after;

@@ -1,5 +1,5 @@
 -- What the next entry adds, and what every run has.
-use Rattle.std.proofs.Common.{◌≡◌, inl, inr, ℕ, ◌+◌, ◌<◌, ◌≤◌, ◌^◌, Bool, true, false, cond, nat_le, List, [], ◌∷◌, ◌++◌, length, take, drop, Option, Some, None, Result, Ok, Err, refl, sym, ap, subst, ◌∙◌, append_assoc, append-nil}
+use Rattle.std.proofs.Common.{◌≡◌, inl, inr, ℕ, ◌+◌, ◌<◌, ◌≤◌, ◌^◌, Bool, true, false, cond, nat_le, List, [], ◌∷◌, ◌++◌, length, map, take, drop, Option, Some, None, Result, Ok, Err, refl, sym, ap, subst, ◌∙◌, append_assoc, append-nil}
 use Rattle.std.specs.Prelude.{slice_get}
 use Rattle.std.specs.Option.{option_map}
 use Rattle.std.proofs.lemmas.Bool.{cases_Bool, and_parts, leb-true, lt-ltb, eq-eqb}
@@ -64,12 +64,12 @@ use Rattle.farm_run.specs.Begun.{IsMadeBy, IsCallOf, completion_by, completion_o
 use Rattle.farm_run.specs.Calls.{call_at, delivery_at, settles_by, is_void, settled_at, waiting_at}
 use Rattle.farm_run.specs.Effects.{entry_of, effect_of, word_effect}
 use Rattle.farm_run.specs.Farm.{IsSound, IsLawful, AreLawful}
-use Rattle.farm_run.specs.Next.{GoesOn, IsSettled, IsMade, IsNext, EachNext}
+use Rattle.farm_run.specs.Next.{GoesOn, IsSettled, IsMade, IsNext, EachNext, IsRun}
 use Rattle.farm_run.specs.Seen.{core_log, core_of}
 use Rattle.farm_run.specs.Settled.{IsOutcome, assignment_end, ready_end, started_end, complete_end, Reports, ReportsIn, Lives}
 use Rattle.farm_run.specs.Tickets.{ticket_of, ticket_at}
 use Rattle.farm_run.specs.Ways.{Way, server_way, caller_of, delivery_way, return_way, is_inside, beat_way, restart_way, way_of, brought_at, to_nothing, to_nobody, to_scheduler, to_server, to_call, to_beat, to_restart}
-use Rattle.farm_run.proofs.OwnLemmas.{legal_front}
+use Rattle.sched_core.proofs.OwnLemmas.{legal_front}
 use Rattle.farm_run.proofs.SoundLemmas.{Adds, sound-step}
 
 -- ---- what an answer adds
@@ -369,3 +369,6 @@ are_lawful setup entries fits sound = λ n.
 
 pub runs_lawful : (setup : Setup) (events : List Event) (entries : List Entry) → setup.scheduler.count < 2 ^ 64 → EachNext setup [] events entries → AreLawful setup entries
 runs_lawful setup events entries fits each = are_lawful setup entries fits (sound_run setup [] events entries fits (sound_none setup) each)
+
+pub run_lawful : (setup : Setup) (entries : List Entry) → setup.scheduler.count < 2 ^ 64 → IsRun setup entries → AreLawful setup entries
+run_lawful setup entries fits run = runs_lawful setup (map (λ (e : Entry). e.event) entries) entries fits run

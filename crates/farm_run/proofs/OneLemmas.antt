@@ -41,14 +41,14 @@ use Rattle.farm_run.specs.Seen.{core_log, core_of, serves}
 use Rattle.farm_run.specs.Settled.{IsOutcome, assignment_end, IsUpdated, IsHeard, ready_end, started_end, complete_end, heard_as, Reports, Lives, ReportsIn}
 use Rattle.farm_run.specs.Ways.{Way, way_of, brought_at, to_nothing, to_nobody, to_scheduler, to_server, to_call, to_beat, to_restart}
 
-one_asked : (setup : Setup) (peer : Addr) (bytes : List ℕ) (a b : Asked) → Asks setup peer bytes a → Asks setup peer bytes b → a ≡ b
+pub one_asked : (setup : Setup) (peer : Addr) (bytes : List ℕ) (a b : Asked) → Asks setup peer bytes a → Asks setup peer bytes b → a ≡ b
 one_asked setup peer bytes a b p q = one_question (equal_admission setup.scheduler.client) (serves setup.scheduler.auth) bytes peer a b p q
 
 one_answer : (setup : Setup) (core : Core) (number at : ℕ) (peer : Addr) (bytes : List ℕ) (x y : Effect) → IsAnswered setup core number at peer bytes x → IsAnswered setup core number at peer bytes y → x ≡ y
 one_answer setup core number at peer bytes x y p q =
     p.2 ∙ ap (λ (a : Asked). answer_to core number at a.json a.what) (one_asked setup peer bytes p.0 q.0 p.1 q.1) ∙ sym q.2
 
-one_server_asked : (s : ServerNow) (bytes : List ℕ) (a b : ServerAsked) → AsksServer s bytes a → AsksServer s bytes b → a ≡ b
+pub one_server_asked : (s : ServerNow) (bytes : List ℕ) (a b : ServerAsked) → AsksServer s bytes a → AsksServer s bytes b → a ≡ b
 one_server_asked s bytes a b p q = one_asking (job_verdict s.key) bytes a b p q
 
 one_served : (setup : Setup) (s : ServerNow) (number : ℕ) (bytes : List ℕ) (x y : Effect) → IsServerAnswered setup s number bytes x → IsServerAnswered setup s number bytes y → x ≡ y
@@ -108,11 +108,11 @@ one_call setup log n p q a b =
 
 -- ---- settlements
 
-one_outcome : (reply : Option (List ℕ)) (a b : Result AssignJobResult CallFault) → IsOutcome reply a → IsOutcome reply b → a ≡ b
+pub one_outcome : (reply : Option (List ℕ)) (a b : Result AssignJobResult CallFault) → IsOutcome reply a → IsOutcome reply b → a ≡ b
 one_outcome None a b p q = p ∙ sym q
 one_outcome (Some bytes) a b p q = one_assignment bytes a b p q
 
-one_update : (reply : Option (List ℕ)) (a b : Result UpdateJobStateResult CallFault) → IsUpdated reply a → IsUpdated reply b → a ≡ b
+pub one_update : (reply : Option (List ℕ)) (a b : Result UpdateJobStateResult CallFault) → IsUpdated reply a → IsUpdated reply b → a ≡ b
 one_update None a b p q = p ∙ sym q
 one_update (Some bytes) a b p q = one_answer_at update_at bytes a b p q
 

@@ -72,7 +72,7 @@ each_front setup log (v ∷ vs) [] n each = absurd each
 
 -- ---- what an event that is to settle a call comes to
 
-way_back : (setup : Setup) (log : List Entry) (k : EventKind) (n : ℕ) (reply : Option (List ℕ)) → settles_by log k ≡ Some (n, reply) → (way_of setup log k ≡ to_call n reply) ⊎ (way_of setup log k ≡ to_nothing)
+pub way_back : (setup : Setup) (log : List Entry) (k : EventKind) (n : ℕ) (reply : Option (List ℕ)) → settles_by log k ≡ Some (n, reply) → (way_of setup log k ≡ to_call n reply) ⊎ (way_of setup log k ≡ to_nothing)
 way_back setup log (Request target peer bytes) n reply e = absurd cc
 way_back setup log (Deliver c) n reply e = absurd cc
 way_back setup log (Fail c) n reply e = inl (ap (λ (p : ℕ × Option (List ℕ)). to_call p.0 p.1) (same_Some _ _ e))
@@ -90,7 +90,7 @@ way_back setup log (Beat server) n reply e = absurd cc
 way_back setup log (Restart server key nonce) n reply e = absurd cc
 
 -- an effect that is void
-void : (event : Event) (x : Effect) (e : Entry) → e ≡ entry_of event x → x ≡ word_effect Void → is_void e.word ≡ false → ⊥
+pub void : (event : Event) (x : Effect) (e : Entry) → e ≡ entry_of event x → x ≡ word_effect Void → is_void e.word ≡ false → ⊥
 void event x e is made off = false≢true (sym off ∙ ap (λ (y : Entry). is_void y.word) is ∙ ap (λ (y : Effect). is_void y.word) made)
 
 -- what an entry settles waited

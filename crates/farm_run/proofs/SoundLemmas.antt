@@ -29,7 +29,7 @@ use Rattle.farm_run.specs.Farm.{IsSound}
 use Rattle.farm_script.proofs.WordLemmas.{guard_off}
 use Rattle.farm_run.proofs.CallLemmas.{get_left, get_end, waiting-push, waiting-end}
 use Rattle.farm_run.proofs.NumberLemmas.{numbers_rise, take_left, take_end}
-use Rattle.farm_run.proofs.OwnLemmas.{own-kept, own-made, one_number}
+use Rattle.sched_core.proofs.OwnLemmas.{own-kept, own-made, one_number}
 use Rattle.farm_run.proofs.RunLemmas.{core_log-push}
 
 -- ---- what an entry may add

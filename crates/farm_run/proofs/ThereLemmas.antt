@@ -1,17 +1,15 @@
--- No event is without a next entry over the entries of a farm.
+-- Each event has a next entry over the entries of a farm.
 use Rattle.std.proofs.Common.{◌≡◌, inl, inr, ℕ, Bool, true, false, List, length, drop, Option, Some, None, Result, Err, refl}
 use Rattle.dist_types.specs.declared.addr.Addr.{Addr}
 use Rattle.dist_types.specs.declared.outgoing.CallFault.{CallFault}
 use Rattle.dist_types.specs.declared.outgoing.CallFault.TheVariants.{Lost}
 use Rattle.dist_types.specs.declared.results.AssignJobResult.{AssignJobResult}
-use Rattle.sched_core.specs.Log.{Core}
-use Rattle.http_head.specs.Head.{IsNoRequest, IsNoReply}
 use Rattle.http_head.specs.declared.error.HttpError.TheVariants.{ParseError}
 use Rattle.http_routes.specs.declared.route.Asked.{Asked}
 use Rattle.dist_token.specs.Verdict.{job_verdict}
 use Rattle.dist_types.specs.declared.results.UpdateJobStateResult.{UpdateJobStateResult}
 use Rattle.dist_types.specs.declared.results.HeartbeatServerResult.{HeartbeatServerResult}
-use Rattle.dist_wire.specs.Reading.{update_at, heard_at}
+use Rattle.dist_wire.specs.Reading.{assign_at, update_at, heard_at}
 use Rattle.http_routes.specs.Admission.{equal_admission}
 use Rattle.http_routes.specs.Asked.{bad_question}
 use Rattle.http_routes.specs.Refusal.{refusal_response}
@@ -33,7 +31,7 @@ use Rattle.farm_run.specs.declared.entry.EntryWord.TheVariants.{Void, Down, Died
 use Rattle.farm_run.specs.declared.pending.Ask.{Ask}
 use Rattle.farm_run.specs.declared.pending.Ask.TheVariants.{Assign, Report}
 use Rattle.farm_run.specs.declared.pending.Pending.{Pending}
-use Rattle.farm_run.specs.Answers.{Asks, answer_to, IsAnswered}
+use Rattle.farm_run.specs.Answers.{Asks, answer_to}
 use Rattle.farm_run.specs.Begun.{IsCallOf}
 use Rattle.farm_run.specs.Calls.{waiting_at}
 use Rattle.farm_run.specs.Effects.{entry_of, word_effect, step_effect}
@@ -42,60 +40,69 @@ use Rattle.farm_run.specs.Next.{GoesOn, IsSettled, IsMade}
 use Rattle.farm_run.specs.Seen.{core_of, serves}
 use Rattle.farm_run.specs.Settled.{IsOutcome, assignment_end, IsUpdated, IsHeard, ready_end, started_end, complete_end, heard_as, Reports, Lives, ReportsIn}
 use Rattle.farm_run.specs.Ways.{Way, way_of, brought_at, to_nothing, to_nobody, to_scheduler, to_server, to_call, to_beat, to_restart}
+use Rattle.farm_run.proofs.DecideLemmas.{RequestIn, request_in, ReplyIn, reply_in}
 
-some_question : (setup : Setup) (peer : Addr) (bytes : List ℕ) → ((a : Asked) → Asks setup peer bytes a → ⊥) → ⊥
-some_question setup peer bytes h =
-    let none : IsNoRequest bytes = λ r is. h (question_under (equal_admission setup.scheduler.client) (serves setup.scheduler.auth) r peer) (inl (r, is, refl)) in
-    h bad_question (inr (none, refl))
+-- ---- what bytes say
 
-some_assignment : (bytes : List ℕ) → ((r : Result AssignJobResult CallFault) → IsAssigned bytes r → ⊥) → ⊥
-some_assignment bytes h =
-    let none : IsNoReply bytes = λ r is. h (assigned_by (told_by _ r)) (told_by _ r, inl (r, is, refl), refl) in
-    h (assigned_by (Err ParseError)) (Err ParseError, inr (none, refl), refl)
+question_there : (setup : Setup) (peer : Addr) (bytes : List ℕ) → (a : Asked) × Asks setup peer bytes a
+question_there setup peer bytes = by_request (request_in bytes)
+  where
+    by_request : RequestIn bytes → (a : Asked) × Asks setup peer bytes a
+    by_request (inl (r, is)) = (question_under (equal_admission setup.scheduler.client) (serves setup.scheduler.auth) r peer, inl (r, is, refl))
+    by_request (inr none) = (bad_question, inr (none, refl))
 
-some_outcome : (reply : Option (List ℕ)) → ((r : Result AssignJobResult CallFault) → IsOutcome reply r → ⊥) → ⊥
-some_outcome None h = h (Err Lost) refl
-some_outcome (Some bytes) h = some_assignment bytes h
+server_question_there : (s : ServerNow) (bytes : List ℕ) → (a : ServerAsked) × AsksServer s bytes a
+server_question_there s bytes = by_request (request_in bytes)
+  where
+    by_request : RequestIn bytes → (a : ServerAsked) × AsksServer s bytes a
+    by_request (inl (r, is)) = (server_question (job_verdict s.key) bytes r, inl (r, is, refl))
+    by_request (inr none) = (record { what = server_asked.Done (refusal_response BadHeadRefusal); json = false; body = length bytes }, inr (none, refl))
 
-some_answer : (setup : Setup) (core : Core) (number at : ℕ) (peer : Addr) (bytes : List ℕ) → ((x : Effect) → IsAnswered setup core number at peer bytes x → ⊥) → ⊥
-some_answer setup core number at peer bytes h =
-    some_question setup peer bytes (λ a asks. h (answer_to core number at a.json a.what) (a, asks, refl))
+assignment_there : (bytes : List ℕ) → (r : Result AssignJobResult CallFault) × IsAssigned bytes r
+assignment_there bytes = by_reply (reply_in bytes)
+  where
+    by_reply : ReplyIn bytes → (r : Result AssignJobResult CallFault) × IsAssigned bytes r
+    by_reply (inl (r, is)) = (assigned_by (told_by assign_at r), (told_by assign_at r, inl (r, is, refl), refl))
+    by_reply (inr none) = (assigned_by (Err ParseError), (Err ParseError, inr (none, refl), refl))
 
-some_server_question : (s : ServerNow) (bytes : List ℕ) → ((a : ServerAsked) → AsksServer s bytes a → ⊥) → ⊥
-some_server_question s bytes h =
-    let none : IsNoRequest bytes = λ r is. h (server_question (job_verdict s.key) bytes r) (inl (r, is, refl)) in
-    h (record { what = server_asked.Done (refusal_response BadHeadRefusal); json = false; body = length bytes }) (inr (none, refl))
+telling_there : {M : Type 0} (at : List ℕ → Option (M × List ℕ)) (bytes : List ℕ) → (r : Result M CallFault) × IsAnswer at bytes r
+telling_there {M} at bytes = by_reply (reply_in bytes)
+  where
+    by_reply : ReplyIn bytes → (r : Result M CallFault) × IsAnswer at bytes r
+    by_reply (inl (r, is)) = (answer_by (told_by at r), (told_by at r, inl (r, is, refl), refl))
+    by_reply (inr none) = (answer_by (Err ParseError), (Err ParseError, inr (none, refl), refl))
 
-some_telling : {M : Type 0} (at : List ℕ → Option (M × List ℕ)) (bytes : List ℕ) → ((r : Result M CallFault) → IsAnswer at bytes r → ⊥) → ⊥
-some_telling at bytes h =
-    let none : IsNoReply bytes = λ r is. h (answer_by (told_by at r)) (told_by at r, inl (r, is, refl), refl) in
-    h (answer_by (Err ParseError)) (Err ParseError, inr (none, refl), refl)
+outcome_there : (reply : Option (List ℕ)) → (r : Result AssignJobResult CallFault) × IsOutcome reply r
+outcome_there None = (Err Lost, refl)
+outcome_there (Some bytes) = assignment_there bytes
 
-some_update : (reply : Option (List ℕ)) → ((r : Result UpdateJobStateResult CallFault) → IsUpdated reply r → ⊥) → ⊥
-some_update None h = h (Err Lost) refl
-some_update (Some bytes) h = some_telling update_at bytes h
+update_there : (reply : Option (List ℕ)) → (r : Result UpdateJobStateResult CallFault) × IsUpdated reply r
+update_there None = (Err Lost, refl)
+update_there (Some bytes) = telling_there update_at bytes
 
-some_hearing : (reply : Option (List ℕ)) → ((r : Result HeartbeatServerResult CallFault) → IsHeard reply r → ⊥) → ⊥
-some_hearing None h = h (Err Lost) refl
-some_hearing (Some bytes) h = some_telling heard_at bytes h
+hearing_there : (reply : Option (List ℕ)) → (r : Result HeartbeatServerResult CallFault) × IsHeard reply r
+hearing_there None = (Err Lost, refl)
+hearing_there (Some bytes) = telling_there heard_at bytes
 
-some_end : (setup : Setup) (s : ServerNow) (bytes : List ℕ) (root : ℕ) (json : Bool) (reply : Option (List ℕ)) (t : Told) → ((x : Effect) → Reports setup s bytes root json reply t x → ⊥) → ⊥
-some_end setup s bytes root json reply (told.Ready job at) h = some_update reply (λ r is. h (ready_end s root json job (drop at bytes) r) (r, is, refl))
-some_end setup s bytes root json reply (told.Started job run at) h = some_update reply (λ r is. h (started_end setup s root job run (drop at bytes) r) (r, is, refl))
-some_end setup s bytes root json reply (told.Complete job outcome) h = some_update reply (λ r is. h (complete_end s.setup.addr root json job outcome r) (r, is, refl))
-some_end setup s bytes root json reply told.Heartbeat h = some_hearing reply (λ r is. h (step_effect s.setup.addr (kinds.Heard (heard_as r))) (r, is, refl))
+-- ---- what follows
 
-some_life : (setup : Setup) (life : ℕ) (s : ServerNow) (bytes : List ℕ) (root : ℕ) (json : Bool) (reply : Option (List ℕ)) (t : Told) (over : Bool) → ((x : Effect) → Lives setup life s bytes root json reply t over x → ⊥) → ⊥
-some_life setup life s bytes root json reply t true h = h (word_effect Died) refl
-some_life setup life s bytes root json reply t false h = some_end setup s bytes root json reply t h
+end_there : (setup : Setup) (s : ServerNow) (bytes : List ℕ) (root : ℕ) (json : Bool) (reply : Option (List ℕ)) (t : Told) → (x : Effect) × Reports setup s bytes root json reply t x
+end_there setup s bytes root json reply (told.Ready job at) = let r = update_there reply in (ready_end s root json job (drop at bytes) r.0, (r.0, r.1, refl))
+end_there setup s bytes root json reply (told.Started job run at) = let r = update_there reply in (started_end setup s root job run (drop at bytes) r.0, (r.0, r.1, refl))
+end_there setup s bytes root json reply (told.Complete job outcome) = let r = update_there reply in (complete_end s.setup.addr root json job outcome r.0, (r.0, r.1, refl))
+end_there setup s bytes root json reply told.Heartbeat = let r = hearing_there reply in (step_effect s.setup.addr (kinds.Heard (heard_as r.0)), (r.0, r.1, refl))
 
-some_report : (setup : Setup) (life : ℕ) (bytes : List ℕ) (root : ℕ) (json : Bool) (reply : Option (List ℕ)) (t : Told) (o : Option ServerNow) → ((x : Effect) → ReportsIn setup life bytes root json reply t o x → ⊥) → ⊥
-some_report setup life bytes root json reply t None h = h (word_effect Died) refl
-some_report setup life bytes root json reply t (Some s) h = some_life setup life s bytes root json reply t (is_over life s) h
+life_there : (setup : Setup) (life : ℕ) (s : ServerNow) (bytes : List ℕ) (root : ℕ) (json : Bool) (reply : Option (List ℕ)) (t : Told) (over : Bool) → (x : Effect) × Lives setup life s bytes root json reply t over x
+life_there setup life s bytes root json reply t true = (word_effect Died, refl)
+life_there setup life s bytes root json reply t false = end_there setup s bytes root json reply t
 
-some_way : (setup : Setup) (log : List Entry) (at root : ℕ) (json : Bool) (reply : Option (List ℕ)) (ask : Ask) → ((x : Effect) → GoesOn setup log at root json reply ask x → ⊥) → ⊥
-some_way setup log at root json reply (Assign t) h = some_outcome reply (λ r is. h (assignment_end (core_of setup log) root json at t r) (r, is, refl))
-some_way setup log at root json reply (Report server life t) h = some_report setup life (brought_at log root) root json reply t (server_now setup log server) h
+report_there : (setup : Setup) (life : ℕ) (bytes : List ℕ) (root : ℕ) (json : Bool) (reply : Option (List ℕ)) (t : Told) (o : Option ServerNow) → (x : Effect) × ReportsIn setup life bytes root json reply t o x
+report_there setup life bytes root json reply t None = (word_effect Died, refl)
+report_there setup life bytes root json reply t (Some s) = life_there setup life s bytes root json reply t (is_over life s)
+
+way_there : (setup : Setup) (log : List Entry) (at root : ℕ) (json : Bool) (reply : Option (List ℕ)) (ask : Ask) → (x : Effect) × GoesOn setup log at root json reply ask x
+way_there setup log at root json reply (Assign t) = let r = outcome_there reply in (assignment_end (core_of setup log) root json at t r.0, (r.0, r.1, refl))
+way_there setup log at root json reply (Report server life t) = report_there setup life (brought_at log root) root json reply t (server_now setup log server)
 
 -- what is kept of a call that waits
 record Known (setup : Setup) (log : List Entry) (n : ℕ) : Type 0 where
@@ -106,22 +113,28 @@ kept_known : (setup : Setup) (log : List Entry) (n : ℕ) (w : Entry) (o : Optio
 kept_known setup log n w None is kept = absurd cc
 kept_known setup log n w (Some p) is kept = record { pending = p; call = kept.call }
 
-some_settled : (setup : Setup) (log : List Entry) (ps : List (Option Pending)) → AreKept setup log ps → (at n : ℕ) (reply : Option (List ℕ)) (o : Option Entry) → waiting_at log n ≡ o
-    → ((x : Effect) → IsSettled setup log at n reply o x → ⊥) → ⊥
-some_settled setup log ps kept at n reply None is h = h (word_effect Void) refl
-some_settled setup log ps kept at n reply (Some w) is h =
+settled_there : (setup : Setup) (log : List Entry) (ps : List (Option Pending)) → AreKept setup log ps → (at n : ℕ) (reply : Option (List ℕ)) (o : Option Entry) → waiting_at log n ≡ o
+    → (x : Effect) × IsSettled setup log at n reply o x
+settled_there setup log ps kept at n reply None is = (word_effect Void, refl)
+settled_there setup log ps kept at n reply (Some w) is =
     let k = kept_known setup log n w (kept_at ps n) is (kept.each n) in
-    some_way setup log at k.pending.root k.pending.json reply k.pending.ask (λ x goes. h x (k.pending, k.call, goes))
+    let x = way_there setup log at k.pending.root k.pending.json reply k.pending.ask in
+    (x.0, (k.pending, k.call, x.1))
 
-some_made : (setup : Setup) (log : List Entry) (ps : List (Option Pending)) → AreKept setup log ps → (at : ℕ) (way : Way) → ((x : Effect) → IsMade setup log at way x → ⊥) → ⊥
-some_made setup log ps kept at (to_scheduler peer bytes) h = some_answer setup (core_of setup log) (length log) at peer bytes h
-some_made setup log ps kept at (to_call n reply) h = some_settled setup log ps kept at n reply (waiting_at log n) refl h
-some_made setup log ps kept at (to_server s bytes) h =
-    some_server_question s bytes (λ a asks. h (served setup s (length log) a.json a.what) (a, asks, refl))
-some_made setup log ps kept at (to_beat s) h = h (beat_effect setup s) refl
-some_made setup log ps kept at (to_restart s key nonce) h = h (restart_effect s) refl
-some_made setup log ps kept at to_nothing h = h (word_effect Void) refl
-some_made setup log ps kept at to_nobody h = h (word_effect Down) refl
+made_there : (setup : Setup) (log : List Entry) (ps : List (Option Pending)) → AreKept setup log ps → (at : ℕ) (way : Way) → (x : Effect) × IsMade setup log at way x
+made_there setup log ps kept at (to_scheduler peer bytes) =
+    let a = question_there setup peer bytes in
+    (answer_to (core_of setup log) (length log) at a.0.json a.0.what, (a.0, a.1, refl))
+made_there setup log ps kept at (to_call n reply) = settled_there setup log ps kept at n reply (waiting_at log n) refl
+made_there setup log ps kept at (to_server s bytes) =
+    let a = server_question_there s bytes in
+    (served setup s (length log) a.0.json a.0.what, (a.0, a.1, refl))
+made_there setup log ps kept at (to_beat s) = (beat_effect setup s, refl)
+made_there setup log ps kept at (to_restart s key nonce) = (restart_effect s, refl)
+made_there setup log ps kept at to_nothing = (word_effect Void, refl)
+made_there setup log ps kept at to_nobody = (word_effect Down, refl)
 
 pub has_next : (setup : Setup) (log : List Entry) (ps : List (Option Pending)) → AreKept setup log ps → HasNext setup log
-has_next setup log ps kept event h = some_made setup log ps kept event.at (way_of setup log event.kind) (λ x is. h (entry_of event x) (x, is, refl))
+has_next setup log ps kept event =
+    let x = made_there setup log ps kept event.at (way_of setup log event.kind) in
+    (entry_of event x.0, (x.0, x.1, refl))

@@ -20,7 +20,7 @@ use Rattle.farm_run.specs.declared.station.Station.{Station}
 use Rattle.farm_run.specs.Begun.{IsCallOf, IsBegunBy, Keeps}
 use Rattle.farm_run.specs.Calls.{waiting_at}
 use Rattle.farm_run.specs.Effects.{entry_of}
-use Rattle.farm_run.specs.Next.{IsServed, IsMade, IsNext, EachNext}
+use Rattle.farm_run.specs.Next.{IsServed, IsMade, IsNext, EachNext, IsRun}
 use Rattle.farm_run.specs.Seen.{core_log, core_of}
 use Rattle.farm_run.specs.Stations.{AreStations, HasApart}
 use Rattle.farm_run.specs.Tickets.{ticket_at}
@@ -106,16 +106,17 @@ pub record IsLawful (base count : ℕ) (log : List CoreEntry) : Type 0 where
 abbrev pub AreLawful : Setup → List Entry → Type 0
 AreLawful setup entries = (n : ℕ) → IsLawful setup.scheduler.base setup.scheduler.count (core_log (take n entries))
 
--- No event is without a next entry: that there is none is refuted. (Nothing computes whether bytes are a request, so the entry itself is not shown.)
+-- each event, whatever it is, has a next entry
 abbrev pub HasNext : Setup → List Entry → Type 0
-HasNext setup log = (event : Event) → ((e : Entry) → IsNext setup log event e → ⊥) → ⊥
+HasNext setup log = (event : Event) → (e : Entry) × IsNext setup log event e
 
 -- ---- farms
 
--- what the scheduler has seen is the core log of the entries, its servers stand as the entries tell, and what is kept of the calls that wait is theirs
+-- the entries are those of a run, what the scheduler has seen is their core log, its servers stand as they tell, and what is kept of the calls that wait is theirs
 pub record IsFarm (setup : Setup) (core : Core) (entries : List Entry) (ps : List (Option Pending)) (sts : List Station) : Type 0 where
   pub fits : setup.scheduler.count < 2 ^ 64
   pub apart : HasApart setup
+  pub run : IsRun setup entries
   pub core_is : core ≡ core_of setup entries
   pub sound : IsSound setup entries
   pub kept : AreKept setup entries ps

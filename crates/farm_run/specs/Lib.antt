@@ -6,6 +6,7 @@ pub mod Effects
 pub mod Farm
 pub mod Next
 pub mod Printed
+pub mod Reliable
 pub mod RunText
 pub mod Seen
 pub mod Served

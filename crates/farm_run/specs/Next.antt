@@ -1,5 +1,5 @@
 -- The one entry that an event makes over the entries before it.
-use Rattle.std.specs.Prelude.{◌≡◌, ℕ, List, [], ◌∷◌, ◌++◌, length, Bool, Option, Some, None, Result}
+use Rattle.std.specs.Prelude.{◌≡◌, ℕ, List, [], ◌∷◌, ◌++◌, length, map, Bool, Option, Some, None, Result}
 use Rattle.dist_types.specs.declared.outgoing.CallFault.{CallFault}
 use Rattle.dist_types.specs.declared.results.AssignJobResult.{AssignJobResult}
 use Rattle.sched_core.specs.Log.{Core}
@@ -67,3 +67,7 @@ EachNext setup log [] [] = Unit {0}
 EachNext setup log (event ∷ events) (e ∷ es) = IsNext setup log event e × EachNext setup (log ++ e ∷ []) events es
 EachNext setup log [] (e ∷ es) = ⊥
 EachNext setup log (event ∷ events) [] = ⊥
+
+-- the entries are those of a run from none
+abbrev pub IsRun : Setup → List Entry → Type 0
+IsRun setup entries = EachNext setup [] (map (λ e. e.event) entries) entries

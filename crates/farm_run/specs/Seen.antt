@@ -1,5 +1,5 @@
 -- What the scheduler of a farm has seen.
-use Rattle.std.specs.Prelude.{ℕ, List, [], Option}
+use Rattle.std.specs.Prelude.{ℕ, List, Option}
 use Rattle.std.specs.Result.{result_ok}
 use Rattle.std.specs.List.{filter_map}
 use Rattle.dist_types.specs.Addr.{addr_text}

@@ -1,7 +1,5 @@
 -- What the stations of a farm's build servers hold.
-use Rattle.std.specs.Prelude.{◌≡◌, ◌≢◌, ℕ, List, [], ◌∷◌, length, map, slice_get, set, Option, Some, codes}
-use Rattle.std.specs.List.{AllByRecursion}
-use Rattle.dist_types.specs.declared.addr.Addr.{Addr}
+use Rattle.std.specs.Prelude.{◌≡◌, ℕ, List, ◌∷◌, length, map, slice_get, set, Option, Some, codes}
 use Rattle.build_server.specs.declared.run.Ran.{Ran}
 use Rattle.build_server.specs.declared.run.Ran.TheVariants as ran
 use Rattle.lru_disk_cache.specs.Archives.{IsInStep}

@@ -8,12 +8,14 @@
 //! use `Farm::new`, `Farm::run`, `Farm::history` and `print_run`.
 #![tactic(auto)]
 
+mod arrivals;
 pub mod build_laws;
 mod builder;
 mod copies;
 mod desk;
 pub mod entry;
 pub mod laws;
+mod lookup;
 mod pending;
 pub mod print;
 mod reports;
@@ -21,6 +23,7 @@ pub mod run;
 mod serve;
 mod servers;
 mod settle;
+mod settlements;
 mod station;
 mod text;
 mod words;

@@ -1,8 +1,9 @@
 //! Calls that wait to be settled.
 ghost use Rattle.std.specs.Prelude.{◌≡◌, None, set};
+ghost use Rattle.farm_run.specs.Effects.{word_effect};
 ghost use Rattle.farm_run.specs.Farm.{kept_at};
 
-use crate::entry::Effect;
+use crate::entry::{Effect, EntryWord};
 use build_server::run::RunDone;
 use dist_token::job_token::JWTJobAuthorizer;
 use dist_types::addr::Addr;
@@ -71,6 +72,13 @@ impl Made {
             pending: None,
         }
     }
+}
+
+/// An event that has nothing to do.
+pub fn idle() -> Made
+    ensures { result ≡ record { effect = word_effect EntryWord.Void; pending = None } }
+{
+    Made::whole(Effect::of_word(EntryWord::Void))
 }
 
 /// Takes out what is kept at a place, if anything is.

@@ -1,40 +1,29 @@
 //! A farm, and its runs.
-ghost use Rattle.std.specs.Prelude.{◌≡◌, ◌++◌, ◌∷◌, [], ◌<◌, ◌≤◌, ◌-◌, ◌^◌, ℕ, length, take, set, slice_get, position, IfOk, IfErr, OnOk, OnErr, MatchOption, map, Some, None, List, option_copied};
-ghost use Rattle.std.specs.Option.{option_map};
-ghost use Rattle.dist_types.specs.Addr.{same_addr};
-ghost use Rattle.dist_types.specs.declared.addr.Addr.{Addr as Place};
+ghost use Rattle.std.specs.Prelude.{◌≡◌, [], ◌<◌, ◌≤◌, ◌^◌, ℕ, length, take, slice_get, IfOk, IfErr, OnOk, OnErr, MatchOption, map, Some};
 ghost use Rattle.sched_core.specs.Rows.{servers_of, jobs_of, held_by_id, held_part};
-ghost use Rattle.farm_script.specs.declared.event.Event.{Event as Happening};
-ghost use Rattle.farm_script.specs.declared.event.EventKind.TheVariants as kind;
 ghost use Rattle.farm_script.specs.declared.fault.FarmFault.TheVariants as fault;
 ghost use Rattle.farm_script.specs.declared.setup.SetupServer.{SetupServer as Site};
-ghost use Rattle.farm_run.specs.declared.station.Station.{Station as Post};
 ghost use Rattle.farm_run.specs.Builds.{AreBuilds, HasToken, HasWords};
-ghost use Rattle.farm_run.specs.Begun.{IsBegunBy, Keeps, completion_at, completion_of};
-ghost use Rattle.farm_run.specs.Calls.{call_at, delivery_at};
-ghost use Rattle.farm_run.specs.Effects.{word_effect, entry_of};
-ghost use Rattle.farm_run.specs.Farm.{IsFarm, IsReceived, IsMadeSo, AreLawful, HasNext, acted, AddsNext, Steps, Runs};
-ghost use Rattle.farm_run.specs.Next.{Follows};
+ghost use Rattle.farm_run.specs.Farm.{IsFarm, IsMadeSo, AreLawful, HasNext, acted, AddsNext, Steps, Runs};
+ghost use Rattle.farm_run.specs.Next.{IsRun};
 ghost use Rattle.farm_run.specs.Printed.{ids_given};
-ghost use Rattle.farm_run.specs.Seen.{core_log, core_of};
-ghost use Rattle.farm_run.specs.Served.{IsServerAnswered, restart_effect};
-ghost use Rattle.farm_run.specs.Servers.{restart_by, restarted, stepped, server_of, server_at, server_now};
-ghost use Rattle.farm_run.specs.Settled.{IsOwnBy, ReportsIn};
-ghost use Rattle.farm_run.specs.Stations.{now_of, IsWell, AreWell, AreStations, IsStepAt, HasApart};
-ghost use Rattle.farm_run.specs.Ways.{is_inside, caller_of, stepper, brought_at, way_of, way_to, beat_way, to_call, to_server};
+ghost use Rattle.farm_run.specs.Reliable.{IsReliable};
+ghost use Rattle.farm_run.specs.Seen.{core_log};
+ghost use Rattle.farm_run.specs.Servers.{server_of};
+ghost use Rattle.farm_run.specs.Stations.{now_of, AreStations, HasApart};
+ghost use Rattle.farm_run.specs.Ways.{way_of};
 
+use crate::arrivals::{arrive, deliver, restart, send_beat};
 use crate::copies::copy_setup;
 use crate::desk::Desk;
-use crate::entry::{Effect, Entry, EntryWord, OutCall, Step, StepKind};
-use crate::pending::{Ask, Made, Pending, Told, drop_told, release, take_at, undo_last};
-use crate::reports::{Back, go_on as go_on_report};
-use crate::serve::{Arrival, Stamp, serve};
-use crate::servers::{beat, serve_at};
-use crate::settle::{Settlement, Turn, end_assignment};
+use crate::entry::Entry;
+use crate::lookup::{delivery_at, is_inside};
+use crate::pending::{Made, Pending, idle, release, undo_last};
+use crate::serve::{Arrival, Stamp};
+use crate::settle::Settlement;
+use crate::settlements::take_back;
 use crate::station::Station;
 use crate::words::has_addresses;
-use dist_types::addr::Addr;
-use dist_types::ids::ServerNonce;
 use dist_types::text::Items;
 use farm_script::event::{Event, EventKind};
 use farm_script::fault::FarmFault;
@@ -43,7 +32,6 @@ use sched_core::rows::{Jobs, Servers};
 use sched_core::state::SchedState;
 use std::alloc::{AllocFailed, Global};
 use std::marker::Model;
-use std::mem;
 
 /// The log of all that came to a farm.
 struct Log {
@@ -190,7 +178,7 @@ impl Farm {
     fn step(self, event: &Event) -> Result<Farm, Stopped>
         ensures ok { IfOk result (Steps self event.now) }
         ensures err { IfErr result (λ s. s.entries ≡ self.entries) }
-        ensures laws { OnErr result (AreLawful self.setup self.entries) }
+        ensures run { OnErr result (IsRun self.setup self.entries) }
     {
         self.obey();
         let Farm {
@@ -208,15 +196,15 @@ impl Farm {
         }
     }
 
-    /// That the laws hold after each front of the entries.
-    #[tactic(auto, using(crate::proofs::NextLemmas::are_lawful))]
+    /// That the entries are those of a run from none, so that all laws of runs hold of them.
     fn obey(&self)
-        ensures { AreLawful self.now.setup self.now.entries }
+        ensures fits { self.now.setup.scheduler.count < 2 ^ 64 }
+        ensures run { IsRun self.now.setup self.now.entries }
     {
         let _ = self.log.entries.len();
     }
 
-    /// That over the entries no event is without a next one.
+    /// That over the entries each event, whatever it is, has a next one.
     #[tactic(auto, using(crate::proofs::ThereLemmas::has_next))]
     pub fn goes_on(&self)
         ensures { HasNext self.now.setup self.now.entries }
@@ -241,17 +229,19 @@ impl Farm {
         // have different jobs, each open job has exactly one unended reservation, at a registration that
         // stands, and no load is over its bound.
         ensures laws { IfOk result (λ farm. AreLawful farm.setup farm.entries) }
-        // From no entries: after each front each build goes on from an accepted start, which is the return of
-        // an earlier delivery that moved the job from ready to started; no id is built twice; a call is
-        // settled at most once. Where build servers have one token, that has 1 to 1,024 visible bytes.
-        ensures builds { IfOk result (λ farm. self.entries ≡ [] → HasToken self.setup.scheduler.auth
-            → AreBuilds farm.setup farm.entries) }
+        // After each front each build goes on from an accepted start, which is the return of an earlier
+        // delivery that moved the job from ready to started; no id is built twice; a call is settled at most
+        // once. Where build servers have one token, that has 1 to 1,024 visible bytes.
+        ensures builds { IfOk result (λ farm. HasToken self.setup.scheduler.auth → AreBuilds farm.setup farm.entries) }
+        // An entry is replied to at most once; a request whose calls are granted gets the reply that its row
+        // names; a restart keeps the archives.
+        ensures reliable { IfOk result (λ farm. IsReliable farm.setup farm.entries) }
         // All hold also of the events before the one that memory ran out in.
         ensures err { IfErr result (λ s. (n : ℕ) × (n < length events.now)
             × Runs self (take n events.now) (record { setup = self.setup; entries = s.entries })) }
         ensures stopped_laws { IfErr result (λ s. AreLawful self.setup s.entries) }
-        ensures stopped_builds { IfErr result (λ s. self.entries ≡ [] → HasToken self.setup.scheduler.auth
-            → AreBuilds self.setup s.entries) }
+        ensures stopped_builds { IfErr result (λ s. HasToken self.setup.scheduler.auth → AreBuilds self.setup s.entries) }
+        ensures stopped_reliable { IfErr result (λ s. IsReliable self.setup s.entries) }
     {
         let mut farm = self;
         farm.words();
@@ -260,470 +250,6 @@ impl Farm {
         }
         farm.obey();
         Ok(farm)
-    }
-}
-
-/// The call of that number, if it was made.
-fn call_at(entries: &[Entry], call: u64) -> Option<&OutCall>
-    ensures { option_map (λ c. c.now) result ≡ call_at entries.now call }
-{
-    match entries.get(call as usize) {
-        None => None,
-        Some(entry) => match &entry.call {
-            None => None,
-            Some(out) => Some(out),
-        },
-    }
-}
-
-/// The place of the server at an address.
-fn place_of(setup: &Setup, addr: Addr) -> Option<usize>
-    ensures place { result ≡ position (λ s. same_addr s.addr addr) setup.now.servers }
-{
-    setup
-        .servers
-        .get()
-        .iter()
-        .position(|server| server.addr == addr)
-}
-
-/// Whether an address is the scheduler's.
-fn is_scheduler(setup: &Setup, addr: Addr) -> bool
-    ensures { result ≡ same_addr addr setup.now.scheduler.addr }
-{
-    addr == setup.scheduler.addr
-}
-
-/// Whether a call goes to the scheduler, or to a server of the farm.
-fn is_inside(setup: &Setup, entries: &[Entry], call: u64) -> bool
-    ensures { result ≡ is_inside setup.now (call_at entries.now call) }
-{
-    match call_at(entries, call) {
-        None => false,
-        Some(out) => {
-            if is_scheduler(setup, out.target) {
-                return true;
-            }
-            place_of(setup, out.target).is_some()
-        }
-    }
-}
-
-/// The address of who made the call of that number.
-fn caller_of(setup: &Setup, entries: &[Entry], call: u64) -> Addr
-    ensures { result ≡ caller_of setup.now entries.now (slice_get entries.now call) }
-{
-    match entries.get(call as usize) {
-        None => setup.scheduler.addr,
-        Some(entry) => match &entry.event.kind {
-            EventKind::Request { target, .. } => *target,
-            EventKind::Deliver { call } => match call_at(entries, *call) {
-                None => setup.scheduler.addr,
-                Some(out) => out.target,
-            },
-            EventKind::Fail { .. } => stepper(&entry.step, setup.scheduler.addr),
-            EventKind::Return { .. } => stepper(&entry.step, setup.scheduler.addr),
-            EventKind::Answer { .. } => stepper(&entry.step, setup.scheduler.addr),
-            EventKind::Beat { server } => *server,
-            EventKind::Restart { server, .. } => *server,
-        },
-    }
-}
-
-/// The address of a step's server, or that one where there is no step.
-fn stepper(step: &Option<Step>, addr: Addr) -> Addr
-    ensures { result ≡ stepper step.now addr }
-{
-    match step {
-        None => addr,
-        Some(step) => step.server,
-    }
-}
-
-/// What the event of that number brought.
-fn brought_at(entries: &[Entry], number: u64) -> &[u8]
-    ensures { result.now ≡ brought_at entries.now number }
-{
-    match entries.get(number as usize) {
-        None => &[],
-        Some(entry) => match &entry.event.kind {
-            EventKind::Request { bytes, .. } => bytes.get(),
-            EventKind::Deliver { call } => match call_at(entries, *call) {
-                None => &[],
-                Some(out) => out.bytes.get(),
-            },
-            EventKind::Fail { .. } => &[],
-            EventKind::Return { .. } => &[],
-            EventKind::Answer { .. } => &[],
-            EventKind::Beat { .. } => &[],
-            EventKind::Restart { .. } => &[],
-        },
-    }
-}
-
-/// The call of a delivery, and the bytes of the delivery's reply, if it got one.
-fn delivery_at(entries: &[Entry], delivery: u64) -> Option<(u64, &[u8])>
-    ensures { option_map (λ p. (p.0, p.1.now)) result ≡ delivery_at entries.now delivery }
-{
-    match entries.get(delivery as usize) {
-        None => None,
-        Some(entry) => match &entry.event.kind {
-            EventKind::Request { .. } => None,
-            EventKind::Deliver { call } => match &entry.reply {
-                None => None,
-                Some(reply) => Some((*call, reply.bytes.get())),
-            },
-            EventKind::Fail { .. } => None,
-            EventKind::Return { .. } => None,
-            EventKind::Answer { .. } => None,
-            EventKind::Beat { .. } => None,
-            EventKind::Restart { .. } => None,
-        },
-    }
-}
-
-/// An event that has nothing to do.
-fn idle() -> Made
-    ensures { result ≡ record { effect = word_effect EntryWord.Void; pending = None } }
-{
-    Made::whole(Effect::of_word(EntryWord::Void))
-}
-
-/// A request, or a call that is delivered: bytes that come from a peer to an address.
-fn arrive(
-    desk: &mut Desk,
-    stations: &mut Vec<Station>,
-    entries: &[Entry],
-    target: Addr,
-    arrival: &Arrival<'_>,
-) -> Result<Made, FarmFault>
-    requires apart { HasApart desk.old.setup }
-    requires stations { AreStations desk.old.setup.servers entries.now stations.old.items }
-    ensures received { IfOk result (IsReceived desk.old.setup desk.old.state arrival.now.stamp.number arrival.now.stamp.at
-        (way_to desk.old.setup entries.now target arrival.now.peer arrival.now.bytes.now)) }
-    ensures stations { IfOk result (λ m. (event : Happening) → ((a : Place) → restart_by a event.kind ≡ None)
-        → AreStations desk.old.setup.servers (entries.now ++ entry_of event m.effect ∷ []) stations.new.items) }
-    ensures desk { IfOk result (λ m. desk.new ≡ acted desk.old m.effect.core) }
-    ensures err { IfErr result (λ e. e ≡ fault.Memory) }
-{
-    if is_scheduler(&desk.setup, target) {
-        let made = serve(desk, arrival)?;
-        return Ok(made);
-    }
-    match place_of(&desk.setup, target) {
-        None => Ok(Made::whole(Effect::of_word(EntryWord::Down))),
-        Some(place) => {
-            let made = arrive_at(desk, stations, place, arrival)?;
-            Ok(made)
-        }
-    }
-}
-
-/// Bytes that come to the server at a place of the setup.
-fn arrive_at(
-    desk: &Desk,
-    stations: &mut Vec<Station>,
-    place: usize,
-    arrival: &Arrival<'_>,
-) -> Result<Made, FarmFault>
-    requires well { AreWell desk.now.setup.servers stations.old.items }
-    ensures answered { IfOk result (λ m. (s : Site) (st : Post) → slice_get desk.now.setup.servers place ≡ Some s → slice_get stations.old.items place ≡ Some st
-        → IsServerAnswered desk.now.setup (now_of s st) arrival.now.stamp.number arrival.now.bytes.now m.effect) }
-    ensures kept { IfOk result (λ m. (s : Site) (st : Post) → slice_get desk.now.setup.servers place ≡ Some s → slice_get stations.old.items place ≡ Some st
-        → Keeps (IsBegunBy desk.now.setup desk.now.state.log arrival.now.stamp.number (to_server (now_of s st) arrival.now.bytes.now) m.effect) m.effect m.pending) }
-    ensures step { IfOk result (λ m. (s : Site) (st : Post) → slice_get desk.now.setup.servers place ≡ Some s → slice_get stations.old.items place ≡ Some st
-        → IsStepAt s place st m.effect.step stations.old.items stations.new.items) }
-    ensures there { OnOk result ((st : Post) × (slice_get stations.old.items place ≡ Some st)) }
-    ensures err { IfErr result (λ e. e ≡ fault.Memory) }
-{
-    match desk.setup.servers.get().get(place) {
-        None => Err(FarmFault::Memory),
-        Some(server) => match stations.get_mut(place) {
-            None => Err(FarmFault::Memory),
-            Some(station) => {
-                let made = serve_at(desk, server, station, arrival)?;
-                Ok(made)
-            }
-        },
-    }
-}
-
-/// A call of the server at a place of the setup goes on by its reply, where the life that made it goes on.
-fn report_at(
-    desk: &Desk,
-    stations: &mut Vec<Station>,
-    place: usize,
-    back: &Back<'_>,
-    told: Told,
-) -> Result<Made, FarmFault>
-    requires well { AreWell desk.now.setup.servers stations.old.items }
-    ensures made { IfOk result (λ m. (s : Site) (st : Post) → slice_get desk.now.setup.servers place ≡ Some s → slice_get stations.old.items place ≡ Some st
-        → ReportsIn desk.now.setup back.now.life back.now.brought.now back.now.root back.now.json (option_copied back.now.reply) told (Some (now_of s st)) m.effect) }
-    ensures kept { IfOk result (λ m. (s : Site) (st : Post) → slice_get desk.now.setup.servers place ≡ Some s → slice_get stations.old.items place ≡ Some st
-        → Keeps (λ p. completion_at back.now.root back.now.json s.addr back.now.life m.effect.step ≡ Some p) m.effect m.pending) }
-    ensures step { IfOk result (λ m. (s : Site) (st : Post) → slice_get desk.now.setup.servers place ≡ Some s → slice_get stations.old.items place ≡ Some st
-        → IsStepAt s place st m.effect.step stations.old.items stations.new.items) }
-    ensures there { OnOk result ((st : Post) × (slice_get stations.old.items place ≡ Some st)) }
-    ensures err { IfErr result (λ e. e ≡ fault.Memory) }
-{
-    match desk.setup.servers.get().get(place) {
-        None => {
-            drop_told(told);
-            Err(FarmFault::Memory)
-        }
-        Some(server) => match stations.get_mut(place) {
-            None => {
-                drop_told(told);
-                Err(FarmFault::Memory)
-            }
-            Some(station) => {
-                let made = report_in(desk, server, station, back, told)?;
-                Ok(made)
-            }
-        },
-    }
-}
-
-/// A call of a server goes on by its reply, where the life that made it goes on; else who asked is gone.
-fn report_in(
-    desk: &Desk,
-    server: &SetupServer,
-    station: &mut Station,
-    back: &Back<'_>,
-    told: Told,
-) -> Result<Made, FarmFault>
-    requires well { IsWell server.now station.old }
-    ensures made { IfOk result (λ m. ReportsIn desk.now.setup back.now.life back.now.brought.now back.now.root back.now.json (option_copied back.now.reply) told (Some (now_of server.now station.old)) m.effect) }
-    ensures kept { IfOk result (λ m. Keeps (λ p. completion_at back.now.root back.now.json server.now.addr back.now.life m.effect.step ≡ Some p) m.effect m.pending) }
-    ensures after { IfOk result (λ m. now_of server.now station.new ≡ stepped m.effect.step (now_of server.now station.old)) }
-    ensures still_well { OnOk result (IsWell server.now station.new) }
-    ensures err { IfErr result (λ e. e ≡ fault.Memory) }
-{
-    if station.life != back.life {
-        drop_told(told);
-        return Ok(Made::whole(Effect::of_word(EntryWord::Died)));
-    }
-    let made = go_on_report(desk, server, station, back, told)?;
-    Ok(made)
-}
-
-/// A call of a server that comes back.
-fn report(
-    desk: &Desk,
-    stations: &mut Vec<Station>,
-    entries: &[Entry],
-    back: &Back<'_>,
-    told: Told,
-) -> Result<Made, FarmFault>
-    requires apart { HasApart desk.now.setup }
-    requires stations { AreStations desk.now.setup.servers entries.now stations.old.items }
-    ensures made { IfOk result (λ m. ReportsIn desk.now.setup back.now.life back.now.brought.now back.now.root back.now.json (option_copied back.now.reply) told
-        (server_now desk.now.setup entries.now back.now.server) m.effect) }
-    ensures kept { IfOk result (λ m. Keeps (λ p. completion_at back.now.root back.now.json back.now.server back.now.life m.effect.step ≡ Some p) m.effect m.pending) }
-    ensures stations { IfOk result (λ m. (event : Happening) → ((a : Place) → restart_by a event.kind ≡ None)
-        → AreStations desk.now.setup.servers (entries.now ++ entry_of event m.effect ∷ []) stations.new.items) }
-    ensures core { IfOk result (λ m. m.effect.core ≡ None) }
-    ensures err { IfErr result (λ e. e ≡ fault.Memory) }
-{
-    match place_of(&desk.setup, back.server) {
-        None => {
-            drop_told(told);
-            Ok(Made::whole(Effect::of_word(EntryWord::Died)))
-        }
-        Some(place) => {
-            let made = report_at(desk, stations, place, back, told)?;
-            Ok(made)
-        }
-    }
-}
-
-/// A call that is kept goes on by its reply.
-fn go_on(
-    desk: &mut Desk,
-    stations: &mut Vec<Station>,
-    entries: &[Entry],
-    pending: Pending,
-    settlement: &Settlement<'_>,
-) -> Result<Made, FarmFault>
-    requires apart { HasApart desk.old.setup }
-    requires stations { AreStations desk.old.setup.servers entries.now stations.old.items }
-    requires core { desk.old.state ≡ core_of desk.old.setup entries.now }
-    requires own { IsOwnBy desk.old.state.log pending.ask }
-    ensures follows { IfOk result (λ m. Follows desk.old.setup entries.now settlement.now.at (option_copied settlement.now.reply) (Some pending) m.effect) }
-    ensures kept { IfOk result (λ m. Keeps (λ p. completion_of pending pending.ask m.effect.step ≡ Some p) m.effect m.pending) }
-    ensures stations { IfOk result (λ m. (event : Happening) → ((a : Place) → restart_by a event.kind ≡ None)
-        → AreStations desk.old.setup.servers (entries.now ++ entry_of event m.effect ∷ []) stations.new.items) }
-    ensures desk { IfOk result (λ m. desk.new ≡ acted desk.old m.effect.core) }
-    ensures err { IfErr result (λ e. e ≡ fault.Memory) }
-{
-    let Pending { root, json, ask } = pending;
-    match ask {
-        Ask::Assign(reservation) => {
-            let turn = Turn {
-                root,
-                json,
-                at: settlement.at,
-            };
-            let effect = end_assignment(
-                desk.alloc,
-                &mut desk.state,
-                turn,
-                reservation,
-                settlement.reply,
-            )?;
-            Ok(Made::whole(effect))
-        }
-        Ask::Report { server, life, told } => {
-            let back = Back {
-                server,
-                life,
-                root,
-                json,
-                brought: brought_at(entries, root),
-                reply: settlement.reply,
-            };
-            let made = report(desk, stations, entries, &back, told)?;
-            Ok(made)
-        }
-    }
-}
-
-/// A call that is to be settled.
-fn take_back(
-    desk: &mut Desk,
-    stations: &mut Vec<Station>,
-    entries: &[Entry],
-    kept: &mut Vec<Option<Pending>>,
-    settlement: &Settlement<'_>,
-) -> Result<Made, FarmFault>
-    requires farm { IsFarm desk.old.setup desk.old.state entries.now kept.old.items stations.old.items }
-    ensures made { IfOk result (λ m. (event : Happening) → event.at ≡ settlement.now.at
-        → way_of desk.old.setup entries.now event.kind ≡ to_call settlement.now.call (option_copied settlement.now.reply)
-        → IsMadeSo desk.old.setup entries.now event (way_of desk.old.setup entries.now event.kind) kept.new.items stations.new.items m) }
-    ensures desk { IfOk result (λ m. desk.new ≡ acted desk.old m.effect.core) }
-    ensures err { IfErr result (λ e. e ≡ fault.Memory) }
-{
-    match take_at(kept, settlement.call) {
-        None => Ok(idle()),
-        Some(pending) => {
-            let made = go_on(desk, stations, entries, pending, settlement)?;
-            Ok(made)
-        }
-    }
-}
-
-/// A delivery.
-fn deliver(
-    desk: &mut Desk,
-    stations: &mut Vec<Station>,
-    entries: &[Entry],
-    at: u64,
-    call: u64,
-) -> Result<Made, FarmFault>
-    requires apart { HasApart desk.old.setup }
-    requires stations { AreStations desk.old.setup.servers entries.now stations.old.items }
-    ensures received { IfOk result (IsReceived desk.old.setup desk.old.state (length entries.now) at (way_of desk.old.setup entries.now (kind.Deliver call))) }
-    ensures stations { IfOk result (λ m. (event : Happening) → ((a : Place) → restart_by a event.kind ≡ None)
-        → AreStations desk.old.setup.servers (entries.now ++ entry_of event m.effect ∷ []) stations.new.items) }
-    ensures desk { IfOk result (λ m. desk.new ≡ acted desk.old m.effect.core) }
-    ensures err { IfErr result (λ e. e ≡ fault.Memory) }
-{
-    match call_at(entries, call) {
-        None => Ok(idle()),
-        Some(out) => {
-            let arrival = Arrival {
-                stamp: Stamp {
-                    number: entries.len() as u64,
-                    at,
-                },
-                peer: caller_of(&desk.setup, entries, call),
-                bytes: out.bytes.get(),
-            };
-            let made = arrive(desk, stations, entries, out.target, &arrival)?;
-            Ok(made)
-        }
-    }
-}
-
-/// A heartbeat of a server.
-fn send_beat(
-    desk: &Desk,
-    stations: &[Station],
-    entries: &[Entry],
-    addr: Addr,
-) -> Result<Made, FarmFault>
-    requires stations { AreStations desk.now.setup.servers entries.now stations.now }
-    ensures received { IfOk result (λ m. (at : ℕ) → IsReceived desk.now.setup desk.now.state (length entries.now) at (beat_way (server_now desk.now.setup entries.now addr)) m) }
-    ensures step { IfOk result (λ m. m.effect.step ≡ None) }
-    ensures core { IfOk result (λ m. m.effect.core ≡ None) }
-    ensures err { IfErr result (λ e. e ≡ fault.Memory) }
-{
-    match place_of(&desk.setup, addr) {
-        None => Ok(idle()),
-        Some(place) => match desk.setup.servers.get().get(place) {
-            None => Err(FarmFault::Memory),
-            Some(server) => match stations.get(place) {
-                None => Err(FarmFault::Memory),
-                Some(station) => {
-                    let made = beat(desk, server, station, entries.len() as u64)?;
-                    Ok(made)
-                }
-            },
-        },
-    }
-}
-
-/// A server starts again.
-fn restart_in(
-    alloc: Global,
-    server: &SetupServer,
-    station: &mut Station,
-    key: &[u8],
-    nonce: ServerNonce,
-) -> Result<Effect, FarmFault>
-    requires well { IsWell server.now station.old }
-    ensures effect { IfOk result (λ x. x ≡ restart_effect (now_of server.now station.old)) }
-    ensures after { IfOk result (λ x. now_of server.now station.new ≡ stepped x.step (restarted (Some (key.now, nonce)) (now_of server.now station.old))) }
-    ensures still_well { OnOk result (IsWell server.now station.new) }
-    ensures err { IfErr result (λ e. e ≡ fault.Memory) }
-{
-    let opened = station.archive_list(alloc)?;
-    let fresh = Station::new(alloc, server)?;
-    let old = mem::replace(station, fresh);
-    let next = old.reopen(alloc, server, key, nonce)?;
-    *station = next;
-    Ok(Effect::of_step(server.addr, StepKind::Opened(opened)))
-}
-
-/// A server that starts again, if it is of the farm.
-fn restart(
-    desk: &Desk,
-    stations: &mut Vec<Station>,
-    addr: Addr,
-    key: &[u8],
-    nonce: ServerNonce,
-) -> Result<Made, FarmFault>
-    requires well { AreWell desk.now.setup.servers stations.old.items }
-    ensures none { IfOk result (λ m. server_at desk.now.setup addr ≡ None → (m ≡ record { effect = word_effect EntryWord.Void; pending = None }) × (stations.new.items ≡ stations.old.items)) }
-    ensures some { IfOk result (λ m. (place : ℕ) (s : Site) (st : Post) → position (λ x. same_addr x.addr addr) desk.now.setup.servers ≡ Some place
-        → slice_get desk.now.setup.servers place ≡ Some s → slice_get stations.old.items place ≡ Some st
-        → (m ≡ record { effect = restart_effect (now_of s st); pending = None })
-        × ((after : Post) × (stations.new.items ≡ set stations.old.items place after) × IsWell s after
-        × (now_of s after ≡ stepped m.effect.step (restarted (Some (key.now, nonce)) (now_of s st))))) }
-    ensures err { IfErr result (λ e. e ≡ fault.Memory) }
-{
-    match place_of(&desk.setup, addr) {
-        None => Ok(idle()),
-        Some(place) => match desk.setup.servers.get().get(place) {
-            None => Err(FarmFault::Memory),
-            Some(server) => match stations.get_mut(place) {
-                None => Err(FarmFault::Memory),
-                Some(station) => {
-                    let effect = restart_in(desk.alloc, server, station, key, nonce)?;
-                    Ok(Made::whole(effect))
-                }
-            },
-        },
     }
 }
 

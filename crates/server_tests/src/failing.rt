@@ -1,30 +1,21 @@
-//! One order of calls over folders of which each call fails in turn, before it does anything or behind that.
-use crate::orders::{CAPACITY, Step, are_at, assert_ended, assert_kept, assign, run, submit};
+//! The generated orders of calls over folders of which each call fails in turn, before it does anything or behind
+//! that.
+use crate::orders::{
+    CAPACITY, Numbers, ORDERS, STEPS, Step, are_at, assert_ended, assert_kept, assign, run, submit,
+};
 use crate::outside::{cache_of, toolchain};
 use crate::plain::{Ended, Plain};
 use build_server::run::Ran;
 use build_server::state::ServerState;
 use build_server::submit::Submitted;
+use lru_disk_cache::fault::FolderFault;
+use lru_disk_cache::folder::Folder;
 use lru_disk_cache::mem_folder::MemFolder;
 use std::alloc::Global;
 use std::process::Abort;
 
-/// Stores that drop, look-ups, a run of what was dropped, and refusals.
-const STEPS: &[Step] = &[
-    Step::Assign(1, 1),
-    Step::Assign(2, 2),
-    Step::Assign(3, 3),
-    Step::Submit(1, 1),
-    Step::Submit(2, 2),
-    Step::Submit(3, 3),
-    Step::Run(1),
-    Step::Submit(2, 2),
-    Step::Run(2),
-    Step::Run(3),
-    Step::Assign(1, 1),
-    Step::Submit(1, 1),
-    Step::Run(1),
-];
+/// More calls than an order makes of its folder.
+const MANY: u64 = 1000;
 
 /// A folder's fault leaves a front of what the store would drop out of the list.
 fn assert_failed(rt: &impl Abort, plain: &mut Plain, outcome: &Submitted, want: &Ended) {
@@ -81,32 +72,33 @@ fn run_both(
     false
 }
 
-/// All calls on both. How often the folder failed.
-fn take_all(
+/// One call on both. Whether the folder failed in it.
+fn take(
     rt: &impl Abort,
     alloc: Global,
     state: &mut ServerState<MemFolder>,
     plain: &mut Plain,
-) -> u64 {
-    let mut failed: u64 = 0;
-    for step in STEPS {
-        let fails = match *step {
-            Step::Assign(job, place) => {
-                assign(rt, state, plain, job, place);
-                false
-            }
-            Step::Submit(job, given) => submit_both(rt, state, plain, job, given),
-            Step::Run(job) => run_both(rt, alloc, state, plain, job),
-        };
-        failed = failed.saturating_add(u64::from(fails));
-        assert_kept(rt, state, plain);
+    step: Step,
+) -> bool {
+    match step {
+        Step::Assign(job, place) => {
+            assign(rt, state, plain, job, place);
+            false
+        }
+        Step::Submit(job, given) => submit_both(rt, state, plain, job, given),
+        Step::Run(job) => run_both(rt, alloc, state, plain, job),
     }
-    failed
 }
 
-/// The order over a folder of which one call fails. How often a call of the state told so; None where the
-/// opening failed.
-fn over(rt: &impl Abort, alloc: Global, call: u64, behind: bool) -> Option<u64> {
+/// An order over a folder of which one call fails: how often a call of the state told so, and the folder; None
+/// where the opening failed.
+fn over(
+    rt: &impl Abort,
+    alloc: Global,
+    seed: u64,
+    call: u64,
+    behind: bool,
+) -> Option<(u64, MemFolder)> {
     let one = Vec::from_slice(alloc, &[call]).expect(rt, "memory");
     let (before, after) = if behind {
         (Vec::new(alloc), one)
@@ -116,20 +108,54 @@ fn over(rt: &impl Abort, alloc: Global, call: u64, behind: bool) -> Option<u64> 
     let cache = cache_of(alloc, CAPACITY, before, after)?;
     let mut state = ServerState::new(alloc, cache);
     let mut plain = Plain::new(alloc, CAPACITY);
-    Some(take_all(rt, alloc, &mut state, &mut plain))
+    let mut numbers = Numbers::new(seed);
+    let mut failed: u64 = 0;
+    for _ in 0..STEPS {
+        let fails = take(rt, alloc, &mut state, &mut plain, numbers.step());
+        failed = failed.saturating_add(u64::from(fails));
+        assert_kept(rt, &state, &plain);
+    }
+    Some((failed, state.into_cache().into_folder()))
 }
 
-#[test]
-fn each_call_of_the_folder_fails_once(rt: HostRuntime) {
-    let alloc = rt.alloc();
-    for behind in [false, true] {
-        let mut told: u64 = 0;
-        for call in 0..60u64 {
-            if let Some(failed) = over(&rt, alloc, call, behind) {
-                assert!(rt; failed <= 1, "one fault is told twice, at {call}");
+/// How many calls of the folder an order makes: the call of the number `MANY` fails, which is sought behind them.
+fn calls_of(rt: &impl Abort, alloc: Global, seed: u64) -> u64 {
+    let (failed, mut folder) = over(rt, alloc, seed, MANY, false).expect(rt, "a cache");
+    assert_eq!(rt; failed, 0);
+    for more in 0..MANY {
+        if folder.size("none") == Err(FolderFault::Failed) {
+            return MANY.saturating_sub(more);
+        }
+    }
+    0
+}
+
+/// An order over folders of which each call fails in turn. How often a call of the state told so.
+fn fail_each(rt: &impl Abort, alloc: Global, seed: u64) -> u64 {
+    let calls = calls_of(rt, alloc, seed);
+    assert!(rt; calls > 0, "the order {seed} makes no call of its folder");
+    let mut told: u64 = 0;
+    for call in 0..calls {
+        for behind in [false, true] {
+            if let Some((failed, _)) = over(rt, alloc, seed, call, behind) {
+                assert_eq!(rt;
+                    failed,
+                    1,
+                    "the fault of the call {call} of the order {seed}"
+                );
                 told = told.saturating_add(failed);
             }
         }
-        assert!(rt; told >= 10, "only {told} faults are told");
     }
+    told
+}
+
+#[test]
+fn each_call_of_the_folder_fails_once_in_each_order(rt: HostRuntime) {
+    let alloc = rt.alloc();
+    let mut told: u64 = 0;
+    for seed in 0..ORDERS {
+        told = told.saturating_add(fail_each(&rt, alloc, seed));
+    }
+    assert!(rt; told >= ORDERS, "only {told} faults are told");
 }

@@ -1,6 +1,6 @@
 //! That a server answers while it reports, and while it builds: the held call waits until an assignment was
 //! answered, and gives up after so many looks, so a lock that is kept fails the test.
-use crate::outside::{Scheduler, archive, command, names, reader};
+use crate::outside::{Scheduler, archive, command, names, source_of};
 use crate::running::{assigned, server_of, submitted};
 use build_server::server::{Server, ServerIncoming};
 use dist_types::builder::{BuildFault, BuilderIncoming};
@@ -9,6 +9,7 @@ use dist_types::fault::raise;
 use dist_types::ids::JobId;
 use dist_types::outgoing::{CallFault, ServerOutgoing};
 use dist_types::output::ProcessOutput;
+use dist_types::readers::ToolchainReader;
 use dist_types::results::{
     BuildResult, JobState, RunJobResult, SubmitToolchainResult, UpdateJobStateResult,
 };
@@ -175,7 +176,8 @@ fn report_held<R: Abort + Wait>(
         at: JobState::Ready,
         faults: 0,
     };
-    let rdr = reader(rt, alloc, archive(1), Vec::new(alloc));
+    let mut source = source_of(rt, alloc, archive(1), Vec::new(alloc));
+    let rdr = ToolchainReader(&mut source);
     let stored = server.handle_submit_toolchain(rt, &mut scheduler, JobId(4096), rdr);
     stored == Ok(SubmitToolchainResult::Success)
 }

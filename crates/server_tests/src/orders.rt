@@ -16,6 +16,11 @@ use std::process::Abort;
 /// The capacity of the caches: one archive is larger, and not all others fit together.
 pub(crate) const CAPACITY: u64 = 15;
 
+/// How many orders there are, and of how many calls each is.
+pub(crate) const ORDERS: u64 = 300;
+
+pub(crate) const STEPS: u64 = 24;
+
 /// A call on a server.
 #[derive(Clone, Copy, Debug)]
 pub(crate) enum Step {
@@ -47,10 +52,18 @@ impl Numbers {
         (self.last >> 33) % limit.max(1)
     }
 
+    /// A place of an archive: that of its job as often as any.
+    fn place(&mut self, job: u64) -> usize {
+        let own = job % 5;
+        let any = self.below(5);
+        let place = if self.below(2) == 0 { own } else { any };
+        place as usize
+    }
+
     /// The next call: four jobs, and the archives.
     pub(crate) fn step(&mut self) -> Step {
         let job = self.below(4).saturating_add(4096);
-        let place = self.below(5) as usize;
+        let place = self.place(job);
         match self.below(8) {
             0..=2 => Step::Assign(job, place),
             3..=5 => Step::Submit(job, place),
@@ -214,12 +227,12 @@ fn take(
 #[test]
 fn three_hundred_orders_of_calls(rt: HostRuntime) {
     let alloc = rt.alloc();
-    for seed in 0..300u64 {
+    for seed in 0..ORDERS {
         let cache = cache_of(alloc, CAPACITY, Vec::new(alloc), Vec::new(alloc));
         let mut state = ServerState::new(alloc, cache.expect(&rt, "a cache"));
         let mut plain = Plain::new(alloc, CAPACITY);
         let mut numbers = Numbers::new(seed);
-        for _ in 0..24u64 {
+        for _ in 0..STEPS {
             take(&rt, alloc, &mut state, &mut plain, numbers.step());
             assert_kept(&rt, &state, &plain);
         }

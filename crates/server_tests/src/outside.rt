@@ -4,9 +4,8 @@ use dist_types::command::CompileCommand;
 use dist_types::fault::raise;
 use dist_types::ids::JobId;
 use dist_types::outgoing::{CallFault, ServerOutgoing};
-use dist_types::readers::ToolchainReader;
 use dist_types::results::{JobState, UpdateJobStateResult};
-use dist_types::source::MemSource;
+use dist_types::source::{MemSource, Source};
 use dist_types::text::{Items, Text};
 use dist_types::toolchain::Toolchain;
 use lru_disk_cache::TcCache;
@@ -69,15 +68,21 @@ pub(crate) fn cache_of(
     }
 }
 
-/// An archive as it comes.
-pub(crate) fn reader(
+/// An archive as it comes, of which the reads of these numbers fail.
+pub(crate) fn source_of(
     rt: &impl Abort,
     alloc: Global,
     bytes: &[u8],
     fails: Vec<u64>,
-) -> ToolchainReader<MemSource> {
+) -> MemSource {
     let bytes = Vec::from_slice(alloc, bytes).expect(rt, "memory");
-    ToolchainReader(MemSource::new(bytes, fails))
+    MemSource::new(bytes, fails)
+}
+
+/// How many bytes are left, where no read fails.
+pub(crate) fn left(rt: &impl Abort, source: &mut MemSource) -> usize {
+    let mut buf = [0u8; 64];
+    source.read(&mut buf).expect(rt, "a read")
 }
 
 /// The command `cc` in `/`, without arguments.

@@ -1,11 +1,12 @@
 //! A running server over an empty cache: what its calls answer, one after the other.
-use crate::outside::{Scheduler, archive, cache_of, command, names, reader, toolchain};
+use crate::outside::{Scheduler, archive, cache_of, command, left, names, source_of, toolchain};
 use build_server::echo::EchoBuilder;
 use build_server::fault::ServerFault;
 use build_server::server::{Server, ServerIncoming};
 use build_server::state::ServerState;
 use dist_types::ids::JobId;
 use dist_types::outgoing::CallFault;
+use dist_types::readers::ToolchainReader;
 use dist_types::results::{JobState, RunJobResult, SubmitToolchainResult};
 use lru_disk_cache::mem_folder::MemFolder;
 use std::alloc::Global;
@@ -44,8 +45,16 @@ pub(crate) fn submitted<R: Abort + Wait>(
     loses: Option<JobState>,
 ) -> Result<SubmitToolchainResult, ServerFault> {
     let mut scheduler = Scheduler::new(alloc, loses);
-    let rdr = reader(rt, alloc, bytes, Vec::new(alloc));
-    server.handle_submit_toolchain(rt, &mut scheduler, JobId(job), rdr)
+    let mut source = source_of(rt, alloc, bytes, Vec::new(alloc));
+    let rdr = ToolchainReader(&mut source);
+    let answer = server.handle_submit_toolchain(rt, &mut scheduler, JobId(job), rdr);
+    let unread = if loses == Some(JobState::Ready) {
+        bytes.len()
+    } else {
+        0
+    };
+    assert_eq!(rt; left(rt, &mut source), unread);
+    answer
 }
 
 /// Runs the one command over the inputs `in`, with the output `o`, and counts the reports.
@@ -147,9 +156,11 @@ fn an_archive_that_cannot_be_read_is_not_stored(rt: HostRuntime) {
     assigned(&rt, &server, 7, 1);
     let mut scheduler = Scheduler::new(alloc, None);
     let fails = Vec::from_slice(alloc, &[0u64]).expect(&rt, "memory");
-    let rdr = reader(&rt, alloc, archive(1), fails);
+    let mut source = source_of(&rt, alloc, archive(1), fails);
+    let rdr = ToolchainReader(&mut source);
     let answer = server.handle_submit_toolchain(&rt, &mut scheduler, JobId(7), rdr);
     assert_eq!(rt; answer, Ok(SubmitToolchainResult::CannotCache));
+    assert_eq!(rt; left(&rt, &mut source), archive(1).len());
     assert_eq!(rt;
         assigned(&rt, &server, 8, 1),
         Some((JobState::Pending, true))

@@ -2,7 +2,9 @@ use Rattle.std.proofs.Common.{◌≡◌, ◌+◌, ◌++◌, ◌∷◌, [], take,
 use Rattle.std.proofs.lemmas.List.{take_more}
 use Rattle.std.proofs.lemmas.Result.{err_from_is_err_and}
 use Rattle.farm_run.proofs.BuildLemmas.{Runs-builds, Runs-stopped}
-use Rattle.farm_run.proofs.RunLemmas.{Runs-push, Runs-entries, Runs-lawful}
+use Rattle.farm_run.proofs.NextLemmas.{run_lawful}
+use Rattle.farm_run.proofs.ReliableLemmas.{run_reliable}
+use Rattle.farm_run.proofs.RunLemmas.{Runs-push, Runs-entries, Runs-is}
 use Rattle.farm_run.proofs.run.Farm.run.Goals as goal
 
 pub loop-event-preserved : goal.loop-event-preserved
@@ -25,8 +27,8 @@ pub returns-in_err-farm-clause-stopped_laws : goal.returns-in_err-farm-clause-st
 returns-in_err-farm-clause-stopped_laws c =
     let p = err_from_is_err_and c.from_residual.result c.from_residual.ensures.1 in
     rw (p.1, p.2) (
-    Runs-lawful c.args.self (take c.loop-event.event-index c.args.events.now) c.loop-event.farm c.in_err-farm.field-0.0.entries c.loop-event.invariant c.in_err-farm.ensures.err
-    c.in_err-farm.ensures.laws
+    run_lawful c.args.self.setup c.in_err-farm.field-0.0.entries c.words.ensures.count
+    (Runs-is c.args.self (take c.loop-event.event-index c.args.events.now) c.loop-event.farm c.in_err-farm.field-0.0.entries c.loop-event.invariant c.in_err-farm.ensures.err c.in_err-farm.ensures.run)
     )
 
 pub returns-in_err-farm-clause-stopped_builds : goal.returns-in_err-farm-clause-stopped_builds
@@ -34,9 +36,23 @@ returns-in_err-farm-clause-stopped_builds c =
     let p = err_from_is_err_and c.from_residual.result c.from_residual.ensures.1 in
     rw (p.1, p.2) (
     Runs-stopped c.args.self (take c.loop-event.event-index c.args.events.now) c.loop-event.farm c.in_err-farm.field-0.0.entries c.words.ensures.count c.words.ensures.words c.loop-event.invariant
-    c.in_err-farm.ensures.err
+    c.in_err-farm.ensures.err c.in_err-farm.ensures.run
     )
+
+pub returns-in_err-farm-clause-stopped_reliable : goal.returns-in_err-farm-clause-stopped_reliable
+returns-in_err-farm-clause-stopped_reliable c =
+    let p = err_from_is_err_and c.from_residual.result c.from_residual.ensures.1 in
+    rw (p.1, p.2) (
+    run_reliable c.args.self.setup c.in_err-farm.field-0.0.entries
+    (Runs-is c.args.self (take c.loop-event.event-index c.args.events.now) c.loop-event.farm c.in_err-farm.field-0.0.entries c.loop-event.invariant c.in_err-farm.ensures.err c.in_err-farm.ensures.run)
+    )
+
+pub returns-clause-laws : goal.returns-clause-laws
+returns-clause-laws c = run_lawful c.loop-event.farm.setup c.loop-event.farm.entries c.obey.ensures.fits c.obey.ensures.run
 
 pub returns-clause-builds : goal.returns-clause-builds
 returns-clause-builds c =
-    Runs-builds c.args.self (take c.loop-event.event-index c.args.events.now) c.loop-event.farm c.words.ensures.count c.words.ensures.words c.loop-event.invariant
+    Runs-builds c.args.self (take c.loop-event.event-index c.args.events.now) c.loop-event.farm c.words.ensures.count c.words.ensures.words c.loop-event.invariant c.obey.ensures.run
+
+pub returns-clause-reliable : goal.returns-clause-reliable
+returns-clause-reliable c = run_reliable c.loop-event.farm.setup c.loop-event.farm.entries c.obey.ensures.run

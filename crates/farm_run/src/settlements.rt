@@ -1,0 +1,190 @@
+//! A call that comes back, by its reply or lost.
+ghost use Rattle.std.specs.Prelude.{◌≡◌, ◌++◌, ◌∷◌, [], slice_get, IfOk, IfErr, OnOk, Some, None, option_copied};
+ghost use Rattle.dist_types.specs.declared.addr.Addr.{Addr as Place};
+ghost use Rattle.farm_script.specs.declared.event.Event.{Event as Happening};
+ghost use Rattle.farm_script.specs.declared.fault.FarmFault.TheVariants as fault;
+ghost use Rattle.farm_script.specs.declared.setup.SetupServer.{SetupServer as Site};
+ghost use Rattle.farm_run.specs.declared.station.Station.{Station as Post};
+ghost use Rattle.farm_run.specs.Begun.{Keeps, completion_at, completion_of};
+ghost use Rattle.farm_run.specs.Effects.{entry_of};
+ghost use Rattle.farm_run.specs.Farm.{IsFarm, IsMadeSo, acted};
+ghost use Rattle.farm_run.specs.Next.{Follows};
+ghost use Rattle.farm_run.specs.Seen.{core_of};
+ghost use Rattle.farm_run.specs.Servers.{restart_by, stepped, server_now};
+ghost use Rattle.farm_run.specs.Settled.{IsOwnBy, ReportsIn};
+ghost use Rattle.farm_run.specs.Stations.{now_of, IsWell, AreWell, AreStations, IsStepAt, HasApart};
+ghost use Rattle.farm_run.specs.Ways.{way_of, to_call};
+
+use crate::desk::Desk;
+use crate::entry::{Effect, Entry, EntryWord};
+use crate::lookup::{brought_at, place_of};
+use crate::pending::{Ask, Made, Pending, Told, drop_told, idle, take_at};
+use crate::reports::{Back, go_on as go_on_report};
+use crate::settle::{Settlement, Turn, end_assignment};
+use crate::station::Station;
+use farm_script::fault::FarmFault;
+use farm_script::setup::SetupServer;
+
+/// A call of the server at a place of the setup goes on by its reply, where the life that made it goes on.
+pub(crate) fn report_at(
+    desk: &Desk,
+    stations: &mut Vec<Station>,
+    place: usize,
+    back: &Back<'_>,
+    told: Told,
+) -> Result<Made, FarmFault>
+    requires well { AreWell desk.now.setup.servers stations.old.items }
+    ensures made { IfOk result (λ m. (s : Site) (st : Post) → slice_get desk.now.setup.servers place ≡ Some s → slice_get stations.old.items place ≡ Some st
+        → ReportsIn desk.now.setup back.now.life back.now.brought.now back.now.root back.now.json (option_copied back.now.reply) told (Some (now_of s st)) m.effect) }
+    ensures kept { IfOk result (λ m. (s : Site) (st : Post) → slice_get desk.now.setup.servers place ≡ Some s → slice_get stations.old.items place ≡ Some st
+        → Keeps (λ p. completion_at back.now.root back.now.json s.addr back.now.life m.effect.step ≡ Some p) m.effect m.pending) }
+    ensures step { IfOk result (λ m. (s : Site) (st : Post) → slice_get desk.now.setup.servers place ≡ Some s → slice_get stations.old.items place ≡ Some st
+        → IsStepAt s place st m.effect.step stations.old.items stations.new.items) }
+    ensures there { OnOk result ((st : Post) × (slice_get stations.old.items place ≡ Some st)) }
+    ensures err { IfErr result (λ e. e ≡ fault.Memory) }
+{
+    match desk.setup.servers.get().get(place) {
+        None => {
+            drop_told(told);
+            Err(FarmFault::Memory)
+        }
+        Some(server) => match stations.get_mut(place) {
+            None => {
+                drop_told(told);
+                Err(FarmFault::Memory)
+            }
+            Some(station) => {
+                let made = report_in(desk, server, station, back, told)?;
+                Ok(made)
+            }
+        },
+    }
+}
+
+/// A call of a server goes on by its reply, where the life that made it goes on; else who asked is gone.
+pub(crate) fn report_in(
+    desk: &Desk,
+    server: &SetupServer,
+    station: &mut Station,
+    back: &Back<'_>,
+    told: Told,
+) -> Result<Made, FarmFault>
+    requires well { IsWell server.now station.old }
+    ensures made { IfOk result (λ m. ReportsIn desk.now.setup back.now.life back.now.brought.now back.now.root back.now.json (option_copied back.now.reply) told (Some (now_of server.now station.old)) m.effect) }
+    ensures kept { IfOk result (λ m. Keeps (λ p. completion_at back.now.root back.now.json server.now.addr back.now.life m.effect.step ≡ Some p) m.effect m.pending) }
+    ensures after { IfOk result (λ m. now_of server.now station.new ≡ stepped m.effect.step (now_of server.now station.old)) }
+    ensures still_well { OnOk result (IsWell server.now station.new) }
+    ensures err { IfErr result (λ e. e ≡ fault.Memory) }
+{
+    if station.life != back.life {
+        drop_told(told);
+        return Ok(Made::whole(Effect::of_word(EntryWord::Died)));
+    }
+    let made = go_on_report(desk, server, station, back, told)?;
+    Ok(made)
+}
+
+/// A call of a server that comes back.
+pub(crate) fn report(
+    desk: &Desk,
+    stations: &mut Vec<Station>,
+    entries: &[Entry],
+    back: &Back<'_>,
+    told: Told,
+) -> Result<Made, FarmFault>
+    requires apart { HasApart desk.now.setup }
+    requires stations { AreStations desk.now.setup.servers entries.now stations.old.items }
+    ensures made { IfOk result (λ m. ReportsIn desk.now.setup back.now.life back.now.brought.now back.now.root back.now.json (option_copied back.now.reply) told
+        (server_now desk.now.setup entries.now back.now.server) m.effect) }
+    ensures kept { IfOk result (λ m. Keeps (λ p. completion_at back.now.root back.now.json back.now.server back.now.life m.effect.step ≡ Some p) m.effect m.pending) }
+    ensures stations { IfOk result (λ m. (event : Happening) → ((a : Place) → restart_by a event.kind ≡ None)
+        → AreStations desk.now.setup.servers (entries.now ++ entry_of event m.effect ∷ []) stations.new.items) }
+    ensures core { IfOk result (λ m. m.effect.core ≡ None) }
+    ensures err { IfErr result (λ e. e ≡ fault.Memory) }
+{
+    match place_of(&desk.setup, back.server) {
+        None => {
+            drop_told(told);
+            Ok(Made::whole(Effect::of_word(EntryWord::Died)))
+        }
+        Some(place) => {
+            let made = report_at(desk, stations, place, back, told)?;
+            Ok(made)
+        }
+    }
+}
+
+/// A call that is kept goes on by its reply.
+pub(crate) fn go_on(
+    desk: &mut Desk,
+    stations: &mut Vec<Station>,
+    entries: &[Entry],
+    pending: Pending,
+    settlement: &Settlement<'_>,
+) -> Result<Made, FarmFault>
+    requires apart { HasApart desk.old.setup }
+    requires stations { AreStations desk.old.setup.servers entries.now stations.old.items }
+    requires core { desk.old.state ≡ core_of desk.old.setup entries.now }
+    requires own { IsOwnBy desk.old.state.log pending.ask }
+    ensures follows { IfOk result (λ m. Follows desk.old.setup entries.now settlement.now.at (option_copied settlement.now.reply) (Some pending) m.effect) }
+    ensures kept { IfOk result (λ m. Keeps (λ p. completion_of pending pending.ask m.effect.step ≡ Some p) m.effect m.pending) }
+    ensures stations { IfOk result (λ m. (event : Happening) → ((a : Place) → restart_by a event.kind ≡ None)
+        → AreStations desk.old.setup.servers (entries.now ++ entry_of event m.effect ∷ []) stations.new.items) }
+    ensures desk { IfOk result (λ m. desk.new ≡ acted desk.old m.effect.core) }
+    ensures err { IfErr result (λ e. e ≡ fault.Memory) }
+{
+    let Pending { root, json, ask } = pending;
+    match ask {
+        Ask::Assign(reservation) => {
+            let turn = Turn {
+                root,
+                json,
+                at: settlement.at,
+            };
+            let effect = end_assignment(
+                desk.alloc,
+                &mut desk.state,
+                turn,
+                reservation,
+                settlement.reply,
+            )?;
+            Ok(Made::whole(effect))
+        }
+        Ask::Report { server, life, told } => {
+            let back = Back {
+                server,
+                life,
+                root,
+                json,
+                brought: brought_at(entries, root),
+                reply: settlement.reply,
+            };
+            let made = report(desk, stations, entries, &back, told)?;
+            Ok(made)
+        }
+    }
+}
+
+/// A call that is to be settled.
+pub(crate) fn take_back(
+    desk: &mut Desk,
+    stations: &mut Vec<Station>,
+    entries: &[Entry],
+    kept: &mut Vec<Option<Pending>>,
+    settlement: &Settlement<'_>,
+) -> Result<Made, FarmFault>
+    requires farm { IsFarm desk.old.setup desk.old.state entries.now kept.old.items stations.old.items }
+    ensures made { IfOk result (λ m. (event : Happening) → event.at ≡ settlement.now.at
+        → way_of desk.old.setup entries.now event.kind ≡ to_call settlement.now.call (option_copied settlement.now.reply)
+        → IsMadeSo desk.old.setup entries.now event (way_of desk.old.setup entries.now event.kind) kept.new.items stations.new.items m) }
+    ensures desk { IfOk result (λ m. desk.new ≡ acted desk.old m.effect.core) }
+    ensures err { IfErr result (λ e. e ≡ fault.Memory) }
+{
+    match take_at(kept, settlement.call) {
+        None => Ok(idle()),
+        Some(pending) => {
+            let made = go_on(desk, stations, entries, pending, settlement)?;
+            Ok(made)
+        }
+    }
+}
