@@ -28,3 +28,6 @@ pub mod Ids
 pub mod Judged
 pub mod ArchiveOpens
 pub mod OverFolder
+pub mod Asides
+pub mod Reserving
+pub mod Moves
