@@ -40,11 +40,20 @@ fn files<R: Files + AllocGlobal>(
     Ok((archive, inputs))
 }
 
-/// The directory of a file, with its `/`; empty where its name has none.
-fn directory(name: &str) -> &str {
-    match name.rsplit_once('/') {
-        Some((dir, _name)) => &name[..dir.len() + 1],
-        None => "",
+/// The name of a file that stands beside another.
+fn beside(alloc: Global, file: &str, name: &str) -> Result<String, Refusal> {
+    let path = match file.rsplit_once('/') {
+        Some((dir, _name)) => format!(in alloc; "{dir}/{name}")?,
+        None => String::from_str(alloc, name)?,
+    };
+    Ok(path)
+}
+
+/// Makes the directory of a file. Answers whether it stands.
+fn make_directory<R: Files + AllocGlobal>(rt: &R, path: &str) -> bool {
+    match path.rsplit_once('/') {
+        Some((dir, _name)) => dir.is_empty() || fs::create_dir_all(rt, dir).is_ok(),
+        None => true,
     }
 }
 
@@ -52,15 +61,11 @@ fn directory(name: &str) -> &str {
 fn write_output<R: Files + AllocGlobal>(
     rt: &R,
     alloc: Global,
-    dir: &str,
-    name: &str,
+    path: String,
     data: &OutputData,
 ) -> Result<(), Refusal> {
-    let path = format!(in alloc; "{dir}{name}")?;
-    let part = format!(in alloc; "{dir}{name}.part")?;
-    let parent = directory(path.as_str());
-    let made = parent.is_empty() || fs::create_dir_all(rt, parent).is_ok();
-    if made && fs::write(rt, part.as_str(), data.0.get()).is_ok() {
+    let part = format!(in alloc; "{}.part", path.as_str())?;
+    if make_directory(rt, path.as_str()) && fs::write(rt, part.as_str(), data.0.get()).is_ok() {
         if fs::rename(rt, part.as_str(), path.as_str()).is_ok() {
             return Ok(());
         }
@@ -75,14 +80,14 @@ fn write_outputs<R: Files + AllocGlobal>(
     words: &Words,
     outputs: &[(Text, OutputData)],
 ) -> Result<(), Refusal> {
-    let dir = directory(words.archive.as_str());
     for (name, data) in outputs {
         let asked = words.outputs.iter().any(|o| o.as_str() == name.get());
         if !asked {
             let name = String::from_str(alloc, name.get())?;
             return Err(Refusal::UnaskedOutput(name));
         }
-        write_output(rt, alloc, dir, name.get(), data)?;
+        let path = beside(alloc, words.archive.as_str(), name.get())?;
+        write_output(rt, alloc, path, data)?;
     }
     Ok(())
 }

@@ -5,7 +5,8 @@ use std::{env, io};
 use thiserror::Error;
 
 /// How the program is called.
-pub(crate) const USAGE: &str = "usage: dist_submit --scheduler URL --token T --archive FILE [--output NAME].. [--input FILE] -- EXECUTABLE [ARG]..";
+pub(crate) const USAGE: &str =
+    "usage: dist_submit --scheduler URL --token T --archive FILE [--output NAME].. [--input FILE] -- EXECUTABLE [ARG]..";
 
 /// What is asked for.
 #[derive(Debug, Drop)]
@@ -111,30 +112,64 @@ impl Options {
     }
 }
 
-/// The options that the words before `--` say.
-fn options_of(alloc: Global, words: &[String]) -> Result<Options, Misuse> {
-    let mut options = Options {
-        scheduler: None,
-        token: None,
-        archive: None,
-        input: None,
-        outputs: Vec::new(alloc),
+/// The words so far: those before `--` are options with their values, the first behind it is the executable.
+#[derive(Drop)]
+struct Said {
+    options: Options,
+    behind: bool,
+    executable: Option<String>,
+    arguments: Vec<String>,
+}
+
+impl Said {
+    /// One more word behind `--`.
+    fn run(&mut self, alloc: Global, word: &str) -> Result<(), Misuse> {
+        let word = String::from_str(alloc, word)?;
+        if self.executable.is_none() {
+            self.executable = Some(word);
+        } else {
+            self.arguments.push(word)?;
+        }
+        Ok(())
+    }
+}
+
+/// What the words behind the program's name say.
+fn said(alloc: Global, words: &[String]) -> Result<Said, Misuse> {
+    let mut said = Said {
+        options: Options {
+            scheduler: None,
+            token: None,
+            archive: None,
+            input: None,
+            outputs: Vec::new(alloc),
+        },
+        behind: false,
+        executable: None,
+        arguments: Vec::new(alloc),
     };
     let mut name: Option<&str> = None;
     for word in words {
-        match name {
-            None => name = Some(word.as_str()),
-            Some(said) => {
-                options.take(alloc, said, word.as_str())?;
-                name = None;
+        let word = word.as_str();
+        if said.behind {
+            said.run(alloc, word)?;
+        } else if word == "--" {
+            said.behind = true;
+        } else {
+            match name {
+                None => name = Some(word),
+                Some(option) => {
+                    said.options.take(alloc, option, word)?;
+                    name = None;
+                }
             }
         }
     }
     match name {
-        None => Ok(options),
-        Some(said) => {
-            let said = String::from_str(alloc, said)?;
-            Err(Misuse::NoValue(said))
+        None => Ok(said),
+        Some(option) => {
+            let option = String::from_str(alloc, option)?;
+            Err(Misuse::NoValue(option))
         }
     }
 }
@@ -146,21 +181,14 @@ fn needed(value: Option<String>, name: &'static str) -> Result<String, Misuse> {
     }
 }
 
-fn copies(alloc: Global, words: &[String]) -> Result<Vec<String>, Misuse> {
-    let mut copies = Vec::new(alloc);
-    for word in words {
-        let copy = String::from_str(alloc, word.as_str())?;
-        copies.push(copy)?;
-    }
-    Ok(copies)
-}
-
 /// What the words behind the program's name ask for.
 fn asked(alloc: Global, words: &[String]) -> Result<Words, Misuse> {
-    let Some(end) = words.iter().position(|word| word.as_str() == "--") else {
-        return Err(Misuse::Missing("--"));
-    };
-    let options = options_of(alloc, &words[..end])?;
+    let Said {
+        options,
+        behind,
+        executable,
+        arguments,
+    } = said(alloc, words)?;
     let Options {
         scheduler,
         token,
@@ -171,11 +199,10 @@ fn asked(alloc: Global, words: &[String]) -> Result<Words, Misuse> {
     let scheduler = needed(scheduler, "--scheduler")?;
     let token = needed(token, "--token")?;
     let archive = needed(archive, "--archive")?;
-    let [executable, arguments @ ..] = &words[end + 1..] else {
-        return Err(Misuse::Missing("EXECUTABLE"));
-    };
-    let executable = String::from_str(alloc, executable.as_str())?;
-    let arguments = copies(alloc, arguments)?;
+    if !behind {
+        return Err(Misuse::Missing("--"));
+    }
+    let executable = needed(executable, "EXECUTABLE")?;
     Ok(Words {
         scheduler,
         token,
@@ -193,7 +220,11 @@ pub(crate) fn words_of(alloc: Global, args: io::Result<env::Args>) -> Result<Wor
         Ok(args) => args,
         Err(fault) => {
             let want = fault.kind() == io::ErrorKind::OutOfMemory;
-            return Err(if want { Misuse::Memory } else { Misuse::NotUtf8 });
+            return Err(if want {
+                Misuse::Memory
+            } else {
+                Misuse::NotUtf8
+            });
         }
     };
     let words: Vec<String> = args.collect(alloc)?;
