@@ -45,10 +45,14 @@ impl MemPackager {
     fn append(&mut self, out: &mut Vec<u8>) -> Result<(), PackFault>
         ensures ok { OnOk result (out.new.items ≡ out.old.items ++ packager_bytes self.old) }
         ensures err { OnErr result (out.new.items ≡ out.old.items) }
-        ensures listed { result ≡ Err PackFault.Refused → is_listed (packager_refuses self.old) (packager_calls self.old) ≡ true }
-        ensures unlisted { OnOk result (is_listed (packager_refuses self.old) (packager_calls self.old) ≡ false) }
-        ensures counted { result ≡ Err PackFault.Refused → packager_refusals self.new ≡ counted (packager_refusals self.old) }
-        ensures rose { result ≡ Err PackFault.Refused → Rose (packager_refusals self.old) (packager_refusals self.new) }
+        ensures listed { result ≡ Err PackFault.Refused → is_listed (packager_refuses self.old)
+            (packager_calls self.old) ≡ true }
+        ensures unlisted { OnOk result (is_listed (packager_refuses self.old) (packager_calls self.old) ≡
+            false) }
+        ensures counted { result ≡ Err PackFault.Refused → packager_refusals self.new ≡ counted
+            (packager_refusals self.old) }
+        ensures rose { result ≡ Err PackFault.Refused → Rose (packager_refusals self.old)
+            (packager_refusals self.new) }
         ensures steady { OnOk result (packager_refusals self.new ≡ packager_refusals self.old) }
         ensures later { packager_refusals self.old ≤ packager_refusals self.new }
         ensures bytes { packager_bytes self.new ≡ packager_bytes self.old }
@@ -80,10 +84,13 @@ impl ToolchainPackager for MemPackager {
         ensures appends { HasAppended out.old.items out.new.items }
         ensures steady { OnOk result (packager_refusals self.new ≡ packager_refusals self.old) }
         ensures later { packager_refusals self.old ≤ packager_refusals self.new }
-        ensures cause { result ≡ Err PackFault.Refused → Rose (packager_refusals self.old) (packager_refusals self.new) }
+        ensures cause { result ≡ Err PackFault.Refused → Rose (packager_refusals self.old)
+            (packager_refusals self.new) }
 
-        ensures listed { result ≡ Err PackFault.Refused → is_listed (packager_refuses self.old) (packager_calls self.old) ≡ true }
-        ensures unlisted { OnOk result (is_listed (packager_refuses self.old) (packager_calls self.old) ≡ false) }
+        ensures listed { result ≡ Err PackFault.Refused → is_listed (packager_refuses self.old)
+            (packager_calls self.old) ≡ true }
+        ensures unlisted { OnOk result (is_listed (packager_refuses self.old) (packager_calls self.old) ≡
+            false) }
         ensures calls { packager_calls self.new ≡ counted (packager_calls self.old) }
         ensures bytes { packager_bytes self.new ≡ packager_bytes self.old }
     {
@@ -106,10 +113,13 @@ impl InputsPackager for MemPackager {
         ensures appends { HasAppended out.old.items out.new.items }
         ensures steady { OnOk result (packager_refusals self.new ≡ packager_refusals self.old) }
         ensures later { packager_refusals self.old ≤ packager_refusals self.new }
-        ensures cause { result ≡ Err PackFault.Refused → Rose (packager_refusals self.old) (packager_refusals self.new) }
+        ensures cause { result ≡ Err PackFault.Refused → Rose (packager_refusals self.old)
+            (packager_refusals self.new) }
 
-        ensures listed { result ≡ Err PackFault.Refused → is_listed (packager_refuses self.old) (packager_calls self.old) ≡ true }
-        ensures unlisted { OnOk result (is_listed (packager_refuses self.old) (packager_calls self.old) ≡ false) }
+        ensures listed { result ≡ Err PackFault.Refused → is_listed (packager_refuses self.old)
+            (packager_calls self.old) ≡ true }
+        ensures unlisted { OnOk result (is_listed (packager_refuses self.old) (packager_calls self.old) ≡
+            false) }
         ensures calls { packager_calls self.new ≡ counted (packager_calls self.old) }
         ensures bytes { packager_bytes self.new ≡ packager_bytes self.old }
     {
