@@ -4,12 +4,29 @@
 //! The layers above use the calls on connections and on workers, the starts and `RealServe` from here.
 #![tactic(auto)]
 
+pub mod http;
 pub mod real_serve;
 
-pub use dist_config::start as http;
+pub use dist_config::config::{ClientAuth, SchedulerConfig, ServerAuth, ServerConfig};
+pub use http_calls::alloc_call::AllocCall;
+pub use http_calls::builder::{RequestBuilder, ReqwestRequestBuilderExt};
+pub use http_calls::run_call::RunCall;
+pub use http_calls::status_call::StatusCall;
+pub use http_calls::submit_call::SubmitCall;
+pub use http_calls::{calls, urls};
 pub use http_connections::served::Served;
 pub use http_connections::start::{Start, StartFault};
 pub use http_connections::tasks::Tasks;
+pub use http_head::error::HttpError;
+pub use http_head::head::read_head;
+pub use http_head::request::Request;
+pub use http_head::word::Word;
+pub use http_routes::calls::read_reply;
+pub use http_routes::err_json::ErrJson;
+pub use http_routes::refusal::RouilleBincodeError;
+pub use http_routes::reply::{Response, bincode_response, prepare_response};
+pub use http_routes::route::{SchedRouted, scheduler_route};
+pub use http_routes::server_route::{ServerRouted, server_route};
 pub use scheduler_service::connection::serve_scheduler_connection;
 pub use scheduler_service::run_scheduler::serve_scheduler;
 pub use scheduler_service::workers::{Kit, serve_scheduler_workers};

@@ -43,6 +43,9 @@ fn beat_of(
         Err(CallError::LinkFault) => unreachable!(),
         Err(CallError::ParseError) => unreachable!(),
         Err(CallError::Status(_, _)) => unreachable!(),
+        Err(CallError::NotLocal) => unreachable!(),
+        Err(CallError::Packager) => unreachable!(),
+        Err(CallError::Local(_)) => unreachable!(),
     }
 }
 

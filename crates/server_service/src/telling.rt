@@ -36,6 +36,9 @@ fn report_of(
         Err(CallError::LinkFault) => unreachable!(),
         Err(CallError::ParseError) => unreachable!(),
         Err(CallError::Status(_, _)) => unreachable!(),
+        Err(CallError::NotLocal) => unreachable!(),
+        Err(CallError::Packager) => unreachable!(),
+        Err(CallError::Local(_)) => unreachable!(),
     }
 }
 
