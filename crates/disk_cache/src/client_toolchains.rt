@@ -53,9 +53,17 @@ impl<F: Folder> Model for ClientToolchains<F> {
 
     ghost Value = { Toolchains };
 
-    ghost view = { λ t. record { dir = t.names.dir; capacity = t.cache.capacity; archives =
-        t.cache.archives; weak = t.weak; configs = t.configs.items; taken = t.taken.items; held = F.held
-        t.cache.folder } };
+    ghost view = { λ t. record {
+      dir = t.names.dir;
+      capacity = t.cache.capacity;
+      archives =
+          t.cache.archives;
+      weak = t.weak;
+      configs = t.configs.items;
+      taken = t.taken.items;
+      held = F.held
+          t.cache.folder;
+    } };
 
     ghost invariant = { λ t. IsShelf t.names t.cache.path t.cache.capacity t.cache.archives (F.held
         t.cache.folder) };

@@ -22,7 +22,7 @@ pub mod weak_map;
 pub use client_toolchains::ClientToolchains;
 pub use config::{CustomToolchain, DistToolchainConfig};
 pub use lru_disk_cache::{
-    Archives, Error, LruDiskCache, Result, TcCache, fault, folder, is_key, mem_folder, real_folder,
-    reliable_folder,
+    Archives, Error, LruDiskCache, LruDiskCacheAddEntry, Opened, ReadSeek, Result, TcCache,
+    WriteFault, fault, folder, is_key, mem_folder, real_folder, reliable_folder,
 };
 pub use toolchain_error::ToolchainError;
