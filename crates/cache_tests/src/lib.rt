@@ -4,3 +4,9 @@
 
 #[cfg(test)]
 mod archives;
+#[cfg(test)]
+mod entries;
+#[cfg(test)]
+mod model;
+#[cfg(test)]
+mod orders;

@@ -1,10 +1,28 @@
 //! The caches of archives, for build servers and for clients.
 //!
-//! Folders, disk caches and the cache of archives known by their SHA-256 stand in `lru_disk_cache`, which
-//! build servers take as it is; their names are given again here.
+//! Folders, disk caches and the cache of archives known by their SHA-256 stand in `lru_disk_cache`, which build
+//! servers take as it is; their names are given again here. Here stand the toolchains of a client.
+//!
+//! The contract: a client's toolchains are seen as one record, `Toolchains`: its archives, the weak map, what is
+//! configured, the configured archives whose SHA-256 was taken, and what the folder tells. Each call answers and
+//! leaves what its relation says of it, by `Gets`, `TellsCustom` and `Puts`; and whatever failed, each listed
+//! archive has its file, and the file of the weak map is one (`IsClient`).
+//! The layers above use `ClientToolchains`, what it is configured with, and its error.
 #![tactic(auto)]
 
+mod client_toolchains;
+pub mod config;
+pub mod custom;
+mod emptied;
+pub mod names;
+pub mod toolchain_error;
+mod weak_file;
+pub mod weak_map;
+
+pub use client_toolchains::ClientToolchains;
+pub use config::{CustomToolchain, DistToolchainConfig};
 pub use lru_disk_cache::{
-    Archives, Error, LruDiskCache, Result, TcCache, fault, folder, is_key, mem_folder, real_folder,
-    reliable_folder,
+    Archives, Error, LruDiskCache, LruDiskCacheAddEntry, Opened, ReadSeek, Result, TcCache,
+    WriteFault, fault, folder, is_key, mem_folder, real_folder, reliable_folder,
 };
+pub use toolchain_error::ToolchainError;

@@ -1,29 +1,36 @@
-//! A scheduler over HTTP/1.1 (RFC 9112): its connections, its workers and its listener.
+//! Schedulers and build servers over HTTP/1.1 (RFC 9112), under one roof: the names of the crates below again, and
+//! `RealServe`, by which a configuration is served on the system.
 //!
-//! A connection is taken, answered and sent, each by a function: `take` reads up to the stop, parses the head once
-//! and reads exactly the body behind it; `route` and `answer` do what is asked by one call of the scheduler, over a
-//! requester on a lent dialer; `connection` puts the three together, and its one clause says what becomes of the
-//! link, the pass, the clock, the dialer and the check of clients. `workers` runs one worker for each kit in a
-//! thread of its own. `accepting`, `stream`, `checks`, `run_scheduler` and `real_serve` are the system's side.
-//!
-//! The layers above use `take`, `send`, `serve_scheduler_connection`, `serve_scheduler_workers`, `Tasks`, `Kit`,
-//! `serve_scheduler`, `RealServe` with `Start`, and of the definitions `IsServedBy`, `IsReplied`, `Worked` and `Hears`.
+//! The layers above use the calls on connections and on workers, the starts and `RealServe` from here.
 #![tactic(auto)]
 
-pub mod accepting;
-pub mod answer;
-pub mod asking;
-pub mod checks;
-pub mod connection;
-mod host;
+pub mod http;
 pub mod real_serve;
-pub mod route;
-pub mod run_scheduler;
-mod scan;
-pub mod served;
-pub mod start;
-mod stop;
-pub mod stream;
-pub mod take;
-pub mod tasks;
-pub mod workers;
+
+pub use dist_config::config::{ClientAuth, SchedulerConfig, ServerAuth, ServerConfig};
+pub use http_calls::alloc_call::AllocCall;
+pub use http_calls::builder::{RequestBuilder, ReqwestRequestBuilderExt};
+pub use http_calls::run_call::RunCall;
+pub use http_calls::status_call::StatusCall;
+pub use http_calls::submit_call::SubmitCall;
+pub use http_calls::{calls, urls};
+pub use http_connections::served::Served;
+pub use http_connections::start::{Start, StartFault};
+pub use http_connections::tasks::Tasks;
+pub use http_head::error::HttpError;
+pub use http_head::head::read_head;
+pub use http_head::request::Request;
+pub use http_head::word::Word;
+pub use http_routes::calls::read_reply;
+pub use http_routes::err_json::ErrJson;
+pub use http_routes::refusal::RouilleBincodeError;
+pub use http_routes::reply::{Response, bincode_response, prepare_response};
+pub use http_routes::route::{SchedRouted, scheduler_route};
+pub use http_routes::server_route::{ServerRouted, server_route};
+pub use scheduler_service::connection::serve_scheduler_connection;
+pub use scheduler_service::run_scheduler::serve_scheduler;
+pub use scheduler_service::workers::{Kit, serve_scheduler_workers};
+pub use server_service::connection::serve_server_connection;
+pub use server_service::heartbeat::{HEARTBEAT_FAULT_WAIT_MS, HEARTBEAT_WAIT_MS};
+pub use server_service::run_server::serve_server;
+pub use server_service::workers::{BuildKit, serve_server_workers};

@@ -1,11 +1,11 @@
 //! The system's own: what serves by listeners and workers.
 ghost use Rattle.std.specs.Prelude.{◌≡◌, None};
 
-use crate::start::{Start, StartFault};
-use crate::stream::LINK_TIMEOUT_MS;
 use dist_config::config::{SchedulerConfig, ServerConfig};
 use dist_config::serve::Serve;
 use dist_types::fault::{Failed, raise};
+use http_connections::start::{Start, StartFault};
+use http_connections::stream::LINK_TIMEOUT_MS;
 use rand_core::Rng;
 
 /// A start of a scheduler.

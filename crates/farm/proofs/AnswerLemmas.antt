@@ -109,8 +109,9 @@ memory_unparsed what WriteFault before after long h = absurd long
 memory_unparsed what ServeFault before after long h = absurd long
 memory_unparsed what Memory before after long h = absurd long
 
-usage_is_short : (met : FarmFault) → met ≡ Usage → IsLong met → ⊥
-usage_is_short met e long = subst (λ (f : FarmFault). IsLong f) e long
+usage_is_short : (met : FarmFault) → (met ≡ Usage) ⊎ (met ≡ Memory) → IsLong met → ⊥
+usage_is_short met (inl e) long = subst (λ (f : FarmFault). IsLong f) e long
+usage_is_short met (inr e) long = subst (λ (f : FarmFault). IsLong f) e long
 
 memory_done : (what : Option Asked) (met : FarmFault) (before after : Moment) → IsLong met → IsDoneBy what (Err met) before after → IsDoneBy what (Err Memory) before after
 memory_done None met before after long h = absurd (usage_is_short met h.0 long)
@@ -421,14 +422,21 @@ served_of (suc k) c e x a seven five =
 
 -- ---- words that name no command, and words that do
 
-usage_status : (f : FarmFault) (answer : ℕ) (e x : Side) → f ≡ Usage → IsTold f answer e x → (answer ≡ 2) ⊎ (answer ≡ 5)
-usage_status f answer e x is told = by_told (subst (λ (g : FarmFault). IsTold g answer e x) is told)
+usage_status : (f : FarmFault) (answer : ℕ) (e x : Side) → (f ≡ Usage) ⊎ (f ≡ Memory) → IsTold f answer e x
+    → (answer ≡ 2) ⊎ ((answer ≡ 3) ⊎ (answer ≡ 5))
+usage_status f answer e x (inl is) told = by_told (subst (λ (g : FarmFault). IsTold g answer e x) is told)
   where
-    by_told : IsTold Usage answer e x → (answer ≡ 2) ⊎ (answer ≡ 5)
+    by_told : IsTold Usage answer e x → (answer ≡ 2) ⊎ ((answer ≡ 3) ⊎ (answer ≡ 5))
     by_told (inl t) = inl t.0
-    by_told (inr t) = inr t.0
+    by_told (inr t) = inr (inr t.0)
+usage_status f answer e x (inr is) told = by_told (subst (λ (g : FarmFault). IsTold g answer e x) is told)
+  where
+    by_told : IsTold Memory answer e x → (answer ≡ 2) ⊎ ((answer ≡ 3) ⊎ (answer ≡ 5))
+    by_told (inl t) = inr (inl t.0)
+    by_told (inr t) = inr (inr t.0)
 
-pub no_command_of : (answer : ℕ) (c : Called) (e x : Side) → IsAnswered answer c e x → asked_by c.words ≡ None → (answer ≡ 2) ⊎ (answer ≡ 5)
+pub no_command_of : (answer : ℕ) (c : Called) (e x : Side) → IsAnswered answer c e x → asked_by c.words ≡ None
+    → (answer ≡ 2) ⊎ ((answer ≡ 3) ⊎ (answer ≡ 5))
 no_command_of zero c e x a none =
     let d : IsDoneBy None (Ok tt) c.before c.after = subst (λ (w : Option Asked). IsDoneBy w (Ok tt) c.before c.after) none (a.done refl).0 in absurd d.0
 no_command_of (suc k) c e x a none =

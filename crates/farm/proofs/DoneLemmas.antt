@@ -4,7 +4,7 @@ use Rattle.std.specs.Prelude.{IfSome, ⊤}
 use Rattle.rand_core.specs.Stream.{Stream}
 use Rattle.farm_config.specs.declared.files.NamedFile.{NamedFile}
 use Rattle.farm_script.specs.declared.fault.FarmFault.{FarmFault}
-use Rattle.farm_script.specs.declared.fault.FarmFault.TheVariants.{Usage}
+use Rattle.farm_script.specs.declared.fault.FarmFault.TheVariants.{Usage, Memory}
 use Rattle.farm_words.specs.declared.command.Command.{Command}
 use Rattle.farm_words.specs.declared.command.Command.TheVariants.{Farm, Auth, Scheduler, Server}
 use Rattle.farm_words.specs.Asked.{Asked}
@@ -22,16 +22,25 @@ carried_out_at (Server config) result before after h = h
 
 -- a command was parsed and carried out
 pub done_parsed : (o : Option Asked) (command : Command) (result : Result ⊤ FarmFault) (before after : Moment)
-    → (o ≡ None → ◌≡◌ {A = Result Command FarmFault} (Ok command) (Err Usage)) → IfSome o (λ what. IsParsed what (Ok command) before.files before.file_faults after.file_faults)
+    → (o ≡ None → (◌≡◌ {A = Result Command FarmFault} (Ok command) (Err Usage))
+    ⊎ (◌≡◌ {A = Result Command FarmFault} (Ok command) (Err Memory))) → IfSome o (λ what. IsParsed what (Ok command) before.files before.file_faults after.file_faults)
     → IsCarriedOut command result before after → IsDoneBy o result before after
-done_parsed None command result before after usage parsed out = absurd (let e = usage refl in cc)
+done_parsed None command result before after usage parsed out = absurd (by_cases (usage refl))
+  where
+    by_cases : (◌≡◌ {A = Result Command FarmFault} (Ok command) (Err Usage))
+        ⊎ (◌≡◌ {A = Result Command FarmFault} (Ok command) (Err Memory)) → ⊥
+    by_cases (inl e) = cc e
+    by_cases (inr e) = cc e
 done_parsed (Some what) command result before after usage parsed out = inr (record { command = command; parsed = parsed; carried_out = out })
 
-usage_is : (f : FarmFault) → ◌≡◌ {A = Result Command FarmFault} (Err f) (Err Usage) → f ≡ Usage
-usage_is f e = cc
+usage_is : (f : FarmFault) → (◌≡◌ {A = Result Command FarmFault} (Err f) (Err Usage))
+    ⊎ (◌≡◌ {A = Result Command FarmFault} (Err f) (Err Memory)) → (f ≡ Usage) ⊎ (f ≡ Memory)
+usage_is f (inl e) = inl cc
+usage_is f (inr e) = inr cc
 
 -- no command was parsed
-pub done_unparsed : (o : Option Asked) (f : FarmFault) (before after : Moment) → (o ≡ None → ◌≡◌ {A = Result Command FarmFault} (Err f) (Err Usage))
+pub done_unparsed : (o : Option Asked) (f : FarmFault) (before after : Moment) → (o ≡ None → (◌≡◌ {A = Result Command FarmFault} (Err f) (Err Usage))
+    ⊎ (◌≡◌ {A = Result Command FarmFault} (Err f) (Err Memory)))
     → (o ≡ None → after.file_faults ≡ before.file_faults) → IfSome o (λ what. IsParsed what (Err f) before.files before.file_faults after.file_faults)
     → IsUntouched before after → IsDoneBy o (Err f) before after
 done_unparsed None f before after usage unread parsed same = (usage_is f (usage refl), same, unread refl)

@@ -153,12 +153,12 @@ pub record IsWorked (what : Asked) (result : Result ⊤ FarmFault) (before after
   pub parsed : IsParsed what (Ok command) before.files before.file_faults after.file_faults
   pub carried_out : IsCarriedOut command result before after
 
--- that words name no command
+-- that words name no command, or that memory ran out
 abbrev pub IsUsage : Result ⊤ FarmFault → Type 0
 IsUsage (Ok x) = ⊥
-IsUsage (Err f) = f ≡ Usage
+IsUsage (Err f) = (f ≡ Usage) ⊎ (f ≡ Memory)
 
--- The words are judged first. Where they stand in no row that is the fault, and nothing was touched. Else the configuration that they name is read,
+-- The words are judged first. Where they stand in no row that is the fault, unless memory ran out, and nothing was touched. Else the configuration that they name is read,
 -- and then the command is carried out.
 abbrev pub IsDoneBy : Option Asked → Result ⊤ FarmFault → Moment → Moment → Type 0
 IsDoneBy None result before after = IsUsage result × IsUntouched before after × (after.file_faults ≡ before.file_faults)

@@ -233,8 +233,10 @@ pub fn dist_main<S: Source, K: Sink, E: Sink, D: Files, R: Rng, N: Serve>(
     ensures order { result ≢ 4 → result ≢ 5 → S.faults input.new ≡ S.faults input.old }
     ensures counts { result ≢ 5
         → (K.faults out.new ≡ K.faults out.old) × (E.faults errs.new ≡ E.faults errs.old) }
-    // Without the words of a command it is 2, or 5 where errs failed; with them it is not 2.
-    ensures no_command { asked_by (map string_bytes words.now) ≡ None → (result ≡ 2) ⊎ (result ≡ 5) }
+    // Without the words of a command it is 2, 3 where memory ran out, or 5 where errs failed; with them it is
+    // not 2.
+    ensures no_command { asked_by (map string_bytes words.now) ≡ None
+        → (result ≡ 2) ⊎ (result ≡ 3) ⊎ (result ≡ 5) }
     ensures command { (what : Asked) → asked_by (map string_bytes words.now) ≡ Some what → result ≢ 2 }
     // Where the configuration that the words name has a fault it is 6, without want of memory.
     ensures configured { IfSome (D.files files.old) (λ told. (what : Asked) (cause : Cause)

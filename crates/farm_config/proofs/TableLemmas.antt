@@ -1,23 +1,30 @@
--- The first unknown key, one key after the other.
-use Rattle.std.proofs.Common.{◌≡◌, ℕ, List, [], ◌∷◌, Bool, true, false, Some, map, string_bytes, Bor, refl, ap, ◌||◌}
+-- One key more of a table, and a test of what stands behind references.
+use Rattle.std.proofs.Common.{◌≡◌, ℕ, List, [], ◌∷◌, Bool, true, false, Option, Some, map, string_bytes, Bor, refl, ap, ◌||◌}
 use Rattle.std.specs.List.{list_any}
 use Rattle.std.specs.Str.{bytes_eq}
 use Rattle.toml.specs.View.{members_view}
 use Rattle.toml.proofs.Views.{Entry}
-use Rattle.farm_config.specs.Values.{first_unknown}
+use Rattle.farm_config.specs.Unknown.{lesser, least_with, least_from}
 
 -- a test of what stands behind references
-any_behind : (p : List ℕ → Bool) (names : List (Bor (List ℕ))) → list_any (λ (name : Bor (List ℕ)). p name.now) names ≡ list_any p (map (λ name. name.now) names)
+pub any_behind : (p : List ℕ → Bool) (names : List (Bor (List ℕ))) → list_any (λ (name : Bor (List ℕ)). p name.now) names ≡ list_any p (map (λ name. name.now) names)
 any_behind p [] = refl
 any_behind p (x ∷ xs) = ap (λ b. p x.now || b) (any_behind p xs)
 
--- a key that is none of the names is the first
-pub unknown_here : (names : List (Bor (List ℕ))) (e : Entry) (es : List Entry) (key : List ℕ) → key ≡ string_bytes e.0
-    → list_any (λ (name : Bor (List ℕ)). bytes_eq name.now key) names ≡ false → Some key ≡ first_unknown (map (λ name. name.now) names) (members_view (e ∷ es))
-unknown_here names e es key same none = rw (← same, ← any_behind (λ name. bytes_eq name key) names, none) refl
+-- the least key of a table, by its first key
+pub least_more : (known : List (List ℕ)) (least next : Option (List ℕ)) (e : Entry) (es : List Entry) (key : List ℕ)
+    → key ≡ string_bytes e.0 → next ≡ least_with known least key
+    → least_from known next (members_view es) ≡ least_from known least (members_view (e ∷ es))
+least_more known least next e es key same is = rw (is, same) refl
 
--- behind a key that is one of the names the first is as before
-pub unknown_later : (names : List (Bor (List ℕ))) (e : Entry) (es : List Entry) (key : List ℕ) → key ≡ string_bytes e.0
+-- a key that is one of the names changes nothing
+pub known_more : (names : List (Bor (List ℕ))) (least : Option (List ℕ)) (key : List ℕ)
     → list_any (λ (name : Bor (List ℕ)). bytes_eq name.now key) names ≡ true
-    → first_unknown (map (λ name. name.now) names) (members_view es) ≡ first_unknown (map (λ name. name.now) names) (members_view (e ∷ es))
-unknown_later names e es key same one = rw (← same, ← any_behind (λ name. bytes_eq name key) names, one) refl
+    → least ≡ least_with (map (λ name. name.now) names) least key
+known_more names least key one = rw (← any_behind (λ name. bytes_eq name key) names, one) refl
+
+-- a key that is none of the names is compared
+pub unknown_more : (names : List (Bor (List ℕ))) (least : Option (List ℕ)) (key : List ℕ)
+    → list_any (λ (name : Bor (List ℕ)). bytes_eq name.now key) names ≡ false
+    → Some (lesser key least) ≡ least_with (map (λ name. name.now) names) least key
+unknown_more names least key none = rw (← any_behind (λ name. bytes_eq name key) names, none) refl

@@ -18,15 +18,16 @@ use Rattle.dist_config.specs.declared.config.ServerConfig.{ServerConfig}
 use Rattle.farm_script.specs.declared.fault.ConfigCause.{ConfigCause}
 use Rattle.farm_script.specs.declared.fault.ConfigCause.TheVariants.{NotToml, Key}
 use Rattle.farm_config.specs.Told.{◌>>=◌, needed}
-use Rattle.farm_config.specs.Values.{first_unknown, has_only, text_at, address_at, http_url_at, optional_number_at, is_secret}
+use Rattle.farm_config.specs.Unknown.{least_unknown}
+use Rattle.farm_config.specs.Values.{has_only, text_at, address_at, http_url_at, optional_number_at, is_secret}
 
--- each key is known, or the first that is not is the bad one
+-- each key is known, or the least that is not, in byte order, is the bad one
 abbrev pub known_or : Option (List ℕ) → Result ⊤ ConfigCause
 known_or None = Ok tt
 known_or (Some key) = Err (Key key)
 
 abbrev pub known : List (List ℕ) → Members → Result ⊤ ConfigCause
-known keys table = known_or (first_unknown keys table)
+known keys table = known_or (least_unknown keys table)
 
 -- what is said where no other key stands in the table
 abbrev pub alone : {A : Type 0} → List (List ℕ) → Members → Option A → Option A

@@ -1,23 +1,18 @@
 -- What a key of a TOML table says.
 use Rattle.std.specs.Prelude.{ℕ, List, pos, Bool, false, not, ◌==◌, ◌&&◌, is_some, length, if◌then◌else◌, Option, Some, None, option_and_then, codes}
-use Rattle.std.specs.List.{list_any}
 use Rattle.std.specs.Str.{bytes_eq}
 use Rattle.std.specs.Result.{result_ok}
-use Rattle.toml.specs.Data.{Data, integer, as_str, as_table, Members, no_members, member, get_member}
+use Rattle.toml.specs.Data.{Data, integer, as_str, as_table, Members, get_member}
 use Rattle.url.specs.Parser.{parse_url}
 use Rattle.url.specs.Parts.{Parts}
 use Rattle.dist_types.specs.Addr.{addr_in}
 use Rattle.dist_types.specs.declared.addr.Addr.{Addr}
 use Rattle.dist_token.specs.Verdict.{bytes_of}
-
--- the first key that is none of these; the members of a document stand in byte order
-abbrev pub first_unknown : List (List ℕ) → Members → Option (List ℕ)
-first_unknown known no_members = None
-first_unknown known (member key value rest) = if list_any (λ name. bytes_eq name key) known then first_unknown known rest else Some key
+use Rattle.farm_config.specs.Unknown.{least_unknown}
 
 -- each key is one of these
 abbrev pub has_only : List (List ℕ) → Members → Bool
-has_only known table = not (is_some (first_unknown known table))
+has_only known table = not (is_some (least_unknown known table))
 
 -- the text at a key
 abbrev pub text_at : List ℕ → Members → Option (List ℕ)

@@ -4,7 +4,8 @@ ghost use Rattle.std.specs.List.{list_any};
 ghost use Rattle.std.specs.Str.{bytes_eq};
 ghost use Rattle.toml.specs.Data.{get_member, as_table};
 ghost use Rattle.toml.specs.View.{view, table_view};
-ghost use Rattle.farm_config.specs.Values.{first_unknown, has_only, text_at, address_at, http_url_at, http_url_in, optional_number, optional_number_at};
+ghost use Rattle.farm_config.specs.Unknown.{lesser, least_with, least_unknown, IsLeast};
+ghost use Rattle.farm_config.specs.Values.{has_only, text_at, address_at, http_url_at, http_url_in, optional_number, optional_number_at};
 
 use dist_types::addr::{Addr, read_addr};
 use dist_types::fault::Memory;
@@ -25,25 +26,47 @@ fn is_one_of(key: &str, names: &[&str]) -> bool
     names.iter().any(|name| *name == key)
 }
 
-/// The first key that is none of these.
-pub fn first_unknown<'a>(table: &'a Table, known: &[&str]) -> Option<&'a str>
-    ensures { option_map (λ key. key.now) result
-        ≡ first_unknown (map (λ name. name.now) known.now) (table_view table.now) }
+/// The lesser of a key and another, if there is one, in byte order.
+fn lesser<'a>(key: &'a str, least: Option<&'a str>) -> &'a str
+    ensures { result.now ≡ lesser key.now (option_map (λ other. other.now) least.entry) }
 {
-    for (key, _) in table {
-        let key = key.as_str();
-        if !is_one_of(key, known) {
-            return Some(key);
-        }
+    match least {
+        None => key,
+        Some(other) => { if key.cmp(other).is_gt() { other } else { key } }
     }
-    None
+}
+
+/// The least key that is none of these, with one key more.
+fn least_with<'a>(known: &[&str], least: Option<&'a str>, key: &'a str) -> Option<&'a str>
+    ensures { option_map (λ k. k.now) result
+        ≡ least_with (map (λ name. name.now) known.now) (option_map (λ k. k.now) least.entry) key.now }
+{
+    if is_one_of(key, known) {
+        least
+    } else {
+        Some(lesser(key, least))
+    }
+}
+
+/// The least key, in byte order, that is none of these.
+pub fn least_unknown<'a>(table: &'a Table, known: &[&str]) -> Option<&'a str>
+    ensures unknown { option_map (λ key. key.now) result
+        ≡ least_unknown (map (λ name. name.now) known.now) (table_view table.now) }
+    ensures least { IsLeast (map (λ name. name.now) known.now) (table_view table.now)
+        (option_map (λ key. key.now) result) }
+{
+    let mut least = None;
+    for (key, _) in table {
+        least = least_with(known, least, key.as_str());
+    }
+    least
 }
 
 /// Whether each key is one of these.
 pub fn has_only(table: &Table, known: &[&str]) -> bool
     ensures { result ≡ has_only (map (λ name. name.now) known.now) (table_view table.now) }
 {
-    first_unknown(table, known).is_none()
+    least_unknown(table, known).is_none()
 }
 
 /// The text at a key.

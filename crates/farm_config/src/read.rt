@@ -10,7 +10,7 @@ use crate::auth::{builder_at, client_auth_at, scheduler_auth_at, server_auth_at}
 use crate::cause::ConfigFault;
 use crate::files::{FileFault, Files};
 use crate::look_up::{
-    address_at, first_unknown, http_url_at, optional_number_at, text_at, value_at,
+    address_at, http_url_at, least_unknown, optional_number_at, text_at, value_at,
 };
 use dist_config::config::{SchedulerConfig, ServerConfig};
 use dist_types::addr::Addr;
@@ -44,7 +44,7 @@ fn bad_key(alloc: Global, key: &str) -> ConfigFault
 fn known(alloc: Global, keys: &[&str], table: &Table) -> Result<(), ConfigFault>
     ensures { Gives (λ x. x) (known (map (λ key. key.now) keys.now) (table_view table.now)) result }
 {
-    match first_unknown(table, keys) {
+    match least_unknown(table, keys) {
         Some(key) => Err(bad_key(alloc, key)),
         None => Ok(()),
     }

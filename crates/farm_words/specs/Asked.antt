@@ -1,5 +1,5 @@
 -- Which command words ask for: the rows of the command line.
-use Rattle.std.specs.Prelude.{ℕ, ◌/◌, ◌%◌, List, [], ◌∷◌, Bool, ◌&&◌, not, ◌==◌, is_some, nat_le, if◌then◌else◌, Option, Some, None, option_map, option_and_then, codes}
+use Rattle.std.specs.Prelude.{ℕ, ◌/◌, ◌%◌, List, [], ◌∷◌, Bool, ◌&&◌, ◌==◌, is_some, nat_le, if◌then◌else◌, Option, Some, None, option_map, option_and_then, codes}
 use Rattle.std.specs.Str.{bytes_eq}
 use Rattle.std.specs.Str.Parse.{without_leading_plus, digits_value}
 use Rattle.dist_types.specs.Addr.{addr_in, is_digits}

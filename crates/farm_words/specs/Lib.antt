@@ -1,4 +1,5 @@
 pub mod Options
+pub mod Clap
 pub mod Asked
 pub mod Views
 pub mod Parsed

@@ -1,19 +1,98 @@
 -- The options behind a command: `--name VALUE` or `--name=VALUE`, each once, in any order.
-use Rattle.std.specs.Prelude.{ℕ, List, [], ◌∷◌, Bool, true, false, not, ◌==◌, is_some, if◌then◌else◌, Option, Some, None, option_map, option_and_then, codes}
+use Rattle.std.specs.Prelude.{ℕ, List, [], ◌∷◌, ◌++◌, Bool, true, false, not, ◌==◌, if◌then◌else◌, Option, Some, None, option_map, option_and_then, codes}
+use Rattle.std.specs.List.{list_all, list_any}
 use Rattle.std.specs.Str.{bytes_eq}
 use Rattle.clap.specs.Lexer.{long_of}
 use Rattle.farm_words.specs.declared.option_words.Options.{Options}
-use Rattle.farm_words.specs.declared.option_words.Reading.{Reading}
 
--- what was said
+-- the options that there are
+abbrev pub option_names : List (List ℕ)
+option_names = codes "bits" ∷ codes "server" ∷ codes "secret-key" ∷ codes "config" ∷ []
+
+abbrev pub is_among : List (List ℕ) → List ℕ → Bool
+is_among names name = list_any (λ n. bytes_eq n name) names
+
+-- what was said: the options with their values, in order
+abbrev pub Pairs : Type 0
+Pairs = List (List ℕ × List ℕ)
+
+abbrev pub has_option : List ℕ → Pairs → Bool
+has_option name pairs = list_any (λ p. bytes_eq p.0 name) pairs
+
+-- the same with a value more, where the option has none so far
+abbrev pub with_option : Pairs → List ℕ → List ℕ → Option Pairs
+with_option pairs name value = if has_option name pairs then None else Some (pairs ++ (name, value) ∷ [])
+
+-- ---- words
+
+abbrev pub is_empty : List ℕ → Bool
+is_empty [] = true
+is_empty (byte ∷ rest) = false
+
+-- `--name`, or `--name=value` with a value that is not empty
+abbrev pub is_option_word : Option (List ℕ × Option (List ℕ)) → Bool
+is_option_word None = false
+is_option_word (Some (name, None)) = true
+is_option_word (Some (name, Some value)) = not (is_empty value)
+
+-- A word that may stand in a row: it is not empty, and where it has two or more bytes and begins with `-`,
+-- it is `--name`, or `--name=value` with a value that is not empty.
+abbrev pub may_stand : List ℕ → Bool
+may_stand [] = false
+may_stand (byte ∷ []) = true
+may_stand (byte ∷ next ∷ rest) = if byte == 45 then is_option_word (long_of (byte ∷ next ∷ rest)) else true
+
+-- a value that is a word of its own: one of two or more bytes does not begin with `-`
+abbrev pub is_value : List ℕ → Bool
+is_value [] = false
+is_value (byte ∷ []) = true
+is_value (byte ∷ next ∷ rest) = not (byte == 45)
+
+-- ---- one word after the other
+
+-- what was said so far, and the option whose value is the next word
+pub record State : Type 0 where
+  pub pairs : Pairs
+  pub waiting : Option (List ℕ)
+
+abbrev pub complete : Pairs → State
+complete pairs = record { pairs = pairs; waiting = None }
+
+-- a word that begins an option of these names
+abbrev pub begun : List (List ℕ) → Pairs → Option (List ℕ × Option (List ℕ)) → Option State
+begun names pairs None = None
+begun names pairs (Some (name, None)) =
+    if is_among names name then Some (record { pairs = pairs; waiting = Some name }) else None
+begun names pairs (Some (name, Some value)) =
+    if is_among names name then option_map complete (with_option pairs name value) else None
+
+-- a word that is the value of an option
+abbrev pub completed : Pairs → List ℕ → List ℕ → Option State
+completed pairs name word = if is_value word then option_map complete (with_option pairs name word) else None
+
+-- one more word
+abbrev pub stepped : List (List ℕ) → Pairs → Option (List ℕ) → List ℕ → Option State
+stepped names pairs None word = begun names pairs (long_of word)
+stepped names pairs (Some name) word = completed pairs name word
+
+-- at the end no option waits
+abbrev pub ended : Pairs → Option (List ℕ) → Option Pairs
+ended pairs None = Some pairs
+ended pairs (Some name) = None
+
+abbrev pub pairs_from : List (List ℕ) → State → List (List ℕ) → Option Pairs
+pairs_from names s [] = ended s.pairs s.waiting
+pairs_from names s (word ∷ words) =
+    option_and_then (λ next. pairs_from names next words) (stepped names s.pairs s.waiting word)
+
+-- ---- by name
+
+-- what the options of a command say
 pub record Said : Type 0 where
   pub bits : Option (List ℕ)
   pub server : Option (List ℕ)
   pub secret_key : Option (List ℕ)
   pub config : Option (List ℕ)
-
-abbrev pub nothing_said : Said
-nothing_said = record { bits = None; server = None; secret_key = None; config = None }
 
 -- the same, of the Rust struct
 abbrev pub said_of : Options → Said
@@ -24,63 +103,19 @@ said_of o = record {
   config = option_map (λ t. t.now) o.config;
 }
 
--- what was said, with a value more, where the option has none so far
-abbrev pub with_option : Said → List ℕ → List ℕ → Option Said
-with_option said name value =
-    if bytes_eq name (codes "bits") then (if is_some said.bits then None else Some (record said { bits = Some value }))
-    else if bytes_eq name (codes "server") then (if is_some said.server then None else Some (record said { server = Some value }))
-    else if bytes_eq name (codes "secret-key") then (if is_some said.secret_key then None else Some (record said { secret_key = Some value }))
-    else if bytes_eq name (codes "config") then (if is_some said.config then None else Some (record said { config = Some value }))
-    else None
+abbrev pub value_of : List ℕ → Pairs → Option (List ℕ)
+value_of name [] = None
+value_of name (p ∷ pairs) = if bytes_eq p.0 name then Some p.1 else value_of name pairs
 
--- a value that is a word: one of two or more bytes does not begin with `-`, and none is empty
-abbrev pub is_value : List ℕ → Bool
-is_value [] = false
-is_value (byte ∷ []) = true
-is_value (byte ∷ next ∷ rest) = not (byte == 45)
+abbrev pub said_by : Pairs → Said
+said_by pairs = record {
+  bits = value_of (codes "bits") pairs;
+  server = value_of (codes "server") pairs;
+  secret_key = value_of (codes "secret-key") pairs;
+  config = value_of (codes "config") pairs;
+}
 
-abbrev pub is_empty : List ℕ → Bool
-is_empty [] = true
-is_empty (byte ∷ rest) = false
-
--- what was said so far, and the option whose value is the next word
-pub record State : Type 0 where
-  pub said : Said
-  pub waiting : Option (List ℕ)
-
-abbrev pub state_of : Reading → State
-state_of r = record { said = said_of r.said; waiting = option_map (λ t. t.now) r.waiting }
-
-abbrev pub complete : Said → State
-complete said = record { said = said; waiting = None }
-
--- a word that begins an option
-abbrev pub begun : Said → Option (List ℕ × Option (List ℕ)) → Option State
-begun said None = None
-begun said (Some (name, None)) = Some (record { said = said; waiting = Some name })
-begun said (Some (name, Some value)) = if is_empty value then None else option_map complete (with_option said name value)
-
--- a word that is the value of an option
-abbrev pub completed : Said → List ℕ → List ℕ → Option State
-completed said name word = if is_value word then option_map complete (with_option said name word) else None
-
--- one more word
-abbrev pub stepped_by : Said → Option (List ℕ) → List ℕ → Option State
-stepped_by said None word = begun said (long_of word)
-stepped_by said (Some name) word = completed said name word
-
-abbrev pub stepped : State → List ℕ → Option State
-stepped s word = stepped_by s.said s.waiting word
-
--- at the end no option waits
-abbrev pub ended : Said → Option (List ℕ) → Option Said
-ended said None = Some said
-ended said (Some name) = None
-
-abbrev pub options_from : State → List (List ℕ) → Option Said
-options_from s [] = ended s.said s.waiting
-options_from s (word ∷ words) = option_and_then (λ next. options_from next words) (stepped s word)
-
--- what the options that these words are say, where each word is part of one
+-- What the options that these words are say: each word may stand, and is part of one.
 abbrev pub options_in : List (List ℕ) → Option Said
-options_in words = options_from (complete nothing_said) words
+options_in words =
+    if list_all may_stand words then option_map said_by (pairs_from option_names (complete []) words) else None

@@ -1,5 +1,5 @@
 //! What words ask for, by the rows of the command line.
-ghost use Rattle.std.specs.Prelude.{◌≡◌, ◌/◌, map, option_map, option_and_then, string_bytes};
+ghost use Rattle.std.specs.Prelude.{◌≡◌, ◌/◌, ◌∷◌, IfOk, map, option_map, option_and_then, string_bytes};
 ghost use Rattle.farm_words.specs.Options.{said_of, options_in};
 ghost use Rattle.farm_words.specs.Asked.{farm_row, key_row, shared_length, shared_by, keyed, token_by, file_of, auth_row, command_row, asked_by};
 ghost use Rattle.farm_words.specs.Asked as spec;
@@ -8,6 +8,8 @@ ghost use Rattle.farm_words.specs.Views.{asked_of};
 use crate::option_words::{Options, options_in};
 use crate::token_length::TokenLength;
 use dist_types::addr::{Addr, read_addr};
+use dist_types::fault::Memory;
+use std::alloc::Global;
 
 /// How many bits a shared token has where none are asked for.
 const SHARED_BITS: u64 = 256;
@@ -124,92 +126,114 @@ fn file_of<'a>(said: &Options<'a>) -> Option<&'a str>
     said.config
 }
 
-fn shared_row(words: &[String]) -> Option<Asked<'_>>
-    ensures { option_map asked_of result ≡ option_and_then shared_by (options_in (map string_bytes words.now)) }
+fn shared_row<'a>(alloc: Global, words: &'a [String]) -> Result<Option<Asked<'a>>, Memory>
+    ensures { IfOk result (λ asked. option_map asked_of asked
+        ≡ option_and_then shared_by (options_in (map string_bytes words.now))) }
 {
-    match options_in(words) {
-        Some(said) => shared_by(&said),
-        None => None,
+    match options_in(alloc, words)? {
+        Some(said) => Ok(shared_by(&said)),
+        None => Ok(None),
     }
 }
 
-fn token_row(words: &[String]) -> Option<Asked<'_>>
-    ensures { option_map asked_of result ≡ option_and_then token_by (options_in (map string_bytes words.now)) }
+fn token_row<'a>(alloc: Global, words: &'a [String]) -> Result<Option<Asked<'a>>, Memory>
+    ensures { IfOk result (λ asked. option_map asked_of asked
+        ≡ option_and_then token_by (options_in (map string_bytes words.now))) }
 {
-    match options_in(words) {
-        Some(said) => token_by(&said),
-        None => None,
+    match options_in(alloc, words)? {
+        Some(said) => Ok(token_by(&said)),
+        None => Ok(None),
     }
 }
 
-fn file_row(words: &[String]) -> Option<&str>
-    ensures { option_map (λ path. path.now) result ≡ option_and_then file_of (options_in (map string_bytes words.now)) }
+fn file_row<'a>(alloc: Global, words: &'a [String]) -> Result<Option<&'a str>, Memory>
+    ensures { IfOk result (λ path. option_map (λ p. p.now) path
+        ≡ option_and_then file_of (options_in (map string_bytes words.now))) }
 {
-    match options_in(words) {
-        Some(said) => file_of(&said),
-        None => None,
+    match options_in(alloc, words)? {
+        Some(said) => Ok(file_of(&said)),
+        None => Ok(None),
     }
 }
 
-fn auth_row(words: &[String]) -> Option<Asked<'_>>
-    ensures { option_map asked_of result ≡ auth_row (map string_bytes words.now) }
+// The row of a word behind `auth`.
+fn named_auth_row<'a>(
+    alloc: Global,
+    word: &str,
+    words: &'a [String],
+) -> Result<Option<Asked<'a>>, Memory>
+    ensures { IfOk result (λ asked. option_map asked_of asked
+        ≡ auth_row (word.now ∷ map string_bytes words.now)) }
 {
-    let (word, rest) = words.split_first()?;
-    let word = word.as_str();
     if word == "generate-jwt-hs256-key" {
-        return key_row(rest);
+        return Ok(key_row(words));
     }
     if word == "generate-shared-token" {
-        return shared_row(rest);
+        return shared_row(alloc, words);
     }
     if word == "generate-jwt-hs256-server-token" {
-        return token_row(rest);
+        return token_row(alloc, words);
     }
-    None
+    Ok(None)
 }
 
-fn scheduler_row(words: &[String]) -> Option<Asked<'_>>
-    ensures { option_map asked_of result ≡ option_map spec.scheduler (option_and_then file_of (options_in (map string_bytes words.now))) }
+fn auth_row<'a>(alloc: Global, words: &'a [String]) -> Result<Option<Asked<'a>>, Memory>
+    ensures { IfOk result (λ asked. option_map asked_of asked ≡ auth_row (map string_bytes words.now)) }
 {
-    match file_row(words) {
-        Some(path) => Some(Asked::Scheduler(path)),
-        None => None,
-    }
-}
-
-fn server_row(words: &[String]) -> Option<Asked<'_>>
-    ensures { option_map asked_of result ≡ option_map spec.server (option_and_then file_of (options_in (map string_bytes words.now))) }
-{
-    match file_row(words) {
-        Some(path) => Some(Asked::Server(path)),
-        None => None,
+    match words.split_first() {
+        Some((word, rest)) => named_auth_row(alloc, word.as_str(), rest),
+        None => Ok(None),
     }
 }
 
-fn command_row(words: &[String]) -> Option<Asked<'_>>
-    ensures { option_map asked_of result ≡ command_row (map string_bytes words.now) }
+fn scheduler_row<'a>(alloc: Global, words: &'a [String]) -> Result<Option<Asked<'a>>, Memory>
+    ensures { IfOk result (λ asked. option_map asked_of asked
+        ≡ option_map spec.scheduler (option_and_then file_of (options_in (map string_bytes words.now)))) }
 {
-    let (word, rest) = words.split_first()?;
+    match file_row(alloc, words)? {
+        Some(path) => Ok(Some(Asked::Scheduler(path))),
+        None => Ok(None),
+    }
+}
+
+fn server_row<'a>(alloc: Global, words: &'a [String]) -> Result<Option<Asked<'a>>, Memory>
+    ensures { IfOk result (λ asked. option_map asked_of asked
+        ≡ option_map spec.server (option_and_then file_of (options_in (map string_bytes words.now)))) }
+{
+    match file_row(alloc, words)? {
+        Some(path) => Ok(Some(Asked::Server(path))),
+        None => Ok(None),
+    }
+}
+
+fn command_row<'a>(alloc: Global, words: &'a [String]) -> Result<Option<Asked<'a>>, Memory>
+    ensures { IfOk result (λ asked. option_map asked_of asked ≡ command_row (map string_bytes words.now)) }
+{
+    let Some((word, rest)) = words.split_first() else {
+        return Ok(None);
+    };
     let word = word.as_str();
     if word == "farm" {
-        return farm_row(rest);
+        return Ok(farm_row(rest));
     }
     if word == "auth" {
-        return auth_row(rest);
+        return auth_row(alloc, rest);
     }
     if word == "scheduler" {
-        return scheduler_row(rest);
+        return scheduler_row(alloc, rest);
     }
     if word == "server" {
-        return server_row(rest);
+        return server_row(alloc, rest);
     }
-    None
+    Ok(None)
 }
 
-/// What words ask for; the first is the program's name.
-pub fn asked_by(words: &[String]) -> Option<Asked<'_>>
-    ensures { option_map asked_of result ≡ asked_by (map string_bytes words.now) }
+/// What words ask for; the first is the program's name. Refused for want of memory alone.
+pub fn asked_by<'a>(alloc: Global, words: &'a [String]) -> Result<Option<Asked<'a>>, Memory>
+    ensures { IfOk result (λ asked. option_map asked_of asked ≡ asked_by (map string_bytes words.now)) }
 {
-    let (_, rest) = words.split_first()?;
-    command_row(rest)
+    match words.split_first() {
+        Some((_, rest)) => command_row(alloc, rest),
+        None => Ok(None),
+    }
 }

@@ -1,7 +1,16 @@
-//! The options behind a command: `--name VALUE` or `--name=VALUE`, each once, in any order.
-ghost use Rattle.std.specs.Prelude.{◌≡◌, map, option_map, string_bytes};
+//! The options behind a command: `--name VALUE` or `--name=VALUE`, each once, in any order. They are read by clap's
+//! builder; what clap takes beyond the rows is refused before it.
+ghost use Rattle.std.specs.Prelude.{◌≡◌, IfOk, map, option_map, string_bytes, true, false};
+ghost use Rattle.std.specs.List.{list_all};
 ghost use Rattle.clap.specs.Lexer.{strip_byte, name_and_value, long_of};
-ghost use Rattle.farm_words.specs.Options.{said_of, is_value, with_option, state_of, begun, completed, stepped, options_in};
+ghost use Rattle.clap.specs.Words.{app_of, found_of, rule_of, rows_of};
+ghost use Rattle.farm_words.specs.Options.{said_of, is_option_word, may_stand, options_in};
+ghost use Rattle.farm_words.specs.Clap.{option_rule, bare_app, options_app, said_in};
+
+use clap::error::ErrorKind;
+use clap::{Arg, ArgMatches, Command};
+use dist_types::fault::Memory;
+use std::alloc::{AllocError, Global};
 
 /// What the options of a command say.
 #[derive(Clone, Copy, Debug)]
@@ -14,24 +23,6 @@ pub struct Options<'a> {
     pub secret_key: Option<&'a str>,
     /// The name of a file.
     pub config: Option<&'a str>,
-}
-
-/// What was said so far, and the option whose value is the next word.
-#[derive(Clone, Copy, Debug)]
-pub struct Reading<'a> {
-    pub said: Options<'a>,
-    pub waiting: Option<&'a str>,
-}
-
-// Whether a word is a value that stands by itself: one of two or more bytes does not begin with `-`.
-fn is_value(word: &str) -> bool
-    ensures { result ≡ is_value word.now }
-{
-    match word.as_bytes() {
-        [] => false,
-        [_] => true,
-        [first, ..] => *first != b'-',
-    }
 }
 
 // What follows a first `-`.
@@ -62,126 +53,106 @@ fn long_of(word: &str) -> Option<(&str, Option<&str>)>
     Some(name_and_value(rest))
 }
 
-fn with_option<'a>(said: Options<'a>, name: &str, value: &'a str) -> Option<Options<'a>>
-    ensures { option_map said_of result ≡ with_option (said_of said.entry) name.now value.entry.now }
-{
-    if name == "bits" {
-        return match said.bits {
-            None => Some(Options {
-                bits: Some(value),
-                server: said.server,
-                secret_key: said.secret_key,
-                config: said.config,
-            }),
-            Some(_) => None,
-        };
-    }
-    if name == "server" {
-        return match said.server {
-            None => Some(Options {
-                bits: said.bits,
-                server: Some(value),
-                secret_key: said.secret_key,
-                config: said.config,
-            }),
-            Some(_) => None,
-        };
-    }
-    if name == "secret-key" {
-        return match said.secret_key {
-            None => Some(Options {
-                bits: said.bits,
-                server: said.server,
-                secret_key: Some(value),
-                config: said.config,
-            }),
-            Some(_) => None,
-        };
-    }
-    if name == "config" {
-        return match said.config {
-            None => Some(Options {
-                bits: said.bits,
-                server: said.server,
-                secret_key: said.secret_key,
-                config: Some(value),
-            }),
-            Some(_) => None,
-        };
-    }
-    None
-}
-
-// A word that begins an option.
-fn begun<'a>(said: Options<'a>, word: &'a str) -> Option<Reading<'a>>
-    ensures { option_map state_of result ≡ begun (said_of said.entry) (long_of word.entry.now) }
+// Whether a word is `--name`, or `--name=value` with a value that is not empty.
+fn is_option_word(word: &str) -> bool
+    ensures { result ≡ is_option_word (long_of word.now) }
 {
     match long_of(word) {
-        None => None,
-        Some((name, None)) => Some(Reading {
-            said,
-            waiting: Some(name),
-        }),
-        Some((name, Some(value))) => {
-            if value.is_empty() {
-                return None;
+        None => false,
+        Some((_, None)) => true,
+        Some((_, Some(value))) => !value.is_empty(),
+    }
+}
+
+// Whether a word may stand in a row: it is not empty, and where it has two or more bytes and begins with `-`, it is
+// an option's.
+fn may_stand(word: &str) -> bool
+    ensures { result ≡ may_stand word.now }
+{
+    match word.as_bytes() {
+        [] => false,
+        [_] => true,
+        [first, ..] => {
+            if *first == b'-' {
+                is_option_word(word)
+            } else {
+                true
             }
-            let said = with_option(said, name, value)?;
-            Some(Reading {
-                said,
-                waiting: None,
-            })
         }
     }
 }
 
-// A word that is the value of an option.
-fn completed<'a>(said: Options<'a>, name: &str, word: &'a str) -> Option<Reading<'a>>
-    ensures { option_map state_of result ≡ completed (said_of said.entry) name.now word.entry.now }
+// An option that takes one value.
+fn option<'a>(alloc: Global, name: &'a str) -> Arg<'a>
+    ensures rule { rule_of result ≡ option_rule name.entry.now }
+    ensures local { result.global ≡ false }
 {
-    if !is_value(word) {
-        return None;
-    }
-    let said = with_option(said, name, word)?;
-    Some(Reading {
-        said,
-        waiting: None,
-    })
+    Arg::new(alloc, name).long(name)
 }
 
-// One more word.
-fn stepped<'a>(reading: Reading<'a>, word: &'a str) -> Option<Reading<'a>>
-    ensures { option_map state_of result ≡ stepped (state_of reading.entry) word.entry.now }
+// A command with no program's name before its words, and no flag for help.
+fn bare_command<'a>(alloc: Global) -> Command<'a>
+    ensures { app_of result ≡ bare_app }
 {
-    match reading.waiting {
-        None => begun(reading.said, word),
-        Some(name) => completed(reading.said, name, word),
+    Command::new(alloc, "options")
+        .no_binary_name(true)
+        .disable_help_flag(true)
+}
+
+// The command of the options.
+fn option_command<'a>(alloc: Global) -> Result<Command<'a>, AllocError>
+    ensures { IfOk result (λ command. app_of command ≡ options_app) }
+{
+    bare_command(alloc)
+        .arg(option(alloc, "bits"))?
+        .arg(option(alloc, "server"))?
+        .arg(option(alloc, "secret-key"))?
+        .arg(option(alloc, "config"))
+}
+
+// What the matches say.
+#[tactic(auto, using(crate::proofs::ClapLemmas::first_value_rows))]
+fn said_in<'a>(matches: &ArgMatches<'a>) -> Options<'a>
+    ensures { said_of result ≡ said_in (rows_of (found_of matches.now)) }
+{
+    Options {
+        bits: matches.get_str("bits"),
+        server: matches.get_str("server"),
+        secret_key: matches.get_str("secret-key"),
+        config: matches.get_str("config"),
     }
 }
 
-const NOTHING: Reading<'static> = Reading {
-    said: Options {
-        bits: None,
-        server: None,
-        secret_key: None,
-        config: None,
-    },
-    waiting: None,
-};
-
-/// What the options that these words are say, where each word is part of one.
-pub fn options_in(words: &[String]) -> Option<Options<'_>>
-    ensures { option_map said_of result ≡ options_in (map string_bytes words.now) }
+// What clap reads of words that may stand.
+fn read<'a>(alloc: Global, words: &'a [String]) -> Result<Option<Options<'a>>, Memory>
+    requires { list_all may_stand (map string_bytes words.now) ≡ true }
+    ensures { IfOk result (λ said. option_map said_of said ≡ options_in (map string_bytes words.now)) }
 {
-    let mut reading = NOTHING;
-    for word in words {
-        match stepped(reading, word.as_str()) {
-            Some(next) => reading = next,
-            None => return None,
+    let command = option_command(alloc)?;
+    match command.try_get_matches_from(words) {
+        Ok(matches) => Ok(Some(said_in(&matches))),
+        Err(refused) => {
+            if refused.kind() == ErrorKind::OutOfMemory {
+                Err(Memory)
+            } else {
+                Ok(None)
+            }
         }
     }
-    match reading.waiting {
-        None => Some(reading.said),
-        Some(_) => None,
+}
+
+fn all_may_stand(words: &[String]) -> bool
+    ensures { result ≡ list_all may_stand (map string_bytes words.now) }
+{
+    words.iter().all(|word| may_stand(word.as_str()))
+}
+
+/// What the options that these words are say, where each word is part of one. Refused for want of memory alone.
+pub fn options_in<'a>(alloc: Global, words: &'a [String]) -> Result<Option<Options<'a>>, Memory>
+    ensures { IfOk result (λ said. option_map said_of said ≡ options_in (map string_bytes words.now)) }
+{
+    if !all_may_stand(words) {
+        return Ok(None);
     }
+    read(alloc, words)
 }

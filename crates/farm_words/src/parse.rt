@@ -1,5 +1,5 @@
 //! From words to a command.
-ghost use Rattle.std.specs.Prelude.{◌≡◌, IfOk, IfErr, IfSome, None, Err, map, string_bytes, codes};
+ghost use Rattle.std.specs.Prelude.{◌≡◌, ◌⊎◌, IfOk, IfErr, IfSome, None, Err, map, string_bytes, codes};
 ghost use Rattle.farm_script.specs.declared.fault.ConfigCause.TheVariants.{Key};
 ghost use Rattle.farm_words.specs.Asked.{asked_by, token_of as asks_token_of, scheduler as asks_scheduler, server as asks_server};
 ghost use Rattle.farm_words.specs.Views.{asked_of};
@@ -126,20 +126,23 @@ fn command_of<D: Files>(
 }
 
 /// The command that words ask for; the first is the program's name. Usage exactly where they stand in no
-/// row. Where a command has a configuration, its file is read, once, and its first fault is told.
+/// row, unless memory ran out. Where a command has a configuration, its file is read, once, and its first fault is
+/// told.
 pub fn try_parse_from<D: Files>(
     alloc: Global,
     words: &[String],
     files: &mut D,
 ) -> Result<Command, FarmFault>
-    ensures usage { asked_by (map string_bytes words.now) ≡ None → result ≡ Err FarmFault.Usage }
+    ensures usage { asked_by (map string_bytes words.now) ≡ None
+        → (result ≡ Err FarmFault.Usage) ⊎ (result ≡ Err FarmFault.Memory) }
     ensures parsed { IfSome (asked_by (map string_bytes words.now)) (λ what.
         IsParsed what result (D.files files.old) (D.faults files.old) (D.faults files.new)) }
     ensures unread { asked_by (map string_bytes words.now) ≡ None → D.faults files.new ≡ D.faults files.old }
     ensures kept { D.files files.new ≡ D.files files.old }
 {
-    match asked_by(words) {
-        Some(what) => command_of(alloc, files, what),
-        None => Err(FarmFault::Usage),
+    match asked_by(alloc, words) {
+        Ok(Some(what)) => command_of(alloc, files, what),
+        Ok(None) => Err(FarmFault::Usage),
+        Err(_) => Err(FarmFault::Memory),
     }
 }

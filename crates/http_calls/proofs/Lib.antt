@@ -2,3 +2,4 @@ pub mod JoinLemmas
 pub mod UrlLemmas
 pub mod ServerLemmas
 pub mod CallLemmas
+pub mod PackLemmas

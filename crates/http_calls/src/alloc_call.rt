@@ -1,5 +1,5 @@
 //! The call that asks the scheduler for a job.
-ghost use Rattle.std.specs.Prelude.{◌≡◌, ◌↔◌, Err, IsErr, false, List, ℕ, Option, IfOk, IfErr};
+ghost use Rattle.std.specs.Prelude.{◌≡◌, ◌↔◌, Err, IsErr, false, List, ℕ, Option, OnOk, IfOk, IfErr};
 ghost use Rattle.dist_types.specs.declared.addr.Addr.{Addr};
 ghost use Rattle.dist_wire.specs.Reading as wire;
 ghost use Rattle.http_head.specs.WrittenRequest.{request_text, IsToken, IsWithinLimits};
@@ -9,6 +9,7 @@ ghost use Rattle.http_routes.specs.declared.route.SchedRouted.TheVariants.{Alloc
 ghost use Rattle.http_routes.specs.Asked.{IsAskedUnder};
 ghost use Rattle.http_calls.specs.Calls.{RefusesBase, alloc_request};
 ghost use Rattle.http_calls.specs.Reply.{Resumes};
+ghost use Rattle.http_calls.specs.Urls.{IsHttp};
 
 use crate::error::CallError;
 use crate::reply::resumed;
@@ -53,6 +54,7 @@ impl AllocCall {
             → (lets : List ℕ → Admission) (serves : List ℕ → Option Addr) (peer : Addr)
             → lets token.now ≡ Admitted
             → IsAskedUnder lets serves call peer (record { what = Alloc tc.now; json = false })) }
+        ensures http { OnOk result (IsHttp base.now) }
         ensures err { IfErr result (RefusesBase base.now) }
     {
         let request = alloc_text(alloc, base, token, tc)?;

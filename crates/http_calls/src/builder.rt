@@ -1,5 +1,5 @@
 //! Requests, built part by part.
-ghost use Rattle.std.specs.Prelude.{◌≡◌, ℕ, List, Some, None, OnOk, IfOk, IfErr};
+ghost use Rattle.std.specs.Prelude.{◌≡◌, ℕ, List, Some, None, unwrap_or, OnOk, IfOk, IfErr};
 ghost use Rattle.http_head.specs.declared.written_request.Method.TheVariants.{Get, Post};
 ghost use Rattle.http_head.specs.WrittenRequest.{request_text};
 ghost use Rattle.url.specs.Host.{host_text};
@@ -48,12 +48,22 @@ fn target_of(alloc: Global, url: &Url) -> Result<Text, CallError>
 }
 
 /// The host of a URL as it writes it.
-fn host_text<'a>(url: &'a Url) -> &'a str
+pub(crate) fn host_text<'a>(url: &'a Url) -> &'a str
     ensures { result.now ≡ host_text (host_or_empty url.now) }
 {
     match url.host_str() {
         Some(host) => host,
         None => "",
+    }
+}
+
+/// The port of a URL, which is 80 where it names none.
+pub(crate) fn port_of(url: &Url) -> u16
+    ensures { result ≡ unwrap_or url.now.port 80 }
+{
+    match url.port() {
+        Some(port) => port,
+        None => 80,
     }
 }
 
@@ -63,10 +73,7 @@ fn host_of(alloc: Global, url: &Url) -> Result<Text, CallError>
     ensures err { IfErr result (λ e. e ≡ CallError.Memory) }
 {
     let host = host_text(url);
-    let port = match url.port() {
-        Some(port) => port,
-        None => 80,
-    };
+    let port = port_of(url);
     let host = format!(in alloc; "{host}:{port}")?;
     Ok(Text::new(host))
 }

@@ -1,4 +1,5 @@
 //! Why a client's call gives no answer.
+use disk_cache::ToolchainError;
 use dist_types::text::Bytes;
 use std::alloc::{AllocError, AllocFailed};
 use thiserror::Error;
@@ -21,6 +22,15 @@ pub enum CallError {
     /// The reply has this status, and not 200, and this body.
     #[error("status {0}")]
     Status(u16, Bytes),
+    /// The client has no such archive.
+    #[error("no such toolchain")]
+    NotLocal,
+    /// The packager refused, and its count of refusals rose.
+    #[error("packager refused")]
+    Packager,
+    /// The client's toolchains refused.
+    #[error("{0}")]
+    Local(ToolchainError),
     /// Memory ran out.
     #[error("out of memory")]
     Memory,

@@ -7,16 +7,19 @@ ghost use Rattle.dist_wire.specs.declared.run.RunJobHttpRequest.{RunJobHttpReque
 ghost use Rattle.http_head.specs.WrittenRequest.{request_text, IsToken, IsWithinLimits};
 ghost use Rattle.http_routes.specs.ServerRoute.{AsksRun};
 ghost use Rattle.http_calls.specs.Calls as written;
+ghost use Rattle.http_calls.specs.Client.{PacksRequest, run_of, first_of};
 ghost use Rattle.http_calls.specs.Reply.{Resumes};
 
 use crate::error::CallError;
 use crate::reply::resumed;
-use crate::server_calls::run_request;
+use crate::server_calls::{packed_request, run_request};
 use dist_types::command::CompileCommand;
 use dist_types::fault::Failed;
 use dist_types::results::{JobAlloc, RunJobResult};
 use dist_types::text::{Bytes, Items, Text};
 use dist_wire::run::RunJobHttpRequest;
+use path_pkg::packagers::InputsPackager;
+use path_pkg::unix::PathTransformer;
 use std::alloc::Global;
 use std::marker::Model;
 
@@ -42,6 +45,33 @@ fn names_of(alloc: Global, outputs: Vec<String>) -> Result<Items<Text>, CallErro
 {
     let names = outputs.into_iter().map(Text::new).collect(alloc)?;
     Ok(Items::new(names))
+}
+
+/// The run of a command with these outputs. Refused for want of memory alone.
+fn run_of(
+    alloc: Global,
+    command: CompileCommand,
+    outputs: Vec<String>,
+) -> Result<RunJobHttpRequest, CallError>
+    ensures { IfOk result (λ run. run ≡ run_of command outputs) }
+{
+    let outputs = names_of(alloc, outputs)?;
+    Ok(RunJobHttpRequest { command, outputs })
+}
+
+/// The call that asks a job's server to run it, with the inputs that a packager packs.
+fn packed_run(
+    alloc: Global,
+    job: &JobAlloc,
+    run: &RunJobHttpRequest,
+    inputs: &mut dyn InputsPackager,
+) -> Result<(RunCall, PathTransformer), CallError>
+    ensures { PacksRequest (inputs.new ≡ inputs.old) (packs inputs.old) (refusals inputs.old) (refusals inputs.new) job.now run.now (first_of result) }
+{
+    match packed_request(alloc, job, run, inputs) {
+        Ok((request, transformer)) => Ok((RunCall { alloc, request }, transformer)),
+        Err(refusal) => Err(refusal),
+    }
 }
 
 impl RunCall {
@@ -79,6 +109,27 @@ impl RunCall {
             inputs,
         )?;
         Ok(RunCall { alloc, request })
+    }
+
+    /// The same with the inputs that a packager packs, and what mapped their paths: HeadTooLong exactly where command and
+    /// outputs have 2^32 bytes or more, and then the packager is not called; Packager where it refuses; else refused for
+    /// want of memory alone.
+    pub(crate) fn packed(
+        alloc: Global,
+        job: &JobAlloc,
+        command: CompileCommand,
+        outputs: Vec<String>,
+        inputs: &mut dyn InputsPackager,
+    ) -> Result<(RunCall, PathTransformer), CallError>
+        ensures { PacksRequest (inputs.new ≡ inputs.old) (packs inputs.old) (refusals inputs.old) (refusals inputs.new) job.now (run_of command outputs) (first_of result) }
+    {
+        match run_of(alloc, command, outputs) {
+            Ok(run) => {
+                let answer = packed_run(alloc, job, &run, inputs);
+                answer
+            }
+            Err(_) => Err(CallError::Memory),
+        }
     }
 
     /// The bytes to be sent.

@@ -1,6 +1,7 @@
 //! The requests that go to the server of a job. They are written from its address, and not over a URL, which writes some
 //! addresses otherwise and leaves out port 80.
-ghost use Rattle.std.specs.Prelude.{◌≡◌, ◌≤◌, ◌<◌, ◌^◌, ◌⊎◌, ℕ, List, Ok, Result, ⊤, string_bytes, length, OnOk, IfOk, IfErr};
+ghost use Rattle.std.specs.Prelude.{◌≡◌, ◌≤◌, ◌<◌, ◌^◌, ◌⊎◌, ◌++◌, ℕ, List, Ok, Result, ⊤, codes, string_bytes, length, OnOk, IfOk, IfErr};
+ghost use Rattle.std.specs.Fmt.{decimal};
 ghost use Rattle.dist_types.specs.Addr.{addr_text, IsAddr};
 ghost use Rattle.dist_types.specs.declared.token_error.TokenError.{TokenError};
 ghost use Rattle.dist_wire.specs.Spelling.{SpellsRun};
@@ -9,6 +10,7 @@ ghost use Rattle.http_head.specs.WrittenRequest.{request_text, IsToken, IsWithin
 ghost use Rattle.http_routes.specs.RunHead.{run_body};
 ghost use Rattle.http_routes.specs.ServerRoute.{AsksSubmit, AsksRun};
 ghost use Rattle.http_routes.specs.Written.{post_with, submit_with, run_with};
+ghost use Rattle.http_calls.specs.Client.{PacksBody, PacksRequest, first_of};
 
 use crate::error::CallError;
 use dist_types::addr::Addr;
@@ -17,7 +19,11 @@ use dist_types::text::{Bytes, Text};
 use dist_wire::error::WireError;
 use dist_wire::message::Message;
 use dist_wire::run::RunJobHttpRequest;
+use dist_types::results::JobAlloc;
 use http_head::written_request::{Method, WrittenRequest};
+use path_pkg::fault::PackFault;
+use path_pkg::packagers::InputsPackager;
+use path_pkg::unix::PathTransformer;
 use std::alloc::Global;
 
 /// The numbers of an address fit their types. It does nothing when it runs.
@@ -122,6 +128,66 @@ fn run_body(alloc: Global, run: &RunJobHttpRequest, inputs: &[u8]) -> Result<Byt
     bytes.extend_from_slice(&head)?;
     bytes.extend_from_slice(inputs)?;
     Ok(Bytes::new(bytes))
+}
+
+/// The body of a run whose inputs a packager packs: HeadTooLong exactly where the head has 2^32 bytes or more, and then
+/// the packager is not called.
+fn packed_body(
+    alloc: Global,
+    run: &RunJobHttpRequest,
+    inputs: &mut dyn InputsPackager,
+) -> Result<(Bytes, PathTransformer), CallError>
+    ensures { PacksBody (inputs.new ≡ inputs.old) (packs inputs.old) (refusals inputs.old) (refusals inputs.new) run.now (first_of result) }
+{
+    let mut body = match run_body(alloc, run, &[]) {
+        Ok(body) => body.into_inner(),
+        Err(refusal) => return Err(refusal),
+    };
+    match inputs.write_inputs(&mut body) {
+        Ok(transformer) => Ok((Bytes::new(body), transformer)),
+        Err(fault) => match fault {
+            PackFault::Refused => Err(CallError::Packager),
+            PackFault::Memory => Err(CallError::Memory),
+        },
+    }
+}
+
+/// The bytes of the request to run a job with that body.
+fn run_posted(
+    alloc: Global,
+    server: ServerId,
+    token: &str,
+    job: JobId,
+    body: Bytes,
+) -> Result<Bytes, CallError>
+    ensures text { IfOk result (λ bytes. bytes ≡ request_text (post_with
+        (codes "/api/v1/distserver/run_job/" ++ decimal job.0) (addr_text server) token.now body)) }
+    ensures err { IfErr result (λ e. e ≡ CallError.Memory) }
+{
+    let target = format!(in alloc; "/api/v1/distserver/run_job/{job}")?;
+    let host = format!(in alloc; "{server}")?;
+    let bytes = posted(alloc, target, host, token, body)?;
+    Ok(bytes)
+}
+
+/// The request that asks a job's server to run it with the inputs that a packager packs, under the job's token.
+pub(crate) fn packed_request(
+    alloc: Global,
+    job: &JobAlloc,
+    run: &RunJobHttpRequest,
+    inputs: &mut dyn InputsPackager,
+) -> Result<(Bytes, PathTransformer), CallError>
+    ensures { PacksRequest (inputs.new ≡ inputs.old) (packs inputs.old) (refusals inputs.old) (refusals inputs.new) job.now run.now (first_of result) }
+{
+    match packed_body(alloc, run, inputs) {
+        Ok((body, transformer)) => {
+            match run_posted(alloc, job.server_id, job.auth.get(), job.job_id, body) {
+                Ok(bytes) => Ok((bytes, transformer)),
+                Err(_) => Err(CallError::Memory),
+            }
+        }
+        Err(refusal) => Err(refusal),
+    }
 }
 
 /// The bytes of the request to run a job.

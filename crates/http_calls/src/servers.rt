@@ -23,7 +23,8 @@ fn ip_of(addr: Addr) -> IpAddr
     }
 }
 
-fn port_of(addr: Addr) -> u16
+/// The port of an address.
+pub(crate) fn port_of(addr: Addr) -> u16
     ensures { result ≡ port_at addr }
 {
     match addr {

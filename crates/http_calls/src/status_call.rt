@@ -1,5 +1,5 @@
 //! The call that asks the scheduler for its status.
-ghost use Rattle.std.specs.Prelude.{◌≡◌, ◌↔◌, Err, IsErr, false, List, ℕ, Option, IfOk, IfErr};
+ghost use Rattle.std.specs.Prelude.{◌≡◌, ◌↔◌, Err, IsErr, false, List, ℕ, Option, OnOk, IfOk, IfErr};
 ghost use Rattle.dist_types.specs.declared.addr.Addr.{Addr};
 ghost use Rattle.dist_wire.specs.Reading as wire;
 ghost use Rattle.http_head.specs.WrittenRequest.{request_text, IsWithinLimits};
@@ -8,6 +8,7 @@ ghost use Rattle.http_routes.specs.declared.route.SchedRouted.TheVariants.{Statu
 ghost use Rattle.http_routes.specs.Asked.{IsAskedUnder};
 ghost use Rattle.http_calls.specs.Calls.{RefusesBase, status_request};
 ghost use Rattle.http_calls.specs.Reply.{Resumes};
+ghost use Rattle.http_calls.specs.Urls.{IsHttp};
 
 use crate::error::CallError;
 use crate::reply::resumed;
@@ -43,6 +44,7 @@ impl StatusCall {
         ensures asks { IfOk result (λ call. IsWithinLimits (status_request base.now)
             → (lets : List ℕ → Admission) (serves : List ℕ → Option Addr) (peer : Addr)
             → IsAskedUnder lets serves call peer (record { what = Status; json = false })) }
+        ensures http { OnOk result (IsHttp base.now) }
         ensures err { IfErr result (RefusesBase base.now) }
     {
         let request = status_text(alloc, base)?;

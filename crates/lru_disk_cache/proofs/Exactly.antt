@@ -10,7 +10,7 @@ use Rattle.lru_disk_cache.specs.Held.{Held, Lacks, Never, Became, Made, Changes}
 use Rattle.lru_disk_cache.specs.declared.fault.FolderFault.{FolderFault}
 use Rattle.lru_disk_cache.specs.declared.fault.FolderFault.TheVariants.{Missing, Failed, Memory}
 use Rattle.lru_disk_cache.specs.Entries.{Entries, Listed, total}
-use Rattle.lru_disk_cache.specs.Disk.{Counts, OnlyRemoved, SameAt, dropped, without_each}
+use Rattle.lru_disk_cache.specs.Disk.{Counts, OnlyRemoved, ButAt, ButUnder, SameAt, dropped, without_each}
 
 -- ---- functions on told files
 
@@ -154,3 +154,26 @@ same_removed one two three a b =
 
 pub removed_twice : (one two three four : Option Files) → Became SameAt one two → Became OnlyRemoved two three → Became OnlyRemoved three four → Became OnlyRemoved one four
 removed_twice one two three four a b c = same_removed one two four a (removed_both two three four b c)
+
+-- ---- files outside the root
+
+pub none_outside : (root : List ℕ) (o : Option Files) → Became (ButUnder root) o o
+none_outside root o = became_same (ButUnder root) o (λ f q away. refl)
+
+pub outside_at : (root key : List ℕ) (old new : Option Files) → Became (ButAt (root ++ key)) old new → Became (ButUnder root) old new
+outside_at root key old new h = became_map (ButAt (root ++ key)) (ButUnder root) old new (λ f g but q away. but q (away key)) h
+
+pub outside_ok : {T : Type 0} (root key : List ℕ) (result : Result T FolderFault) (old new : Option Files) → Became (ButAt (root ++ key)) old new → OnOk result (Became (ButUnder root) old new)
+outside_ok root key (Ok x) old new h = outside_at root key old new h
+outside_ok root key (Err e) old new h = tt
+
+outside_both : (root : List ℕ) (one two three : Option Files) → Became (ButUnder root) one two → Became (ButUnder root) two three → Became (ButUnder root) one three
+outside_both root one two three a b = became_then (ButUnder root) (ButUnder root) (ButUnder root) one two three (λ f g h x y q away. y q away ∙ x q away) a b
+
+pub outside_more : {T : Type 0} (root : List ℕ) (result : Result T FolderFault) (one two three : Option Files) → Became (ButUnder root) one two → OnOk result (Became (ButUnder root) two three) → OnOk result (Became (ButUnder root) one three)
+outside_more root (Ok x) one two three a b = outside_both root one two three a b
+outside_more root (Err e) one two three a b = tt
+
+pub outside_twice : (root : List ℕ) (one two three four : Option Files) → Became SameAt one two → Became (ButUnder root) two three → Became (ButUnder root) three four → Became (ButUnder root) one four
+outside_twice root one two three four a b c =
+    outside_both root one three four (became_then SameAt (ButUnder root) (ButUnder root) one two three (λ f g h x y q away. y q away ∙ x q) a b) c

@@ -1,5 +1,6 @@
 -- What an insert leaves, step by step.
-use Rattle.std.proofs.Common.{◌≡◌, ℕ, ◌<◌, ◌≤◌, ◌^◌, false, true, List, [], ◌∷◌, ◌++◌, length, Option, Some, None, Result, Ok, Err, OnOk, OnErr, refl, sym, ap, subst, ◌∙◌}
+use Rattle.std.proofs.Common.{◌≡◌, ℕ, ◌<◌, ◌≤◌, ◌^◌, false, true, List, [], ◌∷◌, ◌++◌, length, Option, Some, None, Result, Ok, Err, IfOk, OnOk, OnErr, refl, sym, ap, subst, ◌∙◌}
+use Rattle.std.specs.Map.{remove_entry}
 use Rattle.std.specs.Option.{option_map}
 use Rattle.std.specs.Str.{bytes_eq}
 use Rattle.lru_disk_cache.specs.Files.{Files, file_at, size_at, put, PartWritten}
@@ -11,10 +12,10 @@ use Rattle.lru_disk_cache.proofs.Became.{became_of, became_from, became_map, bec
 use Rattle.lru_disk_cache.proofs.Distinct.{apart}
 use Rattle.lru_disk_cache.proofs.Lookups.{put_same, put_other, part_other}
 use Rattle.lru_disk_cache.specs.Key.{is_key, temp_name}
-use Rattle.lru_disk_cache.specs.Entries.{Entries, Listed}
-use Rattle.lru_disk_cache.specs.Disk.{Stands, AllKeys, Avoids, Keeps, ButAt, ButListed, ButUnder, ButUnderAnd, IsTemp, Counts}
+use Rattle.lru_disk_cache.specs.Entries.{Entries, Listed, IsEnd}
+use Rattle.lru_disk_cache.specs.Disk.{Stands, AllKeys, Avoids, Keeps, ButAt, ButListed, ButUnder, ButUnderAnd, ButThese, SameAt, IsTemp, Counts}
 use Rattle.lru_disk_cache.proofs.Paths.{same_front, temp_differs}
-use Rattle.lru_disk_cache.proofs.Standing.{all_both}
+use Rattle.lru_disk_cache.proofs.Standing.{all_both, avoids_removed, avoids_end, kept_by_same}
 
 -- ---- the temporary file
 
@@ -63,7 +64,7 @@ content_after root from path es (Ok x) one two three avoids others content =
     became_then (ButListed root es) (λ f g. file_at g path ≡ file_at f from) (λ f g. file_at g path ≡ file_at f from) one.files two.files three.files (λ f g h a b. b ∙ a from avoids) others content
 content_after root from path es (Err e) one two three avoids others content = tt
 
-all_avoid : (root q : List ℕ) (es : Entries) → ((k : List ℕ) → bytes_eq (root ++ k) q ≡ false) → Avoids root q es
+pub all_avoid : (root q : List ℕ) (es : Entries) → ((k : List ℕ) → bytes_eq (root ++ k) q ≡ false) → Avoids root q es
 all_avoid root q [] away = tt
 all_avoid root q (e ∷ es) away = (away e.0, all_avoid root q es away)
 
@@ -165,3 +166,88 @@ content_written from path bytes (Err e) two three written content = tt
 pub on_err : {T E P : Type 0} (result : Result T E) → P → OnErr result P
 on_err (Ok x) p = tt
 on_err (Err e) p = p
+
+-- ---- files at no path that a step takes
+
+module _ (root from path key : List ℕ) (es out : Entries) where
+  -- no removal of a listed file takes one
+  pub listed_untouched : (one two : Option Files) → out ≡ remove_entry (bytes_eq key) es → Became (ButListed root out) one two → Became (ButThese root from path es) one two
+  listed_untouched one two is others =
+      became_map (ButListed root out) (ButThese root from path es) one two (λ f g but q not_from not_path avoids. but q (avoids_removed root q (bytes_eq key) es out is avoids)) others
+
+  -- nor what follows
+  pub fill_untouched : (rest : Entries) (one two three : Option Files) → out ≡ remove_entry (bytes_eq key) es → IsEnd rest out → Became (ButListed root out) one two → Became (ButThese root from path rest) two three → Became (ButThese root from path es) one three
+  fill_untouched rest one two three is end others these =
+      became_then (ButListed root out) (ButThese root from path rest) (ButThese root from path es) one two three (λ f g h a b q not_from not_path avoids.
+      let still = avoids_removed root q (bytes_eq key) es out is avoids in
+      b q not_from not_path (avoids_end root q out rest end still) ∙ a q still) others these
+
+pub temp_untouched : (root from path : List ℕ) (es : Entries) (one two : Option Files) → Became (ButAt from) one two → Became (ButThese root from path es) one two
+temp_untouched root from path es one two h =
+    became_map (ButAt from) (ButThese root from path es) one two (λ f g but q not_from not_path avoids. but q not_from) h
+
+pub untouched_then : (root from path : List ℕ) (es : Entries) (one two three : Option Files) → Became (ButThese root from path es) one two → Became (ButThese root from path es) two three → Became (ButThese root from path es) one three
+untouched_then root from path es one two three a b =
+    became_then (ButThese root from path es) (ButThese root from path es) (ButThese root from path es) one two three (λ f g h x y q not_from not_path avoids. y q not_from not_path avoids ∙ x q not_from not_path avoids) a b
+
+pub store_untouched : (root from path : List ℕ) (es : Entries) (one two three : Option Files) → Became (ButAt from) one two → Became (ButThese root from path es) two three → Became (ButThese root from path es) one three
+store_untouched root from path es one two three a b =
+    untouched_then root from path es one two three (temp_untouched root from path es one two a) b
+
+pub untouched_listed : (root from path : List ℕ) (es : Entries) (one two : Option Files) → Became (ButListed root es) one two → Became (ButThese root from path es) one two
+untouched_listed root from path es one two h =
+    became_map (ButListed root es) (ButThese root from path es) one two (λ f g but q not_from not_path avoids. but q avoids) h
+
+pub under_listed : (root : List ℕ) (es : Entries) (one two : Option Files) → Became (ButListed root es) one two → Became (ButUnder root) one two
+under_listed root es one two h =
+    became_map (ButListed root es) (ButUnder root) one two (λ f g but q away. but q (all_avoid root q es away)) h
+
+-- a file that no entry has is found still
+pub still_found : {T : Type 0} (root from bytes : List ℕ) (es : Entries) (result : Result T FolderFault) (one two : Held) → Avoids root from es → Became (ButListed root es) one.files two.files → Holds one (λ f. file_at f from ≡ Some bytes) → OnOk result (Holds two (λ f. file_at f from ≡ Some bytes))
+still_found root from bytes es (Err e) one two avoids others there = tt
+still_found root from bytes es (Ok x) one two avoids others there = λ files told.
+    let w = became_from (ButListed root es) one.files two.files files others told in
+    w.2 from avoids ∙ there w.0 w.1
+
+-- ---- nothing changed before
+
+pub same_keeps : (root : List ℕ) (es : Entries) (one two : Option Files) → Became SameAt one two → Became (Keeps root es) one two
+same_keeps root es one two h = became_map SameAt (Keeps root es) one two (λ f g same. kept_by_same root es f g same) h
+
+pub same_outside : (root from : List ℕ) (one two : Option Files) → Became SameAt one two → Became (ButUnderAnd root from) one two
+same_outside root from one two h = became_map SameAt (ButUnderAnd root from) one two (λ f g same q away not_from. same q) h
+
+pub same_untouched : (root from path : List ℕ) (es : Entries) (one two : Option Files) → Became SameAt one two → Became (ButThese root from path es) one two
+same_untouched root from path es one two h =
+    became_map SameAt (ButThese root from path es) one two (λ f g same q not_from not_path avoids. same q) h
+
+pub same_sized : (from : List ℕ) (n : ℕ) (one two : Held) → Became SameAt one.files two.files → Holds one (λ f. size_at f from ≡ Some n) → Holds two (λ f. size_at f from ≡ Some n)
+same_sized from n one two same sized files told =
+    let w = became_from SameAt one.files two.files files same told in
+    ap (option_map length) (w.2 from) ∙ sized w.0 w.1
+
+pub same_content : (from path : List ℕ) (result : Result (Unit {0}) FolderFault) (one two three : Option Files) → Became SameAt one two → OnOk result (Became (λ f g. file_at g path ≡ file_at f from) two three) → OnOk result (Became (λ f g. file_at g path ≡ file_at f from) one three)
+same_content from path (Err e) one two three same h = tt
+same_content from path (Ok x) one two three same h =
+    became_then SameAt (λ f g. file_at g path ≡ file_at f from) (λ f g. file_at g path ≡ file_at f from) one two three (λ f g k a b. b ∙ a from) same h
+
+pub same_kept : (root : List ℕ) (es : Entries) (result : Result (Unit {0}) FolderFault) (one two three : Option Files) → Became SameAt one two → OnOk result (Became (Keeps root es) two three) → OnOk result (Became (Keeps root es) one three)
+same_kept root es (Err e) one two three same h = tt
+same_kept root es (Ok x) one two three same h = both_keep root es one two three (same_keeps root es one two same) h
+
+pub same_left : (root : List ℕ) (es : Entries) (result : Result (Unit {0}) FolderFault) (one two three : Option Files) → Became SameAt one two → OnErr result (Became (Keeps root es) two three) → OnErr result (Became (Keeps root es) one three)
+same_left root es (Ok x) one two three same h = tt
+same_left root es (Err e) one two three same h = both_keep root es one two three (same_keeps root es one two same) h
+
+pub on_ok : {T E P : Type 0} (result : Result T E) → P → OnOk result P
+on_ok (Ok x) p = p
+on_ok (Err e) p = tt
+
+-- what holds of the files holds where they are the same
+pub if_same : {T E : Type 0} (P : T → Files → Type 0) (result : Result T E) (old new : Held) → OnOk result (new ≡ old) → IfOk result (λ x. Holds old (P x)) → IfOk result (λ x. Holds new (P x))
+if_same P (Ok x) old new same h = subst (λ k. Holds k (P x)) (sym same) h
+if_same P (Err e) old new same h = tt
+
+pub counts_ok : {T : Type 0} (result : Result T FolderFault) (old new : Held) → Counts result old new → OnOk result (new.faults ≡ old.faults)
+counts_ok (Ok x) old new counts = counts
+counts_ok (Err e) old new counts = tt

@@ -10,16 +10,18 @@ use Rattle.lru_disk_cache.specs.Files.{Files, file_at, without, is_behind}
 use Rattle.lru_disk_cache.specs.Held.{Held, Holds, Became, Lacks}
 use Rattle.lru_disk_cache.specs.declared.folder.Found.{Found}
 use Rattle.lru_disk_cache.specs.Archives.{id_of, archive_key}
+use Rattle.lru_disk_cache.specs.Disk.{ButUnder}
 use Rattle.lru_disk_cache.specs.Cleaned.{found_of, under, is_sound, Cleaned}
 use Rattle.lru_disk_cache.proofs.Became.{became_from}
 use Rattle.lru_disk_cache.proofs.Distinct.{apart, distinct_filtered, without_distinct}
 use Rattle.lru_disk_cache.proofs.Ids.{id_length, key_length}
-use Rattle.lru_disk_cache.proofs.Lookups.{itself}
+use Rattle.lru_disk_cache.proofs.Lookups.{itself, without_other}
+use Rattle.lru_disk_cache.proofs.Strips.{begins}
 
--- of the first files those that are sound are left, and of the others all
+-- of the first files those that are sound are left, and of the others all, and files elsewhere stay
 abbrev pub SoFar : List ℕ → ℕ → ℕ → Files → Files → Type 0
 SoFar root capacity i old new =
-    IsDistinct bytes_eq (keys_of new) × (under root new ≡ filter (is_sound root capacity) (take i (under root old)) ++ drop i (under root old))
+    IsDistinct bytes_eq (keys_of new) × (under root new ≡ filter (is_sound root capacity) (take i (under root old)) ++ drop i (under root old)) × ButUnder root old new
 
 -- ---- a file in the middle
 
@@ -122,6 +124,13 @@ settled root capacity now new front rest f false is distinct so become all all_i
     none [] = refl
     none (x ∷ xs) = ap (λ l. x ∷ l) (none xs)
 
+-- files elsewhere stay
+outside_judged : (root : List ℕ) (old now new : Files) (f : List ℕ × List ℕ) (b : Bool) → is_behind root f.0 ≡ true → new ≡ cond b now (without f.0 now) → ButUnder root old now → ButUnder root old new
+outside_judged root old now new f true behind is h q away = ap (λ l. file_at l q) is ∙ h q away
+outside_judged root old now new f false behind is h q away =
+    ap (λ l. file_at l q) is
+    ∙ (without_other f.0 q now (ap (λ p. bytes_eq p q) (begins f.0 root behind) ∙ away (drop (length root) f.0)) ∙ h q away)
+
 so_far_more : (root : List ℕ) (capacity i : ℕ) (found : List Found) (file : Found) (old now new : Files) → found ≡ map found_of (under root old) → i < length found → file ≡ get_or found i file
     → SoFar root capacity i old now → KeptOrNot root capacity file now new → SoFar root capacity (suc i) old new
 so_far_more root capacity i found file old now new is below file_is so_far step =
@@ -136,7 +145,10 @@ so_far_more root capacity i found file old now new is below file_is so_far step 
     let P : Found → Type 0 = λ x. KeptOrNot root capacity x now new in
     let become : new ≡ (if is_sound root capacity f then now else without f.0 now) = subst P here step f.1 there refl in
     let all : filter (is_sound root capacity) (take (suc i) U) ≡ front ++ filter (is_sound root capacity) (f ∷ []) = ap (filter (is_sound root capacity)) w.3 ∙ filter-append (is_sound root capacity) (take i U) (f ∷ []) in
-    settled root capacity now new front rest f (is_sound root capacity f) refl so_far.0 so become (take (suc i) U) all
+    let Q : Files → Type 0 = λ l. AllByRecursion (λ q. is_behind root q ≡ true) (keys_of l) in
+    let behind = at_middle (λ q. is_behind root q ≡ true) front f rest (subst Q so (all_behind root now)) in
+    let judged = settled root capacity now new front rest f (is_sound root capacity f) refl so_far.0 so become (take (suc i) U) all in
+    (judged.0, judged.1, outside_judged root old now new f (is_sound root capacity f) behind become so_far.2)
 
 pub cleaned_more : (root : List ℕ) (capacity i : ℕ) (found : List Found) (file : Found) (old now new : Option Files) → ((f : Files) → old ≡ Some f → found ≡ map found_of (under root f)) → i < length found → file ≡ get_or found i file
     → Became (SoFar root capacity i) old now → Became (KeptOrNot root capacity file) now new → Became (SoFar root capacity (i + 1)) old new
@@ -152,7 +164,7 @@ cleaned_more root capacity i found file (Some f) now new found_is below file_is 
 -- at first all are left
 pub none_judged : (root : List ℕ) (capacity : ℕ) (old : Option Files) → ((f : Files) → old ≡ Some f → IsDistinct bytes_eq (keys_of f)) → Became (SoFar root capacity 0) old old
 none_judged root capacity None distinct = refl
-none_judged root capacity (Some f) distinct = (f, refl, (distinct f refl, refl))
+none_judged root capacity (Some f) distinct = (f, refl, (distinct f refl, refl, λ q away. refl))
 
 drop_all : (i : ℕ) (l : Files) → length l ≤ i → drop i l ≡ []
 drop_all zero [] long = refl
@@ -165,7 +177,7 @@ pub all_judged : (root : List ℕ) (capacity i : ℕ) (found : List Found) (old 
 all_judged root capacity i found None new found_is long h = h
 all_judged root capacity i found (Some f) new found_is long h =
     let size : length (under root f) ≤ i = omega (arith, long, ap length (found_is f refl) ∙ length-map (under root f) found_of) in
-    (h.0, h.1, (h.2.0, h.2.1 ∙ ((λ j. filter (is_sound root capacity) (take_all i (under root f) size j) ++ drop_all i (under root f) size j) ∙ none (filter (is_sound root capacity) (under root f)))))
+    (h.0, h.1, (h.2.0, h.2.1 ∙ ((λ j. filter (is_sound root capacity) (take_all i (under root f) size j) ++ drop_all i (under root f) size j) ∙ none (filter (is_sound root capacity) (under root f))), h.2.2))
   where
     none : (l : Files) → l ++ [] ≡ l
     none [] = refl

@@ -28,3 +28,8 @@ pub mod Ids
 pub mod Judged
 pub mod ArchiveOpens
 pub mod OverFolder
+pub mod Asides
+pub mod Reserving
+pub mod Moves
+pub mod KeySteps
+pub mod DiskSteps

@@ -5,7 +5,7 @@ use Rattle.lru_disk_cache.specs.Held.{Held, Holds, Became}
 use Rattle.lru_disk_cache.specs.declared.fault.FolderFault.TheVariants.{Missing}
 use Rattle.lru_disk_cache.specs.declared.error.Error.{Error}
 use Rattle.lru_disk_cache.specs.declared.error.Error.TheVariants.{Io, Memory as NoMemory}
-use Rattle.lru_disk_cache.specs.Disk.{Backed, OnlyRemoved}
+use Rattle.lru_disk_cache.specs.Disk.{Backed, OnlyRemoved, ButUnder}
 use Rattle.lru_disk_cache.specs.Opened.{opened, Shows}
 use Rattle.lru_disk_cache.specs.Store.{Disk, IsStore, opened_disk, OpenFails}
 use Rattle.lru_disk_cache.specs.Archives.{archive_path, opened_archives, paths_under, IsInStep}
@@ -13,7 +13,7 @@ use Rattle.lru_disk_cache.specs.Archiving.{Relists}
 use Rattle.lru_disk_cache.specs.Keyed.{unkeyed, AllArchiveKeys, AllHold}
 use Rattle.lru_disk_cache.specs.Cleaned.{Cleaned, are_archive_keys}
 use Rattle.lru_disk_cache.proofs.ArchiveOpens.{opened_is, opened_keys, opened_hold, are_keys, held_in_step, paths_left, relists}
-use Rattle.lru_disk_cache.proofs.Became.{became_from}
+use Rattle.lru_disk_cache.proofs.Became.{became_from, became_then}
 
 -- the files that were told became so
 became_into : (P : Files → Files → Type 0) (old new : Option Files) (f : Files) → Became P old new → old ≡ Some f → (g : Files) × (new ≡ Some g) × P f g
@@ -54,6 +54,10 @@ module _ (path root : List ℕ) (capacity : ℕ) (old middle new : Held) (d : Di
   in_step_new root_is shows hold all files told =
       let w = shows files told in
       held_in_step path d.root files root_is w.0 (subst AllArchiveKeys (sym w.1) (are_keys d.entries all)) (subst (AllHold d.root files) (sym w.1) (hold files told)) ∙ ap unkeyed w.1
+
+  pub outside_new : root ≡ front path → Became (Cleaned root capacity) old.files middle.files → d.root ≡ front path → Became (ButUnder d.root) middle.files new.files → Became (ButUnder (front path)) old.files new.files
+  outside_new root_is cleaned is others =
+      became_then (Cleaned root capacity) (ButUnder (front path)) (ButUnder (front path)) old.files middle.files new.files (λ f g h x y q away. y q away ∙ subst (λ r. ButUnder r f g) root_is x.2 q away) cleaned (subst (λ r. Became (ButUnder r) middle.files new.files) is others)
 
   pub cleared_new : d.root ≡ front path → Shows d.root new d.entries → are_archive_keys d.entries ≡ true → Holds new (λ files. paths_under path files ≡ map (λ a. archive_path path a.0) (unkeyed d.entries))
   cleared_new root_is shows all files told =

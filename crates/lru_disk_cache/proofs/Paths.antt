@@ -43,13 +43,13 @@ digits_split (d ∷ ds) h =
     no_slash d h = search (h, rules)
 
 -- the name of a temporary file is one part
-temp_split : (n : ℕ) → n < 2 ^ 64 → slice_split (λ b. b == 47) (temp_name n) ≡ temp_name n ∷ []
+pub temp_split : (n : ℕ) → n < 2 ^ 64 → slice_split (λ b. b == 47) (temp_name n) ≡ temp_name n ∷ []
 unfolding temp_name
 temp_split n h =
     let one = digits_split (decimal n) (digits_decimal digits n h) in
     ap (λ parts. onto_first 46 (onto_first 115 (onto_first 99 (onto_first 99 (onto_first 97 (onto_first 99 (onto_first 104 (onto_first 101 (onto_first 116 (onto_first 109 (onto_first 112 parts))))))))))) one
 
-begins_so : (n : ℕ) → is_temporary (temp_name n) ≡ true
+pub begins_so : (n : ℕ) → is_temporary (temp_name n) ≡ true
 unfolding is_temporary temp_name
 begins_so n = refl
 

@@ -14,7 +14,7 @@ use Rattle.lru_disk_cache.proofs.Distinct.{apart}
 use Rattle.lru_disk_cache.proofs.Lookups.{moved_other, moved_there, done_or_not}
 use Rattle.lru_disk_cache.specs.Key.{is_key}
 use Rattle.lru_disk_cache.specs.Entries.{Entries}
-use Rattle.lru_disk_cache.specs.Disk.{Stands, Avoids, Keeps, ButUnderAnd, Counts}
+use Rattle.lru_disk_cache.specs.Disk.{Stands, Avoids, Keeps, ButUnderAnd, ButThese, Counts}
 use Rattle.lru_disk_cache.proofs.Paths.{same_front}
 use Rattle.lru_disk_cache.proofs.Standing.{all_both, all_push}
 
@@ -55,6 +55,7 @@ not_told (Some f) path n sized lacks = absurd (sized_some f path n (sized f refl
 pub record Renamed (root key from : List ℕ) (n : ℕ) (es : Entries) (result : Result (Unit {0}) FolderFault) (old new : Held) : Type 0 where
   pub stands : Stands root new es
   pub others : Became (ButUnderAnd root from) old.files new.files
+  pub untouched : Became (ButThese root from (root ++ key) es) old.files new.files
   pub keeps : Became (Keeps root es) old.files new.files
   pub counts : Counts result old new
   pub content : OnOk result (Became (Carried from (root ++ key)) old.files new.files)
@@ -84,6 +85,10 @@ module _ (root key from : List ℕ) (n : ℕ) (es : Entries) (old new : Held) wh
   outside others =
       became_map (ButTwo from (root ++ key)) (ButUnderAnd root from) old.files new.files (λ f g but q away not_from. but q not_from (away key)) others
 
+  these : Became (ButTwo from (root ++ key)) old.files new.files → Became (ButThese root from (root ++ key) es) old.files new.files
+  these others =
+      became_map (ButTwo from (root ++ key)) (ButThese root from (root ++ key) es) old.files new.files (λ f g but q not_from not_path avoids. but q not_from not_path) others
+
   placed : is_key key ≡ true → Stands root new es → Holds old (λ f. size_at f from ≡ Some n) → Became (Carried from (root ++ key)) old.files new.files → Stands root new (es ++ (key, n) ∷ [])
   placed fit h sized content = record {
     keys = all_push (λ e. is_key e.0 ≡ true) es (key, n) h.keys fit;
@@ -99,19 +104,19 @@ module _ (root key from : List ℕ) (n : ℕ) (es : Entries) (old new : Held) wh
       let keeps = keeping avoids absent others in
       let stands = standing h keeps in
       let content = carried_if old.files new.files from (root ++ key) (ap (λ k. k.files) is.0) is.1 in
-      record { stands = stands; others = outside others; keeps = keeps; counts = ap (λ k. k.faults) is.0; content = content; pushed = placed fit stands sized content }
+      record { stands = stands; others = outside others; untouched = these others; keeps = keeps; counts = ap (λ k. k.faults) is.0; content = content; pushed = placed fit stands sized content }
   at_paths (Err Missing) fit avoids absent h sized is =
       let others = renamed_others from (root ++ key) (Err Missing) old new is in
       let keeps = keeping avoids absent others in
-      record { stands = standing h keeps; others = outside others; keeps = keeps; counts = (not_told old.files from n sized is.1, le_same (ap (λ k. k.faults) is.0)); content = tt; pushed = tt }
+      record { stands = standing h keeps; others = outside others; untouched = these others; keeps = keeps; counts = (not_told old.files from n sized is.1, le_same (ap (λ k. k.faults) is.0)); content = tt; pushed = tt }
   at_paths (Err Failed) fit avoids absent h sized is =
       let others = renamed_others from (root ++ key) (Err Failed) old new is in
       let keeps = keeping avoids absent others in
-      record { stands = standing h keeps; others = outside others; keeps = keeps; counts = (is.1, is.2); content = tt; pushed = tt }
+      record { stands = standing h keeps; others = outside others; untouched = these others; keeps = keeps; counts = (is.1, is.2); content = tt; pushed = tt }
   at_paths (Err Memory) fit avoids absent h sized is =
       let others = renamed_others from (root ++ key) (Err Memory) old new is in
       let keeps = keeping avoids absent others in
-      record { stands = standing h keeps; others = outside others; keeps = keeps; counts = is.1; content = tt; pushed = tt }
+      record { stands = standing h keeps; others = outside others; untouched = these others; keeps = keeps; counts = is.1; content = tt; pushed = tt }
 
   -- a rename of a file to the path of a key that is not listed
   pub renamed : (source to : List ℕ) (result : Result (Unit {0}) FolderFault) → source ≡ from → to ≡ root ++ key → is_key key ≡ true → Avoids root from es → lookup (bytes_eq key) es ≡ None → Stands root old es

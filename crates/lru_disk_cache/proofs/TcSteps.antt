@@ -13,13 +13,14 @@ use Rattle.lru_disk_cache.specs.Held.{Held, Holds, Became, Made, Lacks}
 use Rattle.lru_disk_cache.specs.declared.error.Error.{Error}
 use Rattle.lru_disk_cache.specs.declared.error.Error.TheVariants.{FileTooLarge, FileNotInCache, Io, PendingSpace, BadKey, NotPending, WrongDigest, WriterRefused, Memory as NoMemory}
 use Rattle.lru_disk_cache.specs.Entries.{Entries, promoted_key}
-use Rattle.lru_disk_cache.specs.Disk.{Keeps, SameAt, IsTemp, Left, staying, dropped, files_stored, without_key}
+use Rattle.lru_disk_cache.specs.Disk.{Keeps, SameAt, SameBelow, IsTemp, Left, staying, dropped, files_stored, without_key}
 use Rattle.lru_disk_cache.specs.Reserved.{held_size}
 use Rattle.lru_disk_cache.specs.Store.{Disk, LeftBy, Refuses, looked_up, removed, inserted, room_beside, insert_verdict, InsertFails, LookUpFails, RemoveFails}
 use Rattle.lru_disk_cache.specs.Archives.{is_id, id_of, archive_of, archive_key, archive_path, archives_in, IsInStep}
 use Rattle.lru_disk_cache.specs.Archiving.{with_archive, archive_verdict, StoreFails, FindFails, DropFails}
 use Rattle.lru_disk_cache.specs.Keyed.{id_in, unkeyed, IsArchiveKey, AllArchiveKeys, AllHold, IsKeyed}
 use Rattle.lru_disk_cache.proofs.ArchiveKeys.{id_is_key}
+use Rattle.lru_disk_cache.proofs.Asides.{SameArchives, kept_below, step_kept}
 use Rattle.lru_disk_cache.proofs.Became.{became_from}
 use Rattle.lru_disk_cache.proofs.Exactly.{made_is}
 use Rattle.lru_disk_cache.proofs.InStep.{in_stored, in_touched, in_gone}
@@ -34,7 +35,7 @@ pub hold_kept : (root : List ℕ) (es : Entries) (f g : Files) → Keeps root es
 hold_kept root es f g keeps h = all_both es h keeps (λ e held same. ap (option_map archive_of) same ∙ held)
 
 -- a disk of the same place, whose keys are archives' and held what they should, and whose files are as they were
-keyed_on : (d e : Disk) (old new : Held) → IsKeyed old d → e.path ≡ d.path → e.root ≡ d.root → e.pending ≡ d.pending → AllArchiveKeys e.entries → Holds old (λ f. AllHold d.root f e.entries) → Became (Keeps d.root e.entries) old.files new.files → IsKeyed new e
+pub keyed_on : (d e : Disk) (old new : Held) → IsKeyed old d → e.path ≡ d.path → e.root ≡ d.root → e.pending ≡ d.pending → AllArchiveKeys e.entries → Holds old (λ f. AllHold d.root f e.entries) → Became (Keeps d.root e.entries) old.files new.files → IsKeyed new e
 keyed_on d e old new h path root pending keys hold keeps = record {
   keys = keys;
   root = root ∙ (h.root ∙ ap front (sym path));
@@ -324,3 +325,13 @@ insert_admitted id key size d fit is none small =
   where
     zero_more : (n : ℕ) → 0 + n ≡ n
     zero_more n = omega arith
+
+-- ---- files that lie elsewhere
+
+pub aside_keyed : (d e : Disk) (old new : Held) → IsKeyed old d → e ≡ d → Became (SameBelow d.root) old.files new.files → IsKeyed new e
+aside_keyed d e old new h is same =
+    subst (IsKeyed new) (sym is) (keyed_on d d old new h refl refl refl h.keys h.hold (kept_below d.root d.entries old.files new.files same))
+
+pub aside_step : (d e : Disk) (old new : Held) → e ≡ d → Became (SameArchives d.path) old.files new.files → IsInStep d.path old (unkeyed d.entries) → IsInStep e.path new (unkeyed e.entries)
+aside_step d e old new is same h =
+    subst (λ (k : Disk). IsInStep k.path new (unkeyed k.entries)) (sym is) (step_kept d.path (unkeyed d.entries) old new same h)

@@ -2,7 +2,8 @@
 use Rattle.std.proofs.Common.{true≢false, is_some, Option, Some, None, ◌≡◌, ℕ, ◌+◌, ◌<◌, ◌≤◌, Bool, true, false, cond, List, [], ◌∷◌, ◌++◌, refl, sym, ap, subst, ◌∙◌, arith, rules}
 use Rattle.std.proofs.lemmas.List.Sums.{sum_by-append, sum_by-cons}
 use Rattle.std.specs.List.{IsDistinct}
-use Rattle.std.specs.Map.{lookup, keys_of, remove_entry}
+use Rattle.std.specs.Map.{lookup, lookup_entry, keys_of, remove_entry}
+use Rattle.std.specs.Option.{option_map_or}
 use Rattle.std.specs.Cmp.Lexicographic.{nat_list_eq_equiv}
 use Rattle.std.proofs.lemmas.Map.{lookup-remove_entry}
 use Rattle.std.proofs.lemmas.Slice.Eq.{bytes_eq-Decides}
@@ -11,7 +12,7 @@ use Rattle.lru_disk_cache.proofs.Lookups.{itself}
 use Rattle.std.specs.Str.{bytes_eq}
 use Rattle.lru_metered.specs.Metered.{Metered, with_pairs, inserted}
 use Rattle.lru_metered.proofs.Trims.{trim-fits}
-use Rattle.lru_disk_cache.specs.Entries.{Entries, Listed, total, sizes, trim, IsEnd}
+use Rattle.lru_disk_cache.specs.Entries.{Entries, Listed, total, sizes, trim, promoted_key, IsEnd}
 
 -- one more entry adds its size
 pub total_more : (es : Entries) (k : List ℕ) (n : ℕ) → total (es ++ (k, n) ∷ []) ≡ total es + n
@@ -84,3 +85,16 @@ none_out key key_too es es_too b same list is off =
     absent : (o : Option ℕ) → is_some o ≡ false → o ≡ None
     absent None h = refl
     absent (Some n) h = absurd (true≢false h)
+
+-- nor does making it the most recent
+pub none_promoted : (key key_too : List ℕ) (es es_too : Entries) (b : Bool) → key ≡ key_too → es ≡ es_too → b ≡ is_some (lookup (bytes_eq key) es) → b ≡ false → promoted_key key_too es_too ≡ es_too
+none_promoted key key_too es es_too b same list is off =
+    ap (λ o. option_map_or (λ p. remove_entry (bytes_eq key_too) es_too ++ p ∷ []) o es_too) (absent es_too (sym (is ∙ (λ i. is_some (lookup (bytes_eq (same i)) (list i)))) ∙ off))
+  where
+    absent : (xs : Entries) → is_some (lookup (bytes_eq key_too) xs) ≡ false → lookup_entry (bytes_eq key_too) xs ≡ None
+    absent [] h = refl
+    absent (x ∷ xs) h = by (bytes_eq key_too x.0) h (absent xs)
+      where
+        by : (c : Bool) → is_some (cond c (Some x.1) (lookup (bytes_eq key_too) xs)) ≡ false → (is_some (lookup (bytes_eq key_too) xs) ≡ false → lookup_entry (bytes_eq key_too) xs ≡ None) → cond c (Some x) (lookup_entry (bytes_eq key_too) xs) ≡ None
+        by true some rest = absurd (true≢false some)
+        by false none rest = rest none

@@ -7,6 +7,7 @@ use Rattle.lru_disk_cache.specs.Files.{Files, is_behind}
 use Rattle.lru_disk_cache.specs.declared.folder.Found.{Found}
 use Rattle.lru_disk_cache.specs.Entries.{Entries}
 use Rattle.lru_disk_cache.specs.Archives.{is_id, id_of, archive_key}
+use Rattle.lru_disk_cache.specs.Disk.{ButUnder}
 use Rattle.lru_disk_cache.specs.Keyed.{id_in}
 
 -- a file, as it is found
@@ -21,10 +22,10 @@ under root files = filter (λ f. is_behind root f.0) files
 abbrev pub is_sound : List ℕ → ℕ → List ℕ × List ℕ → Bool
 is_sound root capacity f = nat_le (length f.1) capacity && bytes_eq f.0 (root ++ archive_key (id_of f.1))
 
--- of the files under a root those are left that are sound, in their order, and all paths differ
+-- of the files under a root those are left that are sound, in their order, all others stay, and all paths differ
 abbrev pub Cleaned : List ℕ → ℕ → Files → Files → Type 0
 Cleaned root capacity old new =
-    IsDistinct bytes_eq (keys_of new) × (under root new ≡ filter (is_sound root capacity) (under root old))
+    IsDistinct bytes_eq (keys_of new) × (under root new ≡ filter (is_sound root capacity) (under root old)) × ButUnder root old new
 
 -- whether a key is one of an archive
 abbrev pub is_archive_key : List ℕ → Bool

@@ -4,7 +4,7 @@ use Rattle.std.specs.List.{AllByRecursion}
 use Rattle.std.specs.Map.{remove_entry}
 use Rattle.std.specs.Str.{bytes_eq}
 use Rattle.dist_types.specs.Cause.{Rose}
-use Rattle.lru_disk_cache.specs.Files.{Files, file_at, size_at, put, without, moved}
+use Rattle.lru_disk_cache.specs.Files.{Files, file_at, size_at, front, put, without, moved}
 use Rattle.lru_disk_cache.specs.Held.{Held, Holds, Became}
 use Rattle.lru_disk_cache.specs.declared.fault.FolderFault.{FolderFault}
 use Rattle.lru_disk_cache.specs.declared.fault.FolderFault.TheVariants.{Missing, Failed, Memory}
@@ -44,6 +44,14 @@ Avoids root path entries = AllByRecursion (λ e. bytes_eq (root ++ e.0) path ≡
 abbrev pub ButListed : List ℕ → Entries → Files → Files → Type 0
 ButListed root entries old new = (q : List ℕ) → Avoids root q entries → file_at new q ≡ file_at old q
 
+-- a file at this path does not lie below that directory
+abbrev pub IsOutside : List ℕ → List ℕ → Type 0
+IsOutside path q = (k : List ℕ) → bytes_eq (front path ++ k) q ≡ false
+
+-- the file at each path below the root is as it was
+abbrev pub SameBelow : List ℕ → Files → Files → Type 0
+SameBelow root old new = (k : List ℕ) → file_at new (root ++ k) ≡ file_at old (root ++ k)
+
 -- the file at each path outside the root is as it was
 abbrev pub ButUnder : List ℕ → Files → Files → Type 0
 ButUnder root old new = (q : List ℕ) → ((k : List ℕ) → bytes_eq (root ++ k) q ≡ false) → file_at new q ≡ file_at old q
@@ -51,6 +59,10 @@ ButUnder root old new = (q : List ℕ) → ((k : List ℕ) → bytes_eq (root ++
 -- the file at each path outside the root but one is as it was
 abbrev pub ButUnderAnd : List ℕ → List ℕ → Files → Files → Type 0
 ButUnderAnd root from old new = (q : List ℕ) → ((k : List ℕ) → bytes_eq (root ++ k) q ≡ false) → bytes_eq from q ≡ false → file_at new q ≡ file_at old q
+
+-- the file at each path but these two, and that is no entry's, is as it was
+abbrev pub ButThese : List ℕ → List ℕ → List ℕ → Entries → Files → Files → Type 0
+ButThese root from path entries old new = (q : List ℕ) → bytes_eq from q ≡ false → bytes_eq path q ≡ false → Avoids root q entries → file_at new q ≡ file_at old q
 
 -- it is the path of a temporary file under a root
 abbrev pub IsTemp : List ℕ → List ℕ → Type 0

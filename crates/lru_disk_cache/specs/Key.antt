@@ -28,3 +28,7 @@ is_key text = are_key (slice_split (λ b. b == 47) text)
 -- the name of the temporary file of a number
 unfoldable pub temp_name : ℕ → List ℕ
 temp_name number = codes ".sccachetmp" ++ decimal number
+
+-- whether the last part of a path is the name of a temporary file
+abbrev pub names_temporary : List ℕ → Bool
+names_temporary path = is_temporary (last_behind [] (slice_split (λ b. b == 47) path))

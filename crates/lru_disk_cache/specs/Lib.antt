@@ -14,3 +14,6 @@ pub mod Keyed
 pub mod Cleaned
 pub mod Reliable
 pub mod Real
+pub mod Adding
+pub mod Moving
+pub mod Read

@@ -4,16 +4,16 @@ use Rattle.std.specs.Map.{lookup}
 use Rattle.std.specs.Str.{bytes_eq}
 use Rattle.dist_types.specs.Cause.{Rose}
 use Rattle.lru_disk_cache.specs.Files.{Files, front}
-use Rattle.lru_disk_cache.specs.Held.{Held}
+use Rattle.lru_disk_cache.specs.Held.{Held, Holds}
 use Rattle.lru_disk_cache.specs.declared.fault.FolderFault.{FolderFault}
 use Rattle.lru_disk_cache.specs.declared.fault.FolderFault.TheVariants.{Missing, Failed, Memory}
 use Rattle.lru_disk_cache.specs.declared.error.Error.{Error}
 use Rattle.lru_disk_cache.specs.declared.error.Error.TheVariants.{FileTooLarge, FileNotInCache, Io, PendingSpace, BadKey, NotPending, WrongDigest, WriterRefused, Memory as NoMemory}
 use Rattle.lru_disk_cache.specs.Key.{is_key}
 use Rattle.lru_disk_cache.specs.Entries.{Entries, total, promoted_key}
-use Rattle.lru_disk_cache.specs.Opened.{opened}
+use Rattle.lru_disk_cache.specs.Opened.{opened, InStep}
 use Rattle.lru_disk_cache.specs.Disk.{Stands, stored, Left, without_key}
-use Rattle.lru_disk_cache.specs.Reserved.{Reservation, held_size, AllReserved}
+use Rattle.lru_disk_cache.specs.Reserved.{Reservation, held_size, AllReserved, NumbersDiffer, AllSure}
 
 -- The path of a cache and what the path of each of its files begins with, its capacity, its keys with sizes, least recent first, and its
 -- open reservations.
@@ -29,12 +29,19 @@ pub record Store (F : Type 0) : Type 0 where
   pub disk : Disk
   pub folder : F
 
--- a cache whose files stand, and whose entries and reservations fit its capacity
+-- A cache whose files stand, whose entries and reservations fit its capacity, and whose reservations' numbers differ. The temporary files
+-- that are sure to be there are, where files are told.
 pub record IsStore (held : Held) (d : Disk) : Type 0 where
   pub stands : Stands d.root held d.entries
   pub root : d.root ≡ front d.path
   pub fits : total d.entries + held_size d.pending ≤ d.capacity
   pub reserved : AllReserved d.root d.pending
+  pub numbers : NumbersDiffer d.pending
+  pub sure : Holds held (λ files. AllSure files d.pending)
+
+-- the list is in step with the files, where they are told
+abbrev pub DiskInStep : Held → Disk → Type 0
+DiskInStep held d = Holds held (λ files. InStep d.root files d.entries)
 
 -- a fault of the folder, as the cache tells it
 abbrev pub error_of : FolderFault → Error

@@ -1,5 +1,5 @@
 //! `LruDiskCache` and its calls.
-ghost use Rattle.std.specs.Prelude.{◌≡◌, ℕ, List, ◌+◌, ◌++◌, ◌≤◌, length, nat_le, is_some, true, Some, None, Ok, [], IsSome, IfOk, IfErr, OnOk, OnErr, OnSome};
+ghost use Rattle.std.specs.Prelude.{◌≡◌, ℕ, List, ◌+◌, ◌++◌, ◌^◌, ◌<◌, ◌≤◌, length, nat_le, is_some, true, Some, None, Ok, [], IsSome, IfOk, IfErr, OnOk, OnErr, OnSome};
 ghost use Rattle.std.specs.Map.Iter.{ShowsInOrder, deref_pair};
 ghost use Rattle.std.specs.List.{IsDistinct};
 ghost use Rattle.std.specs.Map.{keys_of, lookup};
@@ -10,7 +10,7 @@ ghost use Rattle.lru_disk_cache.specs.Key.{is_key, temp_name};
 ghost use Rattle.lru_disk_cache.specs.Entries.{total, IsTable};
 ghost use Rattle.lru_disk_cache.specs.Opened.{InStep, Shows};
 ghost use Rattle.lru_disk_cache.specs.Disk.{Stands, ButAt, ButUnder, IsTemp, Keeps, SameAt, staying, dropped, files_stored, without_key, OnlyRemoved};
-ghost use Rattle.lru_disk_cache.specs.Reserved.{held_size};
+ghost use Rattle.lru_disk_cache.specs.Reserved.{held_size, KeepsReserved};
 
 use crate::error::{Error, Result, io};
 use crate::fault::FolderFault;
@@ -30,12 +30,12 @@ use std::marker::Model;
 /// to no more than a capacity. What is least recent goes first.
 #[derive(Drop)]
 pub struct LruDiskCache<F: Folder> {
-    alloc: Global,
-    folder: F,
-    path: Text,
-    root: Text,
-    table: Table,
-    pending: Reservations,
+    pub(crate) alloc: Global,
+    pub(crate) folder: F,
+    pub(crate) path: Text,
+    pub(crate) root: Text,
+    pub(crate) table: Table,
+    pub(crate) pending: Reservations,
 }
 
 impl<F: Folder> Model for LruDiskCache<F> {
@@ -49,7 +49,7 @@ impl<F: Folder> Model for LruDiskCache<F> {
 }
 
 impl<F: Folder> LruDiskCache<F> {
-    ghost use Rattle.lru_disk_cache.specs.Store.{IsStore, inserted, looked_up, removed, opened_disk, insert_verdict, room_beside, OpenFails, InsertFails, LookUpFails, RemoveFails};
+    ghost use Rattle.lru_disk_cache.specs.Store.{IsStore, DiskInStep, inserted, looked_up, removed, opened_disk, insert_verdict, room_beside, OpenFails, InsertFails, LookUpFails, RemoveFails};
 
     /// Opens a cache of `size` bytes of the files below a path. Those are removed that are no key's or larger
     /// than that, and the least recent where the others exceed it. Where that fails, as `Error::Io` or for
@@ -66,6 +66,7 @@ impl<F: Folder> LruDiskCache<F> {
         ensures stands { IfOk result (λ c. IsStore (F.held c.folder) c.disk) }
         ensures cleared { IfOk result (λ c. Shows c.disk.root (F.held c.folder) c.disk.entries) }
         ensures removed { IfOk result (λ c. Became OnlyRemoved (F.held folder).files (F.held c.folder).files) }
+        ensures others { IfOk result (λ c. Became (ButUnder c.disk.root) (F.held folder).files (F.held c.folder).files) }
         ensures steady { IfOk result (λ c. (F.held c.folder).faults ≡ (F.held folder).faults) }
         ensures later { IfErr result (λ e. (F.held folder).faults ≤ (F.held e.1).faults) }
         ensures fails { IfErr result (λ e. OpenFails e.0 (F.held folder) (F.held e.1)) }
@@ -74,14 +75,17 @@ impl<F: Folder> LruDiskCache<F> {
             return Err((Error::Memory, folder));
         };
         match open(&mut folder, &path, &root, size) {
-            Ok(table) => Ok(LruDiskCache {
-                alloc,
-                folder,
-                path,
-                root,
-                table,
-                pending: Reservations::new(alloc),
-            }),
+            Ok(table) => {
+                let _size = table.size();
+                Ok(LruDiskCache {
+                    alloc,
+                    folder,
+                    path,
+                    root,
+                    table,
+                    pending: Reservations::new(alloc),
+                })
+            }
             Err(fault) => Err((io(fault), folder)),
         }
     }
@@ -177,11 +181,14 @@ impl<F: Folder> LruDiskCache<F> {
         ensures kept { OnOk result (Became (Keeps self.old.disk.root (staying key.now (room_beside self.old.disk (length bytes.now)) self.old.disk.entries)) (F.held self.old.folder).files (F.held self.new.folder).files) }
         ensures left { OnErr result (Became (Keeps self.old.disk.root self.new.disk.entries) (F.held self.old.folder).files (F.held self.new.folder).files) }
         ensures others { Became (ButUnder self.old.disk.root) (F.held self.old.folder).files (F.held self.new.folder).files }
+        ensures reserved { Became (KeepsReserved self.old.disk.pending) (F.held self.old.folder).files (F.held self.new.folder).files }
         ensures exact { OnOk result ((temp : List ℕ) × IsTemp self.old.disk.root temp × Made (files_stored self.old.disk.root temp (self.old.disk.root ++ key.now) bytes.now (dropped (room_beside self.old.disk (length bytes.now)) (without_key key.now self.old.disk.entries))) (F.held self.old.folder).files (F.held self.new.folder).files) }
         ensures steady { OnOk result ((F.held self.new.folder).faults ≡ (F.held self.old.folder).faults) }
         ensures later { (F.held self.old.folder).faults ≤ (F.held self.new.folder).faults }
+        ensures in_step { DiskInStep (F.held self.old.folder) self.old.disk → OnOk result (DiskInStep (F.held self.new.folder) self.new.disk) }
         ensures stands { IsStore (F.held self.new.folder) self.new.disk }
     {
+        self.shown();
         let size = bytes.len() as u64;
         match self.admit(key, size) {
             Ok(()) => {}
@@ -217,8 +224,10 @@ impl<F: Folder> LruDiskCache<F> {
         ensures exact { OnOk result (Made (touched (self.old.disk.root ++ key.now)) (F.held self.old.folder).files (F.held self.new.folder).files) }
         ensures steady { OnOk result ((F.held self.new.folder).faults ≡ (F.held self.old.folder).faults) }
         ensures later { (F.held self.old.folder).faults ≤ (F.held self.new.folder).faults }
+        ensures in_step { DiskInStep (F.held self.old.folder) self.old.disk → OnOk result (DiskInStep (F.held self.new.folder) self.new.disk) }
         ensures stands { IsStore (F.held self.new.folder) self.new.disk }
     {
+        self.shown();
         let Ok(key) = Text::of(self.alloc, key) else {
             return Err(Error::Memory);
         };
@@ -245,12 +254,15 @@ impl<F: Folder> LruDiskCache<F> {
         ensures fails { IfErr result (λ e. RemoveFails key.now e self.old.disk self.new.disk (F.held self.old.folder) (F.held self.new.folder)) }
         ensures others { Became (ButAt (self.old.disk.root ++ key.now)) (F.held self.old.folder).files (F.held self.new.folder).files }
         ensures kept { Became (Keeps self.old.disk.root self.new.disk.entries) (F.held self.old.folder).files (F.held self.new.folder).files }
+        ensures reserved { Became (KeepsReserved self.old.disk.pending) (F.held self.old.folder).files (F.held self.new.folder).files }
         ensures exact { OnOk result (IsSome (lookup (bytes_eq key.now) self.old.disk.entries) → Made (without (self.old.disk.root ++ key.now)) (F.held self.old.folder).files (F.held self.new.folder).files) }
         ensures same { OnOk result (lookup (bytes_eq key.now) self.old.disk.entries ≡ None → F.held self.new.folder ≡ F.held self.old.folder) }
         ensures steady { OnOk result ((F.held self.new.folder).faults ≡ (F.held self.old.folder).faults) }
         ensures later { (F.held self.old.folder).faults ≤ (F.held self.new.folder).faults }
+        ensures in_step { DiskInStep (F.held self.old.folder) self.old.disk → OnOk result (DiskInStep (F.held self.new.folder) self.new.disk) }
         ensures stands { IsStore (F.held self.new.folder) self.new.disk }
     {
+        self.shown();
         let Ok(key) = Text::of(self.alloc, key) else {
             return Err(Error::Memory);
         };
@@ -264,8 +276,16 @@ impl<F: Folder> LruDiskCache<F> {
         }
     }
 
+    // What holds of the cache, whatever failed so far.
+    pub(crate) fn shown(&self)
+        ensures stands { IsStore (F.held self.now.folder) self.now.disk }
+        ensures distinct { IsDistinct bytes_eq (keys_of self.now.disk.entries) }
+    {
+        let _len = self.table.len();
+    }
+
     // The sum of the sizes that open reservations announced.
-    fn held(&self) -> u64
+    pub(crate) fn held(&self) -> u64
         ensures held { result ≡ held_size self.now.disk.pending }
         ensures fits { total self.now.disk.entries + result ≤ self.now.disk.capacity }
         ensures range { self.now.disk.capacity ≤ 18446744073709551615 }
@@ -275,7 +295,7 @@ impl<F: Folder> LruDiskCache<F> {
     }
 
     // What the sizes of the other entries may sum to where one of this size is stored.
-    fn room_beside(&self, size: u64) -> u64
+    pub(crate) fn room_beside(&self, size: u64) -> u64
         requires { held_size self.now.disk.pending + size ≤ self.now.disk.capacity }
         ensures { result ≡ room_beside self.now.disk size }
     {
@@ -283,7 +303,7 @@ impl<F: Folder> LruDiskCache<F> {
     }
 
     // Whether a key may be stored with a size.
-    fn admit(&self, key: &str, size: u64) -> Result<()>
+    pub(crate) fn admit(&self, key: &str, size: u64) -> Result<()>
         ensures verdict { result ≡ insert_verdict self.now.disk key.now size }
         ensures key { OnOk result (is_key key.now ≡ true) }
         ensures room { OnOk result (held_size self.now.disk.pending + size ≤ self.now.disk.capacity) }
@@ -310,8 +330,8 @@ pub(crate) fn place_of(alloc: Global, path: &str) -> std::result::Result<(Text, 
     Ok((path, root))
 }
 
-// Bytes that are to stand under a key, by way of the temporary file of a number.
-fn arrival_of(
+/// A file that is to stand under a key, by way of the temporary file of a number.
+pub(crate) fn arrival_of(
     root: &Text,
     number: u64,
     key: &str,
@@ -320,10 +340,26 @@ fn arrival_of(
 ) -> std::result::Result<Arrival, FolderFault>
     ensures from { IfOk result (λ a. a.from ≡ root.now ++ temp_name number) }
     ensures temp { IfOk result (λ a. IsTemp root.now a.from) }
+    ensures number { number < 2 ^ 64 }
     ensures path { IfOk result (λ a. a.path ≡ root.now ++ key.now) }
     ensures key { IfOk result (λ a. (a.key ≡ key.now) × (a.size ≡ size) × (a.limit ≡ limit)) }
 {
     let from = temp_path(root.alloc(), root, number)?;
+    arrival_from(root, from, key, size, limit)
+}
+
+/// A file of a path that is to stand under a key.
+pub(crate) fn arrival_from(
+    root: &Text,
+    from: Text,
+    key: &str,
+    size: u64,
+    limit: u64,
+) -> std::result::Result<Arrival, FolderFault>
+    ensures from { IfOk result (λ a. a.from ≡ from) }
+    ensures path { IfOk result (λ a. a.path ≡ root.now ++ key.now) }
+    ensures key { IfOk result (λ a. (a.key ≡ key.now) × (a.size ≡ size) × (a.limit ≡ limit)) }
+{
     let key = Text::of(root.alloc(), key)?;
     let path = path_of(root, &key)?;
     Ok(Arrival {

@@ -38,3 +38,17 @@ pub(crate) fn key_of(alloc: Global, tc: &Toolchain) -> Result<Text, AllocError>
     let key = format!(in alloc; "{}/{}/{id}", &id[..1], &id[1..2])?;
     Ok(Text::new(key))
 }
+
+/// The toolchain whose archive bytes are: their SHA-256 is its id. It takes no memory.
+pub fn toolchain_of(bytes: &[u8]) -> Toolchain
+    ensures { result ≡ id_of bytes.now }
+{
+    let digits = id_of(bytes);
+    let Ok(text) = str::from_utf8(&digits) else {
+        unreachable!();
+    };
+    match Toolchain::new(text) {
+        Ok(tc) => tc,
+        Err(_) => unreachable!(),
+    }
+}

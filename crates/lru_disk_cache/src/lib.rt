@@ -12,7 +12,9 @@
 //! size whose SHA-256 is its id, where the folder tells its files.
 #![tactic(auto)]
 
+mod adding;
 mod archives;
+mod aside;
 mod cache;
 pub mod calls;
 mod cleaning;
@@ -24,7 +26,9 @@ pub mod folder;
 mod key;
 pub mod laws;
 pub mod mem_folder;
+mod moving;
 mod opening;
+mod reading;
 mod real_calls;
 pub mod real_folder;
 mod real_order;
@@ -37,6 +41,9 @@ mod tc_cache;
 
 pub use archives::Archives;
 pub use cache::LruDiskCache;
-pub use error::{Error, Result};
+pub use digest::toolchain_of;
+pub use entry::LruDiskCacheAddEntry;
+pub use error::{Error, Result, WriteFault};
 pub use key::is_key;
+pub use reading::{Opened, ReadSeek};
 pub use tc_cache::TcCache;

@@ -7,7 +7,7 @@ ghost use Rattle.std.specs.Str.{bytes_eq};
 ghost use Rattle.lru_disk_cache.specs.Files.{front};
 ghost use Rattle.lru_disk_cache.specs.Held.{Holds, Became};
 ghost use Rattle.lru_disk_cache.specs.Entries.{Entries, total, trim};
-ghost use Rattle.lru_disk_cache.specs.Disk.{Stands, AllKeys, OnlyRemoved, Counts};
+ghost use Rattle.lru_disk_cache.specs.Disk.{Stands, AllKeys, OnlyRemoved, ButUnder, Counts};
 ghost use Rattle.lru_disk_cache.specs.Opened.{stripped, keyed, kept, opened, Shows, InStep};
 
 use crate::fault::FolderFault;
@@ -38,6 +38,7 @@ fn sort_one<F: Folder>(
     ensures shows { (rest : Entries) → Shows root.now (F.held folder.old) (good.old.items ++ (keyed root.now (file.now ∷ []) ++ rest)) → OnOk result (Shows root.now (F.held folder.new) (good.new.items ++ rest)) }
     ensures found { ¬ (result ≡ Err FolderFault.Missing) }
     ensures removed { OnOk result (Became OnlyRemoved (F.held folder.old).files (F.held folder.new).files) }
+    ensures others { OnOk result (Became (ButUnder root.now) (F.held folder.old).files (F.held folder.new).files) }
     ensures counts { Counts result (F.held folder.old) (F.held folder.new) }
 {
     let Some(key) = stripped(root.get(), file.path.get()) else {
@@ -69,6 +70,7 @@ fn sort_out<F: Folder>(
     ensures shows { OnOk result (Shows root.now (F.held folder.new) good.new.items) }
     ensures found { ¬ (result ≡ Err FolderFault.Missing) }
     ensures removed { OnOk result (Became OnlyRemoved (F.held folder.old).files (F.held folder.new).files) }
+    ensures others { OnOk result (Became (ButUnder root.now) (F.held folder.old).files (F.held folder.new).files) }
     ensures counts { Counts result (F.held folder.old) (F.held folder.new) }
 {
     match found {
@@ -107,6 +109,7 @@ fn drop_old<'a, F: Folder>(
     ensures shows { IfOk result (λ r. Shows root.now (F.held folder.new) r.now) }
     ensures found { ¬ (result ≡ Err FolderFault.Missing) }
     ensures removed { OnOk result (Became OnlyRemoved (F.held folder.old).files (F.held folder.new).files) }
+    ensures others { OnOk result (Became (ButUnder root.now) (F.held folder.old).files (F.held folder.new).files) }
     ensures counts { Counts result (F.held folder.old) (F.held folder.new) }
 {
     match good {
@@ -165,6 +168,7 @@ pub(crate) fn open<F: Folder>(
     ensures stands { IfOk result (λ t. Stands root.now (F.held folder.new) t.entries) }
     ensures cleared { IfOk result (λ t. Shows root.now (F.held folder.new) t.entries) }
     ensures removed { OnOk result (Became OnlyRemoved (F.held folder.old).files (F.held folder.new).files) }
+    ensures others { OnOk result (Became (ButUnder root.now) (F.held folder.old).files (F.held folder.new).files) }
     ensures counts { Counts result (F.held folder.old) (F.held folder.new) }
 {
     let alloc = root.alloc();

@@ -1,13 +1,15 @@
 //! The steps of a disk cache: writing the temporary file, dropping what is least recent, and putting the file in its place.
-ghost use Rattle.std.specs.Prelude.{◌≡◌, ◌+◌, ◌-◌, ◌≤◌, ◌<◌, ◌++◌, ◌∷◌, [], length, take, drop, true, false, Some, None, Err, IfOk, OnOk, OnErr};
+ghost use Rattle.std.specs.Prelude.{◌≡◌, ◌+◌, ◌-◌, ◌≤◌, ◌<◌, ◌++◌, ◌∷◌, [], length, take, drop, true, false, Some, None, Err, IfOk, IfErr, OnOk, OnErr};
 ghost use Rattle.std.specs.Map.{lookup};
 ghost use Rattle.std.specs.Str.{bytes_eq};
-ghost use Rattle.lru_disk_cache.specs.Files.{file_at, size_at, put, without, moved, touched};
+ghost use Rattle.lru_disk_cache.specs.Files.{file_at, size_at, put, without, moved, touched, appended, PartAppended};
 ghost use Rattle.lru_disk_cache.specs.Held.{Holds, Became, Made, Lacks};
 ghost use Rattle.lru_disk_cache.specs.Key.{is_key};
-ghost use Rattle.lru_disk_cache.specs.Entries.{total, trim, IsTable};
-ghost use Rattle.lru_disk_cache.specs.Disk.{Stands, Avoids, ButAt, ButListed, ButUnder, ButUnderAnd, IsTemp, Keeps, Counts, Drops, stored, staying, dropped, without_each, files_placed, files_stored, without_key, Left, OnlyRemoved, SameAt};
+ghost use Rattle.lru_disk_cache.specs.Entries.{total, trim, IsEnd, IsTable};
+ghost use Rattle.lru_disk_cache.specs.Adding.{files_prepared, CallFails};
+ghost use Rattle.lru_disk_cache.specs.Disk.{Stands, Avoids, ButAt, ButListed, ButUnder, ButUnderAnd, ButThese, IsTemp, Keeps, Counts, Drops, stored, staying, dropped, without_each, files_placed, files_stored, without_key, Left, OnlyRemoved, SameAt};
 
+use crate::error::{self, io};
 use crate::fault::FolderFault;
 use crate::folder::Folder;
 use crate::key::path_of;
@@ -44,6 +46,52 @@ pub(crate) fn remove_file<F: Folder>(
 {
     let path = path_of(root, key)?;
     match folder.remove(path.get()) {
+        Ok(()) => Ok(()),
+        Err(FolderFault::Missing) => Ok(()),
+        Err(FolderFault::Failed) => Err(FolderFault::Failed),
+        Err(FolderFault::Memory) => Err(FolderFault::Memory),
+    }
+}
+
+/// How many bytes a file has.
+pub(crate) fn measure<F: Folder>(folder: &mut F, path: &str) -> error::Result<u64>
+    ensures size { IfOk result (λ n. Holds (F.held folder.old) (λ files. size_at files path.now ≡ Some n)) }
+    ensures same { OnOk result (F.held folder.new ≡ F.held folder.old) }
+    ensures files { (F.held folder.new).files ≡ (F.held folder.old).files }
+    ensures fails { IfErr result (λ e. CallFails (Lacks path.now) e (F.held folder.old) (F.held folder.new)) }
+    ensures later { (F.held folder.old).faults ≤ (F.held folder.new).faults }
+{
+    match folder.size(path) {
+        Ok(size) => Ok(size),
+        Err(fault) => Err(io(fault)),
+    }
+}
+
+/// Adds bytes at the end of a file.
+pub(crate) fn add_to<F: Folder>(folder: &mut F, path: &str, bytes: &[u8]) -> error::Result<()>
+    ensures ok { OnOk result (Made (appended path.now bytes.now) (F.held folder.old).files (F.held folder.new).files) }
+    ensures part { OnErr result (Became (PartAppended path.now bytes.now) (F.held folder.old).files (F.held folder.new).files) }
+    ensures others { Became (ButAt path.now) (F.held folder.old).files (F.held folder.new).files }
+    ensures there { Became (λ old new. ¬ (Lacks path.now old) → ¬ (Lacks path.now new)) (F.held folder.old).files (F.held folder.new).files }
+    ensures fails { IfErr result (λ e. CallFails (Lacks path.now) e (F.held folder.old) (F.held folder.new)) }
+    ensures steady { OnOk result ((F.held folder.new).faults ≡ (F.held folder.old).faults) }
+    ensures later { (F.held folder.old).faults ≤ (F.held folder.new).faults }
+{
+    match folder.append(path, bytes) {
+        Ok(()) => Ok(()),
+        Err(fault) => Err(io(fault)),
+    }
+}
+
+/// Removes the file at a path. One that is missing already is no fault.
+pub(crate) fn remove_at<F: Folder>(folder: &mut F, path: &str) -> Result<(), FolderFault>
+    ensures found { ¬ (result ≡ Err FolderFault.Missing) }
+    ensures exact { OnOk result (Became (λ old new. new ≡ without path.now old) (F.held folder.old).files (F.held folder.new).files) }
+    ensures gone { OnOk result (Holds (F.held folder.new) (Lacks path.now)) }
+    ensures others { Became (ButAt path.now) (F.held folder.old).files (F.held folder.new).files }
+    ensures counts { Counts result (F.held folder.old) (F.held folder.new) }
+{
+    match folder.remove(path) {
         Ok(()) => Ok(()),
         Err(FolderFault::Missing) => Ok(()),
         Err(FolderFault::Failed) => Err(FolderFault::Failed),
@@ -110,6 +158,7 @@ pub(crate) fn place<F: Folder>(
     ensures stands { Stands root.now (F.held folder.new) table.new.entries }
     ensures content { OnOk result (Became (λ old new. file_at new arrival.now.path ≡ file_at old arrival.now.from) (F.held folder.old).files (F.held folder.new).files) }
     ensures others { Became (ButUnderAnd root.now arrival.now.from) (F.held folder.old).files (F.held folder.new).files }
+    ensures untouched { Became (ButThese root.now arrival.now.from arrival.now.path table.old.entries) (F.held folder.old).files (F.held folder.new).files }
     ensures kept { Became (Keeps root.now table.old.entries) (F.held folder.old).files (F.held folder.new).files }
     ensures exact { OnOk result (Made (moved arrival.now.from arrival.now.path) (F.held folder.old).files (F.held folder.new).files) }
     ensures counts { Counts result (F.held folder.old) (F.held folder.new) }
@@ -161,6 +210,7 @@ pub(crate) fn fill<F: Folder>(
     ensures stands { Stands root.now (F.held folder.new) table.new.entries }
     ensures content { OnOk result (Became (λ old new. file_at new arrival.now.path ≡ file_at old arrival.now.from) (F.held folder.old).files (F.held folder.new).files) }
     ensures others { Became (ButUnderAnd root.now arrival.now.from) (F.held folder.old).files (F.held folder.new).files }
+    ensures untouched { Became (ButThese root.now arrival.now.from arrival.now.path table.old.entries) (F.held folder.old).files (F.held folder.new).files }
     ensures kept { OnOk result (Became (Keeps root.now (staying arrival.now.key arrival.now.limit table.old.entries)) (F.held folder.old).files (F.held folder.new).files) }
     ensures left { OnErr result (Became (Keeps root.now table.new.entries) (F.held folder.old).files (F.held folder.new).files) }
     ensures exact { OnOk result (Made (files_placed root.now arrival.now.from arrival.now.path (dropped arrival.now.limit (without_key arrival.now.key table.old.entries))) (F.held folder.old).files (F.held folder.new).files) }
@@ -192,12 +242,67 @@ pub(crate) fn store<F: Folder>(
     ensures stands { Stands root.now (F.held folder.new) table.new.entries }
     ensures content { OnOk result (Holds (F.held folder.new) (λ files. file_at files arrival.now.path ≡ Some bytes.now)) }
     ensures others { Became (ButUnder root.now) (F.held folder.old).files (F.held folder.new).files }
+    ensures untouched { Became (ButThese root.now arrival.now.from arrival.now.path table.old.entries) (F.held folder.old).files (F.held folder.new).files }
     ensures kept { OnOk result (Became (Keeps root.now (staying arrival.now.key arrival.now.limit table.old.entries)) (F.held folder.old).files (F.held folder.new).files) }
     ensures left { OnErr result (Became (Keeps root.now table.new.entries) (F.held folder.old).files (F.held folder.new).files) }
     ensures exact { OnOk result (Made (files_stored root.now arrival.now.from arrival.now.path bytes.now (dropped arrival.now.limit (without_key arrival.now.key table.old.entries))) (F.held folder.old).files (F.held folder.new).files) }
     ensures counts { Counts result (F.held folder.old) (F.held folder.new) }
 {
     write_temp(folder, &arrival.path, &arrival.from, bytes)?;
+    fill(folder, table, root, arrival)
+}
+
+/// Writes an empty temporary file, and drops the least recent entries and their files until the others fit.
+pub(crate) fn announce<F: Folder>(
+    folder: &mut F,
+    table: &mut Table,
+    root: &Text,
+    arrival: &Arrival,
+) -> Result<(), FolderFault>
+    requires temp { IsTemp root.now arrival.now.from }
+    requires stands { Stands root.now (F.held folder.old) table.old.entries }
+    ensures ok { OnOk result (table.new.entries ≡ trim arrival.now.limit table.old.entries) }
+    ensures fits { OnOk result (total table.new.entries ≤ arrival.now.limit) }
+    ensures capacity { table.new.capacity ≡ table.old.capacity }
+    ensures room { IsEnd table.new.entries table.old.entries × (trim arrival.now.limit table.new.entries ≡ trim arrival.now.limit table.old.entries) }
+    ensures stands { Stands root.now (F.held folder.new) table.new.entries }
+    ensures there { OnOk result (Holds (F.held folder.new) (λ files. file_at files arrival.now.from ≡ Some [])) }
+    ensures others { Became (ButUnder root.now) (F.held folder.old).files (F.held folder.new).files }
+    ensures untouched { Became (ButThese root.now arrival.now.from arrival.now.from table.old.entries) (F.held folder.old).files (F.held folder.new).files }
+    ensures kept { Became (Keeps root.now table.new.entries) (F.held folder.old).files (F.held folder.new).files }
+    ensures exact { OnOk result (Made (files_prepared root.now arrival.now.from (dropped arrival.now.limit table.old.entries)) (F.held folder.old).files (F.held folder.new).files) }
+    ensures counts { Counts result (F.held folder.old) (F.held folder.new) }
+{
+    write_temp(folder, &arrival.path, &arrival.from, &[])?;
+    make_room(folder, table, root, arrival.limit)
+}
+
+/// Makes the directories above the file of a key, takes the key out, makes room, and moves a file there.
+pub(crate) fn move_in<F: Folder>(
+    folder: &mut F,
+    table: &mut Table,
+    root: &Text,
+    arrival: &Arrival,
+) -> Result<(), FolderFault>
+    requires key { is_key arrival.now.key ≡ true }
+    requires path { arrival.now.path ≡ root.now ++ arrival.now.key }
+    requires apart { bytes_eq arrival.now.path arrival.now.from ≡ false }
+    requires avoids { Avoids root.now arrival.now.from table.old.entries }
+    requires fits { arrival.now.limit + arrival.now.size ≤ table.old.capacity }
+    requires stands { Stands root.now (F.held folder.old) table.old.entries }
+    requires written { Holds (F.held folder.old) (λ files. size_at files arrival.now.from ≡ Some arrival.now.size) }
+    ensures ok { OnOk result (table.new ≡ record table.old { entries = stored arrival.now.key arrival.now.size arrival.now.limit table.old.entries }) }
+    ensures err { OnErr result ((table.new.capacity ≡ table.old.capacity) × Left arrival.now.key arrival.now.limit table.old.entries table.new.entries) }
+    ensures stands { Stands root.now (F.held folder.new) table.new.entries }
+    ensures content { OnOk result (Became (λ old new. file_at new arrival.now.path ≡ file_at old arrival.now.from) (F.held folder.old).files (F.held folder.new).files) }
+    ensures others { Became (ButUnderAnd root.now arrival.now.from) (F.held folder.old).files (F.held folder.new).files }
+    ensures untouched { Became (ButThese root.now arrival.now.from arrival.now.path table.old.entries) (F.held folder.old).files (F.held folder.new).files }
+    ensures kept { OnOk result (Became (Keeps root.now (staying arrival.now.key arrival.now.limit table.old.entries)) (F.held folder.old).files (F.held folder.new).files) }
+    ensures left { OnErr result (Became (Keeps root.now table.new.entries) (F.held folder.old).files (F.held folder.new).files) }
+    ensures exact { OnOk result (Made (files_placed root.now arrival.now.from arrival.now.path (dropped arrival.now.limit (without_key arrival.now.key table.old.entries))) (F.held folder.old).files (F.held folder.new).files) }
+    ensures counts { Counts result (F.held folder.old) (F.held folder.new) }
+{
+    folder.make_parents(arrival.path.get())?;
     fill(folder, table, root, arrival)
 }
 

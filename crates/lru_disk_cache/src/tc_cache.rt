@@ -2,22 +2,25 @@
 ghost use Rattle.std.specs.Prelude.{◌≡◌, ◌≤◌, ◌⊎◌, [], true, false, length, map, nat_le, is_some, Some, None, Ok, IsSome, IfOk, IfErr, OnOk, OnErr};
 ghost use Rattle.std.specs.Map.{lookup};
 ghost use Rattle.std.specs.Str.{bytes_eq};
-ghost use Rattle.lru_disk_cache.specs.Files.{file_at, front};
-ghost use Rattle.lru_disk_cache.specs.Held.{Holds, Became, Lacks};
+ghost use Rattle.lru_disk_cache.specs.Files.{file_at, front, put, moved, PartWritten, DoneOrNot, Same};
+ghost use Rattle.lru_disk_cache.specs.Held.{Holds, Became, Lacks, Never, Changes};
 ghost use Rattle.lru_disk_cache.specs.Entries.{total, promoted_key};
-ghost use Rattle.lru_disk_cache.specs.Disk.{ButUnder, without_key};
+ghost use Rattle.lru_disk_cache.specs.Disk.{ButUnder, IsOutside, without_key};
 ghost use Rattle.lru_disk_cache.specs.Archives.{id_of, archive_path, opened_archives, paths_under, IsInStep, IsArchiveStore};
 ghost use Rattle.lru_disk_cache.specs.Cleaned.{are_archive_keys};
 ghost use Rattle.lru_disk_cache.specs.Keyed.{unkeyed, AllHold};
 ghost use Rattle.lru_disk_cache.specs.Archiving.{archive_verdict, with_archive, StoreFails, FindFails, DropFails, Relists};
+ghost use Rattle.lru_disk_cache.specs.Moving.{Wrote, StoreWithFails};
 
 use crate::archives::Archives;
 use crate::cache::{LruDiskCache, place_of};
 use crate::cleaning::{are_archive_keys, clean};
-use crate::digest::{is_archive, key_of};
-use crate::error::{Error, Result, io};
+use crate::digest::{is_archive, key_of, toolchain_of};
+use crate::error::{Error, Result, WriteFault, io};
 use crate::fault::FolderFault;
 use crate::folder::Folder;
+use crate::moving::written;
+use crate::reading::Opened;
 use dist_types::toolchain::Toolchain;
 use std::alloc::Global;
 use std::marker::Model;
@@ -59,6 +62,7 @@ impl<F: Folder> TcCache<F> {
         ensures relists { IfOk result (λ t. Holds (F.held folder) (λ files. Relists cache_dir.now cache_size files t.archives)) }
         ensures in_step { IfOk result (λ t. IsInStep cache_dir.now (F.held t.folder) t.archives) }
         ensures cleared { IfOk result (λ t. Holds (F.held t.folder) (λ files. paths_under cache_dir.now files ≡ map (λ a. archive_path cache_dir.now a.0) t.archives)) }
+        ensures others { IfOk result (λ t. Became (ButUnder (front cache_dir.now)) (F.held folder).files (F.held t.folder).files) }
         ensures stands { IfOk result (λ t. IsArchiveStore t.path t.capacity t.archives (F.held t.folder)) }
         ensures steady { IfOk result (λ t. (F.held t.folder).faults ≡ (F.held folder).faults) }
         ensures later { IfErr result (λ e. (F.held folder).faults ≤ (F.held e.1).faults) }
@@ -154,15 +158,7 @@ impl<F: Folder> TcCache<F> {
         if !is_archive(tc, bytes) {
             return Err(Error::WrongDigest);
         }
-        if !self.cache.can_store(bytes.len() as u64) {
-            return Err(Error::FileTooLarge);
-        }
-        let Ok(key) = key_of(self.alloc, tc) else {
-            return Err(Error::Memory);
-        };
-        let answer = self.cache.insert_bytes(key.get(), bytes);
-        let _len = self.cache.len();
-        answer
+        self.insert_verified(tc, bytes)
     }
 
     /// The archive of a toolchain, which becomes the most recent. Where files are told its SHA-256 is the
@@ -193,6 +189,29 @@ impl<F: Folder> TcCache<F> {
         answer
     }
 
+    /// The archive of a toolchain, opened for reading. It becomes the most recent.
+    ///
+    /// Refused as `get_file` is.
+    pub fn get(&mut self, tc: &Toolchain) -> Result<Opened>
+        ensures ok { OnOk result (self.new.archives ≡ promoted_key tc.now self.old.archives) }
+        ensures found { OnOk result (IsSome (lookup (bytes_eq tc.now) self.old.archives)) }
+        ensures content { IfOk result (λ o. Holds (F.held self.old.folder) (λ files. file_at files (archive_path self.old.path tc.now) ≡ Some o.content)) }
+        ensures digest { IfOk result (λ o. Holds (F.held self.old.folder) (λ files. id_of o.content ≡ tc.now)) }
+        ensures place { IfOk result (λ o. o.place ≡ 0) }
+        ensures fails { IfErr result (λ e. FindFails tc.now e self.old.archives self.new.archives (F.held self.old.folder) (F.held self.new.folder)) }
+        ensures in_step { IsInStep self.old.path (F.held self.old.folder) self.old.archives → OnOk result (IsInStep self.new.path (F.held self.new.folder) self.new.archives) }
+        ensures at { (self.new.path ≡ self.old.path) × (self.new.capacity ≡ self.old.capacity) }
+        ensures others { Became (ButUnder (front self.old.path)) (F.held self.old.folder).files (F.held self.new.folder).files }
+        ensures steady { OnOk result ((F.held self.new.folder).faults ≡ (F.held self.old.folder).faults) }
+        ensures later { (F.held self.old.folder).faults ≤ (F.held self.new.folder).faults }
+        ensures stands { IsArchiveStore self.new.path self.new.capacity self.new.archives (F.held self.new.folder) }
+    {
+        match self.get_file(tc) {
+            Ok(bytes) => Ok(Opened::new(bytes)),
+            Err(error) => Err(error),
+        }
+    }
+
     /// Takes the archive of a toolchain out and removes its file. It answers Ok where it is not listed.
     ///
     /// Refused as `Error::Io`, which leaves it unlisted, and for want of memory, which leaves it listed or
@@ -213,6 +232,128 @@ impl<F: Folder> TcCache<F> {
             return Err(Error::Memory);
         };
         let answer = self.cache.remove(key.get());
+        let _len = self.cache.len();
+        answer
+    }
+
+    /// Stores what a closure writes as the archive of a toolchain, as `insert_bytes` stores bytes. The closure
+    /// is called once, with an empty vector.
+    ///
+    /// Refused as `Error::WriterRefused` exactly where the closure refuses, which leaves all as it was; then
+    /// as `insert_bytes` is.
+    pub fn insert_with<W: FnOnce(&mut Vec<u8>) -> std::result::Result<(), WriteFault>>(
+        &mut self,
+        tc: &Toolchain,
+        with: W,
+    ) -> Result<()>
+        requires { W.IsAlwaysCallable with }
+        ensures ok { OnOk result ((bytes : _) × Wrote W.FnOnce (λ v. v.items) with (Ok tt) bytes × (archive_verdict self.old.capacity tc.now bytes ≡ Ok tt) × (self.new.archives ≡ with_archive self.old.capacity tc.now (length bytes) self.old.archives) × Holds (F.held self.new.folder) (λ files. file_at files (archive_path self.old.path tc.now) ≡ Some bytes)) }
+        ensures fails { IfErr result (λ e. StoreWithFails (Wrote W.FnOnce (λ v. v.items) with) self.old.capacity tc.now e self.old.archives self.new.archives (F.held self.old.folder) (F.held self.new.folder)) }
+        ensures in_step { IsInStep self.old.path (F.held self.old.folder) self.old.archives → OnOk result (IsInStep self.new.path (F.held self.new.folder) self.new.archives) }
+        ensures at { (self.new.path ≡ self.old.path) × (self.new.capacity ≡ self.old.capacity) }
+        ensures others { Became (ButUnder (front self.old.path)) (F.held self.old.folder).files (F.held self.new.folder).files }
+        ensures steady { OnOk result ((F.held self.new.folder).faults ≡ (F.held self.old.folder).faults) }
+        ensures later { (F.held self.old.folder).faults ≤ (F.held self.new.folder).faults }
+        ensures stands { IsArchiveStore self.new.path self.new.capacity self.new.archives (F.held self.new.folder) }
+    {
+        self.shown();
+        match written(self.alloc, with) {
+            Ok(bytes) => self.insert_bytes(tc, &bytes),
+            Err(error) => Err(error),
+        }
+    }
+
+    /// Stores bytes as the archive that they are, as the most recent, and gives its toolchain. The least
+    /// recent go where they have to, and their files. It hashes the bytes once and copies none.
+    ///
+    /// Refused as `Error::FileTooLarge`, which leaves all as it was, and else as `insert_bytes` is.
+    pub fn insert_package(&mut self, bytes: &[u8]) -> Result<Toolchain>
+        ensures id { IfOk result (λ tc. tc ≡ id_of bytes.now) }
+        ensures ok { OnOk result (self.new.archives ≡ with_archive self.old.capacity (id_of bytes.now) (length bytes.now) self.old.archives) }
+        ensures admits { OnOk result (archive_verdict self.old.capacity (id_of bytes.now) bytes.now ≡ Ok tt) }
+        ensures content { OnOk result (Holds (F.held self.new.folder) (λ files. file_at files (archive_path self.old.path (id_of bytes.now)) ≡ Some bytes.now)) }
+        ensures fails { IfErr result (λ e. StoreFails self.old.capacity (id_of bytes.now) bytes.now e self.old.archives self.new.archives (F.held self.old.folder) (F.held self.new.folder)) }
+        ensures in_step { IsInStep self.old.path (F.held self.old.folder) self.old.archives → OnOk result (IsInStep self.new.path (F.held self.new.folder) self.new.archives) }
+        ensures at { (self.new.path ≡ self.old.path) × (self.new.capacity ≡ self.old.capacity) }
+        ensures others { Became (ButUnder (front self.old.path)) (F.held self.old.folder).files (F.held self.new.folder).files }
+        ensures steady { OnOk result ((F.held self.new.folder).faults ≡ (F.held self.old.folder).faults) }
+        ensures later { (F.held self.old.folder).faults ≤ (F.held self.new.folder).faults }
+        ensures stands { IsArchiveStore self.new.path self.new.capacity self.new.archives (F.held self.new.folder) }
+    {
+        let tc = toolchain_of(bytes);
+        match self.insert_verified(&tc, bytes) {
+            Ok(()) => Ok(tc),
+            Err(error) => Err(error),
+        }
+    }
+
+    /// The content of a file of the folder, which may lie beside the cache. The archives stay as they are.
+    pub fn read_aside(&mut self, path: &str) -> std::result::Result<Vec<u8>, FolderFault>
+        ensures content { IfOk result (λ v. Holds (F.held self.old.folder) (λ files. file_at files path.now ≡ Some v.items)) }
+        ensures leaves { Changes (Lacks path.now) (λ files. files) Same result (F.held self.old.folder) (F.held self.new.folder) }
+        ensures at { (self.new.path ≡ self.old.path) × (self.new.capacity ≡ self.old.capacity) × (self.new.archives ≡ self.old.archives) }
+        ensures in_step { IsInStep self.old.path (F.held self.old.folder) self.old.archives → IsInStep self.new.path (F.held self.new.folder) self.new.archives }
+        ensures stands { IsArchiveStore self.new.path self.new.capacity self.new.archives (F.held self.new.folder) }
+    {
+        self.shown();
+        let answer = self.cache.read_aside(path);
+        let _len = self.cache.len();
+        answer
+    }
+
+    /// Writes a file of the folder that does not lie below the path of the cache. The archives and their
+    /// files stay as they are.
+    pub fn write_aside(&mut self, path: &str, bytes: &[u8]) -> std::result::Result<(), FolderFault>
+        requires { IsOutside self.old.path path.now }
+        ensures writes { Changes Never (put path.now bytes.now) (PartWritten path.now bytes.now) result (F.held self.old.folder) (F.held self.new.folder) }
+        ensures at { (self.new.path ≡ self.old.path) × (self.new.capacity ≡ self.old.capacity) × (self.new.archives ≡ self.old.archives) }
+        ensures in_step { IsInStep self.old.path (F.held self.old.folder) self.old.archives → IsInStep self.new.path (F.held self.new.folder) self.new.archives }
+        ensures stands { IsArchiveStore self.new.path self.new.capacity self.new.archives (F.held self.new.folder) }
+    {
+        self.shown();
+        let answer = self.cache.write_aside(path, bytes);
+        let _len = self.cache.len();
+        answer
+    }
+
+    /// Renames a file of the folder, from and to paths that do not lie below that of the cache. The archives
+    /// and their files stay as they are.
+    pub fn rename_aside(&mut self, from: &str, to: &str) -> std::result::Result<(), FolderFault>
+        requires from { IsOutside self.old.path from.now }
+        requires to { IsOutside self.old.path to.now }
+        ensures renames { Changes (Lacks from.now) (moved from.now to.now) (DoneOrNot (moved from.now to.now)) result (F.held self.old.folder) (F.held self.new.folder) }
+        ensures at { (self.new.path ≡ self.old.path) × (self.new.capacity ≡ self.old.capacity) × (self.new.archives ≡ self.old.archives) }
+        ensures in_step { IsInStep self.old.path (F.held self.old.folder) self.old.archives → IsInStep self.new.path (F.held self.new.folder) self.new.archives }
+        ensures stands { IsArchiveStore self.new.path self.new.capacity self.new.archives (F.held self.new.folder) }
+    {
+        self.shown();
+        let answer = self.cache.rename_aside(from, to);
+        let _len = self.cache.len();
+        answer
+    }
+
+    // Stores bytes whose SHA-256 is the id of the toolchain.
+    fn insert_verified(&mut self, tc: &Toolchain, bytes: &[u8]) -> Result<()>
+        requires { id_of bytes.now ≡ tc.now }
+        ensures ok { OnOk result (self.new.archives ≡ with_archive self.old.capacity tc.now (length bytes.now) self.old.archives) }
+        ensures admits { OnOk result (archive_verdict self.old.capacity tc.now bytes.now ≡ Ok tt) }
+        ensures content { OnOk result (Holds (F.held self.new.folder) (λ files. file_at files (archive_path self.old.path tc.now) ≡ Some bytes.now)) }
+        ensures fails { IfErr result (λ e. StoreFails self.old.capacity tc.now bytes.now e self.old.archives self.new.archives (F.held self.old.folder) (F.held self.new.folder)) }
+        ensures in_step { IsInStep self.old.path (F.held self.old.folder) self.old.archives → OnOk result (IsInStep self.new.path (F.held self.new.folder) self.new.archives) }
+        ensures at { (self.new.path ≡ self.old.path) × (self.new.capacity ≡ self.old.capacity) }
+        ensures others { Became (ButUnder (front self.old.path)) (F.held self.old.folder).files (F.held self.new.folder).files }
+        ensures steady { OnOk result ((F.held self.new.folder).faults ≡ (F.held self.old.folder).faults) }
+        ensures later { (F.held self.old.folder).faults ≤ (F.held self.new.folder).faults }
+        ensures stands { IsArchiveStore self.new.path self.new.capacity self.new.archives (F.held self.new.folder) }
+    {
+        self.shown();
+        if !self.cache.can_store(bytes.len() as u64) {
+            return Err(Error::FileTooLarge);
+        }
+        let Ok(key) = key_of(self.alloc, tc) else {
+            return Err(Error::Memory);
+        };
+        let answer = self.cache.insert_bytes(key.get(), bytes);
         let _len = self.cache.len();
         answer
     }

@@ -1,19 +1,19 @@
 -- Cuts of a chain: what is left where one node is taken out, and where one is put at the end.
-use Rattle.std.proofs.Common.{◌≡◌, ◌≢◌, ℕ, zero, suc, ◌+◌, ◌<◌, ◌≤◌, ◌⊎◌, inl, inr, Bool, true, false, cond, List, [], ◌∷◌, ◌++◌, length, Option, Some, None, is_some, refl, sym, ap, ◌∙◌, subst, true≢false, unwrap_or, arith, nat_eq, get_or, set, count_by, Contains, append-nil, map, IfSome, slice_get}
+use Rattle.std.proofs.Common.{◌≡◌, ◌≢◌, ℕ, zero, suc, ◌+◌, ◌<◌, ◌≤◌, inl, inr, true, false, cond, List, [], ◌∷◌, ◌++◌, length, Option, Some, None, is_some, refl, sym, ap, ◌∙◌, subst, true≢false, unwrap_or, arith, get_or, set, count_by, Contains, append-nil, map, IfSome, slice_get}
 use Rattle.std.specs.Option.{option_map, option_map_or}
 use Rattle.std.proofs.lemmas.Bool.{cases_eq, eq-eqb, ne_eqb}
-use Rattle.std.proofs.lemmas.List.{get_or-set_same, get_or-set_other, get_or_past}
+use Rattle.std.proofs.lemmas.List.{get_or-set_same, get_or-set_other}
 use Rattle.std.proofs.lemmas.List.Sums.{sum_by-set, sum_by-cons, count_by-le-length}
-use Rattle.slab.specs.Slab.{Slab, get, ContainsKey, with_value, Updates}
+use Rattle.slab.specs.Slab.{Slab, get, with_value, Updates}
 use Rattle.std.proofs.Math.Seq.{map-set_same}
 use Rattle.slab.proofs.SlabLemmas.{Contains-cons, Contains-cons_cases, ContainsKey-within}
 use Rattle.lru_metered.specs.declared.chain.Node.{Node}
-use Rattle.lru_metered.specs.Chain.{Ends, following, walk, first_or, last_or, Linked, Avoids, Apart, IsChain, Changes, with_ends, with_previous, with_next, without, links, items_of, ends_of, item_of}
+use Rattle.lru_metered.specs.Chain.{Ends, walk, first_or, last_or, Linked, Avoids, Apart, IsChain, Changes, with_ends, with_previous, with_next, without, links, items_of, ends_of, item_of}
 
-some≢none : {X : Type 0} (x : X) → Some x ≢ None
+pub some≢none : {X : Type 0} (x : X) → Some x ≢ None
 some≢none x is = true≢false (ap is_some is)
 
-some-inj : {X : Type 0} (x y : X) → Some x ≡ Some y → x ≡ y
+pub some-inj : {X : Type 0} (x y : X) → Some x ≡ Some y → x ≡ y
 some-inj x y is = ap (λ o. unwrap_or o x) is
 
 -- the ends of two lists in a row

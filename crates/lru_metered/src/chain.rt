@@ -183,6 +183,21 @@ impl<T> Chain<T> {
         }
     }
 
+    /// The item of a key that has one.
+    pub fn item(&self, key: usize) -> &T
+        requires { ContainsKey self.now.items key }
+        ensures { get self.now.items key ≡ Some result.now }
+    {
+        &self.nodes[key].item
+    }
+
+    /// A number that is above each key of an item.
+    pub fn key_bound(&self) -> usize
+        ensures { (key : ℕ) → result ≤ key → get self.now.items key ≡ None }
+    {
+        self.nodes.capacity()
+    }
+
     /// The number of items, in the list or not.
     pub fn len(&self) -> usize
         ensures { result ≡ slab_len self.now.items }
@@ -212,6 +227,17 @@ impl<T> Chain<T> {
         ensures { result ≡ last_or None self.now.order }
     {
         self.last
+    }
+
+    /// The key at a place of the list, where it has so many. It goes over those before it.
+    pub fn nth(&self, place: usize) -> Option<usize>
+        ensures { result ≡ slice_get self.now.order place }
+    {
+        let mut current = self.first();
+        for _ in 0..place {
+            current = self.after(current?);
+        }
+        current
     }
 
     /// The key after one of the list.

@@ -13,11 +13,14 @@
 mod cache;
 pub mod chain;
 mod fault;
+mod index;
 mod iter;
 pub mod laws;
+mod listing;
 mod meter;
 mod steps;
 mod table;
+mod uncounted;
 
 pub use cache::{DefaultHasher, LruCache};
 pub use fault::{InsertFault, Memory};

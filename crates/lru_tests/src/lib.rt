@@ -1,4 +1,4 @@
-//! Tests of the metered cache: worked orders, meters of one's own, and each call beside a plain list of pairs.
+//! Tests of the metered cache: worked orders, meters of one's own, and each call beside a plain table of pairs.
 #![tactic(auto)]
 
 #[cfg(test)]
@@ -9,3 +9,4 @@ mod meters;
 mod orders;
 #[cfg(test)]
 mod plain;
+pub mod plain_table;

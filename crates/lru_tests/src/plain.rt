@@ -1,11 +1,12 @@
-//! Each call beside a plain list of pairs, over steps that a fixed generator makes.
+//! Each call beside the plain table of pairs, over steps that a fixed generator makes.
 use crate::meters::{Tally, Weights};
+use crate::plain_table::PlainTable;
 use lru_metered::{Count, CountableMeter, DefaultHasher, InsertFault, LruCache};
 use std::alloc::{AllocError, Global};
+use std::hash::BuildHasherDefault;
 use std::mem;
 use std::process::Abort;
 use std::test::*;
-use std::vec::Vec;
 
 const STEPS: u32 = 10_000;
 
@@ -117,7 +118,7 @@ fn write_value(cache: &mut Cache<Count>, write: Write) -> Option<u64> {
     }
 }
 
-/// What the pairs of a plain list measure, and what makes its size.
+/// What the pairs measure, and what makes the size.
 #[derive(Clone, Copy)]
 enum Scale {
     /// Nothing is measured, and the pairs are counted.
@@ -128,10 +129,10 @@ enum Scale {
     CountUnderSum,
 }
 
-/// A cache as the plain list of its pairs, least recent first.
+/// A cache over the plain table, whose sums are taken anew at each step.
 #[derive(Drop)]
 struct Plain {
-    pairs: Vec<(u64, u64)>,
+    table: PlainTable<u64, u64, DefaultHasher>,
     capacity: u64,
     scale: Scale,
 }
@@ -139,7 +140,7 @@ struct Plain {
 impl Plain {
     fn new(alloc: Global, capacity: u64, scale: Scale) -> Self {
         Plain {
-            pairs: Vec::new(alloc),
+            table: PlainTable::new(alloc, BuildHasherDefault::new()),
             capacity,
             scale,
         }
@@ -153,57 +154,43 @@ impl Plain {
         }
     }
 
-    /// The sum of the measures, where it is no more than 2^64-1.
-    fn sum(&self) -> Option<u64> {
-        let mut sum = 0u64;
-        for pair in &self.pairs {
-            sum = sum.checked_add(self.weight(pair.1))?;
+    /// The sum of the measures of the pairs whose key is another, and a start, where it is no more than 2^64-1.
+    fn sum_of_others(&self, key: Option<u64>, start: u64) -> Option<u64> {
+        let mut sum = start;
+        for place in 0..self.table.len() {
+            let (other, value) = self.table.pair_at(place)?;
+            if key != Some(*other) {
+                sum = sum.checked_add(self.weight(*value))?;
+            }
         }
         Some(sum)
     }
 
     fn size(&self) -> Option<u64> {
         match self.scale {
-            Scale::Sum => self.sum(),
-            Scale::Count => Some(self.pairs.len() as u64),
-            Scale::CountUnderSum => Some(self.pairs.len() as u64),
+            Scale::Sum => self.sum_of_others(None, 0),
+            Scale::Count => Some(self.table.len() as u64),
+            Scale::CountUnderSum => Some(self.table.len() as u64),
         }
-    }
-
-    fn remove_at(&mut self, place: usize) -> Option<(u64, u64)> {
-        if place >= self.pairs.len() {
-            return None;
-        }
-        Some(self.pairs.remove(place))
-    }
-
-    fn place_of(&self, key: u64) -> Option<usize> {
-        self.pairs.iter().position(|pair| pair.0 == key)
-    }
-
-    fn remove(&mut self, key: u64) -> Option<u64> {
-        let place = self.place_of(key)?;
-        Some(self.remove_at(place)?.1)
     }
 
     fn trim(&mut self) {
-        for _ in 0..self.pairs.len() {
+        for _ in 0..self.table.len() {
             if self.size() <= Some(self.capacity) {
                 return;
             }
-            let _gone = self.remove_at(0);
+            let _gone = self.table.pop_first();
         }
     }
 
-    // The pair goes last, and the old one out. An overflow leaves the list as it was.
+    // The pair goes last, and the old one out. An overflow leaves the table as it was.
     fn insert(&mut self, key: u64, value: u64) -> Result<Answer, AllocError> {
-        let before = Vec::from_slice(*self.pairs.allocator(), self.pairs.as_slice())?;
-        let old = self.remove(key);
-        self.pairs.push((key, value))?;
-        if self.sum().is_none() {
-            self.pairs = before;
+        if self.sum_of_others(Some(key), self.weight(value)).is_none() {
             return Ok(Answer::Overflow(key, value));
         }
+        let Ok(old) = self.table.put_last(key, value) else {
+            return Err(AllocError);
+        };
         self.trim();
         Ok(Answer::Value(old))
     }
@@ -217,23 +204,20 @@ impl Plain {
         Ok(Answer::Value(None))
     }
 
-    fn promote(&mut self, key: u64) -> Result<Option<u64>, AllocError> {
-        match self.remove(key) {
-            Some(value) => {
-                self.pairs.push((key, value))?;
-                Ok(Some(value))
-            }
-            None => Ok(None),
+    fn promote(&mut self, key: u64) -> Option<u64> {
+        if !self.table.promote(&key) {
+            return None;
         }
+        Some(*self.table.get_pair(&key)?.1)
     }
 
     fn apply(&mut self, step: Step) -> Result<Answer, AllocError> {
         match step {
             Step::Insert(key, value) => self.insert(key, value),
-            Step::Get(key) => Ok(Answer::Value(self.promote(key)?)),
-            Step::Remove(key) => Ok(Answer::Value(self.remove(key))),
-            Step::RemoveLru => Ok(Answer::Value(self.remove_at(0).map(|pair| pair.1))),
-            Step::Contains(key) => Ok(Answer::Flag(self.place_of(key).is_some())),
+            Step::Get(key) => Ok(Answer::Value(self.promote(key))),
+            Step::Remove(key) => Ok(Answer::Value(self.table.remove(&key).map(|pair| pair.1))),
+            Step::RemoveLru => Ok(Answer::Value(self.table.pop_first().map(|pair| pair.1))),
+            Step::Contains(key) => Ok(Answer::Flag(self.table.contains_key(&key))),
             Step::Extend(pairs) => self.insert_each(pairs),
             Step::HalveAndRestore => {
                 let capacity = self.capacity;
@@ -243,38 +227,42 @@ impl Plain {
                 Ok(Answer::Flag(true))
             }
             Step::Clear => {
-                self.pairs.clear();
+                self.table.clear();
                 Ok(Answer::Flag(true))
             }
         }
     }
 
-    fn write(&mut self, write: Write) -> Result<Option<u64>, AllocError> {
-        let place = match write {
-            Write::Key(key, _) => match self.promote(key)? {
-                Some(_) => self.pairs.len().saturating_sub(1),
-                None => return Ok(None),
-            },
-            Write::Place(place, _) => place,
-        };
-        let value = match write {
-            Write::Key(_, value) => value,
-            Write::Place(_, value) => value,
-        };
-        match self.pairs.get_mut(place) {
-            Some(pair) => Ok(Some(mem::replace(&mut pair.1, value))),
-            None => Ok(None),
+    fn write_at(&mut self, place: usize, value: u64) -> Option<u64> {
+        if place >= self.table.len() {
+            return None;
+        }
+        Some(self.table.put_at(place, value))
+    }
+
+    fn write(&mut self, write: Write) -> Option<u64> {
+        match write {
+            Write::Key(key, value) => {
+                if !self.table.promote(&key) {
+                    return None;
+                }
+                let last = self.table.len().saturating_sub(1);
+                self.write_at(last, value)
+            }
+            Write::Place(place, value) => self.write_at(place, value),
         }
     }
 }
 
-// The list of the cache is the plain one.
+// The list of the cache is that of the plain table.
 fn assert_same<M: CountableMeter<u64, u64>>(rt: &impl Abort, cache: &Cache<M>, plain: &Plain) {
-    assert_eq!(rt; cache.len(), plain.pairs.len());
+    assert_eq!(rt; cache.len(), plain.table.len());
     assert_eq!(rt; Some(cache.size()), plain.size());
-    let mut expected = plain.pairs.iter();
+    let mut place = 0usize;
     for (key, value) in cache {
-        assert_eq!(rt; Some((*key, *value)), expected.next().copied());
+        let expected = plain.table.pair_at(place);
+        assert_eq!(rt; Some((*key, *value)), expected.map(|(k, v)| (*k, *v)));
+        place = place.saturating_add(1);
     }
 }
 
@@ -325,7 +313,7 @@ fn writes_where_the_plain_list_does(rt: HostRuntime) -> Result<(), Fail> {
             let step = Step::Insert(state >> 40 & 7, state >> 44 & 3);
             assert_eq!(rt; apply(&mut cache, step)?, plain.apply(step)?);
             let change = write_of(state >> 32);
-            assert_eq!(rt; write_value(&mut cache, change), plain.write(change)?);
+            assert_eq!(rt; write_value(&mut cache, change), plain.write(change));
             assert_same(&rt, &cache, &plain);
         }
     }

@@ -3,6 +3,7 @@ pub mod Fault
 pub mod Framed
 pub mod InMemory
 pub mod MapNodes
+pub mod MemPackager
 pub mod Outline
 pub mod Path
 pub mod Place

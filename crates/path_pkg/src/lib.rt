@@ -14,6 +14,7 @@ pub mod framed;
 pub mod laws;
 mod link_lookup;
 pub mod listed_calls;
+pub mod mem_packager;
 pub mod mem_tree;
 pub mod node;
 pub mod package;

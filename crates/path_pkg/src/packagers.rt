@@ -1,7 +1,7 @@
 //! Who makes the bytes that are sent: toolchain packages, inputs and outputs.
-ghost use Rattle.std.specs.Prelude.{◌≡◌, ◌≤◌, ℕ, Err, OnOk};
+ghost use Rattle.std.specs.Prelude.{◌≡◌, ◌≤◌, ℕ, List, Option, None, Err, OnOk};
 ghost use Rattle.dist_types.specs.Cause.{Rose};
-ghost use Rattle.path_pkg.specs.Append.{HasAppended};
+ghost use Rattle.path_pkg.specs.Append.{HasAppended, Appends};
 
 use crate::fault::PackFault;
 use crate::unix::PathTransformer;
@@ -11,8 +11,12 @@ pub trait ToolchainPackager {
     /// How often it refused.
     ghost refusals: { Self → ℕ };
 
+    /// The bytes that it appends, where it tells them.
+    ghost packs: { Self → Option (List ℕ) } = { λ _. None };
+
     /// Appends the package.
     fn write_pkg(&mut self, out: &mut Vec<u8>) -> Result<(), PackFault>
+        ensures packed { OnOk result (Appends (packs self.old) out.old.items out.new.items) }
         ensures appends { HasAppended out.old.items out.new.items }
         ensures steady { OnOk result (refusals self.new ≡ refusals self.old) }
         ensures later { refusals self.old ≤ refusals self.new }
@@ -24,8 +28,12 @@ pub trait InputsPackager {
     /// How often it refused.
     ghost refusals: { Self → ℕ };
 
+    /// The bytes that it appends, where it tells them.
+    ghost packs: { Self → Option (List ℕ) } = { λ _. None };
+
     /// Appends the inputs, and gives what mapped their paths.
     fn write_inputs(&mut self, out: &mut Vec<u8>) -> Result<PathTransformer, PackFault>
+        ensures packed { OnOk result (Appends (packs self.old) out.old.items out.new.items) }
         ensures appends { HasAppended out.old.items out.new.items }
         ensures steady { OnOk result (refusals self.new ≡ refusals self.old) }
         ensures later { refusals self.old ≤ refusals self.new }
@@ -37,8 +45,12 @@ pub trait OutputsRepackager {
     /// How often it refused.
     ghost refusals: { Self → ℕ };
 
+    /// The bytes that it appends, where it tells them.
+    ghost packs: { Self → Option (List ℕ) } = { λ _. None };
+
     /// Appends the outputs, and gives what mapped their paths.
     fn repackage_outputs(&mut self, out: &mut Vec<u8>) -> Result<PathTransformer, PackFault>
+        ensures packed { OnOk result (Appends (packs self.old) out.old.items out.new.items) }
         ensures appends { HasAppended out.old.items out.new.items }
         ensures steady { OnOk result (refusals self.new ≡ refusals self.old) }
         ensures later { refusals self.old ≤ refusals self.new }

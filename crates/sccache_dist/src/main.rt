@@ -3,17 +3,17 @@
 
 use dist_config::config::{SchedulerConfig, ServerConfig};
 use dist_http::real_serve::RealServe;
-use dist_http::run_scheduler::serve_scheduler;
-use dist_http::start::{Start, StartFault};
+use dist_http::{Start, serve_scheduler, serve_server};
 use dist_types::sink::StdSink;
 use dist_types::source::StdSource;
 use farm::command::run_command_line;
 use farm::files::RealFiles;
 use rand_chacha::ChaCha20Rng;
 use rand_core::SeedableRng;
-use std::env;
 use std::process::ExitCode;
 use std::random::RandomSource;
+use std::thread::Threads;
+use std::{env, thread};
 
 /// The status where there is no memory for what serves.
 const NO_MEMORY: u8 = 3;
@@ -21,8 +21,13 @@ const NO_MEMORY: u8 = 3;
 /// The status where the system gave no random words, which is a fault of reading.
 const NO_RANDOM: u8 = 4;
 
-/// How many processors a scheduler is told of, which asks for none.
-const NO_CPUS: u64 = 0;
+/// How many processors the system has, or 1 where it does not tell.
+fn processors<R: Threads>(rt: &R) -> u64 {
+    match thread::available_parallelism(rt) {
+        Ok(number) => number.get() as u64,
+        Err(_) => 1,
+    }
+}
 
 fn main(rt: HostRuntime) -> ExitCode {
     let alloc = rt.alloc();
@@ -37,12 +42,18 @@ fn main(rt: HostRuntime) -> ExitCode {
     let scheduler = move |config: &SchedulerConfig, start: Start| {
         serve_scheduler(&rt, alloc, config, start)
     };
-    // No build server is served yet: each start of one is refused.
-    let server = |_config: &ServerConfig, _start: Start| Err(StartFault);
+    let server = move |config: &ServerConfig, start: Start| {
+        serve_server(&rt, alloc, config, start)
+    };
     let (Ok(scheduler), Ok(server)) = (Box::new(alloc, scheduler), Box::new(alloc, server)) else {
         return ExitCode::from(NO_MEMORY);
     };
-    let mut serve = RealServe::new(scheduler, server, ChaCha20Rng::from_seed(seeds[1]), NO_CPUS);
+    let mut serve = RealServe::new(
+        scheduler,
+        server,
+        ChaCha20Rng::from_seed(seeds[1]),
+        processors(&rt),
+    );
     let mut input = StdSource::new(rt.stdin());
     let mut out = StdSink::new(rt.stdout());
     let mut errs = StdSink::new(rt.stderr());

@@ -1,6 +1,5 @@
 //! Connections in memory, and what the scheduler answers over them.
-use dist_http::connection::serve_scheduler_connection;
-use dist_http::served::Served;
+use dist_http::{Served, serve_scheduler_connection};
 use dist_token::checks::{EqCheck, PlainServerCheck};
 use dist_token::job_token::JWTJobAuthorizer;
 use dist_types::addr::Addr;

@@ -1,7 +1,7 @@
 //! Cut and lying links: what is replied, and exactly how many bytes are taken.
 use crate::calls::{STATUS, TestScheduler, dialer, link, serve};
 use crate::slow::SlowLink;
-use dist_http::served::Served;
+use dist_http::Served;
 use dist_types::source::read_up_to;
 use std::alloc::Global;
 use std::sync::Wait;

@@ -2,9 +2,7 @@
 ghost use Rattle.std.specs.Prelude.{None};
 
 use crate::calls::{STATUS, TestScheduler, dialer};
-use dist_http::served::Served;
-use dist_http::tasks::Tasks;
-use dist_http::workers::{Kit, serve_scheduler_workers};
+use dist_http::{Kit, Served, Tasks, serve_scheduler_workers};
 use dist_token::checks::{EqCheck, PlainServerCheck};
 use dist_types::addr::Addr;
 use dist_types::clock::MemClock;

@@ -3,8 +3,7 @@ use crate::calls::STATUS;
 use dist_config::config::{ClientAuth, SchedulerConfig, ServerAuth, ServerConfig};
 use dist_config::serve::Serve;
 use dist_http::real_serve::RealServe;
-use dist_http::run_scheduler::serve_scheduler;
-use dist_http::start::StartFault;
+use dist_http::{StartFault, serve_scheduler};
 use dist_types::addr::Addr;
 use dist_types::dialer::Dialer;
 use dist_types::fault::Failed;
@@ -14,7 +13,7 @@ use http_routes::calls::answer;
 use rand_core::SeedableRng;
 use rand_xoshiro::SplitMix64;
 use std::alloc::Global;
-use std::net::{Net, TcpListener};
+use std::net::{Net, TcpListener, TcpStream};
 use std::test::Fail;
 use std::thread;
 use std::time::{Clock, Duration};
@@ -23,7 +22,7 @@ use std::time::{Clock, Duration};
 const MAX_TRIES: u64 = 500;
 
 /// A port that nobody listens at.
-fn free_port<R: Net>(net: &R) -> std::io::Result<u16> {
+pub fn free_port<R: Net>(net: &R) -> std::io::Result<u16> {
     let listener = TcpListener::bind(net, "127.0.0.1:0")?;
     Ok(std::net::OpenListener::local_addr(&listener)?.port())
 }
@@ -40,16 +39,21 @@ fn counts<R: Net + Clock>(rt: &R, alloc: Global, port: u16) -> Option<SchedulerS
     None
 }
 
+/// A scheduler at this port, which lets everybody in.
+fn config(port: u16) -> SchedulerConfig {
+    SchedulerConfig {
+        public_addr: Addr::V4([127, 0, 0, 1], port),
+        client_auth: ClientAuth::Insecure,
+        server_auth: ServerAuth::Insecure,
+    }
+}
+
 /// A scheduler that ends after one connection answers a status request.
 #[test]
 fn one_status(rt: HostRuntime) -> Result<(), Fail> {
     let alloc = rt.alloc();
     let port = free_port(&rt)?;
-    let config = SchedulerConfig {
-        public_addr: Addr::V4([127, 0, 0, 1], port),
-        client_auth: ClientAuth::Insecure,
-        server_auth: ServerAuth::Insecure,
-    };
+    let config = config(port);
     let mut serve = RealServe::with_limits(
         Box::new(alloc, move |config: &SchedulerConfig, start| {
             serve_scheduler(&rt, alloc, config, start)
@@ -79,11 +83,7 @@ fn one_status(rt: HostRuntime) -> Result<(), Fail> {
 fn taken_address(rt: HostRuntime) -> Result<(), Fail> {
     let alloc = rt.alloc();
     let listener = TcpListener::bind(&rt, "127.0.0.1:0")?;
-    let config = SchedulerConfig {
-        public_addr: Addr::V4([127, 0, 0, 1], listener.local_addr()?.port()),
-        client_auth: ClientAuth::Insecure,
-        server_auth: ServerAuth::Insecure,
-    };
+    let config = config(listener.local_addr()?.port());
     let mut serve = RealServe::new(
         Box::new(alloc, move |config: &SchedulerConfig, start| {
             serve_scheduler(&rt, alloc, config, start)
@@ -93,5 +93,53 @@ fn taken_address(rt: HostRuntime) -> Result<(), Fail> {
         1,
     );
     assert_eq!(&rt; serve.scheduler(&config), Err(Failed));
+    Ok(())
+}
+
+/// How many connections are held open that bring nothing.
+const IDLE: u64 = 64;
+
+/// How many statuses are asked beside them.
+const ASKED: u64 = 200;
+
+/// How many statuses are answered while so many connections are open that bring nothing.
+fn beside_idle<R: Net + Clock>(rt: &R, alloc: Global, port: u16) -> Option<u64> {
+    counts(rt, alloc, port)?;
+    let mut idle = Vec::new(alloc);
+    for _ in 0..IDLE {
+        let link = TcpStream::connect(rt, ("127.0.0.1", port)).ok()?;
+        idle.push(link).ok()?;
+    }
+    let mut answered = 0u64;
+    for _ in 0..ASKED {
+        counts(rt, alloc, port)?;
+        answered = answered.saturating_add(1);
+    }
+    Some(answered)
+}
+
+/// Idle connections stop nobody: each fails after its limit.
+#[test]
+fn idle_connections(rt: HostRuntime) -> Result<(), Fail> {
+    let alloc = rt.alloc();
+    let port = free_port(&rt)?;
+    let config = config(port);
+    let mut serve = RealServe::with_limits(
+        Box::new(alloc, move |config: &SchedulerConfig, start| {
+            serve_scheduler(&rt, alloc, config, start)
+        })?,
+        Box::new(alloc, |_config: &ServerConfig, _start| Err(StartFault))?,
+        SplitMix64::seed_from_u64(1),
+        1,
+        Some(1 + IDLE + ASKED),
+        50,
+    );
+    let (answered, served) = thread::join(
+        &rt,
+        || beside_idle(&rt, alloc, port),
+        || serve.scheduler(&config),
+    );
+    assert_eq!(&rt; served, Ok(()));
+    assert_eq!(&rt; answered, Some(ASKED));
     Ok(())
 }

@@ -2,7 +2,7 @@ use Rattle.std.proofs.Common.{◌-◌, ◌++◌, length, take, drop, rules, subs
 use Rattle.lru_disk_cache.specs.Opened.{keyed, Shows}
 use Rattle.lru_disk_cache.proofs.CallLemmas.{counts_found}
 use Rattle.lru_disk_cache.proofs.Sorting.{first_and_rest, shows_more}
-use Rattle.lru_disk_cache.proofs.Exactly.{removed_then}
+use Rattle.lru_disk_cache.proofs.Exactly.{removed_then, outside_more}
 use Rattle.lru_disk_cache.proofs.opening.+sort_out.Goals as goal
 
 pub sort_out-requires : goal.sort_out-requires
@@ -20,3 +20,7 @@ returns-in_ok-sort_one-in-len1-up-clause-counts g n c =
 pub returns-in_ok-sort_one-in-len1-up-clause-removed : goal.returns-in_ok-sort_one-in-len1-up-clause-removed
 returns-in_ok-sort_one-in-len1-up-clause-removed g n c =
     removed_then c.sort_out.result (g.F.Folder.held c.args.folder.now).files (g.F.Folder.held c.sort_one.new.folder).files (g.F.Folder.held c.sort_out.new.folder).files c.in_ok-sort_one-in-len1-up.ensures.removed c.sort_out.ensures.removed
+
+pub returns-in_ok-sort_one-in-len1-up-clause-others : goal.returns-in_ok-sort_one-in-len1-up-clause-others
+returns-in_ok-sort_one-in-len1-up-clause-others g n c =
+    outside_more c.args.root.now c.sort_out.result (g.F.Folder.held c.args.folder.now).files (g.F.Folder.held c.sort_one.new.folder).files (g.F.Folder.held c.sort_out.new.folder).files c.in_ok-sort_one-in-len1-up.ensures.others c.sort_out.ensures.others

@@ -4,7 +4,7 @@ use Rattle.lru_disk_cache.specs.Entries.{Listed, trim}
 use Rattle.lru_disk_cache.proofs.Opens.{opens, opens_stands, opens_in_step, opens_cleared, from_empty, keys_from_empty, kept_from_empty, room_in_empty}
 use Rattle.lru_disk_cache.specs.Held.{Never}
 use Rattle.lru_disk_cache.proofs.CallLemmas.{left_same}
-use Rattle.lru_disk_cache.proofs.Exactly.{removed_twice}
+use Rattle.lru_disk_cache.proofs.Exactly.{removed_twice, outside_twice}
 use Rattle.lru_disk_cache.proofs.opening.open.Goals as goal
 
 pub list_all-requires : goal.list_all-requires
@@ -45,3 +45,7 @@ returns-clause-cleared g c =
 pub returns-clause-removed : goal.returns-clause-removed
 returns-clause-removed g c =
     removed_twice (g.F.Folder.held c.args.folder.now).files (g.F.Folder.held c.list.new.self).files (g.F.Folder.held c.sort_out.new.folder).files (g.F.Folder.held c.drop_old.new.folder).files (left_same Never c.list.result (g.F.Folder.held c.args.folder.now) (g.F.Folder.held c.list.new.self) c.list.ensures.leaves) c.in_ok-sort_out.ensures.removed c.in_ok-rest.ensures.removed
+
+pub returns-clause-others : goal.returns-clause-others
+returns-clause-others g c =
+    outside_twice c.args.root.now (g.F.Folder.held c.args.folder.now).files (g.F.Folder.held c.list.new.self).files (g.F.Folder.held c.sort_out.new.folder).files (g.F.Folder.held c.drop_old.new.folder).files (left_same Never c.list.result (g.F.Folder.held c.args.folder.now) (g.F.Folder.held c.list.new.self) c.list.ensures.leaves) c.in_ok-sort_out.ensures.others c.in_ok-rest.ensures.others

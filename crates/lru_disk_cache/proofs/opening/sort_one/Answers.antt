@@ -1,5 +1,6 @@
 use Rattle.std.proofs.Common.{Some, sym, ap, ◌∙◌}
 use Rattle.lru_disk_cache.specs.Opened.{stripped}
+use Rattle.lru_disk_cache.proofs.Exactly.{outside_ok}
 use Rattle.lru_disk_cache.proofs.Sorting.{one_dropped, one_kept}
 use Rattle.lru_disk_cache.proofs.opening.sort_one.Goals as goal
 
@@ -17,3 +18,11 @@ pub returns-clause-shows : goal.returns-clause-shows
 returns-clause-shows g c = λ rest shows.
     let is = sym (c.in-Some.ensures ∙ (λ i. stripped (c.get.ensures.text i) (c.get-2.ensures.text i))) ∙ ap Some (sym c.in_ok-key.ensures.text) in
     one_kept c.args.root.now c.args.file.now.path c.in_ok-key.key c.args.file.now.size c.args.good.now.items rest c.push.new.self.items (g.F.Folder.held c.args.folder.now) is c.in-Ok.ensures.items shows
+
+pub returns-then-not-is_key-clause-others : goal.returns-then-not-is_key-clause-others
+returns-then-not-is_key-clause-others g c =
+    outside_ok c.args.root.now c.in_ok-key.key c.remove_file.result (g.F.Folder.held c.args.folder.now).files (g.F.Folder.held c.remove_file.new.folder).files c.remove_file.ensures.others
+
+pub returns-then-file-capacity-clause-others : goal.returns-then-file-capacity-clause-others
+returns-then-file-capacity-clause-others g c =
+    outside_ok c.args.root.now c.in_ok-key.key c.remove_file-then-file-capacity.result (g.F.Folder.held c.args.folder.now).files (g.F.Folder.held c.remove_file-then-file-capacity.new.folder).files c.remove_file-then-file-capacity.ensures.others

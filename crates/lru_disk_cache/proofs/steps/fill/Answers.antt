@@ -2,7 +2,7 @@ use Rattle.std.proofs.Common.{ap, subst, sym, ◌∙◌}
 use Rattle.std.specs.Str.{bytes_eq}
 use Rattle.lru_disk_cache.specs.Disk.{Stands}
 use Rattle.lru_disk_cache.specs.Entries.{trim}
-use Rattle.lru_disk_cache.proofs.Fills.{from_kept, content_after, outside_listed, outside_then, kept_ok, left_err}
+use Rattle.lru_disk_cache.proofs.Fills.{from_kept, content_after, outside_listed, outside_then, kept_ok, left_err, listed_untouched, fill_untouched}
 use Rattle.lru_disk_cache.proofs.Standing.{stands_removed, avoids_removed, avoids_end, keeps_then, end_all}
 use Rattle.lru_disk_cache.proofs.Trims.{absent_end}
 use Rattle.lru_disk_cache.proofs.steps.fill.Goals as goal
@@ -43,3 +43,11 @@ returns-clause-kept g c =
 pub returns-clause-left : goal.returns-clause-left
 returns-clause-left g c =
     left_err c.args.root.now c.make_room.new.table c.place.new.table c.place.result (g.F.Folder.held c.args.folder.now) (g.F.Folder.held c.place.new.folder) c.place.ensures.err (keeps_then c.args.root.now c.make_room.new.table.entries c.make_room.new.table.entries (g.F.Folder.held c.args.folder.now).files (g.F.Folder.held c.make_room.new.folder).files (g.F.Folder.held c.place.new.folder).files (end_all c.make_room.new.table.entries) c.make_room.ensures.drops.kept c.place.ensures.kept)
+
+pub returns-in_err-make_room-clause-untouched : goal.returns-in_err-make_room-clause-untouched
+returns-in_err-make_room-clause-untouched g c =
+    listed_untouched c.args.root.now c.args.arrival.now.from c.args.arrival.now.path c.args.arrival.now.key c.args.table.now.entries c.unlist.new.self.entries (g.F.Folder.held c.args.folder.now).files (g.F.Folder.held c.make_room.new.folder).files (ap (λ t. t.entries) c.unlist.ensures.entries) c.make_room.ensures.drops.others
+
+pub returns-clause-untouched : goal.returns-clause-untouched
+returns-clause-untouched g c =
+    fill_untouched c.args.root.now c.args.arrival.now.from c.args.arrival.now.path c.args.arrival.now.key c.args.table.now.entries c.unlist.new.self.entries c.make_room.new.table.entries (g.F.Folder.held c.args.folder.now).files (g.F.Folder.held c.make_room.new.folder).files (g.F.Folder.held c.place.new.folder).files (ap (λ t. t.entries) c.unlist.ensures.entries) c.make_room.ensures.drops.rest c.make_room.ensures.drops.others c.place.ensures.untouched

@@ -1,6 +1,6 @@
 use Rattle.std.proofs.Common.{Ok, Err, List, ℕ, ◌++◌, ◌∷◌, [], ap, subst, sym, ◌∙◌}
 use Rattle.lru_disk_cache.specs.Held.{Became}
-use Rattle.lru_disk_cache.specs.Disk.{Stands}
+use Rattle.lru_disk_cache.specs.Disk.{Stands, ButThese}
 use Rattle.lru_disk_cache.specs.Entries.{Listed}
 use Rattle.lru_disk_cache.proofs.Renames.{renamed, Carried}
 use Rattle.lru_disk_cache.proofs.Trims.{undone}
@@ -51,3 +51,15 @@ pub returns-in-Err-clause-counts : goal.returns-in-Err-clause-counts
 returns-in-Err-clause-counts g c =
     let r = renamed c.args.root.now c.args.arrival.now.key c.args.arrival.now.from c.args.arrival.now.size c.args.table.now.entries (g.F.Folder.held c.args.folder.now) (g.F.Folder.held c.rename.new.self) c.get.result.now c.get-2.result.now (Err c.in-Err.fault) c.get.ensures.text (c.get-2.ensures.text ∙ c.requires.path) c.requires.key c.requires.avoids c.requires.absent c.requires.stands c.requires.written c.in-Err.ensures.renames in
     r.counts
+
+pub returns-in-Ok-rename-clause-untouched : goal.returns-in-Ok-rename-clause-untouched
+returns-in-Ok-rename-clause-untouched g c =
+    let r = renamed c.args.root.now c.args.arrival.now.key c.args.arrival.now.from c.args.arrival.now.size c.args.table.now.entries (g.F.Folder.held c.args.folder.now) (g.F.Folder.held c.rename.new.self) c.get.result.now c.get-2.result.now (Ok c.in-Ok-rename.field-0) c.get.ensures.text (c.get-2.ensures.text ∙ c.requires.path) c.requires.key c.requires.avoids c.requires.absent c.requires.stands c.requires.written c.in-Ok-rename.ensures.renames in
+    let Q : List ℕ → Type 0 = λ b. Became (ButThese c.args.root.now c.args.arrival.now.from b c.args.table.now.entries) (g.F.Folder.held c.args.folder.now).files (g.F.Folder.held c.rename.new.self).files in
+    subst Q (sym c.requires.path) r.untouched
+
+pub returns-in-Err-clause-untouched : goal.returns-in-Err-clause-untouched
+returns-in-Err-clause-untouched g c =
+    let r = renamed c.args.root.now c.args.arrival.now.key c.args.arrival.now.from c.args.arrival.now.size c.args.table.now.entries (g.F.Folder.held c.args.folder.now) (g.F.Folder.held c.rename.new.self) c.get.result.now c.get-2.result.now (Err c.in-Err.fault) c.get.ensures.text (c.get-2.ensures.text ∙ c.requires.path) c.requires.key c.requires.avoids c.requires.absent c.requires.stands c.requires.written c.in-Err.ensures.renames in
+    let Q : List ℕ → Type 0 = λ b. Became (ButThese c.args.root.now c.args.arrival.now.from b c.args.table.now.entries) (g.F.Folder.held c.args.folder.now).files (g.F.Folder.held c.rename.new.self).files in
+    subst Q (sym c.requires.path) r.untouched

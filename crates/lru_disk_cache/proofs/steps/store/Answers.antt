@@ -1,5 +1,5 @@
 use Rattle.std.proofs.Common.{length, sym, ap, ◌∙◌, Some}
-use Rattle.lru_disk_cache.proofs.Fills.{temp_apart, temp_avoided, keeps_temp, stands_kept, under_temp, under_both, kept_behind, left_behind, content_written, on_err}
+use Rattle.lru_disk_cache.proofs.Fills.{temp_apart, temp_avoided, keeps_temp, stands_kept, under_temp, under_both, kept_behind, left_behind, content_written, on_err, temp_untouched, store_untouched}
 use Rattle.std.specs.Option.{option_map}
 use Rattle.lru_disk_cache.proofs.steps.store.Goals as goal
 
@@ -48,3 +48,11 @@ returns-clause-kept g c =
 pub returns-clause-left : goal.returns-clause-left
 returns-clause-left g c =
     left_behind c.args.root.now c.args.arrival.now.from c.fill.new.table c.fill.result (g.F.Folder.held c.args.folder.now) (g.F.Folder.held c.write_temp.new.folder) (g.F.Folder.held c.fill.new.folder) c.requires.temp c.fill.ensures.stands c.write_temp.ensures.others c.fill.ensures.left
+
+pub returns-in_err-write_temp-clause-untouched : goal.returns-in_err-write_temp-clause-untouched
+returns-in_err-write_temp-clause-untouched g c =
+    temp_untouched c.args.root.now c.args.arrival.now.from c.args.arrival.now.path c.args.table.now.entries (g.F.Folder.held c.args.folder.now).files (g.F.Folder.held c.write_temp.new.folder).files c.write_temp.ensures.others
+
+pub returns-clause-untouched : goal.returns-clause-untouched
+returns-clause-untouched g c =
+    store_untouched c.args.root.now c.args.arrival.now.from c.args.arrival.now.path c.args.table.now.entries (g.F.Folder.held c.args.folder.now).files (g.F.Folder.held c.write_temp.new.folder).files (g.F.Folder.held c.fill.new.folder).files c.write_temp.ensures.others c.fill.ensures.untouched

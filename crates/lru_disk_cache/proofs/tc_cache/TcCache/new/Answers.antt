@@ -1,11 +1,12 @@
 use Rattle.std.proofs.Common.{◌≡◌, ◌∙◌, List, ℕ, true, false, map, ap}
 use Rattle.lru_disk_cache.specs.Files.{front}
-use Rattle.lru_disk_cache.specs.Held.{Holds}
+use Rattle.lru_disk_cache.specs.Held.{Holds, Became}
+use Rattle.lru_disk_cache.specs.Disk.{ButUnder}
 use Rattle.lru_disk_cache.specs.Archives.{archive_path, opened_archives, paths_under, IsInStep}
 use Rattle.lru_disk_cache.specs.Archiving.{Relists}
 use Rattle.lru_disk_cache.specs.Cleaned.{are_archive_keys}
 use Rattle.lru_disk_cache.specs.Keyed.{unkeyed}
-use Rattle.lru_disk_cache.proofs.OverFolder.{hold_new, opened_new, relists_new, keys_new, in_step_new, cleared_new, made_ok, made_fails}
+use Rattle.lru_disk_cache.proofs.OverFolder.{hold_new, opened_new, relists_new, keys_new, in_step_new, cleared_new, outside_new, made_ok, made_fails}
 use Rattle.lru_disk_cache.proofs.tc_cache.TcCache.new.Goals as goal
 
 pub over-requires-clause-hold : goal.over-requires-clause-hold
@@ -31,3 +32,7 @@ returns-in-Ok-new-clause-cleared g c =
 pub returns-in-Ok-new-clause-fails : goal.returns-in-Ok-new-clause-fails
 returns-in-Ok-new-clause-fails g c =
     made_fails g.F.Folder.held (are_archive_keys c.in-Ok-new.cache.disk.entries ≡ false) (g.F.Folder.held c.args.folder) c.over.result c.over.ensures.why (λ k. keys_new c.args.cache_dir.now c.in-Ok.root c.args.cache_size (g.F.Folder.held c.args.folder) (g.F.Folder.held c.clean.new.folder) (g.F.Folder.held c.in-Ok-new.cache.folder) c.in-Ok-new.cache.disk c.in-Ok.ensures.1 c.in-Ok-clean.ensures.cleaned c.in-Ok-new.ensures.opened k)
+
+pub returns-in-Ok-new-clause-others : goal.returns-in-Ok-new-clause-others
+returns-in-Ok-new-clause-others g c =
+    made_ok (λ t. Became (ButUnder (front c.args.cache_dir.now)) (g.F.Folder.held c.args.folder).files (g.F.Folder.held t.folder).files) (are_archive_keys c.in-Ok-new.cache.disk.entries ≡ true) (record { path = c.in-Ok-new.cache.disk.path; capacity = c.in-Ok-new.cache.disk.capacity; archives = unkeyed c.in-Ok-new.cache.disk.entries; folder = c.in-Ok-new.cache.folder }) c.over.result c.over.ensures.ok c.over.ensures.keys (λ k. outside_new c.args.cache_dir.now c.in-Ok.root c.args.cache_size (g.F.Folder.held c.args.folder) (g.F.Folder.held c.clean.new.folder) (g.F.Folder.held c.in-Ok-new.cache.folder) c.in-Ok-new.cache.disk c.in-Ok.ensures.1 c.in-Ok-clean.ensures.cleaned (c.in-Ok-new.ensures.stands.root ∙ ap front c.in-Ok-new.ensures.empty.0) c.in-Ok-new.ensures.others)

@@ -1,4 +1,4 @@
-use Rattle.std.proofs.Common.{◌≡◌, ◌++◌, Some, None, is_some, Contains, length, sym, ap, ◌∙◌, subst}
+use Rattle.std.proofs.Common.{◌++◌, None, is_some, Contains, length, sym, ap, ◌∙◌, subst}
 use Rattle.lru_metered.specs.Chain.{links, walk, with_ends, without}
 use Rattle.lru_metered.proofs.ChainLemmas.{cut-at, ends-held, unlinked-chain, without-at, settled, order-walked, outer_end}
 use Rattle.lru_metered.proofs.chain.Chain.unlink.Goals as goal

@@ -1,0 +1,9 @@
+pub mod Configs
+pub mod Custom
+pub mod Names
+pub mod Opening
+pub mod Putting
+pub mod Saving
+pub mod Shelf
+pub mod Toolchains
+pub mod WeakMaps

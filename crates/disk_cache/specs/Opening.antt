@@ -1,0 +1,45 @@
+-- What an opening of a client's toolchains finds, and why it fails.
+use Rattle.std.specs.Prelude.{◌≡◌, ℕ, false, List, ◌++◌, Option, Some, None, IsSome, Result, Ok, Err}
+use Rattle.std.specs.Str.{bytes_eq}
+use Rattle.lru_disk_cache.specs.Files.{Files, file_at, front}
+use Rattle.lru_disk_cache.specs.Held.{Held, Holds}
+use Rattle.lru_disk_cache.specs.Archives.{archives_in}
+use Rattle.lru_disk_cache.specs.Store.{IoCause}
+use Rattle.lru_disk_cache.specs.declared.error.Error.TheVariants.{Io}
+use Rattle.disk_cache.specs.declared.config.DistToolchainConfig.{DistToolchainConfig}
+use Rattle.disk_cache.specs.declared.toolchain_error.ToolchainError.{ToolchainError}
+use Rattle.disk_cache.specs.declared.toolchain_error.ToolchainError.TheVariants.{Cache, BadWeakMap, DuplicateConfig, ConflictConfig, Memory}
+use Rattle.disk_cache.specs.Configs.{config_verdict}
+use Rattle.disk_cache.specs.Names.{IsBeside, cache_path, temp_dir, weak_path}
+use Rattle.disk_cache.specs.WeakMaps.{weak_map_at}
+
+-- no file stands below a directory
+abbrev pub IsEmpty : List ℕ → Files → Type 0
+IsEmpty under files = (k : List ℕ) → file_at files (front under ++ k) ≡ None
+
+-- no path below one is below the other
+abbrev pub AreApart : List ℕ → List ℕ → Type 0
+AreApart path under = (k : List ℕ) → IsBeside path (front under ++ k)
+
+-- the archives of a cache are as they were
+abbrev pub SameArchives : List ℕ → Files → Files → Type 0
+SameArchives path old new = archives_in path new ≡ archives_in path old
+
+-- the files are as they were, but for the client's own
+abbrev pub ButOwn : List ℕ → Files → Files → Type 0
+ButOwn dir old new =
+    (q : List ℕ) → IsBeside (cache_path dir) q → IsBeside (temp_dir dir) q → bytes_eq (weak_path dir) q ≡ false → file_at new q ≡ file_at old q
+
+-- what is configured is refused, behind a weak map that was read
+abbrev pub RefusesConfigs : ToolchainError → List ℕ → List DistToolchainConfig → Held → Type 0
+RefusesConfigs e dir configs old =
+    (config_verdict configs ≡ Err e) × Holds old (λ files. IsSome (weak_map_at dir files))
+
+-- Why an opening failed. A fault of the folder and want of memory hide what comes behind them.
+abbrev pub OpeningFails : ToolchainError → List ℕ → List DistToolchainConfig → Held → Held → Type 0
+OpeningFails (Cache (Io fault)) dir configs old new = IoCause fault old new
+OpeningFails BadWeakMap dir configs old new = Holds old (λ files. weak_map_at dir files ≡ None)
+OpeningFails DuplicateConfig dir configs old new = RefusesConfigs DuplicateConfig dir configs old
+OpeningFails ConflictConfig dir configs old new = RefusesConfigs ConflictConfig dir configs old
+OpeningFails Memory dir configs old new = Unit {0}
+OpeningFails other dir configs old new = ⊥

@@ -1,0 +1,45 @@
+-- Runs whose inputs a packager packs.
+use Rattle.std.proofs.Common.{◌≡◌, ℕ, List, [], ◌∷◌, ◌++◌, codes, length, Option, Some, None, Result, Ok, refl, sym, ap, subst, ◌∙◌, append_assoc}
+use Rattle.std.specs.Fmt.{decimal}
+use Rattle.std.specs.Int.{w32, to_be_bytes}
+use Rattle.dist_types.specs.Addr.{addr_text}
+use Rattle.dist_types.specs.declared.results.JobAlloc.{JobAlloc}
+use Rattle.dist_types.specs.declared.results.RunJobResult.{RunJobResult}
+use Rattle.dist_wire.specs.Reading as wire
+use Rattle.dist_wire.specs.Written.{run_text}
+use Rattle.dist_wire.specs.declared.run.RunJobHttpRequest.{RunJobHttpRequest}
+use Rattle.http_head.specs.WrittenRequest.{request_text}
+use Rattle.http_routes.specs.RunHead.{run_body}
+use Rattle.http_routes.specs.Written.{post_with, run_with}
+use Rattle.path_pkg.specs.Append.{Appends}
+use Rattle.http_calls.specs.Asking.{dialed_host}
+use Rattle.http_calls.specs.Calls.{run_request}
+use Rattle.http_calls.specs.Client.{ClientParts, IsAsked, AfterPacking}
+use Rattle.http_calls.specs.Servers.{port_at}
+use Rattle.http_calls.specs.declared.error.CallError.{CallError}
+
+-- bytes behind the body of a run without inputs are its inputs
+body_more : (run : RunJobHttpRequest) (more : List ℕ) → run_body run [] ++ more ≡ run_body run more
+unfolding run_body
+body_more run more =
+    append_assoc (to_be_bytes w32 (length (run_text run))) (run_text run ++ []) more
+    ∙ ap (λ (t : List ℕ). to_be_bytes w32 (length (run_text run)) ++ t) (append_assoc (run_text run) [] more)
+
+pub packs_from : (told : Option (List ℕ)) (run : RunJobHttpRequest) (before after : List ℕ) → before ≡ run_body run [] → Appends told before after
+    → (x : List ℕ) × Appends told [] x × (after ≡ run_body run x)
+packs_from None run before after is h = (h.0, (h.0, refl), h.1 ∙ (ap (λ (b : List ℕ). b ++ h.0) is ∙ body_more run h.0))
+packs_from (Some bytes) run before after is h = (bytes, refl, h ∙ (ap (λ (b : List ℕ). b ++ bytes) is ∙ body_more run bytes))
+
+pub posted_run : (job : JobAlloc) (run : RunJobHttpRequest) (inputs body token bytes : List ℕ)
+    → bytes ≡ request_text (post_with (codes "/api/v1/distserver/run_job/" ++ decimal job.job_id.0) (addr_text job.server_id) token body)
+    → token ≡ job.auth → body ≡ run_body run inputs → bytes ≡ request_text (run_request job run inputs)
+unfolding run_with
+posted_run job run inputs body token bytes is token_is body_is =
+    is ∙ (λ i. request_text (post_with (codes "/api/v1/distserver/run_job/" ++ decimal job.job_id.0) (addr_text job.server_id) (token_is i) (body_is i)))
+
+pub ran_after : (job : JobAlloc) (run : RunJobHttpRequest) (inputs request : List ℕ) (answer sent : Result RunJobResult CallError) (old new : ClientParts)
+    → request ≡ request_text (run_request job run inputs) → answer ≡ sent
+    → IsAsked wire.ran_at (dialed_host job.server_id) (port_at job.server_id) request sent old new → AfterPacking job run (Ok inputs) answer old new
+ran_after job run inputs request answer sent old new is same h =
+    subst (λ a. IsAsked wire.ran_at (dialed_host job.server_id) (port_at job.server_id) (request_text (run_request job run inputs)) a old new) (sym same)
+    (subst (λ q. IsAsked wire.ran_at (dialed_host job.server_id) (port_at job.server_id) q sent old new) is h)

@@ -1,0 +1,5 @@
+pub mod ConnectionLemmas
+pub mod KitLemmas
+pub mod StopLemmas
+pub mod TakingLemmas
+pub mod TallyLemmas

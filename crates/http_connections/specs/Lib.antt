@@ -1,0 +1,6 @@
+pub mod Form
+pub mod Hearing
+pub mod Scan
+pub mod Served
+pub mod Taking
+pub mod Tally

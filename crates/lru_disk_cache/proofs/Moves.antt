@@ -1,0 +1,99 @@
+-- Storing a file of the folder, or what a closure writes.
+use Rattle.std.proofs.Common.{◌≡◌, ◌+◌, ℕ, Bool, true, false, not, nat_lt, if◌then◌else◌, List, length, is_ok, true≢false, ap, Result, Ok, Err, IfErr, OnOk, inl, inr, refl}
+use Rattle.lru_disk_cache.specs.Held.{Held, Lacks}
+use Rattle.lru_disk_cache.specs.declared.fault.FolderFault.TheVariants.{Missing, Failed, Memory}
+use Rattle.lru_disk_cache.specs.declared.error.Error.{Error}
+use Rattle.lru_disk_cache.specs.declared.error.Error.TheVariants.{FileTooLarge, FileNotInCache, Io, PendingSpace, BadKey, NotPending, WrongDigest, WriterRefused, Memory as NoMemory}
+use Rattle.lru_disk_cache.specs.declared.error.WriteFault.{WriteFault}
+use Rattle.lru_disk_cache.specs.Store.{Disk, insert_verdict, InsertFails}
+use Rattle.lru_disk_cache.specs.Key.{is_key}
+use Rattle.lru_disk_cache.specs.Reserved.{held_size}
+use Rattle.lru_disk_cache.specs.Adding.{CallFails}
+use Rattle.lru_disk_cache.specs.Archives.{Archives}
+use Rattle.lru_disk_cache.specs.Archiving.{StoreFails}
+use Rattle.lru_disk_cache.specs.Moving.{MoveFails, WriterFails, WithFails, StoreWithFails}
+
+-- where the file that is to be moved is not measured
+pub move_failed : (key path : List ℕ) (d e : Disk) (error : Error) (old new : Held) → e ≡ d → CallFails (Lacks path) error old new → MoveFails key path error d e old new
+move_failed key path d e (Io Missing) old new is h = (inl is, inr (is, h.0, h.1))
+move_failed key path d e (Io Failed) old new is h = (inl is, h)
+move_failed key path d e (Io Memory) old new is h = absurd h
+move_failed key path d e NoMemory old new is h = inl is
+move_failed key path d e BadKey old new is h = absurd h
+move_failed key path d e FileTooLarge old new is h = absurd h
+move_failed key path d e FileNotInCache old new is h = absurd h
+move_failed key path d e PendingSpace old new is h = absurd h
+move_failed key path d e NotPending old new is h = absurd h
+move_failed key path d e WrongDigest old new is h = absurd h
+move_failed key path d e WriterRefused old new is h = absurd h
+
+-- a verdict of BadKey says that the key is none
+bad_key : (key : List ℕ) (size : ℕ) (d : Disk) → insert_verdict d key size ≡ Err BadKey → is_key key ≡ false
+bad_key key size d h = by (is_key key) refl h
+  where
+    rest : Result (Unit {0}) Error
+    rest = if nat_lt d.capacity size then Err FileTooLarge else if nat_lt d.capacity (held_size d.pending + size) then Err PendingSpace else Ok (tt {0})
+
+    large : (a b : Bool) → (if a then Err FileTooLarge else if b then Err PendingSpace else Ok (tt {0})) ≡ Err BadKey → ⊥
+    large true b same = let wrong : FileTooLarge ≡ BadKey = cc in cc
+    large false true same = let wrong : PendingSpace ≡ BadKey = cc in cc
+    large false false same = true≢false (ap is_ok same)
+
+    by : (b : Bool) → is_key key ≡ b → (if not b then Err BadKey else rest) ≡ Err BadKey → b ≡ false
+    by false is same = refl
+    by true is same = absurd (large (nat_lt d.capacity size) (nat_lt d.capacity (held_size d.pending + size)) same)
+
+module _ (wrote : Result (Unit {0}) WriteFault → List ℕ → Type 0) where
+  -- where the closure wrote nothing
+  pub with_failed : (key : List ℕ) (d : Disk) (error : Error) (old : Held) → WriterFails wrote error → WithFails wrote key error d d old old
+  with_failed key d WriterRefused old h = (refl, refl, h)
+  with_failed key d NoMemory old h = inl (refl, refl)
+  with_failed key d BadKey old h = absurd h
+  with_failed key d FileTooLarge old h = absurd h
+  with_failed key d FileNotInCache old h = absurd h
+  with_failed key d (Io fault) old h = absurd h
+  with_failed key d PendingSpace old h = absurd h
+  with_failed key d NotPending old h = absurd h
+  with_failed key d WrongDigest old h = absurd h
+
+  -- and where what it wrote is not stored
+  pub with_fails : (key bytes : List ℕ) (d e : Disk) (result : Result (Unit {0}) Error) (old new : Held) → wrote (Ok (tt {0})) bytes → IfErr result (λ x. InsertFails key (length bytes) x d e old new) → IfErr result (λ x. WithFails wrote key x d e old new)
+  with_fails key bytes d e (Ok x) old new w h = tt
+  with_fails key bytes d e (Err BadKey) old new w h = (h.0, h.1, bad_key key (length bytes) d h.2)
+  with_fails key bytes d e (Err FileTooLarge) old new w h = (bytes, w, h)
+  with_fails key bytes d e (Err PendingSpace) old new w h = (bytes, w, h)
+  with_fails key bytes d e (Err (Io fault)) old new w h = (bytes, w, h)
+  with_fails key bytes d e (Err NoMemory) old new w h = inr (bytes, w, h)
+  with_fails key bytes d e (Err FileNotInCache) old new w h = absurd h
+  with_fails key bytes d e (Err NotPending) old new w h = absurd h
+  with_fails key bytes d e (Err WrongDigest) old new w h = absurd h
+  with_fails key bytes d e (Err WriterRefused) old new w h = absurd h
+
+  -- and where it is
+  pub with_ok : {T E : Type 0} (P Q R : List ℕ → Type 0) (bytes : List ℕ) (result : Result T E) → wrote (Ok (tt {0})) bytes → OnOk result (P bytes) → OnOk result (Q bytes) → OnOk result (R bytes)
+      → OnOk result ((x : List ℕ) × wrote (Ok (tt {0})) x × P x × Q x × R x)
+  with_ok P Q R bytes (Ok x) w p q r = (bytes, w, p, q, r)
+  with_ok P Q R bytes (Err e) w p q r = tt
+
+  pub store_failed : (capacity : ℕ) (id : List ℕ) (a : Archives) (error : Error) (old : Held) → WriterFails wrote error → StoreWithFails wrote capacity id error a a old old
+  store_failed capacity id a WriterRefused old h = (refl, refl, h)
+  store_failed capacity id a NoMemory old h = inl (refl, refl)
+  store_failed capacity id a BadKey old h = absurd h
+  store_failed capacity id a FileTooLarge old h = absurd h
+  store_failed capacity id a FileNotInCache old h = absurd h
+  store_failed capacity id a (Io fault) old h = absurd h
+  store_failed capacity id a PendingSpace old h = absurd h
+  store_failed capacity id a NotPending old h = absurd h
+  store_failed capacity id a WrongDigest old h = absurd h
+
+  pub store_fails : (capacity : ℕ) (id bytes : List ℕ) (a b : Archives) (result : Result (Unit {0}) Error) (old new : Held) → wrote (Ok (tt {0})) bytes → IfErr result (λ x. StoreFails capacity id bytes x a b old new) → IfErr result (λ x. StoreWithFails wrote capacity id x a b old new)
+  store_fails capacity id bytes a b (Ok x) old new w h = tt
+  store_fails capacity id bytes a b (Err WrongDigest) old new w h = (bytes, w, h)
+  store_fails capacity id bytes a b (Err FileTooLarge) old new w h = (bytes, w, h)
+  store_fails capacity id bytes a b (Err (Io fault)) old new w h = (bytes, w, h)
+  store_fails capacity id bytes a b (Err NoMemory) old new w h = inr (bytes, w, h)
+  store_fails capacity id bytes a b (Err BadKey) old new w h = absurd h
+  store_fails capacity id bytes a b (Err PendingSpace) old new w h = absurd h
+  store_fails capacity id bytes a b (Err FileNotInCache) old new w h = absurd h
+  store_fails capacity id bytes a b (Err NotPending) old new w h = absurd h
+  store_fails capacity id bytes a b (Err WriterRefused) old new w h = absurd h

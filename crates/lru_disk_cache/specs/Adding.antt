@@ -1,0 +1,167 @@
+-- What the calls on reservations answer and leave.
+use Rattle.std.specs.Prelude.{◌≡◌, ℕ, ◌+◌, ◌-◌, ◌⊎◌, true, false, nat_lt, if◌then◌else◌, List, [], ◌∷◌, ◌++◌, None, Option, Some, Result, Ok, Err}
+use Rattle.dist_types.specs.Cause.{Rose}
+use Rattle.lru_disk_cache.specs.Files.{Files, size_at, put}
+use Rattle.lru_disk_cache.specs.Held.{Held, Holds}
+use Rattle.lru_disk_cache.specs.declared.fault.FolderFault.{FolderFault}
+use Rattle.lru_disk_cache.specs.declared.fault.FolderFault.TheVariants.{Missing, Failed, Memory}
+use Rattle.lru_disk_cache.specs.declared.error.Error.{Error}
+use Rattle.lru_disk_cache.specs.declared.error.Error.TheVariants.{FileTooLarge, FileNotInCache, Io, PendingSpace, BadKey, NotPending, WrongDigest, WriterRefused, Memory as NoMemory}
+use Rattle.lru_disk_cache.specs.Key.{temp_name}
+use Rattle.lru_disk_cache.specs.Entries.{Entries, trim, IsEnd}
+use Rattle.lru_disk_cache.specs.Disk.{Left, stored, without_each}
+use Rattle.lru_disk_cache.specs.Reserved.{Reservation, AddEntry, held_size, is_pending, is_sure, without_number, unsure}
+use Rattle.lru_disk_cache.specs.Store.{Disk, room_beside, error_of, Refuses, IoCause}
+
+-- ---- a reservation is made
+
+-- the path of the temporary file of an entry
+abbrev pub entry_path : Disk → AddEntry → List ℕ
+entry_path d e = d.root ++ temp_name e.number
+
+-- the reservation of an entry, whose temporary file is there
+abbrev pub reservation : Disk → AddEntry → Reservation
+reservation d e = record { number = e.number; key = e.key; size = e.size; temp = entry_path d e; sure = true }
+
+-- The disk once an entry is announced: entries went from the front until list, reservations and its size fit.
+abbrev pub prepared : Disk → AddEntry → Disk
+prepared d e = record d { entries = trim (room_beside d e.size) d.entries; pending = d.pending ++ reservation d e ∷ [] }
+
+-- the files once it is: that file is there with no byte, and those of these entries are gone
+abbrev pub files_prepared : List ℕ → List ℕ → Entries → Files → Files
+files_prepared root temp gone files = without_each root gone (put temp [] files)
+
+-- what a failed announcement leaves: some of the least recent gone, none more than had to go
+pub record RoomBy (limit : ℕ) (old new : Disk) : Type 0 where
+  pub disk : new ≡ record old { entries = new.entries }
+  pub entries : IsEnd new.entries old.entries
+  pub needed : trim limit new.entries ≡ trim limit old.entries
+
+-- why it failed
+abbrev pub PrepareFails : List ℕ → ℕ → Error → Disk → Disk → Held → Held → Type 0
+PrepareFails key size BadKey d e old new = Refuses key size BadKey d e old new
+PrepareFails key size FileTooLarge d e old new = Refuses key size FileTooLarge d e old new
+PrepareFails key size PendingSpace d e old new = Refuses key size PendingSpace d e old new
+PrepareFails key size (Io fault) d e old new = RoomBy (room_beside d size) d e × IoCause fault old new
+PrepareFails key size NoMemory d e old new = RoomBy (room_beside d size) d e
+PrepareFails key size FileNotInCache d e old new = ⊥
+PrepareFails key size NotPending d e old new = ⊥
+PrepareFails key size WrongDigest d e old new = ⊥
+PrepareFails key size WriterRefused d e old new = ⊥
+
+-- ---- it is used
+
+-- why the folder failed: the count rose, or there was no file for the call, which leaves all
+abbrev pub CallCause : (Files → Type 0) → FolderFault → Held → Held → Type 0
+CallCause lacking Failed old new = Rose old.faults new.faults
+CallCause lacking Missing old new = (new ≡ old) × Holds old lacking
+CallCause lacking Memory old new = ⊥
+
+-- why a call of it failed
+abbrev pub CallFails : (Files → Type 0) → Error → Held → Held → Type 0
+CallFails lacking (Io fault) old new = CallCause lacking fault old new
+CallFails lacking NoMemory old new = Unit {0}
+CallFails lacking BadKey old new = ⊥
+CallFails lacking FileTooLarge old new = ⊥
+CallFails lacking FileNotInCache old new = ⊥
+CallFails lacking PendingSpace old new = ⊥
+CallFails lacking NotPending old new = ⊥
+CallFails lacking WrongDigest old new = ⊥
+CallFails lacking WriterRefused old new = ⊥
+
+-- why the folder failed: the count rose, or files are not told, or the temporary file is not sure to be there
+abbrev pub EntryCause : AddEntry → Disk → FolderFault → Held → Held → Type 0
+EntryCause e d Failed old new = Rose old.faults new.faults
+EntryCause e d Missing old new = (old.files ≡ None) ⊎ (is_sure e d.pending ≡ false)
+EntryCause e d Memory old new = ⊥
+
+-- an entry that is not pending leaves all as it was
+abbrev pub RefusesEntry : AddEntry → Disk → Disk → Held → Held → Type 0
+RefusesEntry entry d e old new = (e ≡ d) × (new ≡ old) × (is_pending entry d.pending ≡ false)
+
+-- why writing failed
+abbrev pub WriteFails : AddEntry → Error → Disk → Disk → Held → Held → Type 0
+WriteFails entry NotPending d e old new = RefusesEntry entry d e old new
+WriteFails entry (Io fault) d e old new = EntryCause entry d fault old new
+WriteFails entry NoMemory d e old new = Unit {0}
+WriteFails entry BadKey d e old new = ⊥
+WriteFails entry FileTooLarge d e old new = ⊥
+WriteFails entry PendingSpace d e old new = ⊥
+WriteFails entry FileNotInCache d e old new = ⊥
+WriteFails entry WrongDigest d e old new = ⊥
+WriteFails entry WriterRefused d e old new = ⊥
+
+-- ---- it is committed
+
+-- the sizes that the other reservations announced
+abbrev pub held_beside : Disk → AddEntry → ℕ
+held_beside d e = held_size (without_number e.number d.pending)
+
+-- what the sizes of the other entries may sum to where the file of an entry has this size
+abbrev pub room_for : Disk → AddEntry → ℕ → ℕ
+room_for d e size = d.capacity - (held_beside d e + size)
+
+-- whether an entry whose file has this size may be committed
+abbrev pub commit_verdict : Disk → AddEntry → ℕ → Result (Unit {0}) Error
+commit_verdict d e size =
+    if nat_lt d.capacity size then Err FileTooLarge
+    else if nat_lt d.capacity (held_beside d e + size) then Err PendingSpace
+    else Ok (tt {0})
+
+-- the disk once it is: its reservation is closed, and its key is stored with that size
+abbrev pub committed : Disk → AddEntry → ℕ → Disk
+committed d e size = record d { entries = stored e.key size (room_for d e size) d.entries; pending = without_number e.number d.pending }
+
+-- the file of an entry has this size, where files are told
+abbrev pub HasSize : Disk → AddEntry → Held → ℕ → Type 0
+HasSize d e held n = Holds held (λ files. size_at files (entry_path d e) ≡ Some n)
+
+-- what a failed commit leaves: the reservation, whose file is not sure to be there any more, and of the list what a failed insert leaves
+pub record CommitLeft (entry : AddEntry) (limit : ℕ) (old new : Disk) : Type 0 where
+  pub disk : new ≡ record old { entries = new.entries; pending = unsure entry.number old.pending }
+  pub entries : Left entry.key limit old.entries new.entries
+
+-- what it leaves where the folder or memory failed: all as it was, or that
+abbrev pub CommitBroke : AddEntry → Disk → Disk → Held → Type 0
+CommitBroke entry d e old =
+    (e ≡ d) ⊎ ((n : ℕ) × HasSize d entry old n × (commit_verdict d entry n ≡ Ok (tt {0})) × CommitLeft entry (room_for d entry n) d e)
+
+-- a refusal by the verdict leaves all as it was
+abbrev pub RefusesCommit : AddEntry → Error → Disk → Disk → Held → Held → Type 0
+RefusesCommit entry error d e old new =
+    (e ≡ d) × (new ≡ old) × ((n : ℕ) × HasSize d entry old n × (commit_verdict d entry n ≡ Err error))
+
+-- why it failed
+abbrev pub CommitFails : AddEntry → Error → Disk → Disk → Held → Held → Type 0
+CommitFails entry NotPending d e old new = RefusesEntry entry d e old new
+CommitFails entry FileTooLarge d e old new = RefusesCommit entry FileTooLarge d e old new
+CommitFails entry PendingSpace d e old new = RefusesCommit entry PendingSpace d e old new
+CommitFails entry (Io fault) d e old new = CommitBroke entry d e old × EntryCause entry d fault old new
+CommitFails entry NoMemory d e old new = CommitBroke entry d e old
+CommitFails entry BadKey d e old new = ⊥
+CommitFails entry FileNotInCache d e old new = ⊥
+CommitFails entry WrongDigest d e old new = ⊥
+CommitFails entry WriterRefused d e old new = ⊥
+
+-- ---- it is abandoned
+
+-- the disk once the reservation of an entry is closed
+abbrev pub abandoned : Disk → AddEntry → Disk
+abandoned d e = record d { pending = without_number e.number d.pending }
+
+-- the answer, by that of the removal of its file
+abbrev pub abandon_answer : Result (Unit {0}) FolderFault → Result (Unit {0}) (Error × Option AddEntry)
+abandon_answer (Ok x) = Ok (tt {0})
+abandon_answer (Err fault) = Err (error_of fault, None)
+
+-- Why that failed. The entry comes back where it was not pending, and else its reservation is closed.
+abbrev pub AbandonFails : AddEntry → Error → Option AddEntry → Disk → Disk → Held → Held → Type 0
+AbandonFails entry NotPending back d e old new = (back ≡ Some entry) × RefusesEntry entry d e old new
+AbandonFails entry (Io fault) back d e old new = (back ≡ None) × (e ≡ abandoned d entry) × (is_pending entry d.pending ≡ true) × IoCause fault old new
+AbandonFails entry NoMemory back d e old new = (back ≡ None) × (e ≡ abandoned d entry) × (is_pending entry d.pending ≡ true)
+AbandonFails entry BadKey back d e old new = ⊥
+AbandonFails entry FileTooLarge back d e old new = ⊥
+AbandonFails entry PendingSpace back d e old new = ⊥
+AbandonFails entry FileNotInCache back d e old new = ⊥
+AbandonFails entry WrongDigest back d e old new = ⊥
+AbandonFails entry WriterRefused back d e old new = ⊥

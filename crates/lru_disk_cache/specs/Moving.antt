@@ -1,0 +1,100 @@
+-- What storing a file of the folder, or what a closure writes, answers and leaves.
+use Rattle.std.specs.Prelude.{◌≡◌, ℕ, ◌⊎◌, false, List, [], None, Some, Result, Ok, Err, length}
+use Rattle.std.specs.Borrow.{MutBor}
+use Rattle.std.specs.Fn.{Once, FnOnceReturnsAtMut}
+use Rattle.dist_types.specs.Cause.{Rose}
+use Rattle.lru_disk_cache.specs.Files.{size_at}
+use Rattle.lru_disk_cache.specs.Held.{Held, Holds, Lacks}
+use Rattle.lru_disk_cache.specs.declared.fault.FolderFault.{FolderFault}
+use Rattle.lru_disk_cache.specs.declared.fault.FolderFault.TheVariants.{Missing, Failed, Memory}
+use Rattle.lru_disk_cache.specs.declared.error.Error.{Error}
+use Rattle.lru_disk_cache.specs.declared.error.Error.TheVariants.{FileTooLarge, FileNotInCache, Io, PendingSpace, BadKey, NotPending, WrongDigest, WriterRefused, Memory as NoMemory}
+use Rattle.lru_disk_cache.specs.declared.error.WriteFault.{WriteFault}
+use Rattle.lru_disk_cache.specs.declared.error.WriteFault.TheVariants.{Refused}
+use Rattle.lru_disk_cache.specs.Key.{is_key}
+use Rattle.lru_disk_cache.specs.Store.{Disk, LeftBy, room_beside, insert_verdict, InsertFails}
+use Rattle.lru_disk_cache.specs.Archives.{Archives}
+use Rattle.lru_disk_cache.specs.Archiving.{StoreFails}
+
+-- ---- a file of the folder
+
+-- the file at a path has this size, where files are told
+abbrev pub IsSized : List ℕ → Held → ℕ → Type 0
+IsSized path held n = Holds held (λ files. size_at files path ≡ Some n)
+
+-- Why the folder failed: the count rose, or files are not told, or there is no file to be moved, which leaves all.
+abbrev pub MoveCause : List ℕ → FolderFault → Disk → Disk → Held → Held → Type 0
+MoveCause path Failed d e old new = Rose old.faults new.faults
+MoveCause path Missing d e old new = (old.files ≡ None) ⊎ ((e ≡ d) × (new ≡ old) × Holds old (Lacks path))
+MoveCause path Memory d e old new = ⊥
+
+-- what it leaves where the folder or memory failed: all as it was, or what a failed insert leaves
+abbrev pub MoveBroke : List ℕ → List ℕ → Disk → Disk → Held → Type 0
+MoveBroke key path d e old =
+    (e ≡ d) ⊎ ((n : ℕ) × IsSized path old n × (insert_verdict d key n ≡ Ok (tt {0})) × LeftBy key (room_beside d n) d e)
+
+-- a refusal by the verdict leaves all as it was
+abbrev pub RefusesMove : List ℕ → List ℕ → Error → Disk → Disk → Held → Held → Type 0
+RefusesMove key path error d e old new =
+    (e ≡ d) × (new ≡ old) × ((n : ℕ) × IsSized path old n × (insert_verdict d key n ≡ Err error))
+
+-- why storing a file of the folder failed, and what it leaves
+abbrev pub MoveFails : List ℕ → List ℕ → Error → Disk → Disk → Held → Held → Type 0
+MoveFails key path BadKey d e old new = (e ≡ d) × (new ≡ old) × (is_key key ≡ false)
+MoveFails key path FileTooLarge d e old new = RefusesMove key path FileTooLarge d e old new
+MoveFails key path PendingSpace d e old new = RefusesMove key path PendingSpace d e old new
+MoveFails key path (Io fault) d e old new = MoveBroke key path d e old × MoveCause path fault d e old new
+MoveFails key path NoMemory d e old new = MoveBroke key path d e old
+MoveFails key path FileNotInCache d e old new = ⊥
+MoveFails key path NotPending d e old new = ⊥
+MoveFails key path WrongDigest d e old new = ⊥
+MoveFails key path WriterRefused d e old new = ⊥
+
+-- ---- what a closure writes
+
+-- A call of the closure at an empty vector may give this answer, and leave these bytes.
+abbrev pub Wrote : {W V : Type 0} → Once W (MutBor V × Unit {0}) (Result (Unit {0}) WriteFault × (MutBor V × Unit {0})) → (V → List ℕ) → W → Result (Unit {0}) WriteFault → List ℕ → Type 0
+Wrote {W} {V} call seen closure answer bytes =
+    (empty filled : V) × FnOnceReturnsAtMut call closure empty answer filled × (seen empty ≡ []) × (seen filled ≡ bytes)
+
+-- why a closure wrote nothing that is to be stored
+abbrev pub WriterFails : (Result (Unit {0}) WriteFault → List ℕ → Type 0) → Error → Type 0
+WriterFails wrote WriterRefused = (bytes : List ℕ) × wrote (Err Refused) bytes
+WriterFails wrote NoMemory = Unit {0}
+WriterFails wrote BadKey = ⊥
+WriterFails wrote FileTooLarge = ⊥
+WriterFails wrote FileNotInCache = ⊥
+WriterFails wrote (Io fault) = ⊥
+WriterFails wrote PendingSpace = ⊥
+WriterFails wrote NotPending = ⊥
+WriterFails wrote WrongDigest = ⊥
+
+-- a refusal of such a store of bytes is that of the bytes that were written
+abbrev pub OfBytes : (Result (Unit {0}) WriteFault → List ℕ → Type 0) → (List ℕ → Type 0) → Type 0
+OfBytes wrote fails = (bytes : List ℕ) × wrote (Ok (tt {0})) bytes × fails bytes
+
+-- why storing what a closure writes failed, and what it leaves
+abbrev pub WithFails : (Result (Unit {0}) WriteFault → List ℕ → Type 0) → List ℕ → Error → Disk → Disk → Held → Held → Type 0
+WithFails wrote key BadKey d e old new = (e ≡ d) × (new ≡ old) × (is_key key ≡ false)
+WithFails wrote key WriterRefused d e old new = (e ≡ d) × (new ≡ old) × ((bytes : List ℕ) × wrote (Err Refused) bytes)
+WithFails wrote key FileTooLarge d e old new = OfBytes wrote (λ bytes. InsertFails key (length bytes) FileTooLarge d e old new)
+WithFails wrote key PendingSpace d e old new = OfBytes wrote (λ bytes. InsertFails key (length bytes) PendingSpace d e old new)
+WithFails wrote key (Io fault) d e old new = OfBytes wrote (λ bytes. InsertFails key (length bytes) (Io fault) d e old new)
+WithFails wrote key NoMemory d e old new =
+    ((e ≡ d) × (new ≡ old)) ⊎ OfBytes wrote (λ bytes. InsertFails key (length bytes) NoMemory d e old new)
+WithFails wrote key FileNotInCache d e old new = ⊥
+WithFails wrote key NotPending d e old new = ⊥
+WithFails wrote key WrongDigest d e old new = ⊥
+
+-- the same of an archive
+abbrev pub StoreWithFails : (Result (Unit {0}) WriteFault → List ℕ → Type 0) → ℕ → List ℕ → Error → Archives → Archives → Held → Held → Type 0
+StoreWithFails wrote capacity id WriterRefused a b old new = (b ≡ a) × (new ≡ old) × ((bytes : List ℕ) × wrote (Err Refused) bytes)
+StoreWithFails wrote capacity id WrongDigest a b old new = OfBytes wrote (λ bytes. StoreFails capacity id bytes WrongDigest a b old new)
+StoreWithFails wrote capacity id FileTooLarge a b old new = OfBytes wrote (λ bytes. StoreFails capacity id bytes FileTooLarge a b old new)
+StoreWithFails wrote capacity id (Io fault) a b old new = OfBytes wrote (λ bytes. StoreFails capacity id bytes (Io fault) a b old new)
+StoreWithFails wrote capacity id NoMemory a b old new =
+    ((b ≡ a) × (new ≡ old)) ⊎ OfBytes wrote (λ bytes. StoreFails capacity id bytes NoMemory a b old new)
+StoreWithFails wrote capacity id BadKey a b old new = ⊥
+StoreWithFails wrote capacity id PendingSpace a b old new = ⊥
+StoreWithFails wrote capacity id FileNotInCache a b old new = ⊥
+StoreWithFails wrote capacity id NotPending a b old new = ⊥

@@ -1,0 +1,253 @@
+//! Reservations: entries that are announced, written and then committed or abandoned.
+ghost use Rattle.std.specs.Prelude.{◌≡◌, ◌+◌, ◌++◌, ◌≤◌, ◌⊎◌, [], true, Some, Ok, Err, IfOk, IfErr, OnOk, OnErr};
+ghost use Rattle.lru_disk_cache.specs.Files.{file_at, without, appended, PartAppended};
+ghost use Rattle.lru_disk_cache.specs.Held.{Holds, Became, Made, Lacks};
+ghost use Rattle.lru_disk_cache.specs.Key.{is_key};
+ghost use Rattle.lru_disk_cache.specs.Disk.{ButAt, ButUnder, Keeps, dropped, files_placed, without_key};
+ghost use Rattle.lru_disk_cache.specs.Reserved.{held_size, is_pending, without_number, IsLeastFree, KeepsReserved};
+ghost use Rattle.lru_disk_cache.specs.Adding.{entry_path, prepared, files_prepared, held_beside, room_for, commit_verdict, committed, abandoned, abandon_answer, HasSize, PrepareFails, WriteFails, CommitFails, AbandonFails};
+
+use crate::cache::{LruDiskCache, arrival_of};
+use crate::entry::LruDiskCacheAddEntry;
+use crate::error::{Error, Result, io};
+use crate::fault::FolderFault;
+use crate::folder::Folder;
+use crate::steps::{add_to, announce, fill, measure, remove_at};
+use dist_types::text::Text;
+
+impl<F: Folder> LruDiskCache<F> {
+    ghost use Rattle.lru_disk_cache.specs.Store.{IsStore, DiskInStep, room_beside, insert_verdict};
+
+    /// Announces a file of this size under a key: the least recent go until it fits, and its size is held
+    /// until it is committed or abandoned. Its temporary file is empty.
+    ///
+    /// Refused as `Error::BadKey`, `Error::FileTooLarge` and `Error::PendingSpace`, in this order, which
+    /// leave all as it was; then as `Error::Io` or for want of memory, which leave the list as it was, or
+    /// some of the least recent gone, none more than had to go.
+    pub fn prepare_add(&mut self, key: &str, size: u64) -> Result<LruDiskCacheAddEntry>
+        ensures ok { IfOk result (λ e. self.new.disk ≡ prepared self.old.disk e) }
+        ensures entry { IfOk result (λ e. (e.key ≡ key.now) × (e.size ≡ size) × IsLeastFree e.number self.old.disk.pending) }
+        ensures admits { OnOk result (insert_verdict self.old.disk key.now size ≡ Ok tt) }
+        ensures empty { IfOk result (λ e. Holds (F.held self.new.folder) (λ files. file_at files (entry_path self.old.disk e) ≡ Some [])) }
+        ensures fails { IfErr result (λ e. PrepareFails key.now size e self.old.disk self.new.disk (F.held self.old.folder) (F.held self.new.folder)) }
+        ensures kept { Became (Keeps self.old.disk.root self.new.disk.entries) (F.held self.old.folder).files (F.held self.new.folder).files }
+        ensures reserved { Became (KeepsReserved self.old.disk.pending) (F.held self.old.folder).files (F.held self.new.folder).files }
+        ensures others { Became (ButUnder self.old.disk.root) (F.held self.old.folder).files (F.held self.new.folder).files }
+        ensures exact { IfOk result (λ e. Made (files_prepared self.old.disk.root (entry_path self.old.disk e) (dropped (room_beside self.old.disk size) self.old.disk.entries)) (F.held self.old.folder).files (F.held self.new.folder).files) }
+        ensures steady { OnOk result ((F.held self.new.folder).faults ≡ (F.held self.old.folder).faults) }
+        ensures later { (F.held self.old.folder).faults ≤ (F.held self.new.folder).faults }
+        ensures in_step { DiskInStep (F.held self.old.folder) self.old.disk → OnOk result (DiskInStep (F.held self.new.folder) self.new.disk) }
+        ensures stands { IsStore (F.held self.new.folder) self.new.disk }
+    {
+        self.shown();
+        match self.admit(key, size) {
+            Ok(()) => {}
+            Err(refusal) => return Err(refusal),
+        }
+        let limit = self.room_beside(size);
+        let Ok(own) = Text::of(self.alloc, key) else {
+            return Err(Error::Memory);
+        };
+        let number = self.pending.least_free();
+        let Ok(arrival) = arrival_of(&self.root, number, key, size, limit) else {
+            return Err(Error::Memory);
+        };
+        match announce(&mut self.folder, &mut self.table, &self.root, &arrival) {
+            Ok(()) => {}
+            Err(fault) => return Err(io(fault)),
+        }
+        let Ok(()) = self.pending.push(number, arrival) else {
+            return Err(Error::Memory);
+        };
+        Ok(LruDiskCacheAddEntry::new(number, own, size))
+    }
+
+    /// Adds bytes at the end of the temporary file of an entry.
+    ///
+    /// Refused as `Error::NotPending` exactly where this cache has no open reservation with the entry's
+    /// number, key and size, which leaves all as it was; then as `Error::Io` or for want of memory, which
+    /// leave a front of the bytes added.
+    pub fn write_entry(&mut self, entry: &LruDiskCacheAddEntry, bytes: &[u8]) -> Result<()>
+        ensures ok { OnOk result (Made (appended (entry_path self.old.disk entry.now) bytes.now) (F.held self.old.folder).files (F.held self.new.folder).files) }
+        ensures pending { OnOk result (is_pending entry.now self.old.disk.pending ≡ true) }
+        ensures part { OnErr result (Became (PartAppended (entry_path self.old.disk entry.now) bytes.now) (F.held self.old.folder).files (F.held self.new.folder).files) }
+        ensures fails { IfErr result (λ e. WriteFails entry.now e self.old.disk self.new.disk (F.held self.old.folder) (F.held self.new.folder)) }
+        ensures disk { self.new.disk ≡ self.old.disk }
+        ensures others { Became (ButAt (entry_path self.old.disk entry.now)) (F.held self.old.folder).files (F.held self.new.folder).files }
+        ensures kept { Became (Keeps self.old.disk.root self.old.disk.entries) (F.held self.old.folder).files (F.held self.new.folder).files }
+        ensures reserved { Became (KeepsReserved (without_number entry.now.number self.old.disk.pending)) (F.held self.old.folder).files (F.held self.new.folder).files }
+        ensures steady { OnOk result ((F.held self.new.folder).faults ≡ (F.held self.old.folder).faults) }
+        ensures later { (F.held self.old.folder).faults ≤ (F.held self.new.folder).faults }
+        ensures in_step { DiskInStep (F.held self.old.folder) self.old.disk → OnOk result (DiskInStep (F.held self.new.folder) self.new.disk) }
+        ensures stands { IsStore (F.held self.new.folder) self.new.disk }
+    {
+        let Some(temp) = self.pending.temp_of(entry) else {
+            return Err(Error::NotPending);
+        };
+        add_to(&mut self.folder, temp, bytes)
+    }
+
+    /// Stores the temporary file of an entry under its key, as the most recent, with the size that the file
+    /// has, and closes the reservation. The least recent go where they have to, and their files.
+    ///
+    /// Refused, with the entry handed back and its reservation open, as `Error::NotPending` (exactly where
+    /// this cache has no open reservation with the entry's number, key and size), `Error::FileTooLarge` and
+    /// `Error::PendingSpace`, in this order, which leave all as it was; and as `Error::Io` or for want of
+    /// memory, which leave the list as it was, or the key out and some of the least recent gone, none more
+    /// than had to go.
+    pub fn commit(
+        &mut self,
+        entry: LruDiskCacheAddEntry,
+    ) -> std::result::Result<(), (Error, LruDiskCacheAddEntry)>
+        ensures ok { OnOk result ((n : _) × HasSize self.old.disk entry (F.held self.old.folder) n × (commit_verdict self.old.disk entry n ≡ Ok tt) × (self.new.disk ≡ committed self.old.disk entry n) × Made (files_placed self.old.disk.root (entry_path self.old.disk entry) (self.old.disk.root ++ entry.key) (dropped (room_for self.old.disk entry n) (without_key entry.key self.old.disk.entries))) (F.held self.old.folder).files (F.held self.new.folder).files) }
+        ensures pending { OnOk result (is_pending entry self.old.disk.pending ≡ true) }
+        ensures content { OnOk result (Became (λ old new. file_at new (self.old.disk.root ++ entry.key) ≡ file_at old (entry_path self.old.disk entry)) (F.held self.old.folder).files (F.held self.new.folder).files) }
+        ensures back { IfErr result (λ e. e.1 ≡ entry) }
+        ensures fails { IfErr result (λ e. CommitFails entry e.0 self.old.disk self.new.disk (F.held self.old.folder) (F.held self.new.folder)) }
+        ensures kept { OnErr result (Became (Keeps self.old.disk.root self.new.disk.entries) (F.held self.old.folder).files (F.held self.new.folder).files) }
+        ensures reserved { Became (KeepsReserved (without_number entry.number self.old.disk.pending)) (F.held self.old.folder).files (F.held self.new.folder).files }
+        ensures others { Became (ButUnder self.old.disk.root) (F.held self.old.folder).files (F.held self.new.folder).files }
+        ensures steady { OnOk result ((F.held self.new.folder).faults ≡ (F.held self.old.folder).faults) }
+        ensures later { (F.held self.old.folder).faults ≤ (F.held self.new.folder).faults }
+        ensures in_step { DiskInStep (F.held self.old.folder) self.old.disk → OnOk result (DiskInStep (F.held self.new.folder) self.new.disk) }
+        ensures stands { IsStore (F.held self.new.folder) self.new.disk }
+    {
+        match self.commit_entry(&entry) {
+            Ok(()) => {
+                let _number = entry.spend();
+                Ok(())
+            }
+            Err(error) => Err((error, entry)),
+        }
+    }
+
+    /// Closes the reservation of an entry and removes its temporary file. It takes no memory of its own, and
+    /// a file that is missing already is no fault.
+    ///
+    /// Refused as `Error::NotPending` exactly where this cache has no open reservation with the entry's
+    /// number, key and size, which leaves all as it was and alone hands the entry back; and as `Error::Io`
+    /// or for want of the folder's memory, which leave the reservation closed.
+    pub fn abandon(
+        &mut self,
+        entry: LruDiskCacheAddEntry,
+    ) -> std::result::Result<(), (Error, Option<LruDiskCacheAddEntry>)>
+        ensures ok { OnOk result (self.new.disk ≡ abandoned self.old.disk entry) }
+        ensures pending { OnOk result (is_pending entry self.old.disk.pending ≡ true) }
+        ensures gone { OnOk result (Holds (F.held self.new.folder) (Lacks (entry_path self.old.disk entry))) }
+        ensures exact { OnOk result (Became (λ old new. new ≡ without (entry_path self.old.disk entry) old) (F.held self.old.folder).files (F.held self.new.folder).files) }
+        ensures fails { IfErr result (λ e. AbandonFails entry e.0 e.1 self.old.disk self.new.disk (F.held self.old.folder) (F.held self.new.folder)) }
+        ensures others { Became (ButAt (entry_path self.old.disk entry)) (F.held self.old.folder).files (F.held self.new.folder).files }
+        ensures kept { Became (Keeps self.old.disk.root self.old.disk.entries) (F.held self.old.folder).files (F.held self.new.folder).files }
+        ensures reserved { Became (KeepsReserved (without_number entry.number self.old.disk.pending)) (F.held self.old.folder).files (F.held self.new.folder).files }
+        ensures steady { OnOk result ((F.held self.new.folder).faults ≡ (F.held self.old.folder).faults) }
+        ensures later { (F.held self.old.folder).faults ≤ (F.held self.new.folder).faults }
+        ensures in_step { DiskInStep (F.held self.old.folder) self.old.disk → OnOk result (DiskInStep (F.held self.new.folder) self.new.disk) }
+        ensures stands { IsStore (F.held self.new.folder) self.new.disk }
+    {
+        let Some(temp) = self.pending.temp_of(&entry) else {
+            return Err((Error::NotPending, Some(entry)));
+        };
+        let answer = remove_at(&mut self.folder, temp);
+        self.pending.settle(entry.spend());
+        closed(answer)
+    }
+
+    // How many bytes the temporary file of an entry has.
+    fn entry_size(&mut self, entry: &LruDiskCacheAddEntry) -> Result<u64>
+        ensures key { OnOk result (is_key entry.now.key ≡ true) }
+        ensures now { IfOk result (λ n. HasSize self.new.disk entry.now (F.held self.new.folder) n) }
+        ensures stands { IsStore (F.held self.new.folder) self.new.disk }
+        ensures size { IfOk result (λ n. HasSize self.old.disk entry.now (F.held self.old.folder) n) }
+        ensures pending { OnOk result (is_pending entry.now self.old.disk.pending ≡ true) }
+        ensures same { OnOk result (F.held self.new.folder ≡ F.held self.old.folder) }
+        ensures fails { IfErr result (λ e. WriteFails entry.now e self.old.disk self.new.disk (F.held self.old.folder) (F.held self.new.folder)) }
+        ensures disk { self.new.disk ≡ self.old.disk }
+        ensures files { (F.held self.new.folder).files ≡ (F.held self.old.folder).files }
+        ensures later { (F.held self.old.folder).faults ≤ (F.held self.new.folder).faults }
+    {
+        let Some(temp) = self.pending.temp_of(entry) else {
+            return Err(Error::NotPending);
+        };
+        measure(&mut self.folder, temp)
+    }
+
+    // Whether the file of an entry may be stored with a size. Gives what the other entries may sum to then.
+    fn admit_entry(&self, entry: &LruDiskCacheAddEntry, size: u64) -> Result<u64>
+        ensures verdict { OnOk result (commit_verdict self.now.disk entry.now size ≡ Ok tt) }
+        ensures room { IfOk result (λ n. n ≡ room_for self.now.disk entry.now size) }
+        ensures fits { IfOk result (λ n. n + size + held_beside self.now.disk entry.now ≡ self.now.disk.capacity) }
+        ensures fails { IfErr result (λ e. commit_verdict self.now.disk entry.now size ≡ Err e) }
+        ensures which { IfErr result (λ e. (e ≡ Error.FileTooLarge) ⊎ (e ≡ Error.PendingSpace)) }
+    {
+        let capacity = self.table.capacity();
+        if size > capacity {
+            return Err(Error::FileTooLarge);
+        }
+        let beside = self.held_by_others(entry.number());
+        if size > capacity - beside {
+            return Err(Error::PendingSpace);
+        }
+        Ok(capacity - (beside + size))
+    }
+
+    // The sum of the sizes that the reservations of other numbers announced.
+    #[tactic(auto, using(crate::proofs::Reserving::held_without))]
+    fn held_by_others(&self, number: u64) -> u64
+        ensures held { result ≡ held_size (without_number number self.now.disk.pending) }
+        ensures fits { result ≤ self.now.disk.capacity }
+    {
+        let _capacity = self.table.capacity();
+        self.pending.held_beside(number)
+    }
+
+    // What a commit does, but for spending the entry.
+    fn commit_entry(&mut self, entry: &LruDiskCacheAddEntry) -> Result<()>
+        ensures ok { OnOk result ((n : _) × HasSize self.old.disk entry.now (F.held self.old.folder) n × (commit_verdict self.old.disk entry.now n ≡ Ok tt) × (self.new.disk ≡ committed self.old.disk entry.now n) × Made (files_placed self.old.disk.root (entry_path self.old.disk entry.now) (self.old.disk.root ++ entry.now.key) (dropped (room_for self.old.disk entry.now n) (without_key entry.now.key self.old.disk.entries))) (F.held self.old.folder).files (F.held self.new.folder).files) }
+        ensures pending { OnOk result (is_pending entry.now self.old.disk.pending ≡ true) }
+        ensures content { OnOk result (Became (λ old new. file_at new (self.old.disk.root ++ entry.now.key) ≡ file_at old (entry_path self.old.disk entry.now)) (F.held self.old.folder).files (F.held self.new.folder).files) }
+        ensures fails { IfErr result (λ e. CommitFails entry.now e self.old.disk self.new.disk (F.held self.old.folder) (F.held self.new.folder)) }
+        ensures kept { OnErr result (Became (Keeps self.old.disk.root self.new.disk.entries) (F.held self.old.folder).files (F.held self.new.folder).files) }
+        ensures reserved { Became (KeepsReserved (without_number entry.now.number self.old.disk.pending)) (F.held self.old.folder).files (F.held self.new.folder).files }
+        ensures others { Became (ButUnder self.old.disk.root) (F.held self.old.folder).files (F.held self.new.folder).files }
+        ensures steady { OnOk result ((F.held self.new.folder).faults ≡ (F.held self.old.folder).faults) }
+        ensures later { (F.held self.old.folder).faults ≤ (F.held self.new.folder).faults }
+        ensures in_step { DiskInStep (F.held self.old.folder) self.old.disk → OnOk result (DiskInStep (F.held self.new.folder) self.new.disk) }
+        ensures stands { IsStore (F.held self.new.folder) self.new.disk }
+    {
+        self.shown();
+        let size = match self.entry_size(entry) {
+            Ok(size) => size,
+            Err(error) => return Err(error),
+        };
+        let limit = match self.admit_entry(entry, size) {
+            Ok(limit) => limit,
+            Err(refusal) => return Err(refusal),
+        };
+        let number = entry.number();
+        let Ok(arrival) = arrival_of(&self.root, number, entry.key(), size, limit) else {
+            return Err(Error::Memory);
+        };
+        match fill(&mut self.folder, &mut self.table, &self.root, &arrival) {
+            Ok(()) => {
+                self.pending.settle(number);
+                Ok(())
+            }
+            Err(fault) => {
+                self.pending.doubt(number);
+                Err(io(fault))
+            }
+        }
+    }
+}
+
+// The answer of an entry that was pending, by that of the removal of its file.
+fn closed(
+    answer: std::result::Result<(), FolderFault>,
+) -> std::result::Result<(), (Error, Option<LruDiskCacheAddEntry>)>
+    ensures { result ≡ abandon_answer answer }
+{
+    match answer {
+        Ok(()) => Ok(()),
+        Err(fault) => Err((io(fault), None)),
+    }
+}

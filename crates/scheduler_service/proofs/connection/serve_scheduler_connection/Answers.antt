@@ -1,0 +1,16 @@
+use Rattle.std.proofs.Common.{ap, sym, ◌∙◌}
+use Rattle.http_connections.proofs.ConnectionLemmas.{sent}
+use Rattle.scheduler_service.proofs.connection.serve_scheduler_connection.Goals as goal
+
+pub returns-in-Ok-replied-clause-served : goal.returns-in-Ok-replied-clause-served
+returns-in-Ok-replied-clause-served g c =
+    let alone = g.met.L.Link.writes_alone in
+    let same = ap (λ p. p.0) (sym (alone c.take.new.link) ∙ (sym c.send.ensures.apart ∙ alone c.send.new.link)) in
+    sent _ _ _ c.in-Ok.request c.in-Ok-replied.reply c.send.result _ _ _ _ _ _ _ _ _ _ _
+    c.in-Ok.ensures.cut same c.in-Ok.ensures.writes.0 c.in-Ok.ensures.writes.1 c.in-Ok-replied.ensures.replied
+    (record {
+      answered = c.send.ensures.answered;
+      failed = c.send.ensures.failed;
+      memory = c.send.ensures.memory;
+      no_read = c.send.ensures.no_read;
+    })

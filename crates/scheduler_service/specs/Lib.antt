@@ -1,0 +1,4 @@
+pub mod Checks
+pub mod Connection
+pub mod Replied
+pub mod Requested

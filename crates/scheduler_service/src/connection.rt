@@ -1,0 +1,117 @@
+//! Serving one connection of a scheduler: take, answer, send.
+ghost use Rattle.std.specs.Prelude.{◌≡◌, IfOk};
+ghost use Rattle.sched.specs.Outside.{moments};
+ghost use Rattle.sched.specs.Pass.{held_of};
+ghost use Rattle.scheduler_service.specs.Connection.{IsReplied};
+ghost use Rattle.http_connections.specs.Served.{IsServedBy};
+ghost use Rattle.http_routes.specs.Route.{IsRouted};
+
+use crate::answer::answer;
+use crate::route::route;
+use dist_token::checks::{ClientAuthCheck, ServerAuthCheck};
+use dist_token::job_token::JWTJobAuthorizer;
+use dist_types::addr::Addr;
+use dist_types::clock::Clock;
+use dist_types::dialer::Dialer;
+use dist_types::fault::Memory;
+use dist_types::link::Link;
+use dist_types::source::ReadError;
+use http_connections::form::form_of;
+use http_connections::send::send;
+use http_connections::served::Served;
+use http_connections::take::take;
+use http_head::request::Request;
+use http_routes::reply::Response;
+use sched::pass::Pass;
+use sched::scheduler::Scheduler;
+use std::alloc::Global;
+use std::sync::Wait;
+
+/// The reply to what was taken. Refused for want of memory alone.
+fn reply_to<R: Wait, D: Dialer, C: Clock, K: ClientAuthCheck, V: ServerAuthCheck>(
+    rt: &R,
+    alloc: Global,
+    scheduler: &Scheduler<JWTJobAuthorizer>,
+    pass: &mut Pass,
+    peer: Addr,
+    dialer: &mut D,
+    clock: &mut C,
+    client: &mut K,
+    server: &V,
+    request: &Option<Request>,
+) -> Result<Response, Memory>
+    ensures replied { IfOk result (IsReplied (λ r. IsRouted K.may_answer K.shown (V.server_of server.now) r peer) request.now
+        (record {
+          means = record { pass = pass.old; clock = moments C.moments C.last clock.old; asked = D.asked dialer.old; faults = D.faults dialer.old };
+          client = client.old;
+        })
+        (record {
+          means = record { pass = pass.new; clock = moments C.moments C.last clock.new; asked = D.asked dialer.new; faults = D.faults dialer.new };
+          client = client.new;
+        })) }
+    ensures holds { held_of pass.new ≡ held_of pass.old }
+{
+    let now = clock.now();
+    let routed = route(alloc, request, peer, now, client, server)?;
+    answer(
+        rt,
+        alloc,
+        scheduler,
+        pass,
+        dialer,
+        clock,
+        form_of(request),
+        routed,
+    )
+}
+
+/// Takes one request, answers it, and sends the reply. ReadFault and WriteFault come only where that half's count
+/// rose; ReadFault and Memory write nothing. An end of input inside a request gets the reply to a bad head.
+/// Whatever it answers, the pass holds what it held.
+pub fn serve_scheduler_connection<
+    R: Wait,
+    L: Link,
+    D: Dialer,
+    C: Clock,
+    K: ClientAuthCheck,
+    V: ServerAuthCheck,
+>(
+    rt: &R,
+    alloc: Global,
+    scheduler: &Scheduler<JWTJobAuthorizer>,
+    pass: &mut Pass,
+    link: &mut L,
+    peer: Addr,
+    dialer: &mut D,
+    clock: &mut C,
+    client: &mut K,
+    server: &V,
+) -> Served
+    ensures served { IsServedBy (IsReplied (λ r. IsRouted K.may_answer K.shown (V.server_of server.now) r peer))
+        (record { left = L.left link.old; held = L.held link.old; reads = L.Source.faults link.old; writes = L.Sink.faults link.old })
+        (record { left = L.left link.new; held = L.held link.new; reads = L.Source.faults link.new; writes = L.Sink.faults link.new })
+        (record {
+          means = record { pass = pass.old; clock = moments C.moments C.last clock.old; asked = D.asked dialer.old; faults = D.faults dialer.old };
+          client = client.old;
+        })
+        (record {
+          means = record { pass = pass.new; clock = moments C.moments C.last clock.new; asked = D.asked dialer.new; faults = D.faults dialer.new };
+          client = client.new;
+        })
+        result }
+    ensures holds { held_of pass.new ≡ held_of pass.old }
+{
+    let request = match take(alloc, link) {
+        Ok(request) => request,
+        Err(ReadError::Failed) => return Served::ReadFault,
+        Err(ReadError::Memory) => return Served::Memory,
+        Err(ReadError::TooLong) => unreachable!(),
+    };
+    let replied = reply_to(
+        rt, alloc, scheduler, pass, peer, dialer, clock, client, server, &request,
+    );
+    match replied {
+        Ok(reply) => send(alloc, link, &reply),
+        Err(Memory) => Served::Memory,
+    }
+}

@@ -1,0 +1,37 @@
+//! What was taken of a connection asks of the scheduler.
+ghost use Rattle.std.specs.Prelude.{IfOk};
+ghost use Rattle.scheduler_service.specs.Connection.{Asks};
+ghost use Rattle.http_routes.specs.Route.{IsRouted};
+
+use dist_token::checks::{ClientAuthCheck, ServerAuthCheck};
+use dist_types::addr::Addr;
+use dist_types::fault::Memory;
+use http_head::request::Request;
+use http_routes::refusal::{Refusal, refusal_response};
+use http_routes::route::{SchedRouted, scheduler_route};
+use std::alloc::Global;
+
+/// What is asked at a moment, or the reply where there is nothing more to do. Refused for want of memory alone.
+pub fn route<K: ClientAuthCheck, V: ServerAuthCheck>(
+    alloc: Global,
+    request: &Option<Request>,
+    peer: Addr,
+    now: u64,
+    client: &mut K,
+    server: &V,
+) -> Result<SchedRouted, Memory>
+    ensures { IfOk result (λ routed.
+        Asks (λ r. IsRouted K.may_answer K.shown (V.server_of server.now) r peer)
+        request.now now client.old routed client.new) }
+{
+    match request {
+        None => match refusal_response(alloc, Refusal::BadHead) {
+            Ok(reply) => Ok(SchedRouted::Done(reply)),
+            Err(_) => Err(Memory),
+        },
+        Some(request) => match scheduler_route(alloc, request, peer, now, client, server) {
+            Ok(routed) => Ok(routed),
+            Err(_) => Err(Memory),
+        },
+    }
+}

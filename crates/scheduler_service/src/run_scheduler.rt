@@ -1,0 +1,134 @@
+//! A scheduler on a runtime of the system: its listener, its checks and its workers.
+use crate::checks::{ClientCheck, ServerCheck};
+use crate::workers::{Kit, serve_scheduler_workers};
+use base64::engine::general_purpose::URL_SAFE_NO_PAD;
+use dist_config::config::{ClientAuth, SchedulerConfig, ServerAuth};
+use dist_token::checks::{EqCheck, JwtServerCheck, PlainServerCheck};
+use dist_token::job_token::JWTJobAuthorizer;
+use dist_token::proxy::ProxyTokenCheck;
+use dist_token::server_token::{INSECURE_DIST_CLIENT_TOKEN, INSECURE_DIST_SERVER_TOKEN};
+use dist_types::clock::RealClock;
+use dist_types::tcp::TcpDialer;
+use http_connections::accepting::{Accepting, Sharing, WORKERS, socket_addr};
+use http_connections::start::{Start, StartFault};
+use sched::scheduler::Scheduler;
+use std::alloc::Global;
+use std::net::{Net, TcpListener, TcpStream};
+use std::sync::Wait;
+use std::sync::atomic::AtomicU64;
+use std::thread::Threads;
+use std::time::Clock;
+
+/// The key that a text in base64url says.
+fn key_of(alloc: Global, text: &str) -> Result<Vec<u8>, StartFault> {
+    match URL_SAFE_NO_PAD.decode(alloc, text.as_bytes()) {
+        Ok(key) => Ok(key),
+        Err(_) => Err(StartFault),
+    }
+}
+
+/// The check of servers' tokens that a configuration chooses.
+fn server_check(alloc: Global, auth: &ServerAuth) -> Result<ServerCheck, StartFault> {
+    match auth {
+        ServerAuth::Insecure => {
+            let token = String::from_str(alloc, INSECURE_DIST_SERVER_TOKEN)?;
+            Ok(ServerCheck::Plain(PlainServerCheck::new(token)))
+        }
+        ServerAuth::Token { token } => {
+            let token = String::from_str(alloc, token.get())?;
+            Ok(ServerCheck::Plain(PlainServerCheck::new(token)))
+        }
+        ServerAuth::JwtHS256 { secret_key } => {
+            let key = key_of(alloc, secret_key.get())?;
+            Ok(ServerCheck::Signed(JwtServerCheck::new(key)))
+        }
+    }
+}
+
+/// The check of clients' tokens that a configuration chooses. Refused where memory ran out, or where the URL of a peer is
+/// not of http.
+fn client_check<'a, R: Net>(
+    alloc: Global,
+    rt: &'a R,
+    auth: &ClientAuth,
+) -> Result<ClientCheck<TcpDialer<&'a R>>, StartFault> {
+    match auth {
+        ClientAuth::Insecure => {
+            let token = String::from_str(alloc, INSECURE_DIST_CLIENT_TOKEN)?;
+            Ok(ClientCheck::Fixed(EqCheck::new(token)))
+        }
+        ClientAuth::Token { token } => {
+            let token = String::from_str(alloc, token.get())?;
+            Ok(ClientCheck::Fixed(EqCheck::new(token)))
+        }
+        ClientAuth::ProxyToken { url, cache_secs } => {
+            let Ok(url) = url.clone() else {
+                return Err(StartFault);
+            };
+            if url.scheme() != "http" {
+                return Err(StartFault);
+            }
+            let dialer = TcpDialer::new(alloc, rt);
+            let check = ProxyTokenCheck::new(alloc, dialer, url, *cache_secs);
+            Ok(ClientCheck::Forwarded(check))
+        }
+    }
+}
+
+/// What a worker of a scheduler has for its own.
+type SchedulerKit<'a, R> = Kit<
+    Accepting<'a, R>,
+    TcpDialer<&'a R>,
+    RealClock<&'a R>,
+    ClientCheck<TcpDialer<&'a R>>,
+>;
+
+/// What one worker has for its own.
+fn scheduler_kit<'a, R: Net + Clock>(
+    sharing: &Sharing<'a, R>,
+    auth: &ClientAuth,
+) -> Result<SchedulerKit<'a, R>, StartFault> {
+    let client = client_check(sharing.alloc, sharing.rt, auth)?;
+    Ok(Kit {
+        tasks: sharing.tasks(),
+        dialer: TcpDialer::new(sharing.alloc, sharing.rt),
+        clock: RealClock::new(sharing.rt),
+        client,
+    })
+}
+
+/// What all workers have.
+fn scheduler_kits<'a, R: Net + Clock>(
+    sharing: &Sharing<'a, R>,
+    auth: &ClientAuth,
+) -> Result<Vec<SchedulerKit<'a, R>>, StartFault> {
+    let mut kits = Vec::with_capacity(sharing.alloc, WORKERS)?;
+    for _ in 0..WORKERS {
+        let kit = scheduler_kit(sharing, auth)?;
+        kits.push(kit)?;
+    }
+    Ok(kits)
+}
+
+/// Serves as a scheduler until the listener ends. Refused where the address is taken, a check cannot be made as the
+/// configuration says, or memory ran out.
+pub fn serve_scheduler<
+    R: Threads + Wait + Sync + Clock + Net<Listener = TcpListener, Stream = TcpStream>,
+>(rt: &R, alloc: Global, config: &SchedulerConfig, start: Start) -> Result<(), StartFault> {
+    let listener = TcpListener::bind(rt, socket_addr(config.public_addr))?;
+    let (scheduler, mut pass) = Scheduler::<JWTJobAuthorizer>::new(alloc, start.word)?;
+    let server = server_check(alloc, &config.server_auth)?;
+    let tickets = AtomicU64::new(0);
+    let sharing = Sharing {
+        rt,
+        alloc,
+        listener: &listener,
+        tickets: &tickets,
+        start,
+    };
+    let kits = scheduler_kits(&sharing, &config.client_auth)?;
+    match serve_scheduler_workers(rt, alloc, &scheduler, &mut pass, kits, &server) {
+        Ok(_) => Ok(()),
+        Err(_) => Err(StartFault),
+    }
+}

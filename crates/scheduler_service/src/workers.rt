@@ -1,0 +1,217 @@
+//! Workers: each serves the connections of its kit in a thread of its own, and all come back.
+ghost use Rattle.std.specs.Prelude.{◌≡◌, ◌+◌, ◌<◌, ◌≤◌, [], ℕ, length, map, IfOk, OnOk, OnErr, slice_index_or, vec_len, vec_capacity};
+ghost use Rattle.std.specs.List.{sum_by};
+ghost use Rattle.sched.specs.Pass.{held_of, Rises};
+ghost use Rattle.http_connections.specs.Tally.{Worked};
+
+use crate::connection::serve_scheduler_connection;
+use dist_token::checks::{ClientAuthCheck, ServerAuthCheck};
+use dist_token::job_token::JWTJobAuthorizer;
+use dist_types::clock::Clock;
+use dist_types::dialer::Dialer;
+use dist_types::fault::Memory;
+use http_connections::tasks::Tasks;
+use sched::pass::Pass;
+use sched::scheduler::Scheduler;
+use std::alloc::Global;
+use std::sync::Wait;
+use std::thread;
+use std::thread::Threads;
+
+/// What one worker has for its own.
+#[derive(Drop)]
+pub struct Kit<T, D, C, K> {
+    /// Where its connections come from.
+    pub tasks: T,
+    /// How it asks build servers.
+    pub dialer: D,
+    /// Its clock.
+    pub clock: C,
+    /// Its check of clients' tokens.
+    pub client: K,
+}
+
+/// One worker.
+#[derive(Drop)]
+struct Worker<T, D, C, K> {
+    kit: Kit<T, D, C, K>,
+    pass: Pass,
+}
+
+/// Serves all connections of the worker's kit.
+fn work<
+    R: Wait,
+    T: Tasks,
+    D: Dialer + Drop,
+    C: Clock + Drop,
+    K: ClientAuthCheck + Drop,
+    V: ServerAuthCheck,
+>(
+    rt: &R,
+    alloc: Global,
+    scheduler: &Scheduler<JWTJobAuthorizer>,
+    server: &V,
+    worker: &mut Worker<T, D, C, K>,
+)
+    ensures worked { Worked (λ l. record { left = T.L.left l; held = T.L.held l; reads = T.L.Source.faults l; writes = T.L.Sink.faults l })
+        (T.told worker.old.kit.tasks) (T.told worker.new.kit.tasks) }
+    ensures holds { held_of worker.new.pass ≡ held_of worker.old.pass }
+{
+    for _ in rt.forever() {
+        let Some((mut link, peer)) = worker.kit.tasks.take() else {
+            return;
+        };
+        let served = serve_scheduler_connection(
+            rt,
+            alloc,
+            scheduler,
+            &mut worker.pass,
+            &mut link,
+            peer,
+            &mut worker.kit.dialer,
+            &mut worker.kit.clock,
+            &mut worker.kit.client,
+            server,
+        );
+        worker.kit.tasks.done(link, served);
+    }
+    unreachable!()
+}
+
+/// Runs all workers at once, and waits for all.
+fn work_all<
+    R: Threads + Wait + Sync,
+    T: Tasks,
+    D: Dialer + Drop + Send,
+    C: Clock + Drop + Send,
+    K: ClientAuthCheck + Drop,
+    V: ServerAuthCheck + Sync,
+>(
+    rt: &R,
+    alloc: Global,
+    scheduler: &Scheduler<JWTJobAuthorizer>,
+    server: &V,
+    workers: &mut [Worker<T, D, C, K>],
+)
+    ensures worked { (i : ℕ) (d : _) → i < length workers.old
+        → Worked (λ l. record { left = T.L.left l; held = T.L.held l; reads = T.L.Source.faults l; writes = T.L.Sink.faults l })
+        (T.told (slice_index_or workers.old i d).kit.tasks) (T.told (slice_index_or workers.new i d).kit.tasks) }
+    ensures holds { (i : ℕ) (d : _) → i < length workers.old
+        → held_of (slice_index_or workers.new i d).pass ≡ held_of (slice_index_or workers.old i d).pass }
+{
+    let threads = workers.len();
+    if threads == 0 {
+        return;
+    }
+    thread::for_each_mut(
+        rt,
+        workers,
+        threads,
+        &|_, w: &mut Worker<T, D, C, K>| -> ()
+            ensures worked { Worked (λ l. record { left = T.L.left l; held = T.L.held l; reads = T.L.Source.faults l; writes = T.L.Sink.faults l })
+                (T.told w.entry.now.kit.tasks) (T.told w.exit.now.kit.tasks) }
+            ensures holds { held_of w.exit.now.pass ≡ held_of w.entry.now.pass }
+        {
+            work(rt, alloc, scheduler, server, w);
+        },
+    );
+}
+
+/// A worker for each kit, each with a fresh pass of its own. Where memory ran out, the passes that were made are
+/// joined.
+fn hire<R: Wait, T: Tasks, D: Dialer + Drop, C: Clock + Drop, K: ClientAuthCheck + Drop>(
+    rt: &R,
+    scheduler: &Scheduler<JWTJobAuthorizer>,
+    pass: &mut Pass,
+    kits: Vec<Kit<T, D, C, K>>,
+    mut workers: Vec<Worker<T, D, C, K>>,
+) -> Result<Vec<Worker<T, D, C, K>>, Memory>
+    requires room { vec_len workers + vec_len kits ≤ vec_capacity workers }
+    requires fresh { workers.items ≡ [] }
+    ensures kits { IfOk result (λ ws. map (λ w. w.kit) ws.items ≡ kits.items) }
+    ensures hold { IfOk result (λ ws. sum_by (λ w. held_of w.pass) ws.items ≡ length kits.items) }
+    ensures same { OnOk result (pass.new ≡ pass.old) }
+    ensures joined { OnErr result ((n : ℕ) × Rises n (held_of pass.old) (held_of pass.new)) }
+{
+    for kit in kits {
+        match scheduler.split(rt, pass) {
+            Ok(new) => workers.push_reserved(Worker { kit, pass: new }),
+            Err(_) => {
+                dismiss(scheduler, pass, workers);
+                return Err(Memory);
+            }
+        }
+    }
+    Ok(workers)
+}
+
+/// Takes the passes of the workers in, and drops their kits.
+fn dismiss<T: Tasks, D: Dialer + Drop, C: Clock + Drop, K: ClientAuthCheck + Drop>(
+    scheduler: &Scheduler<JWTJobAuthorizer>,
+    pass: &mut Pass,
+    workers: Vec<Worker<T, D, C, K>>,
+)
+    ensures joined { Rises (sum_by (λ w. held_of w.pass) workers.items) (held_of pass.old) (held_of pass.new) }
+{
+    let _held = pass.held();
+    for worker in workers {
+        let Worker {
+            kit: _,
+            pass: theirs,
+        } = worker;
+        scheduler.join(pass, theirs);
+    }
+}
+
+/// Takes the passes of the workers in, and gives their kits back.
+fn gather<T: Tasks, D: Dialer + Drop, C: Clock + Drop, K: ClientAuthCheck + Drop>(
+    scheduler: &Scheduler<JWTJobAuthorizer>,
+    pass: &mut Pass,
+    workers: Vec<Worker<T, D, C, K>>,
+    mut kits: Vec<Kit<T, D, C, K>>,
+) -> Vec<Kit<T, D, C, K>>
+    requires room { vec_len kits + vec_len workers ≤ vec_capacity kits }
+    requires fresh { kits.items ≡ [] }
+    ensures kits { result.items ≡ map (λ w. w.kit) workers.items }
+    ensures joined { Rises (sum_by (λ w. held_of w.pass) workers.items) (held_of pass.old) (held_of pass.new) }
+{
+    let _held = pass.held();
+    for worker in workers {
+        let Worker { kit, pass: theirs } = worker;
+        scheduler.join(pass, theirs);
+        kits.push_reserved(kit);
+    }
+    kits
+}
+
+/// Runs a worker for each kit, and gives the kits back once all their connections were served; the workers' passes
+/// are joined, so that the pass then holds one more for each kit. Each link that a kit gave came back once, in order, with what its connection answered, and none is
+/// left. A worker that gets no thread is run by the caller. Refused for want of memory alone, before any connection
+/// was taken: the passes that were made are then joined, and the kits dropped.
+pub fn serve_scheduler_workers<
+    R: Threads + Wait + Sync,
+    T: Tasks,
+    D: Dialer + Drop + Send,
+    C: Clock + Drop + Send,
+    K: ClientAuthCheck + Drop,
+    V: ServerAuthCheck + Sync,
+>(
+    rt: &R,
+    alloc: Global,
+    scheduler: &Scheduler<JWTJobAuthorizer>,
+    pass: &mut Pass,
+    kits: Vec<Kit<T, D, C, K>>,
+    server: &V,
+) -> Result<Vec<Kit<T, D, C, K>>, Memory>
+    ensures len { IfOk result (λ back. length back.items ≡ length kits.items) }
+    ensures worked { IfOk result (λ back. (i : ℕ) (d : _) → i < length kits.items
+        → Worked (λ l. record { left = T.L.left l; held = T.L.held l; reads = T.L.Source.faults l; writes = T.L.Sink.faults l })
+        (T.told (slice_index_or kits.items i d).tasks) (T.told (slice_index_or back.items i d).tasks)) }
+    ensures holds { OnOk result (Rises (length kits.items) (held_of pass.old) (held_of pass.new)) }
+{
+    let back = Vec::with_capacity(alloc, kits.len())?;
+    let workers = Vec::with_capacity(alloc, kits.len())?;
+    let mut workers = hire(rt, scheduler, pass, kits, workers)?;
+    work_all(rt, alloc, scheduler, server, &mut workers);
+    Ok(gather(scheduler, pass, workers, back))
+}

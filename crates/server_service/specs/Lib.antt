@@ -1,0 +1,4 @@
+pub mod Heartbeat
+pub mod Replied
+pub mod Routed
+pub mod Told

@@ -1,0 +1,116 @@
+-- What a build server's calls answer, as it is replied: in JSON where that is wanted, else in binary.
+use Rattle.std.specs.Prelude.{◌≡◌, ℕ, List, drop, Bool, Option, Some, None, Result, Ok, Err, ⊤}
+use Rattle.dist_types.specs.Outgoing.{Peer}
+use Rattle.dist_types.specs.declared.dialer.Asked.{Asked}
+use Rattle.dist_types.specs.declared.ids.JobId.{JobId}
+use Rattle.dist_types.specs.declared.results.AssignJobResult.{AssignJobResult}
+use Rattle.dist_types.specs.declared.results.RunJobResult.{RunJobResult}
+use Rattle.dist_types.specs.declared.results.SubmitToolchainResult.{SubmitToolchainResult}
+use Rattle.dist_types.specs.declared.token_error.TokenError.{TokenError}
+use Rattle.dist_wire.specs.declared.run.RunJobHttpRequest.{RunJobHttpRequest}
+use Rattle.build_server.specs.Books.{Books}
+use Rattle.build_server.specs.Builds.{Order, Builder}
+use Rattle.build_server.specs.Rows.{Reports, IsSubmitOn, IsRunOn}
+use Rattle.build_server.specs.Rules.{Assigns, TellsAssign, Turns}
+use Rattle.build_server.specs.declared.fault.BuildCause.{BuildCause}
+use Rattle.build_server.specs.declared.fault.BuildCause.TheVariants as cause
+use Rattle.build_server.specs.declared.fault.ServerFault.{ServerFault}
+use Rattle.build_server.specs.declared.fault.ServerFault.TheVariants.{AlreadyAssigned, UpdateFailed, BuildFailed, Memory}
+use Rattle.http_head.specs.declared.request.Request.{Request}
+use Rattle.http_routes.specs.Fault.{fault_response_of}
+use Rattle.http_routes.specs.Replies.{assign_response, submit_response, run_response}
+use Rattle.http_routes.specs.declared.fault.BuildFailure.{BuildFailure}
+use Rattle.http_routes.specs.declared.fault.BuildFailure.TheVariants as failure
+use Rattle.http_routes.specs.declared.fault.RouteFault.{RouteFault}
+use Rattle.http_routes.specs.declared.fault.RouteFault.TheVariants as fault
+use Rattle.http_routes.specs.declared.reply.Response.{Response}
+use Rattle.http_routes.specs.declared.server_route.ServerRouted.{ServerRouted}
+use Rattle.http_routes.specs.declared.server_route.ServerRouted.TheVariants.{Assign, Submit, Run, Done}
+use Rattle.http_connections.specs.Form.{form_of}
+use Rattle.server_service.specs.Routed.{routed_of, body_of}
+use Rattle.server_service.specs.Told.{IsToldOf, lent_of}
+
+-- ---- replies
+
+-- why a build gave nothing, as it is told
+abbrev pub failure_of : BuildCause → BuildFailure
+failure_of cause.Unlisted = failure.NotCached
+failure_of cause.Folder = failure.Unreadable
+failure_of cause.Refused = failure.Refused
+
+-- why a call gives no answer, as it is told; want of memory is not told
+abbrev pub fault_of : ServerFault → Option RouteFault
+fault_of (AlreadyAssigned job) = Some (fault.AlreadyAssigned job)
+fault_of (UpdateFailed call) = Some (fault.UpdateFailed call)
+fault_of (BuildFailed why) = Some (fault.BuildFailed (failure_of why))
+fault_of Memory = None
+
+-- the reply tells that fault
+abbrev pub IsTold : Option RouteFault → Response → Type 0
+IsTold None reply = ⊥
+IsTold (Some f) reply = reply ≡ fault_response_of f
+
+-- the reply to an answer: its message, or its fault
+abbrev pub Replies : {X : Type 0} → (X → Response) → Result X ServerFault → Response → Type 0
+Replies message (Ok x) reply = reply ≡ message x
+Replies message (Err e) reply = IsTold (fault_of e) reply
+
+-- ---- what a connection's caller lends
+
+-- what a dialer tells: its record and its count of faults
+pub record Dialing : Type 0 where
+  pub asked : Option (List Asked)
+  pub faults : ℕ
+
+-- the keeper's books, where they are told, and what the dialer and the builder tell
+pub record Means : Type 0 where
+  pub kept : Option Books
+  pub dialing : Dialing
+  pub builder : Builder
+
+-- a requester over the dialer, as a call sees it
+abbrev pub telling : ℕ → Peer → Dialing → Reports
+telling name peer d = record { rows = None; faults = d.faults; lent = lent_of name peer d.asked }
+
+-- ---- the three calls, each with the answer that its reply tells
+
+-- the job is assigned by the keeper
+pub record IsAssignedAndTold (json : Bool) (job : JobId) (tc : List ℕ) (kept turned : Option Books) (reply : Response) : Type 0 where
+  pub answer : Result AssignJobResult ServerFault
+  pub turns : Turns (λ old new. Assigns job tc old new answer) kept turned
+  pub tells : TellsAssign job answer
+  pub told : Replies (assign_response json) answer reply
+
+-- the body is submitted as the job's archive, from a reader that never fails
+pub record IsSubmittedAndTold (peer : Peer) (json : Bool) (job : JobId) (body : List ℕ) (kept turned : Option Books) (old new : Dialing) (reply : Response) : Type 0 where
+  pub name : ℕ
+  pub left : Option (List ℕ)
+  pub answer : Result SubmitToolchainResult ServerFault
+  pub submitted : IsSubmitOn IsToldOf job kept turned (telling name peer old) (telling name peer new)
+      (record { left = Some body; faults = 0 }) (record { left = left; faults = 0 }) answer
+  pub told : Replies (submit_response json) answer reply
+
+-- what a run asks for, whose inputs begin at that place of the body
+abbrev pub order_of : RunJobHttpRequest → List ℕ → ℕ → Order
+order_of run body at = record { command = run.command; outputs = run.outputs; inputs = drop at body }
+
+-- the job is run
+pub record IsRunAndTold (peer : Peer) (json : Bool) (job : JobId) (order : Order) (old new : Means) (reply : Response) : Type 0 where
+  pub name : ℕ
+  pub answer : Result RunJobResult ServerFault
+  pub ran : IsRunOn IsToldOf job order old.kept new.kept (telling name peer old.dialing) (telling name peer new.dialing)
+      old.builder new.builder answer
+  pub told : Replies (run_response json) answer reply
+
+-- What is asked of a server is done, and the reply tells its answer; what its route answered changes nothing.
+abbrev pub IsDone : Peer → Bool → List ℕ → ServerRouted → Means → Means → Response → Type 0
+IsDone peer json body (Assign job tc) old new reply =
+    IsAssignedAndTold json job tc old.kept new.kept reply × (new.dialing ≡ old.dialing) × (new.builder ≡ old.builder)
+IsDone peer json body (Submit job) old new reply =
+    IsSubmittedAndTold peer json job body old.kept new.kept old.dialing new.dialing reply × (new.builder ≡ old.builder)
+IsDone peer json body (Run job run at) old new reply = IsRunAndTold peer json job (order_of run body at) old new reply
+IsDone peer json body (Done response) old new reply = (reply ≡ response) × (new ≡ old)
+
+-- The reply to what was taken: what it asks by its route is done, under the tokens that the verdict accepts.
+pub record IsReplied (verdict : ℕ → List ℕ → Result ⊤ TokenError) (peer : Peer) (request : Option Request) (old new : Means) (reply : Response) : Type 0 where
+  pub done : IsDone peer (form_of request) (body_of request) (routed_of verdict request) old new reply

@@ -1,0 +1,211 @@
+//! Doing what is asked of a build server, and the reply that tells its answer.
+ghost use Rattle.std.specs.Prelude.{◌≡◌, IfOk};
+ghost use Rattle.build_server.specs.Builds.{builder_of};
+ghost use Rattle.http_calls.specs.Urls.{IsHttp};
+ghost use Rattle.http_routes.specs.Fault.{fault_response_of};
+ghost use Rattle.http_routes.specs.Replies.{run_response};
+ghost use Rattle.server_service.specs.Replied.{failure_of, fault_of, IsTold, IsAssignedAndTold, IsSubmittedAndTold, IsRunAndTold, IsDone, order_of};
+ghost use Rattle.server_service.specs.Told.{peer_of};
+
+use crate::body::BodySource;
+use crate::route::inputs_of;
+use crate::telling::Telling;
+use build_server::fault::{BuildCause, ServerFault};
+use build_server::keeping::{Keeping, assign_on, run_on, submit_from};
+use dist_types::builder::BuilderIncoming;
+use dist_types::dialer::Dialer;
+use dist_types::fault::Memory;
+use dist_types::ids::JobId;
+use dist_types::results::RunJobResult;
+use dist_types::toolchain::Toolchain;
+use dist_wire::run::RunJobHttpRequest;
+use http_routes::fault::{BuildFailure, RouteFault};
+use http_routes::replies::{to_assignment, to_fault, to_run, to_submission};
+use http_routes::reply::Response;
+use http_routes::server_route::ServerRouted;
+use std::alloc::Global;
+use url::Url;
+
+/// Why a build gave nothing, as a reply tells it.
+fn failure_of(cause: BuildCause) -> BuildFailure
+    ensures { result ≡ failure_of cause }
+{
+    match cause {
+        BuildCause::Unlisted => BuildFailure::NotCached,
+        BuildCause::Folder => BuildFailure::Unreadable,
+        BuildCause::Refused => BuildFailure::Refused,
+    }
+}
+
+/// The reply that tells a fault.
+fn reply_fault(alloc: Global, fault: &RouteFault) -> Result<Response, Memory>
+    ensures { IfOk result (λ r. r ≡ fault_response_of fault.now) }
+{
+    let response = to_fault(alloc, fault)?;
+    Ok(response)
+}
+
+/// The reply to a call that gives no answer; none to want of memory.
+fn reply_refusal(alloc: Global, fault: ServerFault) -> Result<Response, Memory>
+    ensures { IfOk result (IsTold (fault_of fault)) }
+{
+    match fault {
+        ServerFault::AlreadyAssigned(job) => reply_fault(alloc, &RouteFault::AlreadyAssigned(job)),
+        ServerFault::UpdateFailed(call) => reply_fault(alloc, &RouteFault::UpdateFailed(call)),
+        ServerFault::BuildFailed(cause) => {
+            reply_fault(alloc, &RouteFault::BuildFailed(failure_of(cause)))
+        }
+        ServerFault::Memory => Err(Memory),
+    }
+}
+
+/// Assigns a job with its toolchain.
+fn assign<K: Keeping>(
+    alloc: Global,
+    keeper: &mut K,
+    json: bool,
+    job: JobId,
+    tc: Toolchain,
+) -> Result<Response, Memory>
+    ensures { IfOk result (IsAssignedAndTold json job tc (K.kept keeper.old) (K.kept keeper.new)) }
+{
+    match assign_on(keeper, job, tc) {
+        Ok(answer) => {
+            let response = to_assignment(alloc, json, &answer)?;
+            Ok(response)
+        }
+        Err(fault) => reply_refusal(alloc, fault),
+    }
+}
+
+/// Submits a body as the archive of a job's toolchain.
+fn submit<K: Keeping, D: Dialer>(
+    alloc: Global,
+    keeper: &mut K,
+    dialer: &mut D,
+    scheduler: &Url,
+    scheduler_auth: &str,
+    json: bool,
+    job: JobId,
+    body: &[u8],
+) -> Result<Response, Memory>
+    requires http { IsHttp scheduler.now }
+    ensures told { IfOk result (IsSubmittedAndTold (peer_of scheduler.now scheduler_auth.now) json job body.now
+        (K.kept keeper.old) (K.kept keeper.new)
+        (record { asked = D.asked dialer.old; faults = D.faults dialer.old })
+        (record { asked = D.asked dialer.new; faults = D.faults dialer.new })) }
+{
+    let mut telling = Telling::new(alloc, dialer, scheduler, scheduler_auth);
+    let mut archive = BodySource::new(body);
+    match submit_from(alloc, keeper, &mut telling, job, &mut archive) {
+        Ok(answer) => {
+            let response = to_submission(alloc, json, &answer)?;
+            Ok(response)
+        }
+        Err(fault) => reply_refusal(alloc, fault),
+    }
+}
+
+/// The reply to a run that gave an answer.
+fn reply_ran(alloc: Global, json: bool, answer: RunJobResult) -> Result<Response, Memory>
+    ensures { IfOk result (λ r. r ≡ run_response json answer) }
+{
+    let response = to_run(alloc, json, &answer)?;
+    Ok(response)
+}
+
+/// Runs a job over these inputs.
+fn run<K: Keeping, D: Dialer, B: BuilderIncoming>(
+    alloc: Global,
+    keeper: &mut K,
+    dialer: &mut D,
+    builder: &mut B,
+    scheduler: &Url,
+    scheduler_auth: &str,
+    json: bool,
+    job: JobId,
+    run: &RunJobHttpRequest,
+    inputs: &[u8],
+) -> Result<Response, Memory>
+    requires http { IsHttp scheduler.now }
+    ensures told { IfOk result (IsRunAndTold (peer_of scheduler.now scheduler_auth.now) json job
+        (record { command = run.now.command; outputs = run.now.outputs; inputs = inputs.now })
+        (record {
+          kept = K.kept keeper.old;
+          dialing = record { asked = D.asked dialer.old; faults = D.faults dialer.old };
+          builder = builder_of B.built B.refusals builder.old;
+        })
+        (record {
+          kept = K.kept keeper.new;
+          dialing = record { asked = D.asked dialer.new; faults = D.faults dialer.new };
+          builder = builder_of B.built B.refusals builder.new;
+        })) }
+{
+    let mut telling = Telling::new(alloc, dialer, scheduler, scheduler_auth);
+    let outputs = run.outputs.get();
+    match run_on(
+        keeper,
+        &mut telling,
+        builder,
+        job,
+        &run.command,
+        outputs,
+        inputs,
+    ) {
+        Ok(answer) => reply_ran(alloc, json, answer),
+        Err(fault) => reply_refusal(alloc, fault),
+    }
+}
+
+/// Does what is asked of a build server, whose scheduler stands at a base. Refused for want of memory alone.
+pub fn answer<K: Keeping, D: Dialer, B: BuilderIncoming>(
+    alloc: Global,
+    keeper: &mut K,
+    dialer: &mut D,
+    builder: &mut B,
+    scheduler: &Url,
+    scheduler_auth: &str,
+    json: bool,
+    body: &[u8],
+    asked: ServerRouted,
+) -> Result<Response, Memory>
+    requires http { IsHttp scheduler.now }
+    ensures done { IfOk result (IsDone (peer_of scheduler.now scheduler_auth.now) json body.now asked
+        (record {
+          kept = K.kept keeper.old;
+          dialing = record { asked = D.asked dialer.old; faults = D.faults dialer.old };
+          builder = builder_of B.built B.refusals builder.old;
+        })
+        (record {
+          kept = K.kept keeper.new;
+          dialing = record { asked = D.asked dialer.new; faults = D.faults dialer.new };
+          builder = builder_of B.built B.refusals builder.new;
+        })) }
+{
+    match asked {
+        ServerRouted::Assign(job, tc) => assign(alloc, keeper, json, job, tc),
+        ServerRouted::Submit(job) => submit(
+            alloc,
+            keeper,
+            dialer,
+            scheduler,
+            scheduler_auth,
+            json,
+            job,
+            body,
+        ),
+        ServerRouted::Run(job, asked, at) => run(
+            alloc,
+            keeper,
+            dialer,
+            builder,
+            scheduler,
+            scheduler_auth,
+            json,
+            job,
+            &asked,
+            inputs_of(body, at),
+        ),
+        ServerRouted::Done(response) => Ok(response),
+    }
+}
