@@ -269,11 +269,9 @@ fn folder_with(alloc: Global, before: u64, after: u64) -> Result<MemFolder, Fail
     first.push(before)?;
     let mut last = Vec::new(alloc);
     last.push(after)?;
-    Ok(MemFolder::new(
-        alloc,
-        Vec::new(alloc),
-        Calls::new(first, last),
-    ))
+    let none = Vec::new(alloc);
+    let calls = Calls::new(first, last);
+    Ok(MemFolder::new(alloc, none, calls))
 }
 
 /// The first steps of an order, with these calls failing. Gives how many calls the folder got.

@@ -142,7 +142,7 @@ but_commute a b (e ∷ es) = by (bytes_eq a e.0) (bytes_eq b e.0) refl refl (but
     by false false p q rest =
         out_kept a e (but_key b es) p ∙ (ap (λ l. e ∷ l) rest ∙ sym (out_kept b e (but_key a es) q))
 
-but_each_later : (a : List ℕ) (gone es : Archives) → but_key a (but_each gone es) ≡ but_each gone (but_key a es)
+pub but_each_later : (a : List ℕ) (gone es : Archives) → but_key a (but_each gone es) ≡ but_each gone (but_key a es)
 but_each_later a [] es = refl
 but_each_later a (g ∷ gone) es = but_each_later a gone (but_key g.0 es) ∙ ap (but_each gone) (but_commute a g.0 es)
 
@@ -159,7 +159,7 @@ out_once id (e ∷ es) h = by (bytes_eq id e.0) refl (out_once id es h.1)
     by false other rest = ap (λ l. e ∷ l) rest
 
 -- those of a front that go leave the rest
-front_out : (gone rest : Archives) → IsDistinct bytes_eq (keys_of (gone ++ rest)) → but_each gone (gone ++ rest) ≡ rest
+pub front_out : (gone rest : Archives) → IsDistinct bytes_eq (keys_of (gone ++ rest)) → but_each gone (gone ++ rest) ≡ rest
 unfolding IsDistinct
 front_out [] rest h = refl
 front_out (g ∷ gone) rest h =
@@ -184,9 +184,15 @@ distinct_out test (e ∷ es) h =
     others_out P test (e ∷ es) h =
         elim (test e.0) as (λ b. AllByRecursion P (keys_of (cond b es (e ∷ remove_entry test es)))) [ true ↦ h.1 | false ↦ (h.0, others_out P test es h.1) ]
 
+-- of what stays where a key is stored nothing goes
+pub rest_out : (id : List ℕ) (limit : ℕ) (es : Archives) → IsDistinct bytes_eq (keys_of es) → but_each (dropped limit (without_key id es)) (but_key id es) ≡ trim limit (without_key id es)
+rest_out id limit es distinct =
+    ap (but_each (dropped limit (without_key id es))) (sym (out_once id es distinct) ∙ dropped_and_rest limit (without_key id es))
+    ∙ front_out (dropped limit (without_key id es)) (trim limit (without_key id es)) (subst (λ l. IsDistinct bytes_eq (keys_of l)) (dropped_and_rest limit (without_key id es)) (distinct_out (bytes_eq id) es distinct))
+
 -- ---- a store
 
-there_still : (root temp bytes : List ℕ) (gone : Entries) (fs : Files) → Avoids root temp gone → file_at fs temp ≡ Some bytes → file_at (without_each root gone fs) temp ≡ Some bytes
+pub there_still : (root temp bytes : List ℕ) (gone : Entries) (fs : Files) → Avoids root temp gone → file_at fs temp ≡ Some bytes → file_at (without_each root gone fs) temp ≡ Some bytes
 there_still root temp bytes [] fs avoids is = is
 there_still root temp bytes (g ∷ gone) fs avoids is =
     there_still root temp bytes gone (without (root ++ g.0) fs) avoids.1 (without_other (root ++ g.0) temp fs avoids.0 ∙ is)
@@ -216,7 +222,7 @@ in_stored path id bytes n limit gone es fs is keys gone_is distinct in_step =
     ∙ (but_each_later id (dropped limit (without_key id es)) es ∙ rest)))
 
 -- once one is looked up
-found_entry : (id : List ℕ) (n : ℕ) (es : Archives) → lookup (bytes_eq id) es ≡ Some n → lookup_entry (bytes_eq id) es ≡ Some (id, n)
+pub found_entry : (id : List ℕ) (n : ℕ) (es : Archives) → lookup (bytes_eq id) es ≡ Some n → lookup_entry (bytes_eq id) es ≡ Some (id, n)
 found_entry id n [] found = absurd (true≢false (sym (ap is_some found)))
 found_entry id n (e ∷ es) found = by (bytes_eq id e.0) refl found (found_entry id n es)
   where

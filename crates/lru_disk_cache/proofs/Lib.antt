@@ -31,3 +31,5 @@ pub mod OverFolder
 pub mod Asides
 pub mod Reserving
 pub mod Moves
+pub mod KeySteps
+pub mod DiskSteps

@@ -91,7 +91,7 @@ out_kept k e es other = ap (λ b. cond (not b) (e ∷ but_key k es) (but_key k e
 pub out_gone : (k : List ℕ) (e : List ℕ × ℕ) (es : Entries) → bytes_eq k e.0 ≡ true → but_key k (e ∷ es) ≡ but_key k es
 out_gone k e es same = ap (λ b. cond (not b) (e ∷ but_key k es) (but_key k es)) same
 
-listing_without : (root k : List ℕ) (fs : Files) → listing root (without (root ++ k) fs) ≡ but_key k (listing root fs)
+pub listing_without : (root k : List ℕ) (fs : Files) → listing root (without (root ++ k) fs) ≡ but_key k (listing root fs)
 listing_without root k [] = refl
 listing_without root k (f ∷ fs) = by (bytes_eq (root ++ k) f.0) (is_behind root f.0) refl refl (listing_without root k fs)
   where

@@ -207,7 +207,7 @@ differ_more (q ∷ qs) r h free =
 parts_of : (a b c : Bool) → (a && b && c) ≡ true → (a ≡ true) × (c ≡ true)
 parts_of a b c h = let two = both_true (a && b) c h in ((both_true a b two.0).0, two.1)
 
-own_path : (root : List ℕ) (e : AddEntry) (r : Reservation) → is_of e r ≡ true → IsReserved root r → (r.temp ≡ root ++ temp_name e.number) × (e.number < 2 ^ 64) × (is_key e.key ≡ true)
+pub own_path : (root : List ℕ) (e : AddEntry) (r : Reservation) → is_of e r ≡ true → IsReserved root r → (r.temp ≡ root ++ temp_name e.number) × (e.number < 2 ^ 64) × (is_key e.key ≡ true)
 own_path root e r own h =
     let two = parts_of (r.number == e.number) (r.size == e.size) (bytes_eq e.key r.key) own in
     let same : r.number ≡ e.number = eqb-true r.number e.number two.0 in
@@ -414,3 +414,48 @@ closed_fails entry d e (Err Failed) result old new is found counts disk pending 
     subst (λ r. IfErr r (λ x. AbandonFails entry x.0 x.1 d e old new)) (sym is) (refl, disk, pending, counts.0)
 closed_fails entry d e (Err Memory) result old new is found counts disk pending =
     subst (λ r. IfErr r (λ x. AbandonFails entry x.0 x.1 d e old new)) (sym is) (refl, disk, pending)
+
+-- ---- closing one gives its size back
+
+none_taken : (n : ℕ) (ps : List Reservation) → has n ps ≡ false → without_number n ps ≡ ps
+none_taken n [] h = refl
+none_taken n (r ∷ rs) h =
+    let two = none_first (r.number == n) (has n rs) h in
+    ap (λ b. cond (not b) (r ∷ without_number n rs) (without_number n rs)) two.0 ∙ ap (λ l. r ∷ l) (none_taken n rs two.1)
+
+own_size : (e : AddEntry) (r : Reservation) → is_of e r ≡ true → (r.number ≡ e.number) × (r.size ≡ e.size)
+own_size e r own =
+    let two = both_true (r.number == e.number && r.size == e.size) (bytes_eq e.key r.key) own in
+    let one = both_true (r.number == e.number) (r.size == e.size) two.0 in
+    (eqb-true r.number e.number one.0, eqb-true r.size e.size one.1)
+
+pending_has : (e : AddEntry) (ps : List Reservation) → is_pending e ps ≡ true → has e.number ps ≡ true
+pending_has e [] h = absurd (true≢false (sym h))
+pending_has e (r ∷ rs) h = by (is_of e r) refl h (pending_has e rs)
+  where
+    by : (b : Bool) → is_of e r ≡ b → (b || is_pending e rs) ≡ true → (is_pending e rs ≡ true → has e.number rs ≡ true) → ((r.number == e.number) || has e.number rs) ≡ true
+    by true own some rest =
+        let two = both_true (r.number == e.number && r.size == e.size) (bytes_eq e.key r.key) own in
+        ap (λ b. b || has e.number rs) (both_true (r.number == e.number) (r.size == e.size) two.0).0
+    by false other some rest = either (r.number == e.number) (rest some)
+      where
+        either : (b : Bool) → has e.number rs ≡ true → (b || has e.number rs) ≡ true
+        either true later = refl
+        either false later = later
+
+pub gives_back : (e : AddEntry) (ps : List Reservation) → NumbersDiffer ps → is_pending e ps ≡ true → held_size (without_number e.number ps) + e.size ≡ held_size ps
+gives_back e [] differ h = absurd (true≢false (sym h))
+gives_back e (r ∷ rs) differ h = by (is_of e r) refl (r.number == e.number) refl h (gives_back e rs differ.1)
+  where
+    by : (b : Bool) → is_of e r ≡ b → (c : Bool) → (r.number == e.number) ≡ c → (b || is_pending e rs) ≡ true → (is_pending e rs ≡ true → held_size (without_number e.number rs) + e.size ≡ held_size rs)
+        → held_size (cond (not c) (r ∷ without_number e.number rs) (without_number e.number rs)) + e.size ≡ held_size (r ∷ rs)
+    by true own true same some rest =
+        let two = own_size e r own in
+        let out = none_taken e.number rs (subst (λ n. has n rs ≡ false) two.0 differ.0) in
+        omega (arith, ap held_size out, two.1, sum_by-cons (λ (x : Reservation). x.size) r rs)
+    by true own false other some rest =
+        absurd (eqb-false r.number e.number other (own_size e r own).0)
+    by false not_own true same some rest =
+        absurd (true≢false (sym (pending_has e rs some) ∙ subst (λ n. has n rs ≡ false) (eqb-true r.number e.number same) differ.0))
+    by false not_own false other some rest =
+        omega (arith, rest some, sum_by-cons (λ (x : Reservation). x.size) r rs, sum_by-cons (λ (x : Reservation). x.size) r (without_number e.number rs))

@@ -1,5 +1,5 @@
 -- The open reservations of a cache.
-use Rattle.std.specs.Prelude.{◌≡◌, ℕ, ◌<◌, ◌^◌, Bool, true, false, ◌==◌, ◌&&◌, not, if◌then◌else◌, List, [], ◌∷◌, ◌++◌, Option, Some, None, filter, map, sum_by}
+use Rattle.std.specs.Prelude.{◌≡◌, ℕ, ◌+◌, ◌<◌, ◌^◌, Bool, true, false, ◌==◌, ◌&&◌, not, if◌then◌else◌, List, [], ◌∷◌, ◌++◌, Option, Some, None, filter, map, sum_by}
 use Rattle.std.specs.List.{list_any, AllByRecursion}
 use Rattle.std.specs.Str.{bytes_eq}
 use Rattle.lru_disk_cache.specs.Files.{Files, file_at}
@@ -76,6 +76,10 @@ unsure n pending = map (doubted n) pending
 abbrev pub NumbersDiffer : List Reservation → Type 0
 NumbersDiffer [] = Unit {0}
 NumbersDiffer (r ∷ rs) = (has r.number rs ≡ false) × NumbersDiffer rs
+
+-- closing the reservation of a pending entry gives its size back
+abbrev pub GivesBack : Type 0
+GivesBack = (e : AddEntry) (pending : List Reservation) → NumbersDiffer pending → is_pending e pending ≡ true → held_size (without_number e.number pending) + e.size ≡ held_size pending
 
 -- the temporary files that are sure to be there are
 abbrev pub AllSure : Files → List Reservation → Type 0

@@ -11,7 +11,7 @@ use Rattle.lru_disk_cache.specs.declared.error.Error.{Error}
 use Rattle.lru_disk_cache.specs.declared.error.Error.TheVariants.{FileTooLarge, FileNotInCache, Io, PendingSpace, BadKey, NotPending, WrongDigest, WriterRefused, Memory as NoMemory}
 use Rattle.lru_disk_cache.specs.Key.{is_key}
 use Rattle.lru_disk_cache.specs.Entries.{Entries, total, promoted_key}
-use Rattle.lru_disk_cache.specs.Opened.{opened}
+use Rattle.lru_disk_cache.specs.Opened.{opened, InStep}
 use Rattle.lru_disk_cache.specs.Disk.{Stands, stored, Left, without_key}
 use Rattle.lru_disk_cache.specs.Reserved.{Reservation, held_size, AllReserved, NumbersDiffer, AllSure}
 
@@ -38,6 +38,10 @@ pub record IsStore (held : Held) (d : Disk) : Type 0 where
   pub reserved : AllReserved d.root d.pending
   pub numbers : NumbersDiffer d.pending
   pub sure : Holds held (λ files. AllSure files d.pending)
+
+-- the list is in step with the files, where they are told
+abbrev pub DiskInStep : Held → Disk → Type 0
+DiskInStep held d = Holds held (λ files. InStep d.root files d.entries)
 
 -- a fault of the folder, as the cache tells it
 abbrev pub error_of : FolderFault → Error

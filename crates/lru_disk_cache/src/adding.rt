@@ -16,7 +16,7 @@ use crate::steps::{add_to, announce, fill, measure, remove_at};
 use dist_types::text::Text;
 
 impl<F: Folder> LruDiskCache<F> {
-    ghost use Rattle.lru_disk_cache.specs.Store.{IsStore, room_beside, insert_verdict};
+    ghost use Rattle.lru_disk_cache.specs.Store.{IsStore, DiskInStep, room_beside, insert_verdict};
 
     /// Announces a file of this size under a key: the least recent go until it fits, and its size is held
     /// until it is committed or abandoned. Its temporary file is empty.
@@ -36,8 +36,10 @@ impl<F: Folder> LruDiskCache<F> {
         ensures exact { IfOk result (λ e. Made (files_prepared self.old.disk.root (entry_path self.old.disk e) (dropped (room_beside self.old.disk size) self.old.disk.entries)) (F.held self.old.folder).files (F.held self.new.folder).files) }
         ensures steady { OnOk result ((F.held self.new.folder).faults ≡ (F.held self.old.folder).faults) }
         ensures later { (F.held self.old.folder).faults ≤ (F.held self.new.folder).faults }
+        ensures in_step { DiskInStep (F.held self.old.folder) self.old.disk → OnOk result (DiskInStep (F.held self.new.folder) self.new.disk) }
         ensures stands { IsStore (F.held self.new.folder) self.new.disk }
     {
+        self.shown();
         match self.admit(key, size) {
             Ok(()) => {}
             Err(refusal) => return Err(refusal),
@@ -76,6 +78,7 @@ impl<F: Folder> LruDiskCache<F> {
         ensures reserved { Became (KeepsReserved (without_number entry.now.number self.old.disk.pending)) (F.held self.old.folder).files (F.held self.new.folder).files }
         ensures steady { OnOk result ((F.held self.new.folder).faults ≡ (F.held self.old.folder).faults) }
         ensures later { (F.held self.old.folder).faults ≤ (F.held self.new.folder).faults }
+        ensures in_step { DiskInStep (F.held self.old.folder) self.old.disk → OnOk result (DiskInStep (F.held self.new.folder) self.new.disk) }
         ensures stands { IsStore (F.held self.new.folder) self.new.disk }
     {
         let Some(temp) = self.pending.temp_of(entry) else {
@@ -106,6 +109,7 @@ impl<F: Folder> LruDiskCache<F> {
         ensures others { Became (ButUnder self.old.disk.root) (F.held self.old.folder).files (F.held self.new.folder).files }
         ensures steady { OnOk result ((F.held self.new.folder).faults ≡ (F.held self.old.folder).faults) }
         ensures later { (F.held self.old.folder).faults ≤ (F.held self.new.folder).faults }
+        ensures in_step { DiskInStep (F.held self.old.folder) self.old.disk → OnOk result (DiskInStep (F.held self.new.folder) self.new.disk) }
         ensures stands { IsStore (F.held self.new.folder) self.new.disk }
     {
         match self.commit_entry(&entry) {
@@ -137,6 +141,7 @@ impl<F: Folder> LruDiskCache<F> {
         ensures reserved { Became (KeepsReserved (without_number entry.number self.old.disk.pending)) (F.held self.old.folder).files (F.held self.new.folder).files }
         ensures steady { OnOk result ((F.held self.new.folder).faults ≡ (F.held self.old.folder).faults) }
         ensures later { (F.held self.old.folder).faults ≤ (F.held self.new.folder).faults }
+        ensures in_step { DiskInStep (F.held self.old.folder) self.old.disk → OnOk result (DiskInStep (F.held self.new.folder) self.new.disk) }
         ensures stands { IsStore (F.held self.new.folder) self.new.disk }
     {
         let Some(temp) = self.pending.temp_of(&entry) else {
@@ -206,8 +211,10 @@ impl<F: Folder> LruDiskCache<F> {
         ensures others { Became (ButUnder self.old.disk.root) (F.held self.old.folder).files (F.held self.new.folder).files }
         ensures steady { OnOk result ((F.held self.new.folder).faults ≡ (F.held self.old.folder).faults) }
         ensures later { (F.held self.old.folder).faults ≤ (F.held self.new.folder).faults }
+        ensures in_step { DiskInStep (F.held self.old.folder) self.old.disk → OnOk result (DiskInStep (F.held self.new.folder) self.new.disk) }
         ensures stands { IsStore (F.held self.new.folder) self.new.disk }
     {
+        self.shown();
         let size = match self.entry_size(entry) {
             Ok(size) => size,
             Err(error) => return Err(error),

@@ -49,7 +49,7 @@ impl<F: Folder> Model for LruDiskCache<F> {
 }
 
 impl<F: Folder> LruDiskCache<F> {
-    ghost use Rattle.lru_disk_cache.specs.Store.{IsStore, inserted, looked_up, removed, opened_disk, insert_verdict, room_beside, OpenFails, InsertFails, LookUpFails, RemoveFails};
+    ghost use Rattle.lru_disk_cache.specs.Store.{IsStore, DiskInStep, inserted, looked_up, removed, opened_disk, insert_verdict, room_beside, OpenFails, InsertFails, LookUpFails, RemoveFails};
 
     /// Opens a cache of `size` bytes of the files below a path. Those are removed that are no key's or larger
     /// than that, and the least recent where the others exceed it. Where that fails, as `Error::Io` or for
@@ -185,8 +185,10 @@ impl<F: Folder> LruDiskCache<F> {
         ensures exact { OnOk result ((temp : List ℕ) × IsTemp self.old.disk.root temp × Made (files_stored self.old.disk.root temp (self.old.disk.root ++ key.now) bytes.now (dropped (room_beside self.old.disk (length bytes.now)) (without_key key.now self.old.disk.entries))) (F.held self.old.folder).files (F.held self.new.folder).files) }
         ensures steady { OnOk result ((F.held self.new.folder).faults ≡ (F.held self.old.folder).faults) }
         ensures later { (F.held self.old.folder).faults ≤ (F.held self.new.folder).faults }
+        ensures in_step { DiskInStep (F.held self.old.folder) self.old.disk → OnOk result (DiskInStep (F.held self.new.folder) self.new.disk) }
         ensures stands { IsStore (F.held self.new.folder) self.new.disk }
     {
+        self.shown();
         let size = bytes.len() as u64;
         match self.admit(key, size) {
             Ok(()) => {}
@@ -222,8 +224,10 @@ impl<F: Folder> LruDiskCache<F> {
         ensures exact { OnOk result (Made (touched (self.old.disk.root ++ key.now)) (F.held self.old.folder).files (F.held self.new.folder).files) }
         ensures steady { OnOk result ((F.held self.new.folder).faults ≡ (F.held self.old.folder).faults) }
         ensures later { (F.held self.old.folder).faults ≤ (F.held self.new.folder).faults }
+        ensures in_step { DiskInStep (F.held self.old.folder) self.old.disk → OnOk result (DiskInStep (F.held self.new.folder) self.new.disk) }
         ensures stands { IsStore (F.held self.new.folder) self.new.disk }
     {
+        self.shown();
         let Ok(key) = Text::of(self.alloc, key) else {
             return Err(Error::Memory);
         };
@@ -255,8 +259,10 @@ impl<F: Folder> LruDiskCache<F> {
         ensures same { OnOk result (lookup (bytes_eq key.now) self.old.disk.entries ≡ None → F.held self.new.folder ≡ F.held self.old.folder) }
         ensures steady { OnOk result ((F.held self.new.folder).faults ≡ (F.held self.old.folder).faults) }
         ensures later { (F.held self.old.folder).faults ≤ (F.held self.new.folder).faults }
+        ensures in_step { DiskInStep (F.held self.old.folder) self.old.disk → OnOk result (DiskInStep (F.held self.new.folder) self.new.disk) }
         ensures stands { IsStore (F.held self.new.folder) self.new.disk }
     {
+        self.shown();
         let Ok(key) = Text::of(self.alloc, key) else {
             return Err(Error::Memory);
         };
@@ -268,6 +274,14 @@ impl<F: Folder> LruDiskCache<F> {
             Ok(()) => Ok(()),
             Err(fault) => Err(io(fault)),
         }
+    }
+
+    // What holds of the cache, whatever failed so far.
+    pub(crate) fn shown(&self)
+        ensures stands { IsStore (F.held self.now.folder) self.now.disk }
+        ensures distinct { IsDistinct bytes_eq (keys_of self.now.disk.entries) }
+    {
+        let _len = self.table.len();
     }
 
     // The sum of the sizes that open reservations announced.

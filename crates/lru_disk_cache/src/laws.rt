@@ -2,6 +2,7 @@
 ghost use Rattle.lru_disk_cache.specs.Archiving.{ArchivesReopen};
 ghost use Rattle.lru_disk_cache.specs.Opened.{Reopens};
 ghost use Rattle.lru_disk_cache.specs.Reliable.{NeverFails};
+ghost use Rattle.lru_disk_cache.specs.Reserved.{GivesBack};
 
 /// A list that is in step with the files of its folder, and that fits, is what an opening lists.
 pub fn reopening_gives_the_list()
@@ -11,6 +12,11 @@ pub fn reopening_gives_the_list()
 /// Archives that are in step with the files of their folder, and that fit, are what an opening lists.
 pub fn reopening_gives_the_archives()
     ensures { ArchivesReopen }
+{}
+
+/// Closing the reservation of a pending entry gives its size back: the numbers of reservations differ.
+pub fn closing_gives_the_size_back()
+    ensures { GivesBack }
 {}
 
 /// Over a folder that never fails, no call of a cache answers `Error::Io`.

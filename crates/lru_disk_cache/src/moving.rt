@@ -21,7 +21,7 @@ use dist_types::text::Text;
 use std::alloc::Global;
 
 impl<F: Folder> LruDiskCache<F> {
-    ghost use Rattle.lru_disk_cache.specs.Store.{IsStore, inserted, looked_up, room_beside, insert_verdict, LookUpFails};
+    ghost use Rattle.lru_disk_cache.specs.Store.{IsStore, DiskInStep, inserted, looked_up, room_beside, insert_verdict, LookUpFails};
 
     /// Stores a file of the folder under a key, as the most recent, by renaming it. The least recent go where
     /// they have to, and their files. Its path is neither that of the key's file nor of a listed key's, and
@@ -43,9 +43,10 @@ impl<F: Folder> LruDiskCache<F> {
         ensures others { Became (ButUnderAnd self.old.disk.root path.now) (F.held self.old.folder).files (F.held self.new.folder).files }
         ensures steady { OnOk result ((F.held self.new.folder).faults ≡ (F.held self.old.folder).faults) }
         ensures later { (F.held self.old.folder).faults ≤ (F.held self.new.folder).faults }
+        ensures in_step { DiskInStep (F.held self.old.folder) self.old.disk → OnOk result (DiskInStep (F.held self.new.folder) self.new.disk) }
         ensures stands { IsStore (F.held self.new.folder) self.new.disk }
     {
-        let _sum = self.size();
+        self.shown();
         if !is_key(key) {
             return Err(Error::BadKey);
         }
@@ -88,9 +89,10 @@ impl<F: Folder> LruDiskCache<F> {
         ensures others { Became (ButUnder self.old.disk.root) (F.held self.old.folder).files (F.held self.new.folder).files }
         ensures steady { OnOk result ((F.held self.new.folder).faults ≡ (F.held self.old.folder).faults) }
         ensures later { (F.held self.old.folder).faults ≤ (F.held self.new.folder).faults }
+        ensures in_step { DiskInStep (F.held self.old.folder) self.old.disk → OnOk result (DiskInStep (F.held self.new.folder) self.new.disk) }
         ensures stands { IsStore (F.held self.new.folder) self.new.disk }
     {
-        let _sum = self.size();
+        self.shown();
         if !is_key(key) {
             return Err(Error::BadKey);
         }
@@ -113,6 +115,7 @@ impl<F: Folder> LruDiskCache<F> {
         ensures exact { OnOk result (Made (touched (self.old.disk.root ++ key.now)) (F.held self.old.folder).files (F.held self.new.folder).files) }
         ensures steady { OnOk result ((F.held self.new.folder).faults ≡ (F.held self.old.folder).faults) }
         ensures later { (F.held self.old.folder).faults ≤ (F.held self.new.folder).faults }
+        ensures in_step { DiskInStep (F.held self.old.folder) self.old.disk → OnOk result (DiskInStep (F.held self.new.folder) self.new.disk) }
         ensures stands { IsStore (F.held self.new.folder) self.new.disk }
     {
         match self.get_file(key) {

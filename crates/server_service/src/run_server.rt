@@ -23,9 +23,9 @@ use std::net::{Net, TcpListener, TcpStream};
 use std::rt::Files;
 use std::sync::atomic::AtomicU64;
 use std::sync::{Condvar, Mutex, Wait};
-use std::thread;
 use std::thread::Threads;
 use std::time::{Clock, Duration};
+use std::{fs, thread};
 use url::Url;
 
 /// Where in its folder a server keeps its archives.
@@ -100,12 +100,14 @@ fn tested(base: &Url) -> Result<(), StartFault>
     }
 }
 
-/// The server of a configuration, which holds nothing, over the archives that stand in its folder.
+/// The server of a configuration, which holds nothing, over the archives that stand in its folder. The folder is made
+/// where there is none.
 fn server_of<'a, R: Files + AllocGlobal>(
     rt: &'a R,
     alloc: Global,
     config: &ServerConfig,
 ) -> Result<Server<RealFolder<&'a R>>, StartFault> {
+    fs::create_dir_all(rt, config.cache_dir.get())?;
     let folder = RealFolder::new(rt, config.cache_dir.get())?;
     match TcCache::new(alloc, folder, CACHE_PATH, config.toolchain_cache_size) {
         Ok(cache) => Ok(Server::new(alloc, ServerState::new(alloc, cache))),

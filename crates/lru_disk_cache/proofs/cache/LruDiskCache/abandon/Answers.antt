@@ -9,6 +9,8 @@ use Rattle.lru_disk_cache.proofs.Fills.{on_ok, counts_ok, keeps_avoided, temp_av
 use Rattle.lru_disk_cache.proofs.Standing.{none_lost}
 use Rattle.lru_disk_cache.proofs.Stores.{closed_store}
 use Rattle.lru_disk_cache.proofs.Reserving.{temp_found, temp_none, none_reserved, at_reserved, none_without, all_without, held_without, closed_ok, closed_fails}
+use Rattle.lru_disk_cache.specs.Store.{DiskInStep}
+use Rattle.lru_disk_cache.proofs.DiskSteps.{step_abandoned}
 use Rattle.lru_disk_cache.proofs.cache.LruDiskCache.abandon.Goals as goal
 
 pub returns-in_default-clause-fails : goal.returns-in_default-clause-fails
@@ -74,3 +76,8 @@ pub returns-clause-reserved : goal.returns-clause-reserved
 returns-clause-reserved g c =
     let t = temp_found c.self.inside.root c.in-Some.temp.now c.args.entry c.self.inside.pending c.self.invariant.reserved (sym c.in-Some.ensures.temp) in
     subst (λ s. Became (KeepsReserved (without_number c.args.entry.number s.disk.pending)) (g.F.Folder.held s.folder).files (g.F.Folder.held c.remove_at-answer.new.folder).files) c.self.view_is (at_reserved c.self.inside.root c.in-Some.temp.now c.args.entry.number (without_number c.args.entry.number c.self.inside.pending) (g.F.Folder.held c.self.inside.folder).files (g.F.Folder.held c.remove_at-answer.new.folder).files t.0 t.2 (none_without c.args.entry.number c.self.inside.pending) (all_without (IsReserved c.self.inside.root) c.args.entry.number c.self.inside.pending c.self.invariant.reserved) c.remove_at-answer.ensures.others)
+
+pub returns-clause-in_step : goal.returns-clause-in_step
+returns-clause-in_step g c =
+    let t = temp_found c.self.inside.root c.in-Some.temp.now c.args.entry c.self.inside.pending c.self.invariant.reserved (sym c.in-Some.ensures.temp) in
+    subst (λ s. DiskInStep (g.F.Folder.held s.folder) s.disk → OnOk c.closed.result (DiskInStep (g.F.Folder.held c.remove_at-answer.new.folder) (record { path = c.self.inside.path; root = c.self.inside.root; capacity = c.self.inside.table.capacity; entries = c.self.inside.table.entries; pending = c.self.inside.pending }))) c.self.view_is (step_abandoned c.closed.result (record { path = c.self.inside.path; root = c.self.inside.root; capacity = c.self.inside.table.capacity; entries = c.self.inside.table.entries; pending = c.self.inside.pending }) (g.F.Folder.held c.self.inside.folder) (g.F.Folder.held c.remove_at-answer.new.folder) c.in-Some.temp.now c.args.entry.number t.0 t.2 (closed_ok (Became (λ old new. new ≡ without c.in-Some.temp.now old) (g.F.Folder.held c.self.inside.folder).files (g.F.Folder.held c.remove_at-answer.new.folder).files) c.remove_at-answer.result c.closed.result c.closed.ensures c.remove_at-answer.ensures.exact))

@@ -1,4 +1,4 @@
-use Rattle.std.proofs.Common.{◌≡◌, ◌+◌, ◌≤◌, ◌++◌, Some, sym, ap, subst, ◌∙◌, arith}
+use Rattle.std.proofs.Common.{rules, ◌≡◌, ◌+◌, ◌≤◌, ◌++◌, Some, sym, ap, subst, ◌∙◌, arith}
 use Rattle.lru_disk_cache.specs.Files.{size_at}
 use Rattle.lru_disk_cache.specs.Held.{Became}
 use Rattle.lru_disk_cache.specs.Key.{is_key, temp_name}
@@ -10,6 +10,7 @@ use Rattle.lru_disk_cache.proofs.Asides.{keeps_equal, reserved_equal}
 use Rattle.lru_disk_cache.proofs.Fills.{temp_apart, temp_avoided}
 use Rattle.lru_disk_cache.proofs.Reserving.{these_reserved, none_without, all_without}
 use Rattle.lru_disk_cache.proofs.Stores.{stored_fits, closed_store, broken_store}
+use Rattle.lru_disk_cache.proofs.DiskSteps.{step_committed}
 use Rattle.lru_disk_cache.proofs.cache.LruDiskCache.commit_entry.Goals as goal
 
 pub returns-in-Err-admit_entry-clause-kept : goal.returns-in-Err-admit_entry-clause-kept
@@ -72,3 +73,10 @@ returns-clause-reserved g c =
     (subst (λ (d : Disk). Became (KeepsReserved (without_number c.args.entry.now.number d.pending)) (g.F.Folder.held c.entry_size.new.self.folder).files (g.F.Folder.held c.fill.new.folder).files) c.entry_size.ensures.disk
     (subst (λ s. Became (KeepsReserved (without_number c.args.entry.now.number s.disk.pending)) (g.F.Folder.held s.folder).files (g.F.Folder.held c.fill.new.folder).files) c.self.view_is
     (subst (λ n. Became (KeepsReserved (without_number n c.self.inside.pending)) (g.F.Folder.held c.self.inside.folder).files (g.F.Folder.held c.fill.new.folder).files) c.number-number.ensures (these_reserved c.self.inside.root c.in-Ok-arrival_of.arrival.from c.in-Ok-arrival_of.arrival.path c.key.result.now c.self.inside.table.entries c.number-number.result (without_number c.number-number.result c.self.inside.pending) (g.F.Folder.held c.self.inside.folder).files (g.F.Folder.held c.fill.new.folder).files c.in-Ok-arrival_of.ensures.from c.in-Ok-arrival_of.ensures.number (none_without c.number-number.result c.self.inside.pending) c.in-Ok-arrival_of.ensures.path (ap is_key c.key.ensures.key ∙ c.in-Ok.ensures.key) c.self.invariant.stands.keys (all_without (IsReserved c.self.inside.root) c.number-number.result c.self.inside.pending c.self.invariant.reserved) c.fill.ensures.untouched))))
+
+pub returns-in-Ok-fill-clause-ok : goal.returns-in-Ok-fill-clause-ok
+returns-in-Ok-fill-clause-ok g c = search rules
+
+pub returns-in-Ok-fill-clause-in_step : goal.returns-in-Ok-fill-clause-in_step
+returns-in-Ok-fill-clause-in_step g c =
+    step_committed c.args.self.now.disk _ (g.F.Folder.held c.args.self.now.folder) (g.F.Folder.held c.fill.new.folder) c.args.entry.now c.shown.ensures.stands c.shown.ensures.distinct c.in-Ok.ensures.pending (returns-in-Ok-fill-clause-ok g c)

@@ -1,7 +1,8 @@
-use Rattle.std.proofs.Common.{subst, sym, ◌∙◌}
+use Rattle.std.proofs.Common.{rules, subst, sym, ◌∙◌}
 use Rattle.lru_disk_cache.specs.Held.{Lacks}
 use Rattle.lru_disk_cache.proofs.Standing.{listed_there}
 use Rattle.lru_disk_cache.proofs.Stores.{promoted_store}
+use Rattle.lru_disk_cache.proofs.DiskSteps.{step_touched}
 use Rattle.lru_disk_cache.proofs.cache.LruDiskCache.get_file.Goals as goal
 
 pub fetch-requires : goal.fetch-requires
@@ -22,3 +23,16 @@ invariant_of-self-2 g c =
 
 pub returns-clause-stands : goal.returns-clause-stands
 returns-clause-stands g c = invariant_of-self-2 g c
+
+pub returns-in-Ok-fetch-clause-ok : goal.returns-in-Ok-fetch-clause-ok
+returns-in-Ok-fetch-clause-ok g c = search rules
+
+pub returns-in-Ok-fetch-clause-found : goal.returns-in-Ok-fetch-clause-found
+returns-in-Ok-fetch-clause-found g c = search rules
+
+pub returns-in-Ok-fetch-clause-exact : goal.returns-in-Ok-fetch-clause-exact
+returns-in-Ok-fetch-clause-exact g c = search rules
+
+pub returns-in-Ok-fetch-clause-in_step : goal.returns-in-Ok-fetch-clause-in_step
+returns-in-Ok-fetch-clause-in_step g c =
+    step_touched c.args.self.now.disk _ (g.F.Folder.held c.args.self.now.folder) (g.F.Folder.held c.fetch.new.folder) c.args.key.now c.shown.ensures.stands c.shown.ensures.distinct (returns-in-Ok-fetch-clause-found g c) (returns-in-Ok-fetch-clause-ok g c) (returns-in-Ok-fetch-clause-exact g c)

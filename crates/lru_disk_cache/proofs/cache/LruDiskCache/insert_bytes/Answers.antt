@@ -1,8 +1,9 @@
-use Rattle.std.proofs.Common.{◌+◌, ◌≤◌, ◌∙◌, ap, subst, arith}
+use Rattle.std.proofs.Common.{rules, ◌+◌, ◌≤◌, ◌∙◌, ap, subst, arith}
 use Rattle.lru_disk_cache.specs.Held.{Became}
 use Rattle.lru_disk_cache.specs.Reserved.{held_size, KeepsReserved}
 use Rattle.lru_disk_cache.proofs.Reserving.{these_reserved}
 use Rattle.lru_disk_cache.proofs.Stores.{insert_store, stored_exact}
+use Rattle.lru_disk_cache.proofs.DiskSteps.{step_stored}
 use Rattle.lru_disk_cache.proofs.cache.LruDiskCache.insert_bytes.Goals as goal
 
 pub invariant_of-self : goal.invariant_of-self
@@ -41,3 +42,10 @@ returns-in-Ok-store-clause-reserved g c =
 pub returns-clause-reserved : goal.returns-clause-reserved
 returns-clause-reserved g c =
     subst (λ s. Became (KeepsReserved s.disk.pending) (g.F.Folder.held s.folder).files (g.F.Folder.held c.store.new.folder).files) c.self.view_is (these_reserved c.self.inside.root c.in-Ok-arrival_of.arrival.from c.in-Ok-arrival_of.arrival.path c.args.key.now c.self.inside.table.entries c.least_free.result c.self.inside.pending (g.F.Folder.held c.self.inside.folder).files (g.F.Folder.held c.store.new.folder).files c.in-Ok-arrival_of.ensures.from c.in-Ok-arrival_of.ensures.number c.least_free.ensures.free c.in-Ok-arrival_of.ensures.path c.in-Ok.ensures.key c.self.invariant.stands.keys c.self.invariant.reserved c.store.ensures.untouched)
+
+pub returns-in-Ok-store-clause-ok : goal.returns-in-Ok-store-clause-ok
+returns-in-Ok-store-clause-ok g c = search rules
+
+pub returns-in-Ok-store-clause-in_step : goal.returns-in-Ok-store-clause-in_step
+returns-in-Ok-store-clause-in_step g c =
+    step_stored c.args.self.now.disk _ (g.F.Folder.held c.args.self.now.folder) (g.F.Folder.held c.store.new.folder) c.args.key.now c.args.bytes.now c.shown.ensures.stands.stands.keys c.in-Ok.ensures.key c.shown.ensures.distinct (returns-in-Ok-store-clause-ok g c) (returns-in-Ok-store-clause-exact g c)

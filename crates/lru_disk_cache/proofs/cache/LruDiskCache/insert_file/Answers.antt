@@ -1,4 +1,4 @@
-use Rattle.std.proofs.Common.{◌+◌, ◌≤◌, ap, subst, ◌∙◌, arith}
+use Rattle.std.proofs.Common.{rules, ◌+◌, ◌≤◌, ap, subst, ◌∙◌, arith}
 use Rattle.lru_disk_cache.specs.Held.{Became}
 use Rattle.lru_disk_cache.specs.Key.{names_temporary}
 use Rattle.lru_disk_cache.specs.Reserved.{KeepsReserved, held_size}
@@ -7,6 +7,7 @@ use Rattle.lru_disk_cache.proofs.Asides.{keeps_equal, reserved_equal}
 use Rattle.lru_disk_cache.proofs.Moves.{move_failed}
 use Rattle.lru_disk_cache.proofs.Reserving.{named_reserved}
 use Rattle.lru_disk_cache.proofs.Stores.{insert_store}
+use Rattle.lru_disk_cache.proofs.DiskSteps.{step_moved}
 use Rattle.lru_disk_cache.proofs.cache.LruDiskCache.insert_file.Goals as goal
 
 pub returns-in-Err-clause-left : goal.returns-in-Err-clause-left
@@ -66,3 +67,10 @@ returns-clause-reserved g c =
 pub returns-in-Err-clause-fails : goal.returns-in-Err-clause-fails
 returns-in-Err-clause-fails g c =
     move_failed c.args.key.now c.args.path.now c.args.self.now.disk c.path_size.new.self.disk c.in-Err.error (g.F.Folder.held c.args.self.now.folder) (g.F.Folder.held c.path_size.new.self.folder) c.path_size.ensures.disk c.in-Err.ensures.fails
+
+pub returns-in-Ok-move_in-clause-ok : goal.returns-in-Ok-move_in-clause-ok
+returns-in-Ok-move_in-clause-ok g c = search rules
+
+pub returns-in-Ok-move_in-clause-in_step : goal.returns-in-Ok-move_in-clause-in_step
+returns-in-Ok-move_in-clause-in_step g c =
+    step_moved c.args.self.now.disk _ (g.F.Folder.held c.args.self.now.folder) (g.F.Folder.held c.move_in.new.folder) c.args.key.now c.args.path.now c.in-Ok-admit.ensures.key c.requires.avoids c.shown.ensures.distinct (returns-in-Ok-move_in-clause-ok g c)

@@ -1,4 +1,4 @@
-use Rattle.std.proofs.Common.{◌+◌, ◌≤◌, true, sym, ap, subst, ◌∙◌, arith}
+use Rattle.std.proofs.Common.{rules, ◌+◌, ◌≤◌, true, sym, ap, subst, ◌∙◌, arith}
 use Rattle.lru_disk_cache.specs.Held.{Became}
 use Rattle.lru_disk_cache.specs.Key.{is_key}
 use Rattle.lru_disk_cache.specs.Entries.{total}
@@ -6,6 +6,7 @@ use Rattle.lru_disk_cache.specs.Reserved.{KeepsReserved, held_size}
 use Rattle.lru_disk_cache.specs.Store.{IsStore}
 use Rattle.lru_disk_cache.proofs.Reserving.{temp_reserved}
 use Rattle.lru_disk_cache.proofs.Stores.{disk_of, announced_store, prepared_store}
+use Rattle.lru_disk_cache.proofs.DiskSteps.{step_prepared}
 use Rattle.lru_disk_cache.proofs.cache.LruDiskCache.prepare_add.Goals as goal
 
 pub invariant_of-self : goal.invariant_of-self
@@ -38,3 +39,16 @@ returns-clause-stands g c = invariant_of-self-2 g c
 
 pub returns-clause-reserved : goal.returns-clause-reserved
 returns-clause-reserved g c = subst (λ s. Became (KeepsReserved s.disk.pending) (g.F.Folder.held s.folder).files (g.F.Folder.held c.announce.new.folder).files) c.self.view_is (temp_reserved c.self.inside.root c.in-Ok-arrival_of.arrival.from c.self.inside.table.entries c.least_free-number.result c.self.inside.pending (g.F.Folder.held c.self.inside.folder).files (g.F.Folder.held c.announce.new.folder).files c.in-Ok-arrival_of.ensures.from c.in-Ok-arrival_of.ensures.number c.least_free-number.ensures.free c.self.invariant.stands.keys c.self.invariant.reserved c.announce.ensures.untouched)
+
+pub returns-clause-ok : goal.returns-clause-ok
+returns-clause-ok g c = search rules
+
+pub returns-clause-entry : goal.returns-clause-entry
+returns-clause-entry g c = search rules
+
+pub returns-clause-exact : goal.returns-clause-exact
+returns-clause-exact g c = search rules
+
+pub returns-clause-in_step : goal.returns-clause-in_step
+returns-clause-in_step g c =
+    step_prepared c.args.self.now.disk _ (g.F.Folder.held c.args.self.now.folder) (g.F.Folder.held c.announce.new.folder) _ c.least_free-number.result c.args.size c.in-Ok-arrival_of.ensures.number (ap (λ e. e.number) c.new.ensures) (returns-clause-entry g c).1 c.shown.ensures.distinct (returns-clause-ok g c) (returns-clause-exact g c)

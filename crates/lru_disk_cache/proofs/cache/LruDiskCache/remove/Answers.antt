@@ -1,4 +1,4 @@
-use Rattle.std.proofs.Common.{ap, sym, subst, ◌∙◌}
+use Rattle.std.proofs.Common.{rules, IsSome, ap, sym, subst, ◌∙◌}
 use Rattle.lru_disk_cache.specs.Held.{Became}
 use Rattle.lru_disk_cache.specs.Disk.{Keeps}
 use Rattle.lru_disk_cache.specs.Reserved.{KeepsReserved}
@@ -6,6 +6,9 @@ use Rattle.lru_disk_cache.proofs.Standing.{keeps_absent}
 use Rattle.lru_disk_cache.proofs.Reserving.{listed_key, key_reserved}
 use Rattle.lru_disk_cache.proofs.Stores.{removed_store}
 use Rattle.lru_disk_cache.proofs.Trims.{none_out}
+use Rattle.std.specs.Map.{lookup}
+use Rattle.std.specs.Str.{bytes_eq}
+use Rattle.lru_disk_cache.proofs.DiskSteps.{step_removed}
 use Rattle.lru_disk_cache.proofs.cache.LruDiskCache.remove.Goals as goal
 
 pub returns-then-not-contains-clause-ok : goal.returns-then-not-contains-clause-ok
@@ -43,3 +46,14 @@ pub returns-clause-reserved : goal.returns-clause-reserved
 returns-clause-reserved g c =
     subst (λ s. Became (KeepsReserved s.disk.pending) (g.F.Folder.held s.folder).files (g.F.Folder.held c.remove_file.new.folder).files) c.self.view_is
     (key_reserved c.self.inside.root c.in-Ok.key c.self.inside.pending (g.F.Folder.held c.self.inside.folder).files (g.F.Folder.held c.remove_file.new.folder).files (listed_key c.in-Ok.key c.self.inside.table.entries c.self.invariant.stands.keys (sym c.contains.ensures ∙ c.if-not-contains.false)) c.self.invariant.reserved c.remove_file.ensures.others)
+
+pub returns-in-Ok-remove_file-clause-ok : goal.returns-in-Ok-remove_file-clause-ok
+returns-in-Ok-remove_file-clause-ok g c = search rules
+
+pub returns-in-Ok-remove_file-clause-exact : goal.returns-in-Ok-remove_file-clause-exact
+returns-in-Ok-remove_file-clause-exact g c = search rules
+
+pub returns-in-Ok-remove_file-clause-in_step : goal.returns-in-Ok-remove_file-clause-in_step
+returns-in-Ok-remove_file-clause-in_step g c =
+    let listed = subst (λ s. IsSome (lookup (bytes_eq c.args.key.now) s.disk.entries)) c.self.view_is (subst (λ k. IsSome (lookup (bytes_eq k) c.self.inside.table.entries)) c.in-Ok.ensures.text (sym c.contains.ensures ∙ c.if-not-contains.false)) in
+    step_removed c.args.self.now.disk _ (g.F.Folder.held c.args.self.now.folder) (g.F.Folder.held c.remove_file.new.folder) c.args.key.now c.shown.ensures.distinct (returns-in-Ok-remove_file-clause-ok g c) (returns-in-Ok-remove_file-clause-exact g c listed)

@@ -7,6 +7,8 @@ use Rattle.lru_disk_cache.specs.Adding.{entry_path, WriteFails}
 use Rattle.lru_disk_cache.proofs.Fills.{on_ok, keeps_avoided, temp_avoids}
 use Rattle.lru_disk_cache.proofs.Standing.{none_lost}
 use Rattle.lru_disk_cache.proofs.Reserving.{temp_found, temp_none, write_fails, none_reserved, added_store, at_reserved, none_without, all_without}
+use Rattle.lru_disk_cache.specs.Store.{DiskInStep}
+use Rattle.lru_disk_cache.proofs.DiskSteps.{step_appended}
 use Rattle.lru_disk_cache.proofs.cache.LruDiskCache.write_entry.Goals as goal
 
 pub returns-in_default-clause-fails : goal.returns-in_default-clause-fails
@@ -62,3 +64,8 @@ pub returns-clause-reserved : goal.returns-clause-reserved
 returns-clause-reserved g c =
     let t = temp_found c.self.inside.root c.in-Some.temp.now c.args.entry.now c.self.inside.pending c.self.invariant.reserved (sym c.in-Some.ensures.temp) in
     subst (λ s. Became (KeepsReserved (without_number c.args.entry.now.number s.disk.pending)) (g.F.Folder.held s.folder).files (g.F.Folder.held c.add_to.new.folder).files) c.self.view_is (at_reserved c.self.inside.root c.in-Some.temp.now c.args.entry.now.number (without_number c.args.entry.now.number c.self.inside.pending) (g.F.Folder.held c.self.inside.folder).files (g.F.Folder.held c.add_to.new.folder).files t.0 t.2 (none_without c.args.entry.now.number c.self.inside.pending) (all_without (IsReserved c.self.inside.root) c.args.entry.now.number c.self.inside.pending c.self.invariant.reserved) c.add_to.ensures.others)
+
+pub returns-clause-in_step : goal.returns-clause-in_step
+returns-clause-in_step g c =
+    let t = temp_found c.self.inside.root c.in-Some.temp.now c.args.entry.now c.self.inside.pending c.self.invariant.reserved (sym c.in-Some.ensures.temp) in
+    subst (λ s. DiskInStep (g.F.Folder.held s.folder) s.disk → OnOk c.add_to.result (DiskInStep (g.F.Folder.held c.add_to.new.folder) (record { path = c.self.inside.path; root = c.self.inside.root; capacity = c.self.inside.table.capacity; entries = c.self.inside.table.entries; pending = c.self.inside.pending }))) c.self.view_is (step_appended c.add_to.result (record { path = c.self.inside.path; root = c.self.inside.root; capacity = c.self.inside.table.capacity; entries = c.self.inside.table.entries; pending = c.self.inside.pending }) (g.F.Folder.held c.self.inside.folder) (g.F.Folder.held c.add_to.new.folder) c.in-Some.temp.now c.args.bytes.now c.args.entry.now.number t.0 t.2 c.add_to.ensures.ok)
