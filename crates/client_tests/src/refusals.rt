@@ -37,7 +37,7 @@ enum Told {
     Other,
 }
 
-fn told<T: Drop>(answer: Result<T, CallError>) -> Told {
+fn heard<T: Drop>(answer: Result<T, CallError>) -> Told {
     match answer {
         Ok(_) => Told::Answer,
         Err(CallError::LinkFault) => Told::LinkFault,
@@ -61,17 +61,17 @@ fn job(alloc: Global) -> Result<JobAlloc, Fail> {
 }
 
 /// Makes the call, with the archive `abc` at hand.
-fn call(alloc: Global, client: &mut MemClient, call: Call) -> Result<Told, Fail> {
+fn called(alloc: Global, client: &mut MemClient, call: Call) -> Result<Told, Fail> {
     let tc = Toolchain::new(ABC)?;
     let job = job(alloc)?;
     match call {
-        Call::Alloc => Ok(told(client.do_alloc_job(&tc))),
-        Call::Status => Ok(told(client.do_get_status())),
-        Call::Submit => Ok(told(client.do_submit_toolchain(&job, &tc))),
+        Call::Alloc => Ok(heard(client.do_alloc_job(&tc))),
+        Call::Status => Ok(heard(client.do_get_status())),
+        Call::Submit => Ok(heard(client.do_submit_toolchain(&job, &tc))),
         Call::Run => {
             let (command, outputs) = run_command(alloc)?;
             let mut inputs = packager(alloc, b"in", false)?;
-            Ok(told(client.do_run_job(&job, command, outputs, &mut inputs)))
+            Ok(heard(client.do_run_job(&job, command, outputs, &mut inputs)))
         }
     }
 }
@@ -80,7 +80,7 @@ fn told_of(alloc: Global, which: Call, replies: &[&[u8]]) -> Result<Told, Fail> 
     let mut client = client_of(alloc, replies, "http://127.0.0.1:10600", &[])?;
     let mut packs = packager(alloc, b"abc", false)?;
     client.put_toolchain("/cc", "weak", &mut packs)?;
-    call(alloc, &mut client, which)
+    called(alloc, &mut client, which)
 }
 
 /// What the replies are, and what each call tells of them: the request for a job, the status, the archive and the run.
@@ -89,23 +89,59 @@ type Row = (&'static str, &'static [u8], [Told; 4]);
 const PARSE: [Told; 4] = [Told::ParseError; 4];
 
 const REPLIES: &[Row] = &[
-    ("a job", ALLOCATED, [Told::Answer, Told::Answer, Told::Answer, Told::Answer]),
+    (
+        "a job",
+        ALLOCATED,
+        [Told::Answer, Told::Answer, Told::Answer, Told::Answer],
+    ),
     ("nothing", b"", PARSE),
     ("a head that is cut", b"HTTP/1.1 200 OK\r\n", PARSE),
-    ("a body that is cut", b"HTTP/1.1 200 OK\r\nContent-Length: 9\r\n\r\n\0", PARSE),
-    ("no body", b"HTTP/1.1 200 OK\r\nContent-Length: 0\r\n\r\n", PARSE),
-    ("a body past its length", b"HTTP/1.1 200 OK\r\nContent-Length: 1\r\n\r\n\0\0", PARSE),
-    ("no such variant", b"HTTP/1.1 200 OK\r\n\r\n\xff\xff\xff\xff", PARSE),
+    (
+        "a body that is cut",
+        b"HTTP/1.1 200 OK\r\nContent-Length: 9\r\n\r\n\0",
+        PARSE,
+    ),
+    (
+        "no body",
+        b"HTTP/1.1 200 OK\r\nContent-Length: 0\r\n\r\n",
+        PARSE,
+    ),
+    (
+        "a body past its length",
+        b"HTTP/1.1 200 OK\r\nContent-Length: 1\r\n\r\n\0\0",
+        PARSE,
+    ),
+    (
+        "no such variant",
+        b"HTTP/1.1 200 OK\r\n\r\n\xff\xff\xff\xff",
+        PARSE,
+    ),
     ("no HTTP", b"\0\0\0\0", PARSE),
-    ("a coding", b"HTTP/1.1 200 OK\r\nTransfer-Encoding: chunked\r\n\r\n0\r\n\r\n", PARSE),
-    ("created", b"HTTP/1.1 201 Created\r\n\r\n\0\0\0\0", [Told::Status(201); 4]),
+    (
+        "a coding",
+        b"HTTP/1.1 200 OK\r\nTransfer-Encoding: chunked\r\n\r\n0\r\n\r\n",
+        PARSE,
+    ),
+    (
+        "created",
+        b"HTTP/1.1 201 Created\r\n\r\n\0\0\0\0",
+        [Told::Status(201); 4],
+    ),
     (
         "a refused token",
         b"HTTP/1.1 401 Unauthorized\r\nWWW-Authenticate: Bearer error=\"bearer_auth_failed\"\r\nContent-Length: 20\r\nConnection: close\r\n\r\nFixed token mismatch",
         [Told::Status(401); 4],
     ),
-    ("no route", b"HTTP/1.1 404 Not Found\r\nContent-Length: 0\r\n\r\n", [Told::Status(404); 4]),
-    ("a fault", b"HTTP/1.1 500 X\r\nContent-Length: 0\r\n\r\n", [Told::Status(500); 4]),
+    (
+        "no route",
+        b"HTTP/1.1 404 Not Found\r\nContent-Length: 0\r\n\r\n",
+        [Told::Status(404); 4],
+    ),
+    (
+        "a fault",
+        b"HTTP/1.1 500 X\r\nContent-Length: 0\r\n\r\n",
+        [Told::Status(500); 4],
+    ),
 ];
 
 fn check(rt: &impl Abort, alloc: Global, row: &Row) -> Result<(), Fail> {
@@ -154,14 +190,19 @@ fn want_of_a_reply_is_a_link_fault(rt: HostRuntime) -> Result<(), Fail> {
 fn what_is_refused_before_asks_nobody(rt: HostRuntime) -> Result<(), Fail> {
     let alloc = rt.alloc();
     let rows = [("/a", Some(("ct1", "/a/in")))];
-    let mut client = client_of(alloc, &[], "https://127.0.0.1:10600", &configured(alloc, &rows)?)?;
-    assert_eq!(rt; call(alloc, &mut client, Call::Alloc)?, Told::BadBase);
-    assert_eq!(rt; call(alloc, &mut client, Call::Status)?, Told::BadBase);
-    assert_eq!(rt; call(alloc, &mut client, Call::Submit)?, Told::NotLocal);
+    let mut client = client_of(
+        alloc,
+        &[],
+        "https://127.0.0.1:10600",
+        &configured(alloc, &rows)?,
+    )?;
+    assert_eq!(rt; called(alloc, &mut client, Call::Alloc)?, Told::BadBase);
+    assert_eq!(rt; called(alloc, &mut client, Call::Status)?, Told::BadBase);
+    assert_eq!(rt; called(alloc, &mut client, Call::Submit)?, Told::NotLocal);
     let (command, outputs) = run_command(alloc)?;
     let mut refuses = packager(alloc, b"in", true)?;
     let ran = client.do_run_job(&job(alloc)?, command, outputs, &mut refuses);
-    assert_eq!(rt; told(ran), Told::Packager);
+    assert_eq!(rt; heard(ran), Told::Packager);
     let (dialer, _toolchains) = client.into_parts();
     assert_eq!(rt; dialer.asked().len(), 0);
     Ok(())

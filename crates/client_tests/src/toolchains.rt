@@ -73,7 +73,10 @@ fn has<F: Folder + Drop>(
 #[test]
 fn a_configured_archive_is_told(rt: HostRuntime) -> Result<(), Fail> {
     let alloc = rt.alloc();
-    let configs = configured(alloc, &[("/my/compiler", Some(("ct1", "/my/compiler/in_archive")))])?;
+    let configs = configured(
+        alloc,
+        &[("/my/compiler", Some(("ct1", "/my/compiler/in_archive")))],
+    )?;
     let mut toolchains = ClientToolchains::new(alloc, folder(alloc)?, "client", 1000, &configs)?;
     let mut never = packager(alloc, b"x", true)?;
     let (tc, told) = toolchains.put_toolchain("/my/compiler", "weak", &mut never)?;
@@ -87,12 +90,18 @@ fn a_configured_archive_is_told(rt: HostRuntime) -> Result<(), Fail> {
 #[test]
 fn a_custom_toolchain_is_told_where_one_is_configured(rt: HostRuntime) -> Result<(), Fail> {
     let alloc = rt.alloc();
-    let rows = [("/a", Some(("ct1", "/a/in"))), ("/b", Some(("none", "/b/in"))), ("/c", None)];
+    let rows = [
+        ("/a", Some(("ct1", "/a/in"))),
+        ("/b", Some(("none", "/b/in"))),
+        ("/c", None),
+    ];
     let configs = configured(alloc, &rows)?;
     let mut toolchains = ClientToolchains::new(alloc, folder(alloc)?, "", 1000, &configs)?;
     assert!(rt; toolchains.get_custom_toolchain("/c").is_none());
     assert!(rt; toolchains.get_custom_toolchain("/d").is_none());
-    let missing = toolchains.get_custom_toolchain("/b").ok_or("nothing configured")?;
+    let missing = toolchains
+        .get_custom_toolchain("/b")
+        .ok_or("nothing configured")?;
     assert!(rt; matches!(&missing, Err(ToolchainError::Cache(_))));
     let (tc, inside, archive) = toolchains.get_custom_toolchain("/a").ok_or("nothing")??;
     assert_eq!(rt; tc.archive_id(), ABC);
@@ -114,15 +123,33 @@ fn a_compiler_without_toolchain_is_disabled(rt: HostRuntime) -> Result<(), Fail>
 
 /// What is configured, and why an opening refuses it.
 const REFUSED: &[(&[Row], ToolchainError)] = &[
-    (&[("/a", None), ("/a", None)], ToolchainError::DuplicateConfig),
     (
-        &[("/a", Some(("x", "y"))), ("/b", None), ("/a", Some(("z", "y")))],
+        &[("/a", None), ("/a", None)],
         ToolchainError::DuplicateConfig,
     ),
-    (&[("/a", None), ("/a", Some(("x", "y")))], ToolchainError::ConflictConfig),
-    (&[("/a", Some(("x", "y"))), ("/a", None)], ToolchainError::ConflictConfig),
     (
-        &[("/a", None), ("/b", None), ("/b", Some(("x", "y"))), ("/a", None)],
+        &[
+            ("/a", Some(("x", "y"))),
+            ("/b", None),
+            ("/a", Some(("z", "y"))),
+        ],
+        ToolchainError::DuplicateConfig,
+    ),
+    (
+        &[("/a", None), ("/a", Some(("x", "y")))],
+        ToolchainError::ConflictConfig,
+    ),
+    (
+        &[("/a", Some(("x", "y"))), ("/a", None)],
+        ToolchainError::ConflictConfig,
+    ),
+    (
+        &[
+            ("/a", None),
+            ("/b", None),
+            ("/b", Some(("x", "y"))),
+            ("/a", None),
+        ],
         ToolchainError::ConflictConfig,
     ),
 ];
@@ -159,7 +186,11 @@ fn package_once<F: Folder + Drop>(
     assert_eq!(rt; again.archive_id(), ABC);
     let other = toolchains.put_toolchain("/cc", "another", &mut never);
     assert!(rt; matches!(&other, Err(ToolchainError::PackagerFailed)));
-    assert!(rt; toolchains.get_toolchain(&Toolchain::new(NOTHING)?)?.is_none());
+    assert!(rt;
+        toolchains
+            .get_toolchain(&Toolchain::new(NOTHING)?)?
+            .is_none()
+    );
     has(rt, &mut toolchains, ABC, b"abc")?;
     Ok(toolchains)
 }
@@ -181,7 +212,9 @@ fn an_archive_that_is_gone_is_packaged_again(rt: HostRuntime) -> Result<(), Fail
     let alloc = rt.alloc();
     let toolchains = package_once(&rt, alloc, folder(alloc)?)?;
     let mut folder = toolchains.into_folder();
-    folder.remove("client/tc/b/a/ba7816bf8f01cfea414140de5dae2223b00361a396177a9cb410ff61f20015ad")?;
+    folder.remove(
+        "client/tc/b/a/ba7816bf8f01cfea414140de5dae2223b00361a396177a9cb410ff61f20015ad",
+    )?;
     let text = folder.read("client/weak_map.json")?;
     assert_eq!(rt;
         text.as_slice(),

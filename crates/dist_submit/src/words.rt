@@ -135,7 +135,7 @@ impl Said {
 }
 
 /// What the words behind the program's name say.
-fn said(alloc: Global, words: &[String]) -> Result<Said, Misuse> {
+fn taken(alloc: Global, words: &[String]) -> Result<Said, Misuse> {
     let mut said = Said {
         options: Options {
             scheduler: None,
@@ -188,7 +188,7 @@ fn asked(alloc: Global, words: &[String]) -> Result<Words, Misuse> {
         behind,
         executable,
         arguments,
-    } = said(alloc, words)?;
+    } = taken(alloc, words)?;
     let Options {
         scheduler,
         token,
