@@ -47,10 +47,7 @@ fn open<F: Folder + Drop>(alloc: Global, folder: F, size: u64) -> Result<TcCache
 }
 
 // The toolchains of the archives that are listed.
-fn listed<F: Folder + Drop>(
-    alloc: Global,
-    cache: &TcCache<F>,
-) -> Result<Vec<Toolchain>, Error> {
+fn listed<F: Folder + Drop>(alloc: Global, cache: &TcCache<F>) -> Result<Vec<Toolchain>, Error> {
     let mut all = Vec::new(alloc);
     for (tc, _size) in cache.archives() {
         let Ok(()) = all.push(tc) else {

@@ -1,7 +1,7 @@
 //! Reservations: the worked row, entries of other caches, and files that are taken away by hand.
 use dist_types::toolchain::Toolchain;
-use lru_disk_cache::folder::Folder;
 use lru_disk_cache::fault::FolderFault;
+use lru_disk_cache::folder::Folder;
 use lru_disk_cache::real_folder::RealFolder;
 use lru_disk_cache::reliable_folder::ReliableFolder;
 use lru_disk_cache::{Error, LruDiskCache, LruDiskCacheAddEntry, TcCache, toolchain_of};
@@ -110,7 +110,10 @@ fn entries_are_announced_written_and_committed(rt: HostRuntime) -> Result<(), Fa
     holds(&rt, &cache, &[("x/y/z", 10), ("a/b/c", 10)], 20)?;
     assert_eq!(&rt; cache.get_file("a/b/c")?.as_slice(), TEN);
     assert_eq!(&rt; cache.insert_bytes("./a", b"x"), Err(Error::BadKey));
-    assert_eq!(&rt; open(rt.alloc(), 1)?.insert_bytes("a", b"xy"), Err(Error::FileTooLarge));
+    assert_eq!(&rt;
+        open(rt.alloc(), 1)?.insert_bytes("a", b"xy"),
+        Err(Error::FileTooLarge)
+    );
     Ok(())
 }
 
@@ -155,8 +158,9 @@ fn entries_are_refused_and_abandoned(rt: HostRuntime) -> Result<(), Fail> {
 #[test]
 fn an_archive_of_no_bytes_is_one(rt: HostRuntime) -> Result<(), Fail> {
     let alloc = rt.alloc();
-    let nothing =
-        Toolchain::new("e3b0c44298fc1c149afbf4c8996fb92427ae41e4649b934ca495991b7852b855")?;
+    let nothing = Toolchain::new(
+        "e3b0c44298fc1c149afbf4c8996fb92427ae41e4649b934ca495991b7852b855",
+    )?;
     let mut cache = match TcCache::new(alloc, ReliableFolder::new(alloc), "tc", 25) {
         Ok(cache) => cache,
         Err((error, _folder)) => return Err(error.into()),
@@ -186,7 +190,10 @@ fn a_file_that_was_taken_away_is_missing(rt: HostRuntime) -> Result<(), Fail> {
     cache.insert_bytes("b", TEN)?;
     let gone = format!(in alloc; "{top}/c/a")?;
     fs::remove_file(&rt, gone.as_str())?;
-    assert_eq!(&rt; cache.get_file("a").err(), Some(Error::Io(FolderFault::Missing)));
+    assert_eq!(&rt;
+        cache.get_file("a").err(),
+        Some(Error::Io(FolderFault::Missing))
+    );
     holds(&rt, &cache, &[("b", 10), ("a", 10)], 20)?;
     cache.remove("a")?;
     holds(&rt, &cache, &[("b", 10)], 10)?;

@@ -161,13 +161,7 @@ impl Plain {
         Ok(())
     }
 
-    fn fill(
-        &mut self,
-        from: usize,
-        key: usize,
-        size: u64,
-        limit: u64,
-    ) -> Result<(), FolderFault> {
+    fn fill(&mut self, from: usize, key: usize, size: u64, limit: u64) -> Result<(), FolderFault> {
         let _old = self.unlist(key);
         self.make_room(limit)?;
         self.rename(from, key)?;
@@ -305,10 +299,7 @@ fn sum(list: &[(usize, u64)]) -> u64 {
     sum
 }
 
-fn copy_of(
-    alloc: Global,
-    files: &[(usize, Vec<u8>)],
-) -> Result<Vec<(usize, u64)>, FolderFault> {
+fn copy_of(alloc: Global, files: &[(usize, Vec<u8>)]) -> Result<Vec<(usize, u64)>, FolderFault> {
     let mut found = Vec::new(alloc);
     for (path, bytes) in files {
         push(&mut found, *path, bytes.len() as u64)?;

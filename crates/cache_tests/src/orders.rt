@@ -68,7 +68,11 @@ fn key_at(place: usize) -> Result<&'static str, Fail> {
 }
 
 /// The lists, their sizes and the sum agree.
-fn same_list<F: Folder + Drop>(rt: &impl Abort, cache: &LruDiskCache<F>, plain: &Plain) -> Result<(), Fail> {
+fn same_list<F: Folder + Drop>(
+    rt: &impl Abort,
+    cache: &LruDiskCache<F>,
+    plain: &Plain,
+) -> Result<(), Fail> {
     let mut at = 0usize;
     let mut sum = plain.held;
     for (key, size) in cache.entries() {
@@ -114,7 +118,11 @@ fn same_content(
 }
 
 /// What is read of an open file, a few bytes at a time.
-fn read_all<F: Folder + Drop>(alloc: Global, cache: &mut LruDiskCache<F>, key: &str) -> Result<Result<Vec<u8>, Error>, Fail> {
+fn read_all<F: Folder + Drop>(
+    alloc: Global,
+    cache: &mut LruDiskCache<F>,
+    key: &str,
+) -> Result<Result<Vec<u8>, Error>, Fail> {
     let mut opened = match cache.get(key) {
         Ok(opened) => opened,
         Err(error) => return Ok(Err(error)),

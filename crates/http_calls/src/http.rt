@@ -46,9 +46,16 @@ impl<D: Dialer, F: Folder> Model for Client<D, F> {
 
     ghost Value = { ClientParts };
 
-    ghost view = { λ c. record { base = c.scheduler_url; token = c.auth_token; rewrites =
-        c.rewrite_includes_only; toolchains = c.toolchains; asked = D.asked c.dialer; faults = D.faults
-        c.dialer } };
+    ghost view = { λ c. record {
+      base = c.scheduler_url;
+      token = c.auth_token;
+      rewrites =
+          c.rewrite_includes_only;
+      toolchains = c.toolchains;
+      asked = D.asked c.dialer;
+      faults = D.faults
+          c.dialer;
+    } };
 }
 
 /// A refusal of the client's toolchains, as a call tells it.
@@ -77,9 +84,16 @@ impl<D: Dialer, F: Folder> Client<D, F> {
         auth_token: String,
         rewrite_includes_only: bool,
     ) -> Self
-        ensures { result ≡ record { base = scheduler_url; token = string_bytes auth_token; rewrites =
-            rewrite_includes_only; toolchains = toolchains; asked = D.asked dialer; faults = D.faults
-            dialer } }
+        ensures { result ≡ record {
+          base = scheduler_url;
+          token = string_bytes auth_token;
+          rewrites =
+              rewrite_includes_only;
+          toolchains = toolchains;
+          asked = D.asked dialer;
+          faults = D.faults
+              dialer;
+        } }
     {
         Client {
             alloc,
@@ -112,7 +126,12 @@ impl<D: Dialer, F: Folder> Client<D, F> {
         ensures { Allocates tc.now result self.old self.new }
     {
         match AllocCall::start(self.alloc, &self.scheduler_url, self.auth_token.get(), tc) {
-            Ok(call) => ask_url(self.alloc, &mut self.dialer, &self.scheduler_url, call.request()),
+            Ok(call) => ask_url(
+                self.alloc,
+                &mut self.dialer,
+                &self.scheduler_url,
+                call.request(),
+            ),
             Err(refusal) => Err(refusal),
         }
     }
@@ -122,7 +141,12 @@ impl<D: Dialer, F: Folder> Client<D, F> {
         ensures { AsksStatus result self.old self.new }
     {
         match StatusCall::start(self.alloc, &self.scheduler_url) {
-            Ok(call) => ask_url(self.alloc, &mut self.dialer, &self.scheduler_url, call.request()),
+            Ok(call) => ask_url(
+                self.alloc,
+                &mut self.dialer,
+                &self.scheduler_url,
+                call.request(),
+            ),
             Err(refusal) => Err(refusal),
         }
     }
@@ -147,11 +171,7 @@ impl<D: Dialer, F: Folder> Client<D, F> {
     }
 
     // Brings the archive of a toolchain to a job's server.
-    fn submit(
-        &mut self,
-        job: &JobAlloc,
-        tc: &Toolchain,
-    ) -> Result<SubmitToolchainResult, CallError>
+    fn submit(&mut self, job: &JobAlloc, tc: &Toolchain) -> Result<SubmitToolchainResult, CallError>
         ensures { Submits job.now tc.now result self.old self.new }
     {
         match self.get(tc) {
