@@ -1,8 +1,9 @@
 -- Runs whose inputs a packager packs.
-use Rattle.std.proofs.Common.{◌≡◌, ℕ, List, [], ◌∷◌, ◌++◌, codes, length, Option, Some, None, Result, Ok, refl, sym, ap, subst, ◌∙◌, append_assoc}
+use Rattle.std.proofs.Common.{◌≡◌, ℕ, ◌≤◌, List, [], ◌∷◌, ◌++◌, codes, length, Option, Some, None, Result, Ok, Err, refl, sym, ap, subst, ◌∙◌, append_assoc}
 use Rattle.std.specs.Fmt.{decimal}
 use Rattle.std.specs.Int.{w32, to_be_bytes}
 use Rattle.dist_types.specs.Addr.{addr_text}
+use Rattle.dist_types.specs.Cause.{Rose}
 use Rattle.dist_types.specs.declared.results.JobAlloc.{JobAlloc}
 use Rattle.dist_types.specs.declared.results.RunJobResult.{RunJobResult}
 use Rattle.dist_wire.specs.Reading as wire
@@ -12,11 +13,12 @@ use Rattle.http_head.specs.WrittenRequest.{request_text}
 use Rattle.http_routes.specs.RunHead.{run_body}
 use Rattle.http_routes.specs.Written.{post_with, run_with}
 use Rattle.path_pkg.specs.Append.{Appends}
-use Rattle.http_calls.specs.Asking.{dialed_host}
+use Rattle.http_calls.specs.Asking.{Asks, dialed_host}
 use Rattle.http_calls.specs.Calls.{run_request}
-use Rattle.http_calls.specs.Client.{ClientParts, IsAsked, AfterPacking}
+use Rattle.http_calls.specs.Client.{ClientParts, IsAsked, AfterPacking, PacksRequest, with_dialer}
 use Rattle.http_calls.specs.Servers.{port_at}
 use Rattle.http_calls.specs.declared.error.CallError.{CallError}
+use Rattle.http_calls.specs.declared.error.CallError.TheVariants.{LinkFault}
 
 -- bytes behind the body of a run without inputs are its inputs
 body_more : (run : RunJobHttpRequest) (more : List ℕ) → run_body run [] ++ more ≡ run_body run more
@@ -43,3 +45,15 @@ pub ran_after : (job : JobAlloc) (run : RunJobHttpRequest) (inputs request : Lis
 ran_after job run inputs request answer sent old new is same h =
     subst (λ a. IsAsked wire.ran_at (dialed_host job.server_id) (port_at job.server_id) (request_text (run_request job run inputs)) a old new) (sym same)
     (subst (λ q. IsAsked wire.ran_at (dialed_host job.server_id) (port_at job.server_id) q sent old new) is h)
+
+-- the same run by another name
+pub packed_same : (Uncalled : Type 0) (told : Option (List ℕ)) (before after : ℕ) (job : JobAlloc) (run other : RunJobHttpRequest) (answer : Result (List ℕ) CallError)
+    → run ≡ other → PacksRequest Uncalled told before after job run answer → PacksRequest Uncalled told before after job other answer
+packed_same Uncalled told before after job run other answer e h = subst (λ r. PacksRequest Uncalled told before after job r answer) e h
+
+-- what was asked is said by another text of the request
+pub asked_as : {M : Type 0} (at : List ℕ → Option (M × List ℕ)) (host : List ℕ) (port : ℕ) (sent made told : List ℕ) (answer : Result M CallError) (old new : ClientParts)
+    → sent ≡ made → made ≡ told → Asks at host port sent answer old.asked new.asked → (answer ≡ Err LinkFault → Rose old.faults new.faults)
+    → old.faults ≤ new.faults → new ≡ with_dialer old new.asked new.faults → IsAsked at host port told answer old new
+asked_as at host port sent made told answer old new is_made is_told asks cause later changes =
+    record { asks = subst (λ q. Asks at host port q answer old.asked new.asked) (is_made ∙ is_told) asks; cause = cause; later = later; changes = changes }
