@@ -132,7 +132,7 @@ fn idle_connections(rt: HostRuntime) -> Result<(), Fail> {
         SplitMix64::seed_from_u64(1),
         1,
         Some(1 + IDLE + ASKED),
-        50,
+        1_000,
     );
     let (answered, served) = thread::join(
         &rt,
