@@ -6,7 +6,3 @@
 mod archives;
 #[cfg(test)]
 mod entries;
-#[cfg(test)]
-mod model;
-#[cfg(test)]
-mod orders;

@@ -11,12 +11,4 @@ mod gate;
 #[cfg(test)]
 mod loopback;
 #[cfg(test)]
-mod server_calls;
-#[cfg(test)]
-mod server_cuts;
-#[cfg(test)]
-mod server_life;
-#[cfg(test)]
-mod server_loopback;
-#[cfg(test)]
 mod slow;
