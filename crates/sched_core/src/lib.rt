@@ -24,3 +24,6 @@ mod spending;
 mod standing;
 pub mod state;
 pub mod texts;
+mod vectors;
+
+pub use standing::HEARTBEAT_TIMEOUT;
