@@ -121,6 +121,31 @@ const ROWS: &[(&str, &str, u8, &str, &str, usize)] = &[
         "sccache-dist: bad configuration: file missing\n",
         0,
     ),
+    (
+        "x|storm|0",
+        "",
+        0,
+        "storm 0 core 0 reserved 0 built 0 stored 0 listed 0 open 0\n",
+        "",
+        0,
+    ),
+    (
+        "x|storm|72",
+        "",
+        0,
+        "storm 72 core 40 reserved 16 built 0 stored 0 listed 0 open 16\n",
+        "",
+        0,
+    ),
+    (
+        "x|storm|225",
+        "",
+        0,
+        "storm 225 core 97 reserved 16 built 16 stored 8 listed 8 open 0\n",
+        "",
+        0,
+    ),
+    ("x|storm|100001", "", 2, "", USAGE, 0),
 ];
 
 fn holds(

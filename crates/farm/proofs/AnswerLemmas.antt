@@ -15,10 +15,10 @@ use Rattle.farm_script.specs.FirstFaulty.{IsFirstFaulty, IsFaultless}
 use Rattle.farm_config.specs.declared.files.NamedFile.{NamedFile}
 use Rattle.farm_words.specs.declared.command.AuthSubcommand.{AuthSubcommand}
 use Rattle.farm_words.specs.declared.command.Command.{Command}
-use Rattle.farm_words.specs.declared.command.Command.TheVariants.{Farm, Auth, Scheduler, Server}
-use Rattle.farm_words.specs.Asked.{Asked, farm, random, token_under, token_of, scheduler, server, asked_by}
+use Rattle.farm_words.specs.declared.command.Command.TheVariants.{Farm, Storm, Auth, Scheduler, Server}
+use Rattle.farm_words.specs.Asked.{Asked, farm, random, token_under, token_of, scheduler, server, storm, asked_by}
 use Rattle.farm_words.specs.Parsed.{IsParsed, OverFiles, command_in}
-use Rattle.farm.specs.Command.{fault_status, Side, Serving, Called, Moment, IsReadWhole, IsFarmRun, IsAuthRun, IsStarted, IsCarriedOut, IsUntouched, IsUnparsed, IsWorked, IsUsage, IsDoneBy, IsDone, IsTold, IsLong, StandsFor, IsReported, IsAnswered}
+use Rattle.farm.specs.Command.{fault_status, Side, Serving, Called, Moment, IsReadWhole, IsFarmRun, IsStormRun, IsAuthRun, IsStarted, IsCarriedOut, IsUntouched, IsUnparsed, IsWorked, IsUsage, IsDoneBy, IsDone, IsTold, IsLong, StandsFor, IsReported, IsAnswered}
 
 status_some : (f : FarmFault) → 0 < fault_status f
 status_some Usage = omega arith
@@ -64,6 +64,17 @@ memory_run WriteFault i j o p long h = absurd long
 memory_run ServeFault i j o p long h = absurd long
 memory_run Memory i j o p long h = absurd long
 
+memory_storm : (n : ℕ) (met : FarmFault) (o p : Side) → IsLong met → IsStormRun n (Err met) o p → ⊥
+memory_storm n (BadConfig c) o p long h = h
+memory_storm n (BadLine k) o p long h = h
+memory_storm n (DuplicateAddress k) o p long h = h
+memory_storm n (ScopedAddress k) o p long h = h
+memory_storm n Usage o p long h = long
+memory_storm n ReadFault o p long h = long
+memory_storm n WriteFault o p long h = long
+memory_storm n ServeFault o p long h = long
+memory_storm n Memory o p long h = long
+
 memory_auth : (auth : AuthSubcommand) (met : FarmFault) (s t : Stream) (o p : Side) → IsLong met → IsAuthRun auth (Err met) s t o p → IsAuthRun auth (Err Memory) s t o p
 memory_auth auth (BadConfig (Key key)) s t o p long h = h.2
 memory_auth auth (BadConfig Missing) s t o p long h = absurd h
@@ -91,6 +102,7 @@ no_start row Memory s t long h = long
 
 memory_out : (command : Command) (met : FarmFault) (before after : Moment) → IsLong met → IsCarriedOut command (Err met) before after → IsCarriedOut command (Err Memory) before after
 memory_out Farm met before after long h = (memory_run met before.input after.input before.out after.out long h.0, h.1, h.2)
+memory_out (Storm n) met before after long h = absurd (memory_storm n met before.out after.out long h.0)
 memory_out (Auth auth) met before after long h = (memory_auth auth met before.random after.random before.out after.out long h.0, h.1, h.2)
 memory_out (Scheduler config) met before after long h = absurd (no_start (scheduler_call config) met before.serve after.serve long h.0)
 memory_out (Server config) met before after long h = absurd (no_start (server_call config) met before.serve after.serve long h.0)
@@ -294,6 +306,7 @@ input_run Usage answer i j o p h is four five = absurd h
 input_out : (command : Command) (f : FarmFault) (answer : ℕ) (before after : Moment) → IsCarriedOut command (Err f) before after → answer ≡ fault_status f
     → answer ≢ 4 → answer ≢ 5 → after.input.faults ≡ before.input.faults
 input_out Farm f answer before after h is four five = input_run f answer before.input after.input before.out after.out h.0 is four five
+input_out (Storm n) f answer before after h is four five = ap (λ (s : Side). s.faults) h.1
 input_out (Auth auth) f answer before after h is four five = ap (λ (s : Side). s.faults) h.1
 input_out (Scheduler config) f answer before after h is four five = ap (λ (s : Side). s.faults) h.1
 input_out (Server config) f answer before after h is four five = ap (λ (s : Side). s.faults) h.1
@@ -311,6 +324,7 @@ input_done (Some what) before after (inr h) = by_command h.command h.carried_out
   where
     by_command : (command : Command) → IsCarriedOut command (Ok tt) before after → after.input.faults ≡ before.input.faults
     by_command Farm out = out.0.0.1
+    by_command (Storm n) out = ap (λ (s : Side). s.faults) out.1
     by_command (Auth auth) out = ap (λ (s : Side). s.faults) out.1
     by_command (Scheduler config) out = ap (λ (s : Side). s.faults) out.1
     by_command (Server config) out = ap (λ (s : Side). s.faults) out.1
@@ -332,6 +346,17 @@ out_run (BadConfig c) answer i j o p h is five = absurd h
 out_run ServeFault answer i j o p h is five = absurd h
 out_run Usage answer i j o p h is five = absurd h
 
+out_storm : (n : ℕ) (f : FarmFault) (answer : ℕ) (o p : Side) → IsStormRun n (Err f) o p → answer ≡ fault_status f → answer ≢ 5 → p.faults ≡ o.faults
+out_storm n Memory answer o p h is five = ap (λ (s : Side). s.faults) h
+out_storm n WriteFault answer o p h is five = absurd (five is)
+out_storm n (BadLine k) answer o p h is five = absurd h
+out_storm n (DuplicateAddress k) answer o p h is five = absurd h
+out_storm n (ScopedAddress k) answer o p h is five = absurd h
+out_storm n ReadFault answer o p h is five = absurd h
+out_storm n (BadConfig c) answer o p h is five = absurd h
+out_storm n ServeFault answer o p h is five = absurd h
+out_storm n Usage answer o p h is five = absurd h
+
 out_auth : (auth : AuthSubcommand) (f : FarmFault) (answer : ℕ) (s t : Stream) (o p : Side) → IsAuthRun auth (Err f) s t o p → answer ≡ fault_status f
     → answer ≢ 5 → p.faults ≡ o.faults
 out_auth auth (BadConfig (Key key)) answer s t o p h is five = ap (λ (s : Side). s.faults) h.2
@@ -350,6 +375,7 @@ out_auth auth Usage answer s t o p h is five = absurd h
 out_out : (command : Command) (f : FarmFault) (answer : ℕ) (before after : Moment) → IsCarriedOut command (Err f) before after → answer ≡ fault_status f
     → answer ≢ 5 → after.out.faults ≡ before.out.faults
 out_out Farm f answer before after h is five = out_run f answer before.input after.input before.out after.out h.0 is five
+out_out (Storm n) f answer before after h is five = out_storm n f answer before.out after.out h.0 is five
 out_out (Auth auth) f answer before after h is five = out_auth auth f answer before.random after.random before.out after.out h.0 is five
 out_out (Scheduler config) f answer before after h is five = ap (λ (s : Side). s.faults) h.2
 out_out (Server config) f answer before after h is five = ap (λ (s : Side). s.faults) h.2
@@ -367,6 +393,7 @@ out_done (Some what) before after (inr h) = by_command h.command h.carried_out
   where
     by_command : (command : Command) → IsCarriedOut command (Ok tt) before after → after.out.faults ≡ before.out.faults
     by_command Farm out = out.0.1
+    by_command (Storm n) out = out.0.3
     by_command (Auth auth) out = out.0.4
     by_command (Scheduler config) out = ap (λ (s : Side). s.faults) out.2
     by_command (Server config) out = ap (λ (s : Side). s.faults) out.2
@@ -393,6 +420,7 @@ serve_started row Usage answer s t h is seven = absurd h
 serve_out : (command : Command) (f : FarmFault) (answer : ℕ) (before after : Moment) → IsCarriedOut command (Err f) before after → answer ≡ fault_status f
     → answer ≢ 7 → after.serve.faults ≡ before.serve.faults
 serve_out Farm f answer before after h is seven = ap (λ (s : Serving). s.faults) h.2
+serve_out (Storm n) f answer before after h is seven = ap (λ (s : Serving). s.faults) h.3
 serve_out (Auth auth) f answer before after h is seven = ap (λ (s : Serving). s.faults) h.2
 serve_out (Scheduler config) f answer before after h is seven = serve_started (scheduler_call config) f answer before.serve after.serve h.0 is seven
 serve_out (Server config) f answer before after h is seven = serve_started (server_call config) f answer before.serve after.serve h.0 is seven
@@ -410,6 +438,7 @@ serve_done (Some what) before after (inr h) = by_command h.command h.carried_out
   where
     by_command : (command : Command) → IsCarriedOut command (Ok tt) before after → after.serve.faults ≡ before.serve.faults
     by_command Farm out = ap (λ (s : Serving). s.faults) out.2
+    by_command (Storm n) out = ap (λ (s : Serving). s.faults) out.3
     by_command (Auth auth) out = ap (λ (s : Serving). s.faults) out.2
     by_command (Scheduler config) out = out.0.1
     by_command (Server config) out = out.0.1
@@ -419,6 +448,47 @@ served_of zero c e x a seven five = serve_done (asked_by c.words) c.before c.aft
 served_of (suc k) c e x a seven five =
     let t = a.told (omega arith) in
     serve_fault (asked_by c.words) t.0 (suc k) c.before c.after t.1 (own t.0 (suc k) e x t.2 five).0 seven
+
+-- ---- the storm
+
+is_storm : (n : ℕ) (command : Command) → command_in (storm n) [] ≡ Ok command → Storm n ≡ command
+is_storm n command e = cc
+
+storm_status : (n : ℕ) (f : FarmFault) (answer : ℕ) (o p e x : Side) → IsStormRun n (Err f) o p → IsTold f answer e x → (answer ≡ 0) ⊎ ((answer ≡ 3) ⊎ (answer ≡ 5))
+storm_status n f answer o p e x h (inr t) = inr (inr t.0)
+storm_status n Memory answer o p e x h (inl t) = inr (inl t.0)
+storm_status n WriteFault answer o p e x h (inl t) = inr (inr t.0)
+storm_status n (BadLine k) answer o p e x h (inl t) = absurd h
+storm_status n (DuplicateAddress k) answer o p e x h (inl t) = absurd h
+storm_status n (ScopedAddress k) answer o p e x h (inl t) = absurd h
+storm_status n ReadFault answer o p e x h (inl t) = absurd h
+storm_status n (BadConfig c) answer o p e x h (inl t) = absurd h
+storm_status n ServeFault answer o p e x h (inl t) = absurd h
+storm_status n Usage answer o p e x h (inl t) = absurd h
+
+storm_unparsed : (n : ℕ) (f : FarmFault) (before after : Moment) → IsUnparsed (storm n) (Err f) before after → f ≡ Memory
+storm_unparsed n Memory before after h = refl
+storm_unparsed n (BadConfig c) before after h = absurd h.0.0
+storm_unparsed n (BadLine k) before after h = absurd h.0
+storm_unparsed n (DuplicateAddress k) before after h = absurd h.0
+storm_unparsed n (ScopedAddress k) before after h = absurd h.0
+storm_unparsed n Usage before after h = absurd h.0
+storm_unparsed n ReadFault before after h = absurd h.0
+storm_unparsed n WriteFault before after h = absurd h.0
+storm_unparsed n ServeFault before after h = absurd h.0
+
+storm_done : (n : ℕ) (f : FarmFault) (answer : ℕ) (before after : Moment) (e x : Side) → IsDoneBy (Some (storm n)) (Err f) before after → IsTold f answer e x
+    → (answer ≡ 0) ⊎ ((answer ≡ 3) ⊎ (answer ≡ 5))
+storm_done n f answer before after e x (inl h) told = inr (memory_status f answer e x (storm_unparsed n f before after h) told)
+storm_done n f answer before after e x (inr w) told =
+    let out : IsCarriedOut (Storm n) (Err f) before after = subst (λ (k : Command). IsCarriedOut k (Err f) before after) (sym (is_storm n w.command w.parsed.1)) w.carried_out in
+    storm_status n f answer before.out after.out e x out.0 told
+
+pub storm_of : (answer : ℕ) (c : Called) (e x : Side) → IsAnswered answer c e x → (n : ℕ) → asked_by c.words ≡ Some (storm n) → (answer ≡ 0) ⊎ ((answer ≡ 3) ⊎ (answer ≡ 5))
+storm_of zero c e x a n named = inl refl
+storm_of (suc k) c e x a n named =
+    let t = a.told (omega arith) in
+    storm_done n t.0 (suc k) c.before c.after e x (subst (λ (w : Option Asked). IsDoneBy w (Err t.0) c.before c.after) named t.1) t.2
 
 -- ---- words that name no command, and words that do
 
@@ -457,6 +527,7 @@ two_is Memory e = absurd (omega (arith, e))
 
 no_usage_out : (command : Command) (before after : Moment) → IsCarriedOut command (Err Usage) before after → ⊥
 no_usage_out Farm before after h = h.0
+no_usage_out (Storm n) before after h = h.0
 no_usage_out (Auth auth) before after h = h.0
 no_usage_out (Scheduler config) before after h = h.0
 no_usage_out (Server config) before after h = h.0
@@ -489,6 +560,8 @@ clash (scheduler path) told files command cause there bad good =
 clash (server path) told files command cause there bad good =
     let here : command_in (server path) told ≡ Ok command = subst (λ (o : Option (List NamedFile)). IfSome o (λ t. command_in (server path) t ≡ Ok command)) there good in
     let e = sym bad ∙ here in absurd cc
+
+clash (storm n) told files command cause there bad good = let e = bad in absurd cc
 
 bad_status : (what : Asked) (f : FarmFault) (answer : ℕ) (before after : Moment) (e x : Side) → IsUnparsed what (Err f) before after → IsTold f answer e x
     → (answer ≡ 6) ⊎ ((answer ≡ 3) ⊎ (answer ≡ 5))

@@ -6,7 +6,7 @@ use Rattle.farm_config.specs.declared.files.NamedFile.{NamedFile}
 use Rattle.farm_script.specs.declared.fault.FarmFault.{FarmFault}
 use Rattle.farm_script.specs.declared.fault.FarmFault.TheVariants.{Usage, Memory}
 use Rattle.farm_words.specs.declared.command.Command.{Command}
-use Rattle.farm_words.specs.declared.command.Command.TheVariants.{Farm, Auth, Scheduler, Server}
+use Rattle.farm_words.specs.declared.command.Command.TheVariants.{Farm, Storm, Auth, Scheduler, Server}
 use Rattle.farm_words.specs.Asked.{Asked}
 use Rattle.farm_words.specs.Parsed.{IsParsed}
 use Rattle.farm.specs.Command.{Moment, moment, IsCarriedOut, IsUntouched, IsUsage, IsDoneBy}
@@ -16,6 +16,7 @@ pub carried_out_at : (command : Command) (result : Result ⊤ FarmFault) (before
     → IsCarriedOut command result (moment before.input before.out before.random before.serve) (moment after.input after.out after.random after.serve)
     → IsCarriedOut command result before after
 carried_out_at Farm result before after h = h
+carried_out_at (Storm n) result before after h = h
 carried_out_at (Auth auth) result before after h = h
 carried_out_at (Scheduler config) result before after h = h
 carried_out_at (Server config) result before after h = h

@@ -21,6 +21,7 @@ use Rattle.farm_words.specs.Asked.{Asked, asked_by}
 use Rattle.farm_words.specs.Parsed.{IsParsed}
 use Rattle.farm_auth.specs.Line.{auth_line, stream_left}
 use Rattle.farm_run.specs.RunText.{IsRunText}
+use Rattle.farm_storm.specs.Summary.{IsStormText}
 
 -- ---- texts and statuses
 
@@ -102,6 +103,15 @@ IsFarmRun (Err WriteFault) input input_after out out_after = IsReadWhole input i
 IsFarmRun (Err Memory) input input_after out out_after = (input_after.faults ≡ input.faults) × (out_after ≡ out)
 IsFarmRun (Err other) input input_after out out_after = ⊥
 
+-- ---- the storm
+
+-- The summary of the storm of so many events was written; or a front of it, and out failed.
+abbrev pub IsStormRun : ℕ → Result ⊤ FarmFault → Side → Side → Type 0
+IsStormRun n (Ok x) out out_after = (text : List ℕ) × IsStormText n text × Added text out.content out_after.content × (out_after.faults ≡ out.faults)
+IsStormRun n (Err WriteFault) out out_after = (text : List ℕ) × IsStormText n text × Began text out.content out_after.content × Rose out.faults out_after.faults
+IsStormRun n (Err Memory) out out_after = out_after ≡ out
+IsStormRun n (Err other) out out_after = ⊥
+
 -- ---- keys and tokens
 
 -- The line of the command was written; or a front of it, and out failed; or its key is not base64url.
@@ -128,6 +138,8 @@ IsStarted row (Err other) serve serve_after = ⊥
 abbrev pub IsCarriedOut : Command → Result ⊤ FarmFault → Moment → Moment → Type 0
 IsCarriedOut command.Farm result before after =
     IsFarmRun result before.input after.input before.out after.out × (after.random ≡ before.random) × (after.serve ≡ before.serve)
+IsCarriedOut (command.Storm n) result before after =
+    IsStormRun n result before.out after.out × (after.input ≡ before.input) × (after.random ≡ before.random) × (after.serve ≡ before.serve)
 IsCarriedOut (command.Auth auth) result before after =
     IsAuthRun auth result before.random after.random before.out after.out × (after.input ≡ before.input) × (after.serve ≡ before.serve)
 IsCarriedOut (command.Scheduler config) result before after =

@@ -10,12 +10,13 @@ ghost use Rattle.farm_script.specs.FirstFaulty.{IsFirstFaulty, IsFaultless};
 ghost use Rattle.farm_script.specs.declared.fault.FarmFault.{FarmFault as Fault};
 ghost use Rattle.farm_script.specs.declared.fault.FarmFault.TheVariants as fault;
 ghost use Rattle.farm_script.specs.declared.fault.ConfigCause.{ConfigCause as Cause};
-ghost use Rattle.farm_words.specs.Asked.{Asked, asked_by, farm};
+ghost use Rattle.farm_words.specs.Asked.{Asked, asked_by, farm, storm};
 ghost use Rattle.farm_words.specs.Parsed.{command_in};
 ghost use Rattle.farm.specs.Command.{IsFarmRun, IsAuthRun, IsStarted, IsCarriedOut, moment, IsDone, IsTold, IsAnswered};
 
 use crate::report::report;
 use crate::script_run::run_of;
+use crate::storm_run::run_storm;
 use dist_config::config::{SchedulerConfig, ServerConfig};
 use dist_config::serve::Serve;
 use dist_config::start::{Scheduler, Server};
@@ -134,6 +135,7 @@ fn carry_out<S: Source, K: Sink, R: Rng, N: Serve>(
 {
     match command {
         Command::Farm => run_farm(alloc, input, out),
+        Command::Storm(count) => run_storm(alloc, count, out),
         Command::Auth(auth) => run_auth(alloc, &auth, random, out),
         Command::Scheduler(config) => start_scheduler(config, serve),
         Command::Server(config) => start_server(config, serve),
@@ -229,6 +231,9 @@ pub fn dist_main<S: Source, K: Sink, E: Sink, D: Files, R: Rng, N: Serve>(
     // Where the lines were judged, input has left what stands behind one byte past the limit, and no more.
     ensures left { asked_by (map string_bytes words.now) ≡ Some farm → result ≤ 1
         → S.left input.new ≡ left_behind 67108865 (S.left input.old) }
+    // A storm is 0, without want of memory and faults of out and errs.
+    ensures storm { (n : ℕ) → asked_by (map string_bytes words.now) ≡ Some (storm n)
+        → (result ≡ 0) ⊎ (result ≡ 3) ⊎ (result ≡ 5) }
     // A fault of input comes before what its bytes say, and out and errs fail in no status but 5.
     ensures order { result ≢ 4 → result ≢ 5 → S.faults input.new ≡ S.faults input.old }
     ensures counts { result ≢ 5

@@ -17,3 +17,4 @@ pub use farm_words::{option_words, parse, token_length};
 pub mod command;
 mod report;
 mod script_run;
+mod storm_run;

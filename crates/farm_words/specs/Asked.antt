@@ -2,7 +2,7 @@
 use Rattle.std.specs.Prelude.{ℕ, ◌/◌, ◌%◌, List, [], ◌∷◌, Bool, ◌&&◌, ◌==◌, is_some, nat_le, if◌then◌else◌, Option, Some, None, option_map, option_and_then, codes}
 use Rattle.std.specs.Str.{bytes_eq}
 use Rattle.std.specs.Str.Parse.{without_leading_plus, digits_value}
-use Rattle.dist_types.specs.Addr.{addr_in, is_digits}
+use Rattle.dist_types.specs.Addr.{addr_in, is_digits, is_plain}
 use Rattle.dist_types.specs.declared.addr.Addr.{Addr}
 use Rattle.farm_words.specs.Options.{Said, options_in}
 
@@ -18,6 +18,8 @@ pub data Asked : Type 0 where
   -- a scheduler, or a build server, of the file of this name
   scheduler : List ℕ → Asked
   server : List ℕ → Asked
+  -- the storm of so many events
+  storm : ℕ → Asked
 
 -- a number of bits: an optional plus and at least one digit, a multiple of 8 from 64 to 4096
 abbrev pub is_length : ℕ → Bool
@@ -28,11 +30,20 @@ bits_in text =
     if is_digits (without_leading_plus text) && is_length (digits_value 10 (without_leading_plus text))
     then Some (digits_value 10 (without_leading_plus text)) else None
 
+-- a number of events: digits with no zero before others, up to 100000
+unfoldable pub events_in : List ℕ → Option ℕ
+events_in text = if is_plain text && nat_le (digits_value 10 text) 100000 then Some (digits_value 10 text) else None
+
 -- ---- rows, by what stands behind the words of the command
 
 abbrev pub farm_row : List (List ℕ) → Option Asked
 farm_row [] = Some farm
 farm_row (word ∷ words) = None
+
+abbrev pub storm_row : List (List ℕ) → Option Asked
+storm_row [] = None
+storm_row (word ∷ []) = option_map storm (events_in word)
+storm_row (word ∷ next ∷ words) = None
 
 abbrev pub key_row : List (List ℕ) → Option Asked
 key_row [] = Some (random 32)
@@ -87,6 +98,7 @@ command_row (word ∷ words) =
     else if bytes_eq word (codes "auth") then auth_row words
     else if bytes_eq word (codes "scheduler") then option_map scheduler (option_and_then file_of (options_in words))
     else if bytes_eq word (codes "server") then option_map server (option_and_then file_of (options_in words))
+    else if bytes_eq word (codes "storm") then storm_row words
     else None
 
 -- the first word is the program's name

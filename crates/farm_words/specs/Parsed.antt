@@ -13,9 +13,9 @@ use Rattle.farm_config.specs.Told.{◌>>=◌}
 use Rattle.farm_config.specs.Profile.{scheduler_config_in, server_config_in}
 use Rattle.farm_config.specs.Reading.{says, IsFileFault}
 use Rattle.farm_words.specs.declared.command.Command.{Command}
-use Rattle.farm_words.specs.declared.command.Command.TheVariants.{Auth, Scheduler, Server, Farm}
+use Rattle.farm_words.specs.declared.command.Command.TheVariants.{Auth, Scheduler, Server, Farm, Storm}
 use Rattle.farm_words.specs.declared.command.AuthSubcommand.TheVariants.{Base64, JwtHS256ServerToken}
-use Rattle.farm_words.specs.Asked.{Asked, farm, random, token_under, token_of, scheduler, server}
+use Rattle.farm_words.specs.Asked.{Asked, farm, random, token_under, token_of, scheduler, server, storm}
 
 -- the token of a server under the signing key of a scheduler, which has one
 abbrev pub signed : Addr → ServerAuth → Result Command ConfigCause
@@ -31,6 +31,7 @@ command_in (token_under address key) files = Ok (Auth (JwtHS256ServerToken key a
 command_in (token_of address path) files = says scheduler_config_in path files >>= (λ config. signed address config.server_auth)
 command_in (scheduler path) files = says scheduler_config_in path files >>= (λ config. Ok (Scheduler config))
 command_in (server path) files = says server_config_in path files >>= (λ config. Ok (Server config))
+command_in (storm n) files = Ok (Storm n)
 
 -- what is said over the files that a command reads, where they are told; over none for a command that reads none
 abbrev pub OverFiles : Asked → Option (List NamedFile) → (List NamedFile → Type 0) → Type 0
@@ -40,6 +41,7 @@ OverFiles (token_under address key) files says = says []
 OverFiles (token_of address path) files says = IfSome files says
 OverFiles (scheduler path) files says = IfSome files says
 OverFiles (server path) files says = IfSome files says
+OverFiles (storm n) files says = says []
 
 -- a command that reads a file
 abbrev pub ReadsFile : Asked → Type 0
@@ -49,6 +51,7 @@ ReadsFile (token_under address key) = ⊥
 ReadsFile (token_of address path) = Unit {0}
 ReadsFile (scheduler path) = Unit {0}
 ReadsFile (server path) = Unit {0}
+ReadsFile (storm n) = ⊥
 
 -- The answer is the command that is asked for over the files, and reading did not fail; or its file has a fault, which is told; or memory ran out.
 abbrev pub IsParsed : Asked → Result Command FarmFault → Option (List NamedFile) → ℕ → ℕ → Type 0

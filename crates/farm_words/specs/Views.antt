@@ -1,7 +1,7 @@
 -- What is asked for, as the Rust enum holds it.
-use Rattle.farm_words.specs.Asked.{Asked, farm, random, token_under, token_of, scheduler, server}
+use Rattle.farm_words.specs.Asked.{Asked, farm, random, token_under, token_of, scheduler, server, storm}
 use Rattle.farm_words.specs.declared.asked.Asked as code
-use Rattle.farm_words.specs.declared.asked.Asked.TheVariants.{Farm, Random, TokenUnder, TokenOf, Scheduler, Server}
+use Rattle.farm_words.specs.declared.asked.Asked.TheVariants.{Farm, Random, TokenUnder, TokenOf, Scheduler, Server, Storm}
 
 abbrev pub asked_of : code.Asked → Asked
 asked_of Farm = farm
@@ -10,3 +10,4 @@ asked_of (TokenUnder address key) = token_under address key.now
 asked_of (TokenOf address path) = token_of address path.now
 asked_of (Scheduler path) = scheduler path.now
 asked_of (Server path) = server path.now
+asked_of (Storm count) = storm count

@@ -1,10 +1,11 @@
 //! What words ask for, by the rows of the command line.
 ghost use Rattle.std.specs.Prelude.{◌≡◌, ◌/◌, ◌∷◌, IfOk, map, option_map, option_and_then, string_bytes};
 ghost use Rattle.farm_words.specs.Options.{said_of, options_in};
-ghost use Rattle.farm_words.specs.Asked.{farm_row, key_row, shared_length, shared_by, keyed, token_by, file_of, auth_row, command_row, asked_by};
+ghost use Rattle.farm_words.specs.Asked.{farm_row, storm_row, key_row, shared_length, shared_by, keyed, token_by, file_of, auth_row, command_row, asked_by};
 ghost use Rattle.farm_words.specs.Asked as spec;
 ghost use Rattle.farm_words.specs.Views.{asked_of};
 
+use crate::events::events_in;
 use crate::option_words::{Options, options_in};
 use crate::token_length::TokenLength;
 use dist_types::addr::{Addr, read_addr};
@@ -32,6 +33,8 @@ pub enum Asked<'a> {
     Scheduler(&'a str),
     /// A build server of the file of this name.
     Server(&'a str),
+    /// The storm of so many events.
+    Storm(u64),
 }
 
 fn farm_row(words: &[String]) -> Option<Asked<'_>>
@@ -40,6 +43,19 @@ fn farm_row(words: &[String]) -> Option<Asked<'_>>
     match words.split_first() {
         None => Some(Asked::Farm),
         Some(_) => None,
+    }
+}
+
+fn storm_row(words: &[String]) -> Option<Asked<'_>>
+    ensures { option_map asked_of result ≡ storm_row (map string_bytes words.now) }
+{
+    match words {
+        [] => None,
+        [word] => match events_in(word.as_str()) {
+            Some(count) => Some(Asked::Storm(count)),
+            None => None,
+        },
+        [_, _, ..] => None,
     }
 }
 
@@ -224,6 +240,9 @@ fn command_row<'a>(alloc: Global, words: &'a [String]) -> Result<Option<Asked<'a
     }
     if word == "server" {
         return server_row(alloc, rest);
+    }
+    if word == "storm" {
+        return Ok(storm_row(rest));
     }
     Ok(None)
 }

@@ -32,4 +32,6 @@ pub enum Command {
     Server(ServerConfig),
     /// The run of a script.
     Farm,
+    /// The storm of so many events.
+    Storm(u64),
 }

@@ -8,6 +8,7 @@
 
 pub mod asked;
 pub mod command;
+mod events;
 pub mod option_words;
 pub mod parse;
 pub mod token_length;

@@ -122,6 +122,7 @@ fn command_of<D: Files>(
         Asked::TokenOf(address, path) => token_of(alloc, files, address, path),
         Asked::Scheduler(path) => scheduler_of(alloc, files, path),
         Asked::Server(path) => server_of(alloc, files, path),
+        Asked::Storm(count) => Ok(Command::Storm(count)),
     }
 }
 

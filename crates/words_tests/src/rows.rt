@@ -1,4 +1,4 @@
-//! The rows: words behind the program's name, and whether they stand in a row. The first seventy-three are
+//! The rows: words behind the program's name, and whether they stand in a row. The first seventy-three are among
 //! those of `tests/command-lines`.
 use farm_words::asked::asked_by;
 use farm_words::option_words::options_in;
@@ -161,6 +161,21 @@ const ROWS: &[(&str, bool)] = &[
     ("x|--", false),
     ("x", false),
     ("x|farm", true),
+    ("x|storm|0", true),
+    ("x|storm|9", true),
+    ("x|storm|72", true),
+    ("x|storm|100000", true),
+    ("x|storm", false),
+    ("x|storm|72|72", false),
+    ("x|storm|100001", false),
+    ("x|storm|18446744073709551616", false),
+    ("x|storm|00", false),
+    ("x|storm|072", false),
+    ("x|storm|+72", false),
+    ("x|storm|-72", false),
+    ("x|storm|72x", false),
+    ("x|storm|", false),
+    ("x|storm|--|72", false),
     ("x|scheduler|--config|a|--config|b", false),
     ("x|scheduler|--config|--config", false),
     ("x|scheduler|--config=--config", true),

@@ -1,4 +1,4 @@
-use Rattle.farm.proofs.AnswerLemmas.{answered, statuses_of, faulty_of, faultless_of, left_of, order_of, counts_of, no_command_of, command_of, configured_of, served_of}
+use Rattle.farm.proofs.AnswerLemmas.{answered, statuses_of, faulty_of, faultless_of, left_of, order_of, counts_of, no_command_of, command_of, configured_of, served_of, storm_of}
 use Rattle.farm.proofs.command.dist_main.Goals as goal
 
 -- what was done, reported
@@ -31,6 +31,9 @@ returns-clause-no_command g c = no_command_of c.report.result _ _ _ (told g c)
 
 pub returns-clause-command : goal.returns-clause-command
 returns-clause-command g c = command_of c.report.result _ _ _ (told g c)
+
+pub returns-clause-storm : goal.returns-clause-storm
+returns-clause-storm g c = storm_of c.report.result _ _ _ (told g c)
 
 pub returns-clause-configured : goal.returns-clause-configured
 returns-clause-configured g c = configured_of c.report.result _ _ _ (told g c)

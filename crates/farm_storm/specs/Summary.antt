@@ -1,0 +1,76 @@
+-- The summary of a storm.
+use Rattle.std.specs.Prelude.{◌≡◌, ℕ, List, [], length, count_by, Bool, true, false, is_some, Option, Some, None, codes}
+use Rattle.std.specs.Fmt.{decimal}
+use Rattle.sched_core.specs.Job.{open_jobs}
+use Rattle.sched_core.specs.Reservation.{is_booked}
+use Rattle.sched_core.specs.declared.entry.CoreEntry.{CoreEntry}
+use Rattle.build_server.specs.declared.run.Ran.{Ran}
+use Rattle.build_server.specs.declared.run.Ran.TheVariants as ran
+use Rattle.build_server.specs.declared.submit.Submitted.{Submitted}
+use Rattle.build_server.specs.declared.submit.Submitted.TheVariants as submitted
+use Rattle.farm_script.specs.Texts.{◌⧺◌}
+use Rattle.farm_run.specs.Next.{EachNext}
+use Rattle.farm_run.specs.Seen.{core_log}
+use Rattle.farm_run.specs.declared.entry.Entry.{Entry}
+use Rattle.farm_run.specs.declared.entry.Step.{Step}
+use Rattle.farm_run.specs.declared.entry.StepKind.{StepKind}
+use Rattle.farm_run.specs.declared.entry.StepKind.TheVariants as step
+use Rattle.farm_storm.specs.Storm.{storm_setup, storm_events}
+
+-- ---- what is counted of an entry
+
+-- the scheduler made an entry that reserves a job
+abbrev pub reserves : Option CoreEntry → Bool
+reserves None = false
+reserves (Some e) = is_booked e.kind
+
+-- a job was built
+abbrev pub was_built : Ran → Bool
+was_built (ran.Built tc) = true
+was_built other = false
+
+abbrev pub is_built : StepKind → Bool
+is_built (step.Ran job ran result) = was_built ran
+is_built other = false
+
+-- a submitted archive was stored
+abbrev pub was_stored : Submitted → Bool
+was_stored (submitted.Stored size dropped) = true
+was_stored other = false
+
+abbrev pub is_stored : StepKind → Bool
+is_stored (step.Submitted job outcome) = was_stored outcome
+is_stored other = false
+
+-- a submitted archive was listed already
+abbrev pub was_listed : Submitted → Bool
+was_listed submitted.Listed = true
+was_listed other = false
+
+abbrev pub is_listed : StepKind → Bool
+is_listed (step.Submitted job outcome) = was_listed outcome
+is_listed other = false
+
+-- a build server made such a step
+abbrev pub steps_so : (StepKind → Bool) → Option Step → Bool
+steps_so test None = false
+steps_so test (Some s) = test s.kind
+
+-- ---- the line
+
+-- the summary of the entries of so many events
+unfoldable pub summary : ℕ → List Entry → List ℕ
+summary n entries =
+    codes "storm " ⧺ decimal n
+    ⧺ codes " core " ⧺ decimal (count_by (λ e. is_some e.core) entries)
+    ⧺ codes " reserved " ⧺ decimal (count_by (λ e. reserves e.core) entries)
+    ⧺ codes " built " ⧺ decimal (count_by (λ e. steps_so is_built e.step) entries)
+    ⧺ codes " stored " ⧺ decimal (count_by (λ e. steps_so is_stored e.step) entries)
+    ⧺ codes " listed " ⧺ decimal (count_by (λ e. steps_so is_listed e.step) entries)
+    ⧺ codes " open " ⧺ decimal (length (open_jobs (core_log entries))) ⧺ codes "\n"
+
+-- The text is the summary of the storm's first so many events: of a list that has one entry for each, each next over those before it.
+pub record IsStormText (n : ℕ) (text : List ℕ) : Type 0 where
+  pub entries : List Entry
+  pub each : EachNext storm_setup [] (storm_events n) entries
+  pub is : text ≡ summary n entries

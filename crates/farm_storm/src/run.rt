@@ -1,0 +1,70 @@
+//! The run of the storm.
+ghost use Rattle.std.specs.Prelude.{◌≡◌, [], IfOk, IfErr, OnErr, string_bytes};
+ghost use Rattle.farm_run.specs.Farm.{Runs, Steps};
+ghost use Rattle.farm_run.specs.Stations.{HasApart};
+ghost use Rattle.farm_script.specs.declared.fault.FarmFault.TheVariants as fault;
+ghost use Rattle.farm_storm.specs.Places.{deed_at};
+ghost use Rattle.farm_storm.specs.Storm.{event_of, storm_setup, storm_events};
+ghost use Rattle.farm_storm.specs.Summary.{IsStormText};
+
+use crate::events::event_at;
+use crate::setup::storm_setup;
+use crate::summary::summary;
+use farm_run::run::Farm;
+use farm_script::fault::FarmFault;
+use std::alloc::Global;
+use std::slice;
+
+/// The farm before the first event.
+#[tactic(auto, using(crate::proofs::StormLemmas::setup_apart))]
+fn begun(alloc: Global) -> Result<Farm, FarmFault>
+    ensures ok { IfOk result (λ farm. farm ≡ record { setup = storm_setup; entries = [] }) }
+    ensures err { IfErr result (λ e. e ≡ fault.Memory) }
+{
+    match storm_setup(alloc) {
+        Ok(setup) => Farm::new(alloc, &setup),
+        Err(_) => Err(FarmFault::Memory),
+    }
+}
+
+/// The farm after the event of that number.
+#[tactic(auto, using(crate::proofs::StormLemmas::one_step))]
+fn next(alloc: Global, farm: Farm, number: u64) -> Result<Farm, FarmFault>
+    ensures ok { IfOk result (Steps farm (event_of number (deed_at number))) }
+    ensures err { IfErr result (λ e. e ≡ fault.Memory) }
+{
+    let event = match event_at(alloc, number) {
+        Ok(event) => event,
+        Err(_) => return Err(FarmFault::Memory),
+    };
+    match farm.run(slice::from_ref(&event)) {
+        Ok(farm) => Ok(farm),
+        Err(_) => Err(FarmFault::Memory),
+    }
+}
+
+/// The farm after so many events.
+#[tactic(auto, using(crate::proofs::StormLemmas::begun_run, crate::proofs::StormLemmas::more_run))]
+fn run_storm(alloc: Global, count: u64) -> Result<Farm, FarmFault>
+    ensures ok { IfOk result (Runs (record { setup = storm_setup; entries = [] }) (storm_events count)) }
+    ensures err { IfErr result (λ e. e ≡ fault.Memory) }
+{
+    let mut farm = begun(alloc)?;
+    for number in 0..count {
+        farm = next(alloc, farm, number)?;
+    }
+    Ok(farm)
+}
+
+/// The summary of the storm of so many events. Refused for want of memory alone.
+#[tactic(auto, using(crate::proofs::StormLemmas::told))]
+pub fn storm_text(alloc: Global, count: u64) -> Result<String, FarmFault>
+    ensures ok { IfOk result (λ text. IsStormText count (string_bytes text)) }
+    ensures err { IfErr result (λ e. e ≡ fault.Memory) }
+{
+    let farm = run_storm(alloc, count)?;
+    match summary(alloc, count, &farm) {
+        Ok(text) => Ok(text),
+        Err(_) => Err(FarmFault::Memory),
+    }
+}

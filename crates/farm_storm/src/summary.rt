@@ -1,0 +1,182 @@
+//! The summary of a storm.
+ghost use Rattle.std.specs.Prelude.{◌≡◌, IfOk, count_by, length, is_some, string_bytes};
+ghost use Rattle.sched_core.specs.Job.{open_jobs};
+ghost use Rattle.farm_run.specs.Seen.{core_log};
+ghost use Rattle.farm_storm.specs.Summary as spec;
+ghost use Rattle.farm_storm.specs.Summary.{reserves, was_built, was_stored, was_listed, is_built, is_stored, is_listed, steps_so};
+
+use build_server::run::Ran;
+use build_server::submit::Submitted;
+use farm_run::entry::{Entry, Step, StepKind};
+use farm_run::run::Farm;
+use sched_core::entry::CoreEntry;
+use sched_core::kind::is_reservation;
+use std::alloc::{AllocError, Global};
+
+/// Whether the scheduler's entry reserves a job.
+fn reserves(core: &Option<CoreEntry>) -> bool
+    ensures { result ≡ reserves core.now }
+{
+    match core {
+        None => false,
+        Some(core) => is_reservation(&core.kind),
+    }
+}
+
+fn was_built(ran: &Ran) -> bool
+    ensures { result ≡ was_built ran.now }
+{
+    match ran {
+        Ran::None => false,
+        Ran::Unlisted(_) => false,
+        Ran::Folder(_) => false,
+        Ran::Built(_) => true,
+        Ran::Refused(_) => false,
+    }
+}
+
+fn was_stored(outcome: &Submitted) -> bool
+    ensures { result ≡ was_stored outcome.now }
+{
+    match outcome {
+        Submitted::None => false,
+        Submitted::Listed => false,
+        Submitted::Stored(_, _) => true,
+        Submitted::Digest => false,
+        Submitted::Capacity => false,
+        Submitted::Folder(_) => false,
+    }
+}
+
+fn was_listed(outcome: &Submitted) -> bool
+    ensures { result ≡ was_listed outcome.now }
+{
+    match outcome {
+        Submitted::None => false,
+        Submitted::Listed => true,
+        Submitted::Stored(_, _) => false,
+        Submitted::Digest => false,
+        Submitted::Capacity => false,
+        Submitted::Folder(_) => false,
+    }
+}
+
+fn is_built(kind: &StepKind) -> bool
+    ensures { result ≡ is_built kind.now }
+{
+    match kind {
+        StepKind::Heard(_) => false,
+        StepKind::Assigned { .. } => false,
+        StepKind::Submitted { .. } => false,
+        StepKind::Ran { ran, .. } => was_built(ran),
+        StepKind::Finished { .. } => false,
+        StepKind::Unreported { .. } => false,
+        StepKind::Opened(_) => false,
+    }
+}
+
+fn is_stored(kind: &StepKind) -> bool
+    ensures { result ≡ is_stored kind.now }
+{
+    match kind {
+        StepKind::Heard(_) => false,
+        StepKind::Assigned { .. } => false,
+        StepKind::Submitted { outcome, .. } => was_stored(outcome),
+        StepKind::Ran { .. } => false,
+        StepKind::Finished { .. } => false,
+        StepKind::Unreported { .. } => false,
+        StepKind::Opened(_) => false,
+    }
+}
+
+fn is_listed(kind: &StepKind) -> bool
+    ensures { result ≡ is_listed kind.now }
+{
+    match kind {
+        StepKind::Heard(_) => false,
+        StepKind::Assigned { .. } => false,
+        StepKind::Submitted { outcome, .. } => was_listed(outcome),
+        StepKind::Ran { .. } => false,
+        StepKind::Finished { .. } => false,
+        StepKind::Unreported { .. } => false,
+        StepKind::Opened(_) => false,
+    }
+}
+
+fn builds(step: &Option<Step>) -> bool
+    ensures { result ≡ steps_so is_built step.now }
+{
+    match step {
+        None => false,
+        Some(step) => is_built(&step.kind),
+    }
+}
+
+fn stores(step: &Option<Step>) -> bool
+    ensures { result ≡ steps_so is_stored step.now }
+{
+    match step {
+        None => false,
+        Some(step) => is_stored(&step.kind),
+    }
+}
+
+fn lists(step: &Option<Step>) -> bool
+    ensures { result ≡ steps_so is_listed step.now }
+{
+    match step {
+        None => false,
+        Some(step) => is_listed(&step.kind),
+    }
+}
+
+fn count_core(entries: &[Entry]) -> usize
+    ensures { result ≡ count_by (λ e. is_some e.core) entries.now }
+{
+    entries.iter().filter(|entry| entry.core.is_some()).count()
+}
+
+fn count_reserved(entries: &[Entry]) -> usize
+    ensures { result ≡ count_by (λ e. reserves e.core) entries.now }
+{
+    entries.iter().filter(|entry| reserves(&entry.core)).count()
+}
+
+fn count_built(entries: &[Entry]) -> usize
+    ensures { result ≡ count_by (λ e. steps_so is_built e.step) entries.now }
+{
+    entries.iter().filter(|entry| builds(&entry.step)).count()
+}
+
+fn count_stored(entries: &[Entry]) -> usize
+    ensures { result ≡ count_by (λ e. steps_so is_stored e.step) entries.now }
+{
+    entries.iter().filter(|entry| stores(&entry.step)).count()
+}
+
+fn count_listed(entries: &[Entry]) -> usize
+    ensures { result ≡ count_by (λ e. steps_so is_listed e.step) entries.now }
+{
+    entries.iter().filter(|entry| lists(&entry.step)).count()
+}
+
+fn open_count(farm: &Farm) -> usize
+    ensures { result ≡ length (open_jobs (core_log farm.now.entries)) }
+{
+    farm.jobs().filter(|job| job.state.is_some()).count()
+}
+
+/// The summary of a farm after so many events. Refused for want of memory alone.
+#[tactic(auto, unfolding(crate::specs::Summary::summary))]
+pub fn summary(alloc: Global, count: u64, farm: &Farm) -> Result<String, AllocError>
+    ensures { IfOk result (λ text. string_bytes text ≡ spec.summary count farm.now.entries) }
+{
+    let entries = farm.history();
+    let core = count_core(entries);
+    let reserved = count_reserved(entries);
+    let built = count_built(entries);
+    let stored = count_stored(entries);
+    let listed = count_listed(entries);
+    let open = open_count(farm);
+    format!(in alloc; "storm {count} core {core} reserved {reserved} built {built} stored {stored} listed {listed} open {open}\n")
+}
