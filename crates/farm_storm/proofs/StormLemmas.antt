@@ -1,5 +1,6 @@
 -- The run of the storm, event by event.
-use Rattle.std.proofs.Common.{◌≡◌, ◌≢◌, ℕ, ◌+◌, ◌==◌, ◌&&◌, Bool, true, false, not, List, [], ◌∷◌, ◌++◌, map, refl, sym, ap, subst, ◌∙◌, arith}
+use Rattle.std.proofs.Common.{◌≡◌, ◌≢◌, ℕ, ◌+◌, ◌==◌, ◌&&◌, Bool, true, false, not, List, [], ◌∷◌, ◌++◌, map}
+use Rattle.std.proofs.Common.{refl, sym, ap, subst, ◌∙◌, arith}
 use Rattle.std.specs.List.{AllByRecursion, list_all}
 use Rattle.std.proofs.lemmas.Bool.Decides.{nat_tests}
 use Rattle.dist_types.specs.declared.addr.Addr.{Addr}
@@ -28,7 +29,8 @@ port_of : Addr → ℕ
 port_of (V4 octets port) = port
 port_of (V6 groups port) = port
 
-all_differ : (p : ℕ) (ps : List ℕ) → list_all (λ q. not (q == p)) ps ≡ true → AllByRecursion (λ b. b ≢ local p) (map local ps)
+all_differ : (p : ℕ) (ps : List ℕ) → list_all (λ q. not (q == p)) ps ≡ true
+    → AllByRecursion (λ b. b ≢ local p) (map local ps)
 all_differ p [] h = tt
 all_differ p (q ∷ ps) h =
     let other : q ≢ p = grind (arith, nat_tests) in
@@ -52,22 +54,29 @@ events_none : storm_events 0 ≡ []
 unfolding storm_events storm_deeds
 events_none = refl
 
-pub begun_run : (farm : Farmed) → farm ≡ record { setup = storm_setup; entries = [] } → Runs (record { setup = storm_setup; entries = [] }) (storm_events 0) farm
-begun_run farm is = subst (λ (es : List Event). Runs (record { setup = storm_setup; entries = [] }) es farm) (sym events_none) ([], tt, is)
+pub begun_run : (farm : Farmed) → farm ≡ record { setup = storm_setup; entries = [] }
+    → Runs (record { setup = storm_setup; entries = [] }) (storm_events 0) farm
+begun_run farm is = subst (λ (es : List Event). Runs (record { setup = storm_setup; entries = [] }) es farm)
+    (sym events_none) ([], tt, is)
 
 -- a run of one event is its step
 pub one_step : (old : Farmed) (event : Event) (new : Farmed) → Runs old (event ∷ []) new → Steps old event new
 one_step old event new run = by_entries run.0 run.1 run.2
   where
-    by_entries : (es : List Entry) → EachNext old.setup old.entries (event ∷ []) es → new ≡ with_entries old es → Steps old event new
+    by_entries : (es : List Entry) → EachNext old.setup old.entries (event ∷ []) es
+        → new ≡ with_entries old es → Steps old event new
     by_entries [] each is = absurd each
     by_entries (e ∷ []) each is = (e, each.0, is)
     by_entries (e ∷ f ∷ es) each is = absurd each.1
 
-pub more_run : (start : Farmed) (n : ℕ) (farm new : Farmed) → Runs start (storm_events n) farm → Steps farm (event_of n (deed_at n)) new → Runs start (storm_events (n + 1)) new
+pub more_run : (start : Farmed) (n : ℕ) (farm new : Farmed) → Runs start (storm_events n) farm
+    → Steps farm (event_of n (deed_at n)) new → Runs start (storm_events (n + 1)) new
 more_run start n farm new run step =
-    subst (λ (es : List Event). Runs start es new) (sym (events_more n)) (Runs-push start (storm_events n) (event_of n (deed_at n)) farm new step.0 run step.1 step.2)
+    subst (λ (es : List Event). Runs start es new) (sym (events_more n))
+    (Runs-push start (storm_events n) (event_of n (deed_at n)) farm new step.0 run step.1 step.2)
 
 -- the summary of a farm that ran the storm's events is that of the storm
-pub told : (n : ℕ) (farm : Farmed) (text : List ℕ) → Runs (record { setup = storm_setup; entries = [] }) (storm_events n) farm → text ≡ summary n farm.entries → IsStormText n text
-told n farm text run is = record { entries = run.0; each = run.1; is = is ∙ ap (λ (f : Farmed). summary n f.entries) run.2 }
+pub told : (n : ℕ) (farm : Farmed) (text : List ℕ) → Runs (record { setup = storm_setup; entries = [] })
+    (storm_events n) farm → text ≡ summary n farm.entries → IsStormText n text
+told n farm text run is =
+    record { entries = run.0; each = run.1; is = is ∙ ap (λ (f : Farmed). summary n f.entries) run.2 }

@@ -20,9 +20,11 @@ beats = flat_map (λ k. once (Beat k)) (range_with_len 0 8)
 abbrev pub of_jobs : ℕ → (ℕ → List Deed) → List Deed
 of_jobs round deeds = flat_map (λ q. deeds (16 * round + q)) (range_with_len 0 16)
 
--- a round: sixteen jobs are asked for, the round's archive is brought under each, each is run; then the heartbeats, and one status request
+-- a round: sixteen jobs are asked for, the round's archive is brought under each, each is run; then the
+-- heartbeats, and one status request
 unfoldable pub round_deeds : ℕ → List Deed
-round_deeds round = of_jobs round (λ job. once (Alloc round)) ++ of_jobs round (λ job. once (Submit job)) ++ of_jobs round (λ job. twice (Run job)) ++ beats ++ Status ∷ []
+round_deeds round = of_jobs round (λ job. once (Alloc round)) ++ of_jobs round
+    (λ job. once (Submit job)) ++ of_jobs round (λ job. twice (Run job)) ++ beats ++ Status ∷ []
 
 -- the first so many: the heartbeats, and then round after round
 unfoldable pub storm_deeds : ℕ → List Deed

@@ -18,4 +18,5 @@ deed_in_round round place =
 
 -- at a place of the storm
 unfoldable pub deed_at : ℕ → Deed
-deed_at place = if nat_lt place 24 then turn (Beat (place / 3)) (place % 3) else deed_in_round ((place - 24) / 201) ((place - 24) % 201)
+deed_at place = if nat_lt place 24 then turn (Beat (place / 3)) (place % 3)
+    else deed_in_round ((place - 24) / 201) ((place - 24) % 201)

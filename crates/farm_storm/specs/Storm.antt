@@ -42,11 +42,24 @@ abbrev pub server_key : List ℕ
 server_key = 1 ∷ []
 
 abbrev pub storm_server : ℕ → SetupServer
-storm_server k = record { addr = server_addr k; cpus = 1; nonce = 1; key = server_key; capacity = 64; builder = [] }
+storm_server k = record {
+  addr = server_addr k;
+  cpus = 1;
+  nonce = 1;
+  key = server_key;
+  capacity = 64;
+  builder = [];
+}
 
 unfoldable pub storm_setup : Setup
 storm_setup = record {
-  scheduler = record { addr = scheduler_addr; base = 0; count = 0; client = codes "c1"; auth = Plain (codes "s1") };
+  scheduler = record {
+    addr = scheduler_addr;
+    base = 0;
+    count = 0;
+    client = codes "c1";
+    auth = Plain (codes "s1");
+  };
   servers = map storm_server (range_with_len 0 8);
 }
 
@@ -62,19 +75,31 @@ token_of job = token_text server_key (job_claims_text job)
 
 -- the run of a job: `cc` with no arguments and no environment in `/`, which makes `o`
 abbrev pub storm_run : RunJobHttpRequest
-storm_run = record { command = record { executable = codes "cc"; arguments = []; env_vars = []; cwd = codes "/" }; outputs = codes "o" ∷ [] }
+storm_run = record {
+  command = record {
+    executable = codes "cc";
+    arguments = [];
+    env_vars = [];
+    cwd = codes "/";
+  };
+  outputs = codes "o" ∷ [];
+}
 
 -- a client asks for a job with the round's archive as its toolchain
 unfoldable pub alloc_request : ℕ → List ℕ
-alloc_request round = request_text (alloc_with (addr_text scheduler_addr) (codes "c1") (id_of (archive_of round)))
+alloc_request round = request_text
+    (alloc_with (addr_text scheduler_addr) (codes "c1") (id_of (archive_of round)))
 
 -- a client brings the archive of the job's round, sixteen jobs a round
 unfoldable pub submit_request : ℕ → List ℕ
-submit_request job = request_text (submit_with (addr_text (server_addr job)) (token_of job) (record { 0 = job }) (archive_of (job / 16)))
+submit_request job = request_text (submit_with (addr_text (server_addr job)) (token_of job)
+    (record { 0 = job }) (archive_of (job / 16)))
 
 -- a client asks for the run of a job, whose inputs are the eight bytes of its number, the high one first
 unfoldable pub run_request : ℕ → List ℕ
-run_request job = request_text (run_with (addr_text (server_addr job)) (token_of job) (record { 0 = job }) storm_run (to_be_bytes w64 job))
+run_request job = request_text
+    (run_with (addr_text (server_addr job)) (token_of job) (record { 0 = job }) storm_run
+    (to_be_bytes w64 job))
 
 unfoldable pub status_request : List ℕ
 status_request = request_text (status_with (addr_text scheduler_addr))

@@ -1,5 +1,6 @@
 -- The summary of a storm.
-use Rattle.std.specs.Prelude.{◌≡◌, ℕ, List, [], length, count_by, Bool, true, false, is_some, Option, Some, None, codes}
+use Rattle.std.specs.Prelude.{◌≡◌, ℕ, List, [], length, count_by, Bool, true, false, is_some, Option, Some}
+use Rattle.std.specs.Prelude.{None, codes}
 use Rattle.std.specs.Fmt.{decimal}
 use Rattle.sched_core.specs.Job.{open_jobs}
 use Rattle.sched_core.specs.Reservation.{is_booked}
@@ -69,7 +70,8 @@ summary n entries =
     ⧺ codes " listed " ⧺ decimal (count_by (λ e. steps_so is_listed e.step) entries)
     ⧺ codes " open " ⧺ decimal (length (open_jobs (core_log entries))) ⧺ codes "\n"
 
--- The text is the summary of the storm's first so many events: of a list that has one entry for each, each next over those before it.
+-- The text is the summary of the storm's first so many events: of a list that has one entry for each, each
+-- next over those before it.
 pub record IsStormText (n : ℕ) (text : List ℕ) : Type 0 where
   pub entries : List Entry
   pub each : EachNext storm_setup [] (storm_events n) entries

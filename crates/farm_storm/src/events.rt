@@ -1,7 +1,7 @@
 //! The events of the storm.
 ghost use Rattle.std.specs.Prelude.{◌≡◌, IfOk, map};
 ghost use Rattle.farm_storm.specs.Places.{deed_at};
-ghost use Rattle.farm_storm.specs.Storm.{kind_of, event_of};
+ghost use Rattle.farm_storm.specs.Storm.{peer, kind_of, event_of};
 
 use crate::deed::{Deed, deed_at};
 use crate::requests::{alloc_request, run_request, status_request, submit_request};

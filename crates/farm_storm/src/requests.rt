@@ -2,18 +2,21 @@
 ghost use Rattle.std.specs.Prelude.{◌≡◌, IfOk, string_bytes};
 ghost use Rattle.http_head.specs.WrittenRequest.{request_text};
 ghost use Rattle.http_routes.specs.RunHead.{run_body};
-ghost use Rattle.http_routes.specs.Written.{post_with};
+ghost use Rattle.dist_types.specs.Addr.{addr_text};
+ghost use Rattle.http_routes.specs.Written.{post_with, alloc_with, submit_with, run_with, status_with};
 ghost use Rattle.farm_storm.specs.Storm as spec;
 ghost use Rattle.farm_storm.specs.Storm.{token_of, storm_run};
 
 use crate::deed::NUM_ROUND_JOBS;
 use crate::setup::{CLIENT_TOKEN, SERVER_KEY, scheduler_addr, server_addr};
 use dist_token::job_token::JWTJobAuthorizer;
+use dist_types::addr::Addr;
 use dist_types::command::CompileCommand;
 use dist_types::fault::Memory;
 use dist_types::ids::JobId;
 use dist_types::roles::JobAuthorizer;
 use dist_types::text::{Bytes, Items, Text};
+use dist_types::toolchain::Toolchain;
 use dist_types::try_clone::push;
 use dist_wire::error::WireError;
 use dist_wire::message::Message;
@@ -65,28 +68,60 @@ fn token_of(alloc: Global, job: u64) -> Result<String, Memory>
     Ok(token)
 }
 
+/// A request for a job to the scheduler at that address, under a client's token.
+#[tactic(auto, unfolding(http_routes::specs::Written::alloc_with))]
+fn alloc_at(alloc: Global, scheduler: Addr, token: &str, tc: &Toolchain) -> Result<Bytes, Memory>
+    ensures { IfOk result (λ bytes. bytes
+        ≡ request_text (alloc_with (addr_text scheduler) token.now tc.now)) }
+{
+    let body = written(alloc, tc)?;
+    let target = String::from_str(alloc, "/api/v1/scheduler/alloc_job")?;
+    let host = format!(in alloc; "{scheduler}")?;
+    let bytes = posted(alloc, target, host, token, body)?;
+    Ok(bytes)
+}
+
 /// The request for a job of a round.
-#[tactic(auto, unfolding(crate::specs::Storm::alloc_request, http_routes::specs::Written::alloc_with))]
+#[tactic(auto, unfolding(crate::specs::Storm::alloc_request))]
 pub fn alloc_request(alloc: Global, round: u64) -> Result<Bytes, Memory>
     ensures { IfOk result (λ bytes. bytes ≡ spec.alloc_request round) }
 {
-    let tc = toolchain_of(&round.to_be_bytes());
-    let target = String::from_str(alloc, "/api/v1/scheduler/alloc_job")?;
-    let host = format!(in alloc; "{}", scheduler_addr())?;
-    let body = written(alloc, &tc)?;
-    posted(alloc, target, host, CLIENT_TOKEN, body)
+    let archive = round.to_be_bytes();
+    let tc = toolchain_of(&archive);
+    let scheduler = scheduler_addr();
+    let bytes = alloc_at(alloc, scheduler, CLIENT_TOKEN, &tc)?;
+    Ok(bytes)
+}
+
+/// The request that brings an archive to the server at that address, under the job's token.
+#[tactic(auto, unfolding(http_routes::specs::Written::submit_with))]
+fn submit_at(
+    alloc: Global,
+    server: Addr,
+    token: &str,
+    job: JobId,
+    archive: &[u8],
+) -> Result<Bytes, Memory>
+    ensures { IfOk result (λ bytes. bytes
+        ≡ request_text (submit_with (addr_text server) token.now job archive.now)) }
+{
+    let target = format!(in alloc; "/api/v1/distserver/submit_toolchain/{job}")?;
+    let host = format!(in alloc; "{server}")?;
+    let body = Vec::from_slice(alloc, archive)?;
+    let bytes = posted(alloc, target, host, token, body)?;
+    Ok(bytes)
 }
 
 /// The request that brings a job's archive to its server.
-#[tactic(auto, unfolding(crate::specs::Storm::submit_request, http_routes::specs::Written::submit_with))]
+#[tactic(auto, unfolding(crate::specs::Storm::submit_request))]
 pub fn submit_request(alloc: Global, job: u64) -> Result<Bytes, Memory>
     ensures { IfOk result (λ bytes. bytes ≡ spec.submit_request job) }
 {
     let token = token_of(alloc, job)?;
-    let target = format!(in alloc; "/api/v1/distserver/submit_toolchain/{job}")?;
-    let host = format!(in alloc; "{}", server_addr(job))?;
-    let archive = Vec::from_slice(alloc, &(job / NUM_ROUND_JOBS).to_be_bytes())?;
-    posted(alloc, target, host, token.as_str(), archive)
+    let archive = (job / NUM_ROUND_JOBS).to_be_bytes();
+    let server = server_addr(job);
+    let bytes = submit_at(alloc, server, token.as_str(), JobId(job), &archive)?;
+    Ok(bytes)
 }
 
 /// What is run.
@@ -122,25 +157,44 @@ fn run_body(alloc: Global, inputs: &[u8]) -> Result<Vec<u8>, Memory>
     Ok(body)
 }
 
+/// The request to run a job with those inputs at the server at that address, under the job's token.
+#[tactic(auto, unfolding(http_routes::specs::Written::run_with))]
+fn run_at(
+    alloc: Global,
+    server: Addr,
+    token: &str,
+    job: JobId,
+    inputs: &[u8],
+) -> Result<Bytes, Memory>
+    ensures { IfOk result (λ bytes. bytes
+        ≡ request_text (run_with (addr_text server) token.now job storm_run inputs.now)) }
+{
+    let target = format!(in alloc; "/api/v1/distserver/run_job/{job}")?;
+    let host = format!(in alloc; "{server}")?;
+    let body = run_body(alloc, inputs)?;
+    let bytes = posted(alloc, target, host, token, body)?;
+    Ok(bytes)
+}
+
 /// The request to run a job, which goes to its server.
-#[tactic(auto, unfolding(crate::specs::Storm::run_request, http_routes::specs::Written::run_with))]
+#[tactic(auto, unfolding(crate::specs::Storm::run_request))]
 pub fn run_request(alloc: Global, job: u64) -> Result<Bytes, Memory>
     ensures { IfOk result (λ bytes. bytes ≡ spec.run_request job) }
 {
     let token = token_of(alloc, job)?;
-    let target = format!(in alloc; "/api/v1/distserver/run_job/{job}")?;
-    let host = format!(in alloc; "{}", server_addr(job))?;
-    let body = run_body(alloc, &job.to_be_bytes())?;
-    posted(alloc, target, host, token.as_str(), body)
+    let inputs = job.to_be_bytes();
+    let server = server_addr(job);
+    let bytes = run_at(alloc, server, token.as_str(), JobId(job), &inputs)?;
+    Ok(bytes)
 }
 
-/// The status request.
-#[tactic(auto, unfolding(crate::specs::Storm::status_request, http_routes::specs::Written::status_with))]
-pub fn status_request(alloc: Global) -> Result<Bytes, Memory>
-    ensures { IfOk result (λ bytes. bytes ≡ spec.status_request) }
+/// A status request to the scheduler at that address.
+#[tactic(auto, unfolding(http_routes::specs::Written::status_with))]
+fn status_at(alloc: Global, scheduler: Addr) -> Result<Bytes, Memory>
+    ensures { IfOk result (λ bytes. bytes ≡ request_text (status_with (addr_text scheduler))) }
 {
     let target = Text::of(alloc, "/api/v1/scheduler/status")?;
-    let host = format!(in alloc; "{}", scheduler_addr())?;
+    let host = format!(in alloc; "{scheduler}")?;
     let request = WrittenRequest {
         method: Method::Get,
         target,
@@ -149,5 +203,15 @@ pub fn status_request(alloc: Global) -> Result<Bytes, Memory>
         body: None,
     };
     let bytes = request.bytes(alloc)?;
+    Ok(bytes)
+}
+
+/// The status request.
+#[tactic(auto, unfolding(crate::specs::Storm::status_request))]
+pub fn status_request(alloc: Global) -> Result<Bytes, Memory>
+    ensures { IfOk result (λ bytes. bytes ≡ spec.status_request) }
+{
+    let scheduler = scheduler_addr();
+    let bytes = status_at(alloc, scheduler)?;
     Ok(bytes)
 }

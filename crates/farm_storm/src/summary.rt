@@ -1,9 +1,8 @@
 //! The summary of a storm.
-ghost use Rattle.std.specs.Prelude.{◌≡◌, IfOk, count_by, length, is_some, string_bytes};
-ghost use Rattle.sched_core.specs.Job.{open_jobs};
-ghost use Rattle.farm_run.specs.Seen.{core_log};
+ghost use Rattle.std.specs.Prelude.{◌≡◌, IfOk, count_by, is_some, string_bytes};
 ghost use Rattle.farm_storm.specs.Summary as spec;
-ghost use Rattle.farm_storm.specs.Summary.{reserves, was_built, was_stored, was_listed, is_built, is_stored, is_listed, steps_so};
+ghost use Rattle.farm_storm.specs.Summary.{reserves, was_built, was_stored, was_listed, is_built, is_stored};
+ghost use Rattle.farm_storm.specs.Summary.{is_listed, steps_so};
 
 use build_server::run::Ran;
 use build_server::submit::Submitted;
@@ -160,12 +159,6 @@ fn count_listed(entries: &[Entry]) -> usize
     entries.iter().filter(|entry| lists(&entry.step)).count()
 }
 
-fn open_count(farm: &Farm) -> usize
-    ensures { result ≡ length (open_jobs (core_log farm.now.entries)) }
-{
-    farm.jobs().filter(|job| job.state.is_some()).count()
-}
-
 /// The summary of a farm after so many events. Refused for want of memory alone.
 #[tactic(auto, unfolding(crate::specs::Summary::summary))]
 pub fn summary(alloc: Global, count: u64, farm: &Farm) -> Result<String, AllocError>
@@ -177,6 +170,8 @@ pub fn summary(alloc: Global, count: u64, farm: &Farm) -> Result<String, AllocEr
     let built = count_built(entries);
     let stored = count_stored(entries);
     let listed = count_listed(entries);
-    let open = open_count(farm);
-    format!(in alloc; "storm {count} core {core} reserved {reserved} built {built} stored {stored} listed {listed} open {open}\n")
+    let open = farm.open_count();
+    format!(in alloc;
+        "storm {count} core {core} reserved {reserved} built {built} stored {stored} listed {listed} open {open}\n"
+    )
 }

@@ -1,4 +1,5 @@
-//! The program `storm_bench COUNT`: it writes the summary of the storm of so many events. Its stored run is that of 100,000 events.
+//! The program `storm_bench COUNT`: it writes the summary of the storm of so many events. Its stored run is
+//! that of 100,000 events.
 #![tactic(auto)]
 
 use farm_storm::storm_text;

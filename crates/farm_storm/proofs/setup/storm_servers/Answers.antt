@@ -5,5 +5,5 @@ use Rattle.farm_storm.proofs.setup.storm_servers.Goals as goal
 
 pub loop-number-preserved : goal.loop-number-preserved
 loop-number-preserved c =
-    rw (c.in_ok-push.ensures.items, c.in_ok-server.ensures, c.loop-number.invariant)
+    rw (c.in_ok-push.ensures.ok, c.in_ok-server.ensures, c.loop-number.invariant)
     (sym (map-range_with_len_more storm_server 0 c.loop-number.number c.loop-number.number (omega arith)))
