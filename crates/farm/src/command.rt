@@ -232,7 +232,7 @@ pub fn dist_main<S: Source, K: Sink, E: Sink, D: Files, R: Rng, N: Serve>(
     ensures left { asked_by (map string_bytes words.now) ≡ Some farm → result ≤ 1
         → S.left input.new ≡ left_behind 67108865 (S.left input.old) }
     // A storm is 0, without want of memory and faults of out and errs.
-    ensures storm { (n : ℕ) → asked_by (map string_bytes words.now) ≡ Some (storm n)
+    ensures storms { (n : ℕ) → asked_by (map string_bytes words.now) ≡ Some (storm n)
         → (result ≡ 0) ⊎ (result ≡ 3) ⊎ (result ≡ 5) }
     // A fault of input comes before what its bytes say, and out and errs fail in no status but 5.
     ensures order { result ≢ 4 → result ≢ 5 → S.faults input.new ≡ S.faults input.old }

@@ -32,8 +32,8 @@ returns-clause-no_command g c = no_command_of c.report.result _ _ _ (told g c)
 pub returns-clause-command : goal.returns-clause-command
 returns-clause-command g c = command_of c.report.result _ _ _ (told g c)
 
-pub returns-clause-storm : goal.returns-clause-storm
-returns-clause-storm g c = storm_of c.report.result _ _ _ (told g c)
+pub returns-clause-storms : goal.returns-clause-storms
+returns-clause-storms g c = storm_of c.report.result _ _ _ (told g c)
 
 pub returns-clause-configured : goal.returns-clause-configured
 returns-clause-configured g c = configured_of c.report.result _ _ _ (told g c)
