@@ -1,3 +1,5 @@
 pub mod PlaceLemmas
 pub mod RunLengthLemmas
 pub mod StormLemmas
+pub mod CountLemmas
+pub mod RequestLemmas

@@ -1,8 +1,7 @@
 -- The run of the storm, event by event.
-use Rattle.std.proofs.Common.{◌≡◌, ◌≢◌, ℕ, ◌+◌, ◌==◌, ◌&&◌, Bool, true, false, not, List, [], ◌∷◌, ◌++◌, map}
+use Rattle.std.proofs.Common.{◌≡◌, ◌≢◌, ℕ, ◌+◌, ◌<◌, List, [], ◌∷◌, ◌++◌, map}
 use Rattle.std.proofs.Common.{refl, sym, ap, subst, ◌∙◌, arith}
-use Rattle.std.specs.List.{AllByRecursion, list_all}
-use Rattle.std.proofs.lemmas.Bool.Decides.{nat_tests}
+use Rattle.std.specs.List.{AllByRecursion}
 use Rattle.dist_types.specs.declared.addr.Addr.{Addr}
 use Rattle.dist_types.specs.declared.addr.Addr.TheVariants.{V4, V6}
 use Rattle.farm_script.specs.Setups.{AreApart}
@@ -20,33 +19,31 @@ use Rattle.farm_storm.proofs.PlaceLemmas.{events_more}
 
 -- ---- the addresses differ
 
--- no number stands twice
-abbrev apart : List ℕ → Bool
-apart [] = true
-apart (p ∷ ps) = list_all (λ q. not (q == p)) ps && apart ps
+-- each is greater than the one before it
+abbrev AreRising : ℕ → List ℕ → Type 0
+AreRising p [] = Unit {0}
+AreRising p (q ∷ qs) = (p < q) × AreRising q qs
 
 port_of : Addr → ℕ
 port_of (V4 octets port) = port
 port_of (V6 groups port) = port
 
-all_differ : (p : ℕ) (ps : List ℕ) → list_all (λ q. not (q == p)) ps ≡ true
-    → AllByRecursion (λ b. b ≢ local p) (map local ps)
-all_differ p [] h = tt
-all_differ p (q ∷ ps) h =
-    let other : q ≢ p = grind (arith, nat_tests) in
-    let rest : list_all (λ r. not (r == p)) ps ≡ true = grind (arith, nat_tests) in
-    ((λ e. other (ap port_of e)), all_differ p ps rest)
+differs : (p q : ℕ) → p < q → local q ≢ local p
+differs p q low = λ e. let same : q ≡ p = ap port_of e in absurd (omega (arith, low, same))
 
-ports_apart : (ps : List ℕ) → apart ps ≡ true → AreApart (map local ps)
-ports_apart [] h = tt
-ports_apart (p ∷ ps) h =
-    let first : list_all (λ q. not (q == p)) ps ≡ true = grind (arith, nat_tests) in
-    let rest : apart ps ≡ true = grind (arith, nat_tests) in
-    (all_differ p ps first, ports_apart ps rest)
+differ : (p q : ℕ) (qs : List ℕ) → p < q → AreRising q qs → AllByRecursion (λ b. b ≢ local p) (map local (q ∷ qs))
+differ p q [] low rising = (differs p q low, tt)
+differ p q (r ∷ rs) low rising = (differs p q low, differ p r rs (omega (arith, low, rising.0)) rising.1)
+
+ports_apart : (p : ℕ) (qs : List ℕ) → AreRising p qs → AreApart (map local (p ∷ qs))
+ports_apart p [] rising = (tt, tt)
+ports_apart p (q ∷ qs) rising = (differ p q qs rising.0 rising.1, ports_apart q qs rising.1)
 
 pub setup_apart : HasApart storm_setup
 unfolding storm_setup
-setup_apart = ports_apart (10600 ∷ 20001 ∷ 20002 ∷ 20003 ∷ 20004 ∷ 20005 ∷ 20006 ∷ 20007 ∷ 20008 ∷ []) refl
+setup_apart =
+    ports_apart 10600 (20001 ∷ 20002 ∷ 20003 ∷ 20004 ∷ 20005 ∷ 20006 ∷ 20007 ∷ 20008 ∷ [])
+    (omega arith, omega arith, omega arith, omega arith, omega arith, omega arith, omega arith, omega arith, tt)
 
 -- ---- the run
 

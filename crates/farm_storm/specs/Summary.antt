@@ -16,6 +16,8 @@ use Rattle.farm_run.specs.declared.entry.Entry.{Entry}
 use Rattle.farm_run.specs.declared.entry.Step.{Step}
 use Rattle.farm_run.specs.declared.entry.StepKind.{StepKind}
 use Rattle.farm_run.specs.declared.entry.StepKind.TheVariants as step
+use Rattle.farm_storm.specs.declared.summary.Counted.{Counted}
+use Rattle.farm_storm.specs.declared.summary.Counted.TheVariants.{Core, Reserved, Built, Stored, Listed}
 use Rattle.farm_storm.specs.Storm.{storm_setup, storm_events}
 
 -- ---- what is counted of an entry
@@ -57,17 +59,25 @@ abbrev pub steps_so : (StepKind → Bool) → Option Step → Bool
 steps_so test None = false
 steps_so test (Some s) = test s.kind
 
+-- whether an entry is counted
+unfoldable pub counts : Counted → Entry → Bool
+counts Core e = is_some e.core
+counts Reserved e = reserves e.core
+counts Built e = steps_so is_built e.step
+counts Stored e = steps_so is_stored e.step
+counts Listed e = steps_so is_listed e.step
+
 -- ---- the line
 
 -- the summary of the entries of so many events
 unfoldable pub summary : ℕ → List Entry → List ℕ
 summary n entries =
     codes "storm " ⧺ decimal n
-    ⧺ codes " core " ⧺ decimal (count_by (λ e. is_some e.core) entries)
-    ⧺ codes " reserved " ⧺ decimal (count_by (λ e. reserves e.core) entries)
-    ⧺ codes " built " ⧺ decimal (count_by (λ e. steps_so is_built e.step) entries)
-    ⧺ codes " stored " ⧺ decimal (count_by (λ e. steps_so is_stored e.step) entries)
-    ⧺ codes " listed " ⧺ decimal (count_by (λ e. steps_so is_listed e.step) entries)
+    ⧺ codes " core " ⧺ decimal (count_by (counts Core) entries)
+    ⧺ codes " reserved " ⧺ decimal (count_by (counts Reserved) entries)
+    ⧺ codes " built " ⧺ decimal (count_by (counts Built) entries)
+    ⧺ codes " stored " ⧺ decimal (count_by (counts Stored) entries)
+    ⧺ codes " listed " ⧺ decimal (count_by (counts Listed) entries)
     ⧺ codes " open " ⧺ decimal (length (open_jobs (core_log entries))) ⧺ codes "\n"
 
 -- The text is the summary of the storm's first so many events: of a list that has one entry for each, each

@@ -1,8 +1,8 @@
 //! The summary of a storm.
-ghost use Rattle.std.specs.Prelude.{◌≡◌, IfOk, count_by, is_some, string_bytes};
+ghost use Rattle.std.specs.Prelude.{◌≡◌, ◌<◌, ◌+◌, ◌^◌, if◌then◌else◌, IfOk, count_by, string_bytes};
 ghost use Rattle.farm_storm.specs.Summary as spec;
 ghost use Rattle.farm_storm.specs.Summary.{reserves, was_built, was_stored, was_listed, is_built, is_stored};
-ghost use Rattle.farm_storm.specs.Summary.{is_listed, steps_so};
+ghost use Rattle.farm_storm.specs.Summary.{is_listed, steps_so, counts};
 
 use build_server::run::Ran;
 use build_server::submit::Submitted;
@@ -129,34 +129,52 @@ fn lists(step: &Option<Step>) -> bool
     }
 }
 
-fn count_core(entries: &[Entry]) -> usize
-    ensures { result ≡ count_by (λ e. is_some e.core) entries.now }
-{
-    entries.iter().filter(|entry| entry.core.is_some()).count()
+/// What is counted.
+#[derive(Clone, Copy, Debug, PartialEq, Eq)]
+pub enum Counted {
+    /// Entries of the scheduler.
+    Core,
+    /// Those of them that reserve a job.
+    Reserved,
+    /// Builds.
+    Built,
+    /// Archives that were submitted and stored.
+    Stored,
+    /// Archives that were submitted and listed before.
+    Listed,
 }
 
-fn count_reserved(entries: &[Entry]) -> usize
-    ensures { result ≡ count_by (λ e. reserves e.core) entries.now }
+/// Whether an entry is counted.
+#[tactic(auto, unfolding(crate::specs::Summary::counts))]
+fn counts(what: Counted, made: &Entry) -> bool
+    ensures { result ≡ counts what made.now }
 {
-    entries.iter().filter(|entry| reserves(&entry.core)).count()
+    match what {
+        Counted::Core => made.core.is_some(),
+        Counted::Reserved => reserves(&made.core),
+        Counted::Built => builds(&made.step),
+        Counted::Stored => stores(&made.step),
+        Counted::Listed => lists(&made.step),
+    }
 }
 
-fn count_built(entries: &[Entry]) -> usize
-    ensures { result ≡ count_by (λ e. steps_so is_built e.step) entries.now }
+/// One more where it is so.
+fn raised(count: usize, is_so: bool) -> usize
+    requires { count + 1 < 2 ^ 64 }
+    ensures { result ≡ count + (if is_so then 1 else 0) }
 {
-    entries.iter().filter(|entry| builds(&entry.step)).count()
+    if is_so { count + 1 } else { count }
 }
 
-fn count_stored(entries: &[Entry]) -> usize
-    ensures { result ≡ count_by (λ e. steps_so is_stored e.step) entries.now }
+/// How many entries are counted.
+fn count_of(entries: &[Entry], what: Counted) -> usize
+    ensures { result ≡ count_by (counts what) entries.now }
 {
-    entries.iter().filter(|entry| stores(&entry.step)).count()
-}
-
-fn count_listed(entries: &[Entry]) -> usize
-    ensures { result ≡ count_by (λ e. steps_so is_listed e.step) entries.now }
-{
-    entries.iter().filter(|entry| lists(&entry.step)).count()
+    let mut count = 0;
+    for made in entries {
+        count = raised(count, counts(what, made));
+    }
+    count
 }
 
 /// The summary of a farm after so many events. Refused for want of memory alone.
@@ -165,11 +183,11 @@ pub fn summary(alloc: Global, count: u64, farm: &Farm) -> Result<String, AllocEr
     ensures { IfOk result (λ text. string_bytes text ≡ spec.summary count farm.now.entries) }
 {
     let entries = farm.history();
-    let core = count_core(entries);
-    let reserved = count_reserved(entries);
-    let built = count_built(entries);
-    let stored = count_stored(entries);
-    let listed = count_listed(entries);
+    let core = count_of(entries, Counted::Core);
+    let reserved = count_of(entries, Counted::Reserved);
+    let built = count_of(entries, Counted::Built);
+    let stored = count_of(entries, Counted::Stored);
+    let listed = count_of(entries, Counted::Listed);
     let open = farm.open_count();
     format!(in alloc;
         "storm {count} core {core} reserved {reserved} built {built} stored {stored} listed {listed} open {open}\n"
