@@ -3,3 +3,4 @@ pub mod RunLengthLemmas
 pub mod StormLemmas
 pub mod CountLemmas
 pub mod RequestLemmas
+pub mod SummaryLemmas

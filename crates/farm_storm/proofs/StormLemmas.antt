@@ -24,7 +24,7 @@ abbrev AreRising : ℕ → List ℕ → Type 0
 AreRising p [] = Unit {0}
 AreRising p (q ∷ qs) = (p < q) × AreRising q qs
 
-port_of : Addr → ℕ
+abbrev port_of : Addr → ℕ
 port_of (V4 octets port) = port
 port_of (V6 groups port) = port
 

@@ -178,7 +178,6 @@ fn count_of(entries: &[Entry], what: Counted) -> usize
 }
 
 /// The summary of a farm after so many events. Refused for want of memory alone.
-#[tactic(auto, unfolding(crate::specs::Summary::summary))]
 pub fn summary(alloc: Global, count: u64, farm: &Farm) -> Result<String, AllocError>
     ensures { IfOk result (λ text. string_bytes text ≡ spec.summary count farm.now.entries) }
 {
@@ -189,7 +188,8 @@ pub fn summary(alloc: Global, count: u64, farm: &Farm) -> Result<String, AllocEr
     let stored = count_of(entries, Counted::Stored);
     let listed = count_of(entries, Counted::Listed);
     let open = farm.open_count();
-    format!(in alloc;
+    let text = format!(in alloc;
         "storm {count} core {core} reserved {reserved} built {built} stored {stored} listed {listed} open {open}\n"
-    )
+    )?;
+    Ok(text)
 }
