@@ -169,7 +169,7 @@ impl Farm {
 
     /// How many jobs are open. It takes no memory, and does not go through the log.
     pub fn open_count(&self) -> usize
-        ensures open { result ≡ length (open_jobs (core_log self.now.entries)) }
+        ensures { result ≡ length (open_jobs (core_log self.now.entries)) }
     {
         self.desk.state.open_count()
     }

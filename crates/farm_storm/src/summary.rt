@@ -187,9 +187,9 @@ pub fn summary(alloc: Global, count: u64, farm: &Farm) -> Result<String, AllocEr
     let built = count_of(entries, Counted::Built);
     let stored = count_of(entries, Counted::Stored);
     let listed = count_of(entries, Counted::Listed);
-    let open = farm.open_count();
+    let open_ones = farm.open_count();
     let text = format!(in alloc;
-        "storm {count} core {core} reserved {reserved} built {built} stored {stored} listed {listed} open {open}\n"
+        "storm {count} core {core} reserved {reserved} built {built} stored {stored} listed {listed} open {open_ones}\n"
     )?;
     Ok(text)
 }
