@@ -31,3 +31,8 @@ unfolding events_in
 events_read text r h p =
     ap within (number_read 64 text r (plain_digits text h) p) ∙ within_word (digits_value 10 text)
     ∙ sym (ap (λ b. cond (b && nat_le (digits_value 10 text) 100000) (Some (digits_value 10 text)) None) h)
+
+-- other texts say none
+pub not_plain : (text : List ℕ) → is_plain text ≡ false → events_in text ≡ None
+unfolding events_in
+not_plain text h = rw h refl

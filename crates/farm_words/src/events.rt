@@ -25,7 +25,7 @@ fn is_plain(text: &str) -> bool
 }
 
 /// The number of events that a text says: digits with no zero before others, at most 100,000.
-#[tactic(auto, using(crate::proofs::EventLemmas::events_read))]
+#[tactic(auto, using(crate::proofs::EventLemmas::events_read, crate::proofs::EventLemmas::not_plain))]
 pub fn events_in(text: &str) -> Option<u64>
     ensures { result ≡ events_in text.now }
 {
