@@ -3,4 +3,3 @@ pub mod RunLengthLemmas
 pub mod StormLemmas
 pub mod CountLemmas
 pub mod RequestLemmas
-pub mod SummaryLemmas

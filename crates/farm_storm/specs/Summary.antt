@@ -16,6 +16,7 @@ use Rattle.farm_run.specs.declared.entry.Entry.{Entry}
 use Rattle.farm_run.specs.declared.entry.Step.{Step}
 use Rattle.farm_run.specs.declared.entry.StepKind.{StepKind}
 use Rattle.farm_run.specs.declared.entry.StepKind.TheVariants as step
+use Rattle.farm_storm.specs.declared.sums.Sums.{Sums}
 use Rattle.farm_storm.specs.declared.summary.Counted.{Counted}
 use Rattle.farm_storm.specs.declared.summary.Counted.TheVariants.{Core, Reserved, Built, Stored, Listed}
 use Rattle.farm_storm.specs.Storm.{storm_setup, storm_events}
@@ -69,16 +70,28 @@ counts Listed e = steps_so is_listed e.step
 
 -- ---- the line
 
+-- the numbers of the summary: how many entries of each kind there are, and how many jobs are open
+abbrev pub sums_of : ℕ → List Entry → Sums
+sums_of n entries = record {
+  events = n;
+  core = count_by (counts Core) entries;
+  reserved = count_by (counts Reserved) entries;
+  built = count_by (counts Built) entries;
+  stored = count_by (counts Stored) entries;
+  listed = count_by (counts Listed) entries;
+  open_ones = length (open_jobs (core_log entries));
+}
+
+-- the line that says them
+abbrev pub sums_text : Sums → List ℕ
+sums_text s =
+    codes "storm " ⧺ decimal s.events ⧺ codes " core " ⧺ decimal s.core ⧺ codes " reserved " ⧺ decimal s.reserved
+    ⧺ codes " built " ⧺ decimal s.built ⧺ codes " stored " ⧺ decimal s.stored ⧺ codes " listed " ⧺ decimal s.listed
+    ⧺ codes " open " ⧺ decimal s.open_ones ⧺ codes "\n"
+
 -- the summary of the entries of so many events
-unfoldable pub summary : ℕ → List Entry → List ℕ
-summary n entries =
-    codes "storm " ⧺ decimal n
-    ⧺ codes " core " ⧺ decimal (count_by (counts Core) entries)
-    ⧺ codes " reserved " ⧺ decimal (count_by (counts Reserved) entries)
-    ⧺ codes " built " ⧺ decimal (count_by (counts Built) entries)
-    ⧺ codes " stored " ⧺ decimal (count_by (counts Stored) entries)
-    ⧺ codes " listed " ⧺ decimal (count_by (counts Listed) entries)
-    ⧺ codes " open " ⧺ decimal (length (open_jobs (core_log entries))) ⧺ codes "\n"
+abbrev pub summary : ℕ → List Entry → List ℕ
+summary n entries = sums_text (sums_of n entries)
 
 -- The text is the summary of the storm's first so many events: of a list that has one entry for each, each
 -- next over those before it.

@@ -15,5 +15,6 @@ mod requests;
 mod run;
 mod setup;
 mod summary;
+mod sums;
 
 pub use run::storm_text;

@@ -1,9 +1,9 @@
 //! The summary of a storm.
 ghost use Rattle.std.specs.Prelude.{◌≡◌, ◌<◌, ◌+◌, ◌^◌, if◌then◌else◌, IfOk, count_by, string_bytes};
-ghost use Rattle.farm_storm.specs.Summary as spec;
 ghost use Rattle.farm_storm.specs.Summary.{reserves, was_built, was_stored, was_listed, is_built, is_stored};
-ghost use Rattle.farm_storm.specs.Summary.{is_listed, steps_so, counts};
+ghost use Rattle.farm_storm.specs.Summary.{is_listed, steps_so, counts, sums_of, summary};
 
+use crate::sums::Sums;
 use build_server::run::Ran;
 use build_server::submit::Submitted;
 use farm_run::entry::{Entry, Step, StepKind};
@@ -177,9 +177,9 @@ fn count_of(entries: &[Entry], what: Counted) -> usize
     count
 }
 
-/// The summary of a farm after so many events. Refused for want of memory alone.
-pub fn summary(alloc: Global, count: u64, farm: &Farm) -> Result<String, AllocError>
-    ensures { IfOk result (λ text. string_bytes text ≡ spec.summary count farm.now.entries) }
+/// The numbers of a farm after so many events.
+fn sums_of(events: u64, farm: &Farm) -> Sums
+    ensures { result ≡ sums_of events farm.now.entries }
 {
     let entries = farm.history();
     let core = count_of(entries, Counted::Core);
@@ -188,8 +188,22 @@ pub fn summary(alloc: Global, count: u64, farm: &Farm) -> Result<String, AllocEr
     let stored = count_of(entries, Counted::Stored);
     let listed = count_of(entries, Counted::Listed);
     let open_ones = farm.open_count();
-    let text = format!(in alloc;
-        "storm {count} core {core} reserved {reserved} built {built} stored {stored} listed {listed} open {open_ones}\n"
-    )?;
+    Sums {
+        events,
+        core,
+        reserved,
+        built,
+        stored,
+        listed,
+        open_ones,
+    }
+}
+
+/// The summary of a farm after so many events. Refused for want of memory alone.
+pub fn summary(alloc: Global, events: u64, farm: &Farm) -> Result<String, AllocError>
+    ensures { IfOk result (λ text. string_bytes text ≡ summary events farm.now.entries) }
+{
+    let sums = sums_of(events, farm);
+    let text = format!(in alloc; "{sums}")?;
     Ok(text)
 }

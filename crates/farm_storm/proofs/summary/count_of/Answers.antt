@@ -11,7 +11,7 @@ loop-made-preserved c =
     let more : take (i + 1) c.args.entries.now ≡ take i c.args.entries.now ++ c.made-item.result ∷ [] =
     take_more c.args.entries.now i c.made-item.result c.loop-made-test.true
     ∙ ap (λ (x : Entry). take i c.args.entries.now ++ x ∷ []) (sym c.made-item.is) in (
-      rw (c.raised.ensures, c.counts.ensures, c.loop-made.invariant.0)
+      rw (c.raised-count.ensures, c.counts.ensures, c.loop-made.invariant.0)
           (sym (count_more (counts c.args.what) c.args.entries.now i c.made-item.result more)),
-      at_most_one_more c.loop-made.count i c.counts.result c.raised.result c.raised.ensures c.loop-made.invariant.1,
+      at_most_one_more c.loop-made.count i c.counts.result c.raised-count.result c.raised-count.ensures c.loop-made.invariant.1,
     )
