@@ -31,7 +31,8 @@ port_of (V6 groups port) = port
 differs : (p q : ℕ) → p < q → local q ≢ local p
 differs p q low = λ e. let same : q ≡ p = ap port_of e in absurd (omega (arith, low, same))
 
-differ : (p q : ℕ) (qs : List ℕ) → p < q → AreRising q qs → AllByRecursion (λ b. b ≢ local p) (map local (q ∷ qs))
+differ : (p q : ℕ) (qs : List ℕ) → p < q → AreRising q qs → AllByRecursion (λ b. b ≢ local p)
+    (map local (q ∷ qs))
 differ p q [] low rising = (differs p q low, tt)
 differ p q (r ∷ rs) low rising = (differs p q low, differ p r rs (omega (arith, low, rising.0)) rising.1)
 
@@ -42,8 +43,13 @@ ports_apart p (q ∷ qs) rising = (differ p q qs rising.0 rising.1, ports_apart 
 pub setup_apart : HasApart storm_setup
 unfolding storm_setup
 setup_apart =
-    ports_apart 10600 (20001 ∷ 20002 ∷ 20003 ∷ 20004 ∷ 20005 ∷ 20006 ∷ 20007 ∷ 20008 ∷ [])
-    (omega arith, (omega arith, (omega arith, (omega arith, (omega arith, (omega arith, (omega arith, (omega arith, tt))))))))
+    ports_apart 10600 (20001 ∷ 20002 ∷ 20003 ∷ 20004 ∷ 20005 ∷ 20006 ∷ 20007 ∷ 20008 ∷ []) (
+      omega arith,
+      (
+        omega arith,
+        (omega arith, (omega arith, (omega arith, (omega arith, (omega arith, (omega arith, tt)))))),
+      ),
+    )
 
 -- ---- the run
 

@@ -85,8 +85,10 @@ sums_of n entries = record {
 -- the line that says them
 abbrev pub sums_text : Sums → List ℕ
 sums_text s =
-    codes "storm " ⧺ decimal s.events ⧺ codes " core " ⧺ decimal s.core ⧺ codes " reserved " ⧺ decimal s.reserved
-    ⧺ codes " built " ⧺ decimal s.built ⧺ codes " stored " ⧺ decimal s.stored ⧺ codes " listed " ⧺ decimal s.listed
+    codes "storm " ⧺ decimal s.events ⧺ codes " core " ⧺ decimal s.core ⧺ codes " reserved "
+    ⧺ decimal s.reserved
+    ⧺ codes " built " ⧺ decimal s.built ⧺ codes " stored " ⧺ decimal s.stored ⧺ codes " listed "
+    ⧺ decimal s.listed
     ⧺ codes " open " ⧺ decimal s.open_ones ⧺ codes "\n"
 
 -- the summary of the entries of so many events

@@ -1,15 +1,20 @@
 -- What clap reads of words that may stand is what the rows say of them: by one word after the other.
-use Rattle.std.proofs.Common.{◌≡◌, ◌⊎◌, inl, inr, ℕ, List, [], ◌∷◌, ◌++◌, Bool, true, false, ◌||◌, ◌&&◌, not, ◌==◌, cond, if◌then◌else◌, Option, Some, None, map, refl, sym, ◌∙◌, ap, ap₂, subst, append-nil}
+use Rattle.std.proofs.Common.{◌≡◌, ◌⊎◌, inl, inr, ℕ, List, [], ◌∷◌, ◌++◌, Bool, true, false, ◌||◌, ◌&&◌, not}
+use Rattle.std.proofs.Common.{◌==◌, cond, if◌then◌else◌, Option, Some, None, map, refl, sym, ◌∙◌, ap, ap₂}
+use Rattle.std.proofs.Common.{subst, append-nil}
 use Rattle.std.specs.Prelude.{fold, codes}
 use Rattle.std.specs.List.{list_all}
 use Rattle.std.specs.Str.{bytes_eq}
 use Rattle.std.proofs.lemmas.Slice.Eq.{bytes_eq-Decides}
-use Rattle.clap.specs.Faults.{default_fault, defaults_fault, fault_of, given_default_fault, is_simple_and_free, settle_fault, turn_fault, use_fault, walk_fault}
+use Rattle.clap.specs.Faults.{default_fault, defaults_fault, fault_of, given_default_fault}
+use Rattle.clap.specs.Faults.{is_simple_and_free, settle_fault, turn_fault, use_fault, walk_fault}
 use Rattle.clap.specs.Kinds.{IsAmong, Kinds, or_else}
 use Rattle.clap.specs.Lexer.{long_of, short_of}
 use Rattle.clap.specs.Matches.{first_value}
 use Rattle.clap.specs.Simple.{Shape, built, filled, is_simple, matches_of}
-use Rattle.clap.specs.Walk.{Held, Row, Rule, Text, Waiting, Walk, idle, option, arg_by_id, arg_by_index, arg_by_long, at_row, first_of, has_row, more_values, nothing_held, reading_by, rows_of, settled, settled_rows, used, walked, with_default, without}
+use Rattle.clap.specs.Walk.{Held, Row, Rule, Text, Waiting, Walk, idle, option, arg_by_id, arg_by_index}
+use Rattle.clap.specs.Walk.{arg_by_long, at_row, first_of, has_row, more_values, nothing_held, reading_by}
+use Rattle.clap.specs.Walk.{rows_of, settled, settled_rows, used, walked, with_default, without}
 use Rattle.clap.specs.declared.error.kind.ErrorKind.{ErrorKind}
 use Rattle.clap.specs.declared.error.kind.ErrorKind.TheVariants as kind
 use Rattle.clap.specs.declared.parser.matches.Found.{Found}
@@ -17,7 +22,8 @@ use Rattle.clap.specs.declared.parser.matches.ValueSource.TheVariants.{CommandLi
 use Rattle.clap.proofs.FaultLemmas.{leaf_fault}
 use Rattle.clap.proofs.WalkLemmas.{first_value-rows}
 use Rattle.farm_words.specs.Clap.{option_rule, options_app, said_in}
-use Rattle.farm_words.specs.Options.{Pairs, State, complete, has_option, is_among, is_option_word, is_value, may_stand, option_names, options_in, pairs_from, said_by, value_of}
+use Rattle.farm_words.specs.Options.{Pairs, State, complete, has_option, is_among, is_option_word, is_value}
+use Rattle.farm_words.specs.Options.{may_stand, option_names, options_in, pairs_from, said_by, value_of}
 
 pub first_value_rows : (f : Found) (id : Text) → first_value f id ≡ first_of id (rows_of f)
 first_value_rows f id = first_value-rows f id
@@ -72,7 +78,8 @@ kind_of (byte ∷ []) e = inr (by (byte == 45) refl, at (byte == 45) refl, refl)
 kind_of (byte ∷ next ∷ rest) e = by (byte == 45) refl e
   where
     by : (b : Bool) → (byte == 45) ≡ b
-        → (if b then is_option_word (long_of (byte ∷ next ∷ rest)) else true) ≡ true → Kind (byte ∷ next ∷ rest)
+        → (if b then is_option_word (long_of (byte ∷ next ∷ rest)) else true) ≡ true
+        → Kind (byte ∷ next ∷ rest)
     by true d e = long_kind (byte ∷ next ∷ rest) (ap not d) e
     by false d e = inr (rw d refl, rw d refl, ap not d)
 
@@ -279,7 +286,8 @@ at_end names w o a = a
 
 module _ (names : List Text) (rs : List Row) (pending : Option (Text × List Text)) (word : Text)
     (dashes : bytes_eq word (45 ∷ 45 ∷ []) ≡ false) where
-  begin_turn : (waiting : Option Text) (name : Text) → long_of word ≡ Some (name, None) → is_among names name ≡ true
+  begin_turn : (waiting : Option Text) (name : Text) → long_of word ≡ Some (name, None)
+      → is_among names name ≡ true
       → turn_fault (shape names) [] (at rs pending (wait waiting)) word
       ≡ or_else (settle_fault (rules names) false (held rs pending)) []
   begin_turn None name l h = rw (dashes, l, long_known names name h) refl
@@ -329,7 +337,8 @@ given_walk names rs id word dashes l s h = rw (dashes, l, s, id_known names id h
 -- ---- what stays refused
 
 -- an option whose use is refused, whatever follows
-late : (names : List Text) (rs : List Row) (pending : Option (Text × List Text)) (words : List Text) (k : ErrorKind)
+late : (names : List Text) (rs : List Row) (pending : Option (Text × List Text)) (words : List Text)
+    (k : ErrorKind)
     (ks : Kinds) → list_all may_stand words ≡ true
     → settle_fault (rules names) false (held rs pending) ≡ k ∷ ks
     → Agrees (faults names (at rs pending idle) words) None (found names (at rs pending idle) words)
@@ -351,7 +360,8 @@ late names rs pending (word ∷ words) k ks m e =
         ∙ ap (λ f. or_else (or_else f (use_fault false (built_rule name) (v ∷ [])
         (settled_rows (rules names) pending rs))) []) e)
 
-    named : (name : Text) (v : Option Text) (b : Bool) → long_of word ≡ Some (name, v) → is_among names name ≡ b
+    named : (name : Text) (v : Option Text) (b : Bool) → long_of word ≡ Some (name, v)
+        → is_among names name ≡ b
         → Agrees (faults names (at rs pending idle) (word ∷ words)) None
         (found names (at rs pending idle) (word ∷ words))
     named name v true l h = known name v l h
@@ -376,14 +386,17 @@ abbrev state : Pairs → Option Text → State
 state pairs waiting = record { pairs = pairs; waiting = waiting }
 
 abbrev Holds : List Text → List Text → Type 0
-Holds names words = (pairs : Pairs) (waiting : Option Text) (rs : List Row) (pending : Option (Text × List Text))
+Holds names words = (pairs : Pairs) (waiting : Option Text) (rs : List Row)
+    (pending : Option (Text × List Text))
     → Related names pairs waiting rs pending
-    → Agrees (faults names (at rs pending (wait waiting)) words) (pairs_from names (state pairs waiting) words)
+    → Agrees (faults names (at rs pending (wait waiting)) words)
+    (pairs_from names (state pairs waiting) words)
     (found names (at rs pending (wait waiting)) words)
 
 ended_holds : (names : List Text) → Holds names []
 ended_holds names pairs None rs pending r = at_end names (at rs pending idle) (Some pairs)
-    (subst (λ f. Agrees (or_else f []) (Some pairs) (settled_rows (rules names) pending rs)) (sym (r.0)) (r.1))
+    (subst (λ f. Agrees (or_else f []) (Some pairs) (settled_rows (rules names) pending rs)) (sym (r.0))
+    (r.1))
 ended_holds names pairs (Some id) rs pending r = at_end names (at rs pending (option id)) None
     (subst (λ f. Agrees (or_else f []) None (settled_rows (rules names) pending rs)) (sym e) tt)
   where
@@ -395,12 +408,14 @@ module _ (names : List Text) (word : Text) (words : List Text) (dashes : bytes_e
     (m : list_all may_stand words ≡ true) (next : Holds names words) where
   abbrev Goal : Pairs → Option Text → List Row → Option (Text × List Text) → Type 0
   Goal pairs waiting rs pending = Agrees (faults names (at rs pending (wait waiting)) (word ∷ words))
-      (pairs_from names (state pairs waiting) (word ∷ words)) (found names (at rs pending (wait waiting)) (word ∷ words))
+      (pairs_from names (state pairs waiting) (word ∷ words))
+      (found names (at rs pending (wait waiting)) (word ∷ words))
 
   -- where the rows say nothing, the walk has a fault
   nothing : (pairs : Pairs) (waiting : Option Text) (rs : List Row) (pending : Option (Text × List Text))
       (k : ErrorKind) (ks : Kinds) → pairs_from names (state pairs waiting) (word ∷ words) ≡ None
-      → turn_fault (shape names) [] (at rs pending (wait waiting)) word ≡ k ∷ ks → Goal pairs waiting rs pending
+      → turn_fault (shape names) [] (at rs pending (wait waiting)) word ≡ k ∷ ks
+      → Goal pairs waiting rs pending
   nothing pairs waiting rs pending k ks own some =
       subst (λ o. Agrees (faults names (at rs pending (wait waiting)) (word ∷ words)) o
       (found names (at rs pending (wait waiting)) (word ∷ words))) (sym own)
@@ -412,12 +427,14 @@ module _ (names : List Text) (word : Text) (words : List Text) (dashes : bytes_e
   begins pairs rs pending name r l h =
       subst (λ o. Agrees (faults names (at rs pending idle) (word ∷ words)) o
       (found names (at rs pending idle) (word ∷ words))) (sym own)
-      (goes_on names (at rs pending idle) (at (settled_rows (rules names) pending rs) (Some (name, [])) (option name))
+      (goes_on names (at rs pending idle) (at (settled_rows (rules names) pending rs) (Some (name, []))
+      (option name))
       word words _ (begin_turn names rs pending word dashes None name l h ∙ ap (λ f. or_else f []) (r.0))
       (begin_walk names rs pending word dashes name l h)
       (next pairs (Some name) (settled_rows (rules names) pending rs) (Some (name, [])) (h, r.1, refl)))
     where
-      own : pairs_from names (state pairs None) (word ∷ words) ≡ pairs_from names (state pairs (Some name)) words
+      own : pairs_from names (state pairs None) (word ∷ words) ≡ pairs_from names
+          (state pairs (Some name)) words
       own = rw (l, h) refl
 
   has_value : (pairs : Pairs) (rs : List Row) (pending : Option (Text × List Text)) (name v : Text) (b : Bool)
@@ -450,11 +467,13 @@ module _ (names : List Text) (word : Text) (words : List Text) (dashes : bytes_e
           ∙ ap₂ (λ f g. or_else (or_else f g) []) (r.0)
           (use_first name v (settled_rows (rules names) pending rs) lacks)
 
-      more : used (built_rule name) (v ∷ []) (settled_rows (rules names) pending rs) ≡ rows (pairs ++ (name, v) ∷ [])
+      more : used (built_rule name) (v ∷ []) (settled_rows (rules names) pending rs) ≡ rows
+          (pairs ++ (name, v) ∷ [])
       more = used_first name v (settled_rows (rules names) pending rs) lacks
           ∙ ap (λ rs. rs ++ row (name, v) ∷ []) (r.1) ∙ sym (rows_more pairs (name, v))
 
-  known_idle : (pairs : Pairs) (rs : List Row) (pending : Option (Text × List Text)) (name : Text) (v : Option Text)
+  known_idle : (pairs : Pairs) (rs : List Row) (pending : Option (Text × List Text)) (name : Text)
+      (v : Option Text)
       → Related names pairs None rs pending → long_of word ≡ Some (name, v) → is_among names name ≡ true
       → Goal pairs None rs pending
   known_idle pairs rs pending name None r l h = begins pairs rs pending name r l h
@@ -466,8 +485,10 @@ module _ (names : List Text) (word : Text) (words : List Text) (dashes : bytes_e
   unknown_says pairs name None l h = rw (l, h) refl
   unknown_says pairs name (Some v) l h = rw (l, h) refl
 
-  named_idle : (pairs : Pairs) (rs : List Row) (pending : Option (Text × List Text)) (name : Text) (v : Option Text)
-      (b : Bool) → Related names pairs None rs pending → long_of word ≡ Some (name, v) → is_among names name ≡ b
+  named_idle : (pairs : Pairs) (rs : List Row) (pending : Option (Text × List Text)) (name : Text)
+      (v : Option Text)
+      (b : Bool) → Related names pairs None rs pending → long_of word ≡ Some (name, v)
+      → is_among names name ≡ b
       → Goal pairs None rs pending
   named_idle pairs rs pending name v true r l h = known_idle pairs rs pending name v r l h
   named_idle pairs rs pending name v false r l h =
@@ -479,7 +500,8 @@ module _ (names : List Text) (word : Text) (words : List Text) (dashes : bytes_e
   idle_holds pairs rs pending (inl (p, l, v)) r =
       named_idle pairs rs pending p.0 p.1 (is_among names p.0) r l refl
   idle_holds pairs rs pending (inr (l, s, v)) r =
-      nothing pairs None rs pending kind.UnknownArgument [] (rw l refl) (stray_turn names rs pending word dashes l s)
+      nothing pairs None rs pending kind.UnknownArgument [] (rw l refl)
+      (stray_turn names rs pending word dashes l s)
 
   -- an option that waits for its value
   short_of_value : (id : Text) (pairs : Pairs) (rs : List Row) (pending : Option (Text × List Text))
@@ -488,7 +510,8 @@ module _ (names : List Text) (word : Text) (words : List Text) (dashes : bytes_e
   short_of_value id pairs rs pending r = ap (λ p. settle_fault (rules names) false (held rs p)) (r.2)
       ∙ settle_known names id [] rs (r.0) ∙ use_none id rs
 
-  known_waits : (id : Text) (pairs : Pairs) (rs : List Row) (pending : Option (Text × List Text)) (name : Text)
+  known_waits : (id : Text) (pairs : Pairs) (rs : List Row) (pending : Option (Text × List Text))
+      (name : Text)
       (v : Option Text) → Related names pairs (Some id) rs pending → is_value word ≡ false
       → long_of word ≡ Some (name, v) → is_among names name ≡ true → Goal pairs (Some id) rs pending
   known_waits id pairs rs pending name None r fails l h =
@@ -501,7 +524,8 @@ module _ (names : List Text) (word : Text) (words : List Text) (dashes : bytes_e
       ∙ ap (λ f. or_else (or_else f (use_fault false (built_rule name) (v ∷ [])
       (settled_rows (rules names) pending rs))) []) (short_of_value id pairs rs pending r))
 
-  named_waits : (id : Text) (pairs : Pairs) (rs : List Row) (pending : Option (Text × List Text)) (name : Text)
+  named_waits : (id : Text) (pairs : Pairs) (rs : List Row) (pending : Option (Text × List Text))
+      (name : Text)
       (v : Option Text) (b : Bool) → Related names pairs (Some id) rs pending → is_value word ≡ false
       → long_of word ≡ Some (name, v) → is_among names name ≡ b → Goal pairs (Some id) rs pending
   named_waits id pairs rs pending name v true r fails l h = known_waits id pairs rs pending name v r fails l h
@@ -516,7 +540,8 @@ module _ (names : List Text) (word : Text) (words : List Text) (dashes : bytes_e
   value_comes id pairs true h l s fits again =
       subst (λ o. Agrees (faults names (at (rows pairs) (Some (id, [])) (option id)) (word ∷ words)) o
       (found names (at (rows pairs) (Some (id, [])) (option id)) (word ∷ words))) (sym own)
-      (goes_on names (at (rows pairs) (Some (id, [])) (option id)) (at (rows pairs) (Some (id, word ∷ [])) idle)
+      (goes_on names (at (rows pairs) (Some (id, [])) (option id))
+      (at (rows pairs) (Some (id, word ∷ [])) idle)
       word words None (given_turn names (rows pairs) id word dashes l s)
       (given_walk names (rows pairs) id word dashes l s h)
       (late names (rows pairs) (Some (id, word ∷ [])) words kind.ArgumentConflict [] m
@@ -528,7 +553,8 @@ module _ (names : List Text) (word : Text) (words : List Text) (dashes : bytes_e
   value_comes id pairs false h l s fits first =
       subst (λ o. Agrees (faults names (at (rows pairs) (Some (id, [])) (option id)) (word ∷ words)) o
       (found names (at (rows pairs) (Some (id, [])) (option id)) (word ∷ words))) (sym own)
-      (goes_on names (at (rows pairs) (Some (id, [])) (option id)) (at (rows pairs) (Some (id, word ∷ [])) idle)
+      (goes_on names (at (rows pairs) (Some (id, [])) (option id))
+      (at (rows pairs) (Some (id, word ∷ [])) idle)
       word words _ (given_turn names (rows pairs) id word dashes l s)
       (given_walk names (rows pairs) id word dashes l s h)
       (next (pairs ++ (id, word) ∷ []) None (rows pairs) (Some (id, word ∷ [])) (
@@ -601,11 +627,13 @@ matches_are : (words : List Text) → matches_of options_app words ≡ found opt
 matches_are words = defaults_rows option_names (found option_names (at [] None idle) words)
 
 pub agrees : (words : List Text) → list_all may_stand words ≡ true
-    → Agrees (fault_of options_app words) (pairs_from option_names (complete []) words) (matches_of options_app words)
+    → Agrees (fault_of options_app words) (pairs_from option_names (complete []) words)
+    (matches_of options_app words)
 agrees words m =
     subst (λ f. Agrees f (pairs_from option_names (complete []) words) (matches_of options_app words))
     (sym (fault_is words))
-    (subst (λ rs. Agrees (faults option_names (at [] None idle) words) (pairs_from option_names (complete []) words) rs)
+    (subst (λ rs. Agrees (faults option_names (at [] None idle) words)
+    (pairs_from option_names (complete []) words) rs)
     (sym (matches_are words)) (holds option_names words m [] None [] None (refl, refl)))
 
 -- ---- for the caller
@@ -626,9 +654,11 @@ said_same pairs = rw (
 
 -- where clap takes the words, its matches say what the rows say
 pub taken_says : (words : List Text) (rs : List Row) → list_all may_stand words ≡ true
-    → fault_of options_app words ≡ [] → rs ≡ matches_of options_app words → Some (said_in rs) ≡ options_in words
+    → fault_of options_app words ≡ [] → rs ≡ matches_of options_app words
+    → Some (said_in rs) ≡ options_in words
 taken_says words rs m none same = by (pairs_from option_names (complete []) words) refl
-    (subst (λ f. Agrees f (pairs_from option_names (complete []) words) (matches_of options_app words)) none (agrees words m))
+    (subst (λ f. Agrees f (pairs_from option_names (complete []) words) (matches_of options_app words)) none
+    (agrees words m))
   where
     says : (pairs : Pairs) → pairs_from option_names (complete []) words ≡ Some pairs
         → options_in words ≡ Some (said_by pairs)
@@ -637,12 +667,14 @@ taken_says words rs m none same = by (pairs_from option_names (complete []) word
     by : (o : Option Pairs) → pairs_from option_names (complete []) words ≡ o
         → Agrees [] o (matches_of options_app words) → Some (said_in rs) ≡ options_in words
     by None e a = absurd a
-    by (Some pairs) e a = ap (λ x. Some (said_in x)) (same ∙ a) ∙ ap Some (said_same pairs) ∙ sym (says pairs e)
+    by (Some pairs) e a = ap (λ x. Some (said_in x)) (same ∙ a) ∙ ap Some (said_same pairs)
+        ∙ sym (says pairs e)
 
 -- where clap refuses the words, they say nothing
 pub refused_says : (words : List Text) (k : ErrorKind) → list_all may_stand words ≡ true
     → IsAmong k (fault_of options_app words) → None ≡ options_in words
-refused_says words k m among = by (fault_of options_app words) (pairs_from option_names (complete []) words) refl among
+refused_says words k m among = by (fault_of options_app words) (pairs_from option_names (complete []) words)
+    refl among
     (agrees words m)
   where
     by : (f : Kinds) (o : Option Pairs) → pairs_from option_names (complete []) words ≡ o → IsAmong k f

@@ -1,5 +1,6 @@
 -- A number of bits, read and refused.
-use Rattle.std.proofs.Common.{◌≡◌, ℕ, ◌^◌, ◌<◌, ◌≤◌, ◌&&◌, Bool, true, false, cond, List, length, Some, None, refl, arith, rules}
+use Rattle.std.proofs.Common.{◌≡◌, ℕ, ◌^◌, ◌<◌, ◌≤◌, ◌&&◌, Bool, true, false, cond, List, length, Some, None}
+use Rattle.std.proofs.Common.{refl, arith, rules}
 use Rattle.std.specs.Prelude.{nat_lt, if◌then◌else◌}
 use Rattle.std.specs.List.{list_all}
 use Rattle.std.specs.Char.{is_ascii_digit}
@@ -18,7 +19,8 @@ both true b h = (refl, h)
 both false b h = absurd cc
 
 -- digits that are a number of that size say it where it is a length
-pub length_read : (text : List ℕ) (n : ℕ) → IsNumeral 10 (without_leading_plus text) × (digits_value 10 (without_leading_plus text) < 2 ^ 64)
+pub length_read : (text : List ℕ) (n : ℕ) → IsNumeral 10 (without_leading_plus text)
+    × (digits_value 10 (without_leading_plus text) < 2 ^ 64)
     → n ≡ digits_value 10 (without_leading_plus text) → bits_in text ≡ (if is_length n then Some n else None)
 unfolding bits_in
 length_read text n is e =
@@ -29,9 +31,13 @@ length_read text n is e =
     less a b h = grind (arith, nat_tests)
 
 -- what is no number of that size says no length
-pub length_refused : (text : List ℕ) → ¬ (IsNumeral 10 (without_leading_plus text) × (digits_value 10 (without_leading_plus text) < 2 ^ 64)) → bits_in text ≡ None
+pub length_refused : (text : List ℕ)
+    → ¬ (IsNumeral 10 (without_leading_plus text) × (digits_value 10 (without_leading_plus text) < 2 ^ 64))
+    → bits_in text ≡ None
 unfolding bits_in
-length_refused text none = by_test (is_digits (without_leading_plus text) && is_length (digits_value 10 (without_leading_plus text))) refl
+length_refused text none =
+    by_test (is_digits (without_leading_plus text) && is_length (digits_value 10 (without_leading_plus text)))
+    refl
   where
     less : (a b : ℕ) → nat_lt a b ≡ true → a < b
     less a b h = grind (arith, nat_tests)
@@ -42,7 +48,8 @@ length_refused text none = by_test (is_digits (without_leading_plus text) && is_
         at_most : (n : ℕ) → is_length n ≡ true → n ≤ 4096
         at_most n h = grind (arith, nat_tests)
 
-    by_test : (b : Bool) → (is_digits (without_leading_plus text) && is_length (digits_value 10 (without_leading_plus text))) ≡ b
+    by_test : (b : Bool) → (is_digits (without_leading_plus text)
+        && is_length (digits_value 10 (without_leading_plus text))) ≡ b
         → cond b (Some (digits_value 10 (without_leading_plus text))) None ≡ None
     by_test false e = refl
     by_test true e =

@@ -1,5 +1,6 @@
 -- Which command words ask for: the rows of the command line.
-use Rattle.std.specs.Prelude.{ℕ, ◌/◌, ◌%◌, List, [], ◌∷◌, Bool, ◌&&◌, ◌==◌, is_some, nat_le, if◌then◌else◌, Option, Some, None, option_map, option_and_then, codes}
+use Rattle.std.specs.Prelude.{ℕ, ◌/◌, ◌%◌, List, [], ◌∷◌, Bool, ◌&&◌, ◌==◌, is_some, nat_le, if◌then◌else◌}
+use Rattle.std.specs.Prelude.{Option, Some, None, option_map, option_and_then, codes}
 use Rattle.std.specs.Str.{bytes_eq}
 use Rattle.std.specs.Str.Parse.{without_leading_plus, digits_value}
 use Rattle.dist_types.specs.Addr.{addr_in, is_digits, is_plain}
@@ -32,7 +33,8 @@ bits_in text =
 
 -- a number of events: digits with no zero before others, up to 100000
 unfoldable pub events_in : List ℕ → Option ℕ
-events_in text = if is_plain text && nat_le (digits_value 10 text) 100000 then Some (digits_value 10 text) else None
+events_in text = if is_plain text && nat_le (digits_value 10 text) 100000 then Some (digits_value 10 text)
+    else None
 
 -- ---- rows, by what stands behind the words of the command
 
@@ -88,7 +90,8 @@ auth_row [] = None
 auth_row (word ∷ words) =
     if bytes_eq word (codes "generate-jwt-hs256-key") then key_row words
     else if bytes_eq word (codes "generate-shared-token") then option_and_then shared_by (options_in words)
-    else if bytes_eq word (codes "generate-jwt-hs256-server-token") then option_and_then token_by (options_in words)
+    else if bytes_eq word (codes "generate-jwt-hs256-server-token") then option_and_then token_by
+    (options_in words)
     else None
 
 abbrev pub command_row : List (List ℕ) → Option Asked
@@ -96,7 +99,8 @@ command_row [] = None
 command_row (word ∷ words) =
     if bytes_eq word (codes "farm") then farm_row words
     else if bytes_eq word (codes "auth") then auth_row words
-    else if bytes_eq word (codes "scheduler") then option_map scheduler (option_and_then file_of (options_in words))
+    else if bytes_eq word (codes "scheduler")
+    then option_map scheduler (option_and_then file_of (options_in words))
     else if bytes_eq word (codes "server") then option_map server (option_and_then file_of (options_in words))
     else if bytes_eq word (codes "storm") then storm_row words
     else None

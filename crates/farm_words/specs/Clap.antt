@@ -10,7 +10,8 @@ option_rule name = record (new_rule name) { long = Some name }
 
 -- a command with no program's name before its words, and no flag for help
 abbrev pub bare_app : App
-bare_app = on_top (λ s. record s { no_binary_name = true; disable_help_flag = true }) (new_app (codes "options"))
+bare_app = on_top (λ s. record s { no_binary_name = true; disable_help_flag = true })
+    (new_app (codes "options"))
 
 -- the command of the options
 abbrev pub options_app : App

@@ -1,5 +1,6 @@
 -- The options behind a command: `--name VALUE` or `--name=VALUE`, each once, in any order.
-use Rattle.std.specs.Prelude.{ℕ, List, [], ◌∷◌, ◌++◌, Bool, true, false, not, ◌==◌, if◌then◌else◌, Option, Some, None, option_map, option_and_then, codes}
+use Rattle.std.specs.Prelude.{ℕ, List, [], ◌∷◌, ◌++◌, Bool, true, false, not, ◌==◌, if◌then◌else◌, Option}
+use Rattle.std.specs.Prelude.{Some, None, option_map, option_and_then, codes}
 use Rattle.std.specs.List.{list_all, list_any}
 use Rattle.std.specs.Str.{bytes_eq}
 use Rattle.clap.specs.Lexer.{long_of}
@@ -118,4 +119,5 @@ said_by pairs = record {
 -- What the options that these words are say: each word may stand, and is part of one.
 abbrev pub options_in : List (List ℕ) → Option Said
 options_in words =
-    if list_all may_stand words then option_map said_by (pairs_from option_names (complete []) words) else None
+    if list_all may_stand words then option_map said_by (pairs_from option_names (complete []) words)
+    else None

@@ -28,12 +28,14 @@ abbrev pub command_in : Asked → List NamedFile → Result Command ConfigCause
 command_in farm files = Ok Farm
 command_in (random n) files = Ok (Auth (Base64 n))
 command_in (token_under address key) files = Ok (Auth (JwtHS256ServerToken key address))
-command_in (token_of address path) files = says scheduler_config_in path files >>= (λ config. signed address config.server_auth)
+command_in (token_of address path) files = says scheduler_config_in path files >>=
+    (λ config. signed address config.server_auth)
 command_in (scheduler path) files = says scheduler_config_in path files >>= (λ config. Ok (Scheduler config))
 command_in (server path) files = says server_config_in path files >>= (λ config. Ok (Server config))
 command_in (storm n) files = Ok (Storm n)
 
--- what is said over the files that a command reads, where they are told; over none for a command that reads none
+-- what is said over the files that a command reads, where they are told; over none for a command that reads
+-- none
 abbrev pub OverFiles : Asked → Option (List NamedFile) → (List NamedFile → Type 0) → Type 0
 OverFiles farm files says = says []
 OverFiles (random n) files says = says []
@@ -53,9 +55,12 @@ ReadsFile (scheduler path) = Unit {0}
 ReadsFile (server path) = Unit {0}
 ReadsFile (storm n) = ⊥
 
--- The answer is the command that is asked for over the files, and reading did not fail; or its file has a fault, which is told; or memory ran out.
+-- The answer is the command that is asked for over the files, and reading did not fail; or its file has a
+-- fault, which is told; or memory ran out.
 abbrev pub IsParsed : Asked → Result Command FarmFault → Option (List NamedFile) → ℕ → ℕ → Type 0
-IsParsed asked (Ok command) files before after = (after ≡ before) × OverFiles asked files (λ told. command_in asked told ≡ Ok command)
-IsParsed asked (Err (BadConfig cause)) files before after = ReadsFile asked × IsFileFault (Cause cause) (command_in asked) files before after
+IsParsed asked (Ok command) files before after = (after ≡ before)
+    × OverFiles asked files (λ told. command_in asked told ≡ Ok command)
+IsParsed asked (Err (BadConfig cause)) files before after = ReadsFile asked
+    × IsFileFault (Cause cause) (command_in asked) files before after
 IsParsed asked (Err Memory) files before after = after ≡ before
 IsParsed asked (Err other) files before after = ⊥

@@ -1,7 +1,8 @@
 //! What words ask for, by the rows of the command line.
 ghost use Rattle.std.specs.Prelude.{◌≡◌, ◌/◌, ◌∷◌, IfOk, map, option_map, option_and_then, string_bytes};
 ghost use Rattle.farm_words.specs.Options.{said_of, options_in};
-ghost use Rattle.farm_words.specs.Asked.{farm_row, storm_row, key_row, shared_length, shared_by, keyed, token_by, file_of, auth_row, command_row, asked_by};
+ghost use Rattle.farm_words.specs.Asked.{farm_row, storm_row, key_row, shared_length, shared_by, keyed};
+ghost use Rattle.farm_words.specs.Asked.{token_by, file_of, auth_row, command_row, asked_by};
 ghost use Rattle.farm_words.specs.Asked as spec;
 ghost use Rattle.farm_words.specs.Views.{asked_of};
 

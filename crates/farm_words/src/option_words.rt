@@ -1,5 +1,5 @@
-//! The options behind a command: `--name VALUE` or `--name=VALUE`, each once, in any order. They are read by clap's
-//! builder; what clap takes beyond the rows is refused before it.
+//! The options behind a command: `--name VALUE` or `--name=VALUE`, each once, in any order. They are read by
+//! clap's builder; what clap takes beyond the rows is refused before it.
 ghost use Rattle.std.specs.Prelude.{◌≡◌, IfOk, map, option_map, string_bytes, true, false};
 ghost use Rattle.std.specs.List.{list_all};
 ghost use Rattle.clap.specs.Lexer.{strip_byte, name_and_value, long_of};
@@ -64,8 +64,8 @@ fn is_option_word(word: &str) -> bool
     }
 }
 
-// Whether a word may stand in a row: it is not empty, and where it has two or more bytes and begins with `-`, it is
-// an option's.
+// Whether a word may stand in a row: it is not empty, and where it has two or more bytes and begins with `-`,
+// it is an option's.
 fn may_stand(word: &str) -> bool
     ensures { result ≡ may_stand word.now }
 {
@@ -147,7 +147,8 @@ fn all_may_stand(words: &[String]) -> bool
     words.iter().all(|word| may_stand(word.as_str()))
 }
 
-/// What the options that these words are say, where each word is part of one. Refused for want of memory alone.
+/// What the options that these words are say, where each word is part of one. Refused for want of memory
+/// alone.
 pub fn options_in<'a>(alloc: Global, words: &'a [String]) -> Result<Option<Options<'a>>, Memory>
     ensures { IfOk result (λ said. option_map said_of said ≡ options_in (map string_bytes words.now)) }
 {

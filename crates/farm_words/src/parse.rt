@@ -1,7 +1,8 @@
 //! From words to a command.
 ghost use Rattle.std.specs.Prelude.{◌≡◌, ◌⊎◌, IfOk, IfErr, IfSome, None, Err, map, string_bytes, codes};
 ghost use Rattle.farm_script.specs.declared.fault.ConfigCause.TheVariants.{Key};
-ghost use Rattle.farm_words.specs.Asked.{asked_by, token_of as asks_token_of, scheduler as asks_scheduler, server as asks_server};
+ghost use Rattle.farm_words.specs.Asked.{asked_by, token_of as asks_token_of, scheduler as asks_scheduler};
+ghost use Rattle.farm_words.specs.Asked.{server as asks_server};
 ghost use Rattle.farm_words.specs.Views.{asked_of};
 ghost use Rattle.farm_words.specs.Parsed.{signed, IsParsed};
 ghost use Rattle.farm_words.specs.Signed.{fault_of, IsSigned};
@@ -64,7 +65,8 @@ fn token_of<D: Files>(
     address: Addr,
     path: &str,
 ) -> Result<Command, FarmFault>
-    ensures parsed { IsParsed (asks_token_of address path.now) result (D.files files.old) (D.faults files.old) (D.faults files.new) }
+    ensures parsed { IsParsed (asks_token_of address path.now) result (D.files files.old) (D.faults files.old)
+        (D.faults files.new) }
     ensures kept { D.files files.new ≡ D.files files.old }
 {
     match scheduler_config(alloc, files, path) {
@@ -74,7 +76,8 @@ fn token_of<D: Files>(
 }
 
 fn scheduler_of<D: Files>(alloc: Global, files: &mut D, path: &str) -> Result<Command, FarmFault>
-    ensures parsed { IsParsed (asks_scheduler path.now) result (D.files files.old) (D.faults files.old) (D.faults files.new) }
+    ensures parsed { IsParsed (asks_scheduler path.now) result (D.files files.old) (D.faults files.old)
+        (D.faults files.new) }
     ensures kept { D.files files.new ≡ D.files files.old }
 {
     match scheduler_config(alloc, files, path) {
@@ -84,7 +87,8 @@ fn scheduler_of<D: Files>(alloc: Global, files: &mut D, path: &str) -> Result<Co
 }
 
 fn server_of<D: Files>(alloc: Global, files: &mut D, path: &str) -> Result<Command, FarmFault>
-    ensures parsed { IsParsed (asks_server path.now) result (D.files files.old) (D.faults files.old) (D.faults files.new) }
+    ensures parsed { IsParsed (asks_server path.now) result (D.files files.old) (D.faults files.old)
+        (D.faults files.new) }
     ensures kept { D.files files.new ≡ D.files files.old }
 {
     match server_config(alloc, files, path) {
@@ -95,7 +99,8 @@ fn server_of<D: Files>(alloc: Global, files: &mut D, path: &str) -> Result<Comma
 
 // The token of a server under a key in base64url, which is not looked at.
 fn token_under(alloc: Global, address: Addr, key: &str) -> Result<Command, FarmFault>
-    ensures ok { IfOk result (λ command. command ≡ Command.Auth (AuthSubcommand.JwtHS256ServerToken key.now address)) }
+    ensures ok { IfOk result
+        (λ command. command ≡ Command.Auth (AuthSubcommand.JwtHS256ServerToken key.now address)) }
     ensures err { IfErr result (λ e. e ≡ FarmFault.Memory) }
 {
     match Text::of(alloc, key) {
@@ -112,7 +117,8 @@ fn command_of<D: Files>(
     files: &mut D,
     asked: Asked<'_>,
 ) -> Result<Command, FarmFault>
-    ensures parsed { IsParsed (asked_of asked.entry) result (D.files files.old) (D.faults files.old) (D.faults files.new) }
+    ensures parsed { IsParsed (asked_of asked.entry) result (D.files files.old) (D.faults files.old)
+        (D.faults files.new) }
     ensures kept { D.files files.new ≡ D.files files.old }
 {
     match asked {
@@ -127,8 +133,8 @@ fn command_of<D: Files>(
 }
 
 /// The command that words ask for; the first is the program's name. Usage exactly where they stand in no
-/// row, unless memory ran out. Where a command has a configuration, its file is read, once, and its first fault is
-/// told.
+/// row, unless memory ran out. Where a command has a configuration, its file is read, once, and its first
+/// fault is told.
 pub fn try_parse_from<D: Files>(
     alloc: Global,
     words: &[String],

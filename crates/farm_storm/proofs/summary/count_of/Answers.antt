@@ -13,5 +13,6 @@ loop-made-preserved c =
     ∙ ap (λ (x : Entry). take i c.args.entries.now ++ x ∷ []) (sym c.made-item.is) in (
       rw (c.raised-count.ensures, c.counts.ensures, c.loop-made.invariant.0)
           (sym (count_more (counts c.args.what) c.args.entries.now i c.made-item.result more)),
-      at_most_one_more c.loop-made.count i c.counts.result c.raised-count.result c.raised-count.ensures c.loop-made.invariant.1,
+      at_most_one_more c.loop-made.count i c.counts.result c.raised-count.result c.raised-count.ensures
+          c.loop-made.invariant.1,
     )

@@ -5,4 +5,5 @@ use Rattle.farm_storm.proofs.summary.count_of.Given as goal
 
 -- how many of those so far are counted, and that they are no more
 abbrev pub invariant-loop-made : goal.invariant-loop-made
-invariant-loop-made l = (l.count ≡ count_by (counts l.what) (take l.made-index l.entries)) × (l.count ≤ l.made-index)
+invariant-loop-made l = (l.count ≡ count_by (counts l.what) (take l.made-index l.entries))
+    × (l.count ≤ l.made-index)

@@ -7,5 +7,6 @@ use Rattle.farm_words.proofs.option_words.all_may_stand.Goals as goal
 
 pub returns : goal.returns
 returns c =
-    all_from_yields_List (λ word. may_stand (string_bytes word)) _ _ _ c.all.ensures.ran (YieldsList-from_slice c.args.words.now cc) (λ x b q k. search (rules, tests))
+    all_from_yields_List (λ word. may_stand (string_bytes word)) _ _ _ c.all.ensures.ran
+    (YieldsList-from_slice c.args.words.now cc) (λ x b q k. search (rules, tests))
     ∙ all_seen string_bytes c.args.words.now

@@ -1,4 +1,5 @@
-use Rattle.std.proofs.Common.{◌≡◌, inl, inr, List, [], ℕ, Some, true, false, map, string_bytes, sym, ◌∙◌, ap, subst}
+use Rattle.std.proofs.Common.{◌≡◌, inl, inr, List, [], ℕ, Some, true, false, map, string_bytes, sym, ◌∙◌, ap}
+use Rattle.std.proofs.Common.{subst}
 use Rattle.clap.specs.Faults.{fault_of, is_simple_and_free}
 use Rattle.clap.specs.Kinds.{HasKind}
 use Rattle.clap.specs.Simple.{is_simple, matches_of}
@@ -24,7 +25,8 @@ returns c =
     let app = c.in_ok-command.ensures in
     let words : List (List ℕ) = map string_bytes c.args.words.now in
     let has : HasKind (fault_of options_app words) c.in-Err.refused =
-    subst (λ a. HasKind (fault_of a words) c.in-Err.refused) app (c.in-Err.ensures.kinds (ap is_simple_and_free app ∙ is_free)) in
+    subst (λ a. HasKind (fault_of a words) c.in-Err.refused) app
+    (c.in-Err.ensures.kinds (ap is_simple_and_free app ∙ is_free)) in
     elim has [
       | inl e ↦
           let bad : true ≡ false = rw (c.kind.ensures ∙ e) at (sym c.eq.ensures ∙ c.if-eq.false) in
