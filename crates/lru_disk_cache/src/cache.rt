@@ -75,14 +75,17 @@ impl<F: Folder> LruDiskCache<F> {
             return Err((Error::Memory, folder));
         };
         match open(&mut folder, &path, &root, size) {
-            Ok(table) => Ok(LruDiskCache {
-                alloc,
-                folder,
-                path,
-                root,
-                table,
-                pending: Reservations::new(alloc),
-            }),
+            Ok(table) => {
+                let _size = table.size();
+                Ok(LruDiskCache {
+                    alloc,
+                    folder,
+                    path,
+                    root,
+                    table,
+                    pending: Reservations::new(alloc),
+                })
+            }
             Err(fault) => Err((io(fault), folder)),
         }
     }
