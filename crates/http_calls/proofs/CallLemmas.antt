@@ -25,7 +25,8 @@ use Rattle.http_routes.specs.ServerRoute.{AsksSubmit, AsksRun}
 use Rattle.http_routes.specs.Written.{submit_with, run_with}
 use Rattle.http_routes.proofs.ToldLemmas.{addr_visible, allocations_read_back, statuses_read_back, heartbeats_read_back, states_read_back, submissions_read_back, runs_read_back}
 use Rattle.http_calls.specs.Calls.{alloc_request, status_request, state_request, heartbeat_request}
-use Rattle.http_calls.specs.Urls.{IsHttp, IsAbsolutePath, host_of}
+use Rattle.http_routes.specs.Builder.{host_of}
+use Rattle.http_calls.specs.Urls.{IsHttp, IsAbsolutePath}
 use Rattle.http_calls.proofs.JoinLemmas.{is_plain_byte, IsPlain, plain_segments}
 use Rattle.http_calls.proofs.UrlLemmas.{clean}
 

@@ -29,7 +29,8 @@ use Rattle.http_routes.specs.Written.{state_with}
 use Rattle.http_head.proofs.FieldLemmas.{digits}
 use Rattle.http_head.proofs.LineLemmas.{all_pass, weaker}
 use Rattle.http_head.proofs.WrittenRequestLemmas.{ascii_text}
-use Rattle.http_calls.specs.Urls.{IsHttp, IsClean, at_path, query_text, target_of, host_of}
+use Rattle.http_routes.specs.Builder.{query_text, target_of, host_of}
+use Rattle.http_calls.specs.Urls.{IsHttp, IsClean, at_path}
 use Rattle.http_calls.proofs.JoinLemmas.{kind_is}
 
 abbrev IsSeen : ℕ → Type 0

@@ -12,15 +12,16 @@ ghost use Rattle.http_routes.specs.ServerRoute.{AsksSubmit, AsksRun};
 ghost use Rattle.http_routes.specs.Written.{post_with, submit_with, run_with};
 ghost use Rattle.http_calls.specs.Client.{PacksBody, PacksRequest, first_of};
 
+use crate::builder::{RequestBuilder, ReqwestRequestBuilderExt};
 use crate::error::CallError;
 use dist_types::addr::Addr;
 use dist_types::ids::{JobId, ServerId};
 use dist_types::results::JobAlloc;
-use dist_types::text::{Bytes, Text};
+use dist_types::text::Bytes;
 use dist_wire::error::WireError;
 use dist_wire::message::Message;
 use dist_wire::run::RunJobHttpRequest;
-use http_head::written_request::{Method, WrittenRequest};
+use http_head::error::HttpError;
 use path_pkg::fault::PackFault;
 use path_pkg::packagers::InputsPackager;
 use path_pkg::unix::PathTransformer;
@@ -41,27 +42,28 @@ fn fits(addr: Addr)
 }
 
 /// The bytes of a POST under a token.
-fn posted(
-    alloc: Global,
-    target: String,
-    host: String,
-    token: &str,
-    body: Bytes,
-) -> Result<Bytes, CallError>
+fn built(target: String, host: String, token: &str, body: Bytes) -> Result<Bytes, HttpError>
+    ensures text { IfOk result (λ bytes. bytes
+        ≡ request_text (post_with (string_bytes target) (string_bytes host) token.now body)) }
+    ensures err { IfErr result (λ e. e ≡ HttpError.Memory) }
+{
+    let builder = RequestBuilder::post_to(target, host);
+    let builder = builder.bearer_auth(token)?;
+    let builder = builder.bytes(body.into_inner())?;
+    let bytes = builder.build()?;
+    Ok(Bytes::new(bytes))
+}
+
+/// The same as a part of a call.
+fn posted(target: String, host: String, token: &str, body: Bytes) -> Result<Bytes, CallError>
     ensures text { IfOk result (λ bytes. bytes
         ≡ request_text (post_with (string_bytes target) (string_bytes host) token.now body)) }
     ensures err { IfErr result (λ e. e ≡ CallError.Memory) }
 {
-    let token = Text::of(alloc, token)?;
-    let written = WrittenRequest {
-        method: Method::Post,
-        target: Text::new(target),
-        host: Text::new(host),
-        token: Some(token),
-        body: Some(body),
-    };
-    let bytes = written.bytes(alloc)?;
-    Ok(bytes)
+    match built(target, host, token, body) {
+        Ok(bytes) => Ok(bytes),
+        Err(_) => Err(CallError::Memory),
+    }
 }
 
 /// The bytes of the request that brings a job's archive.
@@ -80,7 +82,7 @@ fn submit_text(
     let target = format!(in alloc; "/api/v1/distserver/submit_toolchain/{job}")?;
     let host = format!(in alloc; "{server}")?;
     let body = Bytes::from_slice(alloc, archive)?;
-    let bytes = posted(alloc, target, host, token, body)?;
+    let bytes = posted(target, host, token, body)?;
     Ok(bytes)
 }
 
@@ -166,7 +168,7 @@ fn run_posted(
 {
     let target = format!(in alloc; "/api/v1/distserver/run_job/{job}")?;
     let host = format!(in alloc; "{server}")?;
-    let bytes = posted(alloc, target, host, token, body)?;
+    let bytes = posted(target, host, token, body)?;
     Ok(bytes)
 }
 
@@ -210,7 +212,7 @@ fn run_text(
     let body = run_body(alloc, run, inputs)?;
     let target = format!(in alloc; "/api/v1/distserver/run_job/{job}")?;
     let host = format!(in alloc; "{server}")?;
-    let bytes = posted(alloc, target, host, token, body)?;
+    let bytes = posted(target, host, token, body)?;
     Ok(bytes)
 }
 
