@@ -22,8 +22,8 @@ const ID: &str = "ba7816bf8f01cfea414140de5dae2223b00361a396177a9cb410ff61f20015
 const STORED: &str =
     "client_tests_by_hand/client/tc/b/a/ba7816bf8f01cfea414140de5dae2223b00361a396177a9cb410ff61f20015ad";
 
-/// Puts a toolchain, removes its archive, and puts it again: with a packager that refuses, and with one that does not.
-/// Tells each answer.
+/// Puts a toolchain, removes its archive, and puts it again: with a packager that refuses, and with one that
+/// does not. Tells each answer.
 fn packaged_again<R: Files + AllocGlobal, F: Folder + Drop>(
     rt: &R,
     alloc: Global,
@@ -40,8 +40,8 @@ fn packaged_again<R: Files + AllocGlobal, F: Folder + Drop>(
     Ok(format!(in alloc; "{first}\n{kept}\n{gone}\n{second}\n{found}\n")?)
 }
 
-/// Takes the SHA-256 of two archives with the same bytes, has each changed, and removes the one that was taken last. Tells
-/// what is found after each.
+/// Takes the SHA-256 of two archives with the same bytes, has each changed, and removes the one that was
+/// taken last. Tells what is found after each.
 fn unverified<R: Files + AllocGlobal, F: Folder + Drop>(
     rt: &R,
     alloc: Global,

@@ -98,8 +98,8 @@ fn called(alloc: Global, client: &mut MemClient, call: &str, word: &str) -> Resu
     }
 }
 
-/// Has a client of those toolchains make a call, whose dialer gives these replies. Answers what came of it, the
-/// dialer, and the toolchains.
+/// Has a client of those toolchains make a call, whose dialer gives these replies. Answers what came of it,
+/// the dialer, and the toolchains.
 fn ask(
     alloc: Global,
     base: &str,
@@ -167,8 +167,8 @@ impl Bench {
         Ok(told)
     }
 
-    /// Makes a call with each shorter front of a reply. Answers how many were told as ParseError, and what came of
-    /// each other.
+    /// Makes a call with each shorter front of a reply. Answers how many were told as ParseError, and what
+    /// came of each other.
     pub(crate) fn cuts(&mut self, call: &str, word: &str, hex: &str) -> Result<String, Fault> {
         let reply = bytes_of(self.alloc, hex)?;
         let mut others = String::new(self.alloc);

@@ -1,8 +1,8 @@
-//! The program `client_tests`: it reads steps from standard input, a line each, takes them one after the other, and writes what came of
-//! each. A line that begins with `#` is written as it is.
+//! The program `client_tests`: it reads steps from standard input, a line each, takes them one after the
+//! other, and writes what came of each. A line that begins with `#` is written as it is.
 //!
-//! The steps are about a client's toolchains (`toolchains`), its calls (`calls`), and faults of its folder (`sweep`). Behind them stands
-//! what came of archives that were changed and removed by hand (`by_hand`).
+//! The steps are about a client's toolchains (`toolchains`), its calls (`calls`), and faults of its folder
+//! (`sweep`). Behind them stands what came of archives that were changed and removed by hand (`by_hand`).
 #![tactic(auto)]
 
 mod answers;

@@ -85,8 +85,9 @@ fn has_failed(folder: &MemFolder) -> bool {
     folder.faults() != 0
 }
 
-/// A run in which that call of the folder fails, and one behind it over the same files, in which none does. Answers what
-/// is wrong with them: nothing where the first tells a failure exactly where one was, and the second does all.
+/// A run in which that call of the folder fails, and one behind it over the same files, in which none does.
+/// Answers what is wrong with them: nothing where the first tells a failure exactly where one was, and the
+/// second does all.
 fn wrong(alloc: Global, number: u64, behind: bool) -> Result<bool, Fault> {
     let (first, folder) = run(alloc, failing(alloc, number, behind)?)?;
     let (second, _) = run(alloc, sound(alloc, &folder)?)?;
@@ -98,7 +99,8 @@ fn wrong(alloc: Global, number: u64, behind: bool) -> Result<bool, Fault> {
     Ok(first != told || second != End::Whole)
 }
 
-/// Each call of the folder fails in turn, before or behind what it does. Answers how many runs went wrong, and each.
+/// Each call of the folder fails in turn, before or behind what it does. Answers how many runs went wrong,
+/// and each.
 pub(crate) fn sweep(alloc: Global, behind: bool) -> Result<String, Fault> {
     let mut told = String::new(alloc);
     let mut count = 0u64;

@@ -23,7 +23,8 @@ pub(crate) fn refused(alloc: Global, refusal: ToolchainError) -> Result<String, 
     Ok(format!(in alloc; "{refusal:?}")?)
 }
 
-/// What is configured for a compiler: an archive and the compiler's path in it, or, where no archive is named, none.
+/// What is configured for a compiler: an archive and the compiler's path in it, or, where no archive is
+/// named, none.
 pub(crate) fn configured(
     alloc: Global,
     compiler: &str,

@@ -7,7 +7,8 @@ ghost use Rattle.http_head.specs.WrittenRequest.{request_text};
 ghost use Rattle.http_routes.specs.Builder.{target_of, host_of};
 ghost use Rattle.http_routes.specs.Written.{post_with};
 ghost use Rattle.url.specs.Parts.{IsValid};
-ghost use Rattle.http_calls.specs.Calls.{RefusesBase, alloc_request, status_request, state_request, heartbeat_request};
+ghost use Rattle.http_calls.specs.Calls.{RefusesBase, alloc_request, status_request, state_request};
+ghost use Rattle.http_calls.specs.Calls.{heartbeat_request};
 ghost use Rattle.http_calls.specs.Urls.{IsHttp};
 
 use crate::builder::{RequestBuilder, ReqwestRequestBuilderExt};
@@ -134,7 +135,8 @@ pub(crate) fn heartbeat_text(
     token: &str,
     beat: &HeartbeatServerHttpRequest,
 ) -> Result<Bytes, CallError>
-    ensures text { IfOk result (λ bytes. bytes ≡ request_text (heartbeat_request base.now token.now beat.now)) }
+    ensures text { IfOk result
+        (λ bytes. bytes ≡ request_text (heartbeat_request base.now token.now beat.now)) }
     ensures http { OnOk result (IsHttp base.now) }
     ensures valid { IsValid base.now }
     ensures spelled { OnOk result (SpellsHeartbeat beat.now (spelling.heartbeat_text beat.now)) }

@@ -1,6 +1,7 @@
-//! The requests that go to the server of a job. They are written from its address, and not over a URL, which writes some
-//! addresses otherwise and leaves out port 80.
-ghost use Rattle.std.specs.Prelude.{◌≡◌, ◌≤◌, ◌<◌, ◌^◌, ◌⊎◌, ◌++◌, ℕ, List, Ok, Result, ⊤, codes, string_bytes, length, OnOk, IfOk, IfErr};
+//! The requests that go to the server of a job. They are written from its address, and not over a URL, which
+//! writes some addresses otherwise and leaves out port 80.
+ghost use Rattle.std.specs.Prelude.{◌≡◌, ◌≤◌, ◌<◌, ◌^◌, ◌⊎◌, ◌++◌, ℕ, List, Ok, Result, ⊤, codes};
+ghost use Rattle.std.specs.Prelude.{string_bytes, length, OnOk, IfOk, IfErr};
 ghost use Rattle.std.specs.Fmt.{decimal};
 ghost use Rattle.dist_types.specs.Addr.{addr_text, IsAddr};
 ghost use Rattle.dist_types.specs.declared.token_error.TokenError.{TokenError};
@@ -86,9 +87,9 @@ fn submit_text(
     Ok(bytes)
 }
 
-/// The request that brings the archive of a job to its server, under the job's token. Refused for want of memory alone.
-/// Where the token is one that a field carries and the request is within the limits, it is read as that job's archive by
-/// each server that accepts the token for the job.
+/// The request that brings the archive of a job to its server, under the job's token. Refused for want of
+/// memory alone. Where the token is one that a field carries and the request is within the limits, it is read
+/// as that job's archive by each server that accepts the token for the job.
 pub(crate) fn submit_request(
     alloc: Global,
     server: ServerId,
@@ -109,7 +110,8 @@ pub(crate) fn submit_request(
     Ok(bytes)
 }
 
-/// The body of a run: HeadTooLong exactly where the head has 2^32 bytes or more; else refused for want of memory alone.
+/// The body of a run: HeadTooLong exactly where the head has 2^32 bytes or more; else refused for want of
+/// memory alone.
 #[tactic(auto, unfolding(http_routes::specs::RunHead::run_body))]
 fn run_body(alloc: Global, run: &RunJobHttpRequest, inputs: &[u8]) -> Result<Bytes, CallError>
     ensures body { IfOk result (λ bytes. bytes ≡ run_body run.now inputs.now) }
@@ -132,14 +134,15 @@ fn run_body(alloc: Global, run: &RunJobHttpRequest, inputs: &[u8]) -> Result<Byt
     Ok(Bytes::new(bytes))
 }
 
-/// The body of a run whose inputs a packager packs: HeadTooLong exactly where the head has 2^32 bytes or more, and then
-/// the packager is not called.
+/// The body of a run whose inputs a packager packs: HeadTooLong exactly where the head has 2^32 bytes or
+/// more, and then the packager is not called.
 fn packed_body(
     alloc: Global,
     run: &RunJobHttpRequest,
     inputs: &mut dyn InputsPackager,
 ) -> Result<(Bytes, PathTransformer), CallError>
-    ensures { PacksBody (inputs.new ≡ inputs.old) (packs inputs.old) (refusals inputs.old) (refusals inputs.new) run.now (first_of result) }
+    ensures { PacksBody (inputs.new ≡ inputs.old) (packs inputs.old) (refusals inputs.old)
+        (refusals inputs.new) run.now (first_of result) }
 {
     let mut body = match run_body(alloc, run, &[]) {
         Ok(body) => body.into_inner(),
@@ -172,14 +175,16 @@ fn run_posted(
     Ok(bytes)
 }
 
-/// The request that asks a job's server to run it with the inputs that a packager packs, under the job's token.
+/// The request that asks a job's server to run it with the inputs that a packager packs, under the job's
+/// token.
 pub(crate) fn packed_request(
     alloc: Global,
     job: &JobAlloc,
     run: &RunJobHttpRequest,
     inputs: &mut dyn InputsPackager,
 ) -> Result<(Bytes, PathTransformer), CallError>
-    ensures { PacksRequest (inputs.new ≡ inputs.old) (packs inputs.old) (refusals inputs.old) (refusals inputs.new) job.now run.now (first_of result) }
+    ensures { PacksRequest (inputs.new ≡ inputs.old) (packs inputs.old) (refusals inputs.old)
+        (refusals inputs.new) job.now run.now (first_of result) }
 {
     match packed_body(alloc, run, inputs) {
         Ok((body, transformer)) => {
@@ -216,9 +221,10 @@ fn run_text(
     Ok(bytes)
 }
 
-/// The request that asks a job's server to run it, under the job's token: HeadTooLong exactly where the head has 2^32
-/// bytes or more; else refused for want of memory alone. Where the token is one that a field carries and the request is
-/// within the limits, it is read as that run with those inputs by each server that accepts the token for the job.
+/// The request that asks a job's server to run it, under the job's token: HeadTooLong exactly where the head
+/// has 2^32 bytes or more; else refused for want of memory alone. Where the token is one that a field carries
+/// and the request is within the limits, it is read as that run with those inputs by each server that accepts
+/// the token for the job.
 pub(crate) fn run_request(
     alloc: Global,
     server: ServerId,

@@ -1,7 +1,8 @@
 //! The requests that the scheduler and its build servers write to each other.
 ghost use Rattle.std.specs.Prelude.{◌≡◌, IfOk, IfErr, string_bytes};
 ghost use Rattle.http_head.specs.WrittenRequest.{request_text};
-ghost use Rattle.http_routes.specs.Written.{post_with, assign_request_text, state_request_text, heartbeat_request_text};
+ghost use Rattle.http_routes.specs.Written.{post_with, assign_request_text, state_request_text};
+ghost use Rattle.http_routes.specs.Written.{heartbeat_request_text};
 
 use crate::builder::{RequestBuilder, ReqwestRequestBuilderExt};
 use crate::error::HttpError;
@@ -51,8 +52,8 @@ pub fn assign_request(
     Ok(bytes)
 }
 
-/// The report of a job's state to the scheduler at that address, under a server's token. Refused for want of memory
-/// alone.
+/// The report of a job's state to the scheduler at that address, under a server's token. Refused for want of
+/// memory alone.
 #[tactic(auto, unfolding(crate::specs::Written::state_with))]
 pub fn state_request(
     alloc: Global,

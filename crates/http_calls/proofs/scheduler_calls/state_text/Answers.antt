@@ -11,5 +11,6 @@ pub returns-clause-text : goal.returns-clause-text
 returns-clause-text c =
     c.in_ok-bytes.ensures.text
     ∙ ap request_text
-    (ap (λ (u : Parts). post_with (target_of u) (host_of u) c.args.token.now (state_bytes c.args.state)) c.in_ok-url.ensures.ok
+    (ap (λ (u : Parts). post_with (target_of u) (host_of u) c.args.token.now (state_bytes c.args.state))
+    c.in_ok-url.ensures.ok
     ∙ state_written c.args.base.now c.args.token.now c.args.job c.args.state)
