@@ -1,5 +1,6 @@
 -- The clauses of the command, from what was done and what was told.
-use Rattle.std.proofs.Common.{◌≡◌, ◌≢◌, ◌⊎◌, inl, inr, ℕ, zero, suc, ◌<◌, ◌≤◌, List, [], Option, Some, None, IfSome, Result, Ok, Err, refl, sym, ap, subst, ◌∙◌, arith}
+use Rattle.std.proofs.Common.{◌≡◌, ◌≢◌, ◌⊎◌, inl, inr, ℕ, zero, suc, ◌<◌, ◌≤◌, List, [], Option, Some, None}
+use Rattle.std.proofs.Common.{IfSome, Result, Ok, Err, refl, sym, ap, subst, ◌∙◌, arith}
 use Rattle.std.specs.Prelude.{⊤}
 use Rattle.std.proofs.lemmas.Option.{IfSome_then}
 use Rattle.rand_core.specs.Stream.{Stream}
@@ -10,7 +11,9 @@ use Rattle.dist_types.specs.Content.{left_behind}
 use Rattle.farm_script.specs.declared.fault.ConfigCause.{ConfigCause}
 use Rattle.farm_script.specs.declared.fault.ConfigCause.TheVariants.{Missing, Unreadable, NotToml, Key}
 use Rattle.farm_script.specs.declared.fault.FarmFault.{FarmFault}
-use Rattle.farm_script.specs.declared.fault.FarmFault.TheVariants.{Usage, BadLine, DuplicateAddress, ScopedAddress, ReadFault, WriteFault, BadConfig, ServeFault, Memory}
+use Rattle.farm_script.specs.declared.fault.FarmFault.TheVariants.{Usage, BadLine, DuplicateAddress}
+use Rattle.farm_script.specs.declared.fault.FarmFault.TheVariants.{ScopedAddress, ReadFault, WriteFault}
+use Rattle.farm_script.specs.declared.fault.FarmFault.TheVariants.{BadConfig, ServeFault, Memory}
 use Rattle.farm_script.specs.FirstFaulty.{IsFirstFaulty, IsFaultless}
 use Rattle.farm_config.specs.declared.files.NamedFile.{NamedFile}
 use Rattle.farm_words.specs.declared.command.AuthSubcommand.{AuthSubcommand}
@@ -18,7 +21,9 @@ use Rattle.farm_words.specs.declared.command.Command.{Command}
 use Rattle.farm_words.specs.declared.command.Command.TheVariants.{Farm, Auth, Scheduler, Server}
 use Rattle.farm_words.specs.Asked.{Asked, farm, random, token_under, token_of, scheduler, server, asked_by}
 use Rattle.farm_words.specs.Parsed.{IsParsed, OverFiles, command_in}
-use Rattle.farm.specs.Command.{fault_status, Side, Serving, Called, Moment, IsReadWhole, IsFarmRun, IsAuthRun, IsStarted, IsCarriedOut, IsUntouched, IsUnparsed, IsWorked, IsUsage, IsDoneBy, IsDone, IsTold, IsLong, StandsFor, IsReported, IsAnswered}
+use Rattle.farm.specs.Command.{fault_status, Side, Serving, Called, Moment, IsReadWhole, IsFarmRun, IsAuthRun}
+use Rattle.farm.specs.Command.{IsStarted, IsCarriedOut, IsUntouched, IsUnparsed, IsWorked, IsUsage, IsDoneBy}
+use Rattle.farm.specs.Command.{IsDone, IsTold, IsLong, StandsFor, IsReported, IsAnswered}
 
 status_some : (f : FarmFault) → 0 < fault_status f
 status_some Usage = omega arith
@@ -47,13 +52,15 @@ told_some f answer e x (inl p) = omega (arith, p.0, status_some f)
 told_some f answer e x (inr p) = omega (arith, p.0)
 
 -- a status that is not 5 is the fault's own, and errs did not fail
-own : (f : FarmFault) (answer : ℕ) (e x : Side) → IsTold f answer e x → answer ≢ 5 → (answer ≡ fault_status f) × (x.faults ≡ e.faults)
+own : (f : FarmFault) (answer : ℕ) (e x : Side) → IsTold f answer e x → answer ≢ 5 → (answer ≡ fault_status f)
+    × (x.faults ≡ e.faults)
 own f answer e x (inl p) h = (p.0, p.2)
 own f answer e x (inr p) h = absurd (h p.0)
 
 -- ---- want of memory is told in place of a fault whose text takes memory
 
-memory_run : (met : FarmFault) (i j o p : Side) → IsLong met → IsFarmRun (Err met) i j o p → IsFarmRun (Err Memory) i j o p
+memory_run : (met : FarmFault) (i j o p : Side) → IsLong met → IsFarmRun (Err met) i j o p
+    → IsFarmRun (Err Memory) i j o p
 memory_run (BadLine n) i j o p long h = (h.0.1, h.1)
 memory_run (DuplicateAddress n) i j o p long h = (h.0.1, h.1)
 memory_run (ScopedAddress n) i j o p long h = (h.0.1, h.1)
@@ -64,7 +71,8 @@ memory_run WriteFault i j o p long h = absurd long
 memory_run ServeFault i j o p long h = absurd long
 memory_run Memory i j o p long h = absurd long
 
-memory_auth : (auth : AuthSubcommand) (met : FarmFault) (s t : Stream) (o p : Side) → IsLong met → IsAuthRun auth (Err met) s t o p → IsAuthRun auth (Err Memory) s t o p
+memory_auth : (auth : AuthSubcommand) (met : FarmFault) (s t : Stream) (o p : Side) → IsLong met
+    → IsAuthRun auth (Err met) s t o p → IsAuthRun auth (Err Memory) s t o p
 memory_auth auth (BadConfig (Key key)) s t o p long h = h.2
 memory_auth auth (BadConfig Missing) s t o p long h = absurd h
 memory_auth auth (BadConfig Unreadable) s t o p long h = absurd h
@@ -78,7 +86,8 @@ memory_auth auth WriteFault s t o p long h = absurd long
 memory_auth auth ServeFault s t o p long h = absurd long
 memory_auth auth Memory s t o p long h = absurd long
 
-no_start : (row : Result (Unit {0}) Failed → ServeCall) (met : FarmFault) (s t : Serving) → IsLong met → IsStarted row (Err met) s t → ⊥
+no_start : (row : Result (Unit {0}) Failed → ServeCall) (met : FarmFault) (s t : Serving) → IsLong met
+    → IsStarted row (Err met) s t → ⊥
 no_start row (BadConfig c) s t long h = h
 no_start row (BadLine n) s t long h = h
 no_start row (DuplicateAddress n) s t long h = h
@@ -89,13 +98,19 @@ no_start row WriteFault s t long h = long
 no_start row ServeFault s t long h = long
 no_start row Memory s t long h = long
 
-memory_out : (command : Command) (met : FarmFault) (before after : Moment) → IsLong met → IsCarriedOut command (Err met) before after → IsCarriedOut command (Err Memory) before after
-memory_out Farm met before after long h = (memory_run met before.input after.input before.out after.out long h.0, h.1, h.2)
-memory_out (Auth auth) met before after long h = (memory_auth auth met before.random after.random before.out after.out long h.0, h.1, h.2)
-memory_out (Scheduler config) met before after long h = absurd (no_start (scheduler_call config) met before.serve after.serve long h.0)
-memory_out (Server config) met before after long h = absurd (no_start (server_call config) met before.serve after.serve long h.0)
+memory_out : (command : Command) (met : FarmFault) (before after : Moment) → IsLong met
+    → IsCarriedOut command (Err met) before after → IsCarriedOut command (Err Memory) before after
+memory_out Farm met before after long h =
+    (memory_run met before.input after.input before.out after.out long h.0, h.1, h.2)
+memory_out (Auth auth) met before after long h =
+    (memory_auth auth met before.random after.random before.out after.out long h.0, h.1, h.2)
+memory_out (Scheduler config) met before after long h =
+    absurd (no_start (scheduler_call config) met before.serve after.serve long h.0)
+memory_out (Server config) met before after long h =
+    absurd (no_start (server_call config) met before.serve after.serve long h.0)
 
-memory_unparsed : (what : Asked) (met : FarmFault) (before after : Moment) → IsLong met → IsUnparsed what (Err met) before after → IsUnparsed what (Err Memory) before after
+memory_unparsed : (what : Asked) (met : FarmFault) (before after : Moment) → IsLong met
+    → IsUnparsed what (Err met) before after → IsUnparsed what (Err Memory) before after
 memory_unparsed what (BadConfig (Key key)) before after long h = (h.0.1.0, h.1)
 memory_unparsed what (BadConfig Missing) before after long h = absurd long
 memory_unparsed what (BadConfig Unreadable) before after long h = absurd long
@@ -113,17 +128,26 @@ usage_is_short : (met : FarmFault) → (met ≡ Usage) ⊎ (met ≡ Memory) → 
 usage_is_short met (inl e) long = subst (λ (f : FarmFault). IsLong f) e long
 usage_is_short met (inr e) long = subst (λ (f : FarmFault). IsLong f) e long
 
-memory_done : (what : Option Asked) (met : FarmFault) (before after : Moment) → IsLong met → IsDoneBy what (Err met) before after → IsDoneBy what (Err Memory) before after
+memory_done : (what : Option Asked) (met : FarmFault) (before after : Moment) → IsLong met
+    → IsDoneBy what (Err met) before after → IsDoneBy what (Err Memory) before after
 memory_done None met before after long h = absurd (usage_is_short met h.0 long)
 memory_done (Some what) met before after long (inl h) = inl (memory_unparsed what met before after long h)
-memory_done (Some what) met before after long (inr h) = inr (record { command = h.command; parsed = h.parsed; carried_out = memory_out h.command met before after long h.carried_out })
+memory_done (Some what) met before after long (inr h) =
+    inr (record {
+      command = h.command;
+      parsed = h.parsed;
+      carried_out = memory_out h.command met before after long h.carried_out;
+    })
 
-told_done : (met told : FarmFault) (c : Called) → StandsFor met told → IsDone (Err met) c → IsDone (Err told) c
+told_done : (met told : FarmFault) (c : Called) → StandsFor met told → IsDone (Err met) c
+    → IsDone (Err told) c
 told_done met told c (inl same) done = subst (λ (f : FarmFault). IsDone (Err f) c) (sym same) done
-told_done met told c (inr p) done = subst (λ (f : FarmFault). IsDone (Err f) c) (sym p.0) (memory_done (asked_by c.words) met c.before c.after p.1 done)
+told_done met told c (inr p) done = subst (λ (f : FarmFault). IsDone (Err f) c) (sym p.0)
+    (memory_done (asked_by c.words) met c.before c.after p.1 done)
 
 -- what was done, and the answer that reports it
-pub answered : (r : Result ⊤ FarmFault) (answer : ℕ) (c : Called) (e x : Side) → IsDone r c → IsReported r answer e x → IsAnswered answer c e x
+pub answered : (r : Result ⊤ FarmFault) (answer : ℕ) (c : Called) (e x : Side) → IsDone r c
+    → IsReported r answer e x → IsAnswered answer c e x
 answered (Ok y) answer c e x done told = record {
   done = λ zero_is. (done, told.1);
   told = λ some. absurd (omega (arith, told.0, some));
@@ -147,9 +171,11 @@ statuses_of (suc n) c e x a = let t = a.told (omega arith) in told_most t.0 (suc
 is_farm : (command : Command) → command_in farm [] ≡ Ok command → Farm ≡ command
 is_farm command e = cc
 
-farm_worked : (r : Result ⊤ FarmFault) (before after : Moment) → IsWorked farm r before after → IsFarmRun r before.input after.input before.out after.out
+farm_worked : (r : Result ⊤ FarmFault) (before after : Moment) → IsWorked farm r before after
+    → IsFarmRun r before.input after.input before.out after.out
 farm_worked r before after w =
-    let out : IsCarriedOut Farm r before after = subst (λ (k : Command). IsCarriedOut k r before after) (sym (is_farm w.command w.parsed.1)) w.carried_out in out.0
+    let out : IsCarriedOut Farm r before after = subst (λ (k : Command). IsCarriedOut k r before after)
+    (sym (is_farm w.command w.parsed.1)) w.carried_out in out.0
 
 farm_unparsed : (f : FarmFault) (before after : Moment) → IsUnparsed farm (Err f) before after → f ≡ Memory
 farm_unparsed Memory before after h = refl
@@ -162,25 +188,32 @@ farm_unparsed ReadFault before after h = absurd h.0
 farm_unparsed WriteFault before after h = absurd h.0
 farm_unparsed ServeFault before after h = absurd h.0
 
-farm_done : (what : Option Asked) (before after : Moment) → what ≡ Some farm → IsDoneBy what (Ok tt) before after → IsFarmRun (Ok tt) before.input after.input before.out after.out
-farm_done what before after e done = by_cases (subst (λ (w : Option Asked). IsDoneBy w (Ok tt) before after) e done)
+farm_done : (what : Option Asked) (before after : Moment) → what ≡ Some farm
+    → IsDoneBy what (Ok tt) before after → IsFarmRun (Ok tt) before.input after.input before.out after.out
+farm_done what before after e done =
+    by_cases (subst (λ (w : Option Asked). IsDoneBy w (Ok tt) before after) e done)
   where
-    by_cases : IsDoneBy (Some farm) (Ok tt) before after → IsFarmRun (Ok tt) before.input after.input before.out after.out
+    by_cases : IsDoneBy (Some farm) (Ok tt) before after
+        → IsFarmRun (Ok tt) before.input after.input before.out after.out
     by_cases (inl h) = absurd h
     by_cases (inr h) = farm_worked (Ok tt) before after h
 
-farm_fault : (what : Option Asked) (f : FarmFault) (before after : Moment) → what ≡ Some farm → IsDoneBy what (Err f) before after
+farm_fault : (what : Option Asked) (f : FarmFault) (before after : Moment) → what ≡ Some farm
+    → IsDoneBy what (Err f) before after
     → (f ≡ Memory) ⊎ IsFarmRun (Err f) before.input after.input before.out after.out
-farm_fault what f before after e done = by_cases (subst (λ (w : Option Asked). IsDoneBy w (Err f) before after) e done)
+farm_fault what f before after e done =
+    by_cases (subst (λ (w : Option Asked). IsDoneBy w (Err f) before after) e done)
   where
-    by_cases : IsDoneBy (Some farm) (Err f) before after → (f ≡ Memory) ⊎ IsFarmRun (Err f) before.input after.input before.out after.out
+    by_cases : IsDoneBy (Some farm) (Err f) before after → (f ≡ Memory)
+        ⊎ IsFarmRun (Err f) before.input after.input before.out after.out
     by_cases (inl h) = inl (farm_unparsed f before after h)
     by_cases (inr h) = inr (farm_worked (Err f) before after h)
 
 -- ---- the farm command
 
 -- the statuses of its faults
-run_status : (f : FarmFault) (answer : ℕ) (i j o p : Side) (e x : Side) → IsFarmRun (Err f) i j o p → IsTold f answer e x
+run_status : (f : FarmFault) (answer : ℕ) (i j o p : Side) (e x : Side) → IsFarmRun (Err f) i j o p
+    → IsTold f answer e x
     → (answer ≡ 1) ⊎ ((answer ≡ 3) ⊎ ((answer ≡ 4) ⊎ (answer ≡ 5)))
 run_status f answer i j o p e x h (inr t) = inr (inr (inr t.0))
 run_status (BadLine n) answer i j o p e x h (inl t) = inl t.0
@@ -193,7 +226,8 @@ run_status (BadConfig c) answer i j o p e x h (inl t) = absurd h
 run_status ServeFault answer i j o p e x h (inl t) = absurd h
 run_status Usage answer i j o p e x h (inl t) = absurd h
 
-memory_status : (f : FarmFault) (answer : ℕ) (e x : Side) → f ≡ Memory → IsTold f answer e x → (answer ≡ 3) ⊎ (answer ≡ 5)
+memory_status : (f : FarmFault) (answer : ℕ) (e x : Side) → f ≡ Memory → IsTold f answer e x → (answer ≡ 3)
+    ⊎ (answer ≡ 5)
 memory_status f answer e x is told = by_told (subst (λ (g : FarmFault). IsTold g answer e x) is told)
   where
     by_told : IsTold Memory answer e x → (answer ≡ 3) ⊎ (answer ≡ 5)
@@ -208,28 +242,39 @@ always : {A : Type 0} {P : A → Type 0} (o : Option A) → ((x : A) → P x) �
 always (Some x) h = h x
 always None h = tt
 
-farm_status : (f : FarmFault) (answer : ℕ) (i j o p : Side) (e x : Side) → (f ≡ Memory) ⊎ IsFarmRun (Err f) i j o p → IsTold f answer e x
+farm_status : (f : FarmFault) (answer : ℕ) (i j o p : Side) (e x : Side) → (f ≡ Memory)
+    ⊎ IsFarmRun (Err f) i j o p → IsTold f answer e x
     → (answer ≡ 1) ⊎ ((answer ≡ 3) ⊎ ((answer ≡ 4) ⊎ (answer ≡ 5)))
-farm_status f answer i j o p e x (inl m) told = three_of (answer ≡ 1) (answer ≡ 4) answer (memory_status f answer e x m told)
+farm_status f answer i j o p e x (inl m) told = three_of (answer ≡ 1) (answer ≡ 4) answer
+    (memory_status f answer e x m told)
 farm_status f answer i j o p e x (inr h) told = run_status f answer i j o p e x h told
 
-pub faulty_of : (answer : ℕ) (c : Called) (e x : Side) → IsAnswered answer c e x → asked_by c.words ≡ Some farm
-    → IfSome c.before.input.content (λ bytes. (f : FarmFault) → IsFirstFaulty bytes f → (answer ≡ 1) ⊎ ((answer ≡ 3) ⊎ ((answer ≡ 4) ⊎ (answer ≡ 5))))
+pub faulty_of : (answer : ℕ) (c : Called) (e x : Side) → IsAnswered answer c e x
+    → asked_by c.words ≡ Some farm
+    → IfSome c.before.input.content (λ bytes. (f : FarmFault) → IsFirstFaulty bytes f → (answer ≡ 1)
+    ⊎ ((answer ≡ 3) ⊎ ((answer ≡ 4) ⊎ (answer ≡ 5))))
 faulty_of zero c e x a named =
     let run = farm_done (asked_by c.words) c.before c.after named (a.done refl).0 in
     IfSome_then c.before.input.content run.2 (λ bytes t f first. absurd (t.1.fine f first))
 faulty_of (suc k) c e x a named =
     let t = a.told (omega arith) in
     let why = farm_fault (asked_by c.words) t.0 c.before c.after named t.1 in
-    always c.before.input.content (λ bytes f first. farm_status t.0 (suc k) c.before.input c.after.input c.before.out c.after.out e x why t.2)
+    always c.before.input.content
+    (λ bytes f first. farm_status t.0 (suc k) c.before.input c.after.input c.before.out c.after.out e x
+    why t.2)
 
 -- where no line is faulty
-fine_status : (f : FarmFault) (answer : ℕ) (i j o p : Side) (e x : Side) → IsFarmRun (Err f) i j o p → IsTold f answer e x
-    → IfSome i.content (λ bytes. IsFaultless bytes → (answer ≡ 0) ⊎ ((answer ≡ 3) ⊎ ((answer ≡ 4) ⊎ (answer ≡ 5))))
+fine_status : (f : FarmFault) (answer : ℕ) (i j o p : Side) (e x : Side) → IsFarmRun (Err f) i j o p
+    → IsTold f answer e x
+    → IfSome i.content (λ bytes. IsFaultless bytes → (answer ≡ 0)
+    ⊎ ((answer ≡ 3) ⊎ ((answer ≡ 4) ⊎ (answer ≡ 5))))
 fine_status f answer i j o p e x h (inr t) = always i.content (λ bytes fine. inr (inr (inr t.0)))
-fine_status (BadLine n) answer i j o p e x h (inl t) = IfSome_then i.content h.2 (λ bytes first fine. absurd (fine (BadLine n) first))
-fine_status (DuplicateAddress n) answer i j o p e x h (inl t) = IfSome_then i.content h.2 (λ bytes first fine. absurd (fine (DuplicateAddress n) first))
-fine_status (ScopedAddress n) answer i j o p e x h (inl t) = IfSome_then i.content h.2 (λ bytes first fine. absurd (fine (ScopedAddress n) first))
+fine_status (BadLine n) answer i j o p e x h (inl t) = IfSome_then i.content h.2
+    (λ bytes first fine. absurd (fine (BadLine n) first))
+fine_status (DuplicateAddress n) answer i j o p e x h (inl t) = IfSome_then i.content h.2
+    (λ bytes first fine. absurd (fine (DuplicateAddress n) first))
+fine_status (ScopedAddress n) answer i j o p e x h (inl t) = IfSome_then i.content h.2
+    (λ bytes first fine. absurd (fine (ScopedAddress n) first))
 fine_status Memory answer i j o p e x h (inl t) = always i.content (λ bytes fine. inr (inl t.0))
 fine_status ReadFault answer i j o p e x h (inl t) = always i.content (λ bytes fine. inr (inr (inl t.0)))
 fine_status WriteFault answer i j o p e x h (inl t) = always i.content (λ bytes fine. inr (inr (inr t.0)))
@@ -237,13 +282,19 @@ fine_status (BadConfig c) answer i j o p e x h (inl t) = absurd h
 fine_status ServeFault answer i j o p e x h (inl t) = absurd h
 fine_status Usage answer i j o p e x h (inl t) = absurd h
 
-fine_farm : (f : FarmFault) (answer : ℕ) (i j o p : Side) (e x : Side) → (f ≡ Memory) ⊎ IsFarmRun (Err f) i j o p → IsTold f answer e x
-    → IfSome i.content (λ bytes. IsFaultless bytes → (answer ≡ 0) ⊎ ((answer ≡ 3) ⊎ ((answer ≡ 4) ⊎ (answer ≡ 5))))
-fine_farm f answer i j o p e x (inl m) told = always i.content (λ bytes fine. three_of (answer ≡ 0) (answer ≡ 4) answer (memory_status f answer e x m told))
+fine_farm : (f : FarmFault) (answer : ℕ) (i j o p : Side) (e x : Side) → (f ≡ Memory)
+    ⊎ IsFarmRun (Err f) i j o p → IsTold f answer e x
+    → IfSome i.content (λ bytes. IsFaultless bytes → (answer ≡ 0)
+    ⊎ ((answer ≡ 3) ⊎ ((answer ≡ 4) ⊎ (answer ≡ 5))))
+fine_farm f answer i j o p e x (inl m) told =
+    always i.content (λ bytes fine. three_of (answer ≡ 0) (answer ≡ 4) answer
+    (memory_status f answer e x m told))
 fine_farm f answer i j o p e x (inr h) told = fine_status f answer i j o p e x h told
 
-pub faultless_of : (answer : ℕ) (c : Called) (e x : Side) → IsAnswered answer c e x → asked_by c.words ≡ Some farm
-    → IfSome c.before.input.content (λ bytes. IsFaultless bytes → (answer ≡ 0) ⊎ ((answer ≡ 3) ⊎ ((answer ≡ 4) ⊎ (answer ≡ 5))))
+pub faultless_of : (answer : ℕ) (c : Called) (e x : Side) → IsAnswered answer c e x
+    → asked_by c.words ≡ Some farm
+    → IfSome c.before.input.content (λ bytes. IsFaultless bytes → (answer ≡ 0)
+    ⊎ ((answer ≡ 3) ⊎ ((answer ≡ 4) ⊎ (answer ≡ 5))))
 faultless_of zero c e x a named = always c.before.input.content (λ bytes fine. inl refl)
 faultless_of (suc k) c e x a named =
     let t = a.told (omega arith) in
@@ -251,7 +302,8 @@ faultless_of (suc k) c e x a named =
     fine_farm t.0 (suc k) c.before.input c.after.input c.before.out c.after.out e x why t.2
 
 -- what input has left
-left_run : (f : FarmFault) (answer : ℕ) (i j o p : Side) → IsFarmRun (Err f) i j o p → answer ≡ fault_status f → answer ≤ 1 → j.content ≡ left_behind 67108865 i.content
+left_run : (f : FarmFault) (answer : ℕ) (i j o p : Side) → IsFarmRun (Err f) i j o p → answer ≡ fault_status f
+    → answer ≤ 1 → j.content ≡ left_behind 67108865 i.content
 left_run (BadLine n) answer i j o p h is few = h.0.0
 left_run (DuplicateAddress n) answer i j o p h is few = h.0.0
 left_run (ScopedAddress n) answer i j o p h is few = h.0.0
@@ -262,25 +314,30 @@ left_run (BadConfig c) answer i j o p h is few = absurd h
 left_run ServeFault answer i j o p h is few = absurd h
 left_run Usage answer i j o p h is few = absurd h
 
-left_farm : (f : FarmFault) (answer : ℕ) (i j o p : Side) → (f ≡ Memory) ⊎ IsFarmRun (Err f) i j o p → answer ≡ fault_status f → answer ≤ 1
+left_farm : (f : FarmFault) (answer : ℕ) (i j o p : Side) → (f ≡ Memory) ⊎ IsFarmRun (Err f) i j o p
+    → answer ≡ fault_status f → answer ≤ 1
     → j.content ≡ left_behind 67108865 i.content
-left_farm f answer i j o p (inl m) is few = absurd (let three : fault_status f ≡ 3 = ap fault_status m in omega (arith, is, few, three))
+left_farm f answer i j o p (inl m) is few =
+    absurd (let three : fault_status f ≡ 3 = ap fault_status m in omega (arith, is, few, three))
 left_farm f answer i j o p (inr h) is few = left_run f answer i j o p h is few
 
 few_is : (answer : ℕ) → answer ≤ 1 → answer ≢ 5
 few_is answer few is = omega (arith, few, is)
 
-pub left_of : (answer : ℕ) (c : Called) (e x : Side) → IsAnswered answer c e x → asked_by c.words ≡ Some farm → answer ≤ 1
+pub left_of : (answer : ℕ) (c : Called) (e x : Side) → IsAnswered answer c e x → asked_by c.words ≡ Some farm
+    → answer ≤ 1
     → c.after.input.content ≡ left_behind 67108865 c.before.input.content
 left_of zero c e x a named few = (farm_done (asked_by c.words) c.before c.after named (a.done refl).0).0.0
 left_of (suc k) c e x a named few =
     let t = a.told (omega arith) in
-    left_farm t.0 (suc k) c.before.input c.after.input c.before.out c.after.out (farm_fault (asked_by c.words) t.0 c.before c.after named t.1)
+    left_farm t.0 (suc k) c.before.input c.after.input c.before.out c.after.out
+    (farm_fault (asked_by c.words) t.0 c.before c.after named t.1)
     (own t.0 (suc k) e x t.2 (few_is (suc k) few)).0 few
 
 -- ---- counts
 
-input_run : (f : FarmFault) (answer : ℕ) (i j o p : Side) → IsFarmRun (Err f) i j o p → answer ≡ fault_status f → answer ≢ 4 → answer ≢ 5 → j.faults ≡ i.faults
+input_run : (f : FarmFault) (answer : ℕ) (i j o p : Side) → IsFarmRun (Err f) i j o p
+    → answer ≡ fault_status f → answer ≢ 4 → answer ≢ 5 → j.faults ≡ i.faults
 input_run (BadLine n) answer i j o p h is four five = h.0.1
 input_run (DuplicateAddress n) answer i j o p h is four five = h.0.1
 input_run (ScopedAddress n) answer i j o p h is four five = h.0.1
@@ -291,37 +348,45 @@ input_run (BadConfig c) answer i j o p h is four five = absurd h
 input_run ServeFault answer i j o p h is four five = absurd h
 input_run Usage answer i j o p h is four five = absurd h
 
-input_out : (command : Command) (f : FarmFault) (answer : ℕ) (before after : Moment) → IsCarriedOut command (Err f) before after → answer ≡ fault_status f
+input_out : (command : Command) (f : FarmFault) (answer : ℕ) (before after : Moment)
+    → IsCarriedOut command (Err f) before after → answer ≡ fault_status f
     → answer ≢ 4 → answer ≢ 5 → after.input.faults ≡ before.input.faults
-input_out Farm f answer before after h is four five = input_run f answer before.input after.input before.out after.out h.0 is four five
+input_out Farm f answer before after h is four five =
+    input_run f answer before.input after.input before.out after.out h.0 is four five
 input_out (Auth auth) f answer before after h is four five = ap (λ (s : Side). s.faults) h.1
 input_out (Scheduler config) f answer before after h is four five = ap (λ (s : Side). s.faults) h.1
 input_out (Server config) f answer before after h is four five = ap (λ (s : Side). s.faults) h.1
 
-input_fault : (what : Option Asked) (f : FarmFault) (answer : ℕ) (before after : Moment) → IsDoneBy what (Err f) before after → answer ≡ fault_status f
+input_fault : (what : Option Asked) (f : FarmFault) (answer : ℕ) (before after : Moment)
+    → IsDoneBy what (Err f) before after → answer ≡ fault_status f
     → answer ≢ 4 → answer ≢ 5 → after.input.faults ≡ before.input.faults
 input_fault None f answer before after h is four five = ap (λ (s : Side). s.faults) h.1.input
 input_fault (Some what) f answer before after (inl h) is four five = ap (λ (s : Side). s.faults) h.1.input
-input_fault (Some what) f answer before after (inr h) is four five = input_out h.command f answer before after h.carried_out is four five
+input_fault (Some what) f answer before after (inr h) is four five =
+    input_out h.command f answer before after h.carried_out is four five
 
-input_done : (what : Option Asked) (before after : Moment) → IsDoneBy what (Ok tt) before after → after.input.faults ≡ before.input.faults
+input_done : (what : Option Asked) (before after : Moment) → IsDoneBy what (Ok tt) before after
+    → after.input.faults ≡ before.input.faults
 input_done None before after h = absurd h.0
 input_done (Some what) before after (inl h) = absurd h
 input_done (Some what) before after (inr h) = by_command h.command h.carried_out
   where
-    by_command : (command : Command) → IsCarriedOut command (Ok tt) before after → after.input.faults ≡ before.input.faults
+    by_command : (command : Command) → IsCarriedOut command (Ok tt) before after
+        → after.input.faults ≡ before.input.faults
     by_command Farm out = out.0.0.1
     by_command (Auth auth) out = ap (λ (s : Side). s.faults) out.1
     by_command (Scheduler config) out = ap (λ (s : Side). s.faults) out.1
     by_command (Server config) out = ap (λ (s : Side). s.faults) out.1
 
-pub order_of : (answer : ℕ) (c : Called) (e x : Side) → IsAnswered answer c e x → answer ≢ 4 → answer ≢ 5 → c.after.input.faults ≡ c.before.input.faults
+pub order_of : (answer : ℕ) (c : Called) (e x : Side) → IsAnswered answer c e x → answer ≢ 4 → answer ≢ 5
+    → c.after.input.faults ≡ c.before.input.faults
 order_of zero c e x a four five = input_done (asked_by c.words) c.before c.after (a.done refl).0
 order_of (suc k) c e x a four five =
     let t = a.told (omega arith) in
     input_fault (asked_by c.words) t.0 (suc k) c.before c.after t.1 (own t.0 (suc k) e x t.2 five).0 four five
 
-out_run : (f : FarmFault) (answer : ℕ) (i j o p : Side) → IsFarmRun (Err f) i j o p → answer ≡ fault_status f → answer ≢ 5 → p.faults ≡ o.faults
+out_run : (f : FarmFault) (answer : ℕ) (i j o p : Side) → IsFarmRun (Err f) i j o p → answer ≡ fault_status f
+    → answer ≢ 5 → p.faults ≡ o.faults
 out_run (BadLine n) answer i j o p h is five = ap (λ (s : Side). s.faults) h.1
 out_run (DuplicateAddress n) answer i j o p h is five = ap (λ (s : Side). s.faults) h.1
 out_run (ScopedAddress n) answer i j o p h is five = ap (λ (s : Side). s.faults) h.1
@@ -332,7 +397,8 @@ out_run (BadConfig c) answer i j o p h is five = absurd h
 out_run ServeFault answer i j o p h is five = absurd h
 out_run Usage answer i j o p h is five = absurd h
 
-out_auth : (auth : AuthSubcommand) (f : FarmFault) (answer : ℕ) (s t : Stream) (o p : Side) → IsAuthRun auth (Err f) s t o p → answer ≡ fault_status f
+out_auth : (auth : AuthSubcommand) (f : FarmFault) (answer : ℕ) (s t : Stream) (o p : Side)
+    → IsAuthRun auth (Err f) s t o p → answer ≡ fault_status f
     → answer ≢ 5 → p.faults ≡ o.faults
 out_auth auth (BadConfig (Key key)) answer s t o p h is five = ap (λ (s : Side). s.faults) h.2
 out_auth auth (BadConfig Missing) answer s t o p h is five = absurd h
@@ -347,38 +413,50 @@ out_auth auth ReadFault answer s t o p h is five = absurd h
 out_auth auth ServeFault answer s t o p h is five = absurd h
 out_auth auth Usage answer s t o p h is five = absurd h
 
-out_out : (command : Command) (f : FarmFault) (answer : ℕ) (before after : Moment) → IsCarriedOut command (Err f) before after → answer ≡ fault_status f
+out_out : (command : Command) (f : FarmFault) (answer : ℕ) (before after : Moment)
+    → IsCarriedOut command (Err f) before after → answer ≡ fault_status f
     → answer ≢ 5 → after.out.faults ≡ before.out.faults
-out_out Farm f answer before after h is five = out_run f answer before.input after.input before.out after.out h.0 is five
-out_out (Auth auth) f answer before after h is five = out_auth auth f answer before.random after.random before.out after.out h.0 is five
+out_out Farm f answer before after h is five = out_run f answer before.input after.input before.out after.out
+    h.0 is five
+out_out (Auth auth) f answer before after h is five =
+    out_auth auth f answer before.random after.random before.out after.out h.0 is five
 out_out (Scheduler config) f answer before after h is five = ap (λ (s : Side). s.faults) h.2
 out_out (Server config) f answer before after h is five = ap (λ (s : Side). s.faults) h.2
 
-out_fault : (what : Option Asked) (f : FarmFault) (answer : ℕ) (before after : Moment) → IsDoneBy what (Err f) before after → answer ≡ fault_status f
+out_fault : (what : Option Asked) (f : FarmFault) (answer : ℕ) (before after : Moment)
+    → IsDoneBy what (Err f) before after → answer ≡ fault_status f
     → answer ≢ 5 → after.out.faults ≡ before.out.faults
 out_fault None f answer before after h is five = ap (λ (s : Side). s.faults) h.1.out
 out_fault (Some what) f answer before after (inl h) is five = ap (λ (s : Side). s.faults) h.1.out
-out_fault (Some what) f answer before after (inr h) is five = out_out h.command f answer before after h.carried_out is five
+out_fault (Some what) f answer before after (inr h) is five =
+    out_out h.command f answer before after h.carried_out is five
 
-out_done : (what : Option Asked) (before after : Moment) → IsDoneBy what (Ok tt) before after → after.out.faults ≡ before.out.faults
+out_done : (what : Option Asked) (before after : Moment) → IsDoneBy what (Ok tt) before after
+    → after.out.faults ≡ before.out.faults
 out_done None before after h = absurd h.0
 out_done (Some what) before after (inl h) = absurd h
 out_done (Some what) before after (inr h) = by_command h.command h.carried_out
   where
-    by_command : (command : Command) → IsCarriedOut command (Ok tt) before after → after.out.faults ≡ before.out.faults
+    by_command : (command : Command) → IsCarriedOut command (Ok tt) before after
+        → after.out.faults ≡ before.out.faults
     by_command Farm out = out.0.1
     by_command (Auth auth) out = out.0.4
     by_command (Scheduler config) out = ap (λ (s : Side). s.faults) out.2
     by_command (Server config) out = ap (λ (s : Side). s.faults) out.2
 
-pub counts_of : (answer : ℕ) (c : Called) (e x : Side) → IsAnswered answer c e x → answer ≢ 5 → (c.after.out.faults ≡ c.before.out.faults) × (x.faults ≡ e.faults)
-counts_of zero c e x a five = let d = a.done refl in (out_done (asked_by c.words) c.before c.after d.0, ap (λ (s : Side). s.faults) d.1)
+pub counts_of : (answer : ℕ) (c : Called) (e x : Side) → IsAnswered answer c e x → answer ≢ 5
+    → (c.after.out.faults ≡ c.before.out.faults) × (x.faults ≡ e.faults)
+counts_of zero c e x a five = let d = a.done refl in (
+  out_done (asked_by c.words) c.before c.after d.0,
+  ap (λ (s : Side). s.faults) d.1,
+)
 counts_of (suc k) c e x a five =
     let t = a.told (omega arith) in
     let o = own t.0 (suc k) e x t.2 five in
     (out_fault (asked_by c.words) t.0 (suc k) c.before c.after t.1 o.0 five, o.1)
 
-serve_started : (row : Result (Unit {0}) Failed → ServeCall) (f : FarmFault) (answer : ℕ) (s t : Serving) → IsStarted row (Err f) s t → answer ≡ fault_status f
+serve_started : (row : Result (Unit {0}) Failed → ServeCall) (f : FarmFault) (answer : ℕ) (s t : Serving)
+    → IsStarted row (Err f) s t → answer ≡ fault_status f
     → answer ≢ 7 → t.faults ≡ s.faults
 serve_started row ServeFault answer s t h is seven = absurd (seven is)
 serve_started row Memory answer s t h is seven = absurd h
@@ -390,31 +468,39 @@ serve_started row (DuplicateAddress n) answer s t h is seven = absurd h
 serve_started row (ScopedAddress n) answer s t h is seven = absurd h
 serve_started row Usage answer s t h is seven = absurd h
 
-serve_out : (command : Command) (f : FarmFault) (answer : ℕ) (before after : Moment) → IsCarriedOut command (Err f) before after → answer ≡ fault_status f
+serve_out : (command : Command) (f : FarmFault) (answer : ℕ) (before after : Moment)
+    → IsCarriedOut command (Err f) before after → answer ≡ fault_status f
     → answer ≢ 7 → after.serve.faults ≡ before.serve.faults
 serve_out Farm f answer before after h is seven = ap (λ (s : Serving). s.faults) h.2
 serve_out (Auth auth) f answer before after h is seven = ap (λ (s : Serving). s.faults) h.2
-serve_out (Scheduler config) f answer before after h is seven = serve_started (scheduler_call config) f answer before.serve after.serve h.0 is seven
-serve_out (Server config) f answer before after h is seven = serve_started (server_call config) f answer before.serve after.serve h.0 is seven
+serve_out (Scheduler config) f answer before after h is seven =
+    serve_started (scheduler_call config) f answer before.serve after.serve h.0 is seven
+serve_out (Server config) f answer before after h is seven =
+    serve_started (server_call config) f answer before.serve after.serve h.0 is seven
 
-serve_fault : (what : Option Asked) (f : FarmFault) (answer : ℕ) (before after : Moment) → IsDoneBy what (Err f) before after → answer ≡ fault_status f
+serve_fault : (what : Option Asked) (f : FarmFault) (answer : ℕ) (before after : Moment)
+    → IsDoneBy what (Err f) before after → answer ≡ fault_status f
     → answer ≢ 7 → after.serve.faults ≡ before.serve.faults
 serve_fault None f answer before after h is seven = ap (λ (s : Serving). s.faults) h.1.serve
 serve_fault (Some what) f answer before after (inl h) is seven = ap (λ (s : Serving). s.faults) h.1.serve
-serve_fault (Some what) f answer before after (inr h) is seven = serve_out h.command f answer before after h.carried_out is seven
+serve_fault (Some what) f answer before after (inr h) is seven =
+    serve_out h.command f answer before after h.carried_out is seven
 
-serve_done : (what : Option Asked) (before after : Moment) → IsDoneBy what (Ok tt) before after → after.serve.faults ≡ before.serve.faults
+serve_done : (what : Option Asked) (before after : Moment) → IsDoneBy what (Ok tt) before after
+    → after.serve.faults ≡ before.serve.faults
 serve_done None before after h = absurd h.0
 serve_done (Some what) before after (inl h) = absurd h
 serve_done (Some what) before after (inr h) = by_command h.command h.carried_out
   where
-    by_command : (command : Command) → IsCarriedOut command (Ok tt) before after → after.serve.faults ≡ before.serve.faults
+    by_command : (command : Command) → IsCarriedOut command (Ok tt) before after
+        → after.serve.faults ≡ before.serve.faults
     by_command Farm out = ap (λ (s : Serving). s.faults) out.2
     by_command (Auth auth) out = ap (λ (s : Serving). s.faults) out.2
     by_command (Scheduler config) out = out.0.1
     by_command (Server config) out = out.0.1
 
-pub served_of : (answer : ℕ) (c : Called) (e x : Side) → IsAnswered answer c e x → answer ≢ 7 → answer ≢ 5 → c.after.serve.faults ≡ c.before.serve.faults
+pub served_of : (answer : ℕ) (c : Called) (e x : Side) → IsAnswered answer c e x → answer ≢ 7 → answer ≢ 5
+    → c.after.serve.faults ≡ c.before.serve.faults
 served_of zero c e x a seven five = serve_done (asked_by c.words) c.before c.after (a.done refl).0
 served_of (suc k) c e x a seven five =
     let t = a.told (omega arith) in
@@ -438,10 +524,12 @@ usage_status f answer e x (inr is) told = by_told (subst (λ (g : FarmFault). Is
 pub no_command_of : (answer : ℕ) (c : Called) (e x : Side) → IsAnswered answer c e x → asked_by c.words ≡ None
     → (answer ≡ 2) ⊎ ((answer ≡ 3) ⊎ (answer ≡ 5))
 no_command_of zero c e x a none =
-    let d : IsDoneBy None (Ok tt) c.before c.after = subst (λ (w : Option Asked). IsDoneBy w (Ok tt) c.before c.after) none (a.done refl).0 in absurd d.0
+    let d : IsDoneBy None (Ok tt) c.before c.after =
+    subst (λ (w : Option Asked). IsDoneBy w (Ok tt) c.before c.after) none (a.done refl).0 in absurd d.0
 no_command_of (suc k) c e x a none =
     let t = a.told (omega arith) in
-    let d : IsDoneBy None (Err t.0) c.before c.after = subst (λ (w : Option Asked). IsDoneBy w (Err t.0) c.before c.after) none t.1 in
+    let d : IsDoneBy None (Err t.0) c.before c.after =
+    subst (λ (w : Option Asked). IsDoneBy w (Err t.0) c.before c.after) none t.1 in
     usage_status t.0 (suc k) e x d.0 t.2
 
 two_is : (f : FarmFault) → 2 ≡ fault_status f → f ≡ Usage
@@ -465,32 +553,43 @@ no_usage : (what : Asked) (before after : Moment) → IsDoneBy (Some what) (Err 
 no_usage what before after (inl h) = h.0
 no_usage what before after (inr h) = no_usage_out h.command before after h.carried_out
 
-pub command_of : (answer : ℕ) (c : Called) (e x : Side) → IsAnswered answer c e x → (what : Asked) → asked_by c.words ≡ Some what → answer ≢ 2
+pub command_of : (answer : ℕ) (c : Called) (e x : Side) → IsAnswered answer c e x → (what : Asked)
+    → asked_by c.words ≡ Some what → answer ≢ 2
 command_of zero c e x a what named two = omega (arith, two)
 command_of (suc k) c e x a what named two =
     let t = a.told (omega arith) in
     let o = own t.0 (suc k) e x t.2 (λ five. omega (arith, two, five)) in
-    let d : IsDoneBy (Some what) (Err t.0) c.before c.after = subst (λ (w : Option Asked). IsDoneBy w (Err t.0) c.before c.after) named t.1 in
-    no_usage what c.before c.after (subst (λ (f : FarmFault). IsDoneBy (Some what) (Err f) c.before c.after) (two_is t.0 (sym two ∙ o.0)) d)
+    let d : IsDoneBy (Some what) (Err t.0) c.before c.after =
+    subst (λ (w : Option Asked). IsDoneBy w (Err t.0) c.before c.after) named t.1 in
+    no_usage what c.before c.after (subst (λ (f : FarmFault). IsDoneBy (Some what) (Err f) c.before c.after)
+    (two_is t.0 (sym two ∙ o.0)) d)
 
 -- ---- configurations with a fault
 
-clash : (what : Asked) (told : List NamedFile) (files : Option (List NamedFile)) (command : Command) (cause : ConfigCause) → files ≡ Some told
+clash : (what : Asked) (told : List NamedFile) (files : Option (List NamedFile)) (command : Command)
+    (cause : ConfigCause) → files ≡ Some told
     → command_in what told ≡ Err cause → OverFiles what files (λ t. command_in what t ≡ Ok command) → ⊥
 clash farm told files command cause there bad good = let e = bad in absurd cc
 clash (random n) told files command cause there bad good = let e = bad in absurd cc
 clash (token_under address key) told files command cause there bad good = let e = bad in absurd cc
 clash (token_of address path) told files command cause there bad good =
-    let here : command_in (token_of address path) told ≡ Ok command = subst (λ (o : Option (List NamedFile)). IfSome o (λ t. command_in (token_of address path) t ≡ Ok command)) there good in
+    let here : command_in (token_of address path) told ≡ Ok command =
+    subst (λ (o : Option (List NamedFile)). IfSome o
+    (λ t. command_in (token_of address path) t ≡ Ok command)) there good in
     let e = sym bad ∙ here in absurd cc
 clash (scheduler path) told files command cause there bad good =
-    let here : command_in (scheduler path) told ≡ Ok command = subst (λ (o : Option (List NamedFile)). IfSome o (λ t. command_in (scheduler path) t ≡ Ok command)) there good in
+    let here : command_in (scheduler path) told ≡ Ok command =
+    subst (λ (o : Option (List NamedFile)). IfSome o (λ t. command_in (scheduler path) t ≡ Ok command))
+    there good in
     let e = sym bad ∙ here in absurd cc
 clash (server path) told files command cause there bad good =
-    let here : command_in (server path) told ≡ Ok command = subst (λ (o : Option (List NamedFile)). IfSome o (λ t. command_in (server path) t ≡ Ok command)) there good in
+    let here : command_in (server path) told ≡ Ok command =
+    subst (λ (o : Option (List NamedFile)). IfSome o (λ t. command_in (server path) t ≡ Ok command)) there
+    good in
     let e = sym bad ∙ here in absurd cc
 
-bad_status : (what : Asked) (f : FarmFault) (answer : ℕ) (before after : Moment) (e x : Side) → IsUnparsed what (Err f) before after → IsTold f answer e x
+bad_status : (what : Asked) (f : FarmFault) (answer : ℕ) (before after : Moment) (e x : Side)
+    → IsUnparsed what (Err f) before after → IsTold f answer e x
     → (answer ≡ 6) ⊎ ((answer ≡ 3) ⊎ (answer ≡ 5))
 bad_status what f answer before after e x h (inr t) = inr (inr t.0)
 bad_status what (BadConfig c) answer before after e x h (inl t) = inl t.0
@@ -503,29 +602,43 @@ bad_status what ReadFault answer before after e x h (inl t) = absurd h.0
 bad_status what WriteFault answer before after e x h (inl t) = absurd h.0
 bad_status what ServeFault answer before after e x h (inl t) = absurd h.0
 
-not_done : (what : Asked) (told : List NamedFile) (cause : ConfigCause) (before after : Moment) → before.files ≡ Some told → command_in what told ≡ Err cause
+not_done : (what : Asked) (told : List NamedFile) (cause : ConfigCause) (before after : Moment)
+    → before.files ≡ Some told → command_in what told ≡ Err cause
     → IsDoneBy (Some what) (Ok tt) before after → ⊥
 not_done what told cause before after there bad (inl h) = h
-not_done what told cause before after there bad (inr h) = clash what told before.files h.command cause there bad h.parsed.1
+not_done what told cause before after there bad (inr h) =
+    clash what told before.files h.command cause there bad h.parsed.1
 
-fault_bad : (what : Asked) (f : FarmFault) (answer : ℕ) (told : List NamedFile) (cause : ConfigCause) (before after : Moment) (e x : Side) → before.files ≡ Some told
-    → command_in what told ≡ Err cause → IsDoneBy (Some what) (Err f) before after → IsTold f answer e x → (answer ≡ 6) ⊎ ((answer ≡ 3) ⊎ (answer ≡ 5))
-fault_bad what f answer told cause before after e x there bad (inl h) said = bad_status what f answer before after e x h said
-fault_bad what f answer told cause before after e x there bad (inr h) said = absurd (clash what told before.files h.command cause there bad h.parsed.1)
+fault_bad : (what : Asked) (f : FarmFault) (answer : ℕ) (told : List NamedFile) (cause : ConfigCause)
+    (before after : Moment) (e x : Side) → before.files ≡ Some told
+    → command_in what told ≡ Err cause → IsDoneBy (Some what) (Err f) before after → IsTold f answer e x
+    → (answer ≡ 6) ⊎ ((answer ≡ 3) ⊎ (answer ≡ 5))
+fault_bad what f answer told cause before after e x there bad (inl h) said =
+    bad_status what f answer before after e x h said
+fault_bad what f answer told cause before after e x there bad (inr h) said =
+    absurd (clash what told before.files h.command cause there bad h.parsed.1)
 
-configured_by : (answer : ℕ) (c : Called) (e x : Side) → IsAnswered answer c e x → (told : List NamedFile) → c.before.files ≡ Some told
-    → (what : Asked) (cause : ConfigCause) → asked_by c.words ≡ Some what → command_in what told ≡ Err cause → (answer ≡ 6) ⊎ ((answer ≡ 3) ⊎ (answer ≡ 5))
+configured_by : (answer : ℕ) (c : Called) (e x : Side) → IsAnswered answer c e x → (told : List NamedFile)
+    → c.before.files ≡ Some told
+    → (what : Asked) (cause : ConfigCause) → asked_by c.words ≡ Some what → command_in what told ≡ Err cause
+    → (answer ≡ 6) ⊎ ((answer ≡ 3) ⊎ (answer ≡ 5))
 configured_by zero c e x a told there what cause named bad =
-    absurd (not_done what told cause c.before c.after there bad (subst (λ (w : Option Asked). IsDoneBy w (Ok tt) c.before c.after) named (a.done refl).0))
+    absurd (not_done what told cause c.before c.after there bad
+    (subst (λ (w : Option Asked). IsDoneBy w (Ok tt) c.before c.after) named (a.done refl).0))
 configured_by (suc k) c e x a told there what cause named bad =
     let t = a.told (omega arith) in
-    fault_bad what t.0 (suc k) told cause c.before c.after e x there bad (subst (λ (w : Option Asked). IsDoneBy w (Err t.0) c.before c.after) named t.1) t.2
+    fault_bad what t.0 (suc k) told cause c.before c.after e x there bad
+    (subst (λ (w : Option Asked). IsDoneBy w (Err t.0) c.before c.after) named t.1) t.2
 
-pub configured_of : (answer : ℕ) (c : Called) (e x : Side) → IsAnswered answer c e x → IfSome c.before.files (λ told. (what : Asked) (cause : ConfigCause)
-    → asked_by c.words ≡ Some what → command_in what told ≡ Err cause → (answer ≡ 6) ⊎ ((answer ≡ 3) ⊎ (answer ≡ 5)))
+pub configured_of : (answer : ℕ) (c : Called) (e x : Side) → IsAnswered answer c e x
+    → IfSome c.before.files (λ told. (what : Asked) (cause : ConfigCause)
+    → asked_by c.words ≡ Some what → command_in what told ≡ Err cause → (answer ≡ 6)
+    ⊎ ((answer ≡ 3) ⊎ (answer ≡ 5)))
 configured_of answer c e x a = by_files c.before.files refl
   where
-    by_files : (o : Option (List NamedFile)) → c.before.files ≡ o → IfSome o (λ told. (what : Asked) (cause : ConfigCause)
-        → asked_by c.words ≡ Some what → command_in what told ≡ Err cause → (answer ≡ 6) ⊎ ((answer ≡ 3) ⊎ (answer ≡ 5)))
+    by_files : (o : Option (List NamedFile)) → c.before.files ≡ o
+        → IfSome o (λ told. (what : Asked) (cause : ConfigCause)
+        → asked_by c.words ≡ Some what → command_in what told ≡ Err cause → (answer ≡ 6)
+        ⊎ ((answer ≡ 3) ⊎ (answer ≡ 5)))
     by_files None is = tt
     by_files (Some told) is = configured_by answer c e x a told is

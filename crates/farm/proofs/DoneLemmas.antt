@@ -13,7 +13,8 @@ use Rattle.farm.specs.Command.{Moment, moment, IsCarriedOut, IsUntouched, IsUsag
 
 -- what is carried out looks at no file
 pub carried_out_at : (command : Command) (result : Result ⊤ FarmFault) (before after : Moment)
-    → IsCarriedOut command result (moment before.input before.out before.random before.serve) (moment after.input after.out after.random after.serve)
+    → IsCarriedOut command result (moment before.input before.out before.random before.serve)
+    (moment after.input after.out after.random after.serve)
     → IsCarriedOut command result before after
 carried_out_at Farm result before after h = h
 carried_out_at (Auth auth) result before after h = h
@@ -23,7 +24,8 @@ carried_out_at (Server config) result before after h = h
 -- a command was parsed and carried out
 pub done_parsed : (o : Option Asked) (command : Command) (result : Result ⊤ FarmFault) (before after : Moment)
     → (o ≡ None → (◌≡◌ {A = Result Command FarmFault} (Ok command) (Err Usage))
-    ⊎ (◌≡◌ {A = Result Command FarmFault} (Ok command) (Err Memory))) → IfSome o (λ what. IsParsed what (Ok command) before.files before.file_faults after.file_faults)
+    ⊎ (◌≡◌ {A = Result Command FarmFault} (Ok command) (Err Memory)))
+    → IfSome o (λ what. IsParsed what (Ok command) before.files before.file_faults after.file_faults)
     → IsCarriedOut command result before after → IsDoneBy o result before after
 done_parsed None command result before after usage parsed out = absurd (by_cases (usage refl))
   where
@@ -31,7 +33,8 @@ done_parsed None command result before after usage parsed out = absurd (by_cases
         ⊎ (◌≡◌ {A = Result Command FarmFault} (Ok command) (Err Memory)) → ⊥
     by_cases (inl e) = cc e
     by_cases (inr e) = cc e
-done_parsed (Some what) command result before after usage parsed out = inr (record { command = command; parsed = parsed; carried_out = out })
+done_parsed (Some what) command result before after usage parsed out =
+    inr (record { command = command; parsed = parsed; carried_out = out })
 
 usage_is : (f : FarmFault) → (◌≡◌ {A = Result Command FarmFault} (Err f) (Err Usage))
     ⊎ (◌≡◌ {A = Result Command FarmFault} (Err f) (Err Memory)) → (f ≡ Usage) ⊎ (f ≡ Memory)
@@ -39,9 +42,11 @@ usage_is f (inl e) = inl cc
 usage_is f (inr e) = inr cc
 
 -- no command was parsed
-pub done_unparsed : (o : Option Asked) (f : FarmFault) (before after : Moment) → (o ≡ None → (◌≡◌ {A = Result Command FarmFault} (Err f) (Err Usage))
+pub done_unparsed : (o : Option Asked) (f : FarmFault) (before after : Moment)
+    → (o ≡ None → (◌≡◌ {A = Result Command FarmFault} (Err f) (Err Usage))
     ⊎ (◌≡◌ {A = Result Command FarmFault} (Err f) (Err Memory)))
-    → (o ≡ None → after.file_faults ≡ before.file_faults) → IfSome o (λ what. IsParsed what (Err f) before.files before.file_faults after.file_faults)
+    → (o ≡ None → after.file_faults ≡ before.file_faults)
+    → IfSome o (λ what. IsParsed what (Err f) before.files before.file_faults after.file_faults)
     → IsUntouched before after → IsDoneBy o (Err f) before after
 done_unparsed None f before after usage unread parsed same = (usage_is f (usage refl), same, unread refl)
 done_unparsed (Some what) f before after usage unread parsed same = inl (parsed, same)

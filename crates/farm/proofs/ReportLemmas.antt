@@ -6,7 +6,8 @@ use Rattle.farm_script.specs.declared.fault.FarmFault.TheVariants.{BadConfig, Me
 use Rattle.farm.specs.Command.{fault_text, Side, IsTold, IsLong, StandsFor}
 
 -- want of memory is told in place of a fault
-pub told_memory : (f : FarmFault) (answer : ℕ) (before after : Side) → IsLong f → IsTold Memory answer before after
+pub told_memory : (f : FarmFault) (answer : ℕ) (before after : Side) → IsLong f
+    → IsTold Memory answer before after
     → (told : FarmFault) × StandsFor f told × IsTold told answer before after
 told_memory f answer before after long told = (Memory, inr (refl, long), told)
 
@@ -14,6 +15,7 @@ pub missing_text : codes "sccache-dist: bad configuration: file missing\n" ≡ f
 unfolding fault_text
 missing_text = refl
 
-pub unreadable_text : codes "sccache-dist: bad configuration: file unreadable\n" ≡ fault_text (BadConfig Unreadable)
+pub unreadable_text : codes "sccache-dist: bad configuration: file unreadable\n" ≡ fault_text
+    (BadConfig Unreadable)
 unfolding fault_text
 unreadable_text = refl

@@ -1,10 +1,13 @@
 -- What was read of input is the script that input told.
-use Rattle.std.proofs.Common.{◌≡◌, ◌⊎◌, inl, inr, ℕ, List, [], ◌∷◌, ◌++◌, Option, Result, Ok, Err, refl, sym, subst, ◌∙◌}
+use Rattle.std.proofs.Common.{◌≡◌, ◌⊎◌, inl, inr, ℕ, List, [], ◌∷◌, ◌++◌, Option, Result, Ok, Err, refl, sym}
+use Rattle.std.proofs.Common.{subst, ◌∙◌}
 use Rattle.std.specs.Prelude.{IfSome}
 use Rattle.std.proofs.lemmas.Option.{IfSome_then}
 use Rattle.dist_types.specs.Content.{Added, Began}
 use Rattle.farm_script.specs.declared.fault.FarmFault.{FarmFault}
-use Rattle.farm_script.specs.declared.fault.FarmFault.TheVariants.{Usage, BadLine, DuplicateAddress, ScopedAddress, ReadFault, WriteFault, BadConfig, ServeFault, Memory}
+use Rattle.farm_script.specs.declared.fault.FarmFault.TheVariants.{Usage, BadLine, DuplicateAddress}
+use Rattle.farm_script.specs.declared.fault.FarmFault.TheVariants.{ScopedAddress, ReadFault, WriteFault}
+use Rattle.farm_script.specs.declared.fault.FarmFault.TheVariants.{BadConfig, ServeFault, Memory}
 use Rattle.farm_script.specs.Script.{script}
 use Rattle.farm_script.specs.Pieces.{pieces}
 use Rattle.farm_script.specs.declared.lines.Line.{Line}
@@ -18,7 +21,8 @@ use Rattle.farm_run.specs.Stations.{HasApart}
 use Rattle.farm.specs.Command.{NamesLine, Side, IsReadWhole, IsFarmRun}
 
 -- the first faulty line is named
-faulty_names : (done : List (List ℕ)) (said : List Line) (p : List ℕ) (f : FarmFault) → IsFaulty done said p f → NamesLine f
+faulty_names : (done : List (List ℕ)) (said : List Line) (p : List ℕ) (f : FarmFault) → IsFaulty done said p f
+    → NamesLine f
 faulty_names done said p (BadLine n) h = tt
 faulty_names done said p (ScopedAddress n) h = tt
 faulty_names done said p (DuplicateAddress n) h = tt
@@ -29,12 +33,14 @@ faulty_names done said p (BadConfig c) h = absurd h
 faulty_names done said p ServeFault h = absurd h
 faulty_names done said p Memory h = absurd h
 
-first_names : (done : List (List ℕ)) (said : List Line) (ps : List (List ℕ)) (f : FarmFault) → FirstFaultyFrom done said ps f → NamesLine f
+first_names : (done : List (List ℕ)) (said : List Line) (ps : List (List ℕ)) (f : FarmFault)
+    → FirstFaultyFrom done said ps f → NamesLine f
 first_names done said [] f h = subst (λ (g : FarmFault). NamesLine g) (sym h.1) tt
 first_names done said (p ∷ ps) f (inl h) = faulty_names done said p f h
 first_names done said (p ∷ ps) f (inr h) = first_names (done ++ p ∷ []) (said ++ h.0 ∷ []) ps f h.2
 
-pub line_or_memory : (bytes : List ℕ) (f : FarmFault) → (f ≡ Memory) ⊎ IsFirstFaulty bytes f → (f ≡ Memory) ⊎ (NamesLine f × IsFirstFaulty bytes f)
+pub line_or_memory : (bytes : List ℕ) (f : FarmFault) → (f ≡ Memory) ⊎ IsFirstFaulty bytes f → (f ≡ Memory)
+    ⊎ (NamesLine f × IsFirstFaulty bytes f)
 line_or_memory bytes f (inl e) = inl e
 line_or_memory bytes f (inr h) = inr (first_names [] [] (pieces bytes) f h, h)
 
@@ -45,29 +51,50 @@ setup_apart s is = is.apart
 same_text : (v bytes text : List ℕ) → script v ≡ script bytes → IsReadText v text → IsRunText bytes text
 same_text v bytes text e r =
     let said = (script_is_said bytes r.setup r.events).0 (sym e ∙ r.read) in
-    record { setup = r.setup; events = r.events; entries = r.entries; fine = said.0; says = said.1; each = r.each; lawful = r.lawful; builds = r.builds; reliable = r.reliable; is = r.is }
+    record {
+      setup = r.setup;
+      events = r.events;
+      entries = r.entries;
+      fine = said.0;
+      says = said.1;
+      each = r.each;
+      lawful = r.lawful;
+      builds = r.builds;
+      reliable = r.reliable;
+      is = r.is;
+    }
 
-pub text_added : (o : Option (List ℕ)) (v text : List ℕ) (old new : Option (List ℕ)) → IfSome o (λ bytes. script v ≡ script bytes) → IsReadText v text → Added text old new
+pub text_added : (o : Option (List ℕ)) (v text : List ℕ) (old new : Option (List ℕ))
+    → IfSome o (λ bytes. script v ≡ script bytes) → IsReadText v text → Added text old new
     → IfSome o (λ bytes. (t : List ℕ) × IsRunText bytes t × Added t old new)
-text_added o v text old new same r added = IfSome_then o same (λ bytes e. (text, same_text v bytes text e r, added))
+text_added o v text old new same r added =
+    IfSome_then o same (λ bytes e. (text, same_text v bytes text e r, added))
 
-pub text_began : (o : Option (List ℕ)) (v text : List ℕ) (old new : Option (List ℕ)) → IfSome o (λ bytes. script v ≡ script bytes) → IsReadText v text → Began text old new
+pub text_began : (o : Option (List ℕ)) (v text : List ℕ) (old new : Option (List ℕ))
+    → IfSome o (λ bytes. script v ≡ script bytes) → IsReadText v text → Began text old new
     → IfSome o (λ bytes. (t : List ℕ) × IsRunText bytes t × Began t old new)
-text_began o v text old new same r began = IfSome_then o same (λ bytes e. (text, same_text v bytes text e r, began))
+text_began o v text old new same r began =
+    IfSome_then o same (λ bytes e. (text, same_text v bytes text e r, began))
 
 -- the first faulty line of what was read
-moved : (v : List ℕ) (f : FarmFault) (o : Option (List ℕ)) → IfSome o (λ bytes. script v ≡ script bytes) → IsFirstFaulty v f → IfSome o (λ bytes. IsFirstFaulty bytes f)
-moved v f o same first = IfSome_then o same (λ bytes e. (first_faulty bytes f).0 (sym e ∙ (first_faulty v f).1 first))
+moved : (v : List ℕ) (f : FarmFault) (o : Option (List ℕ)) → IfSome o (λ bytes. script v ≡ script bytes)
+    → IsFirstFaulty v f → IfSome o (λ bytes. IsFirstFaulty bytes f)
+moved v f o same first =
+    IfSome_then o same (λ bytes e. (first_faulty bytes f).0 (sym e ∙ (first_faulty v f).1 first))
 
 -- why there was no run of what was read
 pub no_run : (f : FarmFault) (v : List ℕ) (input input_after out : Side) → IsReadWhole input input_after
-    → IfSome input.content (λ bytes. script v ≡ script bytes) → (f ≡ Memory) ⊎ (NamesLine f × IsFirstFaulty v f) → IsFarmRun (Err f) input input_after out out
+    → IfSome input.content (λ bytes. script v ≡ script bytes) → (f ≡ Memory)
+    ⊎ (NamesLine f × IsFirstFaulty v f) → IsFarmRun (Err f) input input_after out out
 no_run (BadLine n) v input input_after out read same (inl e) = absurd cc
-no_run (BadLine n) v input input_after out read same (inr h) = (read, refl, moved v (BadLine n) input.content same h.1)
+no_run (BadLine n) v input input_after out read same (inr h) =
+    (read, refl, moved v (BadLine n) input.content same h.1)
 no_run (DuplicateAddress n) v input input_after out read same (inl e) = absurd cc
-no_run (DuplicateAddress n) v input input_after out read same (inr h) = (read, refl, moved v (DuplicateAddress n) input.content same h.1)
+no_run (DuplicateAddress n) v input input_after out read same (inr h) =
+    (read, refl, moved v (DuplicateAddress n) input.content same h.1)
 no_run (ScopedAddress n) v input input_after out read same (inl e) = absurd cc
-no_run (ScopedAddress n) v input input_after out read same (inr h) = (read, refl, moved v (ScopedAddress n) input.content same h.1)
+no_run (ScopedAddress n) v input input_after out read same (inr h) =
+    (read, refl, moved v (ScopedAddress n) input.content same h.1)
 no_run Memory v input input_after out read same h = (read.1, refl)
 no_run Usage v input input_after out read same (inl e) = absurd cc
 no_run Usage v input input_after out read same (inr h) = absurd h.0

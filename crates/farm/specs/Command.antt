@@ -1,5 +1,6 @@
 -- What the command has to do: what its words ask for, or tell a fault.
-use Rattle.std.specs.Prelude.{◌≡◌, ◌⊎◌, ℕ, ◌<◌, List, [], ◌∷◌, Option, Some, None, IfSome, Result, Ok, Err, ⊤, codes}
+use Rattle.std.specs.Prelude.{◌≡◌, ◌⊎◌, ℕ, ◌<◌, List, [], ◌∷◌, Option, Some, None, IfSome, Result, Ok, Err, ⊤}
+use Rattle.std.specs.Prelude.{codes}
 use Rattle.rand_core.specs.Stream.{Stream}
 use Rattle.dist_types.specs.Cause.{Rose}
 use Rattle.dist_types.specs.Content.{Added, Began, Recorded, KeptOrRecorded, left_behind}
@@ -9,7 +10,9 @@ use Rattle.dist_config.specs.declared.serve.ServeCall.{ServeCall}
 use Rattle.farm_script.specs.declared.fault.ConfigCause.{ConfigCause}
 use Rattle.farm_script.specs.declared.fault.ConfigCause.TheVariants.{Key}
 use Rattle.farm_script.specs.declared.fault.FarmFault.{FarmFault}
-use Rattle.farm_script.specs.declared.fault.FarmFault.TheVariants.{Usage, BadLine, DuplicateAddress, ScopedAddress, ReadFault, WriteFault, BadConfig, ServeFault, Memory}
+use Rattle.farm_script.specs.declared.fault.FarmFault.TheVariants.{Usage, BadLine, DuplicateAddress}
+use Rattle.farm_script.specs.declared.fault.FarmFault.TheVariants.{ScopedAddress, ReadFault, WriteFault}
+use Rattle.farm_script.specs.declared.fault.FarmFault.TheVariants.{BadConfig, ServeFault, Memory}
 use Rattle.farm_script.specs.FaultText.{said_text}
 use Rattle.farm_script.specs.FirstFaulty.{IsFirstFaulty}
 use Rattle.farm_script.specs.Texts.{◌⧺◌}
@@ -49,7 +52,8 @@ NamesLine other = ⊥
 
 -- ---- what a call meets
 
--- input, out or errs, as a moment finds it: what input has left, or what the other two hold, where that is told, and the count of faults
+-- input, out or errs, as a moment finds it: what input has left, or what the other two hold, where that is
+-- told, and the count of faults
 pub record Side : Type 0 where
   pub content : Option (List ℕ)
   pub faults : ℕ
@@ -70,7 +74,14 @@ pub record Moment : Type 0 where
 
 -- the same where no file is read
 abbrev pub moment : Side → Side → Stream → Serving → Moment
-moment input out random serve = record { input = input; out = out; files = None; file_faults = 0; random = random; serve = serve }
+moment input out random serve = record {
+  input = input;
+  out = out;
+  files = None;
+  file_faults = 0;
+  random = random;
+  serve = serve;
+}
 
 -- a call of the command: its words, and what it meets, before and after it
 pub record Called : Type 0 where
@@ -80,46 +91,64 @@ pub record Called : Type 0 where
 
 -- ---- the run of a script
 
--- Input was read to its end, or to one byte past the limit of scripts: it has left what stands behind that, and did not fail.
+-- Input was read to its end, or to one byte past the limit of scripts: it has left what stands behind that,
+-- and did not fail.
 abbrev pub IsReadWhole : Side → Side → Type 0
-IsReadWhole before after = (after.content ≡ left_behind 67108865 before.content) × (after.faults ≡ before.faults)
+IsReadWhole before after = (after.content ≡ left_behind 67108865 before.content)
+    × (after.faults ≡ before.faults)
 
 -- Input was read whole, a line of it is the first faulty one, and nothing was written.
 abbrev pub IsRefused : FarmFault → Side → Side → Side → Side → Type 0
 IsRefused f input input_after out out_after =
     IsReadWhole input input_after × (out_after ≡ out) × IfSome input.content (λ bytes. IsFirstFaulty bytes f)
 
--- Input is read whole, before a line is judged; nothing is written before every line was. The text of the script's run was written; or a fault has its cause.
+-- Input is read whole, before a line is judged; nothing is written before every line was. The text of the
+-- script's run was written; or a fault has its cause.
 abbrev pub IsFarmRun : Result ⊤ FarmFault → Side → Side → Side → Side → Type 0
-IsFarmRun (Ok x) input input_after out out_after = IsReadWhole input input_after × (out_after.faults ≡ out.faults)
-    × IfSome input.content (λ bytes. (text : List ℕ) × IsRunText bytes text × Added text out.content out_after.content)
-IsFarmRun (Err (BadLine n)) input input_after out out_after = IsRefused (BadLine n) input input_after out out_after
-IsFarmRun (Err (DuplicateAddress n)) input input_after out out_after = IsRefused (DuplicateAddress n) input input_after out out_after
-IsFarmRun (Err (ScopedAddress n)) input input_after out out_after = IsRefused (ScopedAddress n) input input_after out out_after
-IsFarmRun (Err ReadFault) input input_after out out_after = Rose input.faults input_after.faults × (out_after ≡ out)
-IsFarmRun (Err WriteFault) input input_after out out_after = IsReadWhole input input_after × Rose out.faults out_after.faults
-    × IfSome input.content (λ bytes. (text : List ℕ) × IsRunText bytes text × Began text out.content out_after.content)
-IsFarmRun (Err Memory) input input_after out out_after = (input_after.faults ≡ input.faults) × (out_after ≡ out)
+IsFarmRun (Ok x) input input_after out out_after = IsReadWhole input input_after
+    × (out_after.faults ≡ out.faults)
+    × IfSome input.content (λ bytes. (text : List ℕ) × IsRunText bytes text
+    × Added text out.content out_after.content)
+IsFarmRun (Err (BadLine n)) input input_after out out_after =
+    IsRefused (BadLine n) input input_after out out_after
+IsFarmRun (Err (DuplicateAddress n)) input input_after out out_after =
+    IsRefused (DuplicateAddress n) input input_after out out_after
+IsFarmRun (Err (ScopedAddress n)) input input_after out out_after =
+    IsRefused (ScopedAddress n) input input_after out out_after
+IsFarmRun (Err ReadFault) input input_after out out_after = Rose input.faults input_after.faults
+    × (out_after ≡ out)
+IsFarmRun (Err WriteFault) input input_after out out_after = IsReadWhole input input_after
+    × Rose out.faults out_after.faults
+    × IfSome input.content (λ bytes. (text : List ℕ) × IsRunText bytes text
+    × Began text out.content out_after.content)
+IsFarmRun (Err Memory) input input_after out out_after = (input_after.faults ≡ input.faults)
+    × (out_after ≡ out)
 IsFarmRun (Err other) input input_after out out_after = ⊥
 
 -- ---- keys and tokens
 
 -- The line of the command was written; or a front of it, and out failed; or its key is not base64url.
 abbrev pub IsAuthRun : AuthSubcommand → Result ⊤ FarmFault → Stream → Stream → Side → Side → Type 0
-IsAuthRun auth (Ok x) random random_after out out_after = (line : List ℕ) × (auth_line auth random ≡ Some line) × (random_after ≡ stream_left auth random)
+IsAuthRun auth (Ok x) random random_after out out_after = (line : List ℕ)
+    × (auth_line auth random ≡ Some line) × (random_after ≡ stream_left auth random)
     × Added line out.content out_after.content × (out_after.faults ≡ out.faults)
-IsAuthRun auth (Err WriteFault) random random_after out out_after = (line : List ℕ) × (auth_line auth random ≡ Some line)
+IsAuthRun auth (Err WriteFault) random random_after out out_after = (line : List ℕ)
+    × (auth_line auth random ≡ Some line)
     × Began line out.content out_after.content × Rose out.faults out_after.faults
-IsAuthRun auth (Err (BadConfig (Key key))) random random_after out out_after = (auth_line auth random ≡ None) × (key ≡ codes "secret_key") × (out_after ≡ out)
+IsAuthRun auth (Err (BadConfig (Key key))) random random_after out out_after = (auth_line auth random ≡ None)
+    × (key ≡ codes "secret_key") × (out_after ≡ out)
 IsAuthRun auth (Err Memory) random random_after out out_after = out_after ≡ out
 IsAuthRun auth (Err other) random random_after out out_after = ⊥
 
 -- ---- serving
 
 -- The configuration was handed on once, and what serves answered Ok; or it failed, and counted that.
-abbrev pub IsStarted : (Result (Unit {0}) Failed → ServeCall) → Result ⊤ FarmFault → Serving → Serving → Type 0
-IsStarted row (Ok x) serve serve_after = Recorded (row (Ok tt)) serve.calls serve_after.calls × (serve_after.faults ≡ serve.faults)
-IsStarted row (Err ServeFault) serve serve_after = Rose serve.faults serve_after.faults × (e : Failed) × KeptOrRecorded (row (Err e)) serve.calls serve_after.calls
+abbrev pub IsStarted : (Result (Unit {0}) Failed → ServeCall) → Result ⊤ FarmFault → Serving → Serving
+    → Type 0
+IsStarted row (Ok x) serve serve_after = Recorded (row (Ok tt)) serve.calls serve_after.calls
+    × (serve_after.faults ≡ serve.faults)
+IsStarted row (Err ServeFault) serve serve_after = Rose serve.faults serve_after.faults × (e : Failed)
+    × KeptOrRecorded (row (Err e)) serve.calls serve_after.calls
 IsStarted row (Err other) serve serve_after = ⊥
 
 -- ---- the whole call
@@ -127,13 +156,17 @@ IsStarted row (Err other) serve serve_after = ⊥
 -- A command was carried out, or met a fault; what it does not use is as it was.
 abbrev pub IsCarriedOut : Command → Result ⊤ FarmFault → Moment → Moment → Type 0
 IsCarriedOut command.Farm result before after =
-    IsFarmRun result before.input after.input before.out after.out × (after.random ≡ before.random) × (after.serve ≡ before.serve)
+    IsFarmRun result before.input after.input before.out after.out × (after.random ≡ before.random)
+    × (after.serve ≡ before.serve)
 IsCarriedOut (command.Auth auth) result before after =
-    IsAuthRun auth result before.random after.random before.out after.out × (after.input ≡ before.input) × (after.serve ≡ before.serve)
+    IsAuthRun auth result before.random after.random before.out after.out × (after.input ≡ before.input)
+    × (after.serve ≡ before.serve)
 IsCarriedOut (command.Scheduler config) result before after =
-    IsStarted (scheduler_call config) result before.serve after.serve × (after.input ≡ before.input) × (after.out ≡ before.out) × (after.random ≡ before.random)
+    IsStarted (scheduler_call config) result before.serve after.serve × (after.input ≡ before.input)
+    × (after.out ≡ before.out) × (after.random ≡ before.random)
 IsCarriedOut (command.Server config) result before after =
-    IsStarted (server_call config) result before.serve after.serve × (after.input ≡ before.input) × (after.out ≡ before.out) × (after.random ≡ before.random)
+    IsStarted (server_call config) result before.serve after.serve × (after.input ≡ before.input)
+    × (after.out ≡ before.out) × (after.random ≡ before.random)
 
 -- nothing but files may have been read
 pub record IsUntouched (before after : Moment) : Type 0 where
@@ -145,7 +178,8 @@ pub record IsUntouched (before after : Moment) : Type 0 where
 -- no command is there: the words' own fault is told
 abbrev pub IsUnparsed : Asked → Result ⊤ FarmFault → Moment → Moment → Type 0
 IsUnparsed what (Ok x) before after = ⊥
-IsUnparsed what (Err f) before after = IsParsed what (Err f) before.files before.file_faults after.file_faults × IsUntouched before after
+IsUnparsed what (Err f) before after = IsParsed what (Err f) before.files before.file_faults after.file_faults
+    × IsUntouched before after
 
 -- The command that is asked for over the files was carried out, or met a fault.
 pub record IsWorked (what : Asked) (result : Result ⊤ FarmFault) (before after : Moment) : Type 0 where
@@ -158,18 +192,21 @@ abbrev pub IsUsage : Result ⊤ FarmFault → Type 0
 IsUsage (Ok x) = ⊥
 IsUsage (Err f) = (f ≡ Usage) ⊎ (f ≡ Memory)
 
--- The words are judged first. Where they stand in no row that is the fault, unless memory ran out, and nothing was touched. Else the configuration that they name is read,
--- and then the command is carried out.
+-- The words are judged first. Where they stand in no row that is the fault, unless memory ran out, and
+-- nothing was touched. Else the configuration that they name is read, and then the command is carried out.
 abbrev pub IsDoneBy : Option Asked → Result ⊤ FarmFault → Moment → Moment → Type 0
-IsDoneBy None result before after = IsUsage result × IsUntouched before after × (after.file_faults ≡ before.file_faults)
-IsDoneBy (Some what) result before after = IsUnparsed what result before after ⊎ IsWorked what result before after
+IsDoneBy None result before after = IsUsage result × IsUntouched before after
+    × (after.file_faults ≡ before.file_faults)
+IsDoneBy (Some what) result before after = IsUnparsed what result before after
+    ⊎ IsWorked what result before after
 
 abbrev pub IsDone : Result ⊤ FarmFault → Called → Type 0
 IsDone result c = IsDoneBy (asked_by c.words) result c.before c.after
 
 -- ---- what is told
 
--- A text was written on errs, and the answer is its status; or errs failed, has a front of it, and the answer is 5.
+-- A text was written on errs, and the answer is its status; or errs failed, has a front of it, and the answer
+-- is 5.
 abbrev pub IsSaid : List ℕ → ℕ → ℕ → Side → Side → Type 0
 IsSaid text status answer before after =
     ((answer ≡ status) × Added text before.content after.content × (after.faults ≡ before.faults))
@@ -194,9 +231,11 @@ StandsFor met told = (told ≡ met) ⊎ ((told ≡ Memory) × IsLong met)
 -- 0 where there is no fault, and errs is as it was; else the fault is told.
 abbrev pub IsReported : Result ⊤ FarmFault → ℕ → Side → Side → Type 0
 IsReported (Ok x) answer before after = (answer ≡ 0) × (after ≡ before)
-IsReported (Err met) answer before after = (told : FarmFault) × StandsFor met told × IsTold told answer before after
+IsReported (Err met) answer before after = (told : FarmFault) × StandsFor met told
+    × IsTold told answer before after
 
--- What the status answers: 0 where what the words ask for was done, and then errs is as it was; else a fault that has its cause is told.
+-- What the status answers: 0 where what the words ask for was done, and then errs is as it was; else a fault
+-- that has its cause is told.
 pub record IsAnswered (answer : ℕ) (c : Called) (errs errs_after : Side) : Type 0 where
   pub done : answer ≡ 0 → IsDone (Ok tt) c × (errs_after ≡ errs)
   pub told : 0 < answer → (f : FarmFault) × IsDone (Err f) c × IsTold f answer errs errs_after

@@ -1,5 +1,6 @@
 //! The command.
-ghost use Rattle.std.specs.Prelude.{◌≡◌, ◌≢◌, ◌≤◌, ◌⊎◌, ℕ, map, string_bytes, IfOk, IfErr, IfSome, OnOk, OnErr, Some, None, Ok, Err};
+ghost use Rattle.std.specs.Prelude.{◌≡◌, ◌≢◌, ◌≤◌, ◌⊎◌, ℕ, map, string_bytes, IfOk, IfErr, IfSome, OnOk};
+ghost use Rattle.std.specs.Prelude.{OnErr, Some, None, Ok, Err};
 ghost use Rattle.std.specs.Vec.Iter.{into_iter_items};
 ghost use Rattle.std.specs.IoError.{error_kind};
 ghost use Rattle.dist_types.specs.Cause.{Rose};
@@ -12,7 +13,8 @@ ghost use Rattle.farm_script.specs.declared.fault.FarmFault.TheVariants as fault
 ghost use Rattle.farm_script.specs.declared.fault.ConfigCause.{ConfigCause as Cause};
 ghost use Rattle.farm_words.specs.Asked.{Asked, asked_by, farm};
 ghost use Rattle.farm_words.specs.Parsed.{command_in};
-ghost use Rattle.farm.specs.Command.{IsFarmRun, IsAuthRun, IsStarted, IsCarriedOut, moment, IsDone, IsTold, IsAnswered};
+ghost use Rattle.farm.specs.Command.{IsFarmRun, IsAuthRun, IsStarted, IsCarriedOut, moment, IsDone, IsTold};
+ghost use Rattle.farm.specs.Command.{IsAnswered};
 
 use crate::report::report;
 use crate::script_run::run_of;
@@ -224,7 +226,8 @@ pub fn dist_main<S: Source, K: Sink, E: Sink, D: Files, R: Rng, N: Serve>(
     // Where a line is faulty it is 1, and where none is it is 0, without want of memory and faults.
     ensures faulty { asked_by (map string_bytes words.now) ≡ Some farm → IfSome (S.left input.old) (λ bytes.
         (f : Fault) → IsFirstFaulty bytes f → (result ≡ 1) ⊎ (result ≡ 3) ⊎ (result ≡ 4) ⊎ (result ≡ 5)) }
-    ensures faultless { asked_by (map string_bytes words.now) ≡ Some farm → IfSome (S.left input.old) (λ bytes.
+    ensures faultless { asked_by (map string_bytes words.now) ≡ Some farm → IfSome (S.left input.old)
+        (λ bytes.
         IsFaultless bytes → (result ≡ 0) ⊎ (result ≡ 3) ⊎ (result ≡ 4) ⊎ (result ≡ 5)) }
     // Where the lines were judged, input has left what stands behind one byte past the limit, and no more.
     ensures left { asked_by (map string_bytes words.now) ≡ Some farm → result ≤ 1

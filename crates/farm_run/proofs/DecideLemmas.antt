@@ -1,5 +1,8 @@
--- Whether bytes are a request, and whether they are a reply, is decided: piece by piece of the grammar of heads, each of which is read in one way only.
-use Rattle.std.proofs.Common.{◌≡◌, ◌≢◌, ◌⊎◌, inl, inr, ℕ, zero, suc, ◌<◌, ◌≤◌, Bool, true, false, List, [], ◌∷◌, ◌++◌, length, map, Option, Some, None, refl, sym, ap, subst, ◌∙◌, arith, append_assoc, append-nil, length-append}
+-- Whether bytes are a request, and whether they are a reply, is decided: piece by piece of the grammar of
+-- heads, each of which is read in one way only.
+use Rattle.std.proofs.Common.{◌≡◌, ◌≢◌, ◌⊎◌, inl, inr, ℕ, zero, suc, ◌<◌, ◌≤◌, Bool, true, false, List, []}
+use Rattle.std.proofs.Common.{◌∷◌, ◌++◌, length, map, Option, Some, None, refl, sym, ap, subst, ◌∙◌, arith}
+use Rattle.std.proofs.Common.{append_assoc, append-nil, length-append}
 use Rattle.std.specs.Prelude.{IsUtf8}
 use Rattle.std.specs.Char.{is_ascii_digit}
 use Rattle.std.specs.List.{flat_map}
@@ -8,11 +11,23 @@ use Rattle.std.proofs.lemmas.Bool.{cases_eq, cases_lt, false≢true}
 use Rattle.std.proofs.lemmas.List.Elements.{All-cons, All-nil, All-head, All-tail}
 use Rattle.std.proofs.lemmas.Option.{same_Some}
 use Rattle.std.proofs.lemmas.Str.{IsUtf8-from_is_utf8, is_utf8-from_IsUtf8}
-use Rattle.httparse.specs.Grammar.{is_token_byte, is_uri_byte, is_value_byte, AllPass, LineEnd, crlf, lf, print_end, print_blank, print_version, Field, print_field, IsField, RequestHead, print_request, ReadsRequest, ResponseHead, print_response, ReadsResponse, status_code}
-use Rattle.httparse.specs.Pieces.{Piece, Begins, Then, Stops, is_newline, Bytes, Newline, Blank, Word, Target, Version, Digit, Text, Reason, FieldLine, BeginsLine, Section, RequestStart, ResponseStart}
+use Rattle.httparse.specs.Grammar.{is_token_byte, is_uri_byte, is_value_byte, AllPass, LineEnd, crlf, lf}
+use Rattle.httparse.specs.Grammar.{print_end, print_blank, print_version, Field, print_field, IsField}
+use Rattle.httparse.specs.Grammar.{RequestHead, print_request, ReadsRequest, ResponseHead, print_response}
+use Rattle.httparse.specs.Grammar.{ReadsResponse, status_code}
+use Rattle.httparse.specs.Pieces.{Piece, Begins, Then, Stops, is_newline, Bytes, Newline, Blank, Word, Target}
+use Rattle.httparse.specs.Pieces.{Version, Digit, Text, Reason, FieldLine, BeginsLine, Section, RequestStart}
+use Rattle.httparse.specs.Pieces.{ResponseStart}
 use Rattle.httparse.specs.Spans.{name_and_value}
-use Rattle.httparse.proofs.GrammarLemmas.{request_tree, request_head, request_pieces, request_from_pieces, request_unique, response_head, response_pieces, response_from_pieces, response_unique}
-use Rattle.httparse.proofs.PieceLemmas.{IsDeterministic, Bytes_deterministic, print_end_unique, Blank_deterministic, Word_deterministic, Method_deterministic, Target_deterministic, Version_deterministic, Digit_deterministic, Code_deterministic, Name_deterministic, space_ends_token, colon_ends_token, print_field-append, FieldLine_parts, Section_skip, Section_line, RequestStart_deterministic, ResponseStart_deterministic}
+use Rattle.httparse.proofs.GrammarLemmas.{request_tree, request_head, request_pieces, request_from_pieces}
+use Rattle.httparse.proofs.GrammarLemmas.{request_unique, response_head, response_pieces}
+use Rattle.httparse.proofs.GrammarLemmas.{response_from_pieces, response_unique}
+use Rattle.httparse.proofs.PieceLemmas.{IsDeterministic, Bytes_deterministic, print_end_unique}
+use Rattle.httparse.proofs.PieceLemmas.{Blank_deterministic, Word_deterministic, Method_deterministic}
+use Rattle.httparse.proofs.PieceLemmas.{Target_deterministic, Version_deterministic, Digit_deterministic}
+use Rattle.httparse.proofs.PieceLemmas.{Code_deterministic, Name_deterministic, space_ends_token}
+use Rattle.httparse.proofs.PieceLemmas.{colon_ends_token, print_field-append, FieldLine_parts, Section_skip}
+use Rattle.httparse.proofs.PieceLemmas.{Section_line, RequestStart_deterministic, ResponseStart_deterministic}
 use Rattle.httparse.proofs.RunLemmas.{run_unique}
 use Rattle.http_head.specs.Fields.{body_length, allows}
 use Rattle.http_head.specs.Head.{IsRequest, IsRequestWith, IsNoRequest, IsReply, IsReplyWith, IsNoReply}
@@ -28,7 +43,8 @@ Decided {A} G text = Begins G text ⊎ (Begins G text → ⊥)
 abbrev Decides : {A : Type 0} → Piece A → Type 0
 Decides {A} G = (text : List ℕ) → Decided G text
 
-decides_then : {A B : Type 0} {G : Piece A} {H : Piece B} → IsDeterministic G → Decides G → Decides H → Decides (Then G H)
+decides_then : {A B : Type 0} {G : Piece A} {H : Piece B} → IsDeterministic G → Decides G → Decides H
+    → Decides (Then G H)
 decides_then {A} {B} {G} {H} det g h text = by_first (g text)
   where
     by_second : (a : A) (middle : List ℕ) → G a text middle → Decided H middle → Decided (Then G H) text
@@ -81,20 +97,32 @@ none_empty [] rest e stops = subst (Stops is_newline) (sym e) stops
 none_empty (crlf ∷ ends) rest e stops = cc
 none_empty (lf ∷ ends) rest e stops = cc
 
-blank_step : (b : ℕ) (bs : List ℕ) → ((r : List ℕ) → length r < length (b ∷ bs) → Decided Blank r) → Decided Blank (b ∷ bs)
+blank_step : (b : ℕ) (bs : List ℕ) → ((r : List ℕ) → length r < length (b ∷ bs) → Decided Blank r)
+    → Decided Blank (b ∷ bs)
 blank_step b bs rec = by_test (is_newline b) refl
   where
     none_first : is_newline b ≡ true → (q : List ℕ) → b ∷ bs ≡ q → Stops is_newline q → ⊥
     none_first on q t stops = false≢true (sym (subst (Stops is_newline) (sym t) stops) ∙ on)
 
-    by_rest : is_newline b ≡ true → (e : LineEnd) (r : List ℕ) → Newline e (b ∷ bs) r → Decided Blank r → Decided Blank (b ∷ bs)
-    by_rest on e r x (inl (es, q, y)) = inl (e ∷ es, q, (x ∙ ap (λ (t : List ℕ). print_end e ++ t) y.0 ∙ sym (append_assoc (print_end e) (print_blank es) q), y.1))
+    by_rest : is_newline b ≡ true → (e : LineEnd) (r : List ℕ) → Newline e (b ∷ bs) r → Decided Blank r
+        → Decided Blank (b ∷ bs)
+    by_rest on e r x (inl (es, q, y)) =
+        inl (
+          e ∷ es,
+          q,
+          (
+            x ∙ ap (λ (t : List ℕ). print_end e ++ t) y.0
+                ∙ sym (append_assoc (print_end e) (print_blank es) q),
+            y.1,
+          ),
+        )
     by_rest on e r x (inr none) = inr (λ z. later z.0 z.1 z.2.0 z.2.1)
       where
         later : (ends : List LineEnd) (q : List ℕ) → b ∷ bs ≡ print_blank ends ++ q → Stops is_newline q → ⊥
         later [] q t stops = none_first on q t stops
         later (y ∷ ys) q t stops =
-            let same = print_end_unique e y r (print_blank ys ++ q) (sym x ∙ t ∙ append_assoc (print_end y) (print_blank ys) q) in
+            let same = print_end_unique e y r (print_blank ys ++ q)
+            (sym x ∙ t ∙ append_assoc (print_end y) (print_blank ys) q) in
             none (ys, q, (same.1, stops))
 
     by_line : is_newline b ≡ true → Decided Newline (b ∷ bs) → Decided Blank (b ∷ bs)
@@ -103,7 +131,8 @@ blank_step b bs rec = by_test (is_newline b) refl
       where
         later : (ends : List LineEnd) (q : List ℕ) → b ∷ bs ≡ print_blank ends ++ q → Stops is_newline q → ⊥
         later [] q t stops = none_first on q t stops
-        later (y ∷ ys) q t stops = none (y, print_blank ys ++ q, t ∙ append_assoc (print_end y) (print_blank ys) q)
+        later (y ∷ ys) q t stops =
+            none (y, print_blank ys ++ q, t ∙ append_assoc (print_end y) (print_blank ys) q)
 
     by_test : (t : Bool) → is_newline b ≡ t → Decided Blank (b ∷ bs)
     by_test false off = inl ([], b ∷ bs, (refl, off))
@@ -128,24 +157,45 @@ record Front (test : ℕ → Bool) (text : List ℕ) : Type 0 where
   stops : (rest ≡ []) ⊎ Stops test rest
 
 front_of : (test : ℕ → Bool) (text : List ℕ) → Front test text
-front_of test [] = record { word = []; rest = []; pass = All-nil (λ v. test v ≡ true); is = refl; stops = inl refl }
+front_of test [] = record {
+  word = [];
+  rest = [];
+  pass = All-nil (λ v. test v ≡ true);
+  is = refl;
+  stops = inl refl;
+}
 front_of test (b ∷ bs) = by_test (test b) refl (front_of test bs)
   where
     by_test : (t : Bool) → test b ≡ t → Front test bs → Front test (b ∷ bs)
-    by_test true on f = record { word = b ∷ f.word; rest = f.rest; pass = All-cons (λ v. test v ≡ true) b f.word on f.pass; is = ap (λ (t : List ℕ). b ∷ t) f.is; stops = f.stops }
-    by_test false off f = record { word = []; rest = b ∷ bs; pass = All-nil (λ v. test v ≡ true); is = refl; stops = inr off }
+    by_test true on f = record {
+      word = b ∷ f.word;
+      rest = f.rest;
+      pass = All-cons (λ v. test v ≡ true) b f.word on f.pass;
+      is = ap (λ (t : List ℕ). b ∷ t) f.is;
+      stops =
+          f.stops;
+    }
+    by_test false off f = record {
+      word = [];
+      rest = b ∷ bs;
+      pass = All-nil (λ v. test v ≡ true);
+      is = refl;
+      stops = inr off;
+    }
 
 pass_middle : (test : ℕ → Bool) (a : List ℕ) (c : ℕ) (q : List ℕ) → AllPass test (a ++ c ∷ q) → test c ≡ true
 pass_middle test [] c q all = All-head (λ v. test v ≡ true) c q all
 pass_middle test (b ∷ a) c q all = pass_middle test a c q (All-tail (λ v. test v ≡ true) b (a ++ c ∷ q) all)
 
 -- the front ends where a byte comes that does not pass
-front_is : (test : ℕ → Bool) (text : List ℕ) (f : Front test text) (a : List ℕ) (c : ℕ) (q : List ℕ) → AllPass test a → test c ≡ false → text ≡ a ++ c ∷ q → (a ≡ f.word) × (c ∷ q ≡ f.rest)
+front_is : (test : ℕ → Bool) (text : List ℕ) (f : Front test text) (a : List ℕ) (c : ℕ) (q : List ℕ)
+    → AllPass test a → test c ≡ false → text ≡ a ++ c ∷ q → (a ≡ f.word) × (c ∷ q ≡ f.rest)
 front_is test text f a c q all off e = by_stop f.stops
   where
     by_stop : (f.rest ≡ []) ⊎ Stops test f.rest → (a ≡ f.word) × (c ∷ q ≡ f.rest)
     by_stop (inl none) =
-        let whole : f.word ≡ a ++ c ∷ q = sym (append-nil f.word) ∙ ap (λ (r : List ℕ). f.word ++ r) (sym none) ∙ sym f.is ∙ e in
+        let whole : f.word ≡ a ++ c ∷ q = sym (append-nil f.word) ∙ ap (λ (r : List ℕ). f.word ++ r)
+        (sym none) ∙ sym f.is ∙ e in
         absurd (false≢true (sym off ∙ pass_middle test a c q (subst (AllPass test) whole f.pass)))
     by_stop (inr stops) = run_unique test a f.word (c ∷ q) f.rest all f.pass off stops (sym e ∙ f.is)
 
@@ -155,15 +205,27 @@ decides_word test stop off text = by_rest front.rest refl
     front : Front test text
     front = front_of test text
 
-    none_by : ((r : List ℕ) → stop ∷ r ≡ front.rest → 0 < length front.word → ⊥) → Begins (Word test stop) text → ⊥
+    none_by : ((r : List ℕ) → stop ∷ r ≡ front.rest → 0 < length front.word → ⊥)
+        → Begins (Word test stop) text → ⊥
     none_by lacks x =
         let same = front_is test text front x.0 stop x.1 x.2.1 off x.2.2 in
         lacks x.1 same.1 (subst (λ (w : List ℕ). 0 < length w) same.0 x.2.0)
 
-    by_both : (b : ℕ) (bs : List ℕ) → front.rest ≡ b ∷ bs → (w : List ℕ) → front.word ≡ w → (b ≡ stop) ⊎ (b ≢ stop) → Decided (Word test stop) text
-    by_both b bs is [] empty r = inr (none_by (λ q e some. let low = subst (λ (w : List ℕ). 0 < length w) empty some in omega (arith, low)))
+    by_both : (b : ℕ) (bs : List ℕ) → front.rest ≡ b ∷ bs → (w : List ℕ) → front.word ≡ w → (b ≡ stop)
+        ⊎ (b ≢ stop) → Decided (Word test stop) text
+    by_both b bs is [] empty r =
+        inr (none_by (λ q e some. let low = subst (λ (w : List ℕ). 0 < length w) empty some
+        in omega (arith, low)))
     by_both b bs is (v ∷ vs) full (inl same) =
-        inl (front.word, bs, (subst (λ (w : List ℕ). 0 < length w) (sym full) (omega arith), front.pass, front.is ∙ ap (λ (r : List ℕ). front.word ++ r) (is ∙ ap (λ (c : ℕ). c ∷ bs) same)))
+        inl (
+          front.word,
+          bs,
+          (
+            subst (λ (w : List ℕ). 0 < length w) (sym full) (omega arith),
+            front.pass,
+            front.is ∙ ap (λ (r : List ℕ). front.word ++ r) (is ∙ ap (λ (c : ℕ). c ∷ bs) same),
+          ),
+        )
     by_both b bs is (v ∷ vs) full (inr differ) = inr (none_by (λ q e some.
         let both : stop ∷ q ≡ b ∷ bs = e ∙ is in
         let same : b ≡ stop = cc in
@@ -189,7 +251,8 @@ decides_target text = by_word (decides_word is_uri_byte 32 refl text)
 decides_version : Decides Version
 decides_version text = by_minors (decides_bytes (print_version 0) text) (decides_bytes (print_version 1) text)
   where
-    by_minors : Decided (Bytes (print_version 0)) text → Decided (Bytes (print_version 1)) text → Decided Version text
+    by_minors : Decided (Bytes (print_version 0)) text → Decided (Bytes (print_version 1)) text
+        → Decided Version text
     by_minors (inl x) b = inl (0, x.1, (omega arith, x.2))
     by_minors (inr a) (inl x) = inl (1, x.1, (omega arith, x.2))
     by_minors (inr a) (inr b) = inr (λ x. by_minor x.0 x.1 x.2.0 x.2.1)
@@ -218,19 +281,23 @@ decides_text text = by_line (decides_newline front.rest)
     front : Front is_value_byte text
     front = front_of is_value_byte text
 
-    split : (a : List ℕ) (end : LineEnd) (rest : List ℕ) → AllPass is_value_byte a → text ≡ a ++ (print_end end ++ rest) → front.rest ≡ print_end end ++ rest
+    split : (a : List ℕ) (end : LineEnd) (rest : List ℕ) → AllPass is_value_byte a
+        → text ≡ a ++ (print_end end ++ rest) → front.rest ≡ print_end end ++ rest
     split a crlf rest all e = sym (front_is is_value_byte text front a 13 (10 ∷ rest) all refl e).1
     split a lf rest all e = sym (front_is is_value_byte text front a 10 rest all refl e).1
 
     by_line : Decided Newline front.rest → Decided Text text
-    by_line (inl (end, rest, e)) = inl ((front.word, end), rest, (front.pass, front.is ∙ ap (λ (r : List ℕ). front.word ++ r) e))
+    by_line (inl (end, rest, e)) =
+        inl ((front.word, end), rest, (front.pass, front.is ∙ ap (λ (r : List ℕ). front.word ++ r) e))
     by_line (inr none) = inr (λ x. none (x.0.1, x.1, split x.0.0 x.0.1 x.1 x.2.0 x.2.1))
 
 decides_reason : Decides Reason
 decides_reason text = by_line (decides_newline text)
   where
-    with_text : (Begins Newline text → ⊥) → (t : List ℕ) → text ≡ 32 ∷ t → Decided Text t → Decided Reason text
-    with_text none t x (inl ((a, end), r, y)) = inl ((Some a, end), r, (y.0, x ∙ ap (λ (u : List ℕ). 32 ∷ u) y.1))
+    with_text : (Begins Newline text → ⊥) → (t : List ℕ) → text ≡ 32 ∷ t → Decided Text t
+        → Decided Reason text
+    with_text none t x (inl ((a, end), r, y)) =
+        inl ((Some a, end), r, (y.0, x ∙ ap (λ (u : List ℕ). 32 ∷ u) y.1))
     with_text none t x (inr lacks) = inr (λ z. later z.0.0 z.0.1 z.1 z.2)
       where
         later : (o : Option (List ℕ)) (end : LineEnd) (r : List ℕ) → Reason (o, end) text r → ⊥
@@ -255,13 +322,23 @@ decides_reason text = by_line (decides_newline text)
 -- ---- field lines and sections
 
 decides_field : Decides FieldLine
-decides_field text = by_parts (decides_then Name_deterministic (decides_word is_token_byte 58 colon_ends_token) decides_text text)
+decides_field text = by_parts
+    (decides_then Name_deterministic (decides_word is_token_byte 58 colon_ends_token) decides_text text)
   where
     by_parts : Decided (Then (Word is_token_byte 58) Text) text → Decided FieldLine text
     by_parts (inl ((name, (raw, end)), rest, (middle, w, t))) =
         let f : Field = record { name = name; raw = raw; end = end } in
-        inl (f, rest, (record { name = (w.0, w.1); raw = t.0 }, w.2 ∙ ap (λ (m : List ℕ). name ++ 58 ∷ m) t.1 ∙ sym (print_field-append f rest)))
-    by_parts (inr none) = inr (λ x. none ((x.0.name, (x.0.raw, x.0.end)), x.1, FieldLine_parts x.0 text x.1 x.2))
+        inl (
+          f,
+          rest,
+          (
+            record { name = (w.0, w.1); raw = t.0 },
+            w.2 ∙ ap (λ (m : List ℕ). name ++ 58 ∷ m) t.1
+                ∙ sym (print_field-append f rest),
+          ),
+        )
+    by_parts (inr none) = inr
+        (λ x. none ((x.0.name, (x.0.raw, x.0.end)), x.1, FieldLine_parts x.0 text x.1 x.2))
 
 field_shorter : (f : Field) (text rest : List ℕ) → FieldLine f text rest → length rest < length text
 field_shorter f text rest x =
@@ -271,10 +348,12 @@ field_shorter f text rest x =
     let last = length-append (print_end f.end) rest in
     omega (arith, total, front, middle, last)
 
-section_step : (text : List ℕ) → ((r : List ℕ) → length r < length text → Decided Section r) → Decided Section text
+section_step : (text : List ℕ) → ((r : List ℕ) → length r < length text → Decided Section r)
+    → Decided Section text
 section_step text rec = by_line (decides_newline text)
   where
-    by_rest : (f : Field) (middle : List ℕ) → FieldLine f text middle → Decided Section middle → Decided Section text
+    by_rest : (f : Field) (middle : List ℕ) → FieldLine f text middle → Decided Section middle
+        → Decided Section text
     by_rest f middle x (inl ((fs, last), rest, y)) =
         let lines = flat_map print_field fs in
         inl (
@@ -283,11 +362,16 @@ section_step text rec = by_line (decides_newline text)
           (
             All-cons IsField f fs x.0 y.0,
             x.1 ∙ ap (λ (t : List ℕ). print_field f ++ t) y.1
-                ∙ sym (ap (λ (t : List ℕ). t ++ rest) (append_assoc (print_field f) lines (print_end last)) ∙ append_assoc (print_field f) (lines ++ print_end last) rest),
+                ∙ sym (ap (λ (t : List ℕ). t ++ rest) (append_assoc (print_field f) lines (print_end last))
+                ∙ append_assoc (print_field f) (lines ++ print_end last) rest),
           ),
         )
     by_rest f middle x (inr none) = inr (λ z.
-        let s = Section_skip (f ∷ []) z.0.0 z.0.1 text middle z.1 (All-cons IsField f [] x.0 (All-nil IsField), x.1 ∙ ap (λ (t : List ℕ). t ++ middle) (sym (append-nil (print_field f)))) z.2 in
+        let s = Section_skip (f ∷ []) z.0.0 z.0.1 text middle z.1 (
+          All-cons IsField f [] x.0 (All-nil IsField),
+          x.1 ∙ ap (λ (t : List ℕ). t ++ middle)
+              (sym (append-nil (print_field f))),
+        ) z.2 in
         none ((s.0, z.0.1), z.1, s.2))
 
     by_field : (Begins Newline text → ⊥) → Decided FieldLine text → Decided Section text
@@ -313,19 +397,26 @@ decides_section text = section_within (length text) text (omega arith)
 
 decides_request_start : Decides RequestStart
 decides_request_start =
-    decides_then Blank_deterministic decides_blank (decides_then Method_deterministic (decides_word is_token_byte 32 space_ends_token)
-    (decides_then Target_deterministic decides_target (decides_then Version_deterministic decides_version decides_newline)))
+    decides_then Blank_deterministic decides_blank
+    (decides_then Method_deterministic (decides_word is_token_byte 32 space_ends_token)
+    (decides_then Target_deterministic decides_target
+    (decides_then Version_deterministic decides_version decides_newline)))
 
 decides_response_start : Decides ResponseStart
 decides_response_start =
-    decides_then Blank_deterministic decides_blank (decides_then Version_deterministic decides_version (decides_then (Bytes_deterministic (32 ∷ [])) (decides_bytes (32 ∷ []))
-    (decides_then Code_deterministic (decides_then Digit_deterministic decides_digit (decides_then Digit_deterministic decides_digit decides_digit)) decides_reason)))
+    decides_then Blank_deterministic decides_blank
+    (decides_then Version_deterministic decides_version
+    (decides_then (Bytes_deterministic (32 ∷ [])) (decides_bytes (32 ∷ []))
+    (decides_then Code_deterministic
+    (decides_then Digit_deterministic decides_digit
+    (decides_then Digit_deterministic decides_digit decides_digit)) decides_reason)))
 
 -- ---- requests
 
 -- a head that begins the bytes, or that there is none
 abbrev HeadIn : List ℕ → Type 0
-HeadIn bytes = ((h : RequestHead) × (rest : List ℕ) × ReadsRequest bytes h rest) ⊎ ((h : RequestHead) (rest : List ℕ) → ReadsRequest bytes h rest → ⊥)
+HeadIn bytes = ((h : RequestHead) × (rest : List ℕ) × ReadsRequest bytes h rest)
+    ⊎ ((h : RequestHead) (rest : List ℕ) → ReadsRequest bytes h rest → ⊥)
 
 head_in : (bytes : List ℕ) → HeadIn bytes
 head_in bytes = by_tree (decides_then RequestStart_deterministic decides_request_start decides_section bytes)
@@ -340,17 +431,22 @@ RequestIn bytes = ((r : Request) × IsRequest bytes r) ⊎ IsNoRequest bytes
 module _ (bytes : List ℕ) (h : RequestHead) (rest : List ℕ) (reads : ReadsRequest bytes h rest) where
   -- what any request in the bytes says of the head
   few : (r : Request) (k : RequestHead) → IsRequestWith bytes r k → length h.fields ≤ 100
-  few r k y = subst (λ (g : RequestHead). length g.fields ≤ 100) (sym (request_unique bytes h k rest r.body reads y.opens.reads).0) y.opens.within.few
+  few r k y = subst (λ (g : RequestHead). length g.fields ≤ 100)
+      (sym (request_unique bytes h k rest r.body reads y.opens.reads).0) y.opens.within.few
 
   short : (r : Request) (k : RequestHead) → IsRequestWith bytes r k → length (print_request h) ≤ 65536
-  short r k y = subst (λ (g : RequestHead). length (print_request g) ≤ 65536) (sym (request_unique bytes h k rest r.body reads y.opens.reads).0) y.opens.within.short
+  short r k y = subst (λ (g : RequestHead). length (print_request g) ≤ 65536)
+      (sym (request_unique bytes h k rest r.body reads y.opens.reads).0) y.opens.within.short
 
-  long : (r : Request) (k : RequestHead) → IsRequestWith bytes r k → body_length (map name_and_value h.fields) ≡ Some (length rest)
+  long : (r : Request) (k : RequestHead) → IsRequestWith bytes r k
+      → body_length (map name_and_value h.fields) ≡ Some (length rest)
   long r k y =
       let same = request_unique bytes h k rest r.body reads y.opens.reads in
-      ap (λ (g : RequestHead). body_length (map name_and_value g.fields)) same.0 ∙ y.body ∙ ap (λ (b : List ℕ). Some (length b)) (sym same.1)
+      ap (λ (g : RequestHead). body_length (map name_and_value g.fields)) same.0 ∙ y.body
+      ∙ ap (λ (b : List ℕ). Some (length b)) (sym same.1)
 
-  by_body : length h.fields ≤ 100 → length (print_request h) ≤ 65536 → (o : Option ℕ) → body_length (map name_and_value h.fields) ≡ o → RequestIn bytes
+  by_body : length h.fields ≤ 100 → length (print_request h) ≤ 65536 → (o : Option ℕ)
+      → body_length (map name_and_value h.fields) ≡ o → RequestIn bytes
   by_body low small None is = inr (λ r x. let no : None ≡ Some (length rest) = sym is ∙ long r x.0 x.1 in cc)
   by_body low small (Some n) is = elim (cases_eq n (length rest)) [
     | inl same ↦ inl (
@@ -389,10 +485,12 @@ request_in bytes = by_head (head_in bytes)
 -- ---- replies
 
 abbrev ReplyHeadIn : List ℕ → Type 0
-ReplyHeadIn bytes = ((h : ResponseHead) × (rest : List ℕ) × ReadsResponse bytes h rest) ⊎ ((h : ResponseHead) (rest : List ℕ) → ReadsResponse bytes h rest → ⊥)
+ReplyHeadIn bytes = ((h : ResponseHead) × (rest : List ℕ) × ReadsResponse bytes h rest)
+    ⊎ ((h : ResponseHead) (rest : List ℕ) → ReadsResponse bytes h rest → ⊥)
 
 reply_head_in : (bytes : List ℕ) → ReplyHeadIn bytes
-reply_head_in bytes = by_tree (decides_then ResponseStart_deterministic decides_response_start decides_section bytes)
+reply_head_in bytes = by_tree
+    (decides_then ResponseStart_deterministic decides_response_start decides_section bytes)
   where
     by_tree : Decided (Then ResponseStart Section) bytes → ReplyHeadIn bytes
     by_tree (inl (t, rest, x)) = inl (response_head t, rest, response_from_pieces bytes t rest x)
@@ -403,17 +501,22 @@ ReplyIn bytes = ((r : Reply) × IsReply bytes r) ⊎ IsNoReply bytes
 
 module _ (bytes : List ℕ) (h : ResponseHead) (rest : List ℕ) (reads : ReadsResponse bytes h rest) where
   reply_few : (r : Reply) (k : ResponseHead) → IsReplyWith bytes r k → length h.fields ≤ 100
-  reply_few r k y = subst (λ (g : ResponseHead). length g.fields ≤ 100) (sym (response_unique bytes h k rest r.body reads y.opens.reads).0) y.opens.within.few
+  reply_few r k y = subst (λ (g : ResponseHead). length g.fields ≤ 100)
+      (sym (response_unique bytes h k rest r.body reads y.opens.reads).0) y.opens.within.few
 
   reply_short : (r : Reply) (k : ResponseHead) → IsReplyWith bytes r k → length (print_response h) ≤ 65536
-  reply_short r k y = subst (λ (g : ResponseHead). length (print_response g) ≤ 65536) (sym (response_unique bytes h k rest r.body reads y.opens.reads).0) y.opens.within.short
+  reply_short r k y = subst (λ (g : ResponseHead). length (print_response g) ≤ 65536)
+      (sym (response_unique bytes h k rest r.body reads y.opens.reads).0) y.opens.within.short
 
-  reply_long : (r : Reply) (k : ResponseHead) → IsReplyWith bytes r k → allows (map name_and_value h.fields) (length rest) ≡ true
+  reply_long : (r : Reply) (k : ResponseHead) → IsReplyWith bytes r k → allows (map name_and_value h.fields)
+      (length rest) ≡ true
   reply_long r k y =
       let same = response_unique bytes h k rest r.body reads y.opens.reads in
-      ap (λ (g : ResponseHead). allows (map name_and_value g.fields) (length rest)) same.0 ∙ ap (λ (b : List ℕ). allows (map name_and_value k.fields) (length b)) same.1 ∙ y.body
+      ap (λ (g : ResponseHead). allows (map name_and_value g.fields) (length rest)) same.0
+      ∙ ap (λ (b : List ℕ). allows (map name_and_value k.fields) (length b)) same.1 ∙ y.body
 
-  reply_body : length h.fields ≤ 100 → length (print_response h) ≤ 65536 → (t : Bool) → allows (map name_and_value h.fields) (length rest) ≡ t → ReplyIn bytes
+  reply_body : length h.fields ≤ 100 → length (print_response h) ≤ 65536 → (t : Bool)
+      → allows (map name_and_value h.fields) (length rest) ≡ t → ReplyIn bytes
   reply_body low small false off = inr (λ r x. false≢true (sym off ∙ reply_long r x.0 x.1))
   reply_body low small true on = inl (
     record { code = status_code h; headers = map name_and_value h.fields; body = rest },

@@ -7,7 +7,8 @@ use Rattle.sched_core.specs.Laws.{IsLegal}
 use Rattle.sched_core.proofs.SoundLemmas.{legal_ids}
 
 -- the number of ids stays below 2 ^ 64
-pub ids_fit : (base count : ℕ) (log : List CoreEntry) → count < 2 ^ 64 → IsLegal base count log → count + length (bookings log) < 2 ^ 64
+pub ids_fit : (base count : ℕ) (log : List CoreEntry) → count < 2 ^ 64 → IsLegal base count log
+    → count + length (bookings log) < 2 ^ 64
 ids_fit base count log fits legal =
     let ids = (legal_ids base count log fits legal).fits in
     omega (arith, ids, length-map (bookings log) (λ b. b.job))

@@ -1,5 +1,7 @@
 -- What each kind of event makes, and what is kept after it.
-use Rattle.std.proofs.Common.{◌≡◌, ◌≢◌, ◌⊎◌, inl, inr, ℕ, zero, suc, ◌<◌, Bool, true, false, ◌&&◌, nat_lt, List, [], ◌∷◌, ◌++◌, length, take, drop, set, Option, Some, None, Result, Ok, Err, refl, sym, ap, subst, ◌∙◌, arith}
+use Rattle.std.proofs.Common.{◌≡◌, ◌≢◌, ◌⊎◌, inl, inr, ℕ, zero, suc, ◌<◌, Bool, true, false, ◌&&◌, nat_lt}
+use Rattle.std.proofs.Common.{List, [], ◌∷◌, ◌++◌, length, take, drop, set, Option, Some, None, Result, Ok}
+use Rattle.std.proofs.Common.{Err, refl, sym, ap, subst, ◌∙◌, arith}
 use Rattle.std.specs.Prelude.{slice_get}
 use Rattle.std.proofs.lemmas.Bool.{cases_eq, ne_eqb}
 use Rattle.std.proofs.lemmas.List.{length-set, length-take}
@@ -32,20 +34,25 @@ use Rattle.dist_types.specs.declared.results.UpdateJobStateResult.{UpdateJobStat
 use Rattle.dist_wire.specs.declared.run.RunJobHttpRequest.{RunJobHttpRequest}
 use Rattle.build_server.specs.declared.run.Outcome.{Outcome}
 use Rattle.farm_script.specs.declared.event.EventKind.{EventKind}
-use Rattle.farm_script.specs.declared.event.EventKind.TheVariants.{Request, Deliver, Fail, Return, Answer, Beat, Restart}
+use Rattle.farm_script.specs.declared.event.EventKind.TheVariants.{Request, Deliver, Fail, Return, Answer}
+use Rattle.farm_script.specs.declared.event.EventKind.TheVariants.{Beat, Restart}
 use Rattle.farm_run.specs.Servers.{ServerNow, restart_by, server_now, is_over}
 use Rattle.farm_run.specs.Stations.{AreStations}
 use Rattle.farm_run.proofs.ServerLemmas.{stations_same}
 use Rattle.farm_run.specs.declared.pending.Made.{Made}
 use Rattle.farm_run.specs.declared.pending.Pending.{Pending}
-use Rattle.farm_run.specs.Begun.{IsBegunBy, IsFirstCall, IsMadeBy, IsCallOf, Keeps, outcome_of, completion_by, completion_at, completion_of}
+use Rattle.farm_run.specs.Begun.{IsBegunBy, IsFirstCall, IsMadeBy, IsCallOf, Keeps, outcome_of, completion_by}
+use Rattle.farm_run.specs.Begun.{completion_at, completion_of}
 use Rattle.farm_run.specs.Calls.{settles_by, is_void, is_of, settled_at, waiting_at}
 use Rattle.farm_run.specs.Effects.{entry_of, effect_of, word_effect}
-use Rattle.farm_run.specs.Farm.{with_core, IsWaiting, IsKept, kept_at, AreKept, IsAfter, IsReceived, IsMadeSo, IsSound, IsFarm}
+use Rattle.farm_run.specs.Farm.{with_core, IsWaiting, IsKept, kept_at, AreKept, IsAfter, IsReceived, IsMadeSo}
+use Rattle.farm_run.specs.Farm.{IsSound, IsFarm}
 use Rattle.farm_run.specs.Next.{GoesOn, Follows, IsServed, IsSettled, IsMade}
 use Rattle.farm_run.specs.Seen.{core_log, core_of}
-use Rattle.farm_run.specs.Settled.{assignment_end, ready_end, started_end, complete_end, Reports, Lives, ReportsIn, IsOwnBy}
-use Rattle.farm_run.specs.Ways.{Way, way_of, brought_at, to_nothing, to_nobody, to_scheduler, to_server, to_call, to_beat, to_restart}
+use Rattle.farm_run.specs.Settled.{assignment_end, ready_end, started_end, complete_end, Reports, Lives}
+use Rattle.farm_run.specs.Settled.{ReportsIn, IsOwnBy}
+use Rattle.farm_run.specs.Ways.{Way, way_of, brought_at, to_nothing, to_nobody, to_scheduler, to_server}
+use Rattle.farm_run.specs.Ways.{to_call, to_beat, to_restart}
 use Rattle.farm_run.proofs.CallLemmas.{waiting-end}
 use Rattle.farm_run.proofs.NextLemmas.{call_ticket, settles_it, way_settles, sound_next}
 use Rattle.farm_run.proofs.RunLemmas.{core_of-push, IsRun-push}
@@ -58,7 +65,8 @@ and_false true = refl
 and_false false = refl
 
 -- the event is to settle nothing
-unsettling : (log : List Entry) (e : Entry) → settles_by log e.event.kind ≡ None → (n : ℕ) → settled_at n (end_cut log e) ≡ false
+unsettling : (log : List Entry) (e : Entry) → settles_by log e.event.kind ≡ None → (n : ℕ)
+    → settled_at n (end_cut log e) ≡ false
 unsettling log e none n = rw none (and_false _)
 
 void_off : (a c : Bool) → (a && false && c) ≡ false
@@ -70,17 +78,20 @@ voided : (log : List Entry) (e : Entry) → e.word ≡ Some Void → (n : ℕ) �
 voided log e void n = rw void (void_off (nat_lt n (length log)) (is_of n (settles_by log e.event.kind)))
 
 -- what is kept stays
-all_kept : (setup : Setup) (log : List Entry) (e : Entry) (ps : List (Option Pending)) → AreKept setup log ps → ((n : ℕ) → settled_at n (end_cut log e) ≡ false)
+all_kept : (setup : Setup) (log : List Entry) (e : Entry) (ps : List (Option Pending)) → AreKept setup log ps
+    → ((n : ℕ) → settled_at n (end_cut log e) ≡ false)
     → (n : ℕ) → n < length log → IsKept setup (log ++ e ∷ []) n (kept_at ps n)
 all_kept setup log e ps kept off n lt = kept-left setup log e n (kept_at ps n) lt (off n) (kept.each n)
 
 -- nothing is kept of an entry without a call
-nothing_new : (setup : Setup) (log : List Entry) (e : Entry) → e.call ≡ None → IsKept setup (log ++ e ∷ []) (length log) None
+nothing_new : (setup : Setup) (log : List Entry) (e : Entry) → e.call ≡ None
+    → IsKept setup (log ++ e ∷ []) (length log) None
 nothing_new setup log e none = waiting-end log e ∙ ap (λ (o : Option OutCall). o >>= λ c. Some e) none
 
 -- what is kept of the call that an entry makes
 new_kept : (setup : Setup) (log : List Entry) (e : Entry) (o : Option Pending)
-    → Keeps (IsMadeBy setup log (way_of setup log e.event.kind) (effect_of e)) (effect_of e) o → IsKept setup (log ++ e ∷ []) (length log) o
+    → Keeps (IsMadeBy setup log (way_of setup log e.event.kind) (effect_of e)) (effect_of e) o
+    → IsKept setup (log ++ e ∷ []) (length log) o
 new_kept setup log e None is = nothing_new setup log e is
 new_kept setup log e (Some p) is = record {
   entry = e;
@@ -90,7 +101,8 @@ new_kept setup log e (Some p) is = record {
 
 -- ---- what comes to an address, and what has nothing to do
 
-served_made : (setup : Setup) (log : List Entry) (at : ℕ) (way : Way) (x : Effect) → IsServed setup (core_of setup log) (length log) at way x → IsMade setup log at way x
+served_made : (setup : Setup) (log : List Entry) (at : ℕ) (way : Way) (x : Effect)
+    → IsServed setup (core_of setup log) (length log) at way x → IsMade setup log at way x
 served_made setup log at (to_scheduler peer bytes) x is = is
 served_made setup log at (to_server s bytes) x is = is
 served_made setup log at (to_beat s) x is = is
@@ -99,7 +111,8 @@ served_made setup log at to_nothing x is = is
 served_made setup log at to_nobody x is = is
 served_made setup log at (to_call n reply) x is = absurd is
 
-begun_made : (setup : Setup) (log : List Entry) (at : ℕ) (way : Way) (x : Effect) (o : Option Pending) → IsServed setup (core_of setup log) (length log) at way x
+begun_made : (setup : Setup) (log : List Entry) (at : ℕ) (way : Way) (x : Effect) (o : Option Pending)
+    → IsServed setup (core_of setup log) (length log) at way x
     → Keeps (IsBegunBy setup (core_log log) (length log) way x) x o → Keeps (IsMadeBy setup log way x) x o
 begun_made setup log at way x None served is = is
 begun_made setup log at (to_scheduler peer bytes) x (Some p) served is = is
@@ -110,28 +123,40 @@ begun_made setup log at to_nothing x (Some p) served is = absurd is.0
 begun_made setup log at to_nobody x (Some p) served is = absurd is.0
 begun_made setup log at (to_call n reply) x (Some p) served is = absurd is.0
 
-pub received_made : (setup : Setup) (s : Core) (log : List Entry) (ps : List (Option Pending)) (sts new : List Station) (event : Event) (number at : ℕ) (way : Way) (m : Made)
-    → IsFarm setup s log ps sts → number ≡ length log → event.at ≡ at → way_of setup log event.kind ≡ way → settles_by log event.kind ≡ None
-    → IsReceived setup s number at way m → AreStations setup.servers (log ++ entry_of event m.effect ∷ []) new → IsMadeSo setup log event (way_of setup log event.kind) ps new m
+pub received_made : (setup : Setup) (s : Core) (log : List Entry) (ps : List (Option Pending))
+    (sts new : List Station) (event : Event) (number at : ℕ) (way : Way) (m : Made)
+    → IsFarm setup s log ps sts → number ≡ length log → event.at ≡ at → way_of setup log event.kind ≡ way
+    → settles_by log event.kind ≡ None
+    → IsReceived setup s number at way m → AreStations setup.servers (log ++ entry_of event m.effect ∷ []) new
+    → IsMadeSo setup log event (way_of setup log event.kind) ps new m
 received_made setup s log ps sts new event number at way m is numbered moment comes none received stand =
-    let one : IsReceived setup (core_of setup log) number at way m = subst (λ (c : Core). IsReceived setup c number at way m) is.core_is received in
-    let two : IsReceived setup (core_of setup log) (length log) at way m = subst (λ (n : ℕ). IsReceived setup (core_of setup log) n at way m) numbered one in
-    let three : IsReceived setup (core_of setup log) (length log) event.at way m = subst (λ (n : ℕ). IsReceived setup (core_of setup log) (length log) n way m) (sym moment) two in
+    let one : IsReceived setup (core_of setup log) number at way m =
+    subst (λ (c : Core). IsReceived setup c number at way m) is.core_is received in
+    let two : IsReceived setup (core_of setup log) (length log) at way m =
+    subst (λ (n : ℕ). IsReceived setup (core_of setup log) n at way m) numbered one in
+    let three : IsReceived setup (core_of setup log) (length log) event.at way m =
+    subst (λ (n : ℕ). IsReceived setup (core_of setup log) (length log) n way m) (sym moment) two in
     let four : IsReceived setup (core_of setup log) (length log) event.at (way_of setup log event.kind) m =
     subst (λ (w : Way). IsReceived setup (core_of setup log) (length log) event.at w m) (sym comes) three in
     record {
       made = served_made setup log event.at (way_of setup log event.kind) m.effect four.served;
       after = record {
         size = is.kept.size;
-        old = all_kept setup log (entry_of event m.effect) ps is.kept (unsettling log (entry_of event m.effect) none);
-        new = new_kept setup log (entry_of event m.effect) m.pending (begun_made setup log event.at (way_of setup log event.kind) m.effect m.pending four.served four.kept);
+        old = all_kept setup log (entry_of event m.effect) ps is.kept
+            (unsettling log (entry_of event m.effect) none);
+        new = new_kept setup log (entry_of event m.effect) m.pending
+            (begun_made setup log event.at (way_of setup log event.kind) m.effect m.pending four.served
+            four.kept);
       };
       stations = stand;
     }
 
 -- an event that has nothing to do, and leaves the stations
-pub idle_stands : (setup : Setup) (s : Core) (log : List Entry) (ps : List (Option Pending)) (sts new : List Station) (event : Event) (m : Made)
-    → IsFarm setup s log ps sts → way_of setup log event.kind ≡ to_nothing → AreStations setup.servers (log ++ entry_of event (word_effect Void) ∷ []) new → m ≡ record { effect = word_effect Void; pending = None }
+pub idle_stands : (setup : Setup) (s : Core) (log : List Entry) (ps : List (Option Pending))
+    (sts new : List Station) (event : Event) (m : Made)
+    → IsFarm setup s log ps sts → way_of setup log event.kind ≡ to_nothing
+    → AreStations setup.servers (log ++ entry_of event (word_effect Void) ∷ []) new
+    → m ≡ record { effect = word_effect Void; pending = None }
     → IsMadeSo setup log event (way_of setup log event.kind) ps new m
 idle_stands setup s log ps sts new event m is nothing stand same =
     let idle : Made = record { effect = word_effect Void; pending = None } in
@@ -139,7 +164,8 @@ idle_stands setup s log ps sts new event m is nothing stand same =
       made = refl;
       after = record {
         size = is.kept.size;
-        old = all_kept setup log (entry_of event (word_effect Void)) ps is.kept (voided log (entry_of event (word_effect Void)) refl);
+        old = all_kept setup log (entry_of event (word_effect Void)) ps is.kept
+            (voided log (entry_of event (word_effect Void)) refl);
         new = nothing_new setup log (entry_of event (word_effect Void)) refl;
       };
       stations = stand;
@@ -148,11 +174,15 @@ idle_stands setup s log ps sts new event m is nothing stand same =
     (subst (λ (w : Way). IsMadeSo setup log event w ps new idle) (sym nothing) there)
 
 -- an event that has nothing to do, and restarts nothing
-pub idle_made : (setup : Setup) (s : Core) (log : List Entry) (ps : List (Option Pending)) (sts : List Station) (event : Event) (m : Made)
-    → IsFarm setup s log ps sts → way_of setup log event.kind ≡ to_nothing → ((a : Addr) → restart_by a event.kind ≡ None) → m ≡ record { effect = word_effect Void; pending = None }
+pub idle_made : (setup : Setup) (s : Core) (log : List Entry) (ps : List (Option Pending))
+    (sts : List Station) (event : Event) (m : Made)
+    → IsFarm setup s log ps sts → way_of setup log event.kind ≡ to_nothing
+    → ((a : Addr) → restart_by a event.kind ≡ None)
+    → m ≡ record { effect = word_effect Void; pending = None }
     → IsMadeSo setup log event (way_of setup log event.kind) ps sts m
 idle_made setup s log ps sts event m is nothing still same =
-    idle_stands setup s log ps sts sts event m is nothing (stations_same setup.servers log sts (entry_of event (word_effect Void)) is.stations still refl) same
+    idle_stands setup s log ps sts sts event m is nothing
+    (stations_same setup.servers log sts (entry_of event (word_effect Void)) is.stations still refl) same
 
 -- ---- settlements
 
@@ -161,7 +191,8 @@ get_set_same [] n a h = absurd (omega arith)
 get_set_same (x ∷ xs) zero a h = refl
 get_set_same (x ∷ xs) (suc n) a h = get_set_same xs n a (omega arith)
 
-get_set_other : {X : Type 0} (xs : List X) (n m : ℕ) (a : X) → n ≢ m → slice_get (set xs n a) m ≡ slice_get xs m
+get_set_other : {X : Type 0} (xs : List X) (n m : ℕ) (a : X) → n ≢ m
+    → slice_get (set xs n a) m ≡ slice_get xs m
 get_set_other [] n m a h = refl
 get_set_other (x ∷ xs) zero zero a h = absurd (h refl)
 get_set_other (x ∷ xs) zero (suc m) a h = refl
@@ -169,83 +200,126 @@ get_set_other (x ∷ xs) (suc n) zero a h = refl
 get_set_other (x ∷ xs) (suc n) (suc m) a h = get_set_other xs n m a (λ same. h (ap (λ (k : ℕ). suc k) same))
 
 -- an entry that settles another call leaves this one
-other_call : (log : List Entry) (e : Entry) (n m : ℕ) (reply : Option (List ℕ)) → settles_by log e.event.kind ≡ Some (n, reply) → n ≢ m → settled_at m (end_cut log e) ≡ false
+other_call : (log : List Entry) (e : Entry) (n m : ℕ) (reply : Option (List ℕ))
+    → settles_by log e.event.kind ≡ Some (n, reply) → n ≢ m → settled_at m (end_cut log e) ≡ false
 other_call log e n m reply names apart = rw (names, ne_eqb n m apart) (and_false _)
 
 -- after a settlement, or one of a call that does not wait, nothing is kept of the call
-after_settled : (setup : Setup) (log : List Entry) (e : Entry) (ps : List (Option Pending)) (n : ℕ) (reply : Option (List ℕ)) → AreKept setup log ps
-    → settles_by log e.event.kind ≡ Some (n, reply) → (o : Option Pending) → IsKept setup (log ++ e ∷ []) (length log) o → (is_void e.word ≡ false) ⊎ ((e.word ≡ Some Void) × (kept_at ps n ≡ None)) → IsAfter setup log e (set ps n None) o
+after_settled : (setup : Setup) (log : List Entry) (e : Entry) (ps : List (Option Pending)) (n : ℕ)
+    (reply : Option (List ℕ)) → AreKept setup log ps
+    → settles_by log e.event.kind ≡ Some (n, reply) → (o : Option Pending)
+    → IsKept setup (log ++ e ∷ []) (length log) o → (is_void e.word ≡ false)
+    ⊎ ((e.word ≡ Some Void) × (kept_at ps n ≡ None)) → IsAfter setup log e (set ps n None) o
 after_settled setup log e ps n reply kept names o made how = record {
   size = omega (arith, length-set ps n None, kept.size);
   old = λ m lt. elim (cases_eq n m) [
-    | inl same ↦ subst (λ (k : ℕ). IsKept setup (log ++ e ∷ []) k (kept_at (set ps n None) k)) same (own (omega (arith, same, lt)))
+    | inl same ↦ subst (λ (k : ℕ). IsKept setup (log ++ e ∷ []) k (kept_at (set ps n None) k)) same
+        (own (omega (arith, same, lt)))
     | inr apart ↦
-        let at : kept_at (set ps n None) m ≡ kept_at ps m = ap (λ (o : Option (Option Pending)). o >>= λ p. p) (get_set_other ps n m None apart) in
-        subst (λ (o : Option Pending). IsKept setup (log ++ e ∷ []) m o) (sym at) (kept-left setup log e m (kept_at ps m) lt (other_call log e n m reply names apart) (kept.each m))
+        let at : kept_at (set ps n None) m ≡ kept_at ps m = ap (λ (o : Option (Option Pending)). o >>= λ p. p)
+        (get_set_other ps n m None apart) in
+        subst (λ (o : Option Pending). IsKept setup (log ++ e ∷ []) m o) (sym at)
+        (kept-left setup log e m (kept_at ps m) lt (other_call log e n m reply names apart) (kept.each m))
   ];
   new = made;
 }
   where
     none_left : n < length log → kept_at (set ps n None) n ≡ None
-    none_left lt = ap (λ (o : Option (Option Pending)). o >>= λ p. p) (get_set_same ps n None (omega (arith, kept.size)))
+    none_left lt = ap (λ (o : Option (Option Pending)). o >>= λ p. p)
+        (get_set_same ps n None (omega (arith, kept.size)))
 
-    settled : n < length log → (is_void e.word ≡ false) ⊎ ((e.word ≡ Some Void) × (kept_at ps n ≡ None)) → IsKept setup (log ++ e ∷ []) n None
+    settled : n < length log → (is_void e.word ≡ false) ⊎ ((e.word ≡ Some Void) × (kept_at ps n ≡ None))
+        → IsKept setup (log ++ e ∷ []) n None
     settled lt (inl silent) = kept-settled setup log e n lt (settles_it log n reply e lt silent names)
-    settled lt (inr void) = kept-left setup log e n None lt (voided log e void.0 n) (subst (IsKept setup log n) void.1 (kept.each n))
+    settled lt (inr void) = kept-left setup log e n None lt (voided log e void.0 n)
+        (subst (IsKept setup log n) void.1 (kept.each n))
 
     own : n < length log → IsKept setup (log ++ e ∷ []) n (kept_at (set ps n None) n)
-    own lt = subst (λ (o : Option Pending). IsKept setup (log ++ e ∷ []) n o) (sym (none_left lt)) (settled lt how)
+    own lt = subst (λ (o : Option Pending). IsKept setup (log ++ e ∷ []) n o) (sym (none_left lt))
+        (settled lt how)
 
 -- ---- what goes on is not void, and reports the end of a run once
 
-end_loud : (s : Core) (root : ℕ) (json : Bool) (at : ℕ) (t : Ticket) (r : Result AssignJobResult CallFault) → is_void (assignment_end s root json at t r).word ≡ false
+end_loud : (s : Core) (root : ℕ) (json : Bool) (at : ℕ) (t : Ticket) (r : Result AssignJobResult CallFault)
+    → is_void (assignment_end s root json at t r).word ≡ false
 end_loud s root json at t (Ok a) = refl
 end_loud s root json at t (Err f) = refl
 
-ready_loud : (s : ServerNow) (root : ℕ) (json : Bool) (job : JobId) (archive : List ℕ) (r : Result UpdateJobStateResult CallFault) → is_void (ready_end s root json job archive r).word ≡ false
+ready_loud : (s : ServerNow) (root : ℕ) (json : Bool) (job : JobId) (archive : List ℕ)
+    (r : Result UpdateJobStateResult CallFault) → is_void (ready_end s root json job archive r).word ≡ false
 ready_loud s root json job archive (Ok u) = refl
 ready_loud s root json job archive (Err f) = refl
 
-started_loud : (setup : Setup) (s : ServerNow) (root : ℕ) (job : JobId) (run : RunJobHttpRequest) (inputs : List ℕ) (r : Result UpdateJobStateResult CallFault) → is_void (started_end setup s root job run inputs r).word ≡ false
+started_loud : (setup : Setup) (s : ServerNow) (root : ℕ) (job : JobId) (run : RunJobHttpRequest)
+    (inputs : List ℕ) (r : Result UpdateJobStateResult CallFault)
+    → is_void (started_end setup s root job run inputs r).word ≡ false
 started_loud setup s root job run inputs (Ok u) = refl
 started_loud setup s root job run inputs (Err f) = refl
 
-complete_loud : (addr : Addr) (root : ℕ) (json : Bool) (job : JobId) (outcome : Outcome) (r : Result UpdateJobStateResult CallFault) → is_void (complete_end addr root json job outcome r).word ≡ false
+complete_loud : (addr : Addr) (root : ℕ) (json : Bool) (job : JobId) (outcome : Outcome)
+    (r : Result UpdateJobStateResult CallFault) → is_void (complete_end addr root json job outcome r).word
+    ≡ false
 complete_loud addr root json job outcome (Ok u) = refl
 complete_loud addr root json job outcome (Err f) = refl
 
-reports_loud : (setup : Setup) (s : ServerNow) (bytes : List ℕ) (root : ℕ) (json : Bool) (reply : Option (List ℕ)) (t : Told) (x : Effect) → Reports setup s bytes root json reply t x → is_void x.word ≡ false
-reports_loud setup s bytes root json reply (told.Ready job at) x is = ap (λ (y : Effect). is_void y.word) is.2 ∙ ready_loud s root json job (drop at bytes) is.0
-reports_loud setup s bytes root json reply (told.Started job run at) x is = ap (λ (y : Effect). is_void y.word) is.2 ∙ started_loud setup s root job run (drop at bytes) is.0
-reports_loud setup s bytes root json reply (told.Complete job outcome) x is = ap (λ (y : Effect). is_void y.word) is.2 ∙ complete_loud s.setup.addr root json job outcome is.0
+reports_loud : (setup : Setup) (s : ServerNow) (bytes : List ℕ) (root : ℕ) (json : Bool)
+    (reply : Option (List ℕ)) (t : Told) (x : Effect) → Reports setup s bytes root json reply t x
+    → is_void x.word ≡ false
+reports_loud setup s bytes root json reply (told.Ready job at) x is = ap (λ (y : Effect). is_void y.word) is.2
+    ∙ ready_loud s root json job (drop at bytes) is.0
+reports_loud setup s bytes root json reply (told.Started job run at) x is =
+    ap (λ (y : Effect). is_void y.word) is.2 ∙ started_loud setup s root job run (drop at bytes) is.0
+reports_loud setup s bytes root json reply (told.Complete job outcome) x is =
+    ap (λ (y : Effect). is_void y.word) is.2 ∙ complete_loud s.setup.addr root json job outcome is.0
 reports_loud setup s bytes root json reply told.Heartbeat x is = ap (λ (y : Effect). is_void y.word) is.2
 
-lives_loud : (setup : Setup) (life : ℕ) (s : ServerNow) (bytes : List ℕ) (root : ℕ) (json : Bool) (reply : Option (List ℕ)) (t : Told) (over : Bool) (x : Effect) → Lives setup life s bytes root json reply t over x → is_void x.word ≡ false
+lives_loud : (setup : Setup) (life : ℕ) (s : ServerNow) (bytes : List ℕ) (root : ℕ) (json : Bool)
+    (reply : Option (List ℕ)) (t : Told) (over : Bool) (x : Effect)
+    → Lives setup life s bytes root json reply t over x → is_void x.word ≡ false
 lives_loud setup life s bytes root json reply t true x is = ap (λ (y : Effect). is_void y.word) is
 lives_loud setup life s bytes root json reply t false x is = reports_loud setup s bytes root json reply t x is
 
-report_loud : (setup : Setup) (life : ℕ) (bytes : List ℕ) (root : ℕ) (json : Bool) (reply : Option (List ℕ)) (t : Told) (o : Option ServerNow) (x : Effect) → ReportsIn setup life bytes root json reply t o x → is_void x.word ≡ false
+report_loud : (setup : Setup) (life : ℕ) (bytes : List ℕ) (root : ℕ) (json : Bool) (reply : Option (List ℕ))
+    (t : Told) (o : Option ServerNow) (x : Effect) → ReportsIn setup life bytes root json reply t o x
+    → is_void x.word ≡ false
 report_loud setup life bytes root json reply t None x is = ap (λ (y : Effect). is_void y.word) is
-report_loud setup life bytes root json reply t (Some s) x is = lives_loud setup life s bytes root json reply t (is_over life s) x is
+report_loud setup life bytes root json reply t (Some s) x is = lives_loud setup life s bytes root json reply t
+    (is_over life s) x is
 
-pub goes_loud : (setup : Setup) (log : List Entry) (at root : ℕ) (json : Bool) (reply : Option (List ℕ)) (ask : Ask) (x : Effect) → GoesOn setup log at root json reply ask x → is_void x.word ≡ false
-goes_loud setup log at root json reply (Assign t) x is = ap (λ (y : Effect). is_void y.word) is.2 ∙ end_loud (core_of setup log) root json at t is.0
-goes_loud setup log at root json reply (Report server life t) x is = report_loud setup life (brought_at log root) root json reply t (server_now setup log server) x is
+pub goes_loud : (setup : Setup) (log : List Entry) (at root : ℕ) (json : Bool) (reply : Option (List ℕ))
+    (ask : Ask) (x : Effect) → GoesOn setup log at root json reply ask x → is_void x.word ≡ false
+goes_loud setup log at root json reply (Assign t) x is = ap (λ (y : Effect). is_void y.word) is.2
+    ∙ end_loud (core_of setup log) root json at t is.0
+goes_loud setup log at root json reply (Report server life t) x is =
+    report_loud setup life (brought_at log root) root json reply t (server_now setup log server) x is
 
 -- no report of a run's end follows on one
-no_second : (addr : Addr) (root : ℕ) (json : Bool) (job : JobId) (outcome : Outcome) (r : Result UpdateJobStateResult CallFault) (n : ℕ) (j : Bool) (a : Addr) (life : ℕ) → completion_at n j a life (complete_end addr root json job outcome r).step ≡ None
+no_second : (addr : Addr) (root : ℕ) (json : Bool) (job : JobId) (outcome : Outcome)
+    (r : Result UpdateJobStateResult CallFault) (n : ℕ) (j : Bool) (a : Addr) (life : ℕ)
+    → completion_at n j a life (complete_end addr root json job outcome r).step ≡ None
 no_second addr root json job outcome (Ok u) n j a life = refl
 no_second addr root json job outcome (Err f) n j a life = refl
 
-lives_second : (setup : Setup) (life : ℕ) (s : ServerNow) (bytes : List ℕ) (root : ℕ) (json : Bool) (reply : Option (List ℕ)) (job : JobId) (outcome : Outcome) (over : Bool) (x : Effect) (n : ℕ) (j : Bool) (a : Addr) (l : ℕ)
-    → Lives setup life s bytes root json reply (told.Complete job outcome) over x → completion_at n j a l x.step ≡ None
-lives_second setup life s bytes root json reply job outcome true x n j a l is = ap (λ (y : Effect). completion_at n j a l y.step) is
-lives_second setup life s bytes root json reply job outcome false x n j a l is = ap (λ (y : Effect). completion_at n j a l y.step) is.2 ∙ no_second s.setup.addr root json job outcome is.0 n j a l
+lives_second : (setup : Setup) (life : ℕ) (s : ServerNow) (bytes : List ℕ) (root : ℕ) (json : Bool)
+    (reply : Option (List ℕ)) (job : JobId) (outcome : Outcome) (over : Bool) (x : Effect) (n : ℕ) (j : Bool)
+    (a : Addr) (l : ℕ)
+    → Lives setup life s bytes root json reply (told.Complete job outcome) over x
+    → completion_at n j a l x.step ≡ None
+lives_second setup life s bytes root json reply job outcome true x n j a l is =
+    ap (λ (y : Effect). completion_at n j a l y.step) is
+lives_second setup life s bytes root json reply job outcome false x n j a l is =
+    ap (λ (y : Effect). completion_at n j a l y.step) is.2
+    ∙ no_second s.setup.addr root json job outcome is.0 n j a l
 
-report_second : (setup : Setup) (life : ℕ) (bytes : List ℕ) (root : ℕ) (json : Bool) (reply : Option (List ℕ)) (job : JobId) (outcome : Outcome) (o : Option ServerNow) (x : Effect) (n : ℕ) (j : Bool) (a : Addr) (l : ℕ)
-    → ReportsIn setup life bytes root json reply (told.Complete job outcome) o x → completion_at n j a l x.step ≡ None
-report_second setup life bytes root json reply job outcome None x n j a l is = ap (λ (y : Effect). completion_at n j a l y.step) is
-report_second setup life bytes root json reply job outcome (Some s) x n j a l is = lives_second setup life s bytes root json reply job outcome (is_over life s) x n j a l is
+report_second : (setup : Setup) (life : ℕ) (bytes : List ℕ) (root : ℕ) (json : Bool) (reply : Option (List ℕ))
+    (job : JobId) (outcome : Outcome) (o : Option ServerNow) (x : Effect) (n : ℕ) (j : Bool) (a : Addr)
+    (l : ℕ)
+    → ReportsIn setup life bytes root json reply (told.Complete job outcome) o x
+    → completion_at n j a l x.step ≡ None
+report_second setup life bytes root json reply job outcome None x n j a l is =
+    ap (λ (y : Effect). completion_at n j a l y.step) is
+report_second setup life bytes root json reply job outcome (Some s) x n j a l is =
+    lives_second setup life s bytes root json reply job outcome (is_over life s) x n j a l is
 
 -- what a completion asks
 record Completes (p : Pending) : Type 0 where
@@ -255,9 +329,16 @@ record Completes (p : Pending) : Type 0 where
   outcome : Outcome
   asks : p.ask ≡ Report addr life (told.Complete job outcome)
 
-completes_by : (root : ℕ) (json : Bool) (addr : Addr) (life : ℕ) (k : StepKind) (p : Pending) → completion_by root json addr life k ≡ Some p → Completes p
+completes_by : (root : ℕ) (json : Bool) (addr : Addr) (life : ℕ) (k : StepKind) (p : Pending)
+    → completion_by root json addr life k ≡ Some p → Completes p
 completes_by root json addr life (kinds.Ran job ran result) p e =
-    record { addr = addr; life = life; job = job; outcome = outcome_of ran result; asks = sym (ap (λ (q : Pending). q.ask) (same_Some _ p e)) }
+    record {
+      addr = addr;
+      life = life;
+      job = job;
+      outcome = outcome_of ran result;
+      asks = sym (ap (λ (q : Pending). q.ask) (same_Some _ p e));
+    }
 completes_by root json addr life (kinds.Heard as_what) p e = absurd cc
 completes_by root json addr life (kinds.Assigned job tc ready) p e = absurd cc
 completes_by root json addr life (kinds.Submitted job outcome) p e = absurd cc
@@ -265,48 +346,73 @@ completes_by root json addr life (kinds.Finished job) p e = absurd cc
 completes_by root json addr life (kinds.Unreported job) p e = absurd cc
 completes_by root json addr life (kinds.Opened archives) p e = absurd cc
 
-completes : (q : Pending) (ask : Ask) (step : Option Step) (p : Pending) → completion_of q ask step ≡ Some p → Completes p
+completes : (q : Pending) (ask : Ask) (step : Option Step) (p : Pending) → completion_of q ask step ≡ Some p
+    → Completes p
 completes q (Assign u) step p e = absurd cc
 completes q (Report addr life t) None p e = absurd cc
 completes q (Report addr life t) (Some step) p e = completes_by q.root q.json addr life step.kind p e
 
 -- a call whose settlement tells a run's end is no such report itself
-none_after : (setup : Setup) (log : List Entry) (at root : ℕ) (json : Bool) (reply : Option (List ℕ)) (q first : Pending) (ask : Ask) (x : Effect) (p : Pending)
-    → Completes first → first.ask ≡ ask → GoesOn setup log at root json reply ask x → completion_of first ask x.step ≡ Some p → ⊥
+none_after : (setup : Setup) (log : List Entry) (at root : ℕ) (json : Bool) (reply : Option (List ℕ))
+    (q first : Pending) (ask : Ask) (x : Effect) (p : Pending)
+    → Completes first → first.ask ≡ ask → GoesOn setup log at root json reply ask x
+    → completion_of first ask x.step ≡ Some p → ⊥
 none_after setup log at root json reply q first (Assign t) x p c asks goes e = cc
 none_after setup log at root json reply q first (Report server life t) x p c asks goes e =
-    let same : Report c.addr c.life (told.Complete c.job c.outcome) ≡ Report server life t = sym c.asks ∙ asks in
+    let same : Report c.addr c.life (told.Complete c.job c.outcome) ≡ Report server life t = sym c.asks ∙ asks
+    in
     let kind : told.Complete c.job c.outcome ≡ t = cc in
-    let ended : ReportsIn setup life (brought_at log root) root json reply (told.Complete c.job c.outcome) (server_now setup log server) x =
-    subst (λ (k : Told). ReportsIn setup life (brought_at log root) root json reply k (server_now setup log server) x) (sym kind) goes in
-    let none = report_second setup life (brought_at log root) root json reply c.job c.outcome (server_now setup log server) x first.root first.json server life ended in
+    let ended : ReportsIn setup life (brought_at log root) root json reply (told.Complete c.job c.outcome)
+    (server_now setup log server) x =
+    subst (λ (k : Told). ReportsIn setup life (brought_at log root) root json reply k
+    (server_now setup log server) x) (sym kind) goes in
+    let none = report_second setup life (brought_at log root) root json reply c.job c.outcome
+    (server_now setup log server) x first.root first.json server life ended in
     let two : None ≡ Some p = sym none ∙ e in
     cc
 
-first_way : (setup : Setup) (log : List Entry) (n : ℕ) (entry : Entry) (way : Way) (first : Pending) → (Completes first → ⊥) → length (take n log) ≡ n → IsMadeBy setup (take n log) way (effect_of entry) first
+first_way : (setup : Setup) (log : List Entry) (n : ℕ) (entry : Entry) (way : Way) (first : Pending)
+    → (Completes first → ⊥) → length (take n log) ≡ n → IsMadeBy setup (take n log) way
+    (effect_of entry) first
     → IsBegunBy setup (core_log (take n log)) n way (effect_of entry) first
-first_way setup log n entry (to_call m r) first not_it size made = absurd (not_it (completes made.first made.first.ask entry.step first made.is))
-first_way setup log n entry (to_scheduler peer bytes) first not_it size made = subst (λ (k : ℕ). IsBegunBy setup (core_log (take n log)) k (to_scheduler peer bytes) (effect_of entry) first) size made
-first_way setup log n entry (to_server s bytes) first not_it size made = subst (λ (k : ℕ). IsBegunBy setup (core_log (take n log)) k (to_server s bytes) (effect_of entry) first) size made
-first_way setup log n entry (to_beat s) first not_it size made = subst (λ (k : ℕ). IsBegunBy setup (core_log (take n log)) k (to_beat s) (effect_of entry) first) size made
+first_way setup log n entry (to_call m r) first not_it size made =
+    absurd (not_it (completes made.first made.first.ask entry.step first made.is))
+first_way setup log n entry (to_scheduler peer bytes) first not_it size made =
+    subst (λ (k : ℕ). IsBegunBy setup (core_log (take n log)) k (to_scheduler peer bytes)
+    (effect_of entry) first) size made
+first_way setup log n entry (to_server s bytes) first not_it size made =
+    subst (λ (k : ℕ). IsBegunBy setup (core_log (take n log)) k (to_server s bytes) (effect_of entry) first)
+    size made
+first_way setup log n entry (to_beat s) first not_it size made =
+    subst (λ (k : ℕ). IsBegunBy setup (core_log (take n log)) k (to_beat s) (effect_of entry) first) size made
 first_way setup log n entry to_nothing first not_it size made = absurd made
 first_way setup log n entry to_nobody first not_it size made = absurd made
 first_way setup log n entry (to_restart s key nonce) first not_it size made = absurd made
 
-first_call : (setup : Setup) (log : List Entry) (n : ℕ) (first : Pending) → (Completes first → ⊥) → IsCallOf setup log n first → IsFirstCall setup log n first
+first_call : (setup : Setup) (log : List Entry) (n : ℕ) (first : Pending) → (Completes first → ⊥)
+    → IsCallOf setup log n first → IsFirstCall setup log n first
 first_call setup log n first not_it is =
     let within : n < length log = slice_get_within log n is.entry is.there in
     let size : length (take n log) ≡ n = omega (arith, length-take n log, within) in
-    record { entry = is.entry; there = is.there; begun = first_way setup log n is.entry (way_of setup (take n log) is.entry.event.kind) first not_it size is.made }
+    record {
+      entry = is.entry;
+      there = is.there;
+      begun = first_way setup log n is.entry
+          (way_of setup (take n log) is.entry.event.kind) first not_it size is.made;
+    }
 
 -- what is kept of the call that a settlement makes
-settled_kept : (setup : Setup) (log : List Entry) (at n : ℕ) (reply : Option (List ℕ)) (first : Pending) (x : Effect) (o : Option Pending) → IsCallOf setup log n first → Follows setup log at reply (Some first) x
-    → Keeps (λ p. completion_of first first.ask x.step ≡ Some p) x o → Keeps (IsMadeBy setup log (to_call n reply) x) x o
+settled_kept : (setup : Setup) (log : List Entry) (at n : ℕ) (reply : Option (List ℕ)) (first : Pending)
+    (x : Effect) (o : Option Pending) → IsCallOf setup log n first → Follows setup log at reply (Some first) x
+    → Keeps (λ p. completion_of first first.ask x.step ≡ Some p) x o
+    → Keeps (IsMadeBy setup log (to_call n reply) x) x o
 settled_kept setup log at n reply first x None call goes is = is
 settled_kept setup log at n reply first x (Some p) call goes is = (
   record {
     first = first;
-    call = first_call setup log n first (λ c. none_after setup log at first.root first.json reply first first first.ask x p c refl goes is.0) call;
+    call = first_call setup log n first
+        (λ c. none_after setup log at first.root first.json reply first first first.ask x p c refl goes is.0)
+        call;
     is = is.0;
   },
   is.1,
@@ -314,42 +420,59 @@ settled_kept setup log at n reply first x (Some p) call goes is = (
 )
 
 -- what follows where that is kept of the call
-pub settled_by : (setup : Setup) (s : Core) (log : List Entry) (ps : List (Option Pending)) (sts new : List Station) (event : Event) (n at : ℕ) (reply : Option (List ℕ)) (first : Pending) (m : Made)
-    → IsFarm setup s log ps sts → event.at ≡ at → way_of setup log event.kind ≡ to_call n reply → kept_at ps n ≡ Some first → Follows setup log at reply (Some first) m.effect
-    → Keeps (λ p. completion_of first first.ask m.effect.step ≡ Some p) m.effect m.pending → AreStations setup.servers (log ++ entry_of event m.effect ∷ []) new
+pub settled_by : (setup : Setup) (s : Core) (log : List Entry) (ps : List (Option Pending))
+    (sts new : List Station) (event : Event) (n at : ℕ) (reply : Option (List ℕ)) (first : Pending) (m : Made)
+    → IsFarm setup s log ps sts → event.at ≡ at → way_of setup log event.kind ≡ to_call n reply
+    → kept_at ps n ≡ Some first → Follows setup log at reply (Some first) m.effect
+    → Keeps (λ p. completion_of first first.ask m.effect.step ≡ Some p) m.effect m.pending
+    → AreStations setup.servers (log ++ entry_of event m.effect ∷ []) new
     → IsMadeSo setup log event (way_of setup log event.kind) (set ps n None) new m
 settled_by setup s log ps sts new event n at reply first m is moment comes some follows keeps stand =
     let waits : IsWaiting setup log n first = subst (IsKept setup log n) some (is.kept.each n) in
     let names = way_settles setup log event.kind n reply comes in
-    let goes : Follows setup log event.at reply (Some first) m.effect = subst (λ (k : ℕ). Follows setup log k reply (Some first) m.effect) (sym moment) follows in
-    let made : IsMade setup log event.at (to_call n reply) m.effect = subst (λ (o : Option Entry). IsSettled setup log event.at n reply o m.effect) (sym waits.waits) (first, waits.call, goes) in
-    let kept : Keeps (IsMadeBy setup log (to_call n reply) m.effect) m.effect m.pending = settled_kept setup log event.at n reply first m.effect m.pending waits.call goes keeps in
-    let here : Keeps (IsMadeBy setup log (way_of setup log event.kind) m.effect) m.effect m.pending = subst (λ (w : Way). Keeps (IsMadeBy setup log w m.effect) m.effect m.pending) (sym comes) kept in
+    let goes : Follows setup log event.at reply (Some first) m.effect =
+    subst (λ (k : ℕ). Follows setup log k reply (Some first) m.effect) (sym moment) follows in
+    let made : IsMade setup log event.at (to_call n reply) m.effect =
+    subst (λ (o : Option Entry). IsSettled setup log event.at n reply o m.effect) (sym waits.waits)
+    (first, waits.call, goes) in
+    let kept : Keeps (IsMadeBy setup log (to_call n reply) m.effect) m.effect m.pending =
+    settled_kept setup log event.at n reply first m.effect m.pending waits.call goes keeps in
+    let here : Keeps (IsMadeBy setup log (way_of setup log event.kind) m.effect) m.effect m.pending =
+    subst (λ (w : Way). Keeps (IsMadeBy setup log w m.effect) m.effect m.pending) (sym comes) kept in
     record {
       made = subst (λ (w : Way). IsMade setup log event.at w m.effect) (sym comes) made;
-      after = after_settled setup log (entry_of event m.effect) ps n reply is.kept names m.pending (new_kept setup log (entry_of event m.effect) m.pending here)
+      after = after_settled setup log (entry_of event m.effect) ps n reply is.kept names m.pending
+          (new_kept setup log (entry_of event m.effect) m.pending here)
           (inl (goes_loud setup log event.at first.root first.json reply first.ask m.effect goes));
       stations = stand;
     }
 
 -- a call that is not kept does not wait
-pub settled_none : (setup : Setup) (s : Core) (log : List Entry) (ps : List (Option Pending)) (sts : List Station) (event : Event) (n : ℕ) (reply : Option (List ℕ)) (m : Made)
-    → IsFarm setup s log ps sts → way_of setup log event.kind ≡ to_call n reply → kept_at ps n ≡ None → ((a : Addr) → restart_by a event.kind ≡ None) → m ≡ record { effect = word_effect Void; pending = None }
+pub settled_none : (setup : Setup) (s : Core) (log : List Entry) (ps : List (Option Pending))
+    (sts : List Station) (event : Event) (n : ℕ) (reply : Option (List ℕ)) (m : Made)
+    → IsFarm setup s log ps sts → way_of setup log event.kind ≡ to_call n reply → kept_at ps n ≡ None
+    → ((a : Addr) → restart_by a event.kind ≡ None)
+    → m ≡ record { effect = word_effect Void; pending = None }
     → IsMadeSo setup log event (way_of setup log event.kind) (set ps n None) sts m
 settled_none setup s log ps sts event n reply m is comes none still same =
     let x = word_effect Void in
     let waits : waiting_at log n ≡ None = subst (IsKept setup log n) none (is.kept.each n) in
     let names = way_settles setup log event.kind n reply comes in
-    let made : IsMade setup log event.at (to_call n reply) x = subst (λ (o : Option Entry). IsSettled setup log event.at n reply o x) (sym waits) refl in
-    let there : IsMadeSo setup log event (way_of setup log event.kind) (set ps n None) sts (record { effect = x; pending = None }) = record {
+    let made : IsMade setup log event.at (to_call n reply) x =
+    subst (λ (o : Option Entry). IsSettled setup log event.at n reply o x) (sym waits) refl in
+    let there : IsMadeSo setup log event (way_of setup log event.kind) (set ps n None) sts
+    (record { effect = x; pending = None }) = record {
       made = subst (λ (w : Way). IsMade setup log event.at w x) (sym comes) made;
-      after = after_settled setup log (entry_of event x) ps n reply is.kept names None (nothing_new setup log (entry_of event x) refl) (inr (refl, none));
+      after = after_settled setup log (entry_of event x) ps n reply is.kept names None
+          (nothing_new setup log (entry_of event x) refl) (inr (refl, none));
       stations = stations_same setup.servers log sts (entry_of event x) is.stations still refl;
     } in
-    subst (λ (q : Made). IsMadeSo setup log event (way_of setup log event.kind) (set ps n None) sts q) (sym same) there
+    subst (λ (q : Made). IsMadeSo setup log event (way_of setup log event.kind) (set ps n None) sts q)
+    (sym same) there
 
 -- an event that settles a call restarts nothing
-pub settling_still : (setup : Setup) (log : List Entry) (k : EventKind) (n : ℕ) (reply : Option (List ℕ)) → way_of setup log k ≡ to_call n reply → (a : Addr) → restart_by a k ≡ None
+pub settling_still : (setup : Setup) (log : List Entry) (k : EventKind) (n : ℕ) (reply : Option (List ℕ))
+    → way_of setup log k ≡ to_call n reply → (a : Addr) → restart_by a k ≡ None
 settling_still setup log (Request target peer bytes) n reply is a = refl
 settling_still setup log (Deliver c) n reply is a = refl
 settling_still setup log (Fail c) n reply is a = refl
@@ -361,19 +484,25 @@ settling_still setup log (Restart server key nonce) n reply is a =
     absurd cc
 
 -- the reservation of a call that is kept is unspent
-own_by : (setup : Setup) (s : Core) (log : List Entry) (n : ℕ) (p : Pending) (ask : Ask) → s ≡ core_of setup log → IsSound setup log → IsWaiting setup log n p → p.ask ≡ ask → IsOwnBy s.log ask
+own_by : (setup : Setup) (s : Core) (log : List Entry) (n : ℕ) (p : Pending) (ask : Ask)
+    → s ≡ core_of setup log → IsSound setup log → IsWaiting setup log n p → p.ask ≡ ask → IsOwnBy s.log ask
 own_by setup s log n p (Assign t) core_is sound waits asks =
-    ap (λ (c : Core). is_among (unspent c.log) t.number t.job) core_is ∙ sound.own n waits.entry t waits.waits (call_ticket setup log n p t waits.call asks)
+    ap (λ (c : Core). is_among (unspent c.log) t.number t.job) core_is ∙ sound.own n waits.entry t waits.waits
+    (call_ticket setup log n p t waits.call asks)
 own_by setup s log n p (Report server life t) core_is sound waits asks = tt
 
-pub kept_own : (setup : Setup) (s : Core) (log : List Entry) (ps : List (Option Pending)) (sts : List Station) (n : ℕ) (p : Pending) → IsFarm setup s log ps sts → kept_at ps n ≡ Some p → IsOwnBy s.log p.ask
-kept_own setup s log ps sts n p is some = own_by setup s log n p p.ask is.core_is is.sound (subst (IsKept setup log n) some (is.kept.each n)) refl
+pub kept_own : (setup : Setup) (s : Core) (log : List Entry) (ps : List (Option Pending)) (sts : List Station)
+    (n : ℕ) (p : Pending) → IsFarm setup s log ps sts → kept_at ps n ≡ Some p → IsOwnBy s.log p.ask
+kept_own setup s log ps sts n p is some = own_by setup s log n p p.ask is.core_is is.sound
+    (subst (IsKept setup log n) some (is.kept.each n)) refl
 
 -- ---- farms
 
 -- one entry more
-pub farm_next : (setup next : Setup) (s new : Core) (log : List Entry) (ps left : List (Option Pending)) (sts after : List Station) (event : Event) (m : Made)
-    → IsFarm setup s log ps sts → IsMadeSo setup log event (way_of setup log event.kind) left after m → next ≡ setup → new ≡ with_core s m.effect.core
+pub farm_next : (setup next : Setup) (s new : Core) (log : List Entry) (ps left : List (Option Pending))
+    (sts after : List Station) (event : Event) (m : Made)
+    → IsFarm setup s log ps sts → IsMadeSo setup log event (way_of setup log event.kind) left after m
+    → next ≡ setup → new ≡ with_core s m.effect.core
     → IsFarm next new (log ++ entry_of event m.effect ∷ []) (left ++ m.pending ∷ []) after
 farm_next setup next s new log ps left sts after event m is made same core-is =
     let e : Entry = entry_of event m.effect in

@@ -1,5 +1,7 @@
 -- Which requests get the reply that their row names, and what a restart keeps.
-use Rattle.std.proofs.Common.{◌≡◌, ◌⊎◌, inl, inr, ℕ, suc, ◌+◌, ◌<◌, not, Bool, true, false, cond, List, [], length, map, take, drop, Option, Some, None, Ok, refl, ap, ◌∙◌, sym, subst, arith}
+use Rattle.std.proofs.Common.{◌≡◌, ◌⊎◌, inl, inr, ℕ, suc, ◌+◌, ◌<◌, not, Bool, true, false, cond, List, []}
+use Rattle.std.proofs.Common.{length, map, take, drop, Option, Some, None, Ok, refl, ap, ◌∙◌, sym, subst}
+use Rattle.std.proofs.Common.{arith}
 use Rattle.std.specs.Prelude.{slice_get}
 use Rattle.std.specs.Option.{option_map}
 use Rattle.std.proofs.lemmas.Bool.{eq-eqb}
@@ -25,7 +27,8 @@ use Rattle.build_server.specs.declared.run.Outcome.{Outcome}
 use Rattle.build_server.specs.declared.run.Outcome.TheVariants as outcome
 use Rattle.farm_script.specs.declared.event.Event.{Event}
 use Rattle.farm_script.specs.declared.event.EventKind.{EventKind}
-use Rattle.farm_script.specs.declared.event.EventKind.TheVariants.{Request, Deliver, Fail, Return, Answer, Beat, Restart}
+use Rattle.farm_script.specs.declared.event.EventKind.TheVariants.{Request, Deliver, Fail, Return, Answer}
+use Rattle.farm_script.specs.declared.event.EventKind.TheVariants.{Beat, Restart}
 use Rattle.farm_script.specs.declared.setup.Setup.{Setup}
 use Rattle.farm_script.specs.declared.setup.SetupServer.{SetupServer}
 use Rattle.farm_run.specs.declared.entry.Effect.{Effect}
@@ -37,17 +40,24 @@ use Rattle.farm_run.specs.declared.pending.Ask.TheVariants.{Assign, Report}
 use Rattle.farm_run.specs.declared.pending.Pending.{Pending}
 use Rattle.farm_run.specs.declared.pending.Told.{Told}
 use Rattle.farm_run.specs.declared.pending.Told.TheVariants as told
-use Rattle.farm_run.specs.Begun.{IsBegunBy, IsFirstCall, IsMadeBy, IsCallOf, outcome_of, completion_at, completion_of}
+use Rattle.farm_run.specs.Begun.{IsBegunBy, IsFirstCall, IsMadeBy, IsCallOf, outcome_of, completion_at}
+use Rattle.farm_run.specs.Begun.{completion_of}
 use Rattle.farm_run.specs.Builds.{SettlesCall}
 use Rattle.farm_run.specs.Calls.{call_at, delivery_at, settles_by, is_void, waiting_at}
 use Rattle.farm_run.specs.Effects.{effect_of, entry_of}
 use Rattle.farm_run.specs.Next.{GoesOn, IsSettled, IsMade, IsNext, EachNext, IsRun}
-use Rattle.farm_run.specs.Reliable.{IsReserved, AsksAt, IsGranted, EndsBy, AllocationsEnd, SubmissionsEnd, IsRunBy, RestartsKeep, IsReliable}
+use Rattle.farm_run.specs.Reliable.{IsReserved, AsksAt, IsGranted, EndsBy, AllocationsEnd, SubmissionsEnd}
+use Rattle.farm_run.specs.Reliable.{IsRunBy, RestartsKeep, IsReliable}
 use Rattle.farm_run.specs.Seen.{core_log, core_of}
-use Rattle.farm_run.specs.Served.{AsksServer, IsReport, report_of, told_of, books_of, run_outcome, restart_effect}
-use Rattle.farm_run.specs.Servers.{ServerNow, restart_by, restarted, kind_after, stepped, server_after, server_of, server_now}
-use Rattle.farm_run.specs.Settled.{assignment_end, ready_end, started_end, complete_end, ended_response, running, Reports, Lives, ReportsIn}
-use Rattle.farm_run.specs.Ways.{Way, server_way, delivery_way, caller_of, is_inside, restart_way, way_of, brought_by, brought_of, brought_at, bytes_of, to_nothing, to_scheduler, to_server, to_call, to_restart}
+use Rattle.farm_run.specs.Served.{AsksServer, IsReport, report_of, told_of, books_of, run_outcome}
+use Rattle.farm_run.specs.Served.{restart_effect}
+use Rattle.farm_run.specs.Servers.{ServerNow, restart_by, restarted, kind_after, stepped, server_after}
+use Rattle.farm_run.specs.Servers.{server_of, server_now}
+use Rattle.farm_run.specs.Settled.{assignment_end, ready_end, started_end, complete_end, ended_response}
+use Rattle.farm_run.specs.Settled.{running, Reports, Lives, ReportsIn}
+use Rattle.farm_run.specs.Ways.{Way, server_way, delivery_way, caller_of, is_inside, restart_way, way_of}
+use Rattle.farm_run.specs.Ways.{brought_by, brought_of, brought_at, bytes_of, to_nothing, to_scheduler}
+use Rattle.farm_run.specs.Ways.{to_server, to_call, to_restart}
 use Rattle.farm_run.proofs.BuildLemmas.{found_now, call_later, no_return, no_outside, no_beat, no_restart}
 use Rattle.farm_run.proofs.OneLemmas.{one_asked, one_server_asked, one_outcome, one_update}
 use Rattle.farm_run.proofs.RepliedLemmas.{size_at, replied_once}
@@ -57,36 +67,50 @@ use Rattle.farm_run.proofs.TakenLemmas.{take_some}
 
 -- ---- what an entry brings that comes to a server
 
-server_brings : (bytes bs : List ℕ) (o : Option ServerNow) (s : ServerNow) → server_way bs o ≡ to_server s bytes → bs ≡ bytes
+server_brings : (bytes bs : List ℕ) (o : Option ServerNow) (s : ServerNow)
+    → server_way bs o ≡ to_server s bytes → bs ≡ bytes
 server_brings bytes bs None s e = absurd cc
 server_brings bytes bs (Some t) s e = cc
 
-way_brings : (b : Bool) (peer : Addr) (bytes bs : List ℕ) (o : Option ServerNow) (s : ServerNow) → cond b (to_scheduler peer bs) (server_way bs o) ≡ to_server s bytes → bs ≡ bytes
+way_brings : (b : Bool) (peer : Addr) (bytes bs : List ℕ) (o : Option ServerNow) (s : ServerNow)
+    → cond b (to_scheduler peer bs) (server_way bs o) ≡ to_server s bytes → bs ≡ bytes
 way_brings true peer bytes bs o s e = absurd cc
 way_brings false peer bytes bs o s e = server_brings bytes bs o s e
 
-brought_is : (setup : Setup) (entries : List Entry) (n d : ℕ) (k : EventKind) (s : ServerNow) (bytes : List ℕ) → n < d → way_of setup (take n entries) k ≡ to_server s bytes → brought_by (take d entries) k ≡ bytes
-brought_is setup entries n d (Request target peer bs) s bytes lt e = way_brings (same_addr target setup.scheduler.addr) peer bytes bs (server_now setup (take n entries) target) s e
+brought_is : (setup : Setup) (entries : List Entry) (n d : ℕ) (k : EventKind) (s : ServerNow) (bytes : List ℕ)
+    → n < d → way_of setup (take n entries) k ≡ to_server s bytes → brought_by (take d entries) k ≡ bytes
+brought_is setup entries n d (Request target peer bs) s bytes lt e =
+    way_brings (same_addr target setup.scheduler.addr) peer bytes bs
+    (server_now setup (take n entries) target) s e
 brought_is setup entries n d (Deliver c) s bytes lt e = by_call (call_at (take n entries) c) refl e
   where
-    by_call : (o : Option OutCall) → call_at (take n entries) c ≡ o → delivery_way setup (take n entries) (caller_of setup (take n entries) (slice_get (take n entries) c)) o ≡ to_server s bytes
+    by_call : (o : Option OutCall) → call_at (take n entries) c ≡ o → delivery_way setup (take n entries)
+        (caller_of setup (take n entries) (slice_get (take n entries) c)) o ≡ to_server s bytes
         → bytes_of (call_at (take d entries) c) ≡ bytes
     by_call None is h = absurd cc
     by_call (Some oc) is h =
         ap bytes_of (call_later entries c n d oc lt is)
-        ∙ way_brings (same_addr oc.target setup.scheduler.addr) (caller_of setup (take n entries) (slice_get (take n entries) c)) bytes oc.bytes (server_now setup (take n entries) oc.target) s h
+        ∙ way_brings (same_addr oc.target setup.scheduler.addr)
+        (caller_of setup (take n entries) (slice_get (take n entries) c)) bytes oc.bytes
+        (server_now setup (take n entries) oc.target) s h
 brought_is setup entries n d (Fail c) s bytes lt e = absurd cc
-brought_is setup entries n d (Return r) s bytes lt e = absurd (no_return (delivery_at (take n entries) r) s bytes e)
-brought_is setup entries n d (Answer c bs) s bytes lt e = absurd (no_outside (is_inside setup (call_at (take n entries) c)) c bs s bytes e)
-brought_is setup entries n d (Beat server) s bytes lt e = absurd (no_beat (server_now setup (take n entries) server) s bytes e)
-brought_is setup entries n d (Restart server key nonce) s bytes lt e = absurd (no_restart key nonce (server_now setup (take n entries) server) s bytes e)
+brought_is setup entries n d (Return r) s bytes lt e =
+    absurd (no_return (delivery_at (take n entries) r) s bytes e)
+brought_is setup entries n d (Answer c bs) s bytes lt e =
+    absurd (no_outside (is_inside setup (call_at (take n entries) c)) c bs s bytes e)
+brought_is setup entries n d (Beat server) s bytes lt e =
+    absurd (no_beat (server_now setup (take n entries) server) s bytes e)
+brought_is setup entries n d (Restart server key nonce) s bytes lt e =
+    absurd (no_restart key nonce (server_now setup (take n entries) server) s bytes e)
 
 -- ---- what is kept of a server's call
 
-begun_is : (setup : Setup) (core : List CoreEntry) (number : ℕ) (s : ServerNow) (bytes : List ℕ) (x : Effect) (a : ServerAsked) (t : Told) (p : Pending) → AsksServer s bytes a → told_of a.body a.what ≡ Some t
+begun_is : (setup : Setup) (core : List CoreEntry) (number : ℕ) (s : ServerNow) (bytes : List ℕ) (x : Effect)
+    (a : ServerAsked) (t : Told) (p : Pending) → AsksServer s bytes a → told_of a.body a.what ≡ Some t
     → IsBegunBy setup core number (to_server s bytes) x p → p ≡ report_of number a.json s t
 begun_is setup core number s bytes x a t p asks begins (b, asks_b, rep) =
-    let own : IsReport s number a p = subst (λ (c : ServerAsked). IsReport s number c p) (one_server_asked s bytes b a asks_b asks) rep in
+    let own : IsReport s number a p = subst (λ (c : ServerAsked). IsReport s number c p)
+    (one_server_asked s bytes b a asks_b asks) rep in
     own.is ∙ ap (λ (u : Told). report_of number a.json s u) (same_Some own.told t (sym own.begins ∙ begins))
 
 outcome_same : (o : Outcome) → outcome_of (ran_of o) (built_of o) ≡ o
@@ -96,7 +120,9 @@ outcome_same (outcome.Folder tc) = refl
 outcome_same (outcome.Built tc result) = refl
 outcome_same (outcome.Refused tc) = refl
 
-module _ (setup : Setup) (entries : List Entry) (n : ℕ) (server : Addr) (life : ℕ) (bytes : List ℕ) (a : ServerAsked) (q : AsksAt setup entries n server life bytes a) (t : Told) (begins : told_of a.body a.what ≡ Some t) where
+module _ (setup : Setup) (entries : List Entry) (n : ℕ) (server : Addr) (life : ℕ) (bytes : List ℕ)
+    (a : ServerAsked) (q : AsksAt setup entries n server life bytes a) (t : Told)
+    (begins : told_of a.body a.what ≡ Some t) where
   abbrev wanted : Pending
   wanted = record { root = n; json = a.json; ask = Report server life t }
 
@@ -107,36 +133,61 @@ module _ (setup : Setup) (entries : List Entry) (n : ℕ) (server : Addr) (life 
   asked_call k p of_call =
       let g = get_front entries n k of_call.entry of_call.there in
       let same : of_call.entry ≡ q.entry = same_Some of_call.entry q.entry (sym g.1 ∙ q.there) in
-      let front : IsMadeBy setup (take n entries) (way_of setup (take n entries) of_call.entry.event.kind) (effect_of of_call.entry) p =
-      subst (λ (l : List Entry). IsMadeBy setup l (way_of setup l of_call.entry.event.kind) (effect_of of_call.entry) p) (take_take entries n k (omega (arith, g.0))) of_call.made in
-      let own : IsMadeBy setup (take n entries) (way_of setup (take n entries) q.entry.event.kind) (effect_of q.entry) p =
-      subst (λ (e : Entry). IsMadeBy setup (take n entries) (way_of setup (take n entries) e.event.kind) (effect_of e) p) same front in
-      let begun : IsBegunBy setup (core_log (take n entries)) (length (take n entries)) (to_server q.now bytes) (effect_of q.entry) p =
+      let front : IsMadeBy setup (take n entries) (way_of setup (take n entries) of_call.entry.event.kind)
+      (effect_of of_call.entry) p =
+      subst (λ (l : List Entry). IsMadeBy setup l (way_of setup l of_call.entry.event.kind)
+      (effect_of of_call.entry) p) (take_take entries n k (omega (arith, g.0))) of_call.made in
+      let own : IsMadeBy setup (take n entries) (way_of setup (take n entries) q.entry.event.kind)
+      (effect_of q.entry) p =
+      subst (λ (e : Entry). IsMadeBy setup (take n entries) (way_of setup (take n entries) e.event.kind)
+      (effect_of e) p) same front in
+      let begun : IsBegunBy setup (core_log (take n entries)) (length (take n entries))
+      (to_server q.now bytes) (effect_of q.entry) p =
       subst (λ (w : Way). IsMadeBy setup (take n entries) w (effect_of q.entry) p) q.comes own in
-      let numbered : IsBegunBy setup (core_log (take n entries)) n (to_server q.now bytes) (effect_of q.entry) p =
-      subst (λ (m : ℕ). IsBegunBy setup (core_log (take n entries)) m (to_server q.now bytes) (effect_of q.entry) p) (size_at entries n q.entry q.there) begun in
-      wanted_is p (begun_is setup (core_log (take n entries)) n q.now bytes (effect_of q.entry) a t p q.asks begins numbered)
+      let numbered : IsBegunBy setup (core_log (take n entries)) n (to_server q.now bytes)
+      (effect_of q.entry) p =
+      subst (λ (m : ℕ). IsBegunBy setup (core_log (take n entries)) m (to_server q.now bytes)
+      (effect_of q.entry) p) (size_at entries n q.entry q.there) begun in
+      wanted_is p (begun_is setup (core_log (take n entries)) n q.now bytes
+      (effect_of q.entry) a t p q.asks begins numbered)
 
   asked_first : (k : ℕ) (p : Pending) → IsFirstCall setup (take k entries) n p → p ≡ wanted
   asked_first k p first =
       let g = get_front entries n k first.entry first.there in
       let same : first.entry ≡ q.entry = same_Some first.entry q.entry (sym g.1 ∙ q.there) in
-      let front : IsBegunBy setup (core_log (take n entries)) n (way_of setup (take n entries) first.entry.event.kind) (effect_of first.entry) p =
-      subst (λ (l : List Entry). IsBegunBy setup (core_log l) n (way_of setup l first.entry.event.kind) (effect_of first.entry) p) (take_take entries n k (omega (arith, g.0))) first.begun in
-      let own : IsBegunBy setup (core_log (take n entries)) n (way_of setup (take n entries) q.entry.event.kind) (effect_of q.entry) p =
-      subst (λ (e : Entry). IsBegunBy setup (core_log (take n entries)) n (way_of setup (take n entries) e.event.kind) (effect_of e) p) same front in
-      let begun : IsBegunBy setup (core_log (take n entries)) n (to_server q.now bytes) (effect_of q.entry) p =
-      subst (λ (w : Way). IsBegunBy setup (core_log (take n entries)) n w (effect_of q.entry) p) q.comes own in
-      wanted_is p (begun_is setup (core_log (take n entries)) n q.now bytes (effect_of q.entry) a t p q.asks begins begun)
+      let front : IsBegunBy setup (core_log (take n entries)) n
+      (way_of setup (take n entries) first.entry.event.kind) (effect_of first.entry) p =
+      subst (λ (l : List Entry). IsBegunBy setup (core_log l) n (way_of setup l first.entry.event.kind)
+      (effect_of first.entry) p) (take_take entries n k (omega (arith, g.0))) first.begun in
+      let own : IsBegunBy setup (core_log (take n entries)) n
+      (way_of setup (take n entries) q.entry.event.kind) (effect_of q.entry) p =
+      subst (λ (e : Entry). IsBegunBy setup (core_log (take n entries)) n
+      (way_of setup (take n entries) e.event.kind) (effect_of e) p) same front in
+      let begun : IsBegunBy setup (core_log (take n entries)) n (to_server q.now bytes)
+      (effect_of q.entry) p =
+      subst (λ (w : Way). IsBegunBy setup (core_log (take n entries)) n w (effect_of q.entry) p) q.comes own
+      in
+      wanted_is p (begun_is setup (core_log (take n entries)) n q.now bytes
+      (effect_of q.entry) a t p q.asks begins begun)
 
   asked_brought : (k : ℕ) → n < k → brought_at (take k entries) n ≡ bytes
-  asked_brought k lt = ap (brought_of (take k entries)) (get_take entries n k lt ∙ q.there) ∙ brought_is setup entries n k q.entry.event.kind q.now bytes lt q.comes
+  asked_brought k lt = ap (brought_of (take k entries)) (get_take entries n k lt ∙ q.there)
+      ∙ brought_is setup entries n k q.entry.event.kind q.now bytes lt q.comes
 
 -- ---- a restart
 
 restarts_so : (now : ServerNow) (server : Addr) (key : List ℕ) (nonce : ℕ) → now.setup.addr ≡ server
-    → stepped (Some (record { server = now.setup.addr; kind = step.Opened now.archives })) (restarted (restart_by now.setup.addr (Restart server key nonce)) now)
-    ≡ record { setup = now.setup; life = counted now.life; key = key; nonce = nonce; held = []; archives = now.archives; builds = now.builds }
+    → stepped (Some (record { server = now.setup.addr; kind = step.Opened now.archives }))
+    (restarted (restart_by now.setup.addr (Restart server key nonce)) now)
+    ≡ record {
+      setup = now.setup;
+      life = counted now.life;
+      key = key;
+      nonce = nonce;
+      held = [];
+      archives = now.archives;
+      builds = now.builds;
+    }
 restarts_so now server key nonce own =
     let opened : Option Step = Some (record { server = now.setup.addr; kind = step.Opened now.archives }) in
     let here : restart_by now.setup.addr (Restart server key nonce) ≡ Some (key, nonce) =
@@ -147,7 +198,8 @@ restarts_so now server key nonce own =
 
 -- ---- the runs
 
-module _ (setup : Setup) (events : List Event) (entries : List Entry) (each : EachNext setup [] events entries) where
+module _ (setup : Setup) (events : List Event) (entries : List Entry)
+    (each : EachNext setup [] events entries) where
   next : (n : ℕ) (e : Entry) → slice_get entries n ≡ Some e → IsNext setup (take n entries) e.event e
   next n e there = next_at setup [] events entries n e each there
 
@@ -161,49 +213,79 @@ module _ (setup : Setup) (events : List Event) (entries : List Entry) (each : Ea
     of_call : IsCallOf setup (take k entries) n pending
     goes : GoesOn setup (take k entries) e.event.at pending.root pending.json reply pending.ask x
 
-  continued : (n k : ℕ) (s : SettlesCall entries n k) (reply : Option (List ℕ)) → settles_by (take k entries) s.entry.event.kind ≡ Some (n, reply) → Continued n k s.entry reply
+  continued : (n k : ℕ) (s : SettlesCall entries n k) (reply : Option (List ℕ))
+      → settles_by (take k entries) s.entry.event.kind ≡ Some (n, reply) → Continued n k s.entry reply
   continued n k s reply names =
       let t = settlement n (take k entries) (drop (suc k) entries) s.entry s.settles in
       let (x, made, is) = next k s.entry s.there in
       by_way x is made t.silent (way_back setup (take k entries) s.entry.event.kind n reply names)
     where
-      by_wait : (x : Effect) → s.entry ≡ entry_of s.entry.event x → is_void s.entry.word ≡ false → way_of setup (take k entries) s.entry.event.kind ≡ to_call n reply
-          → (o : Option Entry) → IsSettled setup (take k entries) s.entry.event.at n reply o x → Continued n k s.entry reply
+      by_wait : (x : Effect) → s.entry ≡ entry_of s.entry.event x → is_void s.entry.word ≡ false
+          → way_of setup (take k entries) s.entry.event.kind ≡ to_call n reply
+          → (o : Option Entry) → IsSettled setup (take k entries) s.entry.event.at n reply o x
+          → Continued n k s.entry reply
       by_wait x is silent way None h = absurd (void s.entry.event x s.entry is h silent)
       by_wait x is silent way (Some w) h =
-          record { before = (get_front entries n k h.1.entry h.1.there).0; way = way; x = x; is = is; pending = h.0; of_call = h.1; goes = h.2 }
+          record {
+            before = (get_front entries n k h.1.entry h.1.there).0;
+            way = way;
+            x = x;
+            is = is;
+            pending = h.0;
+            of_call = h.1;
+            goes = h.2;
+          }
 
-      by_way : (x : Effect) → s.entry ≡ entry_of s.entry.event x → IsMade setup (take k entries) s.entry.event.at (way_of setup (take k entries) s.entry.event.kind) x → is_void s.entry.word ≡ false
-          → (way_of setup (take k entries) s.entry.event.kind ≡ to_call n reply) ⊎ (way_of setup (take k entries) s.entry.event.kind ≡ to_nothing) → Continued n k s.entry reply
+      by_way : (x : Effect) → s.entry ≡ entry_of s.entry.event x
+          → IsMade setup (take k entries) s.entry.event.at (way_of setup (take k entries) s.entry.event.kind)
+          x → is_void s.entry.word ≡ false
+          → (way_of setup (take k entries) s.entry.event.kind ≡ to_call n reply)
+          ⊎ (way_of setup (take k entries) s.entry.event.kind ≡ to_nothing) → Continued n k s.entry reply
       by_way x is made silent (inl same) =
-          by_wait x is silent same (waiting_at (take k entries) n) (subst (λ (w : Way). IsMade setup (take k entries) s.entry.event.at w x) same made)
-      by_way x is made silent (inr same) = absurd (void s.entry.event x s.entry is (subst (λ (w : Way). IsMade setup (take k entries) s.entry.event.at w x) same made) silent)
+          by_wait x is silent same (waiting_at (take k entries) n)
+          (subst (λ (w : Way). IsMade setup (take k entries) s.entry.event.at w x) same made)
+      by_way x is made silent (inr same) =
+          absurd (void s.entry.event x s.entry is
+          (subst (λ (w : Way). IsMade setup (take k entries) s.entry.event.at w x) same made) silent)
 
   -- ---- an allocation
 
-  reserved_call : (n k : ℕ) (json : Bool) (t : Ticket) (q : IsReserved setup entries n json t) (p : Pending) → IsCallOf setup (take k entries) n p → p ≡ record { root = n; json = json; ask = Assign t }
+  reserved_call : (n k : ℕ) (json : Bool) (t : Ticket) (q : IsReserved setup entries n json t) (p : Pending)
+      → IsCallOf setup (take k entries) n p → p ≡ record { root = n; json = json; ask = Assign t }
   reserved_call n k json t q p of_call =
       let g = get_front entries n k of_call.entry of_call.there in
       let same : of_call.entry ≡ q.entry = same_Some of_call.entry q.entry (sym g.1 ∙ q.there) in
-      let front : IsMadeBy setup (take n entries) (way_of setup (take n entries) of_call.entry.event.kind) (effect_of of_call.entry) p =
-      subst (λ (l : List Entry). IsMadeBy setup l (way_of setup l of_call.entry.event.kind) (effect_of of_call.entry) p) (take_take entries n k (omega (arith, g.0))) of_call.made in
-      let own : IsMadeBy setup (take n entries) (way_of setup (take n entries) q.entry.event.kind) (effect_of q.entry) p =
-      subst (λ (e : Entry). IsMadeBy setup (take n entries) (way_of setup (take n entries) e.event.kind) (effect_of e) p) same front in
-      let begun : IsBegunBy setup (core_log (take n entries)) (length (take n entries)) (to_scheduler q.peer q.bytes) (effect_of q.entry) p =
+      let front : IsMadeBy setup (take n entries) (way_of setup (take n entries) of_call.entry.event.kind)
+      (effect_of of_call.entry) p =
+      subst (λ (l : List Entry). IsMadeBy setup l (way_of setup l of_call.entry.event.kind)
+      (effect_of of_call.entry) p) (take_take entries n k (omega (arith, g.0))) of_call.made in
+      let own : IsMadeBy setup (take n entries) (way_of setup (take n entries) q.entry.event.kind)
+      (effect_of q.entry) p =
+      subst (λ (e : Entry). IsMadeBy setup (take n entries) (way_of setup (take n entries) e.event.kind)
+      (effect_of e) p) same front in
+      let begun : IsBegunBy setup (core_log (take n entries)) (length (take n entries))
+      (to_scheduler q.peer q.bytes) (effect_of q.entry) p =
       subst (λ (w : Way). IsMadeBy setup (take n entries) w (effect_of q.entry) p) q.comes own in
       let wish : Asked = record { what = asked.Alloc q.tc; json = json } in
-      let form : begun.0.json ≡ json = ap (λ (c : Asked). c.json) (one_asked setup q.peer q.bytes begun.0 wish begun.1 q.asks) in
+      let form : begun.0.json ≡ json = ap (λ (c : Asked). c.json)
+      (one_asked setup q.peer q.bytes begun.0 wish begun.1 q.asks) in
       let one : begun.2.ticket ≡ t = same_Some begun.2.ticket t (sym begun.2.reserved ∙ q.reserves) in
-      begun.2.is ∙ (λ i. record { root = size_at entries n q.entry q.there i; json = form i; ask = Assign (one i) })
+      begun.2.is ∙ (λ i. record {
+        root = size_at entries n q.entry q.there i;
+        json = form i;
+        ask = Assign (one i);
+      })
 
   allocations_end : AllocationsEnd setup entries
   allocations_end = λ n k json t bytes a q back is_assigned.
       let e : Entry = back.settles.entry in
       let c = continued n k back.settles (Some bytes) back.names in
       let goes : GoesOn setup (take k entries) e.event.at n json (Some bytes) (Assign t) c.x =
-      subst (λ (p : Pending). GoesOn setup (take k entries) e.event.at p.root p.json (Some bytes) p.ask c.x) (reserved_call n k json t q c.pending c.of_call) c.goes in
+      subst (λ (p : Pending). GoesOn setup (take k entries) e.event.at p.root p.json (Some bytes) p.ask c.x)
+      (reserved_call n k json t q c.pending c.of_call) c.goes in
       let same : c.x ≡ assignment_end (core_of setup (take k entries)) n json e.event.at t (Ok a) =
-      goes.2 ∙ ap (assignment_end (core_of setup (take k entries)) n json e.event.at t) (one_outcome (Some bytes) goes.0 (Ok a) goes.1 is_assigned) in
+      goes.2 ∙ ap (assignment_end (core_of setup (take k entries)) n json e.event.at t)
+      (one_outcome (Some bytes) goes.0 (Ok a) goes.1 is_assigned) in
       record {
         entry = e;
         there = back.settles.there;
@@ -215,18 +297,25 @@ module _ (setup : Setup) (events : List Event) (entries : List Entry) (each : Ea
 
   -- ---- reports that are granted
 
-  module _ (n k : ℕ) (server : Addr) (life : ℕ) (now : ServerNow) (g : IsGranted setup entries n k server life now) where
+  module _ (n k : ℕ) (server : Addr) (life : ℕ) (now : ServerNow)
+      (g : IsGranted setup entries n k server life now) where
     back : Continued n k g.back.settles.entry (Some g.bytes)
     back = continued n k g.back.settles (Some g.bytes) g.back.names
 
-    reported : (root : ℕ) (json : Bool) (t : Told) (c : Continued n k g.back.settles.entry (Some g.bytes)) → c.pending ≡ record { root = root; json = json; ask = Report server life t }
+    reported : (root : ℕ) (json : Bool) (t : Told) (c : Continued n k g.back.settles.entry (Some g.bytes))
+        → c.pending ≡ record { root = root; json = json; ask = Report server life t }
         → Reports setup now (brought_at (take k entries) root) root json (Some g.bytes) t c.x
     reported root json t c same =
         let bs = brought_at (take k entries) root in
-        let goes : ReportsIn setup life bs root json (Some g.bytes) t (server_now setup (take k entries) server) c.x =
-        subst (λ (p : Pending). GoesOn setup (take k entries) g.back.settles.entry.event.at p.root p.json (Some g.bytes) p.ask c.x) same c.goes in
-        let here : ReportsIn setup life bs root json (Some g.bytes) t (Some now) c.x = subst (λ (o : Option ServerNow). ReportsIn setup life bs root json (Some g.bytes) t o c.x) g.at goes in
-        subst (λ (b : Bool). Lives setup life now bs root json (Some g.bytes) t b c.x) (ap not (eq-eqb now.life life g.lives)) here
+        let goes : ReportsIn setup life bs root json (Some g.bytes) t
+        (server_now setup (take k entries) server) c.x =
+        subst (λ (p : Pending). GoesOn setup (take k entries) g.back.settles.entry.event.at p.root p.json
+        (Some g.bytes) p.ask c.x) same c.goes in
+        let here : ReportsIn setup life bs root json (Some g.bytes) t (Some now) c.x =
+        subst (λ (o : Option ServerNow). ReportsIn setup life bs root json (Some g.bytes) t o c.x) g.at
+        goes in
+        subst (λ (b : Bool). Lives setup life now bs root json (Some g.bytes) t b c.x)
+        (ap not (eq-eqb now.life life g.lives)) here
 
     granted_addr : now.setup.addr ≡ server
     granted_addr = (found_now setup (take k entries) server now g.at).own
@@ -235,22 +324,35 @@ module _ (setup : Setup) (events : List Event) (entries : List Entry) (each : Ea
   submissions_end = λ n k server life job json body bytes now q g.
       let a : ServerAsked = record { what = server_asked.Submit job; json = json; body = body } in
       let c = back n k server life now g in
-      let r = reported n k server life now g n json (told.Ready job body) c (asked_call setup entries n server life bytes a q (told.Ready job body) refl k c.pending c.of_call) in
+      let r = reported n k server life now g n json (told.Ready job body) c
+      (asked_call setup entries n server life bytes a q (told.Ready job body) refl k c.pending c.of_call)
+      in
       let same : c.x ≡ ready_end now n json job (drop body bytes) (Ok g.answer) =
-      r.2 ∙ ap (ready_end now n json job (drop body (brought_at (take k entries) n))) (one_update (Some g.bytes) r.0 (Ok g.answer) r.1 g.granted)
-      ∙ ap (λ (bs : List ℕ). ready_end now n json job (drop body bs) (Ok g.answer)) (asked_brought setup entries n server life bytes a q (told.Ready job body) refl k c.before) in
+      r.2 ∙ ap (ready_end now n json job (drop body (brought_at (take k entries) n)))
+      (one_update (Some g.bytes) r.0 (Ok g.answer) r.1 g.granted)
+      ∙ ap (λ (bs : List ℕ). ready_end now n json job (drop body bs) (Ok g.answer))
+      (asked_brought setup entries n server life bytes a q (told.Ready job body) refl k c.before) in
       record {
         entry = g.back.settles.entry;
         there = g.back.settles.there;
         steps = ap (λ (y : Entry). y.step) c.is ∙ ap (λ (z : Effect). z.step) same
-            ∙ ap (λ (addr : Addr). Some (record { server = addr; kind = step.Submitted job (submit_verdict (books_of now) (held_for job now.held) (drop body bytes)) })) (granted_addr n k server life now g);
+            ∙ ap (λ (addr : Addr). Some
+            (record {
+              server = addr;
+              kind = step.Submitted job
+                  (submit_verdict (books_of now) (held_for job now.held) (drop body bytes));
+            }))
+            (granted_addr n k server life now g);
         replies = ap (λ (y : Entry). y.reply) c.is ∙ ap (λ (z : Effect). z.reply) same;
       }
 
   -- ---- a run
 
-  module _ (n j : ℕ) (server : Addr) (life : ℕ) (job : JobId) (run : RunJobHttpRequest) (at : ℕ) (json : Bool) (body : ℕ) (bytes : List ℕ) (now : ServerNow)
-      (q : AsksAt setup entries n server life bytes (record { what = server_asked.Run job run at; json = json; body = body })) (g : IsGranted setup entries n j server life now) where
+  module _ (n j : ℕ) (server : Addr) (life : ℕ) (job : JobId) (run : RunJobHttpRequest) (at : ℕ) (json : Bool)
+      (body : ℕ) (bytes : List ℕ) (now : ServerNow)
+      (q : AsksAt setup entries n server life bytes
+      (record { what = server_asked.Run job run at; json = json; body = body }))
+      (g : IsGranted setup entries n j server life now) where
     abbrev wish : ServerAsked
     wish = record { what = server_asked.Run job run at; json = json; body = body }
 
@@ -265,12 +367,17 @@ module _ (setup : Setup) (events : List Event) (entries : List Entry) (each : Ea
 
     run_is : (c : Continued n j g.back.settles.entry (Some g.bytes)) → c.x ≡ running setup server job went
     run_is c =
-        let r = reported n j server life now g n json start c (asked_call setup entries n server life bytes wish q start refl j c.pending c.of_call) in
-        r.2 ∙ ap (started_end setup now n job run (drop (body + at) (brought_at (take j entries) n))) (one_update (Some g.bytes) r.0 (Ok g.answer) r.1 g.granted)
-        ∙ ap (λ (bs : List ℕ). running setup now.setup.addr job (run_outcome now (held_for job now.held) run.outputs (drop (body + at) bs))) (asked_brought setup entries n server life bytes wish q start refl j c.before)
+        let r = reported n j server life now g n json start c
+        (asked_call setup entries n server life bytes wish q start refl j c.pending c.of_call) in
+        r.2 ∙ ap (started_end setup now n job run (drop (body + at) (brought_at (take j entries) n)))
+        (one_update (Some g.bytes) r.0 (Ok g.answer) r.1 g.granted)
+        ∙ ap (λ (bs : List ℕ). running setup now.setup.addr job
+        (run_outcome now (held_for job now.held) run.outputs (drop (body + at) bs)))
+        (asked_brought setup entries n server life bytes wish q start refl j c.before)
         ∙ ap (λ (addr : Addr). running setup addr job went) (granted_addr n j server life now g)
 
-    ran_step : g.back.settles.entry.step ≡ Some (record { server = server; kind = step.Ran job (ran_of went) (built_of went) })
+    ran_step : g.back.settles.entry.step ≡ Some
+        (record { server = server; kind = step.Ran job (ran_of went) (built_of went) })
     ran_step = ap (λ (y : Entry). y.step) first.is ∙ ap (λ (z : Effect). z.step) (run_is first)
 
     pub run_by : IsRunBy setup entries j server job went
@@ -282,28 +389,45 @@ module _ (setup : Setup) (events : List Event) (entries : List Entry) (each : Ea
     }
 
     -- what is kept of the report of the run's end
-    last_call : (k : ℕ) (p : Pending) → IsCallOf setup (take k entries) j p → p ≡ record { root = n; json = json; ask = Report server life (told.Complete job went) }
+    last_call : (k : ℕ) (p : Pending) → IsCallOf setup (take k entries) j p
+        → p ≡ record { root = n; json = json; ask = Report server life (told.Complete job went) }
     last_call k p of_call =
         let e : Entry = g.back.settles.entry in
         let f = get_front entries j k of_call.entry of_call.there in
         let same : of_call.entry ≡ e = same_Some of_call.entry e (sym f.1 ∙ g.back.settles.there) in
-        let front : IsMadeBy setup (take j entries) (way_of setup (take j entries) of_call.entry.event.kind) (effect_of of_call.entry) p =
-        subst (λ (l : List Entry). IsMadeBy setup l (way_of setup l of_call.entry.event.kind) (effect_of of_call.entry) p) (take_take entries j k (omega (arith, f.0))) of_call.made in
-        let own : IsMadeBy setup (take j entries) (way_of setup (take j entries) e.event.kind) (effect_of e) p =
-        subst (λ (d : Entry). IsMadeBy setup (take j entries) (way_of setup (take j entries) d.event.kind) (effect_of d) p) same front in
-        let made : IsMadeBy setup (take j entries) (to_call n (Some g.bytes)) (effect_of e) p = subst (λ (w : Way). IsMadeBy setup (take j entries) w (effect_of e) p) first.way own in
+        let front : IsMadeBy setup (take j entries) (way_of setup (take j entries) of_call.entry.event.kind)
+        (effect_of of_call.entry) p =
+        subst (λ (l : List Entry). IsMadeBy setup l (way_of setup l of_call.entry.event.kind)
+        (effect_of of_call.entry) p) (take_take entries j k (omega (arith, f.0))) of_call.made in
+        let own : IsMadeBy setup (take j entries) (way_of setup (take j entries) e.event.kind)
+        (effect_of e) p =
+        subst (λ (d : Entry). IsMadeBy setup (take j entries) (way_of setup (take j entries) d.event.kind)
+        (effect_of d) p) same front in
+        let made : IsMadeBy setup (take j entries) (to_call n (Some g.bytes)) (effect_of e) p =
+        subst (λ (w : Way). IsMadeBy setup (take j entries) w (effect_of e) p) first.way own in
         let began = asked_first setup entries n server life bytes wish q start refl j made.first made.call in
-        let told_so : completion_at n json server life e.step ≡ Some p = sym (ap (λ (d : Pending). completion_of d d.ask e.step) began) ∙ made.is in
+        let told_so : completion_at n json server life e.step ≡ Some p =
+        sym (ap (λ (d : Pending). completion_of d d.ask e.step) began) ∙ made.is in
         sym (same_Some _ p (sym (ap (completion_at n json server life) ran_step) ∙ told_so))
-        ∙ ap (λ (o : Outcome). record { root = n; json = json; ask = Report server life (told.Complete job o) }) (outcome_same went)
+        ∙ ap (λ (o : Outcome). record {
+          root = n;
+          json = json;
+          ask = Report server life
+              (told.Complete job o);
+        }) (outcome_same went)
 
-    run_ends : (k : ℕ) (later : ServerNow) → IsGranted setup entries j k server life later → EndsBy entries n k (record { server = server; kind = step.Finished job }) (ended_response json (run_answer went))
+    run_ends : (k : ℕ) (later : ServerNow) → IsGranted setup entries j k server life later
+        → EndsBy entries n k (record { server = server; kind = step.Finished job })
+        (ended_response json (run_answer went))
     run_ends k later h =
         let c = back j k server life later h in
-        let r = reported j k server life later h n json (told.Complete job went) c (last_call k c.pending c.of_call) in
+        let r = reported j k server life later h n json (told.Complete job went) c
+        (last_call k c.pending c.of_call) in
         let same : c.x ≡ complete_end server n json job went (Ok h.answer) =
-        r.2 ∙ ap (complete_end later.setup.addr n json job went) (one_update (Some h.bytes) r.0 (Ok h.answer) r.1 h.granted)
-        ∙ ap (λ (addr : Addr). complete_end addr n json job went (Ok h.answer)) (granted_addr j k server life later h) in
+        r.2 ∙ ap (complete_end later.setup.addr n json job went)
+        (one_update (Some h.bytes) r.0 (Ok h.answer) r.1 h.granted)
+        ∙ ap (λ (addr : Addr). complete_end addr n json job went (Ok h.answer))
+        (granted_addr j k server life later h) in
         record {
           entry = h.back.settles.entry;
           there = h.back.settles.there;
@@ -314,24 +438,42 @@ module _ (setup : Setup) (events : List Event) (entries : List Entry) (each : Ea
   restarts_keep : RestartsKeep setup entries
   restarts_keep = λ k e server key nonce now there is at.
       let (x, made, same) = next k e there in
-      let way : way_of setup (take k entries) e.event.kind ≡ to_restart now key nonce = ap (way_of setup (take k entries)) is ∙ ap (restart_way key nonce) at in
-      let does : x ≡ restart_effect now = subst (λ (w : Way). IsMade setup (take k entries) e.event.at w x) way made in
+      let way : way_of setup (take k entries) e.event.kind ≡ to_restart now key nonce =
+      ap (way_of setup (take k entries)) is ∙ ap (restart_way key nonce) at in
+      let does : x ≡ restart_effect now = subst (λ (w : Way). IsMade setup (take k entries) e.event.at w x)
+      way made in
       let opened : Option Step = Some (record { server = now.setup.addr; kind = step.Opened now.archives }) in
       let steps : e.step ≡ opened = ap (λ (y : Entry). y.step) same ∙ ap (λ (z : Effect). z.step) does in
       let f = found_now setup (take k entries) server now at in
-      let after : server_of f.server (take (suc k) entries) ≡ record { setup = now.setup; life = counted now.life; key = key; nonce = nonce; held = []; archives = now.archives; builds = now.builds } =
-      ap (server_of f.server) (take_some entries k e there) ∙ server-push f.server (take k entries) e ∙ ap (λ (s : ServerNow). server_after s e) f.is
+      let after : server_of f.server (take (suc k) entries) ≡ record {
+        setup = now.setup;
+        life = counted now.life;
+        key = key;
+        nonce = nonce;
+        held = [];
+        archives = now.archives;
+        builds =
+            now.builds;
+      } =
+      ap (server_of f.server) (take_some entries k e there) ∙ server-push f.server (take k entries) e
+      ∙ ap (λ (s : ServerNow). server_after s e) f.is
       ∙ ap (λ (o : Option Step). stepped o (restarted (restart_by now.setup.addr e.event.kind) now)) steps
       ∙ ap (λ (kd : EventKind). stepped opened (restarted (restart_by now.setup.addr kd) now)) is
-      ∙ restarts_so now server key nonce f.own in
-      (steps, ap (option_map (λ (s : SetupServer). server_of s (take (suc k) entries))) f.found ∙ ap (λ (s : ServerNow). Some s) after)
+      ∙ restarts_so now server key nonce f.own in (
+        steps,
+        ap (option_map (λ (s : SetupServer). server_of s (take (suc k) entries))) f.found
+            ∙ ap (λ (s : ServerNow). Some s) after,
+      )
 
   pub is_reliable : IsReliable setup entries
   is_reliable = record {
     replied = replied_once setup events entries each;
     allocations = allocations_end;
     submissions = submissions_end;
-    runs = λ n j server life job run at json body bytes now q g. (run_by n j server life job run at json body bytes now q g, run_ends n j server life job run at json body bytes now q g);
+    runs = λ n j server life job run at json body bytes now q g. (
+      run_by n j server life job run at json body bytes now q g,
+      run_ends n j server life job run at json body bytes now q g,
+    );
     restarts = restarts_keep;
   }
 

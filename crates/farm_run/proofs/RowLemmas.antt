@@ -1,5 +1,6 @@
 -- What the rows of servers make, at the places of the setup.
-use Rattle.std.proofs.Common.{◌≡◌, ℕ, Bool, true, false, cond, List, [], ◌∷◌, ◌++◌, length, drop, set, Option, Some, None, Result, Ok, Err, refl, sym, ap, subst, ◌∙◌}
+use Rattle.std.proofs.Common.{◌≡◌, ℕ, Bool, true, false, cond, List, [], ◌∷◌, ◌++◌, length, drop, set, Option}
+use Rattle.std.proofs.Common.{Some, None, Result, Ok, Err, refl, sym, ap, subst, ◌∙◌}
 use Rattle.std.specs.Prelude.{slice_get, position}
 use Rattle.std.specs.Option.{option_map}
 use Rattle.std.proofs.lemmas.Option.{same_Some}
@@ -44,113 +45,192 @@ use Rattle.farm_run.specs.Answers.{hears, allocated, answer_to, IsAnswered}
 use Rattle.farm_run.specs.Begun.{IsBegunBy, Keeps}
 use Rattle.farm_run.specs.Effects.{word_effect, entry_of}
 use Rattle.farm_run.specs.Farm.{IsFarm, IsReceived, IsMadeSo}
-use Rattle.farm_run.specs.Served.{assigned, served, books_of, IsServerAnswered, beat_effect, restart_effect, report_of}
+use Rattle.farm_run.specs.Served.{assigned, served, books_of, IsServerAnswered, beat_effect, restart_effect}
+use Rattle.farm_run.specs.Served.{report_of}
 use Rattle.farm_run.specs.Servers.{ServerNow, restarted, stepped, server_of, server_at, server_now, is_over}
 use Rattle.farm_run.specs.Settled.{ready_end, started_end, complete_end, Reports, Lives, ReportsIn}
 use Rattle.farm_run.specs.Stations.{now_of, IsWell, AreStations, IsStepAt}
-use Rattle.farm_run.specs.Ways.{Way, way_of, server_way, way_to, beat_way, restart_way, to_nothing, to_nobody, to_scheduler, to_server, to_beat, to_restart}
+use Rattle.farm_run.specs.Ways.{Way, way_of, server_way, way_to, beat_way, restart_way, to_nothing, to_nobody}
+use Rattle.farm_run.specs.Ways.{to_scheduler, to_server, to_beat, to_restart}
 use Rattle.farm_run.specs.Calls.{settles_by}
 use Rattle.farm_run.proofs.MadeLemmas.{received_made, idle_stands}
-use Rattle.farm_run.proofs.ServerLemmas.{IsFound, place_found, place_none, station_there, stations_gone, stations_restarted, IsStepOf, station_now}
+use Rattle.farm_run.proofs.ServerLemmas.{IsFound, place_found, place_none, station_there, stations_gone}
+use Rattle.farm_run.proofs.ServerLemmas.{stations_restarted, IsStepOf, station_now}
 
 -- ---- steps are of the server itself
 
-assigned_of : (addr : Addr) (number : ℕ) (json : Bool) (job : JobId) (tc : List ℕ) (r : Result AssignJobResult ServerFault) → IsStepOf addr (assigned addr number json job tc r).step
+assigned_of : (addr : Addr) (number : ℕ) (json : Bool) (job : JobId) (tc : List ℕ)
+    (r : Result AssignJobResult ServerFault) → IsStepOf addr (assigned addr number json job tc r).step
 assigned_of addr number json job tc (Ok a) = refl
 assigned_of addr number json job tc (Err e) = tt
 
-served_of : (setup : Setup) (s : ServerNow) (number : ℕ) (json : Bool) (what : ServerRouted) → IsStepOf s.setup.addr (served setup s number json what).step
-served_of setup s number json (server_asked.Assign job tc) = assigned_of s.setup.addr number json job tc (assign_verdict (books_of s) job tc)
+served_of : (setup : Setup) (s : ServerNow) (number : ℕ) (json : Bool) (what : ServerRouted)
+    → IsStepOf s.setup.addr (served setup s number json what).step
+served_of setup s number json (server_asked.Assign job tc) = assigned_of s.setup.addr number json job tc
+    (assign_verdict (books_of s) job tc)
 served_of setup s number json (server_asked.Submit job) = tt
 served_of setup s number json (server_asked.Run job run at) = tt
 served_of setup s number json (server_asked.Done response) = tt
 
-pub answered_of : (setup : Setup) (s : ServerNow) (number : ℕ) (bytes : List ℕ) (x : Effect) → IsServerAnswered setup s number bytes x → IsStepOf s.setup.addr x.step
-answered_of setup s number bytes x is = subst (λ (y : Effect). IsStepOf s.setup.addr y.step) (sym is.2) (served_of setup s number is.0.json is.0.what)
+pub answered_of : (setup : Setup) (s : ServerNow) (number : ℕ) (bytes : List ℕ) (x : Effect)
+    → IsServerAnswered setup s number bytes x → IsStepOf s.setup.addr x.step
+answered_of setup s number bytes x is = subst (λ (y : Effect). IsStepOf s.setup.addr y.step) (sym is.2)
+    (served_of setup s number is.0.json is.0.what)
 
-ready_of : (s : ServerNow) (root : ℕ) (json : Bool) (job : JobId) (archive : List ℕ) (r : Result UpdateJobStateResult CallFault) → IsStepOf s.setup.addr (ready_end s root json job archive r).step
+ready_of : (s : ServerNow) (root : ℕ) (json : Bool) (job : JobId) (archive : List ℕ)
+    (r : Result UpdateJobStateResult CallFault)
+    → IsStepOf s.setup.addr (ready_end s root json job archive r).step
 ready_of s root json job archive (Ok u) = refl
 ready_of s root json job archive (Err f) = refl
 
-started_of : (setup : Setup) (s : ServerNow) (root : ℕ) (job : JobId) (run : RunJobHttpRequest) (inputs : List ℕ) (r : Result UpdateJobStateResult CallFault) → IsStepOf s.setup.addr (started_end setup s root job run inputs r).step
+started_of : (setup : Setup) (s : ServerNow) (root : ℕ) (job : JobId) (run : RunJobHttpRequest)
+    (inputs : List ℕ) (r : Result UpdateJobStateResult CallFault)
+    → IsStepOf s.setup.addr (started_end setup s root job run inputs r).step
 started_of setup s root job run inputs (Ok u) = refl
 started_of setup s root job run inputs (Err f) = refl
 
-complete_of : (addr : Addr) (root : ℕ) (json : Bool) (job : JobId) (outcome : Outcome) (r : Result UpdateJobStateResult CallFault) → IsStepOf addr (complete_end addr root json job outcome r).step
+complete_of : (addr : Addr) (root : ℕ) (json : Bool) (job : JobId) (outcome : Outcome)
+    (r : Result UpdateJobStateResult CallFault)
+    → IsStepOf addr (complete_end addr root json job outcome r).step
 complete_of addr root json job outcome (Ok u) = refl
 complete_of addr root json job outcome (Err f) = refl
 
-reports_of : (setup : Setup) (s : ServerNow) (bytes : List ℕ) (root : ℕ) (json : Bool) (reply : Option (List ℕ)) (t : Told) (x : Effect) → Reports setup s bytes root json reply t x → IsStepOf s.setup.addr x.step
-reports_of setup s bytes root json reply (told.Ready job at) x is = subst (λ (y : Effect). IsStepOf s.setup.addr y.step) (sym is.2) (ready_of s root json job (drop at bytes) is.0)
-reports_of setup s bytes root json reply (told.Started job run at) x is = subst (λ (y : Effect). IsStepOf s.setup.addr y.step) (sym is.2) (started_of setup s root job run (drop at bytes) is.0)
-reports_of setup s bytes root json reply (told.Complete job outcome) x is = subst (λ (y : Effect). IsStepOf s.setup.addr y.step) (sym is.2) (complete_of s.setup.addr root json job outcome is.0)
-reports_of setup s bytes root json reply told.Heartbeat x is = subst (λ (y : Effect). IsStepOf s.setup.addr y.step) (sym is.2) refl
+reports_of : (setup : Setup) (s : ServerNow) (bytes : List ℕ) (root : ℕ) (json : Bool)
+    (reply : Option (List ℕ)) (t : Told) (x : Effect) → Reports setup s bytes root json reply t x
+    → IsStepOf s.setup.addr x.step
+reports_of setup s bytes root json reply (told.Ready job at) x is =
+    subst (λ (y : Effect). IsStepOf s.setup.addr y.step) (sym is.2)
+    (ready_of s root json job (drop at bytes) is.0)
+reports_of setup s bytes root json reply (told.Started job run at) x is =
+    subst (λ (y : Effect). IsStepOf s.setup.addr y.step) (sym is.2)
+    (started_of setup s root job run (drop at bytes) is.0)
+reports_of setup s bytes root json reply (told.Complete job outcome) x is =
+    subst (λ (y : Effect). IsStepOf s.setup.addr y.step) (sym is.2)
+    (complete_of s.setup.addr root json job outcome is.0)
+reports_of setup s bytes root json reply told.Heartbeat x is =
+    subst (λ (y : Effect). IsStepOf s.setup.addr y.step) (sym is.2) refl
 
-lives_of : (setup : Setup) (life : ℕ) (s : ServerNow) (bytes : List ℕ) (root : ℕ) (json : Bool) (reply : Option (List ℕ)) (t : Told) (over : Bool) (x : Effect) → Lives setup life s bytes root json reply t over x → IsStepOf s.setup.addr x.step
-lives_of setup life s bytes root json reply t true x is = subst (λ (y : Effect). IsStepOf s.setup.addr y.step) (sym is) tt
+lives_of : (setup : Setup) (life : ℕ) (s : ServerNow) (bytes : List ℕ) (root : ℕ) (json : Bool)
+    (reply : Option (List ℕ)) (t : Told) (over : Bool) (x : Effect)
+    → Lives setup life s bytes root json reply t over x → IsStepOf s.setup.addr x.step
+lives_of setup life s bytes root json reply t true x is = subst (λ (y : Effect). IsStepOf s.setup.addr y.step)
+    (sym is) tt
 lives_of setup life s bytes root json reply t false x is = reports_of setup s bytes root json reply t x is
 
-pub report_step : (setup : Setup) (life : ℕ) (s : ServerNow) (bytes : List ℕ) (root : ℕ) (json : Bool) (reply : Option (List ℕ)) (t : Told) (x : Effect) → ReportsIn setup life bytes root json reply t (Some s) x → IsStepOf s.setup.addr x.step
-report_step setup life s bytes root json reply t x is = lives_of setup life s bytes root json reply t (is_over life s) x is
+pub report_step : (setup : Setup) (life : ℕ) (s : ServerNow) (bytes : List ℕ) (root : ℕ) (json : Bool)
+    (reply : Option (List ℕ)) (t : Told) (x : Effect) → ReportsIn setup life bytes root json reply t
+    (Some s) x → IsStepOf s.setup.addr x.step
+report_step setup life s bytes root json reply t x is = lives_of setup life s bytes root json reply t
+    (is_over life s) x is
 
 -- ---- what is received
 
-way_there : (setup : Setup) (log : List Entry) (target peer : Addr) (bytes : List ℕ) (o : Option ServerNow) → same_addr target setup.scheduler.addr ≡ false → server_now setup log target ≡ o → way_to setup log target peer bytes ≡ server_way bytes o
-way_there setup log target peer bytes o off there = ap (λ (b : Bool). cond b (to_scheduler peer bytes) (server_way bytes (server_now setup log target))) off ∙ ap (server_way bytes) there
+way_there : (setup : Setup) (log : List Entry) (target peer : Addr) (bytes : List ℕ) (o : Option ServerNow)
+    → same_addr target setup.scheduler.addr ≡ false → server_now setup log target ≡ o
+    → way_to setup log target peer bytes ≡ server_way bytes o
+way_there setup log target peer bytes o off there =
+    ap (λ (b : Bool). cond b (to_scheduler peer bytes) (server_way bytes (server_now setup log target))) off
+    ∙ ap (server_way bytes) there
 
-pub scheduler_received : (setup : Setup) (s : Core) (log : List Entry) (number at : ℕ) (target peer : Addr) (bytes : List ℕ) (m : Made) → same_addr target setup.scheduler.addr ≡ true → IsAnswered setup s number at peer bytes m.effect
-    → Keeps (IsBegunBy setup s.log number (to_scheduler peer bytes) m.effect) m.effect m.pending → IsReceived setup s number at (way_to setup log target peer bytes) m
+pub scheduler_received : (setup : Setup) (s : Core) (log : List Entry) (number at : ℕ) (target peer : Addr)
+    (bytes : List ℕ) (m : Made) → same_addr target setup.scheduler.addr ≡ true
+    → IsAnswered setup s number at peer bytes m.effect
+    → Keeps (IsBegunBy setup s.log number (to_scheduler peer bytes) m.effect) m.effect m.pending
+    → IsReceived setup s number at (way_to setup log target peer bytes) m
 scheduler_received setup s log number at target peer bytes m on answered kept =
-    let here : IsReceived setup s number at (to_scheduler peer bytes) m = record { served = answered; kept = kept } in
-    subst (λ (w : Way). IsReceived setup s number at w m) (sym (ap (λ (b : Bool). cond b (to_scheduler peer bytes) (server_way bytes (server_now setup log target))) on)) here
+    let here : IsReceived setup s number at (to_scheduler peer bytes) m =
+    record { served = answered; kept = kept } in
+    subst (λ (w : Way). IsReceived setup s number at w m)
+    (sym (ap (λ (b : Bool). cond b (to_scheduler peer bytes)
+    (server_way bytes (server_now setup log target))) on)) here
 
-pub nobody_received : (setup : Setup) (s : Core) (log : List Entry) (number at : ℕ) (target peer : Addr) (bytes : List ℕ) (m : Made) → same_addr target setup.scheduler.addr ≡ false → position (λ (x : SetupServer). same_addr x.addr target) setup.servers ≡ None
-    → m ≡ record { effect = word_effect Down; pending = None } → IsReceived setup s number at (way_to setup log target peer bytes) m
+pub nobody_received : (setup : Setup) (s : Core) (log : List Entry) (number at : ℕ) (target peer : Addr)
+    (bytes : List ℕ) (m : Made) → same_addr target setup.scheduler.addr ≡ false
+    → position (λ (x : SetupServer). same_addr x.addr target) setup.servers ≡ None
+    → m ≡ record { effect = word_effect Down; pending = None }
+    → IsReceived setup s number at (way_to setup log target peer bytes) m
 nobody_received setup s log number at target peer bytes m off none same =
-    let here : IsReceived setup s number at to_nobody (record { effect = word_effect Down; pending = None }) = record { served = refl; kept = refl } in
-    let nobody : server_now setup log target ≡ None = ap (λ (o : Option SetupServer). option_map (λ x. server_of x log) o) (place_none setup target none) in
-    subst (λ (w : Way). IsReceived setup s number at w m) (sym (way_there setup log target peer bytes None off nobody)) (subst (λ (q : Made). IsReceived setup s number at to_nobody q) (sym same) here)
+    let here : IsReceived setup s number at to_nobody (record { effect = word_effect Down; pending = None }) =
+    record { served = refl; kept = refl } in
+    let nobody : server_now setup log target ≡ None =
+    ap (λ (o : Option SetupServer). option_map (λ x. server_of x log) o) (place_none setup target none) in
+    subst (λ (w : Way). IsReceived setup s number at w m)
+    (sym (way_there setup log target peer bytes None off nobody))
+    (subst (λ (q : Made). IsReceived setup s number at to_nobody q) (sym same) here)
 
-pub server_received : (setup : Setup) (s : Core) (log : List Entry) (sts : List Station) (number at : ℕ) (target peer : Addr) (bytes : List ℕ) (place : ℕ) (st : Station) (m : Made) (f : IsFound setup target place)
-    → AreStations setup.servers log sts → slice_get sts place ≡ Some st → same_addr target setup.scheduler.addr ≡ false → IsServerAnswered setup (now_of f.server st) number bytes m.effect
-    → Keeps (IsBegunBy setup s.log number (to_server (now_of f.server st) bytes) m.effect) m.effect m.pending → IsReceived setup s number at (way_to setup log target peer bytes) m
+pub server_received : (setup : Setup) (s : Core) (log : List Entry) (sts : List Station) (number at : ℕ)
+    (target peer : Addr) (bytes : List ℕ) (place : ℕ) (st : Station) (m : Made)
+    (f : IsFound setup target place)
+    → AreStations setup.servers log sts → slice_get sts place ≡ Some st
+    → same_addr target setup.scheduler.addr ≡ false
+    → IsServerAnswered setup (now_of f.server st) number bytes m.effect
+    → Keeps (IsBegunBy setup s.log number (to_server (now_of f.server st) bytes) m.effect) m.effect m.pending
+    → IsReceived setup s number at (way_to setup log target peer bytes) m
 server_received setup s log sts number at target peer bytes place st m f are there off answered kept =
-    let here : IsReceived setup s number at (to_server (now_of f.server st) bytes) m = record { served = answered; kept = kept } in
-    subst (λ (w : Way). IsReceived setup s number at w m) (sym (way_there setup log target peer bytes (Some (now_of f.server st)) off (station_now setup log sts target place st f are there))) here
+    let here : IsReceived setup s number at (to_server (now_of f.server st) bytes) m =
+    record { served = answered; kept = kept } in
+    subst (λ (w : Way). IsReceived setup s number at w m)
+    (sym (way_there setup log target peer bytes (Some (now_of f.server st)) off
+    (station_now setup log sts target place st f are there))) here
 
-pub beat_received : (setup : Setup) (s : Core) (log : List Entry) (sts : List Station) (number at : ℕ) (addr : Addr) (place : ℕ) (st : Station) (m : Made) (f : IsFound setup addr place) → AreStations setup.servers log sts → slice_get sts place ≡ Some st
-    → m.effect ≡ beat_effect setup (now_of f.server st) → m.pending ≡ Some (report_of number false (now_of f.server st) told.Heartbeat) → IsReceived setup s number at (beat_way (server_now setup log addr)) m
+pub beat_received : (setup : Setup) (s : Core) (log : List Entry) (sts : List Station) (number at : ℕ)
+    (addr : Addr) (place : ℕ) (st : Station) (m : Made) (f : IsFound setup addr place)
+    → AreStations setup.servers log sts → slice_get sts place ≡ Some st
+    → m.effect ≡ beat_effect setup (now_of f.server st)
+    → m.pending ≡ Some (report_of number false (now_of f.server st) told.Heartbeat)
+    → IsReceived setup s number at (beat_way (server_now setup log addr)) m
 beat_received setup s log sts number at addr place st m f are there effect pending =
     let n = now_of f.server st in
-    let one : Made = record { effect = beat_effect setup n; pending = Some (report_of number false n told.Heartbeat) } in
-    let here : IsReceived setup s number at (to_beat n) one = record { served = refl; kept = (refl, _, refl) } in
-    let same : m ≡ one = ap (λ (x : Effect). record { effect = x; pending = m.pending }) effect ∙ ap (λ (o : Option Pending). record { effect = beat_effect setup n; pending = o }) pending in
-    subst (λ (w : Way). IsReceived setup s number at w m) (sym (ap beat_way (station_now setup log sts addr place st f are there))) (subst (λ (q : Made). IsReceived setup s number at (to_beat n) q) (sym same) here)
+    let one : Made = record {
+      effect = beat_effect setup n;
+      pending = Some (report_of number false n told.Heartbeat);
+    } in
+    let here : IsReceived setup s number at (to_beat n) one = record { served = refl; kept = (refl, _, refl) }
+    in
+    let same : m ≡ one = ap (λ (x : Effect). record { effect = x; pending = m.pending }) effect
+    ∙ ap (λ (o : Option Pending). record { effect = beat_effect setup n; pending = o }) pending in
+    subst (λ (w : Way). IsReceived setup s number at w m)
+    (sym (ap beat_way (station_now setup log sts addr place st f are there)))
+    (subst (λ (q : Made). IsReceived setup s number at (to_beat n) q) (sym same) here)
 
-pub no_beat_received : (setup : Setup) (s : Core) (log : List Entry) (number at : ℕ) (addr : Addr) (m : Made) → position (λ (x : SetupServer). same_addr x.addr addr) setup.servers ≡ None → m ≡ record { effect = word_effect Void; pending = None }
+pub no_beat_received : (setup : Setup) (s : Core) (log : List Entry) (number at : ℕ) (addr : Addr) (m : Made)
+    → position (λ (x : SetupServer). same_addr x.addr addr) setup.servers ≡ None
+    → m ≡ record { effect = word_effect Void; pending = None }
     → IsReceived setup s number at (beat_way (server_now setup log addr)) m
 no_beat_received setup s log number at addr m none same =
-    let here : IsReceived setup s number at to_nothing (record { effect = word_effect Void; pending = None }) = record { served = refl; kept = refl } in
-    let nobody : server_now setup log addr ≡ None = ap (λ (o : Option SetupServer). option_map (λ x. server_of x log) o) (place_none setup addr none) in
-    subst (λ (w : Way). IsReceived setup s number at w m) (sym (ap beat_way nobody)) (subst (λ (q : Made). IsReceived setup s number at to_nothing q) (sym same) here)
+    let here : IsReceived setup s number at to_nothing (record { effect = word_effect Void; pending = None })
+    = record { served = refl; kept = refl } in
+    let nobody : server_now setup log addr ≡ None =
+    ap (λ (o : Option SetupServer). option_map (λ x. server_of x log) o) (place_none setup addr none) in
+    subst (λ (w : Way). IsReceived setup s number at w m) (sym (ap beat_way nobody))
+    (subst (λ (q : Made). IsReceived setup s number at to_nothing q) (sym same) here)
 
 -- ---- a report that comes back
 
 -- nobody is there whom it comes back to
-pub no_report : (setup : Setup) (log : List Entry) (life : ℕ) (bytes : List ℕ) (root : ℕ) (json : Bool) (reply : Option (List ℕ)) (t : Told) (addr : Addr) (x : Effect)
-    → position (λ (s : SetupServer). same_addr s.addr addr) setup.servers ≡ None → x ≡ word_effect Died → ReportsIn setup life bytes root json reply t (server_now setup log addr) x
+pub no_report : (setup : Setup) (log : List Entry) (life : ℕ) (bytes : List ℕ) (root : ℕ) (json : Bool)
+    (reply : Option (List ℕ)) (t : Told) (addr : Addr) (x : Effect)
+    → position (λ (s : SetupServer). same_addr s.addr addr) setup.servers ≡ None → x ≡ word_effect Died
+    → ReportsIn setup life bytes root json reply t (server_now setup log addr) x
 no_report setup log life bytes root json reply t addr x none died =
-    let nobody : server_now setup log addr ≡ None = ap (λ (o : Option SetupServer). option_map (λ s. server_of s log) o) (place_none setup addr none) in
+    let nobody : server_now setup log addr ≡ None =
+    ap (λ (o : Option SetupServer). option_map (λ s. server_of s log) o) (place_none setup addr none) in
     subst (λ (o : Option ServerNow). ReportsIn setup life bytes root json reply t o x) (sym nobody) died
 
-pub report_there : (setup : Setup) (log : List Entry) (sts : List Station) (life : ℕ) (bytes : List ℕ) (root : ℕ) (json : Bool) (reply : Option (List ℕ)) (t : Told) (addr : Addr) (place : ℕ) (st : Station) (x : Effect) (f : IsFound setup addr place)
-    → AreStations setup.servers log sts → slice_get sts place ≡ Some st → ReportsIn setup life bytes root json reply t (Some (now_of f.server st)) x → ReportsIn setup life bytes root json reply t (server_now setup log addr) x
+pub report_there : (setup : Setup) (log : List Entry) (sts : List Station) (life : ℕ) (bytes : List ℕ)
+    (root : ℕ) (json : Bool) (reply : Option (List ℕ)) (t : Told) (addr : Addr) (place : ℕ) (st : Station)
+    (x : Effect) (f : IsFound setup addr place)
+    → AreStations setup.servers log sts → slice_get sts place ≡ Some st
+    → ReportsIn setup life bytes root json reply t (Some (now_of f.server st)) x
+    → ReportsIn setup life bytes root json reply t (server_now setup log addr) x
 report_there setup log sts life bytes root json reply t addr place st x f are there is =
-    subst (λ (o : Option ServerNow). ReportsIn setup life bytes root json reply t o x) (sym (station_now setup log sts addr place st f are there)) is
+    subst (λ (o : Option ServerNow). ReportsIn setup life bytes root json reply t o x)
+    (sym (station_now setup log sts addr place st f are there)) is
 
 -- ---- what the scheduler does has no step
 
-allocated_step : (seen : Core) (number : ℕ) (json : Bool) (tc : List ℕ) (made : CoreEntry) (k : CoreKind) → (allocated seen number json tc made k).step ≡ None
+allocated_step : (seen : Core) (number : ℕ) (json : Bool) (tc : List ℕ) (made : CoreEntry) (k : CoreKind)
+    → (allocated seen number json tc made k).step ≡ None
 allocated_step seen number json tc made (core.Reserve (reserve.Job job reg forgiven)) = refl
 allocated_step seen number json tc made (core.Reserve (reserve.NoRoom standing)) = refl
 allocated_step seen number json tc made (core.Reserve reserve.Spent) = refl
@@ -164,21 +244,28 @@ cond_step : (b : Bool) (x y : Effect) → x.step ≡ None → y.step ≡ None �
 cond_step true x y one two = one
 cond_step false x y one two = two
 
-does_step : (s : Core) (number at : ℕ) (json : Bool) (what : SchedRouted) → (answer_to s number at json what).step ≡ None
-does_step s number at json (asked.Alloc tc) = let made = rule s (call.Reserve at) in allocated_step s number json tc made made.kind
+does_step : (s : Core) (number at : ℕ) (json : Bool) (what : SchedRouted)
+    → (answer_to s number at json what).step ≡ None
+does_step s number at json (asked.Alloc tc) = let made = rule s (call.Reserve at)
+    in allocated_step s number json tc made made.kind
 does_step s number at json (asked.Beat server beat) = cond_step (hears beat.num_cpus) _ _ refl refl
 does_step s number at json (asked.Update server job state) = refl
 does_step s number at json asked.Status = refl
 does_step s number at json (asked.Done response) = refl
 
-pub scheduler_step : (setup : Setup) (s : Core) (number at : ℕ) (peer : Addr) (bytes : List ℕ) (x : Effect) → IsAnswered setup s number at peer bytes x → x.step ≡ None
-scheduler_step setup s number at peer bytes x is = ap (λ (y : Effect). y.step) is.2 ∙ does_step s number at is.0.json is.0.what
+pub scheduler_step : (setup : Setup) (s : Core) (number at : ℕ) (peer : Addr) (bytes : List ℕ) (x : Effect)
+    → IsAnswered setup s number at peer bytes x → x.step ≡ None
+scheduler_step setup s number at peer bytes x is = ap (λ (y : Effect). y.step) is.2
+    ∙ does_step s number at is.0.json is.0.what
 
-pub server_core : (setup : Setup) (s : ServerNow) (number : ℕ) (bytes : List ℕ) (x : Effect) → IsServerAnswered setup s number bytes x → x.core ≡ None
-server_core setup s number bytes x is = ap (λ (y : Effect). y.core) is.2 ∙ served_core setup s number is.0.json is.0.what
+pub server_core : (setup : Setup) (s : ServerNow) (number : ℕ) (bytes : List ℕ) (x : Effect)
+    → IsServerAnswered setup s number bytes x → x.core ≡ None
+server_core setup s number bytes x is = ap (λ (y : Effect). y.core) is.2
+    ∙ served_core setup s number is.0.json is.0.what
 
 -- nor has the end of an assignment
-pub end_step : (s : Core) (root : ℕ) (json : Bool) (at : ℕ) (t : Ticket) (r : Result AssignJobResult CallFault) → (assignment_end s root json at t r).step ≡ None
+pub end_step : (s : Core) (root : ℕ) (json : Bool) (at : ℕ) (t : Ticket)
+    (r : Result AssignJobResult CallFault) → (assignment_end s root json at t r).step ≡ None
 end_step s root json at t (Ok a) = refl
 end_step s root json at t (Err f) = refl
 
@@ -188,20 +275,29 @@ end_step s root json at t (Err f) = refl
 abbrev pub IsRestart : List Station → List Station → Made → List ℕ → ℕ → ℕ → SetupServer → Station → Type 0
 IsRestart sts new m key nonce place s st =
     (m ≡ record { effect = restart_effect (now_of s st); pending = None })
-    × ((after : Station) × (new ≡ set sts place after) × IsWell s after × (now_of s after ≡ stepped m.effect.step (restarted (Some (key, nonce)) (now_of s st))))
+    × ((after : Station) × (new ≡ set sts place after) × IsWell s after
+    × (now_of s after ≡ stepped m.effect.step (restarted (Some (key, nonce)) (now_of s st))))
 
-pub restart_at : (setup : Setup) (addr : Addr) (sts new : List Station) (m : Made) (key : List ℕ) (nonce : ℕ) (here : ℕ) (server : SetupServer) (station : Station)
-    → position (λ (x : SetupServer). same_addr x.addr addr) setup.servers ≡ Some here → slice_get setup.servers here ≡ Some server → slice_get sts here ≡ Some station → IsRestart sts new m key nonce here server station
-    → (place : ℕ) (s : SetupServer) (st : Station) → position (λ (x : SetupServer). same_addr x.addr addr) setup.servers ≡ Some place → slice_get setup.servers place ≡ Some s → slice_get sts place ≡ Some st
+pub restart_at : (setup : Setup) (addr : Addr) (sts new : List Station) (m : Made) (key : List ℕ) (nonce : ℕ)
+    (here : ℕ) (server : SetupServer) (station : Station)
+    → position (λ (x : SetupServer). same_addr x.addr addr) setup.servers ≡ Some here
+    → slice_get setup.servers here ≡ Some server → slice_get sts here ≡ Some station
+    → IsRestart sts new m key nonce here server station
+    → (place : ℕ) (s : SetupServer) (st : Station)
+    → position (λ (x : SetupServer). same_addr x.addr addr) setup.servers ≡ Some place
+    → slice_get setup.servers place ≡ Some s → slice_get sts place ≡ Some st
     → IsRestart sts new m key nonce place s st
 restart_at setup addr sts new m key nonce here server station found there stands is place s st e at bt =
     let p : here ≡ place = same_Some here place (sym found ∙ e) in
     let es : server ≡ s = same_Some server s (sym there ∙ ap (slice_get setup.servers) p ∙ at) in
     let et : station ≡ st = same_Some station st (sym stands ∙ ap (slice_get sts) p ∙ bt) in
     subst (λ (k : ℕ). IsRestart sts new m key nonce k s st) p
-    (subst (λ (x : SetupServer). IsRestart sts new m key nonce here x st) es (subst (λ (y : Station). IsRestart sts new m key nonce here server y) et is))
+    (subst (λ (x : SetupServer). IsRestart sts new m key nonce here x st) es
+    (subst (λ (y : Station). IsRestart sts new m key nonce here server y) et is))
 
-pub no_restart : (P : Type 0) (setup : Setup) (addr : Addr) (here : ℕ) → position (λ (x : SetupServer). same_addr x.addr addr) setup.servers ≡ Some here → server_at setup addr ≡ None → P
+pub no_restart : (P : Type 0) (setup : Setup) (addr : Addr) (here : ℕ)
+    → position (λ (x : SetupServer). same_addr x.addr addr) setup.servers ≡ Some here
+    → server_at setup addr ≡ None → P
 no_restart P setup addr here found none =
     let f = place_found setup addr here found in
     let two : None ≡ Some f.server = sym none ∙ f.found in
@@ -209,46 +305,78 @@ no_restart P setup addr here found none =
 
 -- ---- what a server makes of what comes to its place
 
-pub kept_same : (setup : Setup) (log : List CoreEntry) (number : ℕ) (bytes : List ℕ) (m : Made) (server s : SetupServer) (station st : Station) → server ≡ s → station ≡ st
-    → Keeps (IsBegunBy setup log number (to_server (now_of server station) bytes) m.effect) m.effect m.pending → Keeps (IsBegunBy setup log number (to_server (now_of s st) bytes) m.effect) m.effect m.pending
+pub kept_same : (setup : Setup) (log : List CoreEntry) (number : ℕ) (bytes : List ℕ) (m : Made)
+    (server s : SetupServer) (station st : Station) → server ≡ s → station ≡ st
+    → Keeps (IsBegunBy setup log number (to_server (now_of server station) bytes) m.effect) m.effect m.pending
+    → Keeps (IsBegunBy setup log number (to_server (now_of s st) bytes) m.effect) m.effect m.pending
 kept_same setup log number bytes m server s station st es et is =
-    subst (λ (x : SetupServer). Keeps (IsBegunBy setup log number (to_server (now_of x st) bytes) m.effect) m.effect m.pending) es
-    (subst (λ (y : Station). Keeps (IsBegunBy setup log number (to_server (now_of server y) bytes) m.effect) m.effect m.pending) et is)
+    subst (λ (x : SetupServer). Keeps (IsBegunBy setup log number (to_server (now_of x st) bytes) m.effect)
+    m.effect m.pending) es
+    (subst (λ (y : Station). Keeps (IsBegunBy setup log number (to_server (now_of server y) bytes) m.effect)
+    m.effect m.pending) et is)
 
-pub step_same : (place : ℕ) (x : Option Step) (sts new : List Station) (server s : SetupServer) (station st after : Station) → server ≡ s → station ≡ st → new ≡ set sts place after
-    → now_of server after ≡ stepped x (now_of server station) → IsWell server after → IsStepAt s place st x sts new
+pub step_same : (place : ℕ) (x : Option Step) (sts new : List Station) (server s : SetupServer)
+    (station st after : Station) → server ≡ s → station ≡ st → new ≡ set sts place after
+    → now_of server after ≡ stepped x (now_of server station) → IsWell server after
+    → IsStepAt s place st x sts new
 step_same place x sts new server s station st after es et put now well =
-    let is : IsStepAt server place station x sts new = record { after = after; is = put; now = now; well = well } in
-    subst (λ (y : SetupServer). IsStepAt y place st x sts new) es (subst (λ (y : Station). IsStepAt server place y x sts new) et is)
+    let is : IsStepAt server place station x sts new =
+    record { after = after; is = put; now = now; well = well } in
+    subst (λ (y : SetupServer). IsStepAt y place st x sts new) es
+    (subst (λ (y : Station). IsStepAt server place y x sts new) et is)
 
 -- ---- what a restart makes
 
-restart_core_by : (setup : Setup) (log : List Entry) (addr : Addr) (sts new : List Station) (m : Made) (key : List ℕ) (nonce : ℕ) (o : Option ℕ) → AreStations setup.servers log sts → position (λ (x : SetupServer). same_addr x.addr addr) setup.servers ≡ o
+restart_core_by : (setup : Setup) (log : List Entry) (addr : Addr) (sts new : List Station) (m : Made)
+    (key : List ℕ) (nonce : ℕ) (o : Option ℕ) → AreStations setup.servers log sts
+    → position (λ (x : SetupServer). same_addr x.addr addr) setup.servers ≡ o
     → (server_at setup addr ≡ None → (m ≡ record { effect = word_effect Void; pending = None }) × (new ≡ sts))
-    → ((place : ℕ) (s : SetupServer) (st : Station) → position (λ (x : SetupServer). same_addr x.addr addr) setup.servers ≡ Some place → slice_get setup.servers place ≡ Some s → slice_get sts place ≡ Some st → IsRestart sts new m key nonce place s st)
+    → ((place : ℕ) (s : SetupServer) (st : Station)
+    → position (λ (x : SetupServer). same_addr x.addr addr) setup.servers ≡ Some place
+    → slice_get setup.servers place ≡ Some s → slice_get sts place ≡ Some st
+    → IsRestart sts new m key nonce place s st)
     → m.effect.core ≡ None
-restart_core_by setup log addr sts new m key nonce None are found none some = ap (λ (q : Made). q.effect.core) (none (place_none setup addr found)).0
+restart_core_by setup log addr sts new m key nonce None are found none some = ap (λ (q : Made). q.effect.core)
+    (none (place_none setup addr found)).0
 restart_core_by setup log addr sts new m key nonce (Some place) are found none some =
     let f = place_found setup addr place found in
     let st = station_there setup.servers log sts place f.server are f.there in
     ap (λ (q : Made). q.effect.core) (some place f.server st.0 found f.there st.1).0
 
-pub restart_core : (setup : Setup) (log : List Entry) (addr : Addr) (sts new : List Station) (m : Made) (key : List ℕ) (nonce : ℕ) → AreStations setup.servers log sts
+pub restart_core : (setup : Setup) (log : List Entry) (addr : Addr) (sts new : List Station) (m : Made)
+    (key : List ℕ) (nonce : ℕ) → AreStations setup.servers log sts
     → (server_at setup addr ≡ None → (m ≡ record { effect = word_effect Void; pending = None }) × (new ≡ sts))
-    → ((place : ℕ) (s : SetupServer) (st : Station) → position (λ (x : SetupServer). same_addr x.addr addr) setup.servers ≡ Some place → slice_get setup.servers place ≡ Some s → slice_get sts place ≡ Some st → IsRestart sts new m key nonce place s st)
+    → ((place : ℕ) (s : SetupServer) (st : Station)
+    → position (λ (x : SetupServer). same_addr x.addr addr) setup.servers ≡ Some place
+    → slice_get setup.servers place ≡ Some s → slice_get sts place ≡ Some st
+    → IsRestart sts new m key nonce place s st)
     → m.effect.core ≡ None
-restart_core setup log addr sts new m key nonce are none some = restart_core_by setup log addr sts new m key nonce (position (λ (x : SetupServer). same_addr x.addr addr) setup.servers) are refl none some
+restart_core setup log addr sts new m key nonce are none some =
+    restart_core_by setup log addr sts new m key nonce
+    (position (λ (x : SetupServer). same_addr x.addr addr) setup.servers) are refl none some
 
-restart_made_by : (setup : Setup) (s : Core) (log : List Entry) (ps : List (Option Pending)) (sts new : List Station) (event : Event) (addr : Addr) (key : List ℕ) (nonce : ℕ) (m : Made) (o : Option ℕ) → IsFarm setup s log ps sts
-    → event.kind ≡ Restart addr key nonce → position (λ (x : SetupServer). same_addr x.addr addr) setup.servers ≡ o → (server_at setup addr ≡ None → (m ≡ record { effect = word_effect Void; pending = None }) × (new ≡ sts))
-    → ((place : ℕ) (s : SetupServer) (st : Station) → position (λ (x : SetupServer). same_addr x.addr addr) setup.servers ≡ Some place → slice_get setup.servers place ≡ Some s → slice_get sts place ≡ Some st → IsRestart sts new m key nonce place s st)
+restart_made_by : (setup : Setup) (s : Core) (log : List Entry) (ps : List (Option Pending))
+    (sts new : List Station) (event : Event) (addr : Addr) (key : List ℕ) (nonce : ℕ) (m : Made)
+    (o : Option ℕ) → IsFarm setup s log ps sts
+    → event.kind ≡ Restart addr key nonce
+    → position (λ (x : SetupServer). same_addr x.addr addr) setup.servers ≡ o
+    → (server_at setup addr ≡ None → (m ≡ record { effect = word_effect Void; pending = None })
+    × (new ≡ sts))
+    → ((place : ℕ) (s : SetupServer) (st : Station)
+    → position (λ (x : SetupServer). same_addr x.addr addr) setup.servers ≡ Some place
+    → slice_get setup.servers place ≡ Some s → slice_get sts place ≡ Some st
+    → IsRestart sts new m key nonce place s st)
     → IsMadeSo setup log event (way_of setup log event.kind) ps new m
 restart_made_by setup s log ps sts new event addr key nonce m None is kind found none some =
     let idle = none (place_none setup addr found) in
-    let nobody : server_now setup log addr ≡ None = ap (λ (o : Option SetupServer). option_map (λ x. server_of x log) o) (place_none setup addr found) in
-    let stand = stations_gone setup log sts (entry_of event (word_effect Void)) addr key nonce is.stations found kind refl in
-    idle_stands setup s log ps sts new event m is (ap (way_of setup log) kind ∙ ap (restart_way key nonce) nobody)
-    (subst (AreStations setup.servers (log ++ entry_of event (word_effect Void) ∷ [])) (sym idle.1) stand) idle.0
+    let nobody : server_now setup log addr ≡ None =
+    ap (λ (o : Option SetupServer). option_map (λ x. server_of x log) o) (place_none setup addr found) in
+    let stand = stations_gone setup log sts (entry_of event (word_effect Void)) addr key nonce is.stations
+    found kind refl in
+    idle_stands setup s log ps sts new event m is
+    (ap (way_of setup log) kind ∙ ap (restart_way key nonce) nobody)
+    (subst (AreStations setup.servers (log ++ entry_of event (word_effect Void) ∷ [])) (sym idle.1) stand)
+    idle.0
 restart_made_by setup s log ps sts new event addr key nonce m (Some place) is kind found none some =
     let f = place_found setup addr place found in
     let st = station_there setup.servers log sts place f.server is.stations f.there in
@@ -256,16 +384,29 @@ restart_made_by setup s log ps sts new event addr key nonce m (Some place) is ki
     let n = now_of f.server st.0 in
     let one : Made = record { effect = restart_effect n; pending = None } in
     let here : IsReceived setup s (length log) event.at (to_restart n key nonce) m =
-    subst (λ (q : Made). IsReceived setup s (length log) event.at (to_restart n key nonce) q) (sym r.0) (record { served = refl; kept = refl }) in
-    let way : way_of setup log event.kind ≡ to_restart n key nonce = ap (way_of setup log) kind ∙ ap (restart_way key nonce) (station_now setup log sts addr place st.0 f is.stations st.1) in
-    let of : IsStepOf f.server.addr (entry_of event m.effect).step = subst (λ (q : Made). IsStepOf f.server.addr (entry_of event q.effect).step) (sym r.0) refl in
-    let stand = stations_restarted setup log sts (entry_of event m.effect) addr key nonce place st.0 r.1.0 f is.apart is.stations st.1 kind of r.1.3 r.1.2 in
-    received_made setup s log ps sts new event (length log) event.at (to_restart n key nonce) m is refl refl way (ap (settles_by log) kind) here
+    subst (λ (q : Made). IsReceived setup s (length log) event.at (to_restart n key nonce) q) (sym r.0)
+    (record { served = refl; kept = refl }) in
+    let way : way_of setup log event.kind ≡ to_restart n key nonce = ap (way_of setup log) kind
+    ∙ ap (restart_way key nonce) (station_now setup log sts addr place st.0 f is.stations st.1) in
+    let of : IsStepOf f.server.addr (entry_of event m.effect).step =
+    subst (λ (q : Made). IsStepOf f.server.addr (entry_of event q.effect).step) (sym r.0) refl in
+    let stand = stations_restarted setup log sts (entry_of event m.effect) addr key nonce place st.0 r.1.0 f
+    is.apart is.stations st.1 kind of r.1.3 r.1.2 in
+    received_made setup s log ps sts new event (length log) event.at (to_restart n key nonce) m is refl refl
+    way (ap (settles_by log) kind) here
     (subst (AreStations setup.servers (log ++ entry_of event m.effect ∷ [])) (sym r.1.1) stand)
 
-pub restart_made : (setup : Setup) (s : Core) (log : List Entry) (ps : List (Option Pending)) (sts new : List Station) (event : Event) (addr : Addr) (key : List ℕ) (nonce : ℕ) (m : Made) → IsFarm setup s log ps sts
-    → event.kind ≡ Restart addr key nonce → (server_at setup addr ≡ None → (m ≡ record { effect = word_effect Void; pending = None }) × (new ≡ sts))
-    → ((place : ℕ) (s : SetupServer) (st : Station) → position (λ (x : SetupServer). same_addr x.addr addr) setup.servers ≡ Some place → slice_get setup.servers place ≡ Some s → slice_get sts place ≡ Some st → IsRestart sts new m key nonce place s st)
+pub restart_made : (setup : Setup) (s : Core) (log : List Entry) (ps : List (Option Pending))
+    (sts new : List Station) (event : Event) (addr : Addr) (key : List ℕ) (nonce : ℕ) (m : Made)
+    → IsFarm setup s log ps sts
+    → event.kind ≡ Restart addr key nonce
+    → (server_at setup addr ≡ None → (m ≡ record { effect = word_effect Void; pending = None })
+    × (new ≡ sts))
+    → ((place : ℕ) (s : SetupServer) (st : Station)
+    → position (λ (x : SetupServer). same_addr x.addr addr) setup.servers ≡ Some place
+    → slice_get setup.servers place ≡ Some s → slice_get sts place ≡ Some st
+    → IsRestart sts new m key nonce place s st)
     → IsMadeSo setup log event (way_of setup log event.kind) ps new m
 restart_made setup s log ps sts new event addr key nonce m is kind none some =
-    restart_made_by setup s log ps sts new event addr key nonce m (position (λ (x : SetupServer). same_addr x.addr addr) setup.servers) is kind refl none some
+    restart_made_by setup s log ps sts new event addr key nonce m
+    (position (λ (x : SetupServer). same_addr x.addr addr) setup.servers) is kind refl none some

@@ -1,5 +1,6 @@
 -- The core log of a run is legal, and the calls that wait have unspent reservations.
-use Rattle.std.proofs.Common.{◌≡◌, ◌⊎◌, inl, inr, ℕ, ◌<◌, ◌^◌, true, false, List, [], ◌∷◌, ◌++◌, length, take, Option, Some, None, refl, sym, ap, subst, ◌∙◌, append-nil, arith}
+use Rattle.std.proofs.Common.{◌≡◌, ◌⊎◌, inl, inr, ℕ, ◌<◌, ◌^◌, true, false, List, [], ◌∷◌, ◌++◌, length, take}
+use Rattle.std.proofs.Common.{Option, Some, None, refl, sym, ap, subst, ◌∙◌, append-nil, arith}
 use Rattle.std.specs.Prelude.{slice_get, option_to_list}
 use Rattle.std.proofs.lemmas.Bool.{cases_lt}
 use Rattle.std.proofs.lemmas.List.{length-append}
@@ -64,22 +65,29 @@ Adds setup log e = AddsNone e ⊎ AddsQuiet setup log e ⊎ AddsSpent setup log 
 
 -- ---- reservations by the numbers of their entries
 
-pub ticket-left : (log : List Entry) (e : Entry) (n : ℕ) → n < length log → ticket_at (log ++ e ∷ []) n ≡ ticket_at log n
+pub ticket-left : (log : List Entry) (e : Entry) (n : ℕ) → n < length log
+    → ticket_at (log ++ e ∷ []) n ≡ ticket_at log n
 ticket-left log e n h =
-    ap (λ (o : Option Entry). o >>= λ x. ticket_of (core_log (take n (log ++ e ∷ []))) x.core) (get_left log (e ∷ []) n h)
-    ∙ ap (λ (l : List Entry). slice_get log n >>= λ x. ticket_of (core_log l) x.core) (take_left log (e ∷ []) n (omega arith))
+    ap (λ (o : Option Entry). o >>= λ x. ticket_of (core_log (take n (log ++ e ∷ []))) x.core)
+    (get_left log (e ∷ []) n h)
+    ∙ ap (λ (l : List Entry). slice_get log n >>= λ x. ticket_of (core_log l) x.core)
+    (take_left log (e ∷ []) n (omega arith))
 
-pub ticket-end : (log : List Entry) (e : Entry) → ticket_at (log ++ e ∷ []) (length log) ≡ ticket_of (core_log log) e.core
+pub ticket-end : (log : List Entry) (e : Entry) → ticket_at (log ++ e ∷ []) (length log) ≡ ticket_of
+    (core_log log) e.core
 ticket-end log e =
-    ap (λ (o : Option Entry). o >>= λ x. ticket_of (core_log (take (length log) (log ++ e ∷ []))) x.core) (get_end log e)
+    ap (λ (o : Option Entry). o >>= λ x. ticket_of (core_log (take (length log) (log ++ e ∷ []))) x.core)
+    (get_end log e)
     ∙ ap (λ (l : List Entry). ticket_of (core_log l) e.core) (take_end log e)
 
 -- the number of a reservation is that of its core entry
-ticket_number : (core : List CoreEntry) (o : Option CoreEntry) (t : Ticket) → ticket_of core o ≡ Some t → (c : CoreEntry) × (o ≡ Some c) × (t.number ≡ length core)
+ticket_number : (core : List CoreEntry) (o : Option CoreEntry) (t : Ticket) → ticket_of core o ≡ Some t
+    → (c : CoreEntry) × (o ≡ Some c) × (t.number ≡ length core)
 ticket_number core None t e = absurd cc
 ticket_number core (Some c) t e = (c, refl, by_kind core c.kind t e)
   where
-    by_kind : (core : List CoreEntry) (k : CoreKind) (t : Ticket) → ticket_by core k ≡ Some t → t.number ≡ length core
+    by_kind : (core : List CoreEntry) (k : CoreKind) (t : Ticket) → ticket_by core k ≡ Some t
+        → t.number ≡ length core
     by_kind core (Reserve (Job job reg forgiven)) t e =
         let a = bind_some (address_of core reg) _ t e in
         let b = bind_some (key_at core reg) _ t a.2 in
@@ -93,7 +101,8 @@ ticket_number core (Some c) t e = (c, refl, by_kind core c.kind t e)
     by_kind core (Status pruned servers cpus jobs) t e = absurd cc
 
 -- reservations of two entries have two numbers
-one_place : (log : List Entry) (n m : ℕ) (t u : Ticket) → ticket_at log n ≡ Some t → ticket_at log m ≡ Some u → t.number ≡ u.number → n ≡ m
+one_place : (log : List Entry) (n m : ℕ) (t u : Ticket) → ticket_at log n ≡ Some t → ticket_at log m ≡ Some u
+    → t.number ≡ u.number → n ≡ m
 one_place log n m t u at bt same =
     let a = bind_some (slice_get log n) _ t at in
     let b = bind_some (slice_get log m) _ u bt in
@@ -114,7 +123,8 @@ abbrev IsOwn : List CoreEntry → Ticket → Type 0
 IsOwn core t = is_among (unspent core) t.number t.job ≡ true
 
 -- a reservation that the entry makes
-own_new : (core : List CoreEntry) (now : ℕ) (k : CoreKind) (t : Ticket) → ticket_by core k ≡ Some t → IsOwn (core ++ record { now = now; kind = k } ∷ []) t
+own_new : (core : List CoreEntry) (now : ℕ) (k : CoreKind) (t : Ticket) → ticket_by core k ≡ Some t
+    → IsOwn (core ++ record { now = now; kind = k } ∷ []) t
 own_new core now (Reserve (Job job reg forgiven)) t e =
     let a = bind_some (address_of core reg) _ t e in
     let b = bind_some (key_at core reg) _ t a.2 in
@@ -129,14 +139,19 @@ own_new core now (Update server job state answer) t e = absurd cc
 own_new core now (Status pruned servers cpus jobs) t e = absurd cc
 
 -- the core log with the entry's core entry
-core_with : (log : List Entry) (e : Entry) (o : Option CoreEntry) → e.core ≡ o → core_log (log ++ e ∷ []) ≡ core_log log ++ option_to_list o
-core_with log e o is = core_log-push log e ∙ ap (λ (p : Option CoreEntry). core_log log ++ option_to_list p) is
+core_with : (log : List Entry) (e : Entry) (o : Option CoreEntry) → e.core ≡ o
+    → core_log (log ++ e ∷ []) ≡ core_log log ++ option_to_list o
+core_with log e o is = core_log-push log e ∙ ap (λ (p : Option CoreEntry). core_log log ++ option_to_list p)
+    is
 
 -- a reservation of before stays unspent, where its call is not settled
-old_own : (setup : Setup) (log : List Entry) (e : Entry) (n : ℕ) (w : Entry) (t : Ticket) → setup.scheduler.count < 2 ^ 64 → IsSound setup log → Adds setup log e
-    → waiting_at log n ≡ Some w → ticket_at log n ≡ Some t → settled_at n (end_cut log e) ≡ false → IsOwn (core_log (log ++ e ∷ [])) t
+old_own : (setup : Setup) (log : List Entry) (e : Entry) (n : ℕ) (w : Entry) (t : Ticket)
+    → setup.scheduler.count < 2 ^ 64 → IsSound setup log → Adds setup log e
+    → waiting_at log n ≡ Some w → ticket_at log n ≡ Some t → settled_at n (end_cut log e) ≡ false
+    → IsOwn (core_log (log ++ e ∷ [])) t
 old_own setup log e n w t fits sound (inl x) waits is off =
-    subst (λ (l : List CoreEntry). IsOwn l t) (sym (core_with log e None x.core ∙ append-nil (core_log log))) (sound.own n w t waits is)
+    subst (λ (l : List CoreEntry). IsOwn l t) (sym (core_with log e None x.core ∙ append-nil (core_log log)))
+    (sound.own n w t waits is)
 old_own setup log e n w t fits sound (inr (inl x)) waits is off =
     subst (λ (l : List CoreEntry). IsOwn l t) (sym (core_with log e (Some x.made) x.core))
     (own-kept (core_log log) x.made t.number t.job (sound.own n w t waits is) (x.spends t.job))
@@ -144,35 +159,46 @@ old_own setup log e n w t fits sound (inr (inr x)) waits is off =
     let own = sound.own n w t waits is in
     let spent = sound.own x.number x.waits x.ticket x.waiting x.reserved in
     let other : same_job x.ticket.job t.job ≡ false = is_false (same_job x.ticket.job t.job) (λ same.
-    let one = one_number setup.scheduler.base setup.scheduler.count (core_log log) x.ticket.number t.number x.ticket.job t.job fits sound.legal spent own (same_job-sym x.ticket.job t.job same) in
+    let one = one_number setup.scheduler.base setup.scheduler.count (core_log log) x.ticket.number t.number
+    x.ticket.job t.job fits sound.legal spent own (same_job-sym x.ticket.job t.job same) in
     let place = one_place log x.number n x.ticket t x.reserved is one in
-    true_false (settled_at n (end_cut log e)) (subst (λ (m : ℕ). settled_at m (end_cut log e) ≡ true) place x.settles) off) in
+    true_false (settled_at n (end_cut log e))
+    (subst (λ (m : ℕ). settled_at m (end_cut log e) ≡ true) place x.settles) off) in
     subst (λ (l : List CoreEntry). IsOwn l t) (sym (core_with log e (Some x.made) x.core))
     (own-kept (core_log log) x.made t.number t.job own (x.spends t.job ∙ other))
 
 -- a call that the entry makes has the entry's reservation
 last_own : (setup : Setup) (log : List Entry) (e : Entry) (w : Entry) (t : Ticket) → Adds setup log e
-    → (e.call >>= λ c. Some e) ≡ Some w → ticket_of (core_log log) e.core ≡ Some t → IsOwn (core_log (log ++ e ∷ [])) t
-last_own setup log e w t (inl x) waits is = let none : None ≡ Some t = sym (ap (ticket_of (core_log log)) x.core) ∙ is in absurd cc
+    → (e.call >>= λ c. Some e) ≡ Some w → ticket_of (core_log log) e.core ≡ Some t
+    → IsOwn (core_log (log ++ e ∷ [])) t
+last_own setup log e w t (inl x) waits is = let none : None ≡ Some t =
+    sym (ap (ticket_of (core_log log)) x.core) ∙ is in absurd cc
 last_own setup log e w t (inr (inl x)) waits is =
     subst (λ (l : List CoreEntry). IsOwn l t) (sym (core_with log e (Some x.made) x.core))
     (own_new (core_log log) x.made.now x.made.kind t (sym (ap (ticket_of (core_log log)) x.core) ∙ is))
-last_own setup log e w t (inr (inr x)) waits is = let none : None ≡ Some w = sym (ap (λ (o : Option _). o >>= λ c. Some e) x.call) ∙ waits in absurd cc
+last_own setup log e w t (inr (inr x)) waits is = let none : None ≡ Some w =
+    sym (ap (λ (o : Option _). o >>= λ c. Some e) x.call) ∙ waits in absurd cc
 
-legal_next : (setup : Setup) (log : List Entry) (e : Entry) → IsSound setup log → Adds setup log e → IsLegal setup.scheduler.base setup.scheduler.count (core_log (log ++ e ∷ []))
-legal_next setup log e sound (inl x) = subst (IsLegal setup.scheduler.base setup.scheduler.count) (sym (core_with log e None x.core ∙ append-nil (core_log log))) sound.legal
+legal_next : (setup : Setup) (log : List Entry) (e : Entry) → IsSound setup log → Adds setup log e
+    → IsLegal setup.scheduler.base setup.scheduler.count (core_log (log ++ e ∷ []))
+legal_next setup log e sound (inl x) = subst (IsLegal setup.scheduler.base setup.scheduler.count)
+    (sym (core_with log e None x.core ∙ append-nil (core_log log))) sound.legal
 legal_next setup log e sound (inr (inl x)) =
-    subst (IsLegal setup.scheduler.base setup.scheduler.count) (sym (core_with log e (Some x.made) x.core)) (legal-push setup.scheduler.base setup.scheduler.count [] (core_log log) x.made sound.legal x.rule)
+    subst (IsLegal setup.scheduler.base setup.scheduler.count) (sym (core_with log e (Some x.made) x.core))
+    (legal-push setup.scheduler.base setup.scheduler.count [] (core_log log) x.made sound.legal x.rule)
 legal_next setup log e sound (inr (inr x)) =
-    subst (IsLegal setup.scheduler.base setup.scheduler.count) (sym (core_with log e (Some x.made) x.core)) (legal-push setup.scheduler.base setup.scheduler.count [] (core_log log) x.made sound.legal x.rule)
+    subst (IsLegal setup.scheduler.base setup.scheduler.count) (sym (core_with log e (Some x.made) x.core))
+    (legal-push setup.scheduler.base setup.scheduler.count [] (core_log log) x.made sound.legal x.rule)
 
 -- one more entry
-pub sound-step : (setup : Setup) (log : List Entry) (e : Entry) → setup.scheduler.count < 2 ^ 64 → IsSound setup log → Adds setup log e → IsSound setup (log ++ e ∷ [])
+pub sound-step : (setup : Setup) (log : List Entry) (e : Entry) → setup.scheduler.count < 2 ^ 64
+    → IsSound setup log → Adds setup log e → IsSound setup (log ++ e ∷ [])
 sound-step setup log e fits sound adds = record {
   legal = legal_next setup log e sound adds;
   own = λ n w t waits is. elim (cases_lt n (length log)) [
     | inl lt ↦
-        let g = guard_off (settled_at n (end_cut log e)) (waiting_at log n) w (sym (waiting-push log e n lt) ∙ waits) in
+        let g = guard_off (settled_at n (end_cut log e)) (waiting_at log n) w
+        (sym (waiting-push log e n lt) ∙ waits) in
         old_own setup log e n w t fits sound adds g.1 (sym (ticket-left log e n lt) ∙ is) g.0
     | inr ge ↦
         let a = bind_some (slice_get (log ++ e ∷ []) n) _ w waits in

@@ -1,5 +1,6 @@
 -- A job is accepted as started at most once, and was ready before.
-use Rattle.std.proofs.Common.{◌≡◌, ℕ, ◌<◌, ◌^◌, Bool, true, false, cond, ◌&&◌, ◌||◌, List, [], ◌∷◌, ◌++◌, map, Option, Some, None, refl, ap, ◌∙◌, sym, subst}
+use Rattle.std.proofs.Common.{◌≡◌, ℕ, ◌<◌, ◌^◌, Bool, true, false, cond, ◌&&◌, ◌||◌, List, [], ◌∷◌, ◌++◌, map}
+use Rattle.std.proofs.Common.{Option, Some, None, refl, ap, ◌∙◌, sym, subst}
 use Rattle.std.specs.Prelude.{option_to_list, if◌then◌else◌}
 use Rattle.std.specs.List.{AllByRecursion, list_any, find}
 use Rattle.std.proofs.lemmas.Bool.{false≢true}
@@ -15,13 +16,16 @@ use Rattle.sched_core.specs.declared.entry.UpdateAnswer.TheVariants.{Accepted, W
 use Rattle.sched_core.specs.declared.rows.OpenRow.{OpenRow}
 use Rattle.sched_core.specs.Log.{same_job, latest, newest}
 use Rattle.sched_core.specs.Reservation.{is_accepted, is_started}
-use Rattle.sched_core.specs.Job.{Committed, commits, moves_by, moves_of, state_now, state_of, is_open, open_jobs}
+use Rattle.sched_core.specs.Job.{Committed, commits, moves_by, moves_of, state_now, state_of, is_open}
+use Rattle.sched_core.specs.Job.{open_jobs}
 use Rattle.sched_core.specs.Rows.{open_of, open_rows}
 use Rattle.sched_core.specs.Advance.{follows, is_at, advance_by, advance}
 use Rattle.sched_core.specs.Laws.{IsRule, IsLegal, IsChain, HasOrder}
 use Rattle.sched_core.proofs.LegalLemmas.{core_of, legal_has}
 use Rattle.sched_core.proofs.Lists.{list_any-map, list_any-push, cons_nil}
-use Rattle.sched_core.proofs.AllLemmas.{and_left, and_right, both, same_job-eq, all-both, all-filter, any-append, any-end, any-weaker, any-all, any-kept, found, each_same, only}
+use Rattle.sched_core.proofs.AllLemmas.{and_left, and_right, both, same_job-eq, all-both, all-filter}
+use Rattle.sched_core.proofs.AllLemmas.{any-append, any-end, any-weaker, any-all, any-kept, found, each_same}
+use Rattle.sched_core.proofs.AllLemmas.{only}
 use Rattle.sched_core.proofs.StepLemmas.{committed, grown_commit, commits-push}
 use Rattle.sched_core.proofs.FactLemmas.{Facts, facts}
 use Rattle.sched_core.proofs.OnceLemmas.{legal_all}
@@ -36,20 +40,39 @@ starts j e = starts_by e.kind j
 
 -- ---- an update is accepted of an open job alone, whose state it follows
 
-accepted_open : (p : OpenRow → Bool) (rows : List OpenRow) (server : Addr) (state : JobState) → is_accepted (advance_by (find p rows) server state) ≡ true → list_any (λ o. p o && follows o.state state) rows ≡ true
+accepted_open : (p : OpenRow → Bool) (rows : List OpenRow) (server : Addr) (state : JobState)
+    → is_accepted (advance_by (find p rows) server state) ≡ true
+    → list_any (λ o. p o && follows o.state state) rows ≡ true
 accepted_open p [] server state t = absurd (false≢true t)
 accepted_open p (o ∷ rows) server state t = split (p o) refl (accepted_open p rows server state) t
   where
-    by_state : (b : Bool) → is_accepted (if is_at o.server server then (if b then Accepted else Transition o.state) else Wrong) ≡ true → b ≡ true
+    by_state : (b : Bool) → is_accepted
+        (if is_at o.server server then (if b then Accepted else Transition o.state) else Wrong) ≡ true
+        → b ≡ true
     by_state true h = refl
-    by_state false h = absurd (false≢true (elim (is_at o.server server) as (λ c. is_accepted (if c then Transition o.state else Wrong) ≡ true → false ≡ true) [ true ↦ λ x. x | false ↦ λ x. x ] h))
+    by_state false h = absurd
+        (false≢true (elim (is_at o.server server) as
+        (λ c. is_accepted (if c then Transition o.state else Wrong) ≡ true → false ≡ true) [
+          | true ↦ λ x.
+              x
+          | false ↦ λ x. x
+        ] h))
 
-    split : (b : Bool) → p o ≡ b → (is_accepted (advance_by (find p rows) server state) ≡ true → list_any (λ o. p o && follows o.state state) rows ≡ true) → is_accepted (advance_by (cond b (Some o) (find p rows)) server state) ≡ true → ((p o && follows o.state state) || list_any (λ o. p o && follows o.state state) rows) ≡ true
-    split true is rest h = ap (λ c. c || list_any (λ o. p o && follows o.state state) rows) (both (p o) (follows o.state state) is (by_state (follows o.state state) h))
-    split false is rest h = ap (λ c. (c && follows o.state state) || list_any (λ o. p o && follows o.state state) rows) is ∙ rest h
+    split : (b : Bool) → p o ≡ b → (is_accepted (advance_by (find p rows) server state) ≡ true
+        → list_any (λ o. p o && follows o.state state) rows ≡ true)
+        → is_accepted (advance_by (cond b (Some o) (find p rows)) server state) ≡ true
+        → ((p o && follows o.state state) || list_any (λ o. p o && follows o.state state) rows) ≡ true
+    split true is rest h = ap (λ c. c || list_any (λ o. p o && follows o.state state) rows)
+        (both (p o) (follows o.state state) is (by_state (follows o.state state) h))
+    split false is rest h = ap
+        (λ c. (c && follows o.state state) || list_any (λ o. p o && follows o.state state) rows) is ∙ rest h
 
-accepted_job : (log : List CoreEntry) (server : Addr) (job : JobId) (state : JobState) → is_accepted (advance (open_rows log) server job state) ≡ true → list_any (λ c. same_job c.job job && follows (state_now c) state) (open_jobs log) ≡ true
-accepted_job log server job state t = sym (list_any-map (λ o. same_job o.job job && follows o.state state) (open_of log) (open_jobs log)) ∙ accepted_open (λ o. same_job o.job job) (open_rows log) server state t
+accepted_job : (log : List CoreEntry) (server : Addr) (job : JobId) (state : JobState)
+    → is_accepted (advance (open_rows log) server job state) ≡ true
+    → list_any (λ c. same_job c.job job && follows (state_now c) state) (open_jobs log) ≡ true
+accepted_job log server job state t =
+    sym (list_any-map (λ o. same_job o.job job && follows o.state state) (open_of log) (open_jobs log))
+    ∙ accepted_open (λ o. same_job o.job job) (open_rows log) server state t
 
 is_start : (s : JobState) → is_started s ≡ true → s ≡ Started
 is_start Started t = refl
@@ -64,19 +87,24 @@ abbrev startable : JobId → Committed → Bool
 startable j c = same_job c.job j && follows (state_now c) Started
 
 -- what an entry starts is an open job that can be started
-start_open : (base count : ℕ) (log : List CoreEntry) (k : CoreKind) (j : JobId) → Facts (core_of base count log) k → starts_by k j ≡ true → list_any (startable j) (open_jobs log) ≡ true
+start_open : (base count : ℕ) (log : List CoreEntry) (k : CoreKind) (j : JobId)
+    → Facts (core_of base count log) k → starts_by k j ≡ true → list_any (startable j) (open_jobs log) ≡ true
 start_open base count log (Update server job state answer) j is t =
     let front = and_left (is_started state && is_accepted answer) (same_job job j) t in
-    let same : job ≡ j = same_job-eq job j (and_right (is_started state && is_accepted answer) (same_job job j) t) in
+    let same : job ≡ j = same_job-eq job j
+    (and_right (is_started state && is_accepted answer) (same_job job j) t) in
     let started : state ≡ Started = is_start state (and_left (is_started state) (is_accepted answer) front) in
     let accepted = and_right (is_started state) (is_accepted answer) front in
-    subst (λ (s : JobState). list_any (λ c. same_job c.job j && follows (state_now c) s) (open_jobs log) ≡ true) started
-    (subst (λ (i : JobId). list_any (λ c. same_job c.job i && follows (state_now c) state) (open_jobs log) ≡ true) same
+    subst (λ (s : JobState). list_any (λ c. same_job c.job j && follows (state_now c) s)
+    (open_jobs log) ≡ true) started
+    (subst (λ (i : JobId). list_any (λ c. same_job c.job i && follows (state_now c) state)
+    (open_jobs log) ≡ true) same
     (accepted_job log server job state (ap is_accepted (sym is) ∙ accepted)))
 start_open base count log (Reserve r) j is t = absurd (false≢true t)
 start_open base count log (Commit job state kept) j is t = absurd (false≢true t)
 start_open base count log (Undo job noted ended) j is t = absurd (false≢true t)
-start_open base count log (Beat server nonce cpus key pruned reaped replaced is_new) j is t = absurd (false≢true t)
+start_open base count log (Beat server nonce cpus key pruned reaped replaced is_new) j is t =
+    absurd (false≢true t)
 start_open base count log (Status pruned servers cpus n) j is t = absurd (false≢true t)
 
 -- an entry that starts a job moves it
@@ -85,7 +113,8 @@ start_moves (Update server job state answer) j t =
     let front = and_left (is_started state && is_accepted answer) (same_job job j) t in
     let same = and_right (is_started state && is_accepted answer) (same_job job j) t in
     let started : state ≡ Started = is_start state (and_left (is_started state) (is_accepted answer) front) in
-    let on : (is_accepted answer && same_job job j) ≡ true = both (is_accepted answer) (same_job job j) (and_right (is_started state) (is_accepted answer) front) same in
+    let on : (is_accepted answer && same_job job j) ≡ true = both (is_accepted answer) (same_job job j)
+    (and_right (is_started state) (is_accepted answer) front) same in
     ap (λ (b : Bool). cond b (Some state) None) on ∙ ap (λ (s : JobState). Some s) started
 start_moves (Reserve r) j t = absurd (false≢true t)
 start_moves (Commit job state kept) j t = absurd (false≢true t)
@@ -101,39 +130,58 @@ has_started j c = same_job c.job j && list_any is_started (moves_of c)
 abbrev AreMoved : List CoreEntry → Type 0
 AreMoved log = (j : JobId) → list_any (starts j) log ≡ true → list_any (has_started j) (commits log) ≡ true
 
-moves-push : (e : CoreEntry) (c : Committed) → moves_of (grown_commit e c) ≡ moves_of c ++ option_to_list (moves_by e.kind c.job)
-moves-push e c = filter_map-append (λ d. moves_by d.kind c.job) c.later (e ∷ []) ∙ ap (λ ss. moves_of c ++ ss) (cons_nil (moves_by e.kind c.job))
+moves-push : (e : CoreEntry) (c : Committed) → moves_of (grown_commit e c) ≡ moves_of c ++ option_to_list
+    (moves_by e.kind c.job)
+moves-push e c = filter_map-append (λ d. moves_by d.kind c.job) c.later (e ∷ []) ∙ ap (λ ss. moves_of c ++ ss)
+    (cons_nil (moves_by e.kind c.job))
 
-grown_started : (e : CoreEntry) (j : JobId) (c : Committed) → has_started j c ≡ true → has_started j (grown_commit e c) ≡ true
+grown_started : (e : CoreEntry) (j : JobId) (c : Committed) → has_started j c ≡ true
+    → has_started j (grown_commit e c) ≡ true
 grown_started e j c t =
-    both (same_job c.job j) (list_any is_started (moves_of (grown_commit e c))) (and_left (same_job c.job j) (list_any is_started (moves_of c)) t)
-    (ap (list_any is_started) (moves-push e c) ∙ any-append is_started (moves_of c) (option_to_list (moves_by e.kind c.job)) (and_right (same_job c.job j) (list_any is_started (moves_of c)) t))
+    both (same_job c.job j) (list_any is_started (moves_of (grown_commit e c)))
+    (and_left (same_job c.job j) (list_any is_started (moves_of c)) t)
+    (ap (list_any is_started) (moves-push e c) ∙ any-append is_started (moves_of c)
+    (option_to_list (moves_by e.kind c.job))
+    (and_right (same_job c.job j) (list_any is_started (moves_of c)) t))
 
-new_started : (e : CoreEntry) (j : JobId) → starts_by e.kind j ≡ true → (c : Committed) → startable j c ≡ true → has_started j (grown_commit e c) ≡ true
+new_started : (e : CoreEntry) (j : JobId) → starts_by e.kind j ≡ true → (c : Committed) → startable j c ≡ true
+    → has_started j (grown_commit e c) ≡ true
 new_started e j on c t =
     let same = and_left (same_job c.job j) (follows (state_now c) Started) t in
-    let moved : moves_by e.kind c.job ≡ Some Started = ap (moves_by e.kind) (same_job-eq c.job j same) ∙ start_moves e.kind j on in
+    let moved : moves_by e.kind c.job ≡ Some Started = ap (moves_by e.kind) (same_job-eq c.job j same)
+    ∙ start_moves e.kind j on in
     both (same_job c.job j) (list_any is_started (moves_of (grown_commit e c))) same
-    (ap (list_any is_started) (moves-push e c ∙ ap (λ (o : Option JobState). moves_of c ++ option_to_list o) moved) ∙ any-end is_started (moves_of c) Started refl)
+    (ap (list_any is_started)
+    (moves-push e c ∙ ap (λ (o : Option JobState). moves_of c ++ option_to_list o) moved)
+    ∙ any-end is_started (moves_of c) Started refl)
 
-pushed : (log : List CoreEntry) (e : CoreEntry) (p q : Committed → Bool) → ((c : Committed) → p c ≡ true → q (grown_commit e c) ≡ true) → list_any p (commits log) ≡ true → list_any q (commits (log ++ e ∷ [])) ≡ true
+pushed : (log : List CoreEntry) (e : CoreEntry) (p q : Committed → Bool)
+    → ((c : Committed) → p c ≡ true → q (grown_commit e c) ≡ true) → list_any p (commits log) ≡ true
+    → list_any q (commits (log ++ e ∷ [])) ≡ true
 pushed log e p q step any =
     ap (list_any q) (commits-push log e)
     ∙ any-append q (map (grown_commit e) (commits log)) (option_to_list (committed log e))
-    (list_any-map q (grown_commit e) (commits log) ∙ any-weaker p (λ c. q (grown_commit e c)) step (commits log) any)
+    (list_any-map q (grown_commit e) (commits log) ∙ any-weaker p (λ c. q (grown_commit e c)) step
+    (commits log) any)
 
-moved-step : (base count : ℕ) (log : List CoreEntry) (e : CoreEntry) → AreMoved log → IsRule (core_of base count log) e → AreMoved (log ++ e ∷ [])
-moved-step base count log e moved is = λ j t. by_test j (list_any (starts j) log) refl (sym (list_any-push (starts j) log e) ∙ t)
+moved-step : (base count : ℕ) (log : List CoreEntry) (e : CoreEntry) → AreMoved log
+    → IsRule (core_of base count log) e → AreMoved (log ++ e ∷ [])
+moved-step base count log e moved is = λ j t. by_test j (list_any (starts j) log) refl
+    (sym (list_any-push (starts j) log e) ∙ t)
   where
-    by_test : (j : JobId) (b : Bool) → list_any (starts j) log ≡ b → (list_any (starts j) log || starts j e) ≡ true → list_any (has_started j) (commits (log ++ e ∷ [])) ≡ true
+    by_test : (j : JobId) (b : Bool) → list_any (starts j) log ≡ b
+        → (list_any (starts j) log || starts j e) ≡ true
+        → list_any (has_started j) (commits (log ++ e ∷ [])) ≡ true
     by_test j true on t = pushed log e (has_started j) (has_started j) (grown_started e j) (moved j on)
     by_test j false off t =
         let on : starts j e ≡ true = ap (λ (b : Bool). b || starts j e) (sym off) ∙ t in
         pushed log e (startable j) (has_started j) (new_started e j on)
-        (any-all (startable j) is_open (commits log) (start_open base count log e.kind j (facts (core_of base count log) e is) on))
+        (any-all (startable j) is_open (commits log)
+        (start_open base count log e.kind j (facts (core_of base count log) e is) on))
 
 are_moved : (base count : ℕ) (log : List CoreEntry) → IsLegal base count log → AreMoved log
-are_moved base count log legal = legal_has base count AreMoved (λ j t. absurd (false≢true t)) (moved-step base count) log legal
+are_moved base count log legal = legal_has base count AreMoved (λ j t. absurd (false≢true t))
+    (moved-step base count) log legal
 
 -- ---- the order of states
 
@@ -152,15 +200,19 @@ past_follows Complete to f p = absurd (false≢true f)
 past_follows Pending to f p = absurd (false≢true p)
 past_follows Ready to f p = absurd (false≢true p)
 
-chain_past : (from : JobState) (states : List JobState) → IsChain from states → is_past from ≡ true → is_past (latest from states) ≡ true
+chain_past : (from : JobState) (states : List JobState) → IsChain from states → is_past from ≡ true
+    → is_past (latest from states) ≡ true
 chain_past from [] chain p = p
 chain_past from (s ∷ states) chain p = chain_past s states chain.1 (past_follows from s chain.0 p)
 
-chain_started : (from : JobState) (states : List JobState) → IsChain from states → list_any is_started states ≡ true → is_past (latest from states) ≡ true
+chain_started : (from : JobState) (states : List JobState) → IsChain from states
+    → list_any is_started states ≡ true → is_past (latest from states) ≡ true
 chain_started from [] chain t = absurd (false≢true t)
 chain_started from (s ∷ states) chain t = by_test (is_started s) refl (chain_started s states chain.1) t
   where
-    by_test : (b : Bool) → is_started s ≡ b → (list_any is_started states ≡ true → is_past (latest s states) ≡ true) → (b || list_any is_started states) ≡ true → is_past (latest s states) ≡ true
+    by_test : (b : Bool) → is_started s ≡ b
+        → (list_any is_started states ≡ true → is_past (latest s states) ≡ true)
+        → (b || list_any is_started states) ≡ true → is_past (latest s states) ≡ true
     by_test true on rest t = chain_past s states chain.1 (ap is_past (is_start s on))
     by_test false off rest t = rest t
 
@@ -176,32 +228,49 @@ all_unit (c ∷ cs) = (tt, all_unit cs)
 
 -- ---- one more entry, which starts a job
 
-module _ (base count : ℕ) (log : List CoreEntry) (e : CoreEntry) (j : JobId) (fits : count < 2 ^ 64) (legal : IsLegal base count log) (is : IsRule (core_of base count log) e) (on : starts_by e.kind j ≡ true) where
+module _ (base count : ℕ) (log : List CoreEntry) (e : CoreEntry) (j : JobId) (fits : count < 2 ^ 64)
+    (legal : IsLegal base count log) (is : IsRule (core_of base count log) e)
+    (on : starts_by e.kind j ≡ true) where
   there : list_any (startable j) (commits log) ≡ true
-  there = any-all (startable j) is_open (commits log) (start_open base count log e.kind j (facts (core_of base count log) e is) on)
+  there = any-all (startable j) is_open (commits log)
+      (start_open base count log e.kind j (facts (core_of base count log) e is) on)
 
   -- each commit of the job can be started
   each : AllByRecursion (λ c. same_job c.job j ≡ true → follows (state_now c) Started ≡ true) (commits log)
   each =
-      each_same (λ c. c.job) (λ c. follows (state_now c) Started) j (commits log) (legal_all base count log fits legal).committed
+      each_same (λ c. c.job) (λ c. follows (state_now c) Started) j (commits log)
+      (legal_all base count log fits legal).committed
       (any-kept (λ c. Unit {0}) (startable j) (λ c. same_job c.job j) (λ c. follows (state_now c) Started)
-      (λ c u h. (and_left (same_job c.job j) (follows (state_now c) Started) h, and_right (same_job c.job j) (follows (state_now c) Started) h)) (commits log) (all_unit (commits log)) there)
+      (λ c u h. (
+        and_left (same_job c.job j) (follows (state_now c) Started) h,
+        and_right (same_job c.job j)
+            (follows (state_now c) Started) h,
+      )) (commits log) (all_unit (commits log)) there)
 
   -- it was not started before
   pub once : list_any (starts j) log ≡ true → ⊥
   once before =
-      let c = found (λ c. HasOrder c × (same_job c.job j ≡ true → follows (state_now c) Started ≡ true)) (has_started j) (commits log)
-      (all-both HasOrder (λ c. same_job c.job j ≡ true → follows (state_now c) Started ≡ true) (λ c. HasOrder c × (same_job c.job j ≡ true → follows (state_now c) Started ≡ true)) (λ c a b. (a, b)) (commits log) (legal_all base count log fits legal).order each)
+      let c = found (λ c. HasOrder c × (same_job c.job j ≡ true → follows (state_now c) Started ≡ true))
+      (has_started j) (commits log)
+      (all-both HasOrder (λ c. same_job c.job j ≡ true → follows (state_now c) Started ≡ true)
+      (λ c. HasOrder c × (same_job c.job j ≡ true → follows (state_now c) Started ≡ true))
+      (λ c a b. (a, b)) (commits log) (legal_all base count log fits legal).order each)
       (are_moved base count log legal j before) in
       let same = and_left (same_job c.0.job j) (list_any is_started (moves_of c.0)) c.2 in
-      let past = chain_started c.0.state (moves_of c.0) c.1.0.1 (and_right (same_job c.0.job j) (list_any is_started (moves_of c.0)) c.2) in
+      let past = chain_started c.0.state (moves_of c.0) c.1.0.1
+      (and_right (same_job c.0.job j) (list_any is_started (moves_of c.0)) c.2) in
       false≢true (sym (ap is_past (only_ready (state_now c.0) (c.1.1 same))) ∙ past)
 
   -- it was ready
   pub was_ready : state_of j log ≡ Some Ready
   was_ready =
-      let one = only (λ c. c.job) j (commits log) (legal_all base count log fits legal).committed (any-weaker (startable j) (λ c. same_job c.job j) (λ c h. and_left (same_job c.job j) (follows (state_now c) Started) h) (commits log) there) in
+      let one = only (λ c. c.job) j (commits log) (legal_all base count log fits legal).committed
+      (any-weaker (startable j) (λ c. same_job c.job j)
+      (λ c h. and_left (same_job c.job j) (follows (state_now c) Started) h) (commits log) there) in
       let all : AllByRecursion (λ c. follows (state_now c) Started ≡ true) (one.0 ∷ []) =
       subst (AllByRecursion (λ c. follows (state_now c) Started ≡ true)) one.1
-      (all-filter (λ c. same_job c.job j ≡ true → follows (state_now c) Started ≡ true) (λ c. follows (state_now c) Started ≡ true) (λ c. same_job c.job j) (λ c h same. h same) (commits log) each) in
-      ap (λ (cs : List Committed). newest None (map state_now cs)) one.1 ∙ ap (λ (s : JobState). Some s) (only_ready (state_now one.0) all.0)
+      (all-filter (λ c. same_job c.job j ≡ true → follows (state_now c) Started ≡ true)
+      (λ c. follows (state_now c) Started ≡ true) (λ c. same_job c.job j) (λ c h same. h same)
+      (commits log) each) in
+      ap (λ (cs : List Committed). newest None (map state_now cs)) one.1 ∙ ap (λ (s : JobState). Some s)
+      (only_ready (state_now one.0) all.0)

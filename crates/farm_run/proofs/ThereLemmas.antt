@@ -1,5 +1,6 @@
 -- Each event has a next entry over the entries of a farm.
-use Rattle.std.proofs.Common.{◌≡◌, inl, inr, ℕ, Bool, true, false, List, length, drop, Option, Some, None, Result, Err, refl}
+use Rattle.std.proofs.Common.{◌≡◌, inl, inr, ℕ, Bool, true, false, List, length, drop, Option, Some, None}
+use Rattle.std.proofs.Common.{Result, Err, refl}
 use Rattle.dist_types.specs.declared.addr.Addr.{Addr}
 use Rattle.dist_types.specs.declared.outgoing.CallFault.{CallFault}
 use Rattle.dist_types.specs.declared.outgoing.CallFault.TheVariants.{Lost}
@@ -38,8 +39,10 @@ use Rattle.farm_run.specs.Effects.{entry_of, word_effect, step_effect}
 use Rattle.farm_run.specs.Farm.{IsKept, kept_at, AreKept, HasNext}
 use Rattle.farm_run.specs.Next.{GoesOn, IsSettled, IsMade}
 use Rattle.farm_run.specs.Seen.{core_of, serves}
-use Rattle.farm_run.specs.Settled.{IsOutcome, assignment_end, IsUpdated, IsHeard, ready_end, started_end, complete_end, heard_as, Reports, Lives, ReportsIn}
-use Rattle.farm_run.specs.Ways.{Way, way_of, brought_at, to_nothing, to_nobody, to_scheduler, to_server, to_call, to_beat, to_restart}
+use Rattle.farm_run.specs.Settled.{IsOutcome, assignment_end, IsUpdated, IsHeard, ready_end, started_end}
+use Rattle.farm_run.specs.Settled.{complete_end, heard_as, Reports, Lives, ReportsIn}
+use Rattle.farm_run.specs.Ways.{Way, way_of, brought_at, to_nothing, to_nobody, to_scheduler, to_server}
+use Rattle.farm_run.specs.Ways.{to_call, to_beat, to_restart}
 use Rattle.farm_run.proofs.DecideLemmas.{RequestIn, request_in, ReplyIn, reply_in}
 
 -- ---- what bytes say
@@ -48,7 +51,10 @@ question_there : (setup : Setup) (peer : Addr) (bytes : List ℕ) → (a : Asked
 question_there setup peer bytes = by_request (request_in bytes)
   where
     by_request : RequestIn bytes → (a : Asked) × Asks setup peer bytes a
-    by_request (inl (r, is)) = (question_under (equal_admission setup.scheduler.client) (serves setup.scheduler.auth) r peer, inl (r, is, refl))
+    by_request (inl (r, is)) = (
+      question_under (equal_admission setup.scheduler.client) (serves setup.scheduler.auth) r peer,
+      inl (r, is, refl),
+    )
     by_request (inr none) = (bad_question, inr (none, refl))
 
 server_question_there : (s : ServerNow) (bytes : List ℕ) → (a : ServerAsked) × AsksServer s bytes a
@@ -56,16 +62,25 @@ server_question_there s bytes = by_request (request_in bytes)
   where
     by_request : RequestIn bytes → (a : ServerAsked) × AsksServer s bytes a
     by_request (inl (r, is)) = (server_question (job_verdict s.key) bytes r, inl (r, is, refl))
-    by_request (inr none) = (record { what = server_asked.Done (refusal_response BadHeadRefusal); json = false; body = length bytes }, inr (none, refl))
+    by_request (inr none) = (
+      record {
+        what = server_asked.Done (refusal_response BadHeadRefusal);
+        json = false;
+        body = length bytes;
+      },
+      inr (none, refl),
+    )
 
 assignment_there : (bytes : List ℕ) → (r : Result AssignJobResult CallFault) × IsAssigned bytes r
 assignment_there bytes = by_reply (reply_in bytes)
   where
     by_reply : ReplyIn bytes → (r : Result AssignJobResult CallFault) × IsAssigned bytes r
-    by_reply (inl (r, is)) = (assigned_by (told_by assign_at r), (told_by assign_at r, inl (r, is, refl), refl))
+    by_reply (inl (r, is)) =
+        (assigned_by (told_by assign_at r), (told_by assign_at r, inl (r, is, refl), refl))
     by_reply (inr none) = (assigned_by (Err ParseError), (Err ParseError, inr (none, refl), refl))
 
-telling_there : {M : Type 0} (at : List ℕ → Option (M × List ℕ)) (bytes : List ℕ) → (r : Result M CallFault) × IsAnswer at bytes r
+telling_there : {M : Type 0} (at : List ℕ → Option (M × List ℕ)) (bytes : List ℕ) → (r : Result M CallFault)
+    × IsAnswer at bytes r
 telling_there {M} at bytes = by_reply (reply_in bytes)
   where
     by_reply : ReplyIn bytes → (r : Result M CallFault) × IsAnswer at bytes r
@@ -86,34 +101,48 @@ hearing_there (Some bytes) = telling_there heard_at bytes
 
 -- ---- what follows
 
-end_there : (setup : Setup) (s : ServerNow) (bytes : List ℕ) (root : ℕ) (json : Bool) (reply : Option (List ℕ)) (t : Told) → (x : Effect) × Reports setup s bytes root json reply t x
-end_there setup s bytes root json reply (told.Ready job at) = let r = update_there reply in (ready_end s root json job (drop at bytes) r.0, (r.0, r.1, refl))
-end_there setup s bytes root json reply (told.Started job run at) = let r = update_there reply in (started_end setup s root job run (drop at bytes) r.0, (r.0, r.1, refl))
-end_there setup s bytes root json reply (told.Complete job outcome) = let r = update_there reply in (complete_end s.setup.addr root json job outcome r.0, (r.0, r.1, refl))
-end_there setup s bytes root json reply told.Heartbeat = let r = hearing_there reply in (step_effect s.setup.addr (kinds.Heard (heard_as r.0)), (r.0, r.1, refl))
+end_there : (setup : Setup) (s : ServerNow) (bytes : List ℕ) (root : ℕ) (json : Bool)
+    (reply : Option (List ℕ)) (t : Told) → (x : Effect) × Reports setup s bytes root json reply t x
+end_there setup s bytes root json reply (told.Ready job at) = let r = update_there reply
+    in (ready_end s root json job (drop at bytes) r.0, (r.0, r.1, refl))
+end_there setup s bytes root json reply (told.Started job run at) = let r = update_there reply
+    in (started_end setup s root job run (drop at bytes) r.0, (r.0, r.1, refl))
+end_there setup s bytes root json reply (told.Complete job outcome) = let r = update_there reply
+    in (complete_end s.setup.addr root json job outcome r.0, (r.0, r.1, refl))
+end_there setup s bytes root json reply told.Heartbeat = let r = hearing_there reply
+    in (step_effect s.setup.addr (kinds.Heard (heard_as r.0)), (r.0, r.1, refl))
 
-life_there : (setup : Setup) (life : ℕ) (s : ServerNow) (bytes : List ℕ) (root : ℕ) (json : Bool) (reply : Option (List ℕ)) (t : Told) (over : Bool) → (x : Effect) × Lives setup life s bytes root json reply t over x
+life_there : (setup : Setup) (life : ℕ) (s : ServerNow) (bytes : List ℕ) (root : ℕ) (json : Bool)
+    (reply : Option (List ℕ)) (t : Told) (over : Bool) → (x : Effect)
+    × Lives setup life s bytes root json reply t over x
 life_there setup life s bytes root json reply t true = (word_effect Died, refl)
 life_there setup life s bytes root json reply t false = end_there setup s bytes root json reply t
 
-report_there : (setup : Setup) (life : ℕ) (bytes : List ℕ) (root : ℕ) (json : Bool) (reply : Option (List ℕ)) (t : Told) (o : Option ServerNow) → (x : Effect) × ReportsIn setup life bytes root json reply t o x
+report_there : (setup : Setup) (life : ℕ) (bytes : List ℕ) (root : ℕ) (json : Bool) (reply : Option (List ℕ))
+    (t : Told) (o : Option ServerNow) → (x : Effect) × ReportsIn setup life bytes root json reply t o x
 report_there setup life bytes root json reply t None = (word_effect Died, refl)
-report_there setup life bytes root json reply t (Some s) = life_there setup life s bytes root json reply t (is_over life s)
+report_there setup life bytes root json reply t (Some s) = life_there setup life s bytes root json reply t
+    (is_over life s)
 
-way_there : (setup : Setup) (log : List Entry) (at root : ℕ) (json : Bool) (reply : Option (List ℕ)) (ask : Ask) → (x : Effect) × GoesOn setup log at root json reply ask x
-way_there setup log at root json reply (Assign t) = let r = outcome_there reply in (assignment_end (core_of setup log) root json at t r.0, (r.0, r.1, refl))
-way_there setup log at root json reply (Report server life t) = report_there setup life (brought_at log root) root json reply t (server_now setup log server)
+way_there : (setup : Setup) (log : List Entry) (at root : ℕ) (json : Bool) (reply : Option (List ℕ))
+    (ask : Ask) → (x : Effect) × GoesOn setup log at root json reply ask x
+way_there setup log at root json reply (Assign t) = let r = outcome_there reply
+    in (assignment_end (core_of setup log) root json at t r.0, (r.0, r.1, refl))
+way_there setup log at root json reply (Report server life t) =
+    report_there setup life (brought_at log root) root json reply t (server_now setup log server)
 
 -- what is kept of a call that waits
 record Known (setup : Setup) (log : List Entry) (n : ℕ) : Type 0 where
   pending : Pending
   call : IsCallOf setup log n pending
 
-kept_known : (setup : Setup) (log : List Entry) (n : ℕ) (w : Entry) (o : Option Pending) → waiting_at log n ≡ Some w → IsKept setup log n o → Known setup log n
+kept_known : (setup : Setup) (log : List Entry) (n : ℕ) (w : Entry) (o : Option Pending)
+    → waiting_at log n ≡ Some w → IsKept setup log n o → Known setup log n
 kept_known setup log n w None is kept = absurd cc
 kept_known setup log n w (Some p) is kept = record { pending = p; call = kept.call }
 
-settled_there : (setup : Setup) (log : List Entry) (ps : List (Option Pending)) → AreKept setup log ps → (at n : ℕ) (reply : Option (List ℕ)) (o : Option Entry) → waiting_at log n ≡ o
+settled_there : (setup : Setup) (log : List Entry) (ps : List (Option Pending)) → AreKept setup log ps
+    → (at n : ℕ) (reply : Option (List ℕ)) (o : Option Entry) → waiting_at log n ≡ o
     → (x : Effect) × IsSettled setup log at n reply o x
 settled_there setup log ps kept at n reply None is = (word_effect Void, refl)
 settled_there setup log ps kept at n reply (Some w) is =
@@ -121,11 +150,13 @@ settled_there setup log ps kept at n reply (Some w) is =
     let x = way_there setup log at k.pending.root k.pending.json reply k.pending.ask in
     (x.0, (k.pending, k.call, x.1))
 
-made_there : (setup : Setup) (log : List Entry) (ps : List (Option Pending)) → AreKept setup log ps → (at : ℕ) (way : Way) → (x : Effect) × IsMade setup log at way x
+made_there : (setup : Setup) (log : List Entry) (ps : List (Option Pending)) → AreKept setup log ps
+    → (at : ℕ) (way : Way) → (x : Effect) × IsMade setup log at way x
 made_there setup log ps kept at (to_scheduler peer bytes) =
     let a = question_there setup peer bytes in
     (answer_to (core_of setup log) (length log) at a.0.json a.0.what, (a.0, a.1, refl))
-made_there setup log ps kept at (to_call n reply) = settled_there setup log ps kept at n reply (waiting_at log n) refl
+made_there setup log ps kept at (to_call n reply) = settled_there setup log ps kept at n reply
+    (waiting_at log n) refl
 made_there setup log ps kept at (to_server s bytes) =
     let a = server_question_there s bytes in
     (served setup s (length log) a.0.json a.0.what, (a.0, a.1, refl))
@@ -134,7 +165,8 @@ made_there setup log ps kept at (to_restart s key nonce) = (restart_effect s, re
 made_there setup log ps kept at to_nothing = (word_effect Void, refl)
 made_there setup log ps kept at to_nobody = (word_effect Down, refl)
 
-pub has_next : (setup : Setup) (log : List Entry) (ps : List (Option Pending)) → AreKept setup log ps → HasNext setup log
+pub has_next : (setup : Setup) (log : List Entry) (ps : List (Option Pending)) → AreKept setup log ps
+    → HasNext setup log
 has_next setup log ps kept event =
     let x = made_there setup log ps kept event.at (way_of setup log event.kind) in
     (entry_of event x.0, (x.0, x.1, refl))

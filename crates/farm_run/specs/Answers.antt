@@ -43,7 +43,8 @@ hears cpus = nat_le 1 cpus && nat_le cpus 4294967295
 abbrev pub heard : Core → ℕ → ℕ → Bool → Addr → HeartbeatServerHttpRequest → Effect
 heard core number at json server beat =
     let made = rule core (call.Beat at server beat.server_nonce beat.num_cpus beat.jwt_key) in
-    if hears beat.num_cpus then reply_effect (Some made) (reply_to number (heard_response json (record { is_new = says_new_entry made })))
+    if hears beat.num_cpus then reply_effect (Some made)
+    (reply_to number (heard_response json (record { is_new = says_new_entry made })))
     else reply_effect None (reply_to number (fault_response_of (fault.BadCpus beat.num_cpus)))
 
 -- the answer of an update's entry
@@ -53,13 +54,19 @@ update_by other = Unknown
 
 -- a reserve: the call that asks the picked server to take the job, or the reply where none is picked
 abbrev pub allocated : Core → ℕ → Bool → List ℕ → CoreEntry → CoreKind → Effect
-allocated seen number json tc made (core.Reserve (Job job reg forgiven)) = call_effect (Some made) (option_map (assign_call tc) (ticket_by seen.log (core.Reserve (Job job reg forgiven))))
-allocated seen number json tc made (core.Reserve (NoRoom standing)) = reply_effect (Some made) (reply_to number (alloc_response json (alloc.Fail (no_room_text standing))))
-allocated seen number json tc made other = reply_effect (Some made) (reply_to number (fault_response_of fault.IdsSpent))
+allocated seen number json tc made (core.Reserve (Job job reg forgiven)) =
+    call_effect (Some made) (option_map (assign_call tc)
+    (ticket_by seen.log (core.Reserve (Job job reg forgiven))))
+allocated seen number json tc made (core.Reserve (NoRoom standing)) = reply_effect (Some made)
+    (reply_to number (alloc_response json (alloc.Fail (no_room_text standing))))
+allocated seen number json tc made other = reply_effect (Some made)
+    (reply_to number (fault_response_of fault.IdsSpent))
 
--- what is asked by the entry of that number at that moment: the core entry that the rule gives, and a reply or a call that says the same
+-- what is asked by the entry of that number at that moment: the core entry that the rule gives, and a reply
+-- or a call that says the same
 abbrev pub answer_to : Core → ℕ → ℕ → Bool → SchedRouted → Effect
-answer_to core number at json (asked.Alloc tc) = let made = rule core (call.Reserve at) in allocated core number json tc made made.kind
+answer_to core number at json (asked.Alloc tc) = let made = rule core (call.Reserve at)
+    in allocated core number json tc made made.kind
 answer_to core number at json (asked.Beat server beat) = heard core number at json server beat
 answer_to core number at json (asked.Update server job state) =
     let made = rule core (call.Update at server job state) in
@@ -71,8 +78,10 @@ answer_to core number at json (asked.Done response) = reply_effect None (reply_t
 
 -- the bytes ask that of the scheduler
 abbrev pub Asks : Setup → Addr → List ℕ → Asked → Type 0
-Asks setup peer bytes a = IsAskedUnder (equal_admission setup.scheduler.client) (serves setup.scheduler.auth) bytes peer a
+Asks setup peer bytes a = IsAskedUnder (equal_admission setup.scheduler.client)
+    (serves setup.scheduler.auth) bytes peer a
 
 -- the scheduler does what a peer's bytes ask
 abbrev pub IsAnswered : Setup → Core → ℕ → ℕ → Addr → List ℕ → Effect → Type 0
-IsAnswered setup core number at peer bytes x = (a : Asked) × Asks setup peer bytes a × (x ≡ answer_to core number at a.json a.what)
+IsAnswered setup core number at peer bytes x = (a : Asked) × Asks setup peer bytes a
+    × (x ≡ answer_to core number at a.json a.what)

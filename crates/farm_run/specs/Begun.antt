@@ -26,18 +26,23 @@ use Rattle.farm_run.specs.Effects.{effect_of}
 use Rattle.farm_run.specs.Seen.{core_log}
 use Rattle.farm_run.specs.Served.{AsksServer, IsReport, report_of}
 use Rattle.farm_run.specs.Tickets.{ticket_of}
-use Rattle.farm_run.specs.Ways.{Way, way_of, to_nothing, to_nobody, to_scheduler, to_server, to_call, to_beat, to_restart}
+use Rattle.farm_run.specs.Ways.{Way, way_of, to_nothing, to_nobody, to_scheduler, to_server, to_call, to_beat}
+use Rattle.farm_run.specs.Ways.{to_restart}
 
--- the call that asks for a job's assignment, with the reservation that the core entry made; its reply goes to the entry that made it
-pub record IsAssignment (core : List CoreEntry) (number : ℕ) (json : Bool) (made : Option CoreEntry) (p : Pending) : Type 0 where
+-- the call that asks for a job's assignment, with the reservation that the core entry made; its reply goes to
+-- the entry that made it
+pub record IsAssignment (core : List CoreEntry) (number : ℕ) (json : Bool) (made : Option CoreEntry)
+    (p : Pending) : Type 0 where
   pub ticket : Ticket
   pub reserved : ticket_of core made ≡ Some ticket
   pub is : p ≡ record { root = number; json = json; ask = Assign ticket }
 
 -- by what the event of entry `number` came to, and what it did, where that settled no call
 abbrev pub IsBegunBy : Setup → List CoreEntry → ℕ → Way → Effect → Pending → Type 0
-IsBegunBy setup core number (to_scheduler peer bytes) x p = (a : Asked) × Asks setup peer bytes a × IsAssignment core number a.json x.core p
-IsBegunBy setup core number (to_server s bytes) x p = (a : ServerAsked) × AsksServer s bytes a × IsReport s number a p
+IsBegunBy setup core number (to_scheduler peer bytes) x p = (a : Asked) × Asks setup peer bytes a
+    × IsAssignment core number a.json x.core p
+IsBegunBy setup core number (to_server s bytes) x p = (a : ServerAsked) × AsksServer s bytes a
+    × IsReport s number a p
 IsBegunBy setup core number (to_beat s) x p = p ≡ report_of number false s told.Heartbeat
 IsBegunBy setup core number to_nothing x p = ⊥
 IsBegunBy setup core number to_nobody x p = ⊥
@@ -48,7 +53,8 @@ IsBegunBy setup core number (to_restart s key nonce) x p = ⊥
 pub record IsFirstCall (setup : Setup) (log : List Entry) (n : ℕ) (p : Pending) : Type 0 where
   pub entry : Entry
   pub there : slice_get log n ≡ Some entry
-  pub begun : IsBegunBy setup (core_log (take n log)) n (way_of setup (take n log) entry.event.kind) (effect_of entry) p
+  pub begun : IsBegunBy setup (core_log (take n log)) n (way_of setup (take n log) entry.event.kind)
+      (effect_of entry) p
 
 -- how a run went, as its step tells it
 abbrev pub outcome_of : Ran → Option BuildResult → Outcome
@@ -61,7 +67,12 @@ outcome_of (ran.Refused tc) result = outcome.Refused tc
 
 -- what is kept of the report of a run's end: the run's own, with how it went
 abbrev pub completion_by : ℕ → Bool → Addr → ℕ → StepKind → Option Pending
-completion_by root json addr life (step.Ran job ran result) = Some (record { root = root; json = json; ask = Report addr life (told.Complete job (outcome_of ran result)) })
+completion_by root json addr life (step.Ran job ran result) =
+    Some (record {
+      root = root;
+      json = json;
+      ask = Report addr life (told.Complete job (outcome_of ran result));
+    })
 completion_by root json addr life (step.Heard as_what) = None
 completion_by root json addr life (step.Assigned job tc ready) = None
 completion_by root json addr life (step.Submitted job outcome) = None
@@ -77,7 +88,8 @@ abbrev pub completion_of : Pending → Ask → Option Step → Option Pending
 completion_of p (Assign t) step = None
 completion_of p (Report addr life told) step = completion_at p.root p.json addr life step
 
--- The report of a run's end is made where the run's Started is settled: its reply goes where that call's would have gone.
+-- The report of a run's end is made where the run's Started is settled: its reply goes where that call's
+-- would have gone.
 pub record IsCompletion (setup : Setup) (log : List Entry) (n : ℕ) (x : Effect) (p : Pending) : Type 0 where
   pub first : Pending
   pub call : IsFirstCall setup log n first
@@ -86,8 +98,10 @@ pub record IsCompletion (setup : Setup) (log : List Entry) (n : ℕ) (x : Effect
 -- what is kept of the call that an event's effect makes, over the entries before it
 abbrev pub IsMadeBy : Setup → List Entry → Way → Effect → Pending → Type 0
 IsMadeBy setup log (to_call n reply) x p = IsCompletion setup log n x p
-IsMadeBy setup log (to_scheduler peer bytes) x p = IsBegunBy setup (core_log log) (length log) (to_scheduler peer bytes) x p
-IsMadeBy setup log (to_server s bytes) x p = IsBegunBy setup (core_log log) (length log) (to_server s bytes) x p
+IsMadeBy setup log (to_scheduler peer bytes) x p = IsBegunBy setup (core_log log) (length log)
+    (to_scheduler peer bytes) x p
+IsMadeBy setup log (to_server s bytes) x p = IsBegunBy setup (core_log log) (length log)
+    (to_server s bytes) x p
 IsMadeBy setup log (to_beat s) x p = IsBegunBy setup (core_log log) (length log) (to_beat s) x p
 IsMadeBy setup log to_nothing x p = ⊥
 IsMadeBy setup log to_nobody x p = ⊥

@@ -1,5 +1,6 @@
 -- Which builds a run has, and what each goes on from.
-use Rattle.std.specs.Prelude.{◌≡◌, ℕ, suc, ◌<◌, ◌≤◌, List, length, take, drop, slice_get, Bool, true, Option, Some, None, codes}
+use Rattle.std.specs.Prelude.{◌≡◌, ℕ, suc, ◌<◌, ◌≤◌, List, length, take, drop, slice_get, Bool, true, Option}
+use Rattle.std.specs.Prelude.{Some, None, codes}
 use Rattle.std.specs.List.{AllByRecursion, list_all}
 use Rattle.dist_types.specs.Addr.{IsAddr}
 use Rattle.dist_types.specs.declared.addr.Addr.{Addr}
@@ -64,10 +65,11 @@ AreBuiltOnce log =
 
 -- ---- what a build goes on from
 
--- Entry n is a run request of the job at the server in that life: its bytes come to the server, are a request to run
--- the job that shows a token which is accepted for the job under the key of the life, and the server calls the
--- scheduler to tell that the job is started.
-pub record IsRunRequest (setup : Setup) (log : List Entry) (n : ℕ) (server : Addr) (life : ℕ) (job : JobId) : Type 0 where
+-- Entry n is a run request of the job at the server in that life: its bytes come to the server, are a request
+-- to run the job that shows a token which is accepted for the job under the key of the life, and the server
+-- calls the scheduler to tell that the job is started.
+pub record IsRunRequest (setup : Setup) (log : List Entry) (n : ℕ) (server : Addr) (life : ℕ)
+    (job : JobId) : Type 0 where
   pub entry : Entry
   pub there : slice_get log n ≡ Some entry
   pub now : ServerNow
@@ -81,7 +83,8 @@ pub record IsRunRequest (setup : Setup) (log : List Entry) (n : ℕ) (server : A
   pub shows : ShowsJob request (job_verdict now.key) job
   pub tells : entry.call ≡ Some (state_call setup server job state.Started)
 
--- Entry d delivers the call of entry n, and its core entry moves the job of that server from ready to started.
+-- Entry d delivers the call of entry n, and its core entry moves the job of that server from ready to
+-- started.
 pub record IsStart (log : List Entry) (d n : ℕ) (server : Addr) (job : JobId) : Type 0 where
   pub entry : Entry
   pub there : slice_get log d ≡ Some entry
@@ -91,7 +94,8 @@ pub record IsStart (log : List Entry) (d n : ℕ) (server : Addr) (job : JobId) 
   pub was : state_of job (core_log (take d log)) ≡ Some state.Ready
 
 -- Entry a is an assigned step of the job at the server, which was in that life then.
-pub record IsTaken (setup : Setup) (log : List Entry) (a : ℕ) (server : Addr) (life : ℕ) (job : JobId) : Type 0 where
+pub record IsTaken (setup : Setup) (log : List Entry) (a : ℕ) (server : Addr) (life : ℕ)
+    (job : JobId) : Type 0 where
   pub entry : Entry
   pub there : slice_get log a ≡ Some entry
   pub tc : List ℕ
@@ -101,9 +105,9 @@ pub record IsTaken (setup : Setup) (log : List Entry) (a : ℕ) (server : Addr) 
   pub at : server_now setup (take (suc a) log) server ≡ Some now
   pub lives : now.life ≡ life
 
--- The build of entry b goes on from a start: the entry brings back the reply of a delivery, which delivered the call of
--- a run request and moved the job from ready to started; the server is in the life of the request, and took the job in
--- that life before.
+-- The build of entry b goes on from a start: the entry brings back the reply of a delivery, which delivered
+-- the call of a run request and moved the job from ready to started; the server is in the life of the
+-- request, and took the job in that life before.
 pub record IsStarted (setup : Setup) (log : List Entry) (b : ℕ) (server : Addr) (job : JobId) : Type 0 where
   pub entry : Entry
   pub there : slice_get log b ≡ Some entry
@@ -124,8 +128,8 @@ AreStarted setup log =
     (b : ℕ) (e : Entry) (server : Addr) (job : JobId) → slice_get log b ≡ Some e → IsBuild e server job
     → IsStarted setup log b server job
 
--- Builds at every prefix: after each front of the entries each build goes on from a start, no id is built twice, and a
--- call is settled at most once.
+-- Builds at every prefix: after each front of the entries each build goes on from a start, no id is built
+-- twice, and a call is settled at most once.
 pub record AreBuilds (setup : Setup) (entries : List Entry) : Type 0 where
   pub started : (n : ℕ) → AreStarted setup (take n entries)
   pub once : (n : ℕ) → AreBuiltOnce (take n entries)
@@ -138,8 +142,8 @@ abbrev pub HasToken : SetupAuth → Type 0
 HasToken (Plain token) = (1 ≤ length token) × (length token ≤ 1024) × (list_all is_visible token ≡ true)
 HasToken (Jwt key) = Unit {0}
 
--- What every script says of its farm: where its servers have one token, that is visible; and the addresses are
--- addresses.
+-- What every script says of its farm: where its servers have one token, that is visible; and the addresses
+-- are addresses.
 pub record HasWords (setup : Setup) : Type 0 where
   pub token : HasToken setup.scheduler.auth
   pub scheduler : IsAddr setup.scheduler.addr

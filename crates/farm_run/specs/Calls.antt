@@ -1,11 +1,14 @@
--- Which calls were made, delivered and settled, asked of the entries. A call is named by the number of the entry that made it.
-use Rattle.std.specs.Prelude.{ℕ, List, length, slice_get, nat_lt, Bool, true, false, not, ◌&&◌, ◌==◌, Option, Some, None, if◌then◌else◌}
+-- Which calls were made, delivered and settled, asked of the entries. A call is named by the number of the
+-- entry that made it.
+use Rattle.std.specs.Prelude.{ℕ, List, length, slice_get, nat_lt, Bool, true, false, not, ◌&&◌, ◌==◌, Option}
+use Rattle.std.specs.Prelude.{Some, None, if◌then◌else◌}
 use Rattle.std.specs.List.{list_any}
 use Rattle.std.specs.Option.{option_map}
 use Rattle.dist_types.specs.Addr.{◌>>=◌}
 use Rattle.sched_core.specs.Cuts.{Cut, cuts}
 use Rattle.farm_script.specs.declared.event.EventKind.{EventKind}
-use Rattle.farm_script.specs.declared.event.EventKind.TheVariants.{Request, Deliver, Fail, Return, Answer, Beat, Restart}
+use Rattle.farm_script.specs.declared.event.EventKind.TheVariants.{Request, Deliver, Fail, Return, Answer}
+use Rattle.farm_script.specs.declared.event.EventKind.TheVariants.{Beat, Restart}
 use Rattle.farm_run.specs.declared.entry.Entry.{Entry}
 use Rattle.farm_run.specs.declared.entry.OutCall.{OutCall}
 use Rattle.farm_run.specs.declared.entry.EntryWord.{EntryWord}
@@ -56,15 +59,18 @@ abbrev pub is_of : ℕ → Option (ℕ × Option (List ℕ)) → Bool
 is_of n None = false
 is_of n (Some p) = p.0 == n
 
--- whether the entry at the cut settled the call of that number: it is a later one, its event was to, and its word is not void
+-- whether the entry at the cut settled the call of that number: it is a later one, its event was to, and its
+-- word is not void
 abbrev pub settled_at : ℕ → Cut Entry → Bool
-settled_at n c = nat_lt n (length c.before) && not (is_void c.at.word) && is_of n (settles_by c.before c.at.event.kind)
+settled_at n c = nat_lt n (length c.before) && not (is_void c.at.word)
+    && is_of n (settles_by c.before c.at.event.kind)
 
 -- whether the call of that number was settled
 abbrev pub is_settled : List Entry → ℕ → Bool
 is_settled log n = list_any (settled_at n) (cuts log)
 
--- the entry of that number, where it made a call that waits to be settled; every call is the scheduler's, who lives as long as the script
+-- the entry of that number, where it made a call that waits to be settled; every call is the scheduler's, who
+-- lives as long as the script
 abbrev pub waiting_at : List Entry → ℕ → Option Entry
 waiting_at log n = do
   e ← slice_get log n

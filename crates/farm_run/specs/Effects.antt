@@ -27,19 +27,44 @@ call_effect core call = record { core = core; step = None; call = call; reply = 
 
 -- a step of the server at that address alone
 abbrev pub step_effect : Addr → StepKind → Effect
-step_effect addr kind = record { core = None; step = Some (record { server = addr; kind = kind }); call = None; reply = None; word = None }
+step_effect addr kind = record {
+  core = None;
+  step = Some (record { server = addr; kind = kind });
+  call = None;
+  reply = None;
+  word = None;
+}
 
 -- a step of it, and a reply
 abbrev pub step_reply_effect : Addr → StepKind → Reply → Effect
-step_reply_effect addr kind reply = record { core = None; step = Some (record { server = addr; kind = kind }); call = None; reply = Some reply; word = None }
+step_reply_effect addr kind reply = record {
+  core = None;
+  step = Some (record { server = addr; kind = kind });
+  call = None;
+  reply = Some reply;
+  word = None;
+}
 
 -- a step of it, and a call, whose settlement is waited for
 abbrev pub step_call_effect : Addr → StepKind → OutCall → Effect
-step_call_effect addr kind call = record { core = None; step = Some (record { server = addr; kind = kind }); call = Some call; reply = None; word = Some Waiting }
+step_call_effect addr kind call = record {
+  core = None;
+  step = Some (record { server = addr; kind = kind });
+  call = Some call;
+  reply = None;
+  word = Some Waiting;
+}
 
 -- the entry of an event that did this
 abbrev pub entry_of : Event → Effect → Entry
-entry_of event x = record { event = event; core = x.core; step = x.step; call = x.call; reply = x.reply; word = x.word }
+entry_of event x = record {
+  event = event;
+  core = x.core;
+  step = x.step;
+  call = x.call;
+  reply = x.reply;
+  word = x.word;
+}
 
 -- what the event of an entry did
 abbrev pub effect_of : Entry → Effect

@@ -1,5 +1,6 @@
 -- What contracts see of a farm, and what its runs do.
-use Rattle.std.specs.Prelude.{◌≡◌, ℕ, ◌^◌, ◌<◌, List, [], ◌∷◌, ◌++◌, length, take, map, slice_get, true, Option, Some, None}
+use Rattle.std.specs.Prelude.{◌≡◌, ℕ, ◌^◌, ◌<◌, List, [], ◌∷◌, ◌++◌, length, take, map, slice_get, true}
+use Rattle.std.specs.Prelude.{Option, Some, None}
 use Rattle.std.specs.List.{AllByRecursion}
 use Rattle.dist_types.specs.Addr.{◌>>=◌}
 use Rattle.sched_core.specs.Log.{Core, logged}
@@ -58,7 +59,8 @@ pub record AreKept (setup : Setup) (log : List Entry) (ps : List (Option Pending
   pub each : (n : ℕ) → IsKept setup log n (kept_at ps n)
 
 -- what is kept for the entries before one more, and what for itself
-pub record IsAfter (setup : Setup) (log : List Entry) (e : Entry) (ps : List (Option Pending)) (o : Option Pending) : Type 0 where
+pub record IsAfter (setup : Setup) (log : List Entry) (e : Entry) (ps : List (Option Pending))
+    (o : Option Pending) : Type 0 where
   pub size : length ps ≡ length log
   pub old : (n : ℕ) → n < length log → IsKept setup (log ++ e ∷ []) n (kept_at ps n)
   pub new : IsKept setup (log ++ e ∷ []) (length log) o
@@ -69,7 +71,8 @@ pub record IsReceived (setup : Setup) (core : Core) (number at : ℕ) (way : Way
   pub kept : Keeps (IsBegunBy setup core.log number way m.effect) m.effect m.pending
 
 -- what an event made: what is made of what it comes to, and what is kept after it
-pub record IsMadeSo (setup : Setup) (log : List Entry) (event : Event) (way : Way) (ps : List (Option Pending)) (sts : List Station) (m : Made) : Type 0 where
+pub record IsMadeSo (setup : Setup) (log : List Entry) (event : Event) (way : Way)
+    (ps : List (Option Pending)) (sts : List Station) (m : Made) : Type 0 where
   pub made : IsMade setup log event.at way m.effect
   pub after : IsAfter setup log (entry_of event m.effect) ps m.pending
   pub stations : AreStations setup.servers (log ++ entry_of event m.effect ∷ []) sts
@@ -90,11 +93,13 @@ acted desk made = record desk { state = with_core desk.state made }
 -- the core log is legal, and the reservation of each call that waits is unspent
 pub record IsSound (setup : Setup) (log : List Entry) : Type 0 where
   pub legal : IsLegal setup.scheduler.base setup.scheduler.count (core_log log)
-  pub own : (n : ℕ) (w : Entry) (t : Ticket) → waiting_at log n ≡ Some w → ticket_at log n ≡ Some t → is_among (unspent (core_log log)) t.number t.job ≡ true
+  pub own : (n : ℕ) (w : Entry) (t : Ticket) → waiting_at log n ≡ Some w → ticket_at log n ≡ Some t
+      → is_among (unspent (core_log log)) t.number t.job ≡ true
 
--- Each core entry is the core rule's over those before it; so different reservations have different jobs, each open job has exactly one
--- unended reservation, at a registration that stands, the states of a committed job begin with pending or ready and leave none out from
--- there on, and a registration with c processors has a load of at most c + 1 + c/8.
+-- Each core entry is the core rule's over those before it; so different reservations have different jobs,
+-- each open job has exactly one unended reservation, at a registration that stands, the states of a committed
+-- job begin with pending or ready and leave none out from there on, and a registration with c processors has
+-- a load of at most c + 1 + c/8.
 pub record IsLawful (base count : ℕ) (log : List CoreEntry) : Type 0 where
   pub legal : IsLegal base count log
   pub ids : AreDistinct (map (λ b. b.job) (bookings log))
@@ -104,7 +109,8 @@ pub record IsLawful (base count : ℕ) (log : List CoreEntry) : Type 0 where
 
 -- after each front of the entries
 abbrev pub AreLawful : Setup → List Entry → Type 0
-AreLawful setup entries = (n : ℕ) → IsLawful setup.scheduler.base setup.scheduler.count (core_log (take n entries))
+AreLawful setup entries = (n : ℕ) → IsLawful setup.scheduler.base setup.scheduler.count
+    (core_log (take n entries))
 
 -- each event, whatever it is, has a next entry
 abbrev pub HasNext : Setup → List Entry → Type 0
@@ -112,8 +118,10 @@ HasNext setup log = (event : Event) → (e : Entry) × IsNext setup log event e
 
 -- ---- farms
 
--- the entries are those of a run, what the scheduler has seen is their core log, its servers stand as they tell, and what is kept of the calls that wait is theirs
-pub record IsFarm (setup : Setup) (core : Core) (entries : List Entry) (ps : List (Option Pending)) (sts : List Station) : Type 0 where
+-- the entries are those of a run, what the scheduler has seen is their core log, its servers stand as they
+-- tell, and what is kept of the calls that wait is theirs
+pub record IsFarm (setup : Setup) (core : Core) (entries : List Entry) (ps : List (Option Pending))
+    (sts : List Station) : Type 0 where
   pub fits : setup.scheduler.count < 2 ^ 64
   pub apart : HasApart setup
   pub run : IsRun setup entries
@@ -132,4 +140,5 @@ Steps old event new = (e : Entry) × IsNext old.setup old.entries event e × (ne
 
 -- the farm has one more entry for each of the events, each next over those before it
 abbrev pub Runs : Farmed → List Event → Farmed → Type 0
-Runs old events new = (entries : List Entry) × EachNext old.setup old.entries events entries × (new ≡ with_entries old entries)
+Runs old events new = (entries : List Entry) × EachNext old.setup old.entries events entries
+    × (new ≡ with_entries old entries)

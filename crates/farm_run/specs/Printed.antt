@@ -1,5 +1,6 @@
 -- The printed run: the text of a farm and its log.
-use Rattle.std.specs.Prelude.{ℕ, ◌+◌, List, [], ◌∷◌, ◌++◌, length, Option, Some, None, Bool, true, false, codes}
+use Rattle.std.specs.Prelude.{ℕ, ◌+◌, List, [], ◌∷◌, ◌++◌, length, Option, Some, None, Bool, true, false}
+use Rattle.std.specs.Prelude.{codes}
 use Rattle.std.specs.List.{flat_map}
 use Rattle.std.specs.Fmt.{decimal}
 use Rattle.hex.specs.Hex.{encode_lower}
@@ -32,7 +33,8 @@ use Rattle.farm_run.specs.declared.entry.Entry.{Entry}
 use Rattle.farm_run.specs.declared.entry.HeardAs.{HeardAs}
 use Rattle.farm_run.specs.declared.entry.HeardAs.TheVariants.{New, Old, Lost}
 use Rattle.farm_run.specs.declared.entry.StepKind.{StepKind}
-use Rattle.farm_run.specs.declared.entry.StepKind.TheVariants.{Heard, Assigned, Submitted, Ran, Finished, Unreported, Opened}
+use Rattle.farm_run.specs.declared.entry.StepKind.TheVariants.{Heard, Assigned, Submitted, Ran, Finished}
+use Rattle.farm_run.specs.declared.entry.StepKind.TheVariants.{Unreported, Opened}
 use Rattle.farm_run.specs.declared.entry.Step.{Step}
 use Rattle.farm_run.specs.declared.entry.OutCall.{OutCall}
 use Rattle.farm_run.specs.declared.entry.Reply.{Reply}
@@ -67,13 +69,15 @@ hex_text (b ∷ bs) = encode_lower (b ∷ bs)
 
 -- what happens, without its moment
 abbrev pub kind_text : EventKind → List ℕ
-kind_text (event.Request target peer bytes) = codes "request " ⧺ addr_text target ⧺ codes " " ⧺ addr_text peer ⧺ codes " " ⧺ hex_text bytes
+kind_text (event.Request target peer bytes) = codes "request " ⧺ addr_text target ⧺ codes " " ⧺ addr_text peer
+    ⧺ codes " " ⧺ hex_text bytes
 kind_text (event.Deliver call) = codes "deliver " ⧺ decimal call
 kind_text (event.Fail call) = codes "fail " ⧺ decimal call
 kind_text (event.Return delivery) = codes "return " ⧺ decimal delivery
 kind_text (event.Answer call bytes) = codes "answer " ⧺ decimal call ⧺ codes " " ⧺ hex_text bytes
 kind_text (event.Beat server) = codes "beat " ⧺ addr_text server
-kind_text (event.Restart server key nonce) = codes "restart " ⧺ addr_text server ⧺ codes " key " ⧺ hex_text key ⧺ codes " nonce " ⧺ decimal nonce
+kind_text (event.Restart server key nonce) = codes "restart " ⧺ addr_text server ⧺ codes " key "
+    ⧺ hex_text key ⧺ codes " nonce " ⧺ decimal nonce
 
 -- ---- the line of a core entry
 
@@ -94,7 +98,8 @@ ended_text false = codes "no"
 
 -- what a reserve gave
 abbrev pub reserved_text : Reserved → List ℕ
-reserved_text (Job job reg forgiven) = codes "job " ⧺ decimal job.0 ⧺ codes " reg " ⧺ decimal reg ⧺ codes " forgiven " ⧺ numbers_text forgiven
+reserved_text (Job job reg forgiven) = codes "job " ⧺ decimal job.0 ⧺ codes " reg " ⧺ decimal reg
+    ⧺ codes " forgiven " ⧺ numbers_text forgiven
 reserved_text (NoRoom standing) = codes "none " ⧺ decimal standing
 reserved_text Spent = codes "spent"
 
@@ -108,16 +113,20 @@ advance_text (Transition state) = codes "transition " ⧺ state_text state
 -- what a core entry says, behind its number
 abbrev pub core_text : CoreKind → List ℕ
 core_text (core.Reserve reserved) = codes "reserve " ⧺ reserved_text reserved
-core_text (core.Commit job state kept) = codes "commit job " ⧺ decimal job.0 ⧺ codes " state " ⧺ state_text state ⧺ codes " " ⧺ kept_text kept
-core_text (core.Undo job noted ended) = codes "undo job " ⧺ decimal job.0 ⧺ codes " noted " ⧺ number_text noted ⧺ codes " ended " ⧺ ended_text ended
+core_text (core.Commit job state kept) = codes "commit job " ⧺ decimal job.0 ⧺ codes " state "
+    ⧺ state_text state ⧺ codes " " ⧺ kept_text kept
+core_text (core.Undo job noted ended) = codes "undo job " ⧺ decimal job.0 ⧺ codes " noted "
+    ⧺ number_text noted ⧺ codes " ended " ⧺ ended_text ended
 core_text (core.Beat server nonce cpus key pruned reaped replaced is_new) =
     codes "beat " ⧺ addr_text server ⧺ codes " nonce " ⧺ decimal nonce ⧺ codes " cpus " ⧺ decimal cpus
     ⧺ codes " pruned " ⧺ numbers_text pruned ⧺ codes " reaped " ⧺ jobs_text reaped
     ⧺ codes " replaced " ⧺ number_text replaced ⧺ codes " " ⧺ age_text is_new
 core_text (core.Update server job state answer) =
-    codes "update " ⧺ addr_text server ⧺ codes " job " ⧺ decimal job.0 ⧺ codes " state " ⧺ state_text state ⧺ codes " " ⧺ advance_text answer
+    codes "update " ⧺ addr_text server ⧺ codes " job " ⧺ decimal job.0 ⧺ codes " state " ⧺ state_text state
+    ⧺ codes " " ⧺ advance_text answer
 core_text (core.Status pruned servers cpus jobs) =
-    codes "status pruned " ⧺ numbers_text pruned ⧺ codes " servers " ⧺ decimal servers ⧺ codes " cpus " ⧺ decimal cpus ⧺ codes " jobs " ⧺ decimal jobs
+    codes "status pruned " ⧺ numbers_text pruned ⧺ codes " servers " ⧺ decimal servers ⧺ codes " cpus "
+    ⧺ decimal cpus ⧺ codes " jobs " ⧺ decimal jobs
 
 -- ---- the lines of an entry
 
@@ -173,7 +182,8 @@ ids_text (id ∷ ids) = id ++ flat_map (λ other. codes "," ++ other) ids
 abbrev pub submitted_text : Submission → List ℕ
 submitted_text submitted.None = codes "none"
 submitted_text submitted.Listed = codes "listed"
-submitted_text (submitted.Stored size dropped) = codes "stored " ⧺ decimal size ⧺ codes " dropped " ⧺ ids_text dropped
+submitted_text (submitted.Stored size dropped) = codes "stored " ⧺ decimal size ⧺ codes " dropped "
+    ⧺ ids_text dropped
 submitted_text submitted.Digest = codes "refused digest"
 submitted_text submitted.Capacity = codes "refused capacity"
 submitted_text (submitted.Folder dropped) = codes "refused folder dropped " ⧺ ids_text dropped
@@ -189,7 +199,8 @@ ran_text (ran.Refused tc) = codes "refused " ⧺ tc
 -- what a build server did, behind its address
 abbrev pub step_text : StepKind → List ℕ
 step_text (Heard as_what) = codes "heard " ⧺ heard_text as_what
-step_text (Assigned job tc ready) = codes "assigned " ⧺ decimal job.0 ⧺ codes " " ⧺ tc ⧺ codes " " ⧺ ready_text ready
+step_text (Assigned job tc ready) = codes "assigned " ⧺ decimal job.0 ⧺ codes " " ⧺ tc ⧺ codes " "
+    ⧺ ready_text ready
 step_text (Submitted job outcome) = codes "submitted " ⧺ decimal job.0 ⧺ codes " " ⧺ submitted_text outcome
 step_text (Ran job ran result) = codes "ran " ⧺ decimal job.0 ⧺ codes " " ⧺ ran_text ran
 step_text (Finished job) = codes "finished " ⧺ decimal job.0
@@ -204,8 +215,10 @@ step_line (Some step) = codes "step " ⧺ addr_text step.server ⧺ codes " " �
 -- an entry of that number, whose core entry, if it has one, has that other number
 abbrev pub entry_text : ℕ → ℕ → Entry → List ℕ
 entry_text number core_number e =
-    codes "entry " ⧺ decimal number ⧺ codes " " ⧺ decimal e.event.at ⧺ codes " " ⧺ kind_text e.event.kind ⧺ codes "\n"
-    ⧺ core_line core_number e.core ⧺ step_line e.step ⧺ call_line e.call ⧺ reply_line e.reply ⧺ word_line e.word
+    codes "entry " ⧺ decimal number ⧺ codes " " ⧺ decimal e.event.at ⧺ codes " " ⧺ kind_text e.event.kind
+    ⧺ codes "\n"
+    ⧺ core_line core_number e.core ⧺ step_line e.step ⧺ call_line e.call ⧺ reply_line e.reply
+    ⧺ word_line e.word
 
 -- how many core entries an entry has
 abbrev pub core_count : Option CoreEntry → ℕ
@@ -215,15 +228,18 @@ core_count (Some e) = 1
 -- entries, the first of which has that number, and so many core entries before it
 abbrev pub entries_text : ℕ → ℕ → List Entry → List ℕ
 entries_text number core_number [] = []
-entries_text number core_number (e ∷ es) = entry_text number core_number e ++ entries_text (number + 1) (core_number + core_count e.core) es
+entries_text number core_number (e ∷ es) = entry_text number core_number e ++ entries_text (number + 1)
+    (core_number + core_count e.core) es
 
 -- ---- the books
 
 -- the line of a registration that stands
 abbrev pub row_text : ServerRow → List ℕ
 row_text row =
-    codes "server " ⧺ addr_text row.server ⧺ codes " reg " ⧺ decimal row.reg ⧺ codes " cpus " ⧺ decimal row.cpus ⧺ codes " nonce " ⧺ decimal row.nonce
-    ⧺ codes " seen " ⧺ decimal row.seen ⧺ codes " load " ⧺ decimal row.load ⧺ codes " error " ⧺ number_text row.error ⧺ codes "\n"
+    codes "server " ⧺ addr_text row.server ⧺ codes " reg " ⧺ decimal row.reg ⧺ codes " cpus "
+    ⧺ decimal row.cpus ⧺ codes " nonce " ⧺ decimal row.nonce
+    ⧺ codes " seen " ⧺ decimal row.seen ⧺ codes " load " ⧺ decimal row.load ⧺ codes " error "
+    ⧺ number_text row.error ⧺ codes "\n"
 
 -- how far the job of a reservation is: reserved alone, or the state that it is committed in
 abbrev pub stage_text : Option JobState → List ℕ
@@ -238,7 +254,8 @@ claim_text false = codes "unclaimed"
 -- the line of a reservation that is unended
 abbrev pub job_text : HeldRow → List ℕ
 job_text h =
-    codes "job " ⧺ decimal h.job.0 ⧺ codes " reg " ⧺ decimal h.reg ⧺ codes " " ⧺ stage_text h.state ⧺ codes " " ⧺ claim_text h.claimed ⧺ codes "\n"
+    codes "job " ⧺ decimal h.job.0 ⧺ codes " reg " ⧺ decimal h.reg ⧺ codes " " ⧺ stage_text h.state
+    ⧺ codes " " ⧺ claim_text h.claimed ⧺ codes "\n"
 
 -- how many ids are given after the whole log: those before the script, and one for each job that was reserved
 abbrev pub ids_given : SetupScheduler → List CoreEntry → ℕ
@@ -250,14 +267,16 @@ held_text addr p = codes "held " ⧺ addr_text addr ⧺ codes " " ⧺ decimal p.
 
 -- the line of a server's archive
 abbrev pub kept_archive_text : Addr → List ℕ × ℕ → List ℕ
-kept_archive_text addr p = codes "archive " ⧺ addr_text addr ⧺ codes " " ⧺ p.0 ⧺ codes " " ⧺ decimal p.1 ⧺ codes "\n"
+kept_archive_text addr p = codes "archive " ⧺ addr_text addr ⧺ codes " " ⧺ p.0 ⧺ codes " " ⧺ decimal p.1
+    ⧺ codes "\n"
 
 -- what a server keeps: the jobs that it holds, by rising id, and its archives, least recent first
 abbrev pub server_text : ServerNow → List ℕ
-server_text s = flat_map (held_text s.setup.addr) s.held ++ flat_map (kept_archive_text s.setup.addr) s.archives
+server_text s = flat_map (held_text s.setup.addr) s.held ++ flat_map
+    (kept_archive_text s.setup.addr) s.archives
 
--- the registrations that stand after the whole log, by rising number, the reservations that are unended, by rising id, and what each server
--- keeps, in the order of the setup
+-- the registrations that stand after the whole log, by rising number, the reservations that are unended, by
+-- rising id, and what each server keeps, in the order of the setup
 abbrev pub standing_text : Setup → List Entry → List ℕ
 standing_text setup entries =
     flat_map row_text (servers_of (core_log entries)) ++ flat_map job_text (held_by_id (core_log entries))
@@ -266,10 +285,12 @@ standing_text setup entries =
 -- the ids, and what stands
 abbrev pub books_text : Setup → List Entry → List ℕ
 books_text setup entries =
-    (codes "books\nids base " ⧺ decimal setup.scheduler.base ⧺ codes " count " ⧺ decimal (ids_given setup.scheduler (core_log entries)) ⧺ codes "\n")
+    (codes "books\nids base " ⧺ decimal setup.scheduler.base ⧺ codes " count " ⧺ decimal
+    (ids_given setup.scheduler (core_log entries)) ⧺ codes "\n")
     ++ standing_text setup entries
 
 -- the whole text
 abbrev pub run_text : Setup → List Entry → List ℕ
 run_text setup entries =
-    (codes "run 1 entries " ⧺ decimal (length entries) ⧺ codes "\n") ++ entries_text 0 0 entries ++ books_text setup entries
+    (codes "run 1 entries " ⧺ decimal (length entries) ⧺ codes "\n") ++ entries_text 0 0 entries ++ books_text
+    setup entries

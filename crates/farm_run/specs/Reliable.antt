@@ -1,4 +1,5 @@
--- What whoever asks a farm may count on: how often an entry is replied to, which requests get the reply that their row names, and what a restart keeps.
+-- What whoever asks a farm may count on: how often an entry is replied to, which requests get the reply that
+-- their row names, and what a restart keeps.
 use Rattle.std.specs.Prelude.{◌≡◌, ℕ, ◌+◌, suc, List, [], take, drop, slice_get, Bool, true, Some, Ok}
 use Rattle.dist_types.specs.Cause.{counted}
 use Rattle.dist_types.specs.declared.addr.Addr.{Addr}
@@ -57,8 +58,10 @@ AreRepliedOnce log = (n j k : ℕ) → RepliesTo log n j → RepliesTo log n k �
 
 -- ---- requests that wait for a call
 
--- Entry n brings bytes to the scheduler that ask for a job, with that wish for the form of the reply, and reserved one, with that ticket.
-pub record IsReserved (setup : Setup) (log : List Entry) (n : ℕ) (json : Bool) (ticket : Ticket) : Type 0 where
+-- Entry n brings bytes to the scheduler that ask for a job, with that wish for the form of the reply, and
+-- reserved one, with that ticket.
+pub record IsReserved (setup : Setup) (log : List Entry) (n : ℕ) (json : Bool)
+    (ticket : Ticket) : Type 0 where
   pub entry : Entry
   pub there : slice_get log n ≡ Some entry
   pub peer : Addr
@@ -69,7 +72,8 @@ pub record IsReserved (setup : Setup) (log : List Entry) (n : ℕ) (json : Bool)
   pub reserves : ticket_of (core_log (take n log)) entry.core ≡ Some ticket
 
 -- Entry n brings bytes to the server at the address, which is in that life, and they ask that of it.
-pub record AsksAt (setup : Setup) (log : List Entry) (n : ℕ) (server : Addr) (life : ℕ) (bytes : List ℕ) (a : ServerAsked) : Type 0 where
+pub record AsksAt (setup : Setup) (log : List Entry) (n : ℕ) (server : Addr) (life : ℕ) (bytes : List ℕ)
+    (a : ServerAsked) : Type 0 where
   pub entry : Entry
   pub there : slice_get log n ≡ Some entry
   pub now : ServerNow
@@ -85,9 +89,10 @@ pub record BringsBack (log : List Entry) (n k : ℕ) (bytes : List ℕ) : Type 0
   pub settles : SettlesCall log n k
   pub names : settles_by (take k log) settles.entry.event.kind ≡ Some (n, Some bytes)
 
--- The call of entry n, a report of the server in that life, is granted by entry k: it comes back in that life, as a 200 that begins with an
--- answer. The server is then that.
-pub record IsGranted (setup : Setup) (log : List Entry) (n k : ℕ) (server : Addr) (life : ℕ) (now : ServerNow) : Type 0 where
+-- The call of entry n, a report of the server in that life, is granted by entry k: it comes back in that
+-- life, as a 200 that begins with an answer. The server is then that.
+pub record IsGranted (setup : Setup) (log : List Entry) (n k : ℕ) (server : Addr) (life : ℕ)
+    (now : ServerNow) : Type 0 where
   pub bytes : List ℕ
   pub back : BringsBack log n k bytes
   pub answer : UpdateJobStateResult
@@ -95,9 +100,10 @@ pub record IsGranted (setup : Setup) (log : List Entry) (n k : ℕ) (server : Ad
   pub at : server_now setup (take k log) server ≡ Some now
   pub lives : now.life ≡ life
 
--- The call of entry n, a report of the server in that life, comes back in that life by entry k, which returns a delivery of it that got a 200.
--- The server is then that.
-pub record IsReturned (setup : Setup) (log : List Entry) (n k : ℕ) (server : Addr) (life : ℕ) (now : ServerNow) : Type 0 where
+-- The call of entry n, a report of the server in that life, comes back in that life by entry k, which returns
+-- a delivery of it that got a 200. The server is then that.
+pub record IsReturned (setup : Setup) (log : List Entry) (n k : ℕ) (server : Addr) (life : ℕ)
+    (now : ServerNow) : Type 0 where
   pub bytes : List ℕ
   pub back : BringsBack log n k bytes
   pub delivery : ℕ
@@ -110,14 +116,17 @@ pub record IsReturned (setup : Setup) (log : List Entry) (n k : ℕ) (server : A
 
 -- ---- what they get
 
--- entry k commits a reservation, and replies to entry n what the commit says: the job with its token where it is kept, else that it was dropped
-pub record IsCommitted (setup : Setup) (log : List Entry) (n k : ℕ) (json : Bool) (t : Ticket) (a : AssignJobResult) : Type 0 where
+-- entry k commits a reservation, and replies to entry n what the commit says: the job with its token where it
+-- is kept, else that it was dropped
+pub record IsCommitted (setup : Setup) (log : List Entry) (n k : ℕ) (json : Bool) (t : Ticket)
+    (a : AssignJobResult) : Type 0 where
   pub entry : Entry
   pub there : slice_get log k ≡ Some entry
   pub made : CoreEntry
   pub commits : made ≡ rule (core_of setup (take k log)) (call.Commit entry.event.at t.number t.job a.state)
   pub core : entry.core ≡ Some made
-  pub replies : entry.reply ≡ Some (reply_to n (commit_response json a.need_toolchain (committed_by true made.kind t)))
+  pub replies : entry.reply ≡ Some
+      (reply_to n (commit_response json a.need_toolchain (committed_by true made.kind t)))
 
 -- entry k has that step, and replies so to entry n
 pub record EndsBy (log : List Entry) (n k : ℕ) (step : Step) (response : Response) : Type 0 where
@@ -126,48 +135,70 @@ pub record EndsBy (log : List Entry) (n k : ℕ) (step : Step) (response : Respo
   pub steps : entry.step ≡ Some step
   pub replies : entry.reply ≡ Some (reply_to n response)
 
--- a request for a job that reserved one gets the 200 of an allocation where its call comes back as a 200 that begins with an answer, pending or ready
+-- a request for a job that reserved one gets the 200 of an allocation where its call comes back as a 200 that
+-- begins with an answer, pending or ready
 abbrev pub AllocationsEnd : Setup → List Entry → Type 0
 AllocationsEnd setup log =
-    (n k : ℕ) (json : Bool) (t : Ticket) (bytes : List ℕ) (a : AssignJobResult) → IsReserved setup log n json t → BringsBack log n k bytes → IsAssigned bytes (Ok a)
+    (n k : ℕ) (json : Bool) (t : Ticket) (bytes : List ℕ) (a : AssignJobResult)
+    → IsReserved setup log n json t → BringsBack log n k bytes → IsAssigned bytes (Ok a)
     → IsCommitted setup log n k json t a
 
 -- a submission gets the 200 of its outcome, over what the server keeps then, where its call is granted
 abbrev pub SubmissionsEnd : Setup → List Entry → Type 0
 SubmissionsEnd setup log =
-    (n k : ℕ) (server : Addr) (life : ℕ) (job : JobId) (json : Bool) (body : ℕ) (bytes : List ℕ) (now : ServerNow)
-    → AsksAt setup log n server life bytes (record { what = server_asked.Submit job; json = json; body = body }) → IsGranted setup log n k server life now
+    (n k : ℕ) (server : Addr) (life : ℕ) (job : JobId) (json : Bool) (body : ℕ) (bytes : List ℕ)
+    (now : ServerNow)
+    → AsksAt setup log n server life bytes
+    (record { what = server_asked.Submit job; json = json; body = body })
+    → IsGranted setup log n k server life now
     → let outcome = submit_verdict (books_of now) (held_for job now.held) (drop body bytes) in
-    EndsBy log n k (record { server = server; kind = step.Submitted job outcome }) (submit_response json (submit_result outcome))
+    EndsBy log n k (record { server = server; kind = step.Submitted job outcome })
+    (submit_response json (submit_result outcome))
 
 -- entry j runs the job so at the server, and tells the scheduler that it is complete
-pub record IsRunBy (setup : Setup) (log : List Entry) (j : ℕ) (server : Addr) (job : JobId) (outcome : Outcome) : Type 0 where
+pub record IsRunBy (setup : Setup) (log : List Entry) (j : ℕ) (server : Addr) (job : JobId)
+    (outcome : Outcome) : Type 0 where
   pub entry : Entry
   pub there : slice_get log j ≡ Some entry
-  pub steps : entry.step ≡ Some (record { server = server; kind = step.Ran job (ran_of outcome) (built_of outcome) })
+  pub steps : entry.step ≡ Some
+      (record { server = server; kind = step.Ran job (ran_of outcome) (built_of outcome) })
   pub tells : entry.call ≡ Some (state_call setup server job state.Complete)
 
--- A request to run a job is run, over what the server keeps then, where its first call is granted; where the second is too, the reply is that
--- of its outcome: a 200 where the job was built or is not held.
+-- A request to run a job is run, over what the server keeps then, where its first call is granted; where the
+-- second is too, the reply is that of its outcome: a 200 where the job was built or is not held.
 abbrev pub RunsEnd : Setup → List Entry → Type 0
 RunsEnd setup log =
-    (n j : ℕ) (server : Addr) (life : ℕ) (job : JobId) (run : RunJobHttpRequest) (at : ℕ) (json : Bool) (body : ℕ) (bytes : List ℕ) (now : ServerNow)
-    → AsksAt setup log n server life bytes (record { what = server_asked.Run job run at; json = json; body = body }) → IsGranted setup log n j server life now
+    (n j : ℕ) (server : Addr) (life : ℕ) (job : JobId) (run : RunJobHttpRequest) (at : ℕ) (json : Bool)
+    (body : ℕ) (bytes : List ℕ) (now : ServerNow)
+    → AsksAt setup log n server life bytes
+    (record { what = server_asked.Run job run at; json = json; body = body })
+    → IsGranted setup log n j server life now
     → let outcome = run_outcome now (held_for job now.held) run.outputs (drop (body + at) bytes) in
     IsRunBy setup log j server job outcome
     × ((k : ℕ) (later : ServerNow) → IsGranted setup log j k server life later
-    → EndsBy log n k (record { server = server; kind = step.Finished job }) (ended_response json (run_answer outcome)))
+    → EndsBy log n k (record { server = server; kind = step.Finished job })
+    (ended_response json (run_answer outcome)))
 
 -- ---- restarts
 
--- A restart of a server lists the archives that it had, and keeps them in their order. Nothing is held after it, and key and nonce are the new ones.
+-- A restart of a server lists the archives that it had, and keeps them in their order. Nothing is held after
+-- it, and key and nonce are the new ones.
 abbrev pub RestartsKeep : Setup → List Entry → Type 0
 RestartsKeep setup log =
-    (k : ℕ) (e : Entry) (server : Addr) (key : List ℕ) (nonce : ℕ) (now : ServerNow) → slice_get log k ≡ Some e → e.event.kind ≡ Restart server key nonce
+    (k : ℕ) (e : Entry) (server : Addr) (key : List ℕ) (nonce : ℕ) (now : ServerNow)
+    → slice_get log k ≡ Some e → e.event.kind ≡ Restart server key nonce
     → server_now setup (take k log) server ≡ Some now
     → (e.step ≡ Some (record { server = now.setup.addr; kind = step.Opened now.archives }))
     × (server_now setup (take (suc k) log) server
-    ≡ Some (record { setup = now.setup; life = counted now.life; key = key; nonce = nonce; held = []; archives = now.archives; builds = now.builds }))
+    ≡ Some (record {
+      setup = now.setup;
+      life = counted now.life;
+      key = key;
+      nonce = nonce;
+      held = [];
+      archives = now.archives;
+      builds = now.builds;
+    }))
 
 -- ---- all of these
 
@@ -180,15 +211,24 @@ pub record IsReliable (setup : Setup) (log : List Entry) : Type 0 where
 
 -- ---- what a 200 of the scheduler grants
 
--- Where the farm's words can be read, the return of a delivery that got a 200 grants a server's report: that of a submission, that a run
--- starts, and that it is complete.
+-- Where the farm's words can be read, the return of a delivery that got a 200 grants a server's report: that
+-- of a submission, that a run starts, and that it is complete.
 pub record ReturnsGrant (setup : Setup) (log : List Entry) : Type 0 where
-  pub submissions : (n k : ℕ) (server : Addr) (life : ℕ) (job : JobId) (json : Bool) (body : ℕ) (bytes : List ℕ) (now : ServerNow)
-      → AsksAt setup log n server life bytes (record { what = server_asked.Submit job; json = json; body = body }) → IsReturned setup log n k server life now
+  pub submissions : (n k : ℕ) (server : Addr) (life : ℕ) (job : JobId) (json : Bool) (body : ℕ)
+      (bytes : List ℕ) (now : ServerNow)
+      → AsksAt setup log n server life bytes
+      (record { what = server_asked.Submit job; json = json; body = body })
+      → IsReturned setup log n k server life now
       → IsGranted setup log n k server life now
-  pub starts : (n j : ℕ) (server : Addr) (life : ℕ) (job : JobId) (run : RunJobHttpRequest) (at : ℕ) (json : Bool) (body : ℕ) (bytes : List ℕ) (now : ServerNow)
-      → AsksAt setup log n server life bytes (record { what = server_asked.Run job run at; json = json; body = body }) → IsReturned setup log n j server life now
+  pub starts : (n j : ℕ) (server : Addr) (life : ℕ) (job : JobId) (run : RunJobHttpRequest) (at : ℕ)
+      (json : Bool) (body : ℕ) (bytes : List ℕ) (now : ServerNow)
+      → AsksAt setup log n server life bytes
+      (record { what = server_asked.Run job run at; json = json; body = body })
+      → IsReturned setup log n j server life now
       → IsGranted setup log n j server life now
-  pub ends : (n j k : ℕ) (server : Addr) (life : ℕ) (job : JobId) (run : RunJobHttpRequest) (at : ℕ) (json : Bool) (body : ℕ) (bytes : List ℕ) (now later : ServerNow)
-      → AsksAt setup log n server life bytes (record { what = server_asked.Run job run at; json = json; body = body }) → IsGranted setup log n j server life now
+  pub ends : (n j k : ℕ) (server : Addr) (life : ℕ) (job : JobId) (run : RunJobHttpRequest) (at : ℕ)
+      (json : Bool) (body : ℕ) (bytes : List ℕ) (now later : ServerNow)
+      → AsksAt setup log n server life bytes
+      (record { what = server_asked.Run job run at; json = json; body = body })
+      → IsGranted setup log n j server life now
       → IsReturned setup log j k server life later → IsGranted setup log j k server life later

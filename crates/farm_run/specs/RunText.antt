@@ -12,10 +12,11 @@ use Rattle.farm_run.specs.Farm.{AreLawful}
 use Rattle.farm_run.specs.Printed.{run_text}
 use Rattle.farm_run.specs.Reliable.{IsReliable}
 
--- The text is that of a script's run: no line of the script is faulty, its lines say a setup and events, and the text is that of
--- the farm that is set up so and of a list that has one entry for each event, each next over those before it. After each front of the
--- entries the laws of the scheduler hold; and each build goes on from an accepted start, no id is built twice, and a call is settled at
--- most once; an entry is replied to at most once, and a request whose calls are granted gets the reply that its row names.
+-- The text is that of a script's run: no line of the script is faulty, its lines say a setup and events, and
+-- the text is that of the farm that is set up so and of a list that has one entry for each event, each next
+-- over those before it. After each front of the entries the laws of the scheduler hold; and each build goes
+-- on from an accepted start, no id is built twice, and a call is settled at most once; an entry is replied to
+-- at most once, and a request whose calls are granted gets the reply that its row names.
 pub record IsRunText (bytes text : List ℕ) : Type 0 where
   pub setup : Setup
   pub events : List Event

@@ -21,7 +21,8 @@ core_log log = filter_map (λ e. e.core) log
 abbrev pub core_of : Setup → List Entry → Core
 core_of setup log = record { base = setup.scheduler.base; count = setup.scheduler.count; log = core_log log }
 
--- the server that a token which is shown is accepted for, if it is accepted: all build servers have one token, or each has its own under a key
+-- the server that a token which is shown is accepted for, if it is accepted: all build servers have one
+-- token, or each has its own under a key
 abbrev pub serves : SetupAuth → List ℕ → Option Addr
 serves (Plain token) = plain_server token
 serves (Jwt key) = λ shown. result_ok (server_verdict key shown)

@@ -1,5 +1,6 @@
 -- What a build server does with what is asked of it, and at its own events.
-use Rattle.std.specs.Prelude.{◌≡◌, ℕ, ◌+◌, List, [], Bool, not, if◌then◌else◌, slice_get, map, Option, Some, None, Result, Ok, Err}
+use Rattle.std.specs.Prelude.{◌≡◌, ℕ, ◌+◌, List, [], Bool, not, if◌then◌else◌, slice_get, map, Option, Some}
+use Rattle.std.specs.Prelude.{None, Result, Ok, Err}
 use Rattle.dist_types.specs.declared.addr.Addr.{Addr}
 use Rattle.dist_types.specs.declared.ids.JobId.{JobId}
 use Rattle.dist_types.specs.declared.builder.BuildFault.{BuildFault}
@@ -40,13 +41,24 @@ use Rattle.farm_run.specs.Servers.{ServerNow}
 
 -- the books that a server's rules ask
 abbrev pub books_of : ServerNow → Books
-books_of s = record { held = s.held; archives = s.archives; capacity = s.setup.capacity; path = []; folder = record { files = None; faults = 0 } }
+books_of s = record {
+  held = s.held;
+  archives = s.archives;
+  capacity = s.setup.capacity;
+  path = [];
+  folder = record { files = None; faults = 0 };
+}
 
 -- ---- its calls
 
 -- the call that tells the scheduler a job's state
 abbrev pub state_call : Setup → Addr → JobId → JobState → OutCall
-state_call setup addr job state = record { target = setup.scheduler.addr; bytes = state_request_text setup.scheduler.addr (server_token setup addr) job state }
+state_call setup addr job state =
+    record {
+      target = setup.scheduler.addr;
+      bytes = state_request_text setup.scheduler.addr
+          (server_token setup addr) job state;
+    }
 
 -- the message of its heartbeat
 abbrev pub beat_of : ServerNow → HeartbeatServerHttpRequest
@@ -54,7 +66,10 @@ beat_of s = record { jwt_key = s.key; num_cpus = s.setup.cpus; server_nonce = s.
 
 -- the call of its heartbeat
 abbrev pub beat_call : Setup → ServerNow → OutCall
-beat_call setup s = record { target = setup.scheduler.addr; bytes = heartbeat_request_text setup.scheduler.addr (server_token setup s.setup.addr) (beat_of s) }
+beat_call setup s = record {
+  target = setup.scheduler.addr;
+  bytes = heartbeat_request_text setup.scheduler.addr (server_token setup s.setup.addr) (beat_of s);
+}
 
 -- what is kept of a call of the server
 abbrev pub report_of : ℕ → Bool → ServerNow → Told → Pending
@@ -64,14 +79,19 @@ report_of root json s told = record { root = root; json = json; ask = Report s.s
 
 -- an assignment, by its verdict; only where the job is held already it is refused
 abbrev pub assigned : Addr → ℕ → Bool → JobId → List ℕ → Result AssignJobResult ServerFault → Effect
-assigned addr number json job tc (Ok a) = step_reply_effect addr (step.Assigned job tc (not a.need_toolchain)) (reply_to number (assign_response json a))
-assigned addr number json job tc (Err e) = reply_effect None (reply_to number (fault_response_of (fault.AlreadyAssigned job)))
+assigned addr number json job tc (Ok a) = step_reply_effect addr (step.Assigned job tc (not a.need_toolchain))
+    (reply_to number (assign_response json a))
+assigned addr number json job tc (Err e) =
+    reply_effect None (reply_to number (fault_response_of (fault.AlreadyAssigned job)))
 
 -- what is asked by the entry of that number
 abbrev pub served : Setup → ServerNow → ℕ → Bool → ServerRouted → Effect
-served setup s number json (asked.Assign job tc) = assigned s.setup.addr number json job tc (assign_verdict (books_of s) job tc)
-served setup s number json (asked.Submit job) = call_effect None (Some (state_call setup s.setup.addr job state.Ready))
-served setup s number json (asked.Run job run at) = call_effect None (Some (state_call setup s.setup.addr job state.Started))
+served setup s number json (asked.Assign job tc) = assigned s.setup.addr number json job tc
+    (assign_verdict (books_of s) job tc)
+served setup s number json (asked.Submit job) =
+    call_effect None (Some (state_call setup s.setup.addr job state.Ready))
+served setup s number json (asked.Run job run at) =
+    call_effect None (Some (state_call setup s.setup.addr job state.Started))
 served setup s number json (asked.Done response) = reply_effect None (reply_to number response)
 
 -- what is kept to go on with, where what is asked makes a call; the body begins at that place of the bytes
@@ -87,7 +107,8 @@ AsksServer s bytes a = IsServerAsked (job_verdict s.key) bytes a
 
 -- the server does what the bytes ask
 abbrev pub IsServerAnswered : Setup → ServerNow → ℕ → List ℕ → Effect → Type 0
-IsServerAnswered setup s number bytes x = (a : ServerAsked) × AsksServer s bytes a × (x ≡ served setup s number a.json a.what)
+IsServerAnswered setup s number bytes x = (a : ServerAsked) × AsksServer s bytes a
+    × (x ≡ served setup s number a.json a.what)
 
 -- what is kept of the call that it makes so
 pub record IsReport (s : ServerNow) (number : ℕ) (a : ServerAsked) (p : Pending) : Type 0 where
@@ -125,8 +146,11 @@ abbrev pub built : List ℕ → Result BuildResult BuildFault → Outcome
 built tc (Ok result) = outcome.Built tc result
 built tc (Err e) = outcome.Refused tc
 
--- how a run goes that the scheduler accepted: the builder is asked where the job is held and its archive is listed
+-- how a run goes that the scheduler accepted: the builder is asked where the job is held and its archive is
+-- listed
 abbrev pub run_outcome : ServerNow → Option (List ℕ) → List (List ℕ) → List ℕ → Outcome
 run_outcome s None outputs inputs = outcome.None
 run_outcome s (Some tc) outputs inputs =
-    if is_listed tc s.archives then built tc (build_answer (slice_get s.setup.builder s.builds) outputs inputs) else outcome.Unlisted tc
+    if is_listed tc s.archives
+    then built tc (build_answer (slice_get s.setup.builder s.builds) outputs inputs)
+    else outcome.Unlisted tc

@@ -1,5 +1,6 @@
 -- What follows where a call is settled.
-use Rattle.std.specs.Prelude.{◌≡◌, ℕ, List, drop, Bool, true, false, if◌then◌else◌, Option, Some, None, Result, Ok, Err}
+use Rattle.std.specs.Prelude.{◌≡◌, ℕ, List, drop, Bool, true, false, if◌then◌else◌, Option, Some, None}
+use Rattle.std.specs.Prelude.{Result, Ok, Err}
 use Rattle.dist_types.specs.declared.addr.Addr.{Addr}
 use Rattle.dist_types.specs.declared.ids.JobId.{JobId}
 use Rattle.dist_types.specs.declared.outgoing.CallFault.{CallFault}
@@ -44,7 +45,8 @@ use Rattle.farm_run.specs.declared.pending.Ask.{Ask}
 use Rattle.farm_run.specs.declared.pending.Ask.TheVariants.{Assign, Report}
 use Rattle.farm_run.specs.declared.pending.Told.{Told}
 use Rattle.farm_run.specs.declared.pending.Told.TheVariants as told
-use Rattle.farm_run.specs.Effects.{word_effect, reply_effect, step_effect, step_reply_effect, step_call_effect, reply_to}
+use Rattle.farm_run.specs.Effects.{word_effect, reply_effect, step_effect, step_reply_effect}
+use Rattle.farm_run.specs.Effects.{step_call_effect, reply_to}
 use Rattle.farm_run.specs.Served.{books_of, state_call, run_outcome}
 use Rattle.farm_run.specs.Servers.{ServerNow, is_over}
 
@@ -55,11 +57,13 @@ abbrev pub IsOutcome : Option (List ℕ) → Result AssignJobResult CallFault �
 IsOutcome None r = r ≡ Err Lost
 IsOutcome (Some bytes) r = IsAssigned bytes r
 
--- the reservation is committed in the state that the server answered, or undone, and who asked for the job is told
+-- the reservation is committed in the state that the server answered, or undone, and who asked for the job is
+-- told
 abbrev pub assignment_end : Core → ℕ → Bool → ℕ → Ticket → Result AssignJobResult CallFault → Effect
 assignment_end core root json at t (Ok a) =
     let made = rule core (call.Commit at t.number t.job a.state) in
-    reply_effect (Some made) (reply_to root (commit_response json a.need_toolchain (committed_by true made.kind t)))
+    reply_effect (Some made)
+    (reply_to root (commit_response json a.need_toolchain (committed_by true made.kind t)))
 assignment_end core root json at t (Err f) =
     let made = rule core (call.Undo at t.number t.job) in
     reply_effect (Some made) (reply_to root (fault_response_of (fault.AssignFailed (undone_by made.kind) f)))
@@ -78,24 +82,30 @@ IsHeard (Some bytes) r = IsAnswer heard_at bytes r
 
 -- a report that was not accepted
 abbrev pub unreported : Addr → ℕ → JobId → CallFault → Effect
-unreported addr root job f = step_reply_effect addr (step.Unreported job) (reply_to root (fault_response_of (fault.UpdateFailed f)))
+unreported addr root job f = step_reply_effect addr (step.Unreported job)
+    (reply_to root (fault_response_of (fault.UpdateFailed f)))
 
 -- a submission that came to this
 abbrev pub submission : Addr → ℕ → Bool → JobId → Submitted → Effect
-submission addr root json job outcome = step_reply_effect addr (step.Submitted job outcome) (reply_to root (submit_response json (submit_result outcome)))
+submission addr root json job outcome = step_reply_effect addr (step.Submitted job outcome)
+    (reply_to root (submit_response json (submit_result outcome)))
 
 -- Ready was told of a job, whose archive was submitted
 abbrev pub ready_end : ServerNow → ℕ → Bool → JobId → List ℕ → Result UpdateJobStateResult CallFault → Effect
-ready_end s root json job archive (Ok u) = submission s.setup.addr root json job (submit_verdict (books_of s) (held_for job s.held) archive)
+ready_end s root json job archive (Ok u) = submission s.setup.addr root json job
+    (submit_verdict (books_of s) (held_for job s.held) archive)
 ready_end s root json job archive (Err f) = unreported s.setup.addr root job f
 
 -- a run that went so, whose end is told
 abbrev pub running : Setup → Addr → JobId → Outcome → Effect
-running setup addr job outcome = step_call_effect addr (step.Ran job (ran_of outcome) (built_of outcome)) (state_call setup addr job state.Complete)
+running setup addr job outcome = step_call_effect addr (step.Ran job (ran_of outcome) (built_of outcome))
+    (state_call setup addr job state.Complete)
 
 -- Started was told of a job, which was to be run
-abbrev pub started_end : Setup → ServerNow → ℕ → JobId → RunJobHttpRequest → List ℕ → Result UpdateJobStateResult CallFault → Effect
-started_end setup s root job run inputs (Ok u) = running setup s.setup.addr job (run_outcome s (held_for job s.held) run.outputs inputs)
+abbrev pub started_end : Setup → ServerNow → ℕ → JobId → RunJobHttpRequest → List ℕ
+    → Result UpdateJobStateResult CallFault → Effect
+started_end setup s root job run inputs (Ok u) = running setup s.setup.addr job
+    (run_outcome s (held_for job s.held) run.outputs inputs)
 started_end setup s root job run inputs (Err f) = unreported s.setup.addr root job f
 
 -- why a build gave nothing, as a reply tells it
@@ -114,7 +124,8 @@ ended_response json (Err refusal.Memory) = fault_response_of (fault.UpdateFailed
 
 -- Complete was told of a job that ran so
 abbrev pub complete_end : Addr → ℕ → Bool → JobId → Outcome → Result UpdateJobStateResult CallFault → Effect
-complete_end addr root json job outcome (Ok u) = step_reply_effect addr (step.Finished job) (reply_to root (ended_response json (run_answer outcome)))
+complete_end addr root json job outcome (Ok u) = step_reply_effect addr (step.Finished job)
+    (reply_to root (ended_response json (run_answer outcome)))
 complete_end addr root json job outcome (Err f) = unreported addr root job f
 
 -- how a heartbeat was heard
@@ -125,22 +136,28 @@ heard_as (Err f) = heard.Lost
 -- a report of the server goes on by its reply; the bytes are those that the event of the root brought
 abbrev pub Reports : Setup → ServerNow → List ℕ → ℕ → Bool → Option (List ℕ) → Told → Effect → Type 0
 Reports setup s bytes root json reply (told.Ready job at) x =
-    (r : Result UpdateJobStateResult CallFault) × IsUpdated reply r × (x ≡ ready_end s root json job (drop at bytes) r)
+    (r : Result UpdateJobStateResult CallFault) × IsUpdated reply r
+    × (x ≡ ready_end s root json job (drop at bytes) r)
 Reports setup s bytes root json reply (told.Started job run at) x =
-    (r : Result UpdateJobStateResult CallFault) × IsUpdated reply r × (x ≡ started_end setup s root job run (drop at bytes) r)
+    (r : Result UpdateJobStateResult CallFault) × IsUpdated reply r
+    × (x ≡ started_end setup s root job run (drop at bytes) r)
 Reports setup s bytes root json reply (told.Complete job outcome) x =
-    (r : Result UpdateJobStateResult CallFault) × IsUpdated reply r × (x ≡ complete_end s.setup.addr root json job outcome r)
+    (r : Result UpdateJobStateResult CallFault) × IsUpdated reply r
+    × (x ≡ complete_end s.setup.addr root json job outcome r)
 Reports setup s bytes root json reply told.Heartbeat x =
-    (r : Result HeartbeatServerResult CallFault) × IsHeard reply r × (x ≡ step_effect s.setup.addr (step.Heard (heard_as r)))
+    (r : Result HeartbeatServerResult CallFault) × IsHeard reply r
+    × (x ≡ step_effect s.setup.addr (step.Heard (heard_as r)))
 
 abbrev pub Lives : Setup → ℕ → ServerNow → List ℕ → ℕ → Bool → Option (List ℕ) → Told → Bool → Effect → Type 0
 Lives setup life s bytes root json reply told true x = x ≡ word_effect Died
 Lives setup life s bytes root json reply told false x = Reports setup s bytes root json reply told x
 
 -- the same in the life that made it; where that is over, who asked is gone
-abbrev pub ReportsIn : Setup → ℕ → List ℕ → ℕ → Bool → Option (List ℕ) → Told → Option ServerNow → Effect → Type 0
+abbrev pub ReportsIn : Setup → ℕ → List ℕ → ℕ → Bool → Option (List ℕ) → Told → Option ServerNow → Effect
+    → Type 0
 ReportsIn setup life bytes root json reply told None x = x ≡ word_effect Died
-ReportsIn setup life bytes root json reply told (Some s) x = Lives setup life s bytes root json reply told (is_over life s) x
+ReportsIn setup life bytes root json reply told (Some s) x = Lives setup life s bytes root json reply told
+    (is_over life s) x
 
 -- ---- the reservations of calls
 

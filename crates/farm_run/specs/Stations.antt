@@ -13,9 +13,18 @@ use Rattle.farm_run.specs.Servers.{ServerNow, stepped, server_of}
 
 -- the server that a station is
 abbrev pub now_of : SetupServer → Station → ServerNow
-now_of s st = record { setup = s; life = st.life; key = st.authorizer; nonce = st.nonce; held = st.state.held; archives = st.state.archives; builds = st.builds }
+now_of s st = record {
+  setup = s;
+  life = st.life;
+  key = st.authorizer;
+  nonce = st.nonce;
+  held = st.state.held;
+  archives = st.state.archives;
+  builds = st.builds;
+}
 
--- A station of a server: its cache has the server's capacity, in one place of its folder, and lists what the folder holds.
+-- A station of a server: its cache has the server's capacity, in one place of its folder, and lists what the
+-- folder holds.
 pub record IsWell (s : SetupServer) (st : Station) : Type 0 where
   pub capacity : st.state.capacity ≡ s.capacity
   pub path : st.state.path ≡ codes "tc"
@@ -29,14 +38,17 @@ pub record IsStation (s : SetupServer) (log : List Entry) (st : Station) : Type 
 -- a station for each server, in the order of the setup
 pub record AreStations (servers : List SetupServer) (log : List Entry) (sts : List Station) : Type 0 where
   pub size : length sts ≡ length servers
-  pub each : (i : ℕ) (s : SetupServer) (st : Station) → slice_get servers i ≡ Some s → slice_get sts i ≡ Some st → IsStation s log st
+  pub each : (i : ℕ) (s : SetupServer) (st : Station) → slice_get servers i ≡ Some s
+      → slice_get sts i ≡ Some st → IsStation s log st
 
 -- each station of a server is well
 abbrev pub AreWell : List SetupServer → List Station → Type 0
-AreWell servers sts = (i : ℕ) (s : SetupServer) (st : Station) → slice_get servers i ≡ Some s → slice_get sts i ≡ Some st → IsWell s st
+AreWell servers sts = (i : ℕ) (s : SetupServer) (st : Station) → slice_get servers i ≡ Some s
+    → slice_get sts i ≡ Some st → IsWell s st
 
 -- the station of a server, at its place, did that step, and no other station did anything
-pub record IsStepAt (s : SetupServer) (place : ℕ) (st : Station) (step : Option Step) (old new : List Station) : Type 0 where
+pub record IsStepAt (s : SetupServer) (place : ℕ) (st : Station) (step : Option Step)
+    (old new : List Station) : Type 0 where
   pub after : Station
   pub is : new ≡ set old place after
   pub now : now_of s after ≡ stepped step (now_of s st)

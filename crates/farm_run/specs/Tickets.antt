@@ -11,12 +11,19 @@ use Rattle.sched_core.specs.declared.entry.Reserved.TheVariants.{Job, NoRoom, Sp
 use Rattle.farm_run.specs.declared.entry.Entry.{Entry}
 use Rattle.farm_run.specs.Seen.{core_log}
 
--- the reservation that a core entry of this kind makes behind a log: at its registration's address, with the job's token under the key of the registration's own heartbeat
+-- the reservation that a core entry of this kind makes behind a log: at its registration's address, with the
+-- job's token under the key of the registration's own heartbeat
 abbrev pub ticket_by : List CoreEntry → CoreKind → Option Ticket
 ticket_by log (core.Reserve (Job job reg forgiven)) = do
   server ← address_of log reg
   key ← key_at log reg
-  Some (record { number = length log; job = job; server = server; reg = reg; auth = token_text key (job_claims_text job.0) })
+  Some (record {
+    number = length log;
+    job = job;
+    server = server;
+    reg = reg;
+    auth = token_text key (job_claims_text job.0);
+  })
 ticket_by log (core.Reserve (NoRoom standing)) = None
 ticket_by log (core.Reserve Spent) = None
 ticket_by log other = None

@@ -1,10 +1,12 @@
 -- What an event comes to, over the entries before it.
-use Rattle.std.specs.Prelude.{ℕ, List, [], Bool, false, ◌||◌, slice_get, is_some, Option, Some, None, if◌then◌else◌}
+use Rattle.std.specs.Prelude.{ℕ, List, [], Bool, false, ◌||◌, slice_get, is_some, Option, Some, None}
+use Rattle.std.specs.Prelude.{if◌then◌else◌}
 use Rattle.dist_types.specs.Addr.{same_addr}
 use Rattle.dist_types.specs.declared.addr.Addr.{Addr}
 use Rattle.farm_script.specs.declared.setup.Setup.{Setup}
 use Rattle.farm_script.specs.declared.event.EventKind.{EventKind}
-use Rattle.farm_script.specs.declared.event.EventKind.TheVariants.{Request, Deliver, Fail, Return, Answer, Beat, Restart}
+use Rattle.farm_script.specs.declared.event.EventKind.TheVariants.{Request, Deliver, Fail, Return, Answer}
+use Rattle.farm_script.specs.declared.event.EventKind.TheVariants.{Beat, Restart}
 use Rattle.farm_run.specs.declared.entry.Entry.{Entry}
 use Rattle.farm_run.specs.declared.entry.OutCall.{OutCall}
 use Rattle.farm_run.specs.declared.entry.Step.{Step}
@@ -34,7 +36,8 @@ server_way bytes (Some s) = to_server s bytes
 
 -- bytes that a peer sends to an address
 abbrev pub way_to : Setup → List Entry → Addr → Addr → List ℕ → Way
-way_to setup log target peer bytes = if same_addr target setup.scheduler.addr then to_scheduler peer bytes else server_way bytes (server_now setup log target)
+way_to setup log target peer bytes = if same_addr target setup.scheduler.addr then to_scheduler peer bytes
+    else server_way bytes (server_now setup log target)
 
 -- the address of a step's server, or that one where there is no step
 abbrev pub stepper : Option Step → Addr → Addr
@@ -89,10 +92,12 @@ restart_way key nonce (Some s) = to_restart s key nonce
 -- by the kind of the event; a call into the farm is not answered from outside
 abbrev pub way_of : Setup → List Entry → EventKind → Way
 way_of setup log (Request target peer bytes) = way_to setup log target peer bytes
-way_of setup log (Deliver call) = delivery_way setup log (caller_of setup log (slice_get log call)) (call_at log call)
+way_of setup log (Deliver call) = delivery_way setup log (caller_of setup log (slice_get log call))
+    (call_at log call)
 way_of setup log (Fail call) = to_call call None
 way_of setup log (Return delivery) = return_way (delivery_at log delivery)
-way_of setup log (Answer call bytes) = if is_inside setup (call_at log call) then to_nothing else to_call call (Some bytes)
+way_of setup log (Answer call bytes) = if is_inside setup (call_at log call) then to_nothing
+    else to_call call (Some bytes)
 way_of setup log (Beat server) = beat_way (server_now setup log server)
 way_of setup log (Restart server key nonce) = restart_way key nonce (server_now setup log server)
 

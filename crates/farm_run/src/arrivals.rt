@@ -1,5 +1,6 @@
 //! Bytes that come to an address, and the events of a build server of its own.
-ghost use Rattle.std.specs.Prelude.{◌≡◌, ◌++◌, ◌∷◌, [], ℕ, length, set, slice_get, position, IfOk, IfErr, OnOk, Some, None};
+ghost use Rattle.std.specs.Prelude.{◌≡◌, ◌++◌, ◌∷◌, [], ℕ, length, set, slice_get, position, IfOk, IfErr};
+ghost use Rattle.std.specs.Prelude.{OnOk, Some, None};
 ghost use Rattle.dist_types.specs.Addr.{same_addr};
 ghost use Rattle.dist_types.specs.declared.addr.Addr.{Addr as Place};
 ghost use Rattle.farm_script.specs.declared.event.Event.{Event as Happening};
@@ -39,10 +40,12 @@ pub(crate) fn arrive(
 ) -> Result<Made, FarmFault>
     requires apart { HasApart desk.old.setup }
     requires stations { AreStations desk.old.setup.servers entries.now stations.old.items }
-    ensures received { IfOk result (IsReceived desk.old.setup desk.old.state arrival.now.stamp.number arrival.now.stamp.at
+    ensures received { IfOk result
+        (IsReceived desk.old.setup desk.old.state arrival.now.stamp.number arrival.now.stamp.at
         (way_to desk.old.setup entries.now target arrival.now.peer arrival.now.bytes.now)) }
     ensures stations { IfOk result (λ m. (event : Happening) → ((a : Place) → restart_by a event.kind ≡ None)
-        → AreStations desk.old.setup.servers (entries.now ++ entry_of event m.effect ∷ []) stations.new.items) }
+        → AreStations desk.old.setup.servers (entries.now ++ entry_of event m.effect ∷ [])
+        stations.new.items) }
     ensures desk { IfOk result (λ m. desk.new ≡ acted desk.old m.effect.core) }
     ensures err { IfErr result (λ e. e ≡ fault.Memory) }
 {
@@ -67,11 +70,17 @@ pub(crate) fn arrive_at(
     arrival: &Arrival<'_>,
 ) -> Result<Made, FarmFault>
     requires well { AreWell desk.now.setup.servers stations.old.items }
-    ensures answered { IfOk result (λ m. (s : Site) (st : Post) → slice_get desk.now.setup.servers place ≡ Some s → slice_get stations.old.items place ≡ Some st
-        → IsServerAnswered desk.now.setup (now_of s st) arrival.now.stamp.number arrival.now.bytes.now m.effect) }
-    ensures kept { IfOk result (λ m. (s : Site) (st : Post) → slice_get desk.now.setup.servers place ≡ Some s → slice_get stations.old.items place ≡ Some st
-        → Keeps (IsBegunBy desk.now.setup desk.now.state.log arrival.now.stamp.number (to_server (now_of s st) arrival.now.bytes.now) m.effect) m.effect m.pending) }
-    ensures step { IfOk result (λ m. (s : Site) (st : Post) → slice_get desk.now.setup.servers place ≡ Some s → slice_get stations.old.items place ≡ Some st
+    ensures answered { IfOk result
+        (λ m. (s : Site) (st : Post) → slice_get desk.now.setup.servers place ≡ Some s
+        → slice_get stations.old.items place ≡ Some st
+        → IsServerAnswered desk.now.setup (now_of s st) arrival.now.stamp.number arrival.now.bytes.now
+        m.effect) }
+    ensures kept { IfOk result (λ m. (s : Site) (st : Post) → slice_get desk.now.setup.servers place ≡ Some s
+        → slice_get stations.old.items place ≡ Some st
+        → Keeps (IsBegunBy desk.now.setup desk.now.state.log arrival.now.stamp.number
+        (to_server (now_of s st) arrival.now.bytes.now) m.effect) m.effect m.pending) }
+    ensures step { IfOk result (λ m. (s : Site) (st : Post) → slice_get desk.now.setup.servers place ≡ Some s
+        → slice_get stations.old.items place ≡ Some st
         → IsStepAt s place st m.effect.step stations.old.items stations.new.items) }
     ensures there { OnOk result ((st : Post) × (slice_get stations.old.items place ≡ Some st)) }
     ensures err { IfErr result (λ e. e ≡ fault.Memory) }
@@ -98,9 +107,11 @@ pub(crate) fn deliver(
 ) -> Result<Made, FarmFault>
     requires apart { HasApart desk.old.setup }
     requires stations { AreStations desk.old.setup.servers entries.now stations.old.items }
-    ensures received { IfOk result (IsReceived desk.old.setup desk.old.state (length entries.now) at (way_of desk.old.setup entries.now (kind.Deliver call))) }
+    ensures received { IfOk result (IsReceived desk.old.setup desk.old.state (length entries.now) at
+        (way_of desk.old.setup entries.now (kind.Deliver call))) }
     ensures stations { IfOk result (λ m. (event : Happening) → ((a : Place) → restart_by a event.kind ≡ None)
-        → AreStations desk.old.setup.servers (entries.now ++ entry_of event m.effect ∷ []) stations.new.items) }
+        → AreStations desk.old.setup.servers (entries.now ++ entry_of event m.effect ∷ [])
+        stations.new.items) }
     ensures desk { IfOk result (λ m. desk.new ≡ acted desk.old m.effect.core) }
     ensures err { IfErr result (λ e. e ≡ fault.Memory) }
 {
@@ -129,7 +140,9 @@ pub(crate) fn send_beat(
     addr: Addr,
 ) -> Result<Made, FarmFault>
     requires stations { AreStations desk.now.setup.servers entries.now stations.now }
-    ensures received { IfOk result (λ m. (at : ℕ) → IsReceived desk.now.setup desk.now.state (length entries.now) at (beat_way (server_now desk.now.setup entries.now addr)) m) }
+    ensures received { IfOk result
+        (λ m. (at : ℕ) → IsReceived desk.now.setup desk.now.state (length entries.now) at
+        (beat_way (server_now desk.now.setup entries.now addr)) m) }
     ensures step { IfOk result (λ m. m.effect.step ≡ None) }
     ensures core { IfOk result (λ m. m.effect.core ≡ None) }
     ensures err { IfErr result (λ e. e ≡ fault.Memory) }
@@ -159,7 +172,9 @@ pub(crate) fn restart_in(
 ) -> Result<Effect, FarmFault>
     requires well { IsWell server.now station.old }
     ensures effect { IfOk result (λ x. x ≡ restart_effect (now_of server.now station.old)) }
-    ensures after { IfOk result (λ x. now_of server.now station.new ≡ stepped x.step (restarted (Some (key.now, nonce)) (now_of server.now station.old))) }
+    ensures after { IfOk result
+        (λ x. now_of server.now station.new ≡ stepped x.step
+        (restarted (Some (key.now, nonce)) (now_of server.now station.old))) }
     ensures still_well { OnOk result (IsWell server.now station.new) }
     ensures err { IfErr result (λ e. e ≡ fault.Memory) }
 {
@@ -180,8 +195,11 @@ pub(crate) fn restart(
     nonce: ServerNonce,
 ) -> Result<Made, FarmFault>
     requires well { AreWell desk.now.setup.servers stations.old.items }
-    ensures none { IfOk result (λ m. server_at desk.now.setup addr ≡ None → (m ≡ record { effect = word_effect EntryWord.Void; pending = None }) × (stations.new.items ≡ stations.old.items)) }
-    ensures some { IfOk result (λ m. (place : ℕ) (s : Site) (st : Post) → position (λ x. same_addr x.addr addr) desk.now.setup.servers ≡ Some place
+    ensures none { IfOk result (λ m. server_at desk.now.setup addr ≡ None
+        → (m ≡ record { effect = word_effect EntryWord.Void; pending = None })
+        × (stations.new.items ≡ stations.old.items)) }
+    ensures some { IfOk result (λ m. (place : ℕ) (s : Site) (st : Post)
+        → position (λ x. same_addr x.addr addr) desk.now.setup.servers ≡ Some place
         → slice_get desk.now.setup.servers place ≡ Some s → slice_get stations.old.items place ≡ Some st
         → (m ≡ record { effect = restart_effect (now_of s st); pending = None })
         × ((after : Post) × (stations.new.items ≡ set stations.old.items place after) × IsWell s after

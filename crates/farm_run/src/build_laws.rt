@@ -13,7 +13,8 @@ pub fn calls_are_settled_once()
         → EachNext setup [] events entries → AreSettledOnce entries }
 {}
 
-/// At every prefix of a run each build goes on from an accepted start of a run request, and no id is built twice.
+/// At every prefix of a run each build goes on from an accepted start of a run request, and no id is built
+/// twice.
 pub fn builds_are_accepted()
     ensures { (setup : Setup) (events : List Event) (entries : List Entry) → setup.scheduler.count < 2 ^ 64
         → HasWords setup → EachNext setup [] events entries → AreBuilds setup entries }

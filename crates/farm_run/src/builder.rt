@@ -82,7 +82,8 @@ pub fn build_answer(
     outputs: &[Text],
     inputs: &[u8],
 ) -> Result<Result<BuildResult, BuildFault>, Memory>
-    ensures ok { IfOk result (λ heard. heard ≡ build_answer (option_copied line.entry) outputs.now inputs.now) }
+    ensures ok { IfOk result
+        (λ heard. heard ≡ build_answer (option_copied line.entry) outputs.now inputs.now) }
 {
     match line {
         None => {

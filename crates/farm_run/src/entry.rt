@@ -1,6 +1,7 @@
 //! What an event did.
 ghost use Rattle.std.specs.Prelude.{◌≡◌, Some};
-ghost use Rattle.farm_run.specs.Effects.{word_effect, reply_effect, call_effect, step_effect, step_reply_effect, step_call_effect, entry_of};
+ghost use Rattle.farm_run.specs.Effects.{word_effect, reply_effect, call_effect, step_effect};
+ghost use Rattle.farm_run.specs.Effects.{step_reply_effect, step_call_effect, entry_of};
 
 use build_server::run::Ran;
 use build_server::submit::Submitted;

@@ -1,7 +1,9 @@
 //! The printed run.
-ghost use Rattle.std.specs.Prelude.{◌≡◌, ◌+◌, ◌++◌, ◌<◌, ◌^◌, Some, slice_get, OnOk, IfOk, IfErr, string_bytes};
+ghost use Rattle.std.specs.Prelude.{◌≡◌, ◌+◌, ◌++◌, ◌<◌, ◌^◌, Some, slice_get, OnOk, IfOk, IfErr};
+ghost use Rattle.std.specs.Prelude.{string_bytes};
 ghost use Rattle.std.specs.List.{flat_map};
-ghost use Rattle.farm_run.specs.Printed.{entry_text, entries_text, core_count, row_text, job_text, held_text, kept_archive_text, server_text, books_text, standing_text, run_text};
+ghost use Rattle.farm_run.specs.Printed.{entry_text, entries_text, core_count, row_text, job_text, held_text};
+ghost use Rattle.farm_run.specs.Printed.{kept_archive_text, server_text, books_text, standing_text, run_text};
 ghost use Rattle.farm_run.specs.Servers.{server_of};
 ghost use Rattle.farm_run.specs.Seen.{core_log};
 ghost use Rattle.sched_core.specs.Rows.{held_by_id};
@@ -27,7 +29,8 @@ fn push_entry(
     core_number: u64,
     entry: &Entry,
 ) -> Result<(), AllocError>
-    ensures { OnOk result (string_bytes out.new ≡ string_bytes out.old ++ entry_text number core_number entry.entry.now) }
+    ensures { OnOk result (string_bytes out.new ≡ string_bytes out.old ++ entry_text number core_number
+        entry.entry.now) }
 {
     let at = entry.event.at;
     let kind = Kind(&entry.event.kind);
@@ -81,7 +84,8 @@ fn push_rows(out: &mut String, servers: Servers<'_>) -> Result<(), AllocError>
 
 /// Writes the lines of the reservations that are unended.
 fn push_jobs(out: &mut String, farm: &Farm) -> Result<(), AllocError>
-    ensures { OnOk result (string_bytes out.new ≡ string_bytes out.old ++ flat_map job_text (held_by_id (core_log farm.now.entries))) }
+    ensures { OnOk result (string_bytes out.new ≡ string_bytes out.old ++ flat_map job_text
+        (held_by_id (core_log farm.now.entries))) }
 {
     for row in farm.jobs() {
         let line = JobLine(row);
@@ -92,7 +96,8 @@ fn push_jobs(out: &mut String, farm: &Farm) -> Result<(), AllocError>
 
 /// Writes the lines of what a server keeps.
 fn push_held(out: &mut String, addr: Addr, station: &Station) -> Result<(), AllocError>
-    ensures { OnOk result (string_bytes out.new ≡ string_bytes out.old ++ flat_map (held_text addr) station.now.state.held) }
+    ensures { OnOk result (string_bytes out.new ≡ string_bytes out.old ++ flat_map
+        (held_text addr) station.now.state.held) }
 {
     for (job, tc) in station.state.held() {
         let line = HeldLine { addr, job, tc };
@@ -103,7 +108,8 @@ fn push_held(out: &mut String, addr: Addr, station: &Station) -> Result<(), Allo
 
 /// Writes the lines of a server's archives.
 fn push_archives(out: &mut String, addr: Addr, station: &Station) -> Result<(), AllocError>
-    ensures { OnOk result (string_bytes out.new ≡ string_bytes out.old ++ flat_map (kept_archive_text addr) station.now.state.archives) }
+    ensures { OnOk result (string_bytes out.new ≡ string_bytes out.old ++ flat_map
+        (kept_archive_text addr) station.now.state.archives) }
 {
     for (tc, size) in station.state.archives() {
         let line = ArchiveLine { addr, tc, size };
@@ -120,7 +126,8 @@ fn push_server(
     place: usize,
 ) -> Result<(), AllocError>
     requires { slice_get farm.now.setup.servers place ≡ Some server.now }
-    ensures { OnOk result (string_bytes out.new ≡ string_bytes out.old ++ server_text (server_of server.now farm.now.entries)) }
+    ensures { OnOk result (string_bytes out.new ≡ string_bytes out.old ++ server_text
+        (server_of server.now farm.now.entries)) }
 {
     match farm.station(place) {
         None => Err(AllocError),
@@ -134,7 +141,8 @@ fn push_server(
 
 /// Writes the lines of what each server of a farm keeps.
 fn push_servers(out: &mut String, farm: &Farm) -> Result<(), AllocError>
-    ensures { OnOk result (string_bytes out.new ≡ string_bytes out.old ++ flat_map (λ s. server_text (server_of s farm.now.entries)) farm.now.setup.servers) }
+    ensures { OnOk result (string_bytes out.new ≡ string_bytes out.old ++ flat_map
+        (λ s. server_text (server_of s farm.now.entries)) farm.now.setup.servers) }
 {
     for (place, server) in farm.setup().servers.get().iter().enumerate() {
         push_server(out, farm, server, place)?;
@@ -144,7 +152,8 @@ fn push_servers(out: &mut String, farm: &Farm) -> Result<(), AllocError>
 
 /// Writes what stands in the books of a farm.
 fn push_standing(out: &mut String, farm: &Farm) -> Result<(), AllocError>
-    ensures { OnOk result (string_bytes out.new ≡ string_bytes out.old ++ standing_text farm.now.setup farm.now.entries) }
+    ensures { OnOk result (string_bytes out.new ≡ string_bytes out.old ++ standing_text farm.now.setup
+        farm.now.entries) }
 {
     push_rows(out, farm.servers())?;
     push_jobs(out, farm)?;
@@ -155,7 +164,8 @@ fn push_standing(out: &mut String, farm: &Farm) -> Result<(), AllocError>
 
 /// Writes the books of a farm.
 fn push_books(out: &mut String, farm: &Farm) -> Result<(), AllocError>
-    ensures { OnOk result (string_bytes out.new ≡ string_bytes out.old ++ books_text farm.now.setup farm.now.entries) }
+    ensures { OnOk result (string_bytes out.new ≡ string_bytes out.old ++ books_text farm.now.setup
+        farm.now.entries) }
 {
     let base = farm.setup().scheduler.base;
     let count = farm.ids_given();

@@ -1,5 +1,6 @@
 //! What follows the settlement of a build server's calls.
-ghost use Rattle.std.specs.Prelude.{◌≡◌, Some, None, Ok, Err, Result, drop, slice_get, if◌then◌else◌, IfOk, IfErr, OnOk, option_copied};
+ghost use Rattle.std.specs.Prelude.{◌≡◌, Some, None, Ok, Err, Result, drop, slice_get, if◌then◌else◌, IfOk};
+ghost use Rattle.std.specs.Prelude.{IfErr, OnOk, option_copied};
 ghost use Rattle.build_server.specs.Books.{held_for};
 ghost use Rattle.build_server.specs.Rules.{submit_verdict, NotFolder};
 ghost use Rattle.build_server.specs.Builds.{ran_of, built_of, is_due, outcome_by};
@@ -11,7 +12,9 @@ ghost use Rattle.farm_run.specs.Begun.{Keeps, completion_at};
 ghost use Rattle.farm_run.specs.Effects.{step_effect};
 ghost use Rattle.farm_run.specs.Served.{books_of, build_answer, run_outcome};
 ghost use Rattle.farm_run.specs.Servers.{stepped};
-ghost use Rattle.farm_run.specs.Settled.{IsUpdated, IsHeard, unreported, submission, running, ready_end, started_end, complete_end, heard_as, failure_of, ended_response, Reports};
+ghost use Rattle.farm_run.specs.Settled.{IsUpdated, IsHeard, unreported, submission, running, ready_end};
+ghost use Rattle.farm_run.specs.Settled.{started_end, complete_end, heard_as, failure_of, ended_response};
+ghost use Rattle.farm_run.specs.Settled.{Reports};
 ghost use Rattle.farm_run.specs.Stations.{now_of, IsWell, NotBroken};
 ghost use Rattle.farm_script.specs.declared.fault.FarmFault.TheVariants as fault;
 
@@ -40,8 +43,8 @@ use http_routes::replies::{to_fault, to_run, to_submission, want_of_memory};
 use http_routes::reply::Response;
 use std::alloc::Global;
 
-/// A call of a server that comes back: the entry that is replied to and in which form, what the event of that entry
-/// brought, and the call's reply, or none where it is lost.
+/// A call of a server that comes back: the entry that is replied to and in which form, what the event of that
+/// entry brought, and the call's reply, or none where it is lost.
 #[derive(Debug, Drop)]
 pub struct Back<'a> {
     /// The server that made the call, and the life that it did so in.
@@ -128,8 +131,12 @@ fn store(
     accepted: UpdateJobStateResult,
 ) -> Result<Submitted, FarmFault>
     requires well { IsWell server.now station.old }
-    ensures ok { IfOk result (λ o. o ≡ submit_verdict (books_of (now_of server.now station.old)) (held_for job station.old.state.held) archive.now) }
-    ensures after { IfOk result (λ o. now_of server.now station.new ≡ stepped (Some (record { server = server.now.addr; kind = StepKind.Submitted job o })) (now_of server.now station.old)) }
+    ensures ok { IfOk result (λ o. o ≡ submit_verdict (books_of (now_of server.now station.old))
+        (held_for job station.old.state.held) archive.now) }
+    ensures after { IfOk result
+        (λ o. now_of server.now station.new ≡ stepped
+        (Some (record { server = server.now.addr; kind = StepKind.Submitted job o }))
+        (now_of server.now station.old)) }
     ensures still_well { OnOk result (IsWell server.now station.new) }
     ensures err { IfErr result (λ e. e ≡ fault.Memory) }
 {
@@ -155,9 +162,11 @@ fn end_ready(
 ) -> Result<Effect, FarmFault>
     requires well { IsWell server.now station.old }
     ensures made { IfOk result (λ x. (r : Result Accepted Cause) × IsUpdated (option_copied back.now.reply) r
-        × (x ≡ ready_end (now_of server.now station.old) back.now.root back.now.json job (drop archive back.now.brought.now) r)) }
+        × (x ≡ ready_end (now_of server.now station.old) back.now.root back.now.json job
+        (drop archive back.now.brought.now) r)) }
     ensures silent { IfOk result (λ x. x.call ≡ None) }
-    ensures after { IfOk result (λ x. now_of server.now station.new ≡ stepped x.step (now_of server.now station.old)) }
+    ensures after { IfOk result
+        (λ x. now_of server.now station.new ≡ stepped x.step (now_of server.now station.old)) }
     ensures still_well { OnOk result (IsWell server.now station.new) }
     ensures err { IfErr result (λ e. e ≡ fault.Memory) }
 {
@@ -197,7 +206,9 @@ fn build(
     run: &RunJobHttpRequest,
     inputs: &[u8],
 ) -> Result<RunDone, FarmFault>
-    ensures goes { IfOk result (λ done. outcome_by held (build_answer (slice_get server.now.builder builds.old) run.now.outputs inputs.now) ≡ Ok done) }
+    ensures goes { IfOk result
+        (λ done. outcome_by held
+        (build_answer (slice_get server.now.builder builds.old) run.now.outputs inputs.now) ≡ Ok done) }
     ensures counted { OnOk result (builds.new ≡ (if is_due held then counted builds.old else builds.old)) }
     ensures err { IfErr result (λ e. e ≡ fault.Memory) }
 {
@@ -235,8 +246,13 @@ fn run_job(
     accepted: UpdateJobStateResult,
 ) -> Result<RunDone, FarmFault>
     requires well { IsWell server.now station.old }
-    ensures ok { IfOk result (λ done. done ≡ run_outcome (now_of server.now station.old) (held_for job station.old.state.held) run.now.outputs inputs.now) }
-    ensures after { IfOk result (λ done. now_of server.now station.new ≡ stepped (Some (record { server = server.now.addr; kind = StepKind.Ran job (ran_of done) (built_of done) })) (now_of server.now station.old)) }
+    ensures ok { IfOk result
+        (λ done. done ≡ run_outcome (now_of server.now station.old) (held_for job station.old.state.held)
+        run.now.outputs inputs.now) }
+    ensures after { IfOk result
+        (λ done. now_of server.now station.new ≡ stepped
+        (Some (record { server = server.now.addr; kind = StepKind.Ran job (ran_of done) (built_of done) }))
+        (now_of server.now station.old)) }
     ensures still_well { OnOk result (IsWell server.now station.new) }
     ensures err { IfErr result (λ e. e ≡ fault.Memory) }
 {
@@ -279,9 +295,13 @@ fn end_started(
 ) -> Result<Made, FarmFault>
     requires well { IsWell server.now station.old }
     ensures made { IfOk result (λ m. (r : Result Accepted Cause) × IsUpdated (option_copied back.now.reply) r
-        × (m.effect ≡ started_end desk.now.setup (now_of server.now station.old) back.now.root job run (drop inputs back.now.brought.now) r)) }
-    ensures kept { IfOk result (λ m. Keeps (λ p. completion_at back.now.root back.now.json server.now.addr station.old.life m.effect.step ≡ Some p) m.effect m.pending) }
-    ensures after { IfOk result (λ m. now_of server.now station.new ≡ stepped m.effect.step (now_of server.now station.old)) }
+        × (m.effect ≡ started_end desk.now.setup (now_of server.now station.old) back.now.root job run
+        (drop inputs back.now.brought.now) r)) }
+    ensures kept { IfOk result
+        (λ m. Keeps (λ p. completion_at back.now.root back.now.json server.now.addr station.old.life
+        m.effect.step ≡ Some p) m.effect m.pending) }
+    ensures after { IfOk result
+        (λ m. now_of server.now station.new ≡ stepped m.effect.step (now_of server.now station.old)) }
     ensures still_well { OnOk result (IsWell server.now station.new) }
     ensures err { IfErr result (λ e. e ≡ fault.Memory) }
 {
@@ -337,7 +357,12 @@ fn tell_run(
     done: RunDone,
 ) -> Result<Made, FarmFault>
     ensures effect { IfOk result (λ m. m.effect ≡ running desk.now.setup addr job done) }
-    ensures pending { IfOk result (λ m. m.pending ≡ Some (record { root = back.now.root; json = back.now.json; ask = Ask.Report addr life (Told.Complete job done) })) }
+    ensures pending { IfOk result
+        (λ m. m.pending ≡ Some (record {
+          root = back.now.root;
+          json = back.now.json;
+          ask = Ask.Report addr life (Told.Complete job done);
+        })) }
     ensures err { IfErr result (λ e. e ≡ fault.Memory) }
 {
     match ran_effect(desk, addr, job, &done) {
@@ -452,7 +477,8 @@ fn heard_as(told: Result<HeartbeatServerResult, CallFault>) -> HeardAs
 
 /// Ends a heartbeat.
 fn end_beat(alloc: Global, addr: Addr, reply: Option<&[u8]>) -> Result<Effect, FarmFault>
-    ensures made { IfOk result (λ x. (r : Result Heard Cause) × IsHeard (option_copied reply.entry) r × (x ≡ step_effect addr (StepKind.Heard (heard_as r)))) }
+    ensures made { IfOk result (λ x. (r : Result Heard Cause) × IsHeard (option_copied reply.entry) r
+        × (x ≡ step_effect addr (StepKind.Heard (heard_as r)))) }
     ensures err { IfErr result (λ e. e ≡ fault.Memory) }
 {
     let told = heard(alloc, reply)?;
@@ -468,9 +494,14 @@ pub fn go_on(
     told: Told,
 ) -> Result<Made, FarmFault>
     requires well { IsWell server.now station.old }
-    ensures made { IfOk result (λ m. Reports desk.now.setup (now_of server.now station.old) back.now.brought.now back.now.root back.now.json (option_copied back.now.reply) told m.effect) }
-    ensures kept { IfOk result (λ m. Keeps (λ p. completion_at back.now.root back.now.json server.now.addr station.old.life m.effect.step ≡ Some p) m.effect m.pending) }
-    ensures after { IfOk result (λ m. now_of server.now station.new ≡ stepped m.effect.step (now_of server.now station.old)) }
+    ensures made { IfOk result
+        (λ m. Reports desk.now.setup (now_of server.now station.old) back.now.brought.now back.now.root
+        back.now.json (option_copied back.now.reply) told m.effect) }
+    ensures kept { IfOk result
+        (λ m. Keeps (λ p. completion_at back.now.root back.now.json server.now.addr station.old.life
+        m.effect.step ≡ Some p) m.effect m.pending) }
+    ensures after { IfOk result
+        (λ m. now_of server.now station.new ≡ stepped m.effect.step (now_of server.now station.old)) }
     ensures still_well { OnOk result (IsWell server.now station.new) }
     ensures err { IfErr result (λ e. e ≡ fault.Memory) }
 {

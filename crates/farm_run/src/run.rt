@@ -1,5 +1,6 @@
 //! A farm, and its runs.
-ghost use Rattle.std.specs.Prelude.{◌≡◌, [], ◌<◌, ◌≤◌, ◌^◌, ℕ, length, take, slice_get, IfOk, IfErr, OnOk, OnErr, MatchOption, map, Some};
+ghost use Rattle.std.specs.Prelude.{◌≡◌, [], ◌<◌, ◌≤◌, ◌^◌, ℕ, length, take, slice_get, IfOk, IfErr, OnOk};
+ghost use Rattle.std.specs.Prelude.{OnErr, MatchOption, map, Some};
 ghost use Rattle.sched_core.specs.Rows.{servers_of, jobs_of, held_by_id, held_part};
 ghost use Rattle.farm_script.specs.declared.fault.FarmFault.TheVariants as fault;
 ghost use Rattle.farm_script.specs.declared.setup.SetupServer.{SetupServer as Site};
@@ -57,7 +58,8 @@ impl Model for Farm {
 
     ghost view = { λ f. record { setup = f.desk.setup; entries = f.log.entries.items } };
 
-    ghost invariant = { λ f. IsFarm f.desk.setup f.desk.state f.log.entries.items f.log.kept.items f.stations.items };
+    ghost invariant = { λ f. IsFarm f.desk.setup f.desk.state f.log.entries.items f.log.kept.items
+        f.stations.items };
 }
 
 /// What is kept of calls that wait is undone.
@@ -169,7 +171,8 @@ impl Farm {
     /// The station of a server, by its place in the setup.
     pub(crate) fn station(&self, place: usize) -> Option<&Station>
         ensures station { MatchOption result (length self.now.setup.servers ≤ place)
-            (λ st. (s : Site) → slice_get self.now.setup.servers place ≡ Some s → now_of s st.now ≡ server_of s self.now.entries) }
+            (λ st. (s : Site) → slice_get self.now.setup.servers place ≡ Some s
+            → now_of s st.now ≡ server_of s self.now.entries) }
     {
         self.stations.get(place)
     }
@@ -232,7 +235,8 @@ impl Farm {
         // After each front each build goes on from an accepted start, which is the return of an earlier
         // delivery that moved the job from ready to started; no id is built twice; a call is settled at most
         // once. Where build servers have one token, that has 1 to 1,024 visible bytes.
-        ensures builds { IfOk result (λ farm. HasToken self.setup.scheduler.auth → AreBuilds farm.setup farm.entries) }
+        ensures builds { IfOk result (λ farm. HasToken self.setup.scheduler.auth
+            → AreBuilds farm.setup farm.entries) }
         // An entry is replied to at most once; a request whose calls are granted gets the reply that its row
         // names; a restart keeps the archives.
         ensures reliable { IfOk result (λ farm. IsReliable farm.setup farm.entries) }
@@ -240,7 +244,8 @@ impl Farm {
         ensures err { IfErr result (λ s. (n : ℕ) × (n < length events.now)
             × Runs self (take n events.now) (record { setup = self.setup; entries = s.entries })) }
         ensures stopped_laws { IfErr result (λ s. AreLawful self.setup s.entries) }
-        ensures stopped_builds { IfErr result (λ s. HasToken self.setup.scheduler.auth → AreBuilds self.setup s.entries) }
+        ensures stopped_builds { IfErr result (λ s. HasToken self.setup.scheduler.auth
+            → AreBuilds self.setup s.entries) }
         ensures stopped_reliable { IfErr result (λ s. IsReliable self.setup s.entries) }
     {
         let mut farm = self;
@@ -262,7 +267,9 @@ fn made_of(
     event: &Event,
 ) -> Result<Made, FarmFault>
     requires farm { IsFarm desk.old.setup desk.old.state entries.now kept.old.items stations.old.items }
-    ensures made { IfOk result (IsMadeSo desk.old.setup entries.now event.now (way_of desk.old.setup entries.now event.now.kind) kept.new.items stations.new.items) }
+    ensures made { IfOk result
+        (IsMadeSo desk.old.setup entries.now event.now (way_of desk.old.setup entries.now event.now.kind)
+        kept.new.items stations.new.items) }
     ensures desk { IfOk result (λ m. desk.new ≡ acted desk.old m.effect.core) }
     ensures err { IfErr result (λ e. e ≡ fault.Memory) }
 {
@@ -339,10 +346,13 @@ fn make(
     log: &mut Log,
     event: &Event,
 ) -> Result<(), FarmFault>
-    requires farm { IsFarm desk.old.setup desk.old.state log.old.entries.items log.old.kept.items stations.old.items }
+    requires farm { IsFarm desk.old.setup desk.old.state log.old.entries.items log.old.kept.items
+        stations.old.items }
     ensures setup { OnOk result (desk.new.setup ≡ desk.old.setup) }
-    ensures next { OnOk result (AddsNext desk.old.setup log.old.entries.items event.now log.new.entries.items) }
-    ensures farm { OnOk result (IsFarm desk.new.setup desk.new.state log.new.entries.items log.new.kept.items stations.new.items) }
+    ensures next { OnOk result
+        (AddsNext desk.old.setup log.old.entries.items event.now log.new.entries.items) }
+    ensures farm { OnOk result
+        (IsFarm desk.new.setup desk.new.state log.new.entries.items log.new.kept.items stations.new.items) }
     ensures same { OnErr result (log.new.entries.items ≡ log.old.entries.items) }
     ensures err { IfErr result (λ e. e ≡ fault.Memory) }
 {

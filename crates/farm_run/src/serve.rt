@@ -1,5 +1,6 @@
 //! What the scheduler does with what comes to it.
-ghost use Rattle.std.specs.Prelude.{◌≡◌, ◌≢◌, ◌<◌, ◌-◌, Bool, IsTrue, length, IfOk, IfErr, OnOk, slice_get, Some, None, Err};
+ghost use Rattle.std.specs.Prelude.{◌≡◌, ◌≢◌, ◌<◌, ◌-◌, Bool, IsTrue, length, IfOk, IfErr, OnOk, slice_get};
+ghost use Rattle.std.specs.Prelude.{Some, None, Err};
 ghost use Rattle.sched_core.specs.Log.{logged};
 ghost use Rattle.sched_core.specs.Rule.{rule, says_new_entry, counts_of};
 ghost use Rattle.sched_core.specs.declared.call.Call.TheVariants as call;
@@ -100,7 +101,9 @@ fn asked_by_key(
     client: &str,
     key: &[u8],
 ) -> Result<Asked, FarmFault>
-    ensures ok { IfOk result (IsAskedUnder (equal_admission client.now) (λ shown. result_ok (server_verdict key.now shown)) bytes.now peer) }
+    ensures ok { IfOk result
+        (IsAskedUnder (equal_admission client.now) (λ shown. result_ok (server_verdict key.now shown))
+        bytes.now peer) }
     ensures err { IfErr result (λ e. e ≡ fault.Memory) }
 {
     let mut client = EqCheck::new(String::from_str(alloc, client)?);
@@ -139,9 +142,12 @@ fn take_beat(
     beat: HeartbeatServerHttpRequest,
 ) -> Result<(CoreEntry, Response), FarmFault>
     requires { IsTrue (hears beat.num_cpus) }
-    ensures made { let made = rule state.old (call.Beat now server beat.server_nonce beat.num_cpus beat.jwt_key) in
-        IfOk result (λ r. (r.0 ≡ made) × (r.1 ≡ response.heard_response json (record { is_new = says_new_entry made }))) }
-    ensures logged { let made = rule state.old (call.Beat now server beat.server_nonce beat.num_cpus beat.jwt_key) in
+    ensures made { let made = rule state.old
+        (call.Beat now server beat.server_nonce beat.num_cpus beat.jwt_key) in
+        IfOk result (λ r. (r.0 ≡ made)
+        × (r.1 ≡ response.heard_response json (record { is_new = says_new_entry made }))) }
+    ensures logged { let made = rule state.old
+        (call.Beat now server beat.server_nonce beat.num_cpus beat.jwt_key) in
         OnOk result (state.new ≡ logged state.old made) }
     ensures err { IfErr result (λ e. e ≡ fault.Memory) }
 {
@@ -230,7 +236,8 @@ fn refuse(
     to: JobState,
 ) -> Result<Response, FarmFault>
     requires { error ≢ SchedError.Memory → (answer : UpdateAnswer) × (verdict answer to ≡ Err error) }
-    ensures ok { IfOk result (λ r. (json : Bool) (answer : UpdateAnswer) → verdict answer to ≡ Err error → r ≡ update_reply json answer server job to) }
+    ensures ok { IfOk result (λ r. (json : Bool) (answer : UpdateAnswer) → verdict answer to ≡ Err error
+        → r ≡ update_reply json answer server job to) }
     ensures known { OnOk result (error ≢ SchedError.Memory) }
     ensures err { IfErr result (λ e. e ≡ fault.Memory) }
 {
@@ -265,7 +272,8 @@ fn take_report(
 ) -> Result<(CoreEntry, Response), FarmFault>
     ensures made { let made = rule state.old (call.Update now server job to) in
         IfOk result (λ r. (r.0 ≡ made) × (r.1 ≡ update_reply json (update_by made.kind) server job to)) }
-    ensures logged { OnOk result (state.new ≡ logged state.old (rule state.old (call.Update now server job to))) }
+    ensures logged { OnOk result
+        (state.new ≡ logged state.old (rule state.old (call.Update now server job to))) }
     ensures err { IfErr result (λ e. e ≡ fault.Memory) }
 {
     match state.update(now, server, job, to) {
@@ -291,8 +299,10 @@ fn crowded(
     standing: u64,
 ) -> Result<Effect, FarmFault>
     requires { 0 < length state.now.log }
-    ensures made { IfOk result (λ x. (made : Core) × (slice_get state.now.log (length state.now.log - 1) ≡ Some made)
-        × (x ≡ reply_effect (Some made) (reply_to number (response.alloc_response json (alloc_result.Fail (no_room_text standing)))))) }
+    ensures made { IfOk result
+        (λ x. (made : Core) × (slice_get state.now.log (length state.now.log - 1) ≡ Some made)
+        × (x ≡ reply_effect (Some made)
+        (reply_to number (response.alloc_response json (alloc_result.Fail (no_room_text standing)))))) }
     ensures err { IfErr result (λ e. e ≡ fault.Memory) }
 {
     let core = last_copy(alloc, state.history())?;
@@ -309,7 +319,8 @@ fn ids_spent(
     number: u64,
 ) -> Result<Effect, FarmFault>
     requires { 0 < length state.now.log }
-    ensures made { IfOk result (λ x. (made : Core) × (slice_get state.now.log (length state.now.log - 1) ≡ Some made)
+    ensures made { IfOk result
+        (λ x. (made : Core) × (slice_get state.now.log (length state.now.log - 1) ≡ Some made)
         × (x ≡ reply_effect (Some made) (reply_to number (told.fault_response_of route_fault.IdsSpent)))) }
     ensures err { IfErr result (λ e. e ≡ fault.Memory) }
 {
@@ -352,9 +363,11 @@ fn reserved(
     reservation: Reservation,
 ) -> Result<Made, FarmFault>
     requires { 0 < length state.old.log }
-    ensures made { IfOk result (λ m. (made : Core) × (slice_get state.old.log (length state.old.log - 1) ≡ Some made)
+    ensures made { IfOk result
+        (λ m. (made : Core) × (slice_get state.old.log (length state.old.log - 1) ≡ Some made)
         × (m.effect ≡ call_effect (Some made) (Some (assign_call tc.now reservation)))) }
-    ensures pending { IfOk result (λ m. m.pending ≡ Some (record { root = stamp.number; json = json; ask = Ask.Assign reservation })) }
+    ensures pending { IfOk result
+        (λ m. m.pending ≡ Some (record { root = stamp.number; json = json; ask = Ask.Assign reservation })) }
     ensures same { OnOk result (state.new ≡ state.old) }
     ensures err { IfErr result (λ e. e ≡ fault.Memory) }
 {
@@ -382,8 +395,10 @@ fn allocate(
     json: bool,
     tc: &Toolchain,
 ) -> Result<Made, FarmFault>
-    ensures answer { IfOk result (λ m. m.effect ≡ answer_to state.old stamp.number stamp.at json (asked.Alloc tc.now)) }
-    ensures kept { IfOk result (λ m. Keeps (IsAssignment state.old.log stamp.number json m.effect.core) m.effect m.pending) }
+    ensures answer { IfOk result (λ m. m.effect ≡ answer_to state.old stamp.number stamp.at json
+        (asked.Alloc tc.now)) }
+    ensures kept { IfOk result
+        (λ m. Keeps (IsAssignment state.old.log stamp.number json m.effect.core) m.effect m.pending) }
     ensures core { IfOk result (λ m. state.new ≡ with_core state.old m.effect.core) }
     ensures err { IfErr result (λ e. e ≡ fault.Memory) }
 {
@@ -414,7 +429,8 @@ fn serve_asked(
     what: SchedRouted,
 ) -> Result<Made, FarmFault>
     ensures answer { IfOk result (λ m. m.effect ≡ answer_to state.old stamp.number stamp.at json what) }
-    ensures kept { IfOk result (λ m. Keeps (IsAssignment state.old.log stamp.number json m.effect.core) m.effect m.pending) }
+    ensures kept { IfOk result
+        (λ m. Keeps (IsAssignment state.old.log stamp.number json m.effect.core) m.effect m.pending) }
     ensures core { IfOk result (λ m. state.new ≡ with_core state.old m.effect.core) }
     ensures err { IfErr result (λ e. e ≡ fault.Memory) }
 {
@@ -443,8 +459,12 @@ fn serve_asked(
 
 /// What is made of bytes that come to the scheduler.
 pub fn serve(desk: &mut Desk, arrival: &Arrival<'_>) -> Result<Made, FarmFault>
-    ensures answered { IfOk result (λ m. IsAnswered desk.old.setup desk.old.state arrival.now.stamp.number arrival.now.stamp.at arrival.now.peer arrival.now.bytes.now m.effect) }
-    ensures kept { IfOk result (λ m. Keeps (IsBegunBy desk.old.setup desk.old.state.log arrival.now.stamp.number (to_scheduler arrival.now.peer arrival.now.bytes.now) m.effect) m.effect m.pending) }
+    ensures answered { IfOk result
+        (λ m. IsAnswered desk.old.setup desk.old.state arrival.now.stamp.number arrival.now.stamp.at
+        arrival.now.peer arrival.now.bytes.now m.effect) }
+    ensures kept { IfOk result
+        (λ m. Keeps (IsBegunBy desk.old.setup desk.old.state.log arrival.now.stamp.number
+        (to_scheduler arrival.now.peer arrival.now.bytes.now) m.effect) m.effect m.pending) }
     ensures desk { IfOk result (λ m. desk.new ≡ acted desk.old m.effect.core) }
     ensures err { IfErr result (λ e. e ≡ fault.Memory) }
 {

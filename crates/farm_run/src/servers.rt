@@ -5,7 +5,8 @@ ghost use Rattle.dist_token.specs.Token.{plain_text, token_text, server_claims_t
 ghost use Rattle.build_server.specs.Rules.{assign_verdict};
 ghost use Rattle.farm_run.specs.Begun.{Keeps, IsBegunBy};
 ghost use Rattle.farm_run.specs.Seen.{server_token};
-ghost use Rattle.farm_run.specs.Served.{books_of, state_call, beat_call, beat_effect, restart_effect, report_of, assigned, served, told_of, AsksServer, IsServerAnswered};
+ghost use Rattle.farm_run.specs.Served.{books_of, state_call, beat_call, beat_effect, restart_effect};
+ghost use Rattle.farm_run.specs.Served.{report_of, assigned, served, told_of, AsksServer, IsServerAnswered};
 ghost use Rattle.farm_run.specs.Servers.{stepped};
 ghost use Rattle.farm_run.specs.Stations.{now_of, IsWell};
 ghost use Rattle.farm_run.specs.Ways.{to_server};
@@ -55,7 +56,8 @@ fn plain_token(alloc: Global, addr: Addr, token: &str) -> Result<String, FarmFau
 
 /// The token that a server at an address shows, where each has its own under a key.
 fn signed_token(alloc: Global, addr: Addr, key: &[u8]) -> Result<String, FarmFault>
-    ensures ok { IfOk result (λ text. string_bytes text ≡ token_text key.now (server_claims_text (addr_text addr))) }
+    ensures ok { IfOk result
+        (λ text. string_bytes text ≡ token_text key.now (server_claims_text (addr_text addr))) }
     ensures err { IfErr result (λ e. e ≡ fault.Memory) }
 {
     match create_jwt_server_token(alloc, ServerId::new(addr), key) {
@@ -124,8 +126,10 @@ pub fn beat(
     station: &Station,
     number: u64,
 ) -> Result<Made, FarmFault>
-    ensures effect { IfOk result (λ m. m.effect ≡ beat_effect desk.now.setup (now_of server.now station.now)) }
-    ensures pending { IfOk result (λ m. m.pending ≡ Some (report_of number false (now_of server.now station.now) Told.Heartbeat)) }
+    ensures effect { IfOk result
+        (λ m. m.effect ≡ beat_effect desk.now.setup (now_of server.now station.now)) }
+    ensures pending { IfOk result
+        (λ m. m.pending ≡ Some (report_of number false (now_of server.now station.now) Told.Heartbeat)) }
     ensures err { IfErr result (λ e. e ≡ fault.Memory) }
 {
     let call = beat_call(desk, server, station)?;
@@ -155,7 +159,8 @@ fn assign(
     requires well { IsWell server.now station.old }
     ensures made { IfOk result (λ x. x ≡ assigned server.now.addr wish.number wish.json job tc
         (assign_verdict (books_of (now_of server.now station.old)) job tc)) }
-    ensures after { IfOk result (λ x. now_of server.now station.new ≡ stepped x.step (now_of server.now station.old)) }
+    ensures after { IfOk result
+        (λ x. now_of server.now station.new ≡ stepped x.step (now_of server.now station.old)) }
     ensures still_well { OnOk result (IsWell server.now station.new) }
     ensures err { IfErr result (λ e. e ≡ fault.Memory) }
 {
@@ -202,10 +207,12 @@ fn serve_asked(
     what: ServerRouted,
 ) -> Result<Made, FarmFault>
     requires well { IsWell server.now station.old }
-    ensures answer { IfOk result (λ m. m.effect ≡ served desk.now.setup (now_of server.now station.old) wish.number wish.json what) }
+    ensures answer { IfOk result
+        (λ m. m.effect ≡ served desk.now.setup (now_of server.now station.old) wish.number wish.json what) }
     ensures kept { IfOk result (λ m. Keeps (λ p. (t : Kept) × (told_of wish.body what ≡ Some t)
         × (p ≡ report_of wish.number wish.json (now_of server.now station.old) t)) m.effect m.pending) }
-    ensures after { IfOk result (λ m. now_of server.now station.new ≡ stepped m.effect.step (now_of server.now station.old)) }
+    ensures after { IfOk result
+        (λ m. now_of server.now station.new ≡ stepped m.effect.step (now_of server.now station.old)) }
     ensures still_well { OnOk result (IsWell server.now station.new) }
     ensures err { IfErr result (λ e. e ≡ fault.Memory) }
 {
@@ -253,10 +260,14 @@ pub fn serve_at(
     arrival: &Arrival<'_>,
 ) -> Result<Made, FarmFault>
     requires well { IsWell server.now station.old }
-    ensures answered { IfOk result (λ m. IsServerAnswered desk.now.setup (now_of server.now station.old) arrival.now.stamp.number arrival.now.bytes.now m.effect) }
-    ensures kept { IfOk result (λ m. Keeps (IsBegunBy desk.now.setup desk.now.state.log arrival.now.stamp.number
+    ensures answered { IfOk result
+        (λ m. IsServerAnswered desk.now.setup (now_of server.now station.old) arrival.now.stamp.number
+        arrival.now.bytes.now m.effect) }
+    ensures kept { IfOk result
+        (λ m. Keeps (IsBegunBy desk.now.setup desk.now.state.log arrival.now.stamp.number
         (to_server (now_of server.now station.old) arrival.now.bytes.now) m.effect) m.effect m.pending) }
-    ensures after { IfOk result (λ m. now_of server.now station.new ≡ stepped m.effect.step (now_of server.now station.old)) }
+    ensures after { IfOk result
+        (λ m. now_of server.now station.new ≡ stepped m.effect.step (now_of server.now station.old)) }
     ensures still_well { OnOk result (IsWell server.now station.new) }
     ensures err { IfErr result (λ e. e ≡ fault.Memory) }
 {

@@ -68,7 +68,8 @@ fn commit(
 ) -> Result<Effect, FarmFault>
     requires own { is_among (unspent state.old.log) reservation.number reservation.job ≡ true }
     requires begins { begins assigned.state ≡ true }
-    ensures made { IfOk result (λ x. x ≡ assignment_end state.old turn.root turn.json turn.at reservation (Ok assigned)) }
+    ensures made { IfOk result (λ x. x ≡ assignment_end state.old turn.root turn.json turn.at reservation
+        (Ok assigned)) }
     ensures core { IfOk result (λ x. state.new ≡ with_core state.old x.core) }
     ensures err { IfErr result (λ e. e ≡ fault.Memory) }
 {
@@ -88,7 +89,8 @@ fn undo(
     cause: CallFault,
 ) -> Result<Effect, FarmFault>
     requires own { is_among (unspent state.old.log) reservation.number reservation.job ≡ true }
-    ensures made { IfOk result (λ x. x ≡ assignment_end state.old turn.root turn.json turn.at reservation (Err cause)) }
+    ensures made { IfOk result (λ x. x ≡ assignment_end state.old turn.root turn.json turn.at reservation
+        (Err cause)) }
     ensures core { IfOk result (λ x. state.new ≡ with_core state.old x.core) }
     ensures err { IfErr result (λ e. e ≡ fault.Memory) }
 {

@@ -1,5 +1,6 @@
 //! A call that comes back, by its reply or lost.
-ghost use Rattle.std.specs.Prelude.{◌≡◌, ◌++◌, ◌∷◌, [], slice_get, IfOk, IfErr, OnOk, Some, None, option_copied};
+ghost use Rattle.std.specs.Prelude.{◌≡◌, ◌++◌, ◌∷◌, [], slice_get, IfOk, IfErr, OnOk, Some, None};
+ghost use Rattle.std.specs.Prelude.{option_copied};
 ghost use Rattle.dist_types.specs.declared.addr.Addr.{Addr as Place};
 ghost use Rattle.farm_script.specs.declared.event.Event.{Event as Happening};
 ghost use Rattle.farm_script.specs.declared.fault.FarmFault.TheVariants as fault;
@@ -34,11 +35,16 @@ pub(crate) fn report_at(
     told: Told,
 ) -> Result<Made, FarmFault>
     requires well { AreWell desk.now.setup.servers stations.old.items }
-    ensures made { IfOk result (λ m. (s : Site) (st : Post) → slice_get desk.now.setup.servers place ≡ Some s → slice_get stations.old.items place ≡ Some st
-        → ReportsIn desk.now.setup back.now.life back.now.brought.now back.now.root back.now.json (option_copied back.now.reply) told (Some (now_of s st)) m.effect) }
-    ensures kept { IfOk result (λ m. (s : Site) (st : Post) → slice_get desk.now.setup.servers place ≡ Some s → slice_get stations.old.items place ≡ Some st
-        → Keeps (λ p. completion_at back.now.root back.now.json s.addr back.now.life m.effect.step ≡ Some p) m.effect m.pending) }
-    ensures step { IfOk result (λ m. (s : Site) (st : Post) → slice_get desk.now.setup.servers place ≡ Some s → slice_get stations.old.items place ≡ Some st
+    ensures made { IfOk result (λ m. (s : Site) (st : Post) → slice_get desk.now.setup.servers place ≡ Some s
+        → slice_get stations.old.items place ≡ Some st
+        → ReportsIn desk.now.setup back.now.life back.now.brought.now back.now.root back.now.json
+        (option_copied back.now.reply) told (Some (now_of s st)) m.effect) }
+    ensures kept { IfOk result (λ m. (s : Site) (st : Post) → slice_get desk.now.setup.servers place ≡ Some s
+        → slice_get stations.old.items place ≡ Some st
+        → Keeps (λ p. completion_at back.now.root back.now.json s.addr back.now.life m.effect.step ≡ Some p)
+        m.effect m.pending) }
+    ensures step { IfOk result (λ m. (s : Site) (st : Post) → slice_get desk.now.setup.servers place ≡ Some s
+        → slice_get stations.old.items place ≡ Some st
         → IsStepAt s place st m.effect.step stations.old.items stations.new.items) }
     ensures there { OnOk result ((st : Post) × (slice_get stations.old.items place ≡ Some st)) }
     ensures err { IfErr result (λ e. e ≡ fault.Memory) }
@@ -70,9 +76,14 @@ pub(crate) fn report_in(
     told: Told,
 ) -> Result<Made, FarmFault>
     requires well { IsWell server.now station.old }
-    ensures made { IfOk result (λ m. ReportsIn desk.now.setup back.now.life back.now.brought.now back.now.root back.now.json (option_copied back.now.reply) told (Some (now_of server.now station.old)) m.effect) }
-    ensures kept { IfOk result (λ m. Keeps (λ p. completion_at back.now.root back.now.json server.now.addr back.now.life m.effect.step ≡ Some p) m.effect m.pending) }
-    ensures after { IfOk result (λ m. now_of server.now station.new ≡ stepped m.effect.step (now_of server.now station.old)) }
+    ensures made { IfOk result
+        (λ m. ReportsIn desk.now.setup back.now.life back.now.brought.now back.now.root back.now.json
+        (option_copied back.now.reply) told (Some (now_of server.now station.old)) m.effect) }
+    ensures kept { IfOk result
+        (λ m. Keeps (λ p. completion_at back.now.root back.now.json server.now.addr back.now.life
+        m.effect.step ≡ Some p) m.effect m.pending) }
+    ensures after { IfOk result
+        (λ m. now_of server.now station.new ≡ stepped m.effect.step (now_of server.now station.old)) }
     ensures still_well { OnOk result (IsWell server.now station.new) }
     ensures err { IfErr result (λ e. e ≡ fault.Memory) }
 {
@@ -94,11 +105,16 @@ pub(crate) fn report(
 ) -> Result<Made, FarmFault>
     requires apart { HasApart desk.now.setup }
     requires stations { AreStations desk.now.setup.servers entries.now stations.old.items }
-    ensures made { IfOk result (λ m. ReportsIn desk.now.setup back.now.life back.now.brought.now back.now.root back.now.json (option_copied back.now.reply) told
+    ensures made { IfOk result
+        (λ m. ReportsIn desk.now.setup back.now.life back.now.brought.now back.now.root back.now.json
+        (option_copied back.now.reply) told
         (server_now desk.now.setup entries.now back.now.server) m.effect) }
-    ensures kept { IfOk result (λ m. Keeps (λ p. completion_at back.now.root back.now.json back.now.server back.now.life m.effect.step ≡ Some p) m.effect m.pending) }
+    ensures kept { IfOk result
+        (λ m. Keeps (λ p. completion_at back.now.root back.now.json back.now.server back.now.life
+        m.effect.step ≡ Some p) m.effect m.pending) }
     ensures stations { IfOk result (λ m. (event : Happening) → ((a : Place) → restart_by a event.kind ≡ None)
-        → AreStations desk.now.setup.servers (entries.now ++ entry_of event m.effect ∷ []) stations.new.items) }
+        → AreStations desk.now.setup.servers (entries.now ++ entry_of event m.effect ∷ [])
+        stations.new.items) }
     ensures core { IfOk result (λ m. m.effect.core ≡ None) }
     ensures err { IfErr result (λ e. e ≡ fault.Memory) }
 {
@@ -126,10 +142,14 @@ pub(crate) fn go_on(
     requires stations { AreStations desk.old.setup.servers entries.now stations.old.items }
     requires core { desk.old.state ≡ core_of desk.old.setup entries.now }
     requires own { IsOwnBy desk.old.state.log pending.ask }
-    ensures follows { IfOk result (λ m. Follows desk.old.setup entries.now settlement.now.at (option_copied settlement.now.reply) (Some pending) m.effect) }
-    ensures kept { IfOk result (λ m. Keeps (λ p. completion_of pending pending.ask m.effect.step ≡ Some p) m.effect m.pending) }
+    ensures follows { IfOk result
+        (λ m. Follows desk.old.setup entries.now settlement.now.at (option_copied settlement.now.reply)
+        (Some pending) m.effect) }
+    ensures kept { IfOk result
+        (λ m. Keeps (λ p. completion_of pending pending.ask m.effect.step ≡ Some p) m.effect m.pending) }
     ensures stations { IfOk result (λ m. (event : Happening) → ((a : Place) → restart_by a event.kind ≡ None)
-        → AreStations desk.old.setup.servers (entries.now ++ entry_of event m.effect ∷ []) stations.new.items) }
+        → AreStations desk.old.setup.servers (entries.now ++ entry_of event m.effect ∷ [])
+        stations.new.items) }
     ensures desk { IfOk result (λ m. desk.new ≡ acted desk.old m.effect.core) }
     ensures err { IfErr result (λ e. e ≡ fault.Memory) }
 {
@@ -175,8 +195,10 @@ pub(crate) fn take_back(
 ) -> Result<Made, FarmFault>
     requires farm { IsFarm desk.old.setup desk.old.state entries.now kept.old.items stations.old.items }
     ensures made { IfOk result (λ m. (event : Happening) → event.at ≡ settlement.now.at
-        → way_of desk.old.setup entries.now event.kind ≡ to_call settlement.now.call (option_copied settlement.now.reply)
-        → IsMadeSo desk.old.setup entries.now event (way_of desk.old.setup entries.now event.kind) kept.new.items stations.new.items m) }
+        → way_of desk.old.setup entries.now event.kind ≡ to_call settlement.now.call
+        (option_copied settlement.now.reply)
+        → IsMadeSo desk.old.setup entries.now event (way_of desk.old.setup entries.now event.kind)
+        kept.new.items stations.new.items m) }
     ensures desk { IfOk result (λ m. desk.new ≡ acted desk.old m.effect.core) }
     ensures err { IfErr result (λ e. e ≡ fault.Memory) }
 {

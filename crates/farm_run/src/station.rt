@@ -42,7 +42,8 @@ fn open(
     capacity: u64,
 ) -> Result<ServerState<ReliableFolder>, FarmFault>
     ensures held { IfOk result (λ s. s.held ≡ []) }
-    ensures archives { IfOk result (λ s. s.archives ≡ opened_archives (codes "tc") capacity (reliable_files folder)) }
+    ensures archives { IfOk result
+        (λ s. s.archives ≡ opened_archives (codes "tc") capacity (reliable_files folder)) }
     ensures at { IfOk result (λ s. (s.capacity ≡ capacity) × (s.path ≡ codes "tc")) }
     ensures step { IfOk result (λ s. IsInStep s.path s.folder s.archives) }
     ensures err { IfErr result (λ e. e ≡ fault.Memory) }
@@ -94,7 +95,16 @@ impl Station {
         nonce: ServerNonce,
     ) -> Result<Station, FarmFault>
         requires well { IsWell server.now self }
-        ensures now { IfOk result (λ st. now_of server.now st ≡ record { setup = server.now; life = counted self.life; key = key.now; nonce = nonce; held = []; archives = self.state.archives; builds = self.builds }) }
+        ensures now { IfOk result
+            (λ st. now_of server.now st ≡ record {
+              setup = server.now;
+              life = counted self.life;
+              key = key.now;
+              nonce = nonce;
+              held = [];
+              archives = self.state.archives;
+              builds = self.builds;
+            }) }
         ensures reopened { IfOk result (IsWell server.now) }
         ensures err { IfErr result (λ e. e ≡ fault.Memory) }
     {

@@ -1,7 +1,12 @@
 //! The texts of a printed run, piece by piece.
 ghost use Rattle.std.specs.Prelude.{◌≡◌, ◌*◌, Some, length};
 ghost use Rattle.hex.specs.Hex.{encode_lower};
-ghost use Rattle.farm_run.specs.Printed.{numbers_text, jobs_text, number_text, hex_text, kind_text, age_text, kept_text, ended_text, reserved_text, advance_text, core_text, core_line, heard_text, ready_text, archive_text, archives_text, ids_text, submitted_text, ran_text, held_text, kept_archive_text, step_text, step_line, call_line, reply_line, word_line, row_text, stage_text, claim_text, job_text};
+ghost use Rattle.farm_run.specs.Printed.{numbers_text, jobs_text, number_text, hex_text, kind_text, age_text};
+ghost use Rattle.farm_run.specs.Printed.{kept_text, ended_text, reserved_text, advance_text, core_text};
+ghost use Rattle.farm_run.specs.Printed.{core_line, heard_text, ready_text, archive_text, archives_text};
+ghost use Rattle.farm_run.specs.Printed.{ids_text, submitted_text, ran_text, held_text, kept_archive_text};
+ghost use Rattle.farm_run.specs.Printed.{step_text, step_line, call_line, reply_line, word_line, row_text};
+ghost use Rattle.farm_run.specs.Printed.{stage_text, claim_text, job_text};
 ghost use Rattle.sched_core.specs.Rows.{held_part};
 
 use crate::entry::{EntryWord, HeardAs, OutCall, Reply, Step, StepKind};

@@ -1,9 +1,11 @@
-use Rattle.farm.proofs.AnswerLemmas.{answered, statuses_of, faulty_of, faultless_of, left_of, order_of, counts_of, no_command_of, command_of, configured_of, served_of}
+use Rattle.farm.proofs.AnswerLemmas.{answered, statuses_of, faulty_of, faultless_of, left_of, order_of}
+use Rattle.farm.proofs.AnswerLemmas.{counts_of, no_command_of, command_of, configured_of, served_of}
 use Rattle.farm.proofs.command.dist_main.Goals as goal
 
 -- what was done, reported
 told : goal.returns-clause-answered
-told g c = answered c.run_words-done.result c.report.result _ _ _ c.run_words-done.ensures.done c.report.ensures.reported
+told g c = answered c.run_words-done.result c.report.result _ _ _ c.run_words-done.ensures.done
+    c.report.ensures.reported
 
 pub returns-clause-answered : goal.returns-clause-answered
 returns-clause-answered g c = told g c

@@ -4,7 +4,8 @@ use Rattle.farm.proofs.command.run_farm.Goals as goal
 
 pub returns-in-Err-run_of : goal.returns-in-Err-run_of
 returns-in-Err-run_of g c = record {
-  run = no_run c.in-Err-run_of.fault c.in-Ok.bytes.items _ _ _ (c.in-Ok.ensures.left, c.in-Ok.ensures.steady) c.in-Ok.ensures.ok
+  run = no_run c.in-Err-run_of.fault c.in-Ok.bytes.items _ _ _ (c.in-Ok.ensures.left, c.in-Ok.ensures.steady)
+      c.in-Ok.ensures.ok
       (rw c.deref.ensures.value at c.in-Err-run_of.ensures.err);
 }
 
@@ -13,8 +14,10 @@ returns-in-Ok-write_all g c = record {
   run = (
     (c.in-Ok.ensures.left, c.in-Ok.ensures.steady),
     c.in-Ok-write_all.ensures.steady,
-    text_added (g.S.Source.left c.args.input.now) c.in-Ok.bytes.items (string_bytes c.in-Ok-run_of.text) (g.K.Sink.held c.args.out.now) (g.K.Sink.held c.write_all.new.out)
-        c.in-Ok.ensures.ok (rw c.deref.ensures.value at c.in-Ok-run_of.ensures.ok) (rw c.as_bytes.ensures.value at c.in-Ok-write_all.ensures.ok),
+    text_added (g.S.Source.left c.args.input.now) c.in-Ok.bytes.items (string_bytes c.in-Ok-run_of.text)
+        (g.K.Sink.held c.args.out.now) (g.K.Sink.held c.write_all.new.out)
+        c.in-Ok.ensures.ok (rw c.deref.ensures.value at c.in-Ok-run_of.ensures.ok)
+        (rw c.as_bytes.ensures.value at c.in-Ok-write_all.ensures.ok),
   );
 }
 
@@ -23,7 +26,9 @@ returns g c = record {
   run = (
     (c.in-Ok.ensures.left, c.in-Ok.ensures.steady),
     c.in-Err-write_all.ensures.cause,
-    text_began (g.S.Source.left c.args.input.now) c.in-Ok.bytes.items (string_bytes c.in-Ok-run_of.text) (g.K.Sink.held c.args.out.now) (g.K.Sink.held c.write_all.new.out)
-        c.in-Ok.ensures.ok (rw c.deref.ensures.value at c.in-Ok-run_of.ensures.ok) (rw c.as_bytes.ensures.value at c.in-Err-write_all.ensures.began),
+    text_began (g.S.Source.left c.args.input.now) c.in-Ok.bytes.items (string_bytes c.in-Ok-run_of.text)
+        (g.K.Sink.held c.args.out.now) (g.K.Sink.held c.write_all.new.out)
+        c.in-Ok.ensures.ok (rw c.deref.ensures.value at c.in-Ok-run_of.ensures.ok)
+        (rw c.as_bytes.ensures.value at c.in-Err-write_all.ensures.began),
   );
 }

@@ -6,5 +6,6 @@ use Rattle.farm.proofs.command.words_in.Goals as goal
 
 pub returns : goal.returns
 returns c = record {
-  words = items_from_collect c.collect.result c.collect.ensures.ran (YieldsList-from_vec (into_iter_items c.args.args) refl c.args.args.rest.ok.0);
+  words = items_from_collect c.collect.result c.collect.ensures.ran
+      (YieldsList-from_vec (into_iter_items c.args.args) refl c.args.args.rest.ok.0);
 }

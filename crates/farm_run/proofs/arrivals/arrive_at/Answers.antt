@@ -8,26 +8,42 @@ use Rattle.farm_run.proofs.arrivals.arrive_at.Goals as goal
 pub returns-in_ok-made-in-Some-get_mut-clause-kept : goal.returns-in_ok-made-in-Some-get_mut-clause-kept
 returns-in_ok-made-in-Some-get_mut-clause-kept c = λ s st at bt.
     let there : slice_get c.args.desk.now.setup.servers c.args.place ≡ Some c.in-Some.server.now =
-    subst (λ (xs : List SetupServer). slice_get xs c.args.place ≡ Some c.in-Some.server.now) c.get.ensures.items
-    (slice_get_read c.get.result.now (length c.get.result.now) c.args.place c.in-Some.server.now refl c.in-Some.ensures.lookup.3.0 c.in-Some.ensures.lookup.1) in
+    subst (λ (xs : List SetupServer). slice_get xs c.args.place ≡ Some c.in-Some.server.now)
+    c.get.ensures.items
+    (slice_get_read c.get.result.now (length c.get.result.now) c.args.place c.in-Some.server.now refl
+    c.in-Some.ensures.lookup.3.0 c.in-Some.ensures.lookup.1) in
     let stands : slice_get c.args.stations.now.items c.args.place ≡ Some c.in-Some-get_mut.station.now =
-    slice_get_read c.args.stations.now.items (length c.args.stations.now.items) c.args.place c.in-Some-get_mut.station.now refl c.in-Some-get_mut.ensures.item.3.0 c.in-Some-get_mut.ensures.item.1 in
-    kept_same c.args.desk.now.setup c.args.desk.now.state.log c.args.arrival.now.stamp.number c.args.arrival.now.bytes.now c.in_ok-made-in-Some-get_mut.made c.in-Some.server.now s
-    c.in-Some-get_mut.station.now st (same_Some c.in-Some.server.now s (sym there ∙ at)) (same_Some c.in-Some-get_mut.station.now st (sym stands ∙ bt)) c.in_ok-made-in-Some-get_mut.ensures.kept
+    slice_get_read c.args.stations.now.items (length c.args.stations.now.items) c.args.place
+    c.in-Some-get_mut.station.now refl c.in-Some-get_mut.ensures.item.3.0 c.in-Some-get_mut.ensures.item.1
+    in
+    kept_same c.args.desk.now.setup c.args.desk.now.state.log c.args.arrival.now.stamp.number
+    c.args.arrival.now.bytes.now c.in_ok-made-in-Some-get_mut.made c.in-Some.server.now s
+    c.in-Some-get_mut.station.now st (same_Some c.in-Some.server.now s (sym there ∙ at))
+    (same_Some c.in-Some-get_mut.station.now st (sym stands ∙ bt))
+    c.in_ok-made-in-Some-get_mut.ensures.kept
 
 pub returns-in_ok-made-in-Some-get_mut-clause-step : goal.returns-in_ok-made-in-Some-get_mut-clause-step
 returns-in_ok-made-in-Some-get_mut-clause-step c = λ s st at bt.
     let there : slice_get c.args.desk.now.setup.servers c.args.place ≡ Some c.in-Some.server.now =
-    subst (λ (xs : List SetupServer). slice_get xs c.args.place ≡ Some c.in-Some.server.now) c.get.ensures.items
-    (slice_get_read c.get.result.now (length c.get.result.now) c.args.place c.in-Some.server.now refl c.in-Some.ensures.lookup.3.0 c.in-Some.ensures.lookup.1) in
+    subst (λ (xs : List SetupServer). slice_get xs c.args.place ≡ Some c.in-Some.server.now)
+    c.get.ensures.items
+    (slice_get_read c.get.result.now (length c.get.result.now) c.args.place c.in-Some.server.now refl
+    c.in-Some.ensures.lookup.3.0 c.in-Some.ensures.lookup.1) in
     let stands : slice_get c.args.stations.now.items c.args.place ≡ Some c.in-Some-get_mut.station.now =
-    slice_get_read c.args.stations.now.items (length c.args.stations.now.items) c.args.place c.in-Some-get_mut.station.now refl c.in-Some-get_mut.ensures.item.3.0 c.in-Some-get_mut.ensures.item.1 in
-    step_same c.args.place c.in_ok-made-in-Some-get_mut.made.effect.step c.args.stations.now.items (set c.args.stations.now.items c.args.place c.serve_at.new.station) c.in-Some.server.now s
-    c.in-Some-get_mut.station.now st c.serve_at.new.station (same_Some c.in-Some.server.now s (sym there ∙ at)) (same_Some c.in-Some-get_mut.station.now st (sym stands ∙ bt)) refl
+    slice_get_read c.args.stations.now.items (length c.args.stations.now.items) c.args.place
+    c.in-Some-get_mut.station.now refl c.in-Some-get_mut.ensures.item.3.0 c.in-Some-get_mut.ensures.item.1
+    in
+    step_same c.args.place c.in_ok-made-in-Some-get_mut.made.effect.step c.args.stations.now.items
+    (set c.args.stations.now.items c.args.place c.serve_at.new.station) c.in-Some.server.now s
+    c.in-Some-get_mut.station.now st c.serve_at.new.station
+    (same_Some c.in-Some.server.now s (sym there ∙ at))
+    (same_Some c.in-Some-get_mut.station.now st (sym stands ∙ bt)) refl
     c.in_ok-made-in-Some-get_mut.ensures.after c.in_ok-made-in-Some-get_mut.ensures.still_well
 
 pub returns-in_ok-made-in-Some-get_mut-clause-there : goal.returns-in_ok-made-in-Some-get_mut-clause-there
 returns-in_ok-made-in-Some-get_mut-clause-there c =
     let stands : slice_get c.args.stations.now.items c.args.place ≡ Some c.in-Some-get_mut.station.now =
-    slice_get_read c.args.stations.now.items (length c.args.stations.now.items) c.args.place c.in-Some-get_mut.station.now refl c.in-Some-get_mut.ensures.item.3.0 c.in-Some-get_mut.ensures.item.1 in
+    slice_get_read c.args.stations.now.items (length c.args.stations.now.items) c.args.place
+    c.in-Some-get_mut.station.now refl c.in-Some-get_mut.ensures.item.3.0 c.in-Some-get_mut.ensures.item.1
+    in
     (c.in-Some-get_mut.station.now, stands)

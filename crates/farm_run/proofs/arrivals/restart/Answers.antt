@@ -10,25 +10,35 @@ use Rattle.farm_run.proofs.RowLemmas.{no_restart, restart_at}
 use Rattle.farm_run.proofs.arrivals.restart.Goals as goal
 
 pub returns-in_ok-effect-in-Some-get_mut-clause-none : goal.returns-in_ok-effect-in-Some-get_mut-clause-none
-returns-in_ok-effect-in-Some-get_mut-clause-none c = λ none. no_restart _ c.args.desk.now.setup c.args.addr c.in-Some.place (sym c.in-Some.ensures.place) none
+returns-in_ok-effect-in-Some-get_mut-clause-none c = λ none.
+    no_restart _ c.args.desk.now.setup c.args.addr c.in-Some.place (sym c.in-Some.ensures.place) none
 
 pub returns-in_ok-effect-in-Some-get_mut-clause-some : goal.returns-in_ok-effect-in-Some-get_mut-clause-some
 returns-in_ok-effect-in-Some-get_mut-clause-some c = λ p s st e at bt.
     let there : slice_get c.args.desk.now.setup.servers c.in-Some.place ≡ Some c.in-Some-get.server.now =
-    subst (λ (xs : List SetupServer). slice_get xs c.in-Some.place ≡ Some c.in-Some-get.server.now) c.get.ensures.items
-    (slice_get_read c.get.result.now (length c.get.result.now) c.in-Some.place c.in-Some-get.server.now refl c.in-Some-get.ensures.lookup.3.0 c.in-Some-get.ensures.lookup.1) in
+    subst (λ (xs : List SetupServer). slice_get xs c.in-Some.place ≡ Some c.in-Some-get.server.now)
+    c.get.ensures.items
+    (slice_get_read c.get.result.now (length c.get.result.now) c.in-Some.place c.in-Some-get.server.now refl
+    c.in-Some-get.ensures.lookup.3.0 c.in-Some-get.ensures.lookup.1) in
     let stands : slice_get c.args.stations.now.items c.in-Some.place ≡ Some c.in-Some-get_mut.station.now =
-    slice_get_read c.args.stations.now.items (length c.args.stations.now.items) c.in-Some.place c.in-Some-get_mut.station.now refl c.in-Some-get_mut.ensures.item.3.0 c.in-Some-get_mut.ensures.item.1 in
+    slice_get_read c.args.stations.now.items (length c.args.stations.now.items) c.in-Some.place
+    c.in-Some-get_mut.station.now refl c.in-Some-get_mut.ensures.item.3.0 c.in-Some-get_mut.ensures.item.1
+    in
     let server = c.in-Some-get.server.now in
     let station = c.in-Some-get_mut.station.now in
-    restart_at c.args.desk.now.setup c.args.addr c.args.stations.now.items (set c.args.stations.now.items c.in-Some.place c.restart_in.new.station) c.whole.result c.args.key.now c.args.nonce
+    restart_at c.args.desk.now.setup c.args.addr c.args.stations.now.items
+    (set c.args.stations.now.items c.in-Some.place c.restart_in.new.station) c.whole.result c.args.key.now
+    c.args.nonce
     c.in-Some.place server station (sym c.in-Some.ensures.place) there stands (
-      c.whole.ensures ∙ ap (λ (x : Effect). record { effect = x; pending = None }) c.in_ok-effect-in-Some-get_mut.ensures.effect,
+      c.whole.ensures ∙ ap (λ (x : Effect). record { effect = x; pending = None })
+          c.in_ok-effect-in-Some-get_mut.ensures.effect,
       (
         c.restart_in.new.station,
         refl,
         c.in_ok-effect-in-Some-get_mut.ensures.still_well,
         c.in_ok-effect-in-Some-get_mut.ensures.after
-            ∙ ap (λ (m : Made). stepped m.effect.step (restarted (Some (c.args.key.now, c.args.nonce)) (now_of server station))) (sym c.whole.ensures),
+            ∙ ap (λ (m : Made). stepped m.effect.step
+            (restarted (Some (c.args.key.now, c.args.nonce)) (now_of server station)))
+            (sym c.whole.ensures),
       ),
     ) p s st e at bt

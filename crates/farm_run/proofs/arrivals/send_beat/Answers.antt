@@ -8,17 +8,25 @@ use Rattle.farm_run.proofs.arrivals.send_beat.Goals as goal
 
 pub returns-in-None-clause-received : goal.returns-in-None-clause-received
 returns-in-None-clause-received c = λ at.
-    no_beat_received c.args.desk.now.setup c.args.desk.now.state c.args.entries.now (length c.args.entries.now) at c.args.addr c.idle.result (sym c.in-None.ensures.place) c.idle.ensures
+    no_beat_received c.args.desk.now.setup c.args.desk.now.state c.args.entries.now
+    (length c.args.entries.now) at c.args.addr c.idle.result (sym c.in-None.ensures.place) c.idle.ensures
 
 pub returns-in_ok-made-in-Some-get-2-clause-received : goal.returns-in_ok-made-in-Some-get-2-clause-received
 returns-in_ok-made-in-Some-get-2-clause-received c = λ at.
     let there : slice_get c.args.desk.now.setup.servers c.in-Some.place ≡ Some c.in-Some-get.server.now =
-    subst (λ (xs : List SetupServer). slice_get xs c.in-Some.place ≡ Some c.in-Some-get.server.now) c.get.ensures.items
-    (slice_get_read c.get.result.now (length c.get.result.now) c.in-Some.place c.in-Some-get.server.now refl c.in-Some-get.ensures.lookup.3.0 c.in-Some-get.ensures.lookup.1) in
+    subst (λ (xs : List SetupServer). slice_get xs c.in-Some.place ≡ Some c.in-Some-get.server.now)
+    c.get.ensures.items
+    (slice_get_read c.get.result.now (length c.get.result.now) c.in-Some.place c.in-Some-get.server.now refl
+    c.in-Some-get.ensures.lookup.3.0 c.in-Some-get.ensures.lookup.1) in
     let stands : slice_get c.args.stations.now c.in-Some.place ≡ Some c.in-Some-get-2.station.now =
-    slice_get_read c.args.stations.now (length c.args.stations.now) c.in-Some.place c.in-Some-get-2.station.now refl c.in-Some-get-2.ensures.lookup.3.0 c.in-Some-get-2.ensures.lookup.1 in
-    let is = found_is c.args.desk.now.setup c.args.addr c.in-Some.place c.in-Some-get.server.now (sym c.in-Some.ensures.place) there in
-    let f : IsFound c.args.desk.now.setup c.args.addr c.in-Some.place = record { server = c.in-Some-get.server.now; there = there; found = is.0; at = is.1 } in
-    beat_received c.args.desk.now.setup c.args.desk.now.state c.args.entries.now c.args.stations.now (length c.args.entries.now) at c.args.addr c.in-Some.place c.in-Some-get-2.station.now
+    slice_get_read c.args.stations.now (length c.args.stations.now) c.in-Some.place
+    c.in-Some-get-2.station.now refl c.in-Some-get-2.ensures.lookup.3.0 c.in-Some-get-2.ensures.lookup.1
+    in
+    let is = found_is c.args.desk.now.setup c.args.addr c.in-Some.place c.in-Some-get.server.now
+    (sym c.in-Some.ensures.place) there in
+    let f : IsFound c.args.desk.now.setup c.args.addr c.in-Some.place =
+    record { server = c.in-Some-get.server.now; there = there; found = is.0; at = is.1 } in
+    beat_received c.args.desk.now.setup c.args.desk.now.state c.args.entries.now c.args.stations.now
+    (length c.args.entries.now) at c.args.addr c.in-Some.place c.in-Some-get-2.station.now
     c.in_ok-made-in-Some-get-2.made f c.requires.stations stands
     c.in_ok-made-in-Some-get-2.ensures.effect c.in_ok-made-in-Some-get-2.ensures.pending

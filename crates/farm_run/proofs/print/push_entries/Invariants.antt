@@ -5,6 +5,7 @@ use Rattle.farm_run.proofs.print.push_entries.Given as goal
 -- the lines so far and those of what is left
 abbrev pub invariant-loop-number : goal.invariant-loop-number
 invariant-loop-number l = record {
-  written : string_bytes l.out ++ entries_text l.number l.core_number (drop l.number l.entries) ≡ string_bytes l.initial.out ++ entries_text 0 0 l.entries;
+  written : string_bytes l.out ++ entries_text l.number l.core_number (drop l.number l.entries) ≡ string_bytes
+      l.initial.out ++ entries_text 0 0 l.entries;
   within : l.core_number ≤ l.number;
 }

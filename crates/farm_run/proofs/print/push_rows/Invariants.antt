@@ -5,4 +5,5 @@ use Rattle.farm_run.proofs.print.push_rows.Given as goal
 
 -- the lines so far and those of what is left
 abbrev pub invariant-loop-row : goal.invariant-loop-row
-invariant-loop-row l = string_bytes l.out ++ flat_map row_text l.row-iterator ≡ string_bytes l.initial.out ++ flat_map row_text l.fn.servers
+invariant-loop-row l = string_bytes l.out ++ flat_map row_text l.row-iterator ≡ string_bytes l.initial.out
+    ++ flat_map row_text l.fn.servers

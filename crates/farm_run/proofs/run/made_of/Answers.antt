@@ -13,53 +13,76 @@ use Rattle.farm_run.proofs.run.made_of.Goals as goal
 
 pub returns-then-is_inside-clause-made : goal.returns-then-is_inside-clause-made
 returns-then-is_inside-clause-made c =
-    idle_made c.args.desk.now.setup c.args.desk.now.state c.args.entries.now c.args.kept.now.items c.args.stations.now.items c.args.event.now c.idle-then-is_inside.result c.requires.farm
+    idle_made c.args.desk.now.setup c.args.desk.now.state c.args.entries.now c.args.kept.now.items
+    c.args.stations.now.items c.args.event.now c.idle-then-is_inside.result c.requires.farm
     (ap (way_of c.args.desk.now.setup c.args.entries.now) c.in-Answer.is
-    ∙ ap (λ (b : Bool). cond b to_nothing (to_call c.in-Answer.call (Some c.in-Answer.bytes))) (sym c.is_inside.ensures ∙ c.if-is_inside.true))
+    ∙ ap (λ (b : Bool). cond b to_nothing (to_call c.in-Answer.call (Some c.in-Answer.bytes)))
+    (sym c.is_inside.ensures ∙ c.if-is_inside.true))
     (λ a. ap (restart_by a) c.in-Answer.is) c.idle-then-is_inside.ensures
 
 pub restart-requires : goal.restart-requires
-restart-requires c = record { well = are_well c.args.desk.now.setup.servers c.args.entries.now c.args.stations.now.items c.requires.farm.stations }
+restart-requires c = record {
+  well = are_well c.args.desk.now.setup.servers c.args.entries.now
+      c.args.stations.now.items c.requires.farm.stations;
+}
 
 pub returns-in_ok-made-in-Request-clause-made : goal.returns-in_ok-made-in-Request-clause-made
 returns-in_ok-made-in-Request-clause-made c =
     let s = c.args.desk.now.setup in
-    received_made s c.args.desk.now.state c.args.entries.now c.args.kept.now.items c.args.stations.now.items c.arrive.new.stations.items c.args.event.now (length c.args.entries.now) c.args.event.now.at
-    (way_to s c.args.entries.now c.in-Request.target c.in-Request.peer c.get.result.now) c.in_ok-made-in-Request.made c.requires.farm refl refl
-    (ap (way_of s c.args.entries.now) c.in-Request.is ∙ ap (λ (b : List ℕ). way_to s c.args.entries.now c.in-Request.target c.in-Request.peer b) (sym c.get.ensures.bytes))
-    (ap (settles_by c.args.entries.now) c.in-Request.is) c.in_ok-made-in-Request.ensures.received (c.in_ok-made-in-Request.ensures.stations c.args.event.now (λ a. ap (restart_by a) c.in-Request.is))
+    received_made s c.args.desk.now.state c.args.entries.now c.args.kept.now.items c.args.stations.now.items
+    c.arrive.new.stations.items c.args.event.now (length c.args.entries.now) c.args.event.now.at
+    (way_to s c.args.entries.now c.in-Request.target c.in-Request.peer c.get.result.now)
+    c.in_ok-made-in-Request.made c.requires.farm refl refl
+    (ap (way_of s c.args.entries.now) c.in-Request.is
+    ∙ ap (λ (b : List ℕ). way_to s c.args.entries.now c.in-Request.target c.in-Request.peer b)
+    (sym c.get.ensures.bytes))
+    (ap (settles_by c.args.entries.now) c.in-Request.is) c.in_ok-made-in-Request.ensures.received
+    (c.in_ok-made-in-Request.ensures.stations c.args.event.now (λ a. ap (restart_by a) c.in-Request.is))
 
 pub returns-in_ok-made-in-Deliver-clause-made : goal.returns-in_ok-made-in-Deliver-clause-made
 returns-in_ok-made-in-Deliver-clause-made c =
     let s = c.args.desk.now.setup in
-    received_made s c.args.desk.now.state c.args.entries.now c.args.kept.now.items c.args.stations.now.items c.deliver.new.stations.items c.args.event.now (length c.args.entries.now) c.args.event.now.at
-    (way_of s c.args.entries.now (kind.Deliver c.in-Deliver.call)) c.in_ok-made-in-Deliver.made c.requires.farm refl refl (ap (way_of s c.args.entries.now) c.in-Deliver.is)
-    (ap (settles_by c.args.entries.now) c.in-Deliver.is) c.in_ok-made-in-Deliver.ensures.received (c.in_ok-made-in-Deliver.ensures.stations c.args.event.now (λ a. ap (restart_by a) c.in-Deliver.is))
+    received_made s c.args.desk.now.state c.args.entries.now c.args.kept.now.items c.args.stations.now.items
+    c.deliver.new.stations.items c.args.event.now (length c.args.entries.now) c.args.event.now.at
+    (way_of s c.args.entries.now (kind.Deliver c.in-Deliver.call)) c.in_ok-made-in-Deliver.made
+    c.requires.farm refl refl (ap (way_of s c.args.entries.now) c.in-Deliver.is)
+    (ap (settles_by c.args.entries.now) c.in-Deliver.is) c.in_ok-made-in-Deliver.ensures.received
+    (c.in_ok-made-in-Deliver.ensures.stations c.args.event.now (λ a. ap (restart_by a) c.in-Deliver.is))
 
 pub returns-in-None-clause-made : goal.returns-in-None-clause-made
 returns-in-None-clause-made c =
     let none : delivery_at c.args.entries.now c.in-Return.delivery ≡ None = search rules in
-    idle_made c.args.desk.now.setup c.args.desk.now.state c.args.entries.now c.args.kept.now.items c.args.stations.now.items c.args.event.now c.idle.result c.requires.farm
-    (ap (way_of c.args.desk.now.setup c.args.entries.now) c.in-Return.is ∙ ap return_way none) (λ a. ap (restart_by a) c.in-Return.is) c.idle.ensures
+    idle_made c.args.desk.now.setup c.args.desk.now.state c.args.entries.now c.args.kept.now.items
+    c.args.stations.now.items c.args.event.now c.idle.result c.requires.farm
+    (ap (way_of c.args.desk.now.setup c.args.entries.now) c.in-Return.is ∙ ap return_way none)
+    (λ a. ap (restart_by a) c.in-Return.is) c.idle.ensures
 
 pub returns-in_ok-made-in-Beat-clause-made : goal.returns-in_ok-made-in-Beat-clause-made
 returns-in_ok-made-in-Beat-clause-made c =
     let s = c.args.desk.now.setup in
     let m = c.in_ok-made-in-Beat.made in
-    received_made s c.args.desk.now.state c.args.entries.now c.args.kept.now.items c.args.stations.now.items c.args.stations.now.items c.args.event.now (length c.args.entries.now) c.args.event.now.at
-    (beat_way (server_now s c.args.entries.now c.in-Beat.server)) m c.requires.farm refl refl (ap (way_of s c.args.entries.now) c.in-Beat.is)
-    (ap (settles_by c.args.entries.now) c.in-Beat.is) (c.in_ok-made-in-Beat.ensures.received c.args.event.now.at)
-    (stations_same s.servers c.args.entries.now c.args.stations.now.items (entry_of c.args.event.now m.effect) c.requires.farm.stations (λ a. ap (restart_by a) c.in-Beat.is) c.in_ok-made-in-Beat.ensures.step)
+    received_made s c.args.desk.now.state c.args.entries.now c.args.kept.now.items c.args.stations.now.items
+    c.args.stations.now.items c.args.event.now (length c.args.entries.now) c.args.event.now.at
+    (beat_way (server_now s c.args.entries.now c.in-Beat.server)) m c.requires.farm refl refl
+    (ap (way_of s c.args.entries.now) c.in-Beat.is)
+    (ap (settles_by c.args.entries.now) c.in-Beat.is)
+    (c.in_ok-made-in-Beat.ensures.received c.args.event.now.at)
+    (stations_same s.servers c.args.entries.now c.args.stations.now.items (entry_of c.args.event.now m.effect)
+    c.requires.farm.stations (λ a. ap (restart_by a) c.in-Beat.is) c.in_ok-made-in-Beat.ensures.step)
 
 pub returns-in_ok-made-in-Restart-clause-made : goal.returns-in_ok-made-in-Restart-clause-made
 returns-in_ok-made-in-Restart-clause-made c =
-    restart_made c.args.desk.now.setup c.args.desk.now.state c.args.entries.now c.args.kept.now.items c.args.stations.now.items c.restart.new.stations.items c.args.event.now c.in-Restart.server
+    restart_made c.args.desk.now.setup c.args.desk.now.state c.args.entries.now c.args.kept.now.items
+    c.args.stations.now.items c.restart.new.stations.items c.args.event.now c.in-Restart.server
     c.get-in-Restart.result.now c.in-Restart.nonce c.in_ok-made-in-Restart.made c.requires.farm
-    (c.in-Restart.is ∙ ap (λ (k : List ℕ). kind.Restart c.in-Restart.server k c.in-Restart.nonce) (sym c.get-in-Restart.ensures.bytes))
+    (c.in-Restart.is ∙ ap (λ (k : List ℕ). kind.Restart c.in-Restart.server k c.in-Restart.nonce)
+    (sym c.get-in-Restart.ensures.bytes))
     c.in_ok-made-in-Restart.ensures.none c.in_ok-made-in-Restart.ensures.some
 
 pub returns-in_ok-made-in-Restart-clause-desk : goal.returns-in_ok-made-in-Restart-clause-desk
 returns-in_ok-made-in-Restart-clause-desk c =
     ap (λ (o : Option CoreEntry). acted c.args.desk.now o)
-    (sym (restart_core c.args.desk.now.setup c.args.entries.now c.in-Restart.server c.args.stations.now.items c.restart.new.stations.items c.in_ok-made-in-Restart.made c.get-in-Restart.result.now
-    c.in-Restart.nonce c.requires.farm.stations c.in_ok-made-in-Restart.ensures.none c.in_ok-made-in-Restart.ensures.some))
+    (sym (restart_core c.args.desk.now.setup c.args.entries.now c.in-Restart.server c.args.stations.now.items
+    c.restart.new.stations.items c.in_ok-made-in-Restart.made c.get-in-Restart.result.now
+    c.in-Restart.nonce c.requires.farm.stations c.in_ok-made-in-Restart.ensures.none
+    c.in_ok-made-in-Restart.ensures.some))

@@ -9,7 +9,10 @@ pub returns-clause-made : goal.returns-clause-made
 returns-clause-made c =
     let beat = c.args.beat in
     let key : c.of_key-key.result ≡ beat.jwt_key = c.of_key-key.ensures.key ∙ c.into_inner.ensures.bytes in (
-      last_is c.args.state.now c.beat.new.self (rule c.args.state.now (call.Beat c.args.now c.args.server beat.server_nonce beat.num_cpus beat.jwt_key)) c.in_ok-entry.entry
+      last_is c.args.state.now c.beat.new.self
+          (rule c.args.state.now (call.Beat c.args.now c.args.server beat.server_nonce beat.num_cpus
+          beat.jwt_key)) c.in_ok-entry.entry
           (rw key at c.in-Ok.ensures.logged) (rw c.history.ensures.log at c.in_ok-entry.ensures),
-      c.in_ok-response.ensures ∙ ap (λ (n : Bool). heard_response c.args.json (record { is_new = n })) c.in-Ok.ensures.answer,
+      c.in_ok-response.ensures ∙ ap (λ (n : Bool). heard_response c.args.json (record { is_new = n }))
+          c.in-Ok.ensures.answer,
     )

@@ -5,13 +5,18 @@ use Rattle.farm_run.proofs.settle.undo.Goals as goal
 
 pub returns-clause-made : goal.returns-clause-made
 returns-clause-made c =
-    undone_is c.args.state.now c.undo-undone.new.self c.args.reservation c.args.turn.root c.args.turn.json c.args.turn.at c.args.cause c.in_ok-core.core c.undo-undone.result
+    undone_is c.args.state.now c.undo-undone.new.self c.args.reservation c.args.turn.root c.args.turn.json
+    c.args.turn.at c.args.cause c.in_ok-core.core c.undo-undone.result
     c.in_ok-response.response c.in_ok-reply.reply c.of_reply.result
-    (rw c.requires.own at c.undo-undone.ensures.logged) (rw c.history.ensures.log at c.in_ok-core.ensures) (rw c.requires.own at c.undo-undone.ensures.answer)
+    (rw c.requires.own at c.undo-undone.ensures.logged) (rw c.history.ensures.log at c.in_ok-core.ensures)
+    (rw c.requires.own at c.undo-undone.ensures.answer)
     c.in_ok-response.ensures c.in_ok-reply.ensures.ok c.of_reply.ensures
 
 pub returns-clause-core : goal.returns-clause-core
 returns-clause-core c =
     let t = c.args.reservation in
-    told_core c.args.state.now c.undo-undone.new.self (rule c.args.state.now (call.Undo c.args.turn.at t.number t.job)) c.in_ok-core.core c.in_ok-reply.reply c.of_reply.result
-    (rw c.requires.own at c.undo-undone.ensures.logged) (rw c.history.ensures.log at c.in_ok-core.ensures) c.of_reply.ensures
+    told_core c.args.state.now c.undo-undone.new.self
+    (rule c.args.state.now (call.Undo c.args.turn.at t.number t.job)) c.in_ok-core.core
+    c.in_ok-reply.reply c.of_reply.result
+    (rw c.requires.own at c.undo-undone.ensures.logged) (rw c.history.ensures.log at c.in_ok-core.ensures)
+    c.of_reply.ensures

@@ -7,6 +7,10 @@ use Rattle.farm_run.proofs.words.all_fit.Goals as goal
 
 pub loop-server-preserved : goal.loop-server-preserved
 loop-server-preserved c =
-    let more : take (c.loop-server.server-index + 1) c.args.servers.now ≡ take c.loop-server.server-index c.args.servers.now ++ c.server-item.result ∷ [] =
-    take_more c.args.servers.now c.loop-server.server-index c.server-item.result c.loop-server-test.true ∙ ap (λ x. take c.loop-server.server-index c.args.servers.now ++ x ∷ []) (sym c.server-item.is) in
-    rw more (all-append (λ (s : SetupServer). IsAddr s.addr) (take c.loop-server.server-index c.args.servers.now) (c.server-item.result ∷ []) c.loop-server.invariant (c.fits.ensures, tt))
+    let more : take (c.loop-server.server-index + 1) c.args.servers.now ≡ take c.loop-server.server-index
+    c.args.servers.now ++ c.server-item.result ∷ [] =
+    take_more c.args.servers.now c.loop-server.server-index c.server-item.result c.loop-server-test.true
+    ∙ ap (λ x. take c.loop-server.server-index c.args.servers.now ++ x ∷ []) (sym c.server-item.is) in
+    rw more (all-append (λ (s : SetupServer). IsAddr s.addr)
+    (take c.loop-server.server-index c.args.servers.now)
+    (c.server-item.result ∷ []) c.loop-server.invariant (c.fits.ensures, tt))

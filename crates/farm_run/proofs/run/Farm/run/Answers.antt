@@ -9,9 +9,12 @@ use Rattle.farm_run.proofs.run.Farm.run.Goals as goal
 
 pub loop-event-preserved : goal.loop-event-preserved
 loop-event-preserved c =
-    let more : take (c.loop-event.event-index + 1) c.args.events.now ≡ take c.loop-event.event-index c.args.events.now ++ c.event-item.result ∷ [] =
-    take_more c.args.events.now c.loop-event.event-index c.event-item.result c.loop-event-test.true ∙ ap (λ x. take c.loop-event.event-index c.args.events.now ++ x ∷ []) (sym c.event-item.is) in
-    rw more (Runs-push _ _ _ _ _ c.in_ok-farm.ensures.ok.0 c.loop-event.invariant c.in_ok-farm.ensures.ok.1 c.in_ok-farm.ensures.ok.2)
+    let more : take (c.loop-event.event-index + 1) c.args.events.now ≡ take c.loop-event.event-index
+    c.args.events.now ++ c.event-item.result ∷ [] =
+    take_more c.args.events.now c.loop-event.event-index c.event-item.result c.loop-event-test.true
+    ∙ ap (λ x. take c.loop-event.event-index c.args.events.now ++ x ∷ []) (sym c.event-item.is) in
+    rw more (Runs-push _ _ _ _ _ c.in_ok-farm.ensures.ok.0 c.loop-event.invariant c.in_ok-farm.ensures.ok.1
+    c.in_ok-farm.ensures.ok.2)
 
 -- the entries before the event that memory ran out in
 pub returns-in_err-farm-clause-err : goal.returns-in_err-farm-clause-err
@@ -20,7 +23,8 @@ returns-in_err-farm-clause-err c =
     rw (p.1, p.2) (
       c.loop-event.event-index,
       c.loop-event-test.true,
-      Runs-entries c.args.self (take c.loop-event.event-index c.args.events.now) c.loop-event.farm c.in_err-farm.field-0.0.entries c.loop-event.invariant c.in_err-farm.ensures.err,
+      Runs-entries c.args.self (take c.loop-event.event-index c.args.events.now) c.loop-event.farm
+          c.in_err-farm.field-0.0.entries c.loop-event.invariant c.in_err-farm.ensures.err,
     )
 
 pub returns-in_err-farm-clause-stopped_laws : goal.returns-in_err-farm-clause-stopped_laws
@@ -28,14 +32,17 @@ returns-in_err-farm-clause-stopped_laws c =
     let p = err_from_is_err_and c.from_residual.result c.from_residual.ensures.1 in
     rw (p.1, p.2) (
     run_lawful c.args.self.setup c.in_err-farm.field-0.0.entries c.words.ensures.count
-    (Runs-is c.args.self (take c.loop-event.event-index c.args.events.now) c.loop-event.farm c.in_err-farm.field-0.0.entries c.loop-event.invariant c.in_err-farm.ensures.err c.in_err-farm.ensures.run)
+    (Runs-is c.args.self (take c.loop-event.event-index c.args.events.now) c.loop-event.farm
+    c.in_err-farm.field-0.0.entries c.loop-event.invariant c.in_err-farm.ensures.err
+    c.in_err-farm.ensures.run)
     )
 
 pub returns-in_err-farm-clause-stopped_builds : goal.returns-in_err-farm-clause-stopped_builds
 returns-in_err-farm-clause-stopped_builds c =
     let p = err_from_is_err_and c.from_residual.result c.from_residual.ensures.1 in
     rw (p.1, p.2) (
-    Runs-stopped c.args.self (take c.loop-event.event-index c.args.events.now) c.loop-event.farm c.in_err-farm.field-0.0.entries c.words.ensures.count c.words.ensures.words c.loop-event.invariant
+    Runs-stopped c.args.self (take c.loop-event.event-index c.args.events.now) c.loop-event.farm
+    c.in_err-farm.field-0.0.entries c.words.ensures.count c.words.ensures.words c.loop-event.invariant
     c.in_err-farm.ensures.err c.in_err-farm.ensures.run
     )
 
@@ -44,15 +51,19 @@ returns-in_err-farm-clause-stopped_reliable c =
     let p = err_from_is_err_and c.from_residual.result c.from_residual.ensures.1 in
     rw (p.1, p.2) (
     run_reliable c.args.self.setup c.in_err-farm.field-0.0.entries
-    (Runs-is c.args.self (take c.loop-event.event-index c.args.events.now) c.loop-event.farm c.in_err-farm.field-0.0.entries c.loop-event.invariant c.in_err-farm.ensures.err c.in_err-farm.ensures.run)
+    (Runs-is c.args.self (take c.loop-event.event-index c.args.events.now) c.loop-event.farm
+    c.in_err-farm.field-0.0.entries c.loop-event.invariant c.in_err-farm.ensures.err
+    c.in_err-farm.ensures.run)
     )
 
 pub returns-clause-laws : goal.returns-clause-laws
-returns-clause-laws c = run_lawful c.loop-event.farm.setup c.loop-event.farm.entries c.obey.ensures.fits c.obey.ensures.run
+returns-clause-laws c = run_lawful c.loop-event.farm.setup c.loop-event.farm.entries c.obey.ensures.fits
+    c.obey.ensures.run
 
 pub returns-clause-builds : goal.returns-clause-builds
 returns-clause-builds c =
-    Runs-builds c.args.self (take c.loop-event.event-index c.args.events.now) c.loop-event.farm c.words.ensures.count c.words.ensures.words c.loop-event.invariant c.obey.ensures.run
+    Runs-builds c.args.self (take c.loop-event.event-index c.args.events.now) c.loop-event.farm
+    c.words.ensures.count c.words.ensures.words c.loop-event.invariant c.obey.ensures.run
 
 pub returns-clause-reliable : goal.returns-clause-reliable
 returns-clause-reliable c = run_reliable c.loop-event.farm.setup c.loop-event.farm.entries c.obey.ensures.run

@@ -6,4 +6,5 @@ use Rattle.farm_run.specs.Printed.{archive_text}
 use Rattle.farm_run.proofs.text.ArchivesDisplay.fmt.Given as goal
 
 abbrev pub invariant-loop-pair : goal.invariant-loop-pair
-invariant-loop-pair g l = IsPlainFormatter l.initial.f → HasWritten g.W.Write.write_str_gives l.initial.f (flat_map (λ q. codes "," ++ archive_text q) (take l.pair-index l.rest)) l.f
+invariant-loop-pair g l = IsPlainFormatter l.initial.f → HasWritten g.W.Write.write_str_gives l.initial.f
+    (flat_map (λ q. codes "," ++ archive_text q) (take l.pair-index l.rest)) l.f

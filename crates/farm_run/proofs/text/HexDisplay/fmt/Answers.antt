@@ -10,13 +10,15 @@ pub loop-rest-preserved : goal.loop-rest-preserved
 loop-rest-preserved g c =
     let piece = c.split_at.result.0.now in
     let after = c.split_at.result.1.now in
-    let whole : piece ++ after ≡ c.loop-rest.rest.now = rw (c.split_at.ensures.front, c.split_at.ensures.back) (take-append-drop c.min-size.result c.loop-rest.rest.now) in
+    let whole : piece ++ after ≡ c.loop-rest.rest.now = rw (c.split_at.ensures.front, c.split_at.ensures.back)
+    (take-append-drop c.min-size.result c.loop-rest.rest.now) in
     λ plain.
     let so_far = c.loop-rest.invariant plain in (
       so_far.0 ++ c.hex_in-text.result.now,
       has_written_append _ _ _ _ _ _ so_far.1 (search rules),
       append_assoc so_far.0 _ _
-          ∙ ap (λ (t : List ℕ). so_far.0 ++ t) (rw c.hex_in-text.ensures (hex-append piece after) ∙ ap encode_lower whole)
+          ∙ ap (λ (t : List ℕ). so_far.0 ++ t) (rw c.hex_in-text.ensures (hex-append piece after)
+          ∙ ap encode_lower whole)
           ∙ so_far.2,
     )
 

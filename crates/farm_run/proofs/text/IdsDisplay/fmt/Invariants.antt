@@ -6,4 +6,5 @@ use Rattle.farm_run.proofs.text.IdsDisplay.fmt.Given as goal
 
 -- the ids of what was passed, each behind a comma
 abbrev pub invariant-loop-tc : goal.invariant-loop-tc
-invariant-loop-tc g l = IsPlainFormatter l.initial.f → HasWritten g.W.Write.write_str_gives l.initial.f (flat_map (λ other. codes "," ++ other) (take l.tc-index l.rest)) l.f
+invariant-loop-tc g l = IsPlainFormatter l.initial.f → HasWritten g.W.Write.write_str_gives l.initial.f
+    (flat_map (λ other. codes "," ++ other) (take l.tc-index l.rest)) l.f
