@@ -1,9 +1,11 @@
-//! The program `cache_bench CALL DIR COUNT`: it makes a call so many times on a cache of archives in a directory.
+//! The program `cache_bench CALL DIR COUNT`: it makes a call so many times on a cache of archives in a
+//! directory.
 //!
-//! The calls are `fill` (stores so many archives of eight bytes), `look` (so many look-ups, spread over all archives), `evict` (opens the
-//! cache with just room for what it has, and stores so many new archives), `mix` (stores, looks up and removes in turn, with room for five),
-//! `list` (opens the cache alone) and `hash` (the SHA-256 of so many MiB). With a count of 0 each but `hash` opens the cache alone. It
-//! writes how many archives there are then, and before that, for `mix` and `list`, their ids, least recent first.
+//! The calls are `fill` (stores so many archives of eight bytes), `look` (so many look-ups, spread over all
+//! archives), `evict` (opens the cache with just room for what it has, and stores so many new archives),
+//! `mix` (stores, looks up and removes in turn, with room for five), `list` (opens the cache alone) and
+//! `hash` (the SHA-256 of so many MiB). With a count of 0 each but `hash` opens the cache alone. It writes
+//! how many archives there are then, and before that, for `mix` and `list`, their ids, least recent first.
 #![tactic(auto)]
 
 use dist_types::toolchain::Toolchain;
