@@ -64,7 +64,9 @@ impl<K: Eq + Hash, V, S: BuildHasher> Model for Table<K, V, S> {
 
     ghost view = { λ t. pairs_of t.nodes };
 
-    ghost invariant = { λ t. IsTable K.eq (λ k. hash_of S.BuildHasher S.Hasher.Hasher t.hasher (K.hash_input k)) t.nodes t.heads.items };
+    ghost invariant = { λ t.
+        IsTable K.eq (λ k. hash_of S.BuildHasher S.Hasher.Hasher t.hasher (K.hash_input k)) t.nodes
+        t.heads.items };
 }
 
 impl<K: Eq + Hash, V, S: BuildHasher> Table<K, V, S> {
