@@ -1,6 +1,7 @@
 //! A farm, and its runs.
 ghost use Rattle.std.specs.Prelude.{◌≡◌, [], ◌<◌, ◌≤◌, ◌^◌, ℕ, length, take, slice_get, IfOk, IfErr, OnOk};
 ghost use Rattle.std.specs.Prelude.{OnErr, MatchOption, map, Some};
+ghost use Rattle.sched_core.specs.Job.{open_jobs};
 ghost use Rattle.sched_core.specs.Rows.{servers_of, jobs_of, held_by_id, held_part};
 ghost use Rattle.farm_script.specs.declared.fault.FarmFault.TheVariants as fault;
 ghost use Rattle.farm_script.specs.declared.setup.SetupServer.{SetupServer as Site};
@@ -166,6 +167,13 @@ impl Farm {
         ensures given { result ≡ ids_given self.now.setup.scheduler (core_log self.now.entries) }
     {
         self.desk.state.count() + self.desk.state.reservation_count()
+    }
+
+    /// How many jobs are open. It takes no memory, and does not go through the log.
+    pub fn open_count(&self) -> usize
+        ensures open { result ≡ length (open_jobs (core_log self.now.entries)) }
+    {
+        self.desk.state.open_count()
     }
 
     /// The station of a server, by its place in the setup.
