@@ -1,7 +1,7 @@
 //! The connections that a listener of the system accepts, as tasks.
 use crate::served::Served;
 use crate::start::Start;
-use crate::stream::{BufferedStream, accepted_link};
+use crate::stream::{BufferedStream, LimitedNet, accepted_link};
 use crate::tasks::Tasks;
 use dist_types::addr::Addr;
 use dist_types::tcp::TcpLink;
@@ -132,5 +132,10 @@ impl<'a, R: Clock> Sharing<'a, R> {
             self.start.limit,
             self.start.timeout_ms,
         )
+    }
+
+    /// The network for asking peers that answer at once. It takes no memory.
+    pub fn asking(&self) -> LimitedNet<'a, R> {
+        LimitedNet::new(self.rt, self.start.timeout_ms)
     }
 }
