@@ -6,7 +6,7 @@ use Rattle.dist_types.specs.Content.{Added, Began}
 use Rattle.http_head.specs.declared.request.Request.{Request}
 use Rattle.http_routes.specs.Reply.{reply_text}
 use Rattle.http_routes.specs.declared.reply.Response.{Response}
-use Rattle.http_connections.specs.Served.{Shown, IsServed, Serves, IsServedBy}
+use Rattle.http_connections.specs.Served.{Shown, Serves, IsServedBy}
 use Rattle.http_connections.specs.Taking.{TakesCut}
 use Rattle.http_connections.specs.declared.served.Served.{Served}
 use Rattle.http_connections.specs.declared.served.Served.TheVariants.{Answered, ReadFault, WriteFault, Memory}
@@ -39,22 +39,3 @@ sent replies before after request reply served first mid last held wrote now rea
           did
           (subst (λ n. Sends reply served held now n after_writes) steady (subst (λ o. Sends reply served o now counted after_writes) kept s));
     }
-
--- where the connection tells its bytes
-took_and_replied : (first last held now : Option (List ℕ)) (request : Option Request) (reply : Response)
-    → IfSome first (λ bytes. TakesCut bytes last request) → Added (reply_text reply) held now
-    → IsServed (record { left = first; held = held; reads = 0; writes = 0 }) (record { left = last; held = now; reads = 0; writes = 0 }) Answered
-took_and_replied None last held now request reply took added = tt
-took_and_replied (Some bytes) last held now request reply took added = (took.0, reply, took.1, took.2, added)
-
-tells : {A : Type 0} (replies : Option Request → A → A → Response → Type 0) (old new : Shown) (before after : A) (served : Served)
-    → Serves replies old new before after served → IsServed old new served
-tells replies old new before after Answered (request, reply, took, did, added) = took_and_replied old.left new.left old.held new.held request reply took added
-tells replies old new before after WriteFault s = s.0
-tells replies old new before after ReadFault s = (s.0, s.1)
-tells replies old new before after Memory kept = kept
-
--- what a worker's tasks are told of it
-pub told : {A : Type 0} (replies : Option Request → A → A → Response → Type 0) (old new : Shown) (before after : A) (served : Served)
-    → IsServedBy replies old new before after served → IsServed old new served
-told replies old new before after served s = tells replies old new before after served s.serves

@@ -1,8 +1,7 @@
 -- What a connection shows, and what serving it does to it.
 use Rattle.std.specs.Prelude.{◌≡◌, ℕ, List, Option, Some, IfSome}
 use Rattle.dist_types.specs.Cause.{Rose}
-use Rattle.dist_types.specs.Content.{Taken, Added, Began}
-use Rattle.http_head.specs.Cut.{IsCut}
+use Rattle.dist_types.specs.Content.{Added, Began}
 use Rattle.http_head.specs.declared.request.Request.{Request}
 use Rattle.http_routes.specs.Reply.{reply_text}
 use Rattle.http_routes.specs.declared.reply.Response.{Response}
@@ -16,17 +15,6 @@ pub record Shown : Type 0 where
   pub held : Option (List ℕ)
   pub reads : ℕ
   pub writes : ℕ
-
--- where the connection tells its bytes, exactly their cut was taken, and one reply was written
-abbrev pub TookAndReplied : Shown → Shown → Type 0
-TookAndReplied old new = IfSome old.left (λ bytes. (cut : List ℕ) × (r : Response) × IsCut bytes cut × Taken cut (Some bytes) new.left × Added (reply_text r) old.held new.held)
-
--- A request was taken and a reply written; or a half failed, and its count rose; or memory ran out, and nothing was written.
-abbrev pub IsServed : Shown → Shown → Served → Type 0
-IsServed old new Answered = TookAndReplied old new
-IsServed old new ReadFault = Rose old.reads new.reads × (new.held ≡ old.held)
-IsServed old new WriteFault = Rose old.writes new.writes
-IsServed old new Memory = new.held ≡ old.held
 
 -- where the connection tells its bytes, exactly their cut was taken, and it is that request, or none
 abbrev pub Took : Shown → Shown → Option Request → Type 0

@@ -1,5 +1,5 @@
--- What the passes of workers hold, added up.
-use Rattle.std.proofs.Common.{◌≡◌, ℕ, suc, ◌+◌, ◌<◌, ◌≤◌, List, [], ◌∷◌, ◌++◌, length, refl, arith}
+-- What the passes of workers count and hold, added up.
+use Rattle.std.proofs.Common.{◌≡◌, ℕ, suc, ◌+◌, ◌<◌, ◌≤◌, List, [], ◌∷◌, ◌++◌, length, map, refl, arith}
 use Rattle.std.specs.Prelude.{slice_index_or}
 use Rattle.std.specs.List.{sum_by}
 use Rattle.std.proofs.lemmas.List.Sums.{sum_by-append, sum_by-cons}
@@ -26,3 +26,7 @@ sum_same f (x ∷ xs) (y ∷ ys) e same =
     let first : f y ≡ f x = same 0 x (omega arith) in
     let rest = sum_same f xs ys (omega (arith, e)) (λ i d below. same (suc i) d (omega (arith, below))) in
     omega (arith, sum_by-cons f x xs, sum_by-cons f y ys, first, rest)
+
+pub sum_mapped : {W P : Type 0} (g : W → P) (f : P → ℕ) (ws : List W) → sum_by f (map g ws) ≡ sum_by (λ w. f (g w)) ws
+sum_mapped g f [] = refl
+sum_mapped g f (w ∷ ws) = omega (arith, sum_by-cons f (g w) (map g ws), sum_by-cons (λ w. f (g w)) w ws, sum_mapped g f ws)
