@@ -20,17 +20,22 @@ pub record Shown : Type 0 where
 abbrev pub Took : Shown → Shown → Option Request → Type 0
 Took old new request = IfSome old.left (λ bytes. TakesCut bytes new.left request)
 
--- One request was taken and replied to, by a relation of what the caller lends before and after, and the whole reply written,
--- or a front of it where writing failed; where reading failed, nothing was asked and nothing written; where memory ran out,
--- nothing was written.
-abbrev pub Serves : {A : Type 0} → (Option Request → A → A → Response → Type 0) → Shown → Shown → A → A → Served → Type 0
+-- One request was taken and replied to, by a relation of what the caller lends before and after, and the
+-- whole reply written, or a front of it where writing failed; where reading failed, nothing was asked and
+-- nothing written; where memory ran out, nothing was written.
+abbrev pub Serves : {A : Type 0} → (Option Request → A → A → Response → Type 0) → Shown → Shown → A → A
+    → Served → Type 0
 Serves replies old new before after Answered =
-    (request : Option Request) × (reply : Response) × Took old new request × replies request before after reply × Added (reply_text reply) old.held new.held
+    (request : Option Request) × (reply : Response) × Took old new request
+    × replies request before after reply × Added (reply_text reply) old.held new.held
 Serves replies old new before after WriteFault =
-    Rose old.writes new.writes × (request : Option Request) × (reply : Response) × Took old new request × replies request before after reply × Began (reply_text reply) old.held new.held
-Serves replies old new before after ReadFault = Rose old.reads new.reads × (new.held ≡ old.held) × (after ≡ before)
+    Rose old.writes new.writes × (request : Option Request) × (reply : Response) × Took old new request
+    × replies request before after reply × Began (reply_text reply) old.held new.held
+Serves replies old new before after ReadFault = Rose old.reads new.reads × (new.held ≡ old.held)
+    × (after ≡ before)
 Serves replies old new before after Memory = new.held ≡ old.held
 
 -- what serving a connection does, by its answer
-pub record IsServedBy {A : Type 0} (replies : Option Request → A → A → Response → Type 0) (old new : Shown) (before after : A) (served : Served) : Type 0 where
+pub record IsServedBy {A : Type 0} (replies : Option Request → A → A → Response → Type 0) (old new : Shown)
+    (before after : A) (served : Served) : Type 0 where
   pub serves : Serves replies old new before after served

@@ -17,7 +17,8 @@ pub const WORKERS: usize = 8;
 /// How long a worker waits behind a connection that was not accepted, in milliseconds.
 const PAUSE_MS: u64 = 10;
 
-/// Accepts connections of one listener, which all workers share, and at most so many by all workers. It tells nothing.
+/// Accepts connections of one listener, which all workers share, and at most so many by all workers. It tells
+/// nothing.
 #[derive(Drop)]
 pub struct Accepting<'a, R: Clock> {
     rt: &'a R,
@@ -47,8 +48,8 @@ fn addr_of(peer: SocketAddr) -> Addr {
 }
 
 impl<'a, R: Clock> Accepting<'a, R> {
-    /// The tasks of one worker: a ticket is drawn before each accept, none past the limit, and a link fails where it
-    /// waits longer than so many milliseconds for a byte to come or to go. It takes no memory.
+    /// The tasks of one worker: a ticket is drawn before each accept, none past the limit, and a link fails
+    /// where it waits longer than so many milliseconds for a byte to come or to go. It takes no memory.
     pub fn new(
         rt: &'a R,
         alloc: Global,

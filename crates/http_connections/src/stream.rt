@@ -5,8 +5,8 @@ use std::io::{self, BufReader, Read, Write};
 use std::net::{Net, OpenStream, SocketAddr};
 use std::time::Duration;
 
-/// How long an accepted link, or what is asked of a peer that answers at once, waits for a byte to come or to go, in
-/// milliseconds; then it fails.
+/// How long an accepted link, or what is asked of a peer that answers at once, waits for a byte to come or to
+/// go, in milliseconds; then it fails.
 pub const LINK_TIMEOUT_MS: u64 = 30_000;
 
 /// How many bytes are asked of the system at once.
@@ -42,8 +42,8 @@ impl<S: Read + Write> Write for BufferedStream<S> {
     }
 }
 
-/// From now on a read or a write of the stream that waits longer than so many milliseconds fails. Refused where the
-/// system does not take the limit, which 0 never is.
+/// From now on a read or a write of the stream that waits longer than so many milliseconds fails. Refused
+/// where the system does not take the limit, which 0 never is.
 fn limit_waiting<S: OpenStream>(stream: &S, timeout_ms: u64) -> io::Result<()> {
     let limit = Some(Duration::from_millis(timeout_ms));
     stream.set_read_timeout(limit)?;
@@ -51,8 +51,8 @@ fn limit_waiting<S: OpenStream>(stream: &S, timeout_ms: u64) -> io::Result<()> {
 }
 
 /// The link over a stream that was accepted: a read or a write that waits longer than so many milliseconds
-/// fails. Refused, and the stream dropped, where the system does not take the limit, which 0 never is, or memory
-/// ran out.
+/// fails. Refused, and the stream dropped, where the system does not take the limit, which 0 never is, or
+/// memory ran out.
 pub fn accepted_link<S: Read + Write + OpenStream + Drop>(
     alloc: Global,
     stream: S,
@@ -63,8 +63,8 @@ pub fn accepted_link<S: Read + Write + OpenStream + Drop>(
     Ok(TcpLink::new(stream))
 }
 
-/// A network for asking peers that answer at once: a connection that waits longer than so many milliseconds to be made,
-/// or for a byte to come or to go, fails.
+/// A network for asking peers that answer at once: a connection that waits longer than so many milliseconds
+/// to be made, or for a byte to come or to go, fails.
 #[derive(Drop)]
 pub struct LimitedNet<'a, R> {
     net: &'a R,

@@ -1,17 +1,16 @@
-//! The program `limited_scheduler PORT MILLISECONDS`: a scheduler at that port of 127.0.0.1, which lets everybody in,
-//! and whose links fail where they wait so long for a byte to come or to go.
+//! The program `limited_scheduler PORT MILLISECONDS`: a scheduler at that port of 127.0.0.1, which lets
+//! everybody in, and whose links fail where they wait so long for a byte to come or to go.
 //!
-//! Without words it listens at a free port, and ends before the first connection. Its status is 7 where it cannot
-//! listen.
+//! Without words it listens at a free port, and ends before the first connection. Its status is 7 where it
+//! cannot listen.
 #![tactic(auto)]
 
 use dist_config::config::{ClientAuth, SchedulerConfig, ServerAuth};
 use dist_types::addr::Addr;
 use http_connections::start::Start;
 use scheduler_service::run_scheduler::serve_scheduler;
-use std::env;
-use std::io;
 use std::process::ExitCode;
+use std::{env, io};
 
 /// The word of that number, where it is a port.
 fn port_of(word: Option<&String>) -> Option<u16> {

@@ -8,9 +8,15 @@ use Rattle.scheduler_service.specs.Connection.{Around}
 use Rattle.scheduler_service.specs.declared.workers.Kit.{Kit}
 
 -- what a worker lends, by what its clock and its dialer tell
-abbrev pub around : {T D C K : Type 0} → (C → Moments) → (D → Option (List Asked)) → (D → ℕ) → Told → Kit T D C K → Around K
+abbrev pub around : {T D C K : Type 0} → (C → Moments) → (D → Option (List Asked)) → (D → ℕ) → Told
+    → Kit T D C K → Around K
 around ticks asked faults pass kit = record {
-  means = record { pass = pass; clock = ticks kit.clock; asked = asked kit.dialer; faults = faults kit.dialer };
+  means = record {
+    pass = pass;
+    clock = ticks kit.clock;
+    asked = asked kit.dialer;
+    faults = faults kit.dialer;
+  };
   client = kit.client;
 }
 

@@ -49,8 +49,8 @@ fn server_check(alloc: Global, auth: &ServerAuth) -> Result<ServerCheck, StartFa
 /// How a scheduler asks build servers and the peer of its clients' tokens, all of which answer at once.
 type SchedulerDialer<'a, R> = TcpDialer<LimitedNet<'a, R>>;
 
-/// The check of clients' tokens that a configuration chooses. Refused where memory ran out, or where the URL of a peer is
-/// not of http.
+/// The check of clients' tokens that a configuration chooses. Refused where memory ran out, or where the URL
+/// of a peer is not of http.
 fn client_check<'a, R: Net + Clock>(
     sharing: &Sharing<'a, R>,
     auth: &ClientAuth,
@@ -113,8 +113,8 @@ fn scheduler_kits<'a, R: Net + Clock>(
     Ok(kits)
 }
 
-/// Serves as a scheduler until the listener ends. Refused where the address is taken, a check cannot be made as the
-/// configuration says, or memory ran out.
+/// Serves as a scheduler until the listener ends. Refused where the address is taken, a check cannot be made
+/// as the configuration says, or memory ran out.
 pub fn serve_scheduler<
     R: Threads + Wait + Sync + Clock + Net<Listener = TcpListener, Stream = TcpStream>,
 >(rt: &R, alloc: Global, config: &SchedulerConfig, start: Start) -> Result<(), StartFault> {

@@ -1,10 +1,12 @@
-//! The program `serve_bytes NUMBER MOST ACCEPTED`: a build server over an empty cache in memory serves so many connections one behind
-//! the other, whose bytes come from standard input, so many at most each read, and whose replies go to standard output.
+//! The program `serve_bytes NUMBER MOST ACCEPTED`: a build server over an empty cache in memory serves so
+//! many connections one behind the other, whose bytes come from standard input, so many at most each read,
+//! and whose replies go to standard output.
 //!
-//! Its scheduler accepts the first ACCEPTED reports, and then is gone. On standard error there is a line for each connection, with what
-//! serving it answered and how many reports were made so far; then how many bytes are left, or that reading fails; then each report:
-//! whom it went to, its length, and its bytes.
+//! Its scheduler accepts the first ACCEPTED reports, and then is gone. On standard error there is a line for
+//! each connection, with what serving it answered and how many reports were made so far; then how many bytes
+//! are left, or that reading fails; then each report: whom it went to, its length, and its bytes.
 #![tactic(auto)]
+
 ghost use Rattle.std.specs.Prelude.{IfSome};
 ghost use Rattle.http_calls.specs.Urls.{IsHttp};
 
@@ -87,7 +89,8 @@ fn accepting(alloc: Global, number: u64) -> Result<MemDialer, AllocError> {
     Ok(MemDialer::new(alloc, replies, Vec::new(alloc)))
 }
 
-/// Serves one connection of a server whose key is 1, 2, 2, and which shows `127.0.0.1:10501 s1` to its scheduler.
+/// Serves one connection of a server whose key is 1, 2, 2, and which shows `127.0.0.1:10501 s1` to its
+/// scheduler.
 fn serve<L: Link>(
     alloc: Global,
     state: &mut ServerState<ReliableFolder>,
@@ -100,16 +103,7 @@ fn serve<L: Link>(
     let key = JWTJobAuthorizer::new(Vec::from_slice(alloc, &[1, 2, 2])?);
     let mut builder = EchoBuilder::new(alloc);
     let token = "127.0.0.1:10501 s1";
-    Ok(serve_server_connection(
-        alloc,
-        state,
-        &key,
-        link,
-        dialer,
-        base,
-        token,
-        &mut builder,
-    ))
+    Ok(serve_server_connection(alloc, state, &key, link, dialer, base, token, &mut builder))
 }
 
 /// The number that a word is.
@@ -141,7 +135,12 @@ fn main(rt: HostRuntime) -> io::Result<ExitCode> {
     }
     let mut errs = StdSink::new(rt.stderr());
     for row in dialer.asked() {
-        eprintln!(rt; "{}:{} {}", row.host.get(), row.port, row.request.get().len())?;
+        eprintln!(rt;
+            "{}:{} {}",
+            row.host.get(),
+            row.port,
+            row.request.get().len()
+        )?;
         if write_all(&mut errs, row.request.get()).is_err() {
             return Ok(ExitCode::from(4));
         }

@@ -64,8 +64,8 @@ impl Ending {
     }
 }
 
-/// Tells the scheduler again and again that the server stands, until the listener ended. What waits longer than the
-/// limit for an answer is not told.
+/// Tells the scheduler again and again that the server stands, until the listener ended. What waits longer
+/// than the limit for an answer is not told.
 fn beat_until_ended<R: Wait + Clock + Net<Stream = TcpStream>>(
     sharing: &Sharing<'_, R>,
     ending: &Ending,
@@ -100,8 +100,8 @@ fn tested(base: &Url) -> Result<(), StartFault>
     }
 }
 
-/// The server of a configuration, which holds nothing, over the archives that stand in its folder. The folder is made
-/// where there is none.
+/// The server of a configuration, which holds nothing, over the archives that stand in its folder. The folder
+/// is made where there is none.
 fn server_of<'a, R: Files + AllocGlobal>(
     rt: &'a R,
     alloc: Global,
@@ -218,8 +218,8 @@ fn has_thread<R: Threads>(rt: &R) -> bool {
     }
 }
 
-/// Serves as a build server until the listener ends. Refused at once where the address is taken, the folder cannot be
-/// opened, the scheduler's URL is not of http, no thread can be started, or memory ran out.
+/// Serves as a build server until the listener ends. Refused at once where the address is taken, the folder
+/// cannot be opened, the scheduler's URL is not of http, no thread can be started, or memory ran out.
 pub fn serve_server<
     R: Threads
         + Wait

@@ -1,4 +1,5 @@
-//! Workers of a build server: each serves the connections of its kit in a thread of its own, and all come back.
+//! Workers of a build server: each serves the connections of its kit in a thread of its own, and all come
+//! back.
 ghost use Rattle.std.specs.Prelude.{◌≡◌, ◌<◌, ℕ, length, IfOk, OnErr, slice_index_or};
 ghost use Rattle.build_server.specs.Builds.{builder_of};
 ghost use Rattle.dist_token.specs.Verdict.{job_verdict};
@@ -45,7 +46,12 @@ fn work<R: Wait, F: Folder, T: Tasks, D: Dialer + Drop, B: BuilderIncoming + Dro
 )
     requires http { IsHttp scheduler.now }
     ensures worked { Worked (λ _. IsReplied (job_verdict key.now) (peer_of scheduler.now scheduler_auth.now))
-        (λ l. record { left = T.L.left l; held = T.L.held l; reads = T.L.Source.faults l; writes = T.L.Sink.faults l })
+        (λ l. record {
+          left = T.L.left l;
+          held = T.L.held l;
+          reads = T.L.Source.faults l;
+          writes = T.L.Sink.faults l;
+        })
         (T.told kit.old.tasks) (T.told kit.new.tasks)
         (lent D.asked D.faults (builder_of B.built B.refusals) kit.old)
         (lent D.asked D.faults (builder_of B.built B.refusals) kit.new) }
@@ -89,7 +95,12 @@ fn work_all<
     requires http { IsHttp scheduler.now }
     ensures worked { (i : ℕ) (d : _) → i < length kits.old
         → Worked (λ _. IsReplied (job_verdict key.now) (peer_of scheduler.now scheduler_auth.now))
-        (λ l. record { left = T.L.left l; held = T.L.held l; reads = T.L.Source.faults l; writes = T.L.Sink.faults l })
+        (λ l. record {
+          left = T.L.left l;
+          held = T.L.held l;
+          reads = T.L.Source.faults l;
+          writes = T.L.Sink.faults l;
+        })
         (T.told (slice_index_or kits.old i d).tasks) (T.told (slice_index_or kits.new i d).tasks)
         (lent D.asked D.faults (builder_of B.built B.refusals) (slice_index_or kits.old i d))
         (lent D.asked D.faults (builder_of B.built B.refusals) (slice_index_or kits.new i d)) }
@@ -104,8 +115,14 @@ fn work_all<
         threads,
         &|_, kit: &mut BuildKit<T, D, B>| -> ()
             requires { IsHttp scheduler.now }
-            ensures worked { Worked (λ _. IsReplied (job_verdict key.now) (peer_of scheduler.now scheduler_auth.now))
-                (λ l. record { left = T.L.left l; held = T.L.held l; reads = T.L.Source.faults l; writes = T.L.Sink.faults l })
+            ensures worked { Worked (λ _. IsReplied (job_verdict key.now)
+                (peer_of scheduler.now scheduler_auth.now))
+                (λ l. record {
+                  left = T.L.left l;
+                  held = T.L.held l;
+                  reads = T.L.Source.faults l;
+                  writes = T.L.Sink.faults l;
+                })
                 (T.told kit.entry.now.tasks) (T.told kit.exit.now.tasks)
                 (lent D.asked D.faults (builder_of B.built B.refusals) kit.entry.now)
                 (lent D.asked D.faults (builder_of B.built B.refusals) kit.exit.now) }
@@ -115,10 +132,10 @@ fn work_all<
     );
 }
 
-/// Runs a worker for each kit over one server, and gives the kits back once all their connections were served. Each
-/// link that a kit gave came back once, in order, with what serving it did to the kit, and none is left. The scheduler
-/// stands at a base of scheme `http`. A worker that gets no thread is run by the caller. It takes no memory of its own,
-/// so it is never refused.
+/// Runs a worker for each kit over one server, and gives the kits back once all their connections were
+/// served. Each link that a kit gave came back once, in order, with what serving it did to the kit, and none
+/// is left. The scheduler stands at a base of scheme `http`. A worker that gets no thread is run by the
+/// caller. It takes no memory of its own, so it is never refused.
 pub fn serve_server_workers<
     R: Threads + Wait + Sync,
     F: Folder + Send,
@@ -138,7 +155,12 @@ pub fn serve_server_workers<
     ensures len { IfOk result (λ back. length back.items ≡ length kits.items) }
     ensures worked { IfOk result (λ back. (i : ℕ) (d : _) → i < length kits.items
         → Worked (λ _. IsReplied (job_verdict key.now) (peer_of scheduler.now scheduler_auth.now))
-        (λ l. record { left = T.L.left l; held = T.L.held l; reads = T.L.Source.faults l; writes = T.L.Sink.faults l })
+        (λ l. record {
+          left = T.L.left l;
+          held = T.L.held l;
+          reads = T.L.Source.faults l;
+          writes = T.L.Sink.faults l;
+        })
         (T.told (slice_index_or kits.items i d).tasks) (T.told (slice_index_or back.items i d).tasks)
         (lent D.asked D.faults (builder_of B.built B.refusals) (slice_index_or kits.items i d))
         (lent D.asked D.faults (builder_of B.built B.refusals) (slice_index_or back.items i d))) }

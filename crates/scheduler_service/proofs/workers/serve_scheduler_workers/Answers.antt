@@ -15,24 +15,36 @@ pub returns-clause-worked : goal.returns-clause-worked
 returns-clause-worked g c =
     let hired = c.in_ok-workers-2.workers in
     let theirs = c.work_all.new.workers in
-    let same : length theirs ≡ length hired.items = omega (arith, c.work_all.auto.workers, ap length c.deref_mut.ensures.value) in
+    let same : length theirs ≡ length hired.items =
+    omega (arith, c.work_all.auto.workers, ap length c.deref_mut.ensures.value) in
     let back = slice_back theirs hired.items hired.len same (omega (arith, hired.ok.0)) in (
       map (λ w. w.pass) theirs,
-      length-map theirs (λ w. w.pass) ∙ (same ∙ (sym (length-map hired.items (λ w. w.kit)) ∙ ap length c.in_ok-workers-2.ensures.kits)),
+      length-map theirs (λ w. w.pass)
+          ∙ (same ∙ (sym (length-map hired.items (λ w. w.kit)) ∙ ap length c.in_ok-workers-2.ensures.kits)),
       record {
-        count = subst (λ n. Rises n (count_of c.args.pass.now) (count_of c.gather.new.pass)) (ap (sum_by (λ w. count_of w.pass)) back ∙ sym (sum_mapped (λ w. w.pass) count_of theirs))
+        count = subst (λ n. Rises n (count_of c.args.pass.now) (count_of c.gather.new.pass))
+            (ap (sum_by (λ w. count_of w.pass)) back ∙ sym (sum_mapped (λ w. w.pass) count_of theirs))
             (rw c.in_ok-workers-2.ensures.same at c.gather.ensures.counted);
-        held = subst (λ n. Rises n (held_of c.args.pass.now) (held_of c.gather.new.pass)) (ap (sum_by (λ w. held_of w.pass)) back ∙ sym (sum_mapped (λ w. w.pass) held_of theirs))
+        held = subst (λ n. Rises n (held_of c.args.pass.now) (held_of c.gather.new.pass))
+            (ap (sum_by (λ w. held_of w.pass)) back ∙ sym (sum_mapped (λ w. w.pass) held_of theirs))
             (rw c.in_ok-workers-2.ensures.same at c.gather.ensures.joined);
       },
       each_worker (λ w. w.kit) (λ w. w.pass) fresh
-          (λ a p b q. Worked (λ peer. IsReplied (λ r. IsRouted g.K.ClientAuthCheck.may_answer g.K.ClientAuthCheck.shown (g.V.ServerAuthCheck.server_of c.args.server.now) r peer))
-              (λ l. record { left = g.T.L.Source.left l; held = g.T.L.Sink.held l; reads = g.T.L.Source.faults l; writes = g.T.L.Sink.faults l })
-              (g.T.Tasks.told a.tasks) (g.T.Tasks.told b.tasks)
-              (around (moments g.C.Clock.moments g.C.Clock.last) g.D.Dialer.asked g.D.Dialer.faults p a)
-              (around (moments g.C.Clock.moments g.C.Clock.last) g.D.Dialer.asked g.D.Dialer.faults q b))
+          (λ a p b q. Worked (λ peer.
+          IsReplied (λ r. IsRouted g.K.ClientAuthCheck.may_answer g.K.ClientAuthCheck.shown
+          (g.V.ServerAuthCheck.server_of c.args.server.now) r peer))
+          (λ l. record {
+            left = g.T.L.Source.left l;
+            held = g.T.L.Sink.held l;
+            reads = g.T.L.Source.faults l;
+            writes = g.T.L.Sink.faults l;
+          })
+          (g.T.Tasks.told a.tasks) (g.T.Tasks.told b.tasks)
+          (around (moments g.C.Clock.moments g.C.Clock.last) g.D.Dialer.asked g.D.Dialer.faults p a)
+          (around (moments g.C.Clock.moments g.C.Clock.last) g.D.Dialer.asked g.D.Dialer.faults q b))
           hired.items theirs _ _
-          c.in_ok-workers-2.ensures.kits (c.gather.ensures.kits ∙ ap (map (λ w. w.kit)) back) same c.in_ok-workers-2.ensures.fresh
+          c.in_ok-workers-2.ensures.kits (c.gather.ensures.kits ∙ ap (map (λ w. w.kit)) back) same
+          c.in_ok-workers-2.ensures.fresh
           (λ d. record { kit = d; pass = fresh })
           (rw c.deref_mut.ensures.value at c.work_all.ensures.worked),
     )
@@ -40,8 +52,11 @@ returns-clause-worked g c =
 pub returns-clause-holds : goal.returns-clause-holds
 returns-clause-holds g c =
     let hired = c.in_ok-workers-2.workers in
-    let same : length c.work_all.new.workers ≡ length hired.items = omega (arith, c.work_all.auto.workers, ap length c.deref_mut.ensures.value) in
+    let same : length c.work_all.new.workers ≡ length hired.items =
+    omega (arith, c.work_all.auto.workers, ap length c.deref_mut.ensures.value) in
     let back = slice_back c.work_all.new.workers hired.items hired.len same (omega (arith, hired.ok.0)) in
-    let held = sum_same (λ w. held_of w.pass) hired.items c.work_all.new.workers same (rw c.deref_mut.ensures.value at c.work_all.ensures.holds) in
-    subst (λ n. Rises n (held_of c.args.pass.now) (held_of c.gather.new.pass)) (ap (sum_by (λ w. held_of w.pass)) back ∙ (held ∙ c.in_ok-workers-2.ensures.hold))
+    let held = sum_same (λ w. held_of w.pass) hired.items c.work_all.new.workers same
+    (rw c.deref_mut.ensures.value at c.work_all.ensures.holds) in
+    subst (λ n. Rises n (held_of c.args.pass.now) (held_of c.gather.new.pass))
+    (ap (sum_by (λ w. held_of w.pass)) back ∙ (held ∙ c.in_ok-workers-2.ensures.hold))
     (rw c.in_ok-workers-2.ensures.same at c.gather.ensures.joined)

@@ -8,7 +8,9 @@ loop-init g c = record { tasks = none_yet _ _ _ _; holds = refl }
 pub loop-preserved : goal.loop-preserved
 loop-preserved g c = record {
   tasks =
-      one_more _ _ _ _ _ _ (c.in-Some-take.link, c.in-Some-take.peer) c.serve_scheduler_connection-served.new.link c.serve_scheduler_connection-served.result _ _ _
-      c.loop.invariant.tasks c.in-Some-take.ensures.some c.done.ensures c.serve_scheduler_connection-served.ensures.served;
+      one_more _ _ _ _ _ _ (c.in-Some-take.link, c.in-Some-take.peer)
+      c.serve_scheduler_connection-served.new.link c.serve_scheduler_connection-served.result _ _ _
+      c.loop.invariant.tasks c.in-Some-take.ensures.some c.done.ensures
+      c.serve_scheduler_connection-served.ensures.served;
   holds = c.serve_scheduler_connection-served.ensures.holds ∙ c.loop.invariant.holds;
 }

@@ -6,5 +6,7 @@ loop-init g c = none_yet _ _ _ _
 
 pub loop-preserved : goal.loop-preserved
 loop-preserved g c =
-    one_more _ _ _ _ _ _ (c.in-Some-take.link, c.in-Some-take._peer) c.serve_server_connection-served.new.link c.serve_server_connection-served.result _ _ _
-    c.loop.invariant c.in-Some-take.ensures.some c.done.ensures c.serve_server_connection-served.ensures.served
+    one_more _ _ _ _ _ _ (c.in-Some-take.link, c.in-Some-take._peer) c.serve_server_connection-served.new.link
+    c.serve_server_connection-served.result _ _ _
+    c.loop.invariant c.in-Some-take.ensures.some c.done.ensures
+    c.serve_server_connection-served.ensures.served

@@ -7,8 +7,16 @@ use Rattle.server_service.specs.Workers.{lent}
 use Rattle.server_service.proofs.workers.work.Given as goal
 
 abbrev pub invariant-loop : goal.invariant-loop
-invariant-loop g l = SoFar (λ _. IsReplied (job_verdict l.key.now) (peer_of l.scheduler.now l.scheduler_auth.now))
-    (λ c. record { left = g.T.L.Source.left c; held = g.T.L.Sink.held c; reads = g.T.L.Source.faults c; writes = g.T.L.Sink.faults c })
+invariant-loop g l = SoFar
+    (λ _. IsReplied (job_verdict l.key.now) (peer_of l.scheduler.now l.scheduler_auth.now))
+    (λ c. record {
+      left = g.T.L.Source.left c;
+      held = g.T.L.Sink.held c;
+      reads = g.T.L.Source.faults c;
+      writes = g.T.L.Sink.faults c;
+    })
     (g.T.Tasks.told l.initial.kit.tasks) (g.T.Tasks.told l.kit.tasks)
-    (lent g.D.Dialer.asked g.D.Dialer.faults (builder_of g.B.BuilderIncoming.built g.B.BuilderIncoming.refusals) l.initial.kit)
-    (lent g.D.Dialer.asked g.D.Dialer.faults (builder_of g.B.BuilderIncoming.built g.B.BuilderIncoming.refusals) l.kit)
+    (lent g.D.Dialer.asked g.D.Dialer.faults
+    (builder_of g.B.BuilderIncoming.built g.B.BuilderIncoming.refusals) l.initial.kit)
+    (lent g.D.Dialer.asked g.D.Dialer.faults
+    (builder_of g.B.BuilderIncoming.built g.B.BuilderIncoming.refusals) l.kit)
