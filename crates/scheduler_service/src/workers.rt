@@ -1,7 +1,7 @@
 //! Workers: each serves the connections of its kit in a thread of its own, and all come back.
 ghost use Rattle.std.specs.Prelude.{◌≡◌, ◌+◌, ◌<◌, ◌≤◌, [], List, ℕ, length, map, IfOk, OnOk, OnErr};
 ghost use Rattle.std.specs.Prelude.{slice_index_or, vec_len, vec_capacity};
-ghost use Rattle.std.specs.List.{All, sum_by};
+ghost use Rattle.std.specs.List.{sum_by};
 ghost use Rattle.sched.specs.Outside.{moments};
 ghost use Rattle.sched.specs.Pass.{Told, fresh, count_of, held_of, Rises};
 ghost use Rattle.http_connections.specs.Tally.{Worked};
@@ -131,7 +131,7 @@ fn work_all<
         threads,
         &|_, w: &mut Worker<T, D, C, K>| -> ()
             ensures worked { Worked (λ peer.
-                IsReplied (λ r. IsRouted K.may_answer K.shown (V.server_of server.now) r peer))
+                IsReplied (λ r. IsRouted K.may_answer K.shown (V.server_of server.entry.now) r peer))
                 (λ l. record {
                   left = T.L.left l;
                   held = T.L.held l;
@@ -160,7 +160,7 @@ fn hire<R: Wait, T: Tasks, D: Dialer + Drop, C: Clock + Drop, K: ClientAuthCheck
     requires room { vec_len workers + vec_len kits ≤ vec_capacity workers }
     requires fresh { workers.items ≡ [] }
     ensures kits { IfOk result (λ ws. map (λ w. w.kit) ws.items ≡ kits.items) }
-    ensures fresh { IfOk result (λ ws. All (λ w. w.pass ≡ fresh) ws.items) }
+    ensures began { IfOk result (λ ws. map (λ w. w.pass) ws.items ≡ map (λ _. fresh) kits.items) }
     ensures hold { IfOk result (λ ws. sum_by (λ w. held_of w.pass) ws.items ≡ length kits.items) }
     ensures same { OnOk result (pass.new ≡ pass.old) }
     ensures joined { OnErr result ((n : ℕ) × Rises n (held_of pass.old) (held_of pass.new)) }

@@ -115,8 +115,8 @@ fn work_all<
         threads,
         &|_, kit: &mut BuildKit<T, D, B>| -> ()
             requires { IsHttp scheduler.now }
-            ensures worked { Worked (λ _. IsReplied (job_verdict key.now)
-                (peer_of scheduler.now scheduler_auth.now))
+            ensures worked { Worked (λ _. IsReplied (job_verdict key.entry.now)
+                (peer_of scheduler.entry.now scheduler_auth.entry.now))
                 (λ l. record {
                   left = T.L.left l;
                   held = T.L.held l;

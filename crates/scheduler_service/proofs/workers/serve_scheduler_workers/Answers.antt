@@ -44,7 +44,7 @@ returns-clause-worked g c =
           (around (moments g.C.Clock.moments g.C.Clock.last) g.D.Dialer.asked g.D.Dialer.faults q b))
           hired.items theirs _ _
           c.in_ok-workers-2.ensures.kits (c.gather.ensures.kits ∙ ap (map (λ w. w.kit)) back) same
-          c.in_ok-workers-2.ensures.fresh
+          c.in_ok-workers-2.ensures.began
           (λ d. record { kit = d; pass = fresh })
           (rw c.deref_mut.ensures.value at c.work_all.ensures.worked),
     )

@@ -10,7 +10,7 @@ use Rattle.scheduler_service.proofs.workers.work.Given as goal
 abbrev pub invariant-loop : goal.invariant-loop
 invariant-loop g l = record {
   tasks : SoFar (λ peer. IsReplied (λ r. IsRouted g.K.ClientAuthCheck.may_answer g.K.ClientAuthCheck.shown
-      (g.V.ServerAuthCheck.server_of l.server.now) r peer))
+      (g.V.ServerAuthCheck.server_of l.server) r peer))
       (λ c. record {
         left = g.T.L.Source.left c;
         held = g.T.L.Sink.held c;

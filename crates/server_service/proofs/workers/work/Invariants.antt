@@ -8,7 +8,7 @@ use Rattle.server_service.proofs.workers.work.Given as goal
 
 abbrev pub invariant-loop : goal.invariant-loop
 invariant-loop g l = SoFar
-    (λ _. IsReplied (job_verdict l.key.now) (peer_of l.scheduler.now l.scheduler_auth.now))
+    (λ _. IsReplied (job_verdict l.key) (peer_of l.scheduler l.scheduler_auth))
     (λ c. record {
       left = g.T.L.Source.left c;
       held = g.T.L.Sink.held c;
