@@ -1,5 +1,5 @@
-//! Schedulers and build servers over HTTP/1.1 (RFC 9112), under one roof: the names of the crates below again, and
-//! `RealServe`, by which a configuration is served on the system.
+//! Schedulers and build servers over HTTP/1.1 (RFC 9112), under one roof: the names of the crates below
+//! again, and `RealServe`, by which a configuration is served on the system.
 //!
 //! The layers above use the calls on connections and on workers, the starts and `RealServe` from here.
 #![tactic(auto)]
