@@ -21,8 +21,13 @@ pub mod weak_map;
 
 pub use client_toolchains::ClientToolchains;
 pub use config::{CustomToolchain, DistToolchainConfig};
+use dist_types::text::Text;
 pub use lru_disk_cache::{
     Archives, Error, LruDiskCache, LruDiskCacheAddEntry, Opened, ReadSeek, Result, TcCache,
     WriteFault, fault, folder, is_key, mem_folder, real_folder, reliable_folder,
 };
+use lru_metered::Iter;
 pub use toolchain_error::ToolchainError;
+
+/// The keys of a disk cache with their sizes in bytes, least recent first.
+pub type Entries<'a> = Iter<'a, Text, u64>;
