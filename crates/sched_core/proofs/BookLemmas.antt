@@ -9,14 +9,13 @@ use Rattle.sched_core.specs.declared.entry.CoreEntry.{CoreEntry}
 use Rattle.sched_core.specs.declared.entry.CoreKind.{CoreKind}
 use Rattle.sched_core.specs.declared.entry.CoreKind.TheVariants.{Beat, Reserve, Commit, Undo, Update, Status}
 use Rattle.sched_core.specs.declared.entry.Reserved.TheVariants.{Job, NoRoom, Spent}
-use Rattle.sched_core.specs.declared.books.UnspentRow.{UnspentRow}
-use Rattle.sched_core.specs.declared.books.Books.{Books}
+use Rattle.sched_core.specs.declared.vectors.UnspentRow.{UnspentRow}
 use Rattle.sched_core.specs.Log.{Core, same_job}
 use Rattle.sched_core.specs.Reservation.{booked_by, bookings}
 use Rattle.sched_core.specs.Rows.{servers_of}
 use Rattle.sched_core.specs.Reservation.{is_booked}
 use Rattle.sched_core.specs.Laws.{IsRule, IsLegal}
-use Rattle.sched_core.specs.Books.{AreBooks, key_stays, key_by, one_more_if, unspent_stays, unspent_by, job_by, open_by, rows_next, held_next, jobs_next, open_next, unspent_next, made_next, SpendsOne}
+use Rattle.sched_core.specs.Books.{Lists, AreBooks, key_stays, key_by, one_more_if, unspent_stays, unspent_by, job_by, lists_next, unspent_next, SpendsOne}
 use Rattle.sched_core.proofs.StandingLemmas.{keys-absorb}
 use Rattle.sched_core.proofs.StepLemmas as step
 use Rattle.sched_core.proofs.LegalLemmas.{core_of, legal-push}
@@ -61,53 +60,42 @@ few_bookings base count log fits legal =
     let same : length (jobs log) ≡ length (bookings log) = length-map (bookings log) (λ b. b.job) in
     omega (arith, small, same)
 
--- the lists of the books after an entry
-pub record Absorbs (old new : Books) (log : List CoreEntry) (e : CoreEntry) : Type 0 where
-  pub rows : new.rows.items ≡ rows_next old e (length log)
-  pub held : new.held.items ≡ held_next old e (length log)
-  pub jobs : new.jobs.items ≡ jobs_next old e (length log)
-  pub open_ones : new.open_ones.items ≡ open_next old e
-  pub unspent : new.unspent.items ≡ unspent_next old e (length log)
-  pub made : new.made ≡ made_next old e
-
-pub absorbed : (base count : ℕ) (old new : Books) (old_keys new_keys : List (ℕ × List ℕ)) (log : List CoreEntry) (e : CoreEntry) → count < 2 ^ 64 → AreBooks old old_keys log → IsLegal base count log → IsRule (core_of base count log) e →
-    Absorbs old new log e → new_keys ≡ filter (key_stays e) old_keys ++ option_to_list (key_by e.kind (length log)) → AreBooks new new_keys (log ++ e ∷ [])
-absorbed base count old new old_keys new_keys log e fits books legal rule_is does keys =
+-- the lists after an entry are the longer log's
+pub absorbed : (base count : ℕ) (old : Lists) (old_keys new_keys : List (ℕ × List ℕ)) (log : List CoreEntry) (e : CoreEntry) → count < 2 ^ 64 → AreBooks old old_keys log → IsLegal base count log → IsRule (core_of base count log) e →
+    new_keys ≡ filter (key_stays e) old_keys ++ option_to_list (key_by e.kind (length log)) → AreBooks (lists_next old e (length log)) new_keys (log ++ e ∷ [])
+absorbed base count old old_keys new_keys log e fits books legal rule_is keys =
     let is : Facts (core_of base count log) e.kind = facts (core_of base count log) e rule_is in
     let at : IsAtRowBy e.kind (servers_of log) = at_row_by (core_of base count log) e.kind is in
     let fit : Fits base count log = legal_fits base count log fits legal in
     let small : length (bookings (log ++ e ∷ [])) < 2 ^ 64 = few_bookings base count (log ++ e ∷ []) fits (legal-push base count [] log e legal rule_is) in
     record {
-      rows = rw (does.rows, books.rows, books.open_ones, books.held) (rows-absorb base count log e fit.sound fit.room is (legal_errors base count log fits legal (length log) (omega arith)) small);
+      rows = rw (books.rows, books.open_ones, books.held) (rows-absorb base count log e fit.sound fit.room is (legal_errors base count log fits legal (length log) (omega arith)) small);
       keys = keys ∙ keys-absorb old_keys log e books.keys;
-      held = rw (does.held, books.held) (sym (held_rows-push log e));
-      jobs = rw (does.jobs, books.rows) (jobs-absorb old.jobs.items log e at books.jobs);
-      jobs_placed = rw (does.jobs, books.rows) (jobs_placed-absorb old.jobs.items log e at books.jobs_placed);
-      open_ones = does.open_ones ∙ open-absorb base count old.open_ones.items old.jobs.items log e fit.sound is books.jobs books.jobs_placed books.open_ones;
-      unspent = rw (does.unspent, books.rows) (unspent-absorb old.unspent.items log e at books.unspent);
-      unspent_placed = rw (does.unspent, books.rows) (unspent_placed-absorb old.unspent.items log e at books.unspent_placed);
-      made = does.made ∙ ap (one_more_if (is_booked e.kind)) books.made ∙ made-absorb log e small;
+      held = rw books.held (sym (held_rows-push log e));
+      jobs = rw books.rows (jobs-absorb old.jobs log e at books.jobs);
+      jobs_placed = rw books.rows (jobs_placed-absorb old.jobs log e at books.jobs_placed);
+      open_ones = open-absorb base count old.open_ones old.jobs log e fit.sound is books.jobs books.jobs_placed books.open_ones;
+      unspent = rw books.rows (unspent-absorb old.unspent log e at books.unspent);
+      unspent_placed = rw books.rows (unspent_placed-absorb old.unspent log e at books.unspent_placed);
+      made = ap (one_more_if (is_booked e.kind)) books.made ∙ made-absorb log e small;
     }
 
 -- room
 
-at_most_one : {X : Type 0} (o : Option X) → length (option_to_list o) ≤ 1
+pub at_most_one : {X : Type 0} (o : Option X) → length (option_to_list o) ≤ 1
 at_most_one None = omega arith
 at_most_one (Some x) = omega arith
 
-few_unspent : (books : Books) (e : CoreEntry) (number : ℕ) → length (unspent_next books e number) ≤ length books.unspent.items + 1
-few_unspent books e number =
-    let all = length-append (filter (unspent_stays e.kind) books.unspent.items) (option_to_list (unspent_by (job_by e.kind books.rows.items number e.now))) in
-    let fewer = filter-few (unspent_stays e.kind) books.unspent.items in
-    let one = at_most_one (unspent_by (job_by e.kind books.rows.items number e.now)) in
+pub few_unspent : (lists : Lists) (e : CoreEntry) (number : ℕ) → length (unspent_next lists e number) ≤ length lists.unspent + 1
+few_unspent lists e number =
+    let all = length-append (filter (unspent_stays e.kind) lists.unspent) (option_to_list (unspent_by (job_by e.kind lists.rows number e.now))) in
+    let fewer = filter-few (unspent_stays e.kind) lists.unspent in
+    let one = at_most_one (unspent_by (job_by e.kind lists.rows number e.now)) in
     omega (arith, all, fewer, one)
 
 -- room for one entry, whatever it does
-pub log_room-one : (books : Books) (e : CoreEntry) (number len capacity : ℕ) → len + length books.unspent.items + 2 ≤ capacity → len + 1 + length (unspent_next books e number) ≤ capacity
-log_room-one books e number len capacity room = let few = few_unspent books e number in omega (arith, few, room)
-
-pub open_room-one : (books : Books) (e : CoreEntry) (number len capacity : ℕ) → len + length books.unspent.items + 2 ≤ capacity → len + length (option_to_list (open_by e.kind books.jobs.items)) + length (unspent_next books e number) ≤ capacity
-open_room-one books e number len capacity room = let few = few_unspent books e number in let one = at_most_one (open_by e.kind books.jobs.items) in omega (arith, few, one, room)
+pub log_room-one : (lists : Lists) (e : CoreEntry) (number len capacity : ℕ) → len + length lists.unspent + 2 ≤ capacity → len + 1 + length (unspent_next lists e number) ≤ capacity
+log_room-one lists e number len capacity room = let few = few_unspent lists e number in omega (arith, few, room)
 
 -- what is in the list and doesn't pass makes the filter shorter
 filter-fewer : {X : Type 0} (p q : X → Bool) → ((x : X) → q x ≡ true → p x ≡ false) → (xs : List X) → list_any q xs ≡ true → length (filter p xs) + 1 ≤ length xs
@@ -121,17 +109,14 @@ filter-fewer {X} p q apart (x ∷ xs) some = split (q x) refl some (filter-fewer
 not_same : (job other : JobId) → same_job job other ≡ true → not (same_job job other) ≡ false
 not_same job other e = ap not e
 
-one_spent : (books : Books) (now number : ℕ) (k : CoreKind) → SpendsOne k books.unspent.items → length (unspent_next books (record { now = now; kind = k }) number) + 1 ≤ length books.unspent.items
-one_spent books now number (Commit job state kept) some = rw (append-nil (filter (λ (u : UnspentRow). not (same_job job u.job)) books.unspent.items)) (filter-fewer (λ u. not (same_job job u.job)) (λ u. same_job job u.job) (λ u e. not_same job u.job e) books.unspent.items some)
-one_spent books now number (Undo job noted was_ended) some = rw (append-nil (filter (λ (u : UnspentRow). not (same_job job u.job)) books.unspent.items)) (filter-fewer (λ u. not (same_job job u.job)) (λ u. same_job job u.job) (λ u e. not_same job u.job e) books.unspent.items some)
-one_spent books now number (Reserve r) some = absurd some
-one_spent books now number (Beat server nonce cpus key pruned reaped replaced is_new) some = absurd some
-one_spent books now number (Update server job state answer) some = absurd some
-one_spent books now number (Status pruned servers cpus n) some = absurd some
+pub one_spent : (lists : Lists) (now number : ℕ) (k : CoreKind) → SpendsOne k lists.unspent → length (unspent_next lists (record { now = now; kind = k }) number) + 1 ≤ length lists.unspent
+one_spent lists now number (Commit job state kept) some = rw (append-nil (filter (λ (u : UnspentRow). not (same_job job u.job)) lists.unspent)) (filter-fewer (λ u. not (same_job job u.job)) (λ u. same_job job u.job) (λ u e. not_same job u.job e) lists.unspent some)
+one_spent lists now number (Undo job noted was_ended) some = rw (append-nil (filter (λ (u : UnspentRow). not (same_job job u.job)) lists.unspent)) (filter-fewer (λ u. not (same_job job u.job)) (λ u. same_job job u.job) (λ u e. not_same job u.job e) lists.unspent some)
+one_spent lists now number (Reserve r) some = absurd some
+one_spent lists now number (Beat server nonce cpus key pruned reaped replaced is_new) some = absurd some
+one_spent lists now number (Update server job state answer) some = absurd some
+one_spent lists now number (Status pruned servers cpus n) some = absurd some
 
 -- an entry that spends a reservation takes the room that was kept for it
-pub log_room-spent : (books : Books) (now number : ℕ) (k : CoreKind) (len capacity : ℕ) → SpendsOne k books.unspent.items → len + length books.unspent.items ≤ capacity → len + 1 + length (unspent_next books (record { now = now; kind = k }) number) ≤ capacity
-log_room-spent books now number k len capacity some room = let less = one_spent books now number k some in omega (arith, less, room)
-
-pub open_room-spent : (books : Books) (now number : ℕ) (k : CoreKind) (len capacity : ℕ) → SpendsOne k books.unspent.items → len + length books.unspent.items ≤ capacity → len + length (option_to_list (open_by k books.jobs.items)) + length (unspent_next books (record { now = now; kind = k }) number) ≤ capacity
-open_room-spent books now number k len capacity some room = let less = one_spent books now number k some in let one = at_most_one (open_by k books.jobs.items) in omega (arith, less, one, room)
+pub log_room-spent : (lists : Lists) (now number : ℕ) (k : CoreKind) (len capacity : ℕ) → SpendsOne k lists.unspent → len + length lists.unspent ≤ capacity → len + 1 + length (unspent_next lists (record { now = now; kind = k }) number) ≤ capacity
+log_room-spent lists now number k len capacity some room = let less = one_spent lists now number k some in omega (arith, less, room)

@@ -19,7 +19,7 @@ use Rattle.sched_core.specs.declared.rows.ServerRow.{ServerRow}
 use Rattle.sched_core.specs.declared.rows.HeldRow.{HeldRow}
 use Rattle.sched_core.specs.declared.rows.JobRow.{JobRow}
 use Rattle.sched_core.specs.declared.rows.OpenRow.{OpenRow}
-use Rattle.sched_core.specs.declared.books.UnspentRow.{UnspentRow}
+use Rattle.sched_core.specs.declared.vectors.UnspentRow.{UnspentRow}
 use Rattle.sched_core.specs.Log.{same_job, is_this, names, newer, latest}
 use Rattle.sched_core.specs.Standing.{standing, address_of, key_at}
 use Rattle.sched_core.specs.Reservation.{Booking, booked_by, booked_at, is_unended, unended, unspent, claims_by, is_claimed, spends_by, frees_by}

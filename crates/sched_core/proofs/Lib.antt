@@ -25,3 +25,4 @@ pub mod SoundLemmas
 pub mod StandingLemmas
 pub mod StateLemmas
 pub mod StepLemmas
+pub mod VectorLemmas

@@ -1,5 +1,5 @@
 -- What the scheduler keeps beside its log, and what one entry does to it.
-use Rattle.std.specs.Prelude.{◌≡◌, ◌≤◌, ◌<◌, ℕ, ◌+◌, ◌-◌, ◌^◌, List, ◌++◌, length, map, filter, Bool, true, false, not, ◌&&◌, ◌||◌, ◌==◌, Option, Some, None, if◌then◌else◌, count_by, unwrap_or, option_to_list, min, vec_len, vec_capacity}
+use Rattle.std.specs.Prelude.{◌≡◌, ◌≤◌, ◌<◌, ℕ, ◌+◌, ◌-◌, ◌^◌, List, [], ◌++◌, length, map, filter, Bool, true, false, not, ◌&&◌, ◌||◌, ◌==◌, nat_lt, Option, Some, None, if◌then◌else◌, count_by, unwrap_or, option_to_list, min, vec_len, vec_capacity}
 use Rattle.std.specs.List.{AllByRecursion, find, list_any}
 use Rattle.std.specs.Option.{option_map}
 use Rattle.dist_types.specs.declared.ids.JobId.{JobId}
@@ -13,8 +13,8 @@ use Rattle.sched_core.specs.declared.rows.ServerRow.{ServerRow}
 use Rattle.sched_core.specs.declared.rows.HeldRow.{HeldRow}
 use Rattle.sched_core.specs.declared.rows.JobRow.{JobRow}
 use Rattle.sched_core.specs.declared.rows.OpenRow.{OpenRow}
-use Rattle.sched_core.specs.declared.books.UnspentRow.{UnspentRow}
-use Rattle.sched_core.specs.declared.books.Books.{Books}
+use Rattle.sched_core.specs.declared.vectors.UnspentRow.{UnspentRow}
+use Rattle.sched_core.specs.declared.vectors.Vectors.{Vectors}
 use Rattle.sched_core.specs.Log.{same_job, is_this, newer}
 use Rattle.sched_core.specs.Standing.{Registered, standing, ends_by, renews_by, is_heard, address_of}
 use Rattle.sched_core.specs.Reservation.{Booking, bookings, unspent, spends_by, frees_by, claims_by, is_complete}
@@ -192,60 +192,73 @@ place_of_unspent u = ((u.number, u.job), u.reg)
 abbrev pub place_of_booking : Booking → (ℕ × JobId) × ℕ
 place_of_booking b = ((b.number, b.job), b.reg)
 
+-- what is kept, as lists
+
+-- The registrations that stand, by rising number; the unended reservations, in the order of their reserving and, with addresses, by rising job id; the open jobs, in the order of their commits; the unspent reservations, in the order of their reserving; and how many reservations were made.
+pub record Lists : Type 0 where
+  pub rows : List ServerRow
+  pub held : List HeldRow
+  pub jobs : List JobRow
+  pub open_ones : List OpenRow
+  pub unspent : List UnspentRow
+  pub made : ℕ
+
+-- those of an empty log
+abbrev pub no_lists : Lists
+no_lists = record { rows = []; held = []; jobs = []; open_ones = []; unspent = []; made = 0 }
+
+-- What contracts see of the books: the lists, and whether there is room for one registration more, and for one reservation more.
+pub record Kept : Type 0 where
+  pub lists : Lists
+  pub has_row_room : Bool
+  pub has_job_room : Bool
+
 -- the lists after an entry of this number
 
 -- the rows: those that stay, with their loads, last signs and errors, and the one that is made
-abbrev pub rows_next : Books → CoreEntry → ℕ → List ServerRow
-rows_next books e number = map (row_after e (served_by e.kind books.open_ones.items)) (map (row_freed e.kind books.held.items) (filter (row_stays e.kind) books.rows.items)) ++ option_to_list (row_by e.kind number e.now)
+abbrev pub rows_next : Lists → CoreEntry → ℕ → List ServerRow
+rows_next lists e number = map (row_after e (served_by e.kind lists.open_ones)) (map (row_freed e.kind lists.held) (filter (row_stays e.kind) lists.rows)) ++ option_to_list (row_by e.kind number e.now)
 
 -- the unended reservations: those that stay, with the states of their jobs, and the one that is made
-abbrev pub held_next : Books → CoreEntry → ℕ → List HeldRow
-held_next books e number = map (held_after e.kind) (filter (held_stays e.kind) books.held.items) ++ option_to_list (held_by e.kind number e.now)
+abbrev pub held_next : Lists → CoreEntry → ℕ → List HeldRow
+held_next lists e number = map (held_after e.kind) (filter (held_stays e.kind) lists.held) ++ option_to_list (held_by e.kind number e.now)
 
 -- the same with their addresses, the new one in its place by the job id
-abbrev pub jobs_next : Books → CoreEntry → ℕ → List JobRow
-jobs_next books e number = job_placed (job_by e.kind books.rows.items number e.now) (map (job_after e.kind) (filter (job_stays e.kind) books.jobs.items))
+abbrev pub jobs_next : Lists → CoreEntry → ℕ → List JobRow
+jobs_next lists e number = job_placed (job_by e.kind lists.rows number e.now) (map (job_after e.kind) (filter (job_stays e.kind) lists.jobs))
 
 -- the open jobs: those that stay open, with their states, and the one that is committed
-abbrev pub open_next : Books → CoreEntry → List OpenRow
-open_next books e = map (open_after e.kind) (filter (open_stays e.kind) books.open_ones.items) ++ option_to_list (open_by e.kind books.jobs.items)
+abbrev pub open_next : Lists → CoreEntry → List OpenRow
+open_next lists e = map (open_after e.kind) (filter (open_stays e.kind) lists.open_ones) ++ option_to_list (open_by e.kind lists.jobs)
 
 -- the unspent reservations: those that stay so, and the one that is made
-abbrev pub unspent_next : Books → CoreEntry → ℕ → List UnspentRow
-unspent_next books e number = filter (unspent_stays e.kind) books.unspent.items ++ option_to_list (unspent_by (job_by e.kind books.rows.items number e.now))
+abbrev pub unspent_next : Lists → CoreEntry → ℕ → List UnspentRow
+unspent_next lists e number = filter (unspent_stays e.kind) lists.unspent ++ option_to_list (unspent_by (job_by e.kind lists.rows number e.now))
 
 -- how many reservations were made
-abbrev pub made_next : Books → CoreEntry → ℕ
-made_next books e = one_more_if (is_booked e.kind) books.made
+abbrev pub made_next : Lists → CoreEntry → ℕ
+made_next lists e = one_more_if (is_booked e.kind) lists.made
 
 -- a job is reserved at one of the rows
 abbrev pub IsAtRow : Reserved → List ServerRow → Type 0
 IsAtRow (Job job reg forgiven) rows = list_any (λ r. r.reg == reg) rows ≡ true
 IsAtRow other rows = Unit {0}
 
+-- all of them
+abbrev pub lists_next : Lists → CoreEntry → ℕ → Lists
+lists_next lists e number = record { rows = rows_next lists e number; held = held_next lists e number; jobs = jobs_next lists e number; open_ones = open_next lists e; unspent = unspent_next lists e number; made = made_next lists e }
+
 -- room
 
--- a heartbeat or a reserve may add a row
-abbrev pub MayMake : CoreKind → Type 0
-MayMake (Beat server nonce cpus key pruned reaped replaced is_new) = Unit {0}
-MayMake (Reserve reserved) = Unit {0}
-MayMake other = ⊥
+-- a heartbeat may add a registration
+abbrev pub MayRegister : CoreKind → Type 0
+MayRegister (Beat server nonce cpus key pruned reaped replaced is_new) = Unit {0}
+MayRegister other = ⊥
 
--- there is room for one row more of each kind
-pub record HasRoom (books : Books) : Type 0 where
-  pub rows : vec_len books.rows < vec_capacity books.rows
-  pub held : vec_len books.held < vec_capacity books.held
-  pub jobs : vec_len books.jobs < vec_capacity books.jobs
-  pub unspent : vec_len books.unspent < vec_capacity books.unspent
-
--- the same lists, whatever room there is
-pub record SameBooks (old new : Books) : Type 0 where
-  pub rows : new.rows.items ≡ old.rows.items
-  pub held : new.held.items ≡ old.held.items
-  pub jobs : new.jobs.items ≡ old.jobs.items
-  pub open_ones : new.open_ones.items ≡ old.open_ones.items
-  pub unspent : new.unspent.items ≡ old.unspent.items
-  pub made : new.made ≡ old.made
+-- a reserve may add a reservation
+abbrev pub MayReserve : CoreKind → Type 0
+MayReserve (Reserve reserved) = Unit {0}
+MayReserve other = ⊥
 
 -- an entry that spends one of the reservations
 abbrev pub SpendsOne : CoreKind → List UnspentRow → Type 0
@@ -253,23 +266,50 @@ SpendsOne (Commit job state kept) unspent = list_any (λ u. same_job job u.job) 
 SpendsOne (Undo job noted was_ended) unspent = list_any (λ u. same_job job u.job) unspent ≡ true
 SpendsOne other unspent = ⊥
 
+-- a commit or an undo is of one of the reservations
+abbrev pub IsOfUnspent : CoreKind → List UnspentRow → Type 0
+IsOfUnspent (Commit job state kept) unspent = list_any (λ u. same_job job u.job) unspent ≡ true
+IsOfUnspent (Undo job noted was_ended) unspent = list_any (λ u. same_job job u.job) unspent ≡ true
+IsOfUnspent other unspent = Unit {0}
+
+-- the plain vectors as lists
+abbrev pub lists_of : Vectors → Lists
+lists_of books = record { rows = books.rows.items; held = books.held.items; jobs = books.jobs.items; open_ones = books.open_ones.items; unspent = books.unspent.items; made = books.made }
+
+-- there is room for one more reservation in each vector that lists it
+pub record HasJobRoom (books : Vectors) : Type 0 where
+  pub held : vec_len books.held < vec_capacity books.held
+  pub jobs : vec_len books.jobs < vec_capacity books.jobs
+  pub unspent : vec_len books.unspent < vec_capacity books.unspent
+
+-- whether there is room for one more registration
+abbrev pub has_row_room : Vectors → Bool
+has_row_room books = nat_lt (vec_len books.rows) (vec_capacity books.rows)
+
+-- whether there is room for one more reservation, and for its job among the open ones
+abbrev pub has_job_room : Vectors → Bool
+has_job_room books = nat_lt (vec_len books.held) (vec_capacity books.held) && nat_lt (vec_len books.jobs) (vec_capacity books.jobs) && nat_lt (vec_len books.unspent) (vec_capacity books.unspent) && nat_lt (vec_len books.open_ones + length books.unspent.items) (vec_capacity books.open_ones)
+
+-- the open jobs have room for the job of each unspent reservation
+abbrev pub HasOpenRoom : Vectors → Type 0
+HasOpenRoom books = vec_len books.open_ones + length books.unspent.items ≤ vec_capacity books.open_ones
+
 -- all of it
 
 -- the books are the log's
-pub record AreBooks (books : Books) (kept_keys : List (ℕ × List ℕ)) (log : List CoreEntry) : Type 0 where
-  pub rows : books.rows.items ≡ servers_of log
+pub record AreBooks (books : Lists) (kept_keys : List (ℕ × List ℕ)) (log : List CoreEntry) : Type 0 where
+  pub rows : books.rows ≡ servers_of log
   pub keys : kept_keys ≡ keys_of log
-  pub held : books.held.items ≡ held_rows log
-  pub jobs : map held_part books.jobs.items ≡ held_by_id log
-  pub jobs_placed : AllByRecursion (λ j. address_of log j.reg ≡ Some j.server) books.jobs.items
-  pub open_ones : books.open_ones.items ≡ open_rows log
-  pub unspent : map place_of_unspent books.unspent.items ≡ map place_of_booking (unspent log)
-  pub unspent_placed : AllByRecursion (λ u. (place_at log u.number ≡ Some u.reg) × (address_of log u.reg ≡ Some u.server)) books.unspent.items
+  pub held : books.held ≡ held_rows log
+  pub jobs : map held_part books.jobs ≡ held_by_id log
+  pub jobs_placed : AllByRecursion (λ j. address_of log j.reg ≡ Some j.server) books.jobs
+  pub open_ones : books.open_ones ≡ open_rows log
+  pub unspent : map place_of_unspent books.unspent ≡ map place_of_booking (unspent log)
+  pub unspent_placed : AllByRecursion (λ u. (place_at log u.number ≡ Some u.reg) × (address_of log u.reg ≡ Some u.server)) books.unspent
   pub made : books.made ≡ length (bookings log)
 
--- The books are the log's, and each entry of the log is the core rule's. The log, and the list of the open jobs, have room for each unspent reservation to be spent.
-pub record IsState (base count : ℕ) (kept : Books) (kept_keys : List (ℕ × List ℕ)) (log : List CoreEntry) (log_len log_capacity : ℕ) : Type 0 where
-  pub books : AreBooks kept kept_keys log
+-- The books are the log's, and each entry of the log is the core rule's. The log has room for each unspent reservation to be spent.
+pub record IsState (base count : ℕ) (lists : Lists) (kept_keys : List (ℕ × List ℕ)) (log : List CoreEntry) (log_len log_capacity : ℕ) : Type 0 where
+  pub books : AreBooks lists kept_keys log
   pub legal : IsLegal base count log
-  pub log_room : log_len + length kept.unspent.items ≤ log_capacity
-  pub open_room : vec_len kept.open_ones + length kept.unspent.items ≤ vec_capacity kept.open_ones
+  pub log_room : log_len + length lists.unspent ≤ log_capacity

@@ -1,85 +1,215 @@
-//! What the scheduler keeps beside its log, and what one entry does to it.
-ghost use Rattle.std.specs.Prelude.{◌≡◌, ◌<◌, ◌≤◌, ◌+◌, IsSome, length, option_to_list, vec_len, vec_capacity};
-ghost use Rattle.sched_core.specs.Books.{MayMake, HasRoom, rows_next, held_next, jobs_next, open_next, unspent_next, made_next, open_by};
+//! What the scheduler keeps beside its log. Contracts see it as lists; what the calls ask is asked here.
+ghost use Rattle.std.specs.Prelude.{◌≡◌, ◌==◌, ◌&&◌, ◌<◌, ◌^◌, IfOk, OnOk, true, find, length};
+ghost use Rattle.std.specs.List.{list_any};
+ghost use Rattle.std.specs.Option.{option_map};
+ghost use Rattle.sched_core.specs.Log.{same_job};
+ghost use Rattle.sched_core.specs.Pick.{pick};
+ghost use Rattle.sched_core.specs.Prune.{prune};
+ghost use Rattle.sched_core.specs.Rule.{noted_over, reserved_at, beat_over, counts_over};
+ghost use Rattle.sched_core.specs.Books.{MayRegister, MayReserve, IsOfUnspent, no_lists, lists_next};
 
-use crate::entry::CoreEntry;
+use crate::entry::{CoreEntry, Reserved};
 use crate::held;
-use crate::kind::is_reservation;
-use crate::rows::{HeldRow, JobRow, OpenRow, ServerRow};
-use crate::standing::{self, push_some};
-use dist_types::ids::{JobId, ServerId};
+use crate::rows::{Jobs, OpenRow, ServerRow, Servers};
+use crate::vectors::{Vectors, absorb};
+use crate::{rules, standing};
+use dist_types::ids::{JobId, ServerId, ServerNonce};
+use dist_types::results::SchedulerStatusResult;
+use std::alloc::{AllocError, Global};
+use std::marker::Model;
 
-/// A reservation that is unspent.
-#[derive(Clone, Copy, Debug)]
-pub struct UnspentRow {
-    /// Its number.
-    pub number: u64,
-    /// Its job.
-    pub job: JobId,
-    /// The registration that it was made at.
-    pub reg: u64,
-    /// The address of that registration.
-    pub server: ServerId,
-}
-
-/// The answers to what is asked of the log.
+/// The answers to what is asked of the log. Contracts see its lists, and whether there is room for one
+/// registration more and for one reservation more.
 #[derive(Drop)]
 pub struct Books {
-    /// The registrations that stand, by rising number.
-    pub rows: Vec<ServerRow>,
-    /// The unended reservations, in the order of their reserving.
-    pub held: Vec<HeldRow>,
-    /// The unended reservations, by rising job id.
-    pub jobs: Vec<JobRow>,
-    /// The open jobs, in the order of their commits.
-    pub open_ones: Vec<OpenRow>,
-    /// The unspent reservations, in the order of their reserving.
-    pub unspent: Vec<UnspentRow>,
-    /// How many reservations were made.
-    pub made: u64,
+    vectors: Vectors,
 }
 
-/// Takes an entry of this number into the books. It takes no memory.
-pub fn absorb(books: &mut Books, step: &CoreEntry, number: u64)
-    requires room { MayMake step.now.kind → HasRoom books.old }
-    requires open_room { vec_len books.old.open_ones + length
-        (option_to_list (open_by step.now.kind books.old.jobs.items)) ≤ vec_capacity books.old.open_ones }
-    ensures rows { books.new.rows.items ≡ rows_next books.old step.entry.now number }
-    ensures held { books.new.held.items ≡ held_next books.old step.entry.now number }
-    ensures jobs { books.new.jobs.items ≡ jobs_next books.old step.entry.now number }
-    ensures open_ones { books.new.open_ones.items ≡ open_next books.old step.entry.now }
-    ensures unspent { books.new.unspent.items ≡ unspent_next books.old step.entry.now number }
-    ensures made { books.new.made ≡ made_next books.old step.entry.now }
-    ensures open_len { vec_len books.new.open_ones ≤ vec_len books.old.open_ones +
-        length (option_to_list (open_by step.entry.now.kind books.old.jobs.items)) }
-    ensures open_capacity { vec_capacity books.old.open_ones ≤ vec_capacity books.new.open_ones }
-{
-    let served = standing::served(&step.kind, &books.open_ones);
-    let row = standing::row_made(step, number);
-    let held = held::held_made(&step.kind, number, step.now);
-    let job = held::job_made(&step.kind, &books.rows, number, step.now);
-    let open_one = held::open_made(&step.kind, &books.jobs);
-    let unspent = held::unspent_made(&job);
+impl Model for Books {
+    ghost use Rattle.sched_core.specs.Books.{Kept, lists_of, has_row_room, has_job_room, HasOpenRoom};
 
-    standing::end_rows(&mut books.rows, &step.kind);
-    standing::free_rows(&mut books.rows, &books.held, &step.kind);
-    standing::change_rows(&mut books.rows, step, served);
-    push_some(&mut books.rows, row);
+    ghost Value = { Kept };
 
-    held::end_held(&mut books.held, &step.kind);
-    held::move_held(&mut books.held, &step.kind);
-    push_some(&mut books.held, held);
+    ghost view = { λ b. record {
+        lists = lists_of b.vectors;
+        has_row_room = has_row_room b.vectors;
+        has_job_room = has_job_room b.vectors;
+    } };
 
-    held::end_jobs(&mut books.jobs, &step.kind);
-    held::move_jobs(&mut books.jobs, &step.kind);
-    held::place_some(&mut books.jobs, job);
+    ghost invariant = { λ b. HasOpenRoom b.vectors };
+}
 
-    held::end_open(&mut books.open_ones, &step.kind);
-    held::move_open(&mut books.open_ones, &step.kind);
-    push_some(&mut books.open_ones, open_one);
+impl Books {
+    /// The books of an empty log. It takes no memory.
+    pub fn new(alloc: Global) -> Self
+        ensures lists { result.lists ≡ no_lists }
+    {
+        Books {
+            vectors: Vectors {
+                rows: Vec::new(alloc),
+                held: Vec::new(alloc),
+                jobs: Vec::new(alloc),
+                open_ones: Vec::new(alloc),
+                unspent: Vec::new(alloc),
+                made: 0,
+            },
+        }
+    }
 
-    held::spend(&mut books.unspent, &step.kind);
-    push_some(&mut books.unspent, unspent);
+    /// How many reservations were made.
+    pub fn made(&self) -> u64
+        ensures { result ≡ self.now.lists.made }
+    {
+        self.vectors.made
+    }
 
-    books.made = standing::one_more(is_reservation(&step.kind), books.made);
+    /// How many reservations are unspent.
+    pub fn unspent_count(&self) -> usize
+        ensures count { result ≡ length self.now.lists.unspent }
+        ensures few { result < 2 ^ 63 }
+    {
+        self.vectors.unspent.len()
+    }
+
+    /// The registrations that stand, by rising number.
+    pub fn servers(&self) -> Servers<'_>
+        ensures rows { result ≡ self.now.lists.rows }
+    {
+        Servers::new(&self.vectors.rows)
+    }
+
+    /// The unended reservations, by rising job id.
+    pub fn jobs(&self) -> Jobs<'_>
+        ensures jobs { result ≡ self.now.lists.jobs }
+    {
+        Jobs::new(&self.vectors.jobs)
+    }
+
+    /// The registration of that number.
+    pub fn row(&self, reg: u64) -> Option<ServerRow>
+        ensures { result ≡ find (λ r. r.reg == reg) self.now.lists.rows }
+    {
+        standing::row_numbered(&self.vectors.rows, reg)
+    }
+
+    /// The number of the registration that stands at an address, if there is one.
+    pub fn noted(&self, server: Option<ServerId>) -> Option<u64>
+        ensures { result ≡ noted_over self.now.lists.rows server }
+    {
+        rules::noted_number(&self.vectors.rows, server)
+    }
+
+    /// The numbers of the registrations whose last sign is too long ago. Refused for want of memory
+    /// alone.
+    pub fn pruned(&self, alloc: Global, now: u64) -> Result<Vec<u64>, AllocError>
+        ensures { IfOk result (λ v. v.items ≡ prune now self.now.lists.rows) }
+    {
+        standing::pruned_numbers(alloc, &self.vectors.rows, now)
+    }
+
+    /// The numbers of a status that prunes those registrations.
+    pub fn counts(&self, pruned: &[u64], now: u64) -> SchedulerStatusResult
+        requires { pruned.now ≡ prune now self.now.lists.rows }
+        ensures { result ≡ counts_over self.now.lists.rows self.now.lists.open_ones now }
+    {
+        rules::counts(&self.vectors.rows, &self.vectors.open_ones, pruned, now)
+    }
+
+    /// What becomes of a reserve, where so many ids were given before. Refused for want of memory alone.
+    pub fn reserved(
+        &self,
+        alloc: Global,
+        now: u64,
+        base: u64,
+        given: u128,
+    ) -> Result<Reserved, AllocError>
+        requires fits { given < 2 ^ 66 }
+        ensures { IfOk result (λ r. r ≡ reserved_at (pick self.now.lists.rows) self.now.lists.rows now base given) }
+    {
+        rules::reserve_over_rows(alloc, &self.vectors.rows, now, base, given)
+    }
+
+    /// The entry of a heartbeat. Refused for want of memory alone.
+    pub fn beat(
+        &self,
+        alloc: Global,
+        now: u64,
+        server: ServerId,
+        nonce: ServerNonce,
+        cpus: u64,
+        key: &[u8],
+    ) -> Result<CoreEntry, AllocError>
+        ensures { IfOk result (λ e. e ≡
+            beat_over self.now.lists.rows self.now.lists.held now server nonce cpus key.now) }
+    {
+        rules::beat_over_rows(
+            alloc,
+            &self.vectors.rows,
+            &self.vectors.held,
+            now,
+            server,
+            nonce,
+            cpus,
+            key,
+        )
+    }
+
+    /// The open job of that id.
+    pub fn open_job(&self, job: JobId) -> Option<OpenRow>
+        ensures { result ≡ find (λ o. same_job o.job job) self.now.lists.open_ones }
+    {
+        rules::open_job(&self.vectors.open_ones, job)
+    }
+
+    /// Whether the reservation is unended.
+    pub fn is_held(&self, number: u64, job: JobId) -> bool
+        ensures { result ≡ list_any (λ h. (h.number == number) && same_job h.job job) self.now.lists.held }
+    {
+        rules::is_held(&self.vectors.held, number, job)
+    }
+
+    /// Whether the reservation is unspent.
+    pub fn is_unspent(&self, number: u64, job: JobId) -> bool
+        ensures { result ≡ list_any (λ u. (u.number == number) && same_job u.job job) self.now.lists.unspent }
+    {
+        held::is_unspent(&self.vectors.unspent, number, job)
+    }
+
+    /// The address of the unspent reservation of that number and job.
+    pub fn unspent_address(&self, number: u64, job: JobId) -> Option<ServerId>
+        ensures { result ≡ option_map (λ u. u.server)
+            (find (λ u. (u.number == number) && same_job u.job job) self.now.lists.unspent) }
+    {
+        held::unspent_address(&self.vectors.unspent, number, job)
+    }
+
+    /// Makes room for one registration more. Refused for want of memory alone; the lists stay.
+    pub fn make_row_room(&mut self) -> Result<(), AllocError>
+        ensures lists { self.new.lists ≡ self.old.lists }
+        ensures room { OnOk result (self.new.has_row_room ≡ true) }
+    {
+        self.vectors.rows.reserve(1)
+    }
+
+    /// Makes room for one reservation more. Refused for want of memory alone; the lists stay.
+    pub fn make_job_room(&mut self) -> Result<(), AllocError>
+        ensures lists { self.new.lists ≡ self.old.lists }
+        ensures room { OnOk result (self.new.has_job_room ≡ true) }
+    {
+        let spending = self.vectors.unspent.len();
+        self.vectors.held.reserve(1)?;
+        self.vectors.jobs.reserve(1)?;
+        self.vectors.unspent.reserve(1)?;
+        self.vectors.open_ones.reserve(spending + 1)
+    }
+
+    /// Takes an entry of this number into the books. It takes no memory.
+    pub fn absorb(&mut self, step: &CoreEntry, number: u64)
+        requires row_room { MayRegister step.now.kind → self.old.has_row_room ≡ true }
+        requires job_room { MayReserve step.now.kind → self.old.has_job_room ≡ true }
+        requires spends { IsOfUnspent step.now.kind self.old.lists.unspent }
+        ensures lists { self.new.lists ≡ lists_next self.old.lists step.entry.now number }
+    {
+        absorb(&mut self.vectors, step, number);
+    }
 }

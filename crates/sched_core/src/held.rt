@@ -6,11 +6,11 @@ ghost use Rattle.sched_core.specs.Log.{same_job};
 ghost use Rattle.sched_core.specs.Rows.{placed};
 ghost use Rattle.sched_core.specs.Books.{state_after, held_stays, held_after, held_by, job_stays, job_after, job_over, job_in, job_by, job_placed, open_stays, open_after, open_over, open_by, unspent_stays, unspent_by};
 
-use crate::books::UnspentRow;
 use crate::entry::{CoreKind, Reserved};
 use crate::kind::{begins, claims, closes, complete, frees, moves, spends};
 use crate::rows::{HeldRow, JobRow, OpenRow, ServerRow};
 use crate::standing::row_numbered;
+use crate::vectors::UnspentRow;
 use dist_types::ids::{JobId, ServerId};
 use dist_types::results::JobState;
 

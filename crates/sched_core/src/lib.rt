@@ -24,3 +24,4 @@ mod spending;
 mod standing;
 pub mod state;
 pub mod texts;
+mod vectors;

@@ -9,23 +9,22 @@ ghost use Rattle.sched_core.specs.declared.answers.Committed.TheVariants as comm
 ghost use Rattle.sched_core.specs.declared.answers.Undone.TheVariants as undone;
 
 use crate::answers::{Committed, Picked, Undone};
+use crate::books::Books;
 use crate::entry::{CoreEntry, Reserved, UpdateAnswer};
 use crate::error::SchedError;
 use crate::keys::{RegistrationKey, token_at};
 use crate::reservation::Reservation;
-use crate::rows::ServerRow;
-use crate::standing::row_numbered;
 use dist_types::ids::{JobId, ServerId};
 use dist_types::results::{JobAlloc, JobState, UpdateJobStateResult};
 use dist_types::roles::JobAuthorizer;
 
 /// The address of a registration that stands.
-fn address_at(rows: &[ServerRow], log: &[CoreEntry], reg: u64) -> ServerId
-    requires rows { rows.now ≡ servers_of log.now }
-    requires stands { list_any (λ r. r.reg == reg) rows.now ≡ true }
+fn address_at(books: &Books, log: &[CoreEntry], reg: u64) -> ServerId
+    requires rows { books.now.lists.rows ≡ servers_of log.now }
+    requires stands { list_any (λ r. r.reg == reg) books.now.lists.rows ≡ true }
     ensures { address_of log.now reg ≡ Some result }
 {
-    match row_numbered(rows, reg) {
+    match books.row(reg) {
         Some(row) => row.server,
         None => unreachable!(),
     }
@@ -34,40 +33,40 @@ fn address_at(rows: &[ServerRow], log: &[CoreEntry], reg: u64) -> ServerId
 /// The reservation that the next entry makes of a job at a registration that stands. Its token is made
 /// here. Refused for want of memory alone.
 fn reservation<A: JobAuthorizer>(
-    rows: &[ServerRow],
+    books: &Books,
     keys: &[RegistrationKey<A>],
     log: &[CoreEntry],
     job: JobId,
     reg: u64,
 ) -> Result<Reservation, SchedError>
-    requires rows { rows.now ≡ servers_of log.now }
+    requires rows { books.now.lists.rows ≡ servers_of log.now }
     requires keys { keys.now ≡ keys_of log.now }
-    requires stands { list_any (λ r. r.reg == reg) rows.now ≡ true }
+    requires stands { list_any (λ r. r.reg == reg) books.now.lists.rows ≡ true }
     ensures ticket { IfOk result (IsTicket A.key_of A.token_for log.now job reg) }
     ensures memory { IfErr result (λ e. e ≡ SchedError.Memory) }
 {
     let auth = token_at(keys, log, reg, job)?;
-    let server = address_at(rows, log, reg);
+    let server = address_at(books, log, reg);
     Ok(Reservation::of(log.len() as u64, job, server, reg, auth))
 }
 
 /// What a reserve makes whose entry says this: a reservation, or as many registrations without room,
 /// or nothing where the ids are spent. Refused for want of memory alone.
 pub fn made<A: JobAuthorizer>(
-    rows: &[ServerRow],
+    books: &Books,
     keys: &[RegistrationKey<A>],
     log: &[CoreEntry],
     reserved: &Reserved,
 ) -> Result<Option<Picked>, SchedError>
-    requires rows { rows.now ≡ servers_of log.now }
+    requires rows { books.now.lists.rows ≡ servers_of log.now }
     requires keys { keys.now ≡ keys_of log.now }
-    requires stands { IsAtRow reserved.now rows.now }
+    requires stands { IsAtRow reserved.now books.now.lists.rows }
     ensures made { IfOk result (IsMade A.key_of A.token_for log.now reserved.now) }
     ensures memory { IfErr result (λ e. e ≡ SchedError.Memory) }
 {
     match reserved {
         Reserved::Job { job, reg, .. } => {
-            let picked = reservation(rows, keys, log, *job, *reg)?;
+            let picked = reservation(books, keys, log, *job, *reg)?;
             Ok(Some(Picked::Reserved(picked)))
         }
         Reserved::NoRoom(standing) => Ok(Some(Picked::NoRoom(*standing))),

@@ -8,14 +8,13 @@ ghost use Rattle.sched_core.specs.Rule.{rule, says_new_entry, counts_of, is_amon
 ghost use Rattle.sched_core.specs.Rows.{servers_of, jobs_of, held_by_id, held_part};
 ghost use Rattle.sched_core.specs.Answers.{Leaves, IsPicked, RefusesReserve, committed_by, undo_answer, updated_by};
 ghost use Rattle.sched_core.specs.Laws.{IsLegal, IsLawful, IsRule};
-ghost use Rattle.sched_core.specs.Books.{IsState, HasRoom, SameBooks, MayMake, key_by, open_by, unspent_next};
+ghost use Rattle.sched_core.specs.Books.{IsState, MayRegister, MayReserve, IsOfUnspent, Kept, key_by, unspent_next};
 ghost use Rattle.sched_core.specs.declared.call.Call.TheVariants as call;
 
 use crate::answers::{Committed, Picked, Undone};
-use crate::books::{Books, absorb};
+use crate::books::Books;
 use crate::entry::{CoreEntry, CoreKind};
 use crate::error::SchedError;
-use crate::held::{is_unspent, unspent_address};
 use crate::keys::{self, RegistrationKey};
 use crate::reservation::Reservation;
 use crate::rows::{Jobs, Servers};
@@ -53,7 +52,7 @@ impl<A: JobAuthorizer> Model for SchedState<A> {
 
     ghost view = { λ s. record { base = s.base; count = s.count; log = s.log.items } };
 
-    ghost invariant = { λ s. IsState s.base s.count s.books s.keys.items s.log.items (vec_len s.log) (vec_capacity s.log) };
+    ghost invariant = { λ s. IsState s.base s.count s.books.lists s.keys.items s.log.items (vec_len s.log) (vec_capacity s.log) };
 }
 
 impl<A: JobAuthorizer> SchedState<A> {
@@ -73,14 +72,7 @@ impl<A: JobAuthorizer> SchedState<A> {
             alloc,
             base,
             count,
-            books: Books {
-                rows: Vec::new(alloc),
-                held: Vec::new(alloc),
-                jobs: Vec::new(alloc),
-                open_ones: Vec::new(alloc),
-                unspent: Vec::new(alloc),
-                made: 0,
-            },
+            books: Books::new(alloc),
             keys: Vec::new(alloc),
             log: Vec::new(alloc),
         }
@@ -105,7 +97,7 @@ impl<A: JobAuthorizer> SchedState<A> {
     pub fn reservation_count(&self) -> u64
         ensures made { result ≡ length (bookings self.now.log) }
     {
-        self.books.made
+        self.books.made()
     }
 
     /// The log, oldest entry first: each entry is the core rule's over those before it, so all laws of
@@ -126,7 +118,7 @@ impl<A: JobAuthorizer> SchedState<A> {
     pub fn servers(&self) -> Servers<'_>
         ensures rows { result ≡ servers_of self.now.log }
     {
-        Servers::new(&self.books.rows)
+        self.books.servers()
     }
 
     /// The unended reservations, by rising job id, as the whole log gives them. It takes no memory.
@@ -135,7 +127,7 @@ impl<A: JobAuthorizer> SchedState<A> {
         // None is left out: each is at a registration that has an address.
         ensures all { map held_part result ≡ held_by_id self.now.log }
     {
-        Jobs::new(&self.books.jobs)
+        self.books.jobs()
     }
 
     /// Reserves a job at the moment `now`, in milliseconds: at the registration with room and no
@@ -152,16 +144,10 @@ impl<A: JobAuthorizer> SchedState<A> {
         ensures refused { IfErr result (RefusesReserve (rule self.old (call.Reserve now)).kind) }
         ensures err { IfErr result (λ e. Leaves e self.old self.new (rule self.old (call.Reserve now))) }
     {
-        let given = u128::from(self.count) + u128::from(self.books.made);
-        let reserved = rules::reserve_over_rows(
-            self.alloc,
-            &self.books.rows,
-            now,
-            self.base,
-            given,
-        )?;
-        make_room(&mut self.books, &mut self.keys, &mut self.log)?;
-        let made = spending::made(&self.books.rows, &self.keys, &self.log, &reserved)?;
+        let given = u128::from(self.count) + u128::from(self.books.made());
+        let reserved = self.books.reserved(self.alloc, now, self.base, given)?;
+        make_job_room(&mut self.books, &mut self.log)?;
+        let made = spending::made(&self.books, &self.keys, &self.log, &reserved)?;
         let kind = CoreKind::Reserve(reserved);
         let entry = CoreEntry { now, kind };
         take(
@@ -189,10 +175,10 @@ impl<A: JobAuthorizer> SchedState<A> {
         let number = r.number();
         let job = r.job_id();
         let alloc = r.into_alloc();
-        if !is_unspent(&self.books.unspent, number, job) {
+        if !self.books.is_unspent(number, job) {
             return Committed::Foreign(job);
         }
-        let kept = rules::is_held(&self.books.held, number, job);
+        let kept = self.books.is_held(number, job);
         let kind = CoreKind::Commit { job, state, kept };
         let entry = CoreEntry { now, kind };
         take(
@@ -220,12 +206,12 @@ impl<A: JobAuthorizer> SchedState<A> {
         let number = r.number();
         let job = r.job_id();
         r.spend();
-        if !is_unspent(&self.books.unspent, number, job) {
+        if !self.books.is_unspent(number, job) {
             return Undone::Foreign;
         }
-        let server = unspent_address(&self.books.unspent, number, job);
-        let noted = rules::noted_number(&self.books.rows, server);
-        let ended = rules::is_held(&self.books.held, number, job);
+        let server = self.books.unspent_address(number, job);
+        let noted = self.books.noted(server);
+        let ended = self.books.is_held(number, job);
         let kind = CoreKind::Undo { job, noted, ended };
         let entry = CoreEntry { now, kind };
         take(
@@ -265,18 +251,11 @@ impl<A: JobAuthorizer> SchedState<A> {
         if cpus == 0 || cpus > MOST_CPUS {
             return Err(SchedError::BadCpus(cpus));
         }
-        let entry = rules::beat_over_rows(
-            self.alloc,
-            &self.books.rows,
-            &self.books.held,
-            now,
-            server,
-            nonce,
-            cpus,
-            key.key(),
-        )?;
+        let entry = self
+            .books
+            .beat(self.alloc, now, server, nonce, cpus, key.key())?;
         let is_new = entry.is_new_beat();
-        make_room(&mut self.books, &mut self.keys, &mut self.log)?;
+        make_row_room(&mut self.books, &mut self.keys, &mut self.log)?;
         let key = keys::key_made(is_new, self.log.len() as u64, key);
         take(
             self.base,
@@ -308,9 +287,9 @@ impl<A: JobAuthorizer> SchedState<A> {
         ensures err { IfErr result (λ e. Leaves e self.old self.new
             (rule self.old (call.Update now server job state))) }
     {
-        let found = rules::open_job(&self.books.open_ones, job);
+        let found = self.books.open_job(job);
         let answer = rules::answer_by(&found, server, state);
-        make_room(&mut self.books, &mut self.keys, &mut self.log)?;
+        make_log_room(&self.books, &mut self.log)?;
         let kind = CoreKind::Update {
             server,
             job,
@@ -338,10 +317,10 @@ impl<A: JobAuthorizer> SchedState<A> {
         ensures memory { IfErr result (λ e. e ≡ SchedError.Memory) }
         ensures err { OnErr result (self.new ≡ self.old) }
     {
-        let pruned = standing::pruned_numbers(self.alloc, &self.books.rows, now)?;
-        let answer = rules::counts(&self.books.rows, &self.books.open_ones, &pruned, now);
+        let pruned = self.books.pruned(self.alloc, now)?;
+        let answer = self.books.counts(&pruned, now);
         let entry = standing::status_entry(now, pruned, answer);
-        make_room(&mut self.books, &mut self.keys, &mut self.log)?;
+        make_log_room(&self.books, &mut self.log)?;
         take(
             self.base,
             self.count,
@@ -361,36 +340,48 @@ fn lawful(base: u64, count: u64, log: &[CoreEntry])
     ensures lawful { IsLegal base count log.now → IsLawful log.now }
 {}
 
-/// Makes room for what one more entry may add, beside what spends the reservations. Refused for want of
-/// memory alone; the lists stay.
-fn make_room<A: JobAuthorizer>(
+/// Makes room in the log for one more entry, beside those that spend the reservations, and for one
+/// reservation more. Refused for want of memory alone; the entries stay.
+fn make_log_room(books: &Books, log: &mut Vec<CoreEntry>) -> Result<(), AllocError>
+    ensures log { log.new.items ≡ log.old.items }
+    ensures log_room { vec_len log.old + length books.now.lists.unspent ≤ vec_capacity log.old →
+        vec_len log.new + length books.now.lists.unspent ≤ vec_capacity log.new }
+    ensures spare { OnOk result (vec_len log.new + length books.now.lists.unspent + 2 ≤ vec_capacity log.new) }
+{
+    log.reserve(books.unspent_count() + 2)
+}
+
+/// Makes room for what a reserve may add. Refused for want of memory alone; the lists stay.
+fn make_job_room(books: &mut Books, log: &mut Vec<CoreEntry>) -> Result<(), AllocError>
+    ensures lists { books.new.lists ≡ books.old.lists }
+    ensures log { log.new.items ≡ log.old.items }
+    ensures log_room { vec_len log.old + length books.old.lists.unspent ≤ vec_capacity log.old →
+        vec_len log.new + length books.old.lists.unspent ≤ vec_capacity log.new }
+    ensures room { OnOk result (books.new.has_job_room ≡ true) }
+    ensures spare { OnOk result (vec_len log.new + length books.old.lists.unspent + 2 ≤ vec_capacity log.new) }
+{
+    books.make_job_room()?;
+    make_log_room(books, log)
+}
+
+/// Makes room for what a heartbeat may add. Refused for want of memory alone; the lists stay.
+fn make_row_room<A: JobAuthorizer>(
     books: &mut Books,
     keys: &mut Vec<RegistrationKey<A>>,
     log: &mut Vec<CoreEntry>,
 ) -> Result<(), AllocError>
-    ensures same { SameBooks books.old books.new }
+    ensures lists { books.new.lists ≡ books.old.lists }
     ensures keys { keys.new.items ≡ keys.old.items }
     ensures log { log.new.items ≡ log.old.items }
-    ensures log_room { vec_len log.old + length books.old.unspent.items ≤ vec_capacity log.old →
-        vec_len log.new + length books.new.unspent.items ≤ vec_capacity log.new }
-    ensures open_room { vec_len books.old.open_ones + length books.old.unspent.items ≤
-        vec_capacity books.old.open_ones → vec_len books.new.open_ones + length books.new.unspent.items ≤
-        vec_capacity books.new.open_ones }
-    ensures room { OnOk result (HasRoom books.new) }
+    ensures log_room { vec_len log.old + length books.old.lists.unspent ≤ vec_capacity log.old →
+        vec_len log.new + length books.old.lists.unspent ≤ vec_capacity log.new }
+    ensures room { OnOk result (books.new.has_row_room ≡ true) }
     ensures keys_room { OnOk result (vec_len keys.new < vec_capacity keys.new) }
-    ensures log_spare { OnOk result (vec_len log.new + length books.new.unspent.items + 2 ≤
-        vec_capacity log.new) }
-    ensures open_spare { OnOk result (vec_len books.new.open_ones + length books.new.unspent.items + 2 ≤
-        vec_capacity books.new.open_ones) }
+    ensures spare { OnOk result (vec_len log.new + length books.old.lists.unspent + 2 ≤ vec_capacity log.new) }
 {
-    let spending = books.unspent.len();
-    books.rows.reserve(1)?;
-    books.held.reserve(1)?;
-    books.jobs.reserve(1)?;
-    books.unspent.reserve(1)?;
-    books.open_ones.reserve(spending + 2)?;
+    books.make_row_room()?;
     keys.reserve(1)?;
-    log.reserve(spending + 2)
+    make_log_room(books, log)
 }
 
 /// Takes the next entry into the books and the log. It takes no memory.
@@ -403,22 +394,21 @@ fn take<A: JobAuthorizer>(
     step: CoreEntry,
     key: Option<RegistrationKey<A>>,
 )
-    requires state { IsState base count books.old keys.old.items log.old.items (vec_len log.old)
+    requires state { IsState base count books.old.lists keys.old.items log.old.items (vec_len log.old)
         (vec_capacity log.old) }
     requires rule { IsRule (record { base = base; count = count; log = log.old.items }) step }
     requires key { key ≡ key_by step.kind (length log.old.items) }
-    requires room { MayMake step.kind → HasRoom books.old }
-    requires keys_room { MayMake step.kind → vec_len keys.old < vec_capacity keys.old }
-    requires log_room { vec_len log.old + 1 + length (unspent_next books.old step (length log.old.items)) ≤
-        vec_capacity log.old }
-    requires open_room { vec_len books.old.open_ones + length
-        (option_to_list (open_by step.kind books.old.jobs.items)) +
-        length (unspent_next books.old step (length log.old.items)) ≤ vec_capacity books.old.open_ones }
-    ensures state { IsState base count books.new keys.new.items log.new.items (vec_len log.new)
+    requires row_room { MayRegister step.kind → books.old.has_row_room ≡ true }
+    requires job_room { MayReserve step.kind → books.old.has_job_room ≡ true }
+    requires spends { IsOfUnspent step.kind books.old.lists.unspent }
+    requires keys_room { MayRegister step.kind → vec_len keys.old < vec_capacity keys.old }
+    requires log_room { vec_len log.old + 1 +
+        length (unspent_next books.old.lists step (length log.old.items)) ≤ vec_capacity log.old }
+    ensures state { IsState base count books.new.lists keys.new.items log.new.items (vec_len log.new)
         (vec_capacity log.new) }
     ensures log { log.new.items ≡ log.old.items ++ step ∷ [] }
 {
-    absorb(books, &step, log.len() as u64);
+    books.absorb(&step, log.len() as u64);
     keys::end_keys(keys, &step);
     standing::push_some(keys, key);
     standing::push_reserved(log, step);

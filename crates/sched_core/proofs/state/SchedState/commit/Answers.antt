@@ -9,7 +9,7 @@ use Rattle.sched_core.specs.Rule.{is_among, commit_by}
 use Rattle.sched_core.specs.declared.answers.Committed.TheVariants as committed
 use Rattle.sched_core.specs.declared.call.Call.TheVariants as call
 use Rattle.sched_core.proofs.LegalLemmas.{core_of}
-use Rattle.sched_core.proofs.BookLemmas.{log_room-spent, open_room-spent}
+use Rattle.sched_core.proofs.BookLemmas.{log_room-spent}
 use Rattle.sched_core.proofs.StateLemmas.{spent_among, held_among, spends_one}
 use Rattle.sched_core.proofs.state.SchedState.commit.Goals as goal
 
@@ -19,8 +19,8 @@ returns-then-not-is_unspent-clause-logged g c =
     let a = c.args in
     let number = c.number-number.result in
     let job : JobId = c.job_id-job.result in
-    let listed : c.is_unspent.result ≡ list_any (λ u. (u.number == number) && same_job u.job job) s.books.unspent.items = rw c.deref.ensures.value at c.is_unspent.ensures in
-    let among = spent_among s.books.unspent.items s.log.items number job c.self.invariant.books.unspent in
+    let listed : c.is_unspent.result ≡ list_any (λ u. (u.number == number) && same_job u.job job) s.books.lists.unspent = c.is_unspent.ensures in
+    let among = spent_among s.books.lists.unspent s.log.items number job c.self.invariant.books.unspent in
     let asked = ap (λ n. is_among (unspent s.log.items) n job) c.number-number.ensures.number ∙ ap (is_among (unspent s.log.items) a.r.number) c.job_id-job.ensures.job in
     rw (← c.self.view_is, sym asked ∙ sym among ∙ sym listed ∙ c.if-not-is_unspent.true) refl
 
@@ -30,8 +30,8 @@ returns-then-not-is_unspent-clause-answer g c =
     let a = c.args in
     let number = c.number-number.result in
     let job : JobId = c.job_id-job.result in
-    let listed : c.is_unspent.result ≡ list_any (λ u. (u.number == number) && same_job u.job job) s.books.unspent.items = rw c.deref.ensures.value at c.is_unspent.ensures in
-    let among = spent_among s.books.unspent.items s.log.items number job c.self.invariant.books.unspent in
+    let listed : c.is_unspent.result ≡ list_any (λ u. (u.number == number) && same_job u.job job) s.books.lists.unspent = c.is_unspent.ensures in
+    let among = spent_among s.books.lists.unspent s.log.items number job c.self.invariant.books.unspent in
     let asked = ap (λ n. is_among (unspent s.log.items) n job) c.number-number.ensures.number ∙ ap (is_among (unspent s.log.items) a.r.number) c.job_id-job.ensures.job in
     rw (← c.self.view_is, sym asked ∙ sym among ∙ sym listed ∙ c.if-not-is_unspent.true, c.job_id-job.ensures.job) refl
 
@@ -41,10 +41,13 @@ take-requires-clause-rule g c κs within =
     let a = c.args in
     let number = c.number-number.result in
     let job : JobId = c.job_id-job.result in
-    let listed : c.is_unspent.result ≡ list_any (λ u. (u.number == number) && same_job u.job job) s.books.unspent.items = rw c.deref.ensures.value at c.is_unspent.ensures in
-    let among = spent_among s.books.unspent.items s.log.items number job c.self.invariant.books.unspent in
-    let kept : c.is_held-kept.result ≡ is_among (unended s.log.items) number job = (rw c.deref-2.ensures.value at c.is_held-kept.ensures) ∙ held_among s.books.held.items s.log.items number job c.self.invariant.books.held in
+    let listed : c.is_unspent.result ≡ list_any (λ u. (u.number == number) && same_job u.job job) s.books.lists.unspent = c.is_unspent.ensures in
+    let among = spent_among s.books.lists.unspent s.log.items number job c.self.invariant.books.unspent in
+    let kept : c.is_held-kept.result ≡ is_among (unended s.log.items) number job = c.is_held-kept.ensures ∙ held_among s.books.lists.held s.log.items number job c.self.invariant.books.held in
     (call.Commit a.now number job a.state, (sym among ∙ sym listed ∙ c.if-not-is_unspent.false, c.requires.begins), ap (λ b. record { now = a.now; kind = Commit job a.state b }) kept)
+
+pub take-requires-clause-spends : goal.take-requires-clause-spends
+take-requires-clause-spends g c κs within = spends_one c.self.inside.books.lists.unspent c.number-number.result c.job_id-job.result (sym c.is_unspent.ensures ∙ c.if-not-is_unspent.false)
 
 pub take-requires-clause-log_room : goal.take-requires-clause-log_room
 take-requires-clause-log_room g c κs within =
@@ -52,19 +55,9 @@ take-requires-clause-log_room g c κs within =
     let a = c.args in
     let number = c.number-number.result in
     let job : JobId = c.job_id-job.result in
-    let listed : c.is_unspent.result ≡ list_any (λ u. (u.number == number) && same_job u.job job) s.books.unspent.items = rw c.deref.ensures.value at c.is_unspent.ensures in
-    let among = spent_among s.books.unspent.items s.log.items number job c.self.invariant.books.unspent in
-    log_room-spent s.books a.now (length s.log.items) (Commit job a.state c.is_held-kept.result) (vec_len s.log) (vec_capacity s.log) (spends_one s.books.unspent.items number job (sym listed ∙ c.if-not-is_unspent.false)) c.self.invariant.log_room
-
-pub take-requires-clause-open_room : goal.take-requires-clause-open_room
-take-requires-clause-open_room g c κs within =
-    let s = c.self.inside in
-    let a = c.args in
-    let number = c.number-number.result in
-    let job : JobId = c.job_id-job.result in
-    let listed : c.is_unspent.result ≡ list_any (λ u. (u.number == number) && same_job u.job job) s.books.unspent.items = rw c.deref.ensures.value at c.is_unspent.ensures in
-    let among = spent_among s.books.unspent.items s.log.items number job c.self.invariant.books.unspent in
-    open_room-spent s.books a.now (length s.log.items) (Commit job a.state c.is_held-kept.result) (vec_len s.books.open_ones) (vec_capacity s.books.open_ones) (spends_one s.books.unspent.items number job (sym listed ∙ c.if-not-is_unspent.false)) c.self.invariant.open_room
+    let listed : c.is_unspent.result ≡ list_any (λ u. (u.number == number) && same_job u.job job) s.books.lists.unspent = c.is_unspent.ensures in
+    let among = spent_among s.books.lists.unspent s.log.items number job c.self.invariant.books.unspent in
+    log_room-spent s.books.lists a.now (length s.log.items) (Commit job a.state c.is_held-kept.result) (vec_len s.log) (vec_capacity s.log) (spends_one s.books.lists.unspent number job (sym listed ∙ c.if-not-is_unspent.false)) c.self.invariant.log_room
 
 pub returns-clause-logged : goal.returns-clause-logged
 returns-clause-logged g c =
@@ -72,10 +65,10 @@ returns-clause-logged g c =
     let a = c.args in
     let number = c.number-number.result in
     let job : JobId = c.job_id-job.result in
-    let listed : c.is_unspent.result ≡ list_any (λ u. (u.number == number) && same_job u.job job) s.books.unspent.items = rw c.deref.ensures.value at c.is_unspent.ensures in
-    let among = spent_among s.books.unspent.items s.log.items number job c.self.invariant.books.unspent in
+    let listed : c.is_unspent.result ≡ list_any (λ u. (u.number == number) && same_job u.job job) s.books.lists.unspent = c.is_unspent.ensures in
+    let among = spent_among s.books.lists.unspent s.log.items number job c.self.invariant.books.unspent in
     let asked = ap (λ n. is_among (unspent s.log.items) n job) c.number-number.ensures.number ∙ ap (is_among (unspent s.log.items) a.r.number) c.job_id-job.ensures.job in
-    let kept : c.is_held-kept.result ≡ is_among (unended s.log.items) number job = (rw c.deref-2.ensures.value at c.is_held-kept.ensures) ∙ held_among s.books.held.items s.log.items number job c.self.invariant.books.held in
+    let kept : c.is_held-kept.result ≡ is_among (unended s.log.items) number job = c.is_held-kept.ensures ∙ held_among s.books.lists.held s.log.items number job c.self.invariant.books.held in
     let kept_r = kept ∙ ap (λ n. is_among (unended s.log.items) n job) c.number-number.ensures.number ∙ ap (is_among (unended s.log.items) a.r.number) c.job_id-job.ensures.job in
     rw (← c.self.view_is, c.take.ensures.log, c.job_id-job.ensures.job, sym asked ∙ sym among ∙ sym listed ∙ c.if-not-is_unspent.false)
     (ap (λ b. logged (core_of s.base s.count s.log.items) (commit_by b a.now a.r.job a.state)) kept_r)
@@ -86,10 +79,10 @@ returns-clause-answer g c =
     let a = c.args in
     let number = c.number-number.result in
     let job : JobId = c.job_id-job.result in
-    let listed : c.is_unspent.result ≡ list_any (λ u. (u.number == number) && same_job u.job job) s.books.unspent.items = rw c.deref.ensures.value at c.is_unspent.ensures in
-    let among = spent_among s.books.unspent.items s.log.items number job c.self.invariant.books.unspent in
+    let listed : c.is_unspent.result ≡ list_any (λ u. (u.number == number) && same_job u.job job) s.books.lists.unspent = c.is_unspent.ensures in
+    let among = spent_among s.books.lists.unspent s.log.items number job c.self.invariant.books.unspent in
     let asked = ap (λ n. is_among (unspent s.log.items) n job) c.number-number.ensures.number ∙ ap (is_among (unspent s.log.items) a.r.number) c.job_id-job.ensures.job in
-    let kept : c.is_held-kept.result ≡ is_among (unended s.log.items) number job = (rw c.deref-2.ensures.value at c.is_held-kept.ensures) ∙ held_among s.books.held.items s.log.items number job c.self.invariant.books.held in
+    let kept : c.is_held-kept.result ≡ is_among (unended s.log.items) number job = c.is_held-kept.ensures ∙ held_among s.books.lists.held s.log.items number job c.self.invariant.books.held in
     let kept_r = kept ∙ ap (λ n. is_among (unended s.log.items) n job) c.number-number.ensures.number ∙ ap (is_among (unended s.log.items) a.r.number) c.job_id-job.ensures.job in
     rw (← c.self.view_is, sym asked ∙ sym among ∙ sym listed ∙ c.if-not-is_unspent.false)
     (c.committed.ensures

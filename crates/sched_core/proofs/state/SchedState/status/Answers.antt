@@ -3,17 +3,26 @@ use Rattle.std.specs.Prelude.{vec_len, vec_capacity}
 use Rattle.sched_core.specs.Laws.{IsRule}
 use Rattle.sched_core.specs.declared.call.Call.TheVariants as call
 use Rattle.sched_core.proofs.LegalLemmas.{core_of}
-use Rattle.sched_core.proofs.BookLemmas.{log_room-one, open_room-one}
+use Rattle.sched_core.proofs.BookLemmas.{log_room-one}
 use Rattle.sched_core.proofs.state.SchedState.status.Goals as goal
 
 pub take-requires-clause-rule : goal.take-requires-clause-rule
 take-requires-clause-rule g c κs within =
     let s = c.self.inside in
-    let entry = rw (c.in_ok-pruned.ensures, c.counts-answer.ensures, c.deref.ensures.value, c.deref-2.ensures.value, c.deref-3.ensures.value, c.self.invariant.books.rows, c.self.invariant.books.open_ones) at c.status_entry-entry.ensures in
-    subst (λ l. IsRule (core_of s.base s.count l) c.status_entry-entry.result) (sym c.in_ok-make_room.ensures.log) (call.Status c.args.now, tt, entry)
+    let entry = rw (c.in_ok-pruned.ensures, c.counts-answer.ensures, c.self.invariant.books.rows, c.self.invariant.books.open_ones) at c.status_entry-entry.ensures in
+    subst (λ l. IsRule (core_of s.base s.count l) c.status_entry-entry.result) (sym c.in_ok-make_log_room.ensures.log) (call.Status c.args.now, tt, entry)
+
+pub take-requires-clause-spends : goal.take-requires-clause-spends
+take-requires-clause-spends g c κs within = rw c.status_entry-entry.ensures tt
+
+pub take-requires-clause-row_room : goal.take-requires-clause-row_room
+take-requires-clause-row_room g c κs within = rw c.status_entry-entry.ensures (λ may. absurd may)
+
+pub take-requires-clause-job_room : goal.take-requires-clause-job_room
+take-requires-clause-job_room g c κs within = rw c.status_entry-entry.ensures (λ may. absurd may)
+
+pub take-requires-clause-keys_room : goal.take-requires-clause-keys_room
+take-requires-clause-keys_room g c κs within = rw c.status_entry-entry.ensures (λ may. absurd may)
 
 pub take-requires-clause-log_room : goal.take-requires-clause-log_room
-take-requires-clause-log_room g c κs within = log_room-one c.make_room.new.books c.status_entry-entry.result (length c.make_room.new.log.items) (vec_len c.make_room.new.log) (vec_capacity c.make_room.new.log) c.in_ok-make_room.ensures.log_spare
-
-pub take-requires-clause-open_room : goal.take-requires-clause-open_room
-take-requires-clause-open_room g c κs within = open_room-one c.make_room.new.books c.status_entry-entry.result (length c.make_room.new.log.items) (vec_len c.make_room.new.books.open_ones) (vec_capacity c.make_room.new.books.open_ones) c.in_ok-make_room.ensures.open_spare
+take-requires-clause-log_room g c κs within = log_room-one c.self.inside.books.lists c.status_entry-entry.result (length c.make_log_room.new.log.items) (vec_len c.make_log_room.new.log) (vec_capacity c.make_log_room.new.log) c.in_ok-make_log_room.ensures.spare

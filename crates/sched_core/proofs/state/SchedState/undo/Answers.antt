@@ -12,7 +12,7 @@ use Rattle.sched_core.specs.Answers.{unended_by}
 use Rattle.sched_core.specs.declared.answers.Undone.TheVariants as undone
 use Rattle.sched_core.specs.declared.call.Call.TheVariants as call
 use Rattle.sched_core.proofs.LegalLemmas.{core_of}
-use Rattle.sched_core.proofs.BookLemmas.{log_room-spent, open_room-spent}
+use Rattle.sched_core.proofs.BookLemmas.{log_room-spent}
 use Rattle.sched_core.proofs.StateLemmas.{spent_among, held_among, spent_address, spends_one}
 use Rattle.sched_core.proofs.state.SchedState.undo.Goals as goal
 
@@ -22,8 +22,8 @@ returns-then-not-is_unspent-clause-logged g c =
     let a = c.args in
     let number = c.number-number.result in
     let job : JobId = c.job_id-job.result in
-    let listed : c.is_unspent.result ≡ list_any (λ u. (u.number == number) && same_job u.job job) s.books.unspent.items = rw c.deref.ensures.value at c.is_unspent.ensures in
-    let among = spent_among s.books.unspent.items s.log.items number job c.self.invariant.books.unspent in
+    let listed : c.is_unspent.result ≡ list_any (λ u. (u.number == number) && same_job u.job job) s.books.lists.unspent = c.is_unspent.ensures in
+    let among = spent_among s.books.lists.unspent s.log.items number job c.self.invariant.books.unspent in
     let asked = ap (λ n. is_among (unspent s.log.items) n job) c.number-number.ensures.number ∙ ap (is_among (unspent s.log.items) a.r.number) c.job_id-job.ensures.job in
     rw (← c.self.view_is, sym asked ∙ sym among ∙ sym listed ∙ c.if-not-is_unspent.true) refl
 
@@ -33,8 +33,8 @@ returns-then-not-is_unspent-clause-answer g c =
     let a = c.args in
     let number = c.number-number.result in
     let job : JobId = c.job_id-job.result in
-    let listed : c.is_unspent.result ≡ list_any (λ u. (u.number == number) && same_job u.job job) s.books.unspent.items = rw c.deref.ensures.value at c.is_unspent.ensures in
-    let among = spent_among s.books.unspent.items s.log.items number job c.self.invariant.books.unspent in
+    let listed : c.is_unspent.result ≡ list_any (λ u. (u.number == number) && same_job u.job job) s.books.lists.unspent = c.is_unspent.ensures in
+    let among = spent_among s.books.lists.unspent s.log.items number job c.self.invariant.books.unspent in
     let asked = ap (λ n. is_among (unspent s.log.items) n job) c.number-number.ensures.number ∙ ap (is_among (unspent s.log.items) a.r.number) c.job_id-job.ensures.job in
     rw (← c.self.view_is, sym asked ∙ sym among ∙ sym listed ∙ c.if-not-is_unspent.true) refl
 
@@ -44,16 +44,19 @@ take-requires-clause-rule g c κs within =
     let a = c.args in
     let number = c.number-number.result in
     let job : JobId = c.job_id-job.result in
-    let listed : c.is_unspent.result ≡ list_any (λ u. (u.number == number) && same_job u.job job) s.books.unspent.items = rw c.deref.ensures.value at c.is_unspent.ensures in
-    let among = spent_among s.books.unspent.items s.log.items number job c.self.invariant.books.unspent in
-    let owned : list_any (λ u. (u.number == number) && same_job u.job job) s.books.unspent.items ≡ true = sym listed ∙ c.if-not-is_unspent.false in
-    let server : c.unspent_address-server.result ≡ option_and_then (address_of s.log.items) (place_at s.log.items number) = (rw c.deref-2.ensures.value at c.unspent_address-server.ensures) ∙ spent_address s.books.unspent.items s.log.items number job c.self.invariant.books.unspent_placed owned in
-    let noted : c.noted_number-noted.result ≡ noted_over (servers_of s.log.items) (option_and_then (address_of s.log.items) (place_at s.log.items number)) = (rw (c.deref-3.ensures.value, c.self.invariant.books.rows) at c.noted_number-noted.ensures) ∙ ap (noted_over (servers_of s.log.items)) server in
-    let gone : c.is_held-ended.result ≡ is_among (unended s.log.items) number job = (rw c.deref-4.ensures.value at c.is_held-ended.ensures) ∙ held_among s.books.held.items s.log.items number job c.self.invariant.books.held in (
+    let listed : c.is_unspent.result ≡ list_any (λ u. (u.number == number) && same_job u.job job) s.books.lists.unspent = c.is_unspent.ensures in
+    let among = spent_among s.books.lists.unspent s.log.items number job c.self.invariant.books.unspent in
+    let owned : list_any (λ u. (u.number == number) && same_job u.job job) s.books.lists.unspent ≡ true = sym listed ∙ c.if-not-is_unspent.false in
+    let server : c.unspent_address-server.result ≡ option_and_then (address_of s.log.items) (place_at s.log.items number) = c.unspent_address-server.ensures ∙ spent_address s.books.lists.unspent s.log.items number job c.self.invariant.books.unspent_placed owned in
+    let noted : c.noted-noted.result ≡ noted_over (servers_of s.log.items) (option_and_then (address_of s.log.items) (place_at s.log.items number)) = (rw c.self.invariant.books.rows at c.noted-noted.ensures) ∙ ap (noted_over (servers_of s.log.items)) server in
+    let gone : c.is_held-ended.result ≡ is_among (unended s.log.items) number job = c.is_held-ended.ensures ∙ held_among s.books.lists.held s.log.items number job c.self.invariant.books.held in (
       call.Undo a.now number job,
       sym among ∙ owned,
       ap (λ n. record { now = a.now; kind = Undo job n c.is_held-ended.result }) noted ∙ ap (λ b. record { now = a.now; kind = Undo job (noted_over (servers_of s.log.items) (option_and_then (address_of s.log.items) (place_at s.log.items number))) b }) gone,
     )
+
+pub take-requires-clause-spends : goal.take-requires-clause-spends
+take-requires-clause-spends g c κs within = spends_one c.self.inside.books.lists.unspent c.number-number.result c.job_id-job.result (sym c.is_unspent.ensures ∙ c.if-not-is_unspent.false)
 
 pub take-requires-clause-log_room : goal.take-requires-clause-log_room
 take-requires-clause-log_room g c κs within =
@@ -61,19 +64,9 @@ take-requires-clause-log_room g c κs within =
     let a = c.args in
     let number = c.number-number.result in
     let job : JobId = c.job_id-job.result in
-    let listed : c.is_unspent.result ≡ list_any (λ u. (u.number == number) && same_job u.job job) s.books.unspent.items = rw c.deref.ensures.value at c.is_unspent.ensures in
-    let among = spent_among s.books.unspent.items s.log.items number job c.self.invariant.books.unspent in
-    log_room-spent s.books a.now (length s.log.items) (Undo job c.noted_number-noted.result c.is_held-ended.result) (vec_len s.log) (vec_capacity s.log) (spends_one s.books.unspent.items number job (sym listed ∙ c.if-not-is_unspent.false)) c.self.invariant.log_room
-
-pub take-requires-clause-open_room : goal.take-requires-clause-open_room
-take-requires-clause-open_room g c κs within =
-    let s = c.self.inside in
-    let a = c.args in
-    let number = c.number-number.result in
-    let job : JobId = c.job_id-job.result in
-    let listed : c.is_unspent.result ≡ list_any (λ u. (u.number == number) && same_job u.job job) s.books.unspent.items = rw c.deref.ensures.value at c.is_unspent.ensures in
-    let among = spent_among s.books.unspent.items s.log.items number job c.self.invariant.books.unspent in
-    open_room-spent s.books a.now (length s.log.items) (Undo job c.noted_number-noted.result c.is_held-ended.result) (vec_len s.books.open_ones) (vec_capacity s.books.open_ones) (spends_one s.books.unspent.items number job (sym listed ∙ c.if-not-is_unspent.false)) c.self.invariant.open_room
+    let listed : c.is_unspent.result ≡ list_any (λ u. (u.number == number) && same_job u.job job) s.books.lists.unspent = c.is_unspent.ensures in
+    let among = spent_among s.books.lists.unspent s.log.items number job c.self.invariant.books.unspent in
+    log_room-spent s.books.lists a.now (length s.log.items) (Undo job c.noted-noted.result c.is_held-ended.result) (vec_len s.log) (vec_capacity s.log) (spends_one s.books.lists.unspent number job (sym listed ∙ c.if-not-is_unspent.false)) c.self.invariant.log_room
 
 pub returns-clause-logged : goal.returns-clause-logged
 returns-clause-logged g c =
@@ -81,13 +74,13 @@ returns-clause-logged g c =
     let a = c.args in
     let number = c.number-number.result in
     let job : JobId = c.job_id-job.result in
-    let listed : c.is_unspent.result ≡ list_any (λ u. (u.number == number) && same_job u.job job) s.books.unspent.items = rw c.deref.ensures.value at c.is_unspent.ensures in
-    let among = spent_among s.books.unspent.items s.log.items number job c.self.invariant.books.unspent in
+    let listed : c.is_unspent.result ≡ list_any (λ u. (u.number == number) && same_job u.job job) s.books.lists.unspent = c.is_unspent.ensures in
+    let among = spent_among s.books.lists.unspent s.log.items number job c.self.invariant.books.unspent in
     let asked = ap (λ n. is_among (unspent s.log.items) n job) c.number-number.ensures.number ∙ ap (is_among (unspent s.log.items) a.r.number) c.job_id-job.ensures.job in
-    let owned : list_any (λ u. (u.number == number) && same_job u.job job) s.books.unspent.items ≡ true = sym listed ∙ c.if-not-is_unspent.false in
-    let server : c.unspent_address-server.result ≡ option_and_then (address_of s.log.items) (place_at s.log.items number) = (rw c.deref-2.ensures.value at c.unspent_address-server.ensures) ∙ spent_address s.books.unspent.items s.log.items number job c.self.invariant.books.unspent_placed owned in
-    let noted : c.noted_number-noted.result ≡ noted_over (servers_of s.log.items) (option_and_then (address_of s.log.items) (place_at s.log.items number)) = (rw (c.deref-3.ensures.value, c.self.invariant.books.rows) at c.noted_number-noted.ensures) ∙ ap (noted_over (servers_of s.log.items)) server in
-    let gone : c.is_held-ended.result ≡ is_among (unended s.log.items) number job = (rw c.deref-4.ensures.value at c.is_held-ended.ensures) ∙ held_among s.books.held.items s.log.items number job c.self.invariant.books.held in
+    let owned : list_any (λ u. (u.number == number) && same_job u.job job) s.books.lists.unspent ≡ true = sym listed ∙ c.if-not-is_unspent.false in
+    let server : c.unspent_address-server.result ≡ option_and_then (address_of s.log.items) (place_at s.log.items number) = c.unspent_address-server.ensures ∙ spent_address s.books.lists.unspent s.log.items number job c.self.invariant.books.unspent_placed owned in
+    let noted : c.noted-noted.result ≡ noted_over (servers_of s.log.items) (option_and_then (address_of s.log.items) (place_at s.log.items number)) = (rw c.self.invariant.books.rows at c.noted-noted.ensures) ∙ ap (noted_over (servers_of s.log.items)) server in
+    let gone : c.is_held-ended.result ≡ is_among (unended s.log.items) number job = c.is_held-ended.ensures ∙ held_among s.books.lists.held s.log.items number job c.self.invariant.books.held in
     let noted_r = noted ∙ ap (λ n. noted_over (servers_of s.log.items) (option_and_then (address_of s.log.items) (place_at s.log.items n))) c.number-number.ensures.number in
     let gone_r = gone ∙ ap (λ n. is_among (unended s.log.items) n job) c.number-number.ensures.number ∙ ap (is_among (unended s.log.items) a.r.number) c.job_id-job.ensures.job in
     rw (← c.self.view_is, c.take.ensures.log, c.job_id-job.ensures.job, sym asked ∙ sym among ∙ owned)
@@ -100,13 +93,13 @@ returns-clause-answer g c =
     let a = c.args in
     let number = c.number-number.result in
     let job : JobId = c.job_id-job.result in
-    let listed : c.is_unspent.result ≡ list_any (λ u. (u.number == number) && same_job u.job job) s.books.unspent.items = rw c.deref.ensures.value at c.is_unspent.ensures in
-    let among = spent_among s.books.unspent.items s.log.items number job c.self.invariant.books.unspent in
+    let listed : c.is_unspent.result ≡ list_any (λ u. (u.number == number) && same_job u.job job) s.books.lists.unspent = c.is_unspent.ensures in
+    let among = spent_among s.books.lists.unspent s.log.items number job c.self.invariant.books.unspent in
     let asked = ap (λ n. is_among (unspent s.log.items) n job) c.number-number.ensures.number ∙ ap (is_among (unspent s.log.items) a.r.number) c.job_id-job.ensures.job in
-    let owned : list_any (λ u. (u.number == number) && same_job u.job job) s.books.unspent.items ≡ true = sym listed ∙ c.if-not-is_unspent.false in
-    let server : c.unspent_address-server.result ≡ option_and_then (address_of s.log.items) (place_at s.log.items number) = (rw c.deref-2.ensures.value at c.unspent_address-server.ensures) ∙ spent_address s.books.unspent.items s.log.items number job c.self.invariant.books.unspent_placed owned in
-    let noted : c.noted_number-noted.result ≡ noted_over (servers_of s.log.items) (option_and_then (address_of s.log.items) (place_at s.log.items number)) = (rw (c.deref-3.ensures.value, c.self.invariant.books.rows) at c.noted_number-noted.ensures) ∙ ap (noted_over (servers_of s.log.items)) server in
-    let gone : c.is_held-ended.result ≡ is_among (unended s.log.items) number job = (rw c.deref-4.ensures.value at c.is_held-ended.ensures) ∙ held_among s.books.held.items s.log.items number job c.self.invariant.books.held in
+    let owned : list_any (λ u. (u.number == number) && same_job u.job job) s.books.lists.unspent ≡ true = sym listed ∙ c.if-not-is_unspent.false in
+    let server : c.unspent_address-server.result ≡ option_and_then (address_of s.log.items) (place_at s.log.items number) = c.unspent_address-server.ensures ∙ spent_address s.books.lists.unspent s.log.items number job c.self.invariant.books.unspent_placed owned in
+    let noted : c.noted-noted.result ≡ noted_over (servers_of s.log.items) (option_and_then (address_of s.log.items) (place_at s.log.items number)) = (rw c.self.invariant.books.rows at c.noted-noted.ensures) ∙ ap (noted_over (servers_of s.log.items)) server in
+    let gone : c.is_held-ended.result ≡ is_among (unended s.log.items) number job = c.is_held-ended.ensures ∙ held_among s.books.lists.held s.log.items number job c.self.invariant.books.held in
     let noted_r = noted ∙ ap (λ n. noted_over (servers_of s.log.items) (option_and_then (address_of s.log.items) (place_at s.log.items n))) c.number-number.ensures.number in
     let gone_r = gone ∙ ap (λ n. is_among (unended s.log.items) n job) c.number-number.ensures.number ∙ ap (is_among (unended s.log.items) a.r.number) c.job_id-job.ensures.job in
     rw (← c.self.view_is, sym asked ∙ sym among ∙ owned)

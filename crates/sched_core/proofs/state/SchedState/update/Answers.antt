@@ -9,7 +9,7 @@ use Rattle.sched_core.specs.Answers.{verdict}
 use Rattle.sched_core.specs.Laws.{IsRule}
 use Rattle.sched_core.specs.declared.call.Call.TheVariants as call
 use Rattle.sched_core.proofs.LegalLemmas.{core_of}
-use Rattle.sched_core.proofs.BookLemmas.{log_room-one, open_room-one}
+use Rattle.sched_core.proofs.BookLemmas.{log_room-one}
 use Rattle.sched_core.proofs.StateLemmas.{on_ok, verdict_leaves}
 use Rattle.sched_core.proofs.state.SchedState.update.Goals as goal
 
@@ -18,34 +18,31 @@ take-requires-clause-rule g c κs within =
     let s = c.self.inside in
     let a = c.args in
     let step : CoreEntry = record { now = a.now; kind = Update a.server a.job a.state c.answer_by-answer.result } in
-    let answer : c.answer_by-answer.result ≡ advance (open_rows s.log.items) a.server a.job a.state = rw (c.open_job-found.ensures, c.deref.ensures.value, c.self.invariant.books.open_ones) at c.answer_by-answer.ensures in
-    subst (λ l. IsRule (core_of s.base s.count l) step) (sym c.in_ok-make_room.ensures.log) (call.Update a.now a.server a.job a.state, tt, ap (λ r. record { now = a.now; kind = Update a.server a.job a.state r }) answer)
+    let answer : c.answer_by-answer.result ≡ advance (open_rows s.log.items) a.server a.job a.state = rw (c.open_job-found.ensures, c.self.invariant.books.open_ones) at c.answer_by-answer.ensures in
+    subst (λ l. IsRule (core_of s.base s.count l) step) (sym c.in_ok-make_log_room.ensures.log) (call.Update a.now a.server a.job a.state, tt, ap (λ r. record { now = a.now; kind = Update a.server a.job a.state r }) answer)
 
 pub take-requires-clause-log_room : goal.take-requires-clause-log_room
-take-requires-clause-log_room g c κs within = log_room-one c.make_room.new.books (record { now = c.args.now; kind = Update c.args.server c.args.job c.args.state c.answer_by-answer.result }) (length c.make_room.new.log.items) (vec_len c.make_room.new.log) (vec_capacity c.make_room.new.log) c.in_ok-make_room.ensures.log_spare
-
-pub take-requires-clause-open_room : goal.take-requires-clause-open_room
-take-requires-clause-open_room g c κs within = open_room-one c.make_room.new.books (record { now = c.args.now; kind = Update c.args.server c.args.job c.args.state c.answer_by-answer.result }) (length c.make_room.new.log.items) (vec_len c.make_room.new.books.open_ones) (vec_capacity c.make_room.new.books.open_ones) c.in_ok-make_room.ensures.open_spare
+take-requires-clause-log_room g c κs within = log_room-one c.self.inside.books.lists (record { now = c.args.now; kind = Update c.args.server c.args.job c.args.state c.answer_by-answer.result }) (length c.make_log_room.new.log.items) (vec_len c.make_log_room.new.log) (vec_capacity c.make_log_room.new.log) c.in_ok-make_log_room.ensures.spare
 
 pub returns-clause-logged : goal.returns-clause-logged
 returns-clause-logged g c =
     let s = c.self.inside in
     let a = c.args in
-    let answer : c.answer_by-answer.result ≡ advance (open_rows s.log.items) a.server a.job a.state = rw (c.open_job-found.ensures, c.deref.ensures.value, c.self.invariant.books.open_ones) at c.answer_by-answer.ensures in
-    rw (← c.self.view_is, c.take.ensures.log, c.in_ok-make_room.ensures.log)
+    let answer : c.answer_by-answer.result ≡ advance (open_rows s.log.items) a.server a.job a.state = rw (c.open_job-found.ensures, c.self.invariant.books.open_ones) at c.answer_by-answer.ensures in
+    rw (← c.self.view_is, c.take.ensures.log, c.in_ok-make_log_room.ensures.log)
     (on_ok c.updated.result _ (ap (λ r. logged (core_of s.base s.count s.log.items) (record { now = a.now; kind = Update a.server a.job a.state r })) answer))
 
 pub returns-clause-answer : goal.returns-clause-answer
 returns-clause-answer g c = λ refused.
     let s = c.self.inside in
     let a = c.args in
-    let answer : c.answer_by-answer.result ≡ advance (open_rows s.log.items) a.server a.job a.state = rw (c.open_job-found.ensures, c.deref.ensures.value, c.self.invariant.books.open_ones) at c.answer_by-answer.ensures in
+    let answer : c.answer_by-answer.result ≡ advance (open_rows s.log.items) a.server a.job a.state = rw (c.open_job-found.ensures, c.self.invariant.books.open_ones) at c.answer_by-answer.ensures in
     rw (← c.self.view_is) (c.updated.ensures ∙ ap (λ r. verdict r a.state) answer)
 
 pub returns-clause-err : goal.returns-clause-err
 returns-clause-err g c =
     let s = c.self.inside in
     let a = c.args in
-    let answer : c.answer_by-answer.result ≡ advance (open_rows s.log.items) a.server a.job a.state = rw (c.open_job-found.ensures, c.deref.ensures.value, c.self.invariant.books.open_ones) at c.answer_by-answer.ensures in
-    rw (c.updated.ensures, ← c.self.view_is, c.take.ensures.log, c.in_ok-make_room.ensures.log)
+    let answer : c.answer_by-answer.result ≡ advance (open_rows s.log.items) a.server a.job a.state = rw (c.open_job-found.ensures, c.self.invariant.books.open_ones) at c.answer_by-answer.ensures in
+    rw (c.updated.ensures, ← c.self.view_is, c.take.ensures.log, c.in_ok-make_log_room.ensures.log)
     (verdict_leaves c.answer_by-answer.result a.state (core_of s.base s.count s.log.items) _ _ (ap (λ r. logged (core_of s.base s.count s.log.items) (record { now = a.now; kind = Update a.server a.job a.state r })) answer))
