@@ -71,6 +71,13 @@ impl Books {
         self.vectors.unspent.len()
     }
 
+    /// How many jobs are open.
+    pub fn open_count(&self) -> usize
+        ensures { result ≡ length self.now.lists.open_ones }
+    {
+        self.vectors.open_ones.len()
+    }
+
     /// The registrations that stand, by rising number.
     pub fn servers(&self) -> Servers<'_>
         ensures rows { result ≡ self.now.lists.rows }

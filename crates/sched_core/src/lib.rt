@@ -25,3 +25,5 @@ mod standing;
 pub mod state;
 pub mod texts;
 mod vectors;
+
+pub use standing::HEARTBEAT_TIMEOUT;

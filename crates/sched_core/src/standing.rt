@@ -16,7 +16,7 @@ use dist_types::text::Items;
 use std::alloc::{AllocError, Global};
 
 /// A registration whose last sign is older is pruned, in milliseconds.
-const HEARTBEAT_TIMEOUT: u64 = 90000;
+pub const HEARTBEAT_TIMEOUT: u64 = 90000;
 
 /// Whether the last sign is too long ago.
 fn is_silent(row: &ServerRow, now: u64) -> bool

@@ -4,6 +4,7 @@ ghost use Rattle.std.specs.List.{AllByRecursion};
 ghost use Rattle.sched_core.specs.Log.{Core, logged};
 ghost use Rattle.sched_core.specs.Standing.{address_of};
 ghost use Rattle.sched_core.specs.Reservation.{bookings, unspent};
+ghost use Rattle.sched_core.specs.Job.{open_jobs};
 ghost use Rattle.sched_core.specs.Rule.{rule, says_new_entry, counts_of, is_among, begins};
 ghost use Rattle.sched_core.specs.Rows.{servers_of, jobs_of, held_by_id, held_part};
 ghost use Rattle.sched_core.specs.Answers.{Leaves, IsPicked, RefusesReserve, committed_by, undo_answer, updated_by};
@@ -98,6 +99,13 @@ impl<A: JobAuthorizer> SchedState<A> {
         ensures made { result ≡ length (bookings self.now.log) }
     {
         self.books.made()
+    }
+
+    /// How many jobs are open. It takes no memory, and does not go through the log.
+    pub fn open_count(&self) -> usize
+        ensures open_count { result ≡ length (open_jobs self.now.log) }
+    {
+        self.books.open_count()
     }
 
     /// The log, oldest entry first: each entry is the core rule's over those before it, so all laws of
