@@ -9,10 +9,9 @@ ghost use Rattle.sched_core.specs.Rule.{noted_over, reserved_at, beat_over, coun
 ghost use Rattle.sched_core.specs.Books.{MayRegister, MayReserve, IsOfUnspent, no_lists, lists_next};
 
 use crate::entry::{CoreEntry, Reserved};
-use crate::held;
 use crate::rows::{Jobs, OpenRow, ServerRow, Servers};
 use crate::vectors::{Vectors, absorb};
-use crate::{rules, standing};
+use crate::{held, rules, standing};
 use dist_types::ids::{JobId, ServerId, ServerNonce};
 use dist_types::results::SchedulerStatusResult;
 use std::alloc::{AllocError, Global};
@@ -31,9 +30,9 @@ impl Model for Books {
     ghost Value = { Kept };
 
     ghost view = { λ b. record {
-        lists = lists_of b.vectors;
-        has_row_room = has_row_room b.vectors;
-        has_job_room = has_job_room b.vectors;
+      lists = lists_of b.vectors;
+      has_row_room = has_row_room b.vectors;
+      has_job_room = has_job_room b.vectors;
     } };
 
     ghost invariant = { λ b. HasOpenRoom b.vectors };

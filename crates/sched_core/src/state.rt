@@ -103,7 +103,7 @@ impl<A: JobAuthorizer> SchedState<A> {
 
     /// How many jobs are open. It takes no memory, and does not go through the log.
     pub fn open_count(&self) -> usize
-        ensures open_count { result ≡ length (open_jobs self.now.log) }
+        ensures { result ≡ length (open_jobs self.now.log) }
     {
         self.books.open_count()
     }
