@@ -1,16 +1,18 @@
 -- One place of the rows changes.
-use Rattle.std.proofs.Common.{◌≡◌, ℕ, ◌+◌, ◌<◌, ◌≤◌, List, [], ◌∷◌, ◌++◌, Bool, true, false, cond, not, map, filter, length, Option, Some, None, refl, ap, ◌∙◌, sym, subst, arith, eq-eqb, eqb-true, get_or, set, take, drop}
-use Rattle.std.specs.Prelude.{◌==◌, ◌≢◌, find, if◌then◌else◌, replicate}
+use Rattle.std.proofs.lemmas.Bool.{cases_lt, false≢true}
+use Rattle.std.proofs.Common.{◌≡◌, ◌⊎◌, inl, inr, ℕ, zero, suc, ◌+◌, ◌<◌, ◌≤◌, List, [], ◌∷◌, ◌++◌, Bool, true, false, cond, not, map, filter, length, Option, Some, None, refl, ap, ◌∙◌, sym, subst, arith, eq-eqb, eqb-true, get_or, set, take, drop}
+use Rattle.std.specs.Prelude.{◌==◌, find, if◌then◌else◌}
 use Rattle.std.specs.List.{AllByRecursion}
-use Rattle.numbered_slots.specs.Slots.{rows_in, AreRising, top, AreNumbered, IsNowhere, IsAt}
-
-true_not_false : (b : Bool) → b ≡ true → b ≡ false → ⊥
-true_not_false true t f = absurd cc
-true_not_false false t f = absurd cc
+use Rattle.std.specs.Prelude.{MatchOption, IsSome}
+use Rattle.numbered_slots.specs.Slots.{rows_in, AreRising, top, AreNumbered, IsNowhere, IsAt, IsPlaceOf}
 
 -- a test on numbers that differ
 apart : (m n : ℕ) → (m ≡ n → ⊥) → (m == n) ≡ false
-apart m n no = elim (m == n) with e as (λ b. b ≡ false) [ true ↦ absurd (no (eqb-true m n e)) | false ↦ refl ]
+apart m n differ = split (m == n) refl
+  where
+    split : (b : Bool) → (m == n) ≡ b → b ≡ false
+    split true e = absurd (differ (eqb-true m n e))
+    split false e = refl
 
 same : (m n : ℕ) → m ≡ n → (m == n) ≡ true
 same m n e = eq-eqb m n e
@@ -55,10 +57,10 @@ found_at number n (m ∷ ns) (Some row ∷ places) (suc i) rising are lt is =
 
 -- a number that no place has is no row's
 pub not_found : {T : Type 0} (number : T → ℕ) (n : ℕ) (ns : List ℕ) (places : List (Option T)) → AreNumbered number ns places → IsNowhere ns n → find (λ r. number r == n) (rows_in places) ≡ None
-not_found number n [] places are no = rw (none_there places are) refl
-not_found number n (m ∷ ns) [] are no = absurd are
-not_found number n (m ∷ ns) (None ∷ places) are no = not_found number n ns places are (λ i lt. no (suc i) (omega (arith, lt)))
-not_found number n (m ∷ ns) (Some row ∷ places) are no = rw (apart (number row) n (λ e. no zero (omega arith) (sym are.0 ∙ e))) (not_found number n ns places are.1 (λ i lt. no (suc i) (omega (arith, lt))))
+not_found number n [] places are nowhere = rw (none_there places are) refl
+not_found number n (m ∷ ns) [] are nowhere = absurd are
+not_found number n (m ∷ ns) (None ∷ places) are nowhere = not_found number n ns places are (λ i lt. nowhere (suc i) (omega (arith, lt)))
+not_found number n (m ∷ ns) (Some row ∷ places) are nowhere = rw (apart (number row) n (λ e. nowhere zero (omega arith) (sym are.0 ∙ e))) (not_found number n ns places are.1 (λ i lt. nowhere (suc i) (omega (arith, lt))))
 
 others : {T : Type 0} (number : T → ℕ) (n : ℕ) (new : T) (rows : List T) → AllByRecursion (λ r. n < number r) rows → map (λ r. if number r == n then new else r) rows ≡ rows
 others number n new [] all = refl
@@ -182,3 +184,61 @@ among number (m ∷ ns) (None ∷ places) zero row are there = let no : None ≡
 among number (m ∷ ns) (Some r ∷ places) zero row are there = let e : Some r ≡ Some row = there in let same_row : r ≡ row = cc in (omega arith, sym are.0 ∙ ap number same_row)
 among number (m ∷ ns) (None ∷ places) (suc i) row are there = let rest = among number ns places i row are there in (omega (arith, rest.0), rest.1)
 among number (m ∷ ns) (Some r ∷ places) (suc i) row are there = let rest = among number ns places i row are.1 there in (omega (arith, rest.0), rest.1)
+
+not_only : {T : Type 0} (number : T → ℕ) (n : ℕ) (row : T) (rows : List T) → AllByRecursion (λ r. n < number r) rows → AllByRecursion (λ r. (number r == n) ≡ true → r ≡ row) rows
+not_only number n row [] all = tt
+not_only number n row (r ∷ rows) all = let lt : n < number r = all.0 in ((λ t. absurd (differ lt (eqb-true (number r) n t))), not_only number n row rows all.1)
+  where
+    differ : n < number r → number r ≡ n → ⊥
+    differ lt e = omega (arith, lt, e)
+
+-- no other row has the number of a place's row
+pub only_at : {T : Type 0} (number : T → ℕ) (n : ℕ) (ns : List ℕ) (places : List (Option T)) (i : ℕ) (row : T) → AreRising ns → AreNumbered number ns places → i < length ns → get_or ns i 0 ≡ n → get_or places i None ≡ Some row →
+    AllByRecursion (λ r. (number r == n) ≡ true → r ≡ row) (rows_in places)
+only_at number n [] places i row rising are lt is there = absurd (omega (arith, lt))
+only_at number n (m ∷ ns) [] i row rising are lt is there = absurd are
+only_at number n (m ∷ ns) (None ∷ places) zero row rising are lt is there = let none : None ≡ Some row = there in absurd cc
+only_at number n (m ∷ ns) (Some r ∷ places) zero row rising are lt is there =
+    let here : Some r ≡ Some row = there in
+    let same_row : r ≡ row = cc in
+    ((λ t. same_row), not_only number n row (rows_in places) (above number n ns places are.1 (subst (λ k. AllByRecursion (λ j. k < j) ns) is rising.0)))
+only_at number n (m ∷ ns) (None ∷ places) (suc i) row rising are lt is there = only_at number n ns places i row rising.1 are (omega (arith, lt)) is there
+only_at number n (m ∷ ns) (Some r ∷ places) (suc i) row rising are lt is there =
+    let less : m < get_or ns i 0 = at_above m ns i rising.0 (omega (arith, lt)) in
+    let own : number r ≡ m = are.0 in
+    ((λ t. let e : number r ≡ n = eqb-true (number r) n t in absurd (omega (arith, e, own, less, is))), only_at number n ns places i row rising.1 are.1 (omega (arith, lt)) is there)
+
+-- what is found by halving, and what stands there
+pub place_is : {T : Type 0} (number : T → ℕ) (n : ℕ) (ns : List ℕ) (places : List (Option T)) (place : ℕ) (o : Option T) (r : Option ℕ) → AreRising ns → AreNumbered number ns places → IsAt ns n place → o ≡ get_or places place None →
+    MatchOption r (o ≡ None) (λ p. (p ≡ place) × IsSome o) → MatchOption r (find (λ r. number r == n) (rows_in places) ≡ None) (IsPlaceOf number places n)
+place_is number n ns places place o None rising are at is none = found_at number n ns places place rising are at.0 at.1 ∙ sym is ∙ none
+place_is number n ns places place None (Some p) rising are at is some = absurd (false≢true some.1)
+place_is number n ns places place (Some row) (Some p) rising are at is some = subst (IsPlaceOf number places n) (sym some.0) (record {
+  row = row;
+  within = let le = within number ns places are in let lt = at.0 in omega (arith, le, lt);
+  is = sym is;
+  found = found_at number n ns places place rising are at.0 at.1 ∙ sym is;
+  numbered = sym (among number ns places place row are (sym is)).1 ∙ at.1;
+  only = only_at number n ns places place row rising are at.0 at.1 (sym is);
+})
+
+-- what stands in a place
+pub row_is : {T : Type 0} (number : T → ℕ) (ns : List ℕ) (places : List (Option T)) (place : ℕ) (o : Option T) → AreRising ns → AreNumbered number ns places → o ≡ get_or places place None → MatchOption o (Unit {0}) (λ row. IsPlaceOf number places (number row) place)
+row_is number ns places place None rising are is = tt
+row_is number ns places place (Some row) rising are is =
+    let at = among number ns places place row are (sym is) in record {
+      row = row;
+      within = let le = within number ns places are in let lt = at.0 in omega (arith, le, lt);
+      is = sym is;
+      found = found_at number (number row) ns places place rising are at.0 at.1 ∙ sym is;
+      numbered = refl;
+      only = only_at number (number row) ns places place row rising are at.0 at.1 (sym is);
+    }
+
+-- a number between those below it and those above it is none of them
+pub between_none : (ns : List ℕ) (n at i : ℕ) → ((k : ℕ) → k < at → get_or ns k 0 < n) → ((k : ℕ) → at ≤ k → k < length ns → n < get_or ns k 0) → i < length ns → get_or ns i 0 ≡ n → ⊥
+between_none ns n at i low high lt is = split (cases_lt i at)
+  where
+    split : (i < at) ⊎ (at ≤ i) → ⊥
+    split (inl below) = let less = low i below in omega (arith, less, is)
+    split (inr above) = let more = high i above lt in omega (arith, more, is)

@@ -1,5 +1,5 @@
 -- Rows in places, by rising numbers.
-use Rattle.std.specs.Prelude.{◌≡◌, ◌≢◌, ◌<◌, ◌≤◌, ◌+◌, ◌==◌, ℕ, List, [], ◌∷◌, length, Option, Some, None, find, slice_index_or}
+use Rattle.std.specs.Prelude.{true, ◌≡◌, ◌≢◌, ◌<◌, ◌≤◌, ◌+◌, ◌==◌, ℕ, List, [], ◌∷◌, length, Option, Some, None, find, slice_index_or}
 use Rattle.std.specs.List.{AllByRecursion}
 
 -- What contracts see: the places, each with a row or none, and the numbers of the rows that were pushed into the first of them.
@@ -45,10 +45,11 @@ IsNowhere numbers number = (i : ℕ) → i < length numbers → slice_index_or n
 abbrev pub IsAt : List ℕ → ℕ → ℕ → Type 0
 IsAt numbers number place = (place < length numbers) × (slice_index_or numbers place 0 ≡ number)
 
--- The place has the row of that number, which is the only one.
+-- The place has the row of that number, which is the only one of it.
 pub record IsPlaceOf {T : Type 0} (number : T → ℕ) (places : List (Option T)) (wanted place : ℕ) : Type 0 where
   pub row : T
   pub within : place < length places
   pub is : slice_index_or places place None ≡ Some row
   pub found : find (λ r. number r == wanted) (rows_in places) ≡ Some row
   pub numbered : number row ≡ wanted
+  pub only : AllByRecursion (λ r. (number r == wanted) ≡ true → r ≡ row) (rows_in places)

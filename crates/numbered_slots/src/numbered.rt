@@ -2,7 +2,7 @@
 ghost use Rattle.std.specs.Prelude.{◌≡◌, ℕ};
 
 /// A row that has a number.
-pub trait Numbered: Copy + Drop {
+pub trait Numbered: Copy {
     // The number.
     ghost number_of: { Self → ℕ };
 

@@ -1,5 +1,5 @@
 //! `Slots`: rows by place and by number.
-ghost use Rattle.std.specs.Prelude.{◌≡◌, ◌≤◌, ◌<◌, ◌+◌, ◌==◌, [], ◌∷◌, ◌++◌, None, Some, IfOk, IsSome, MatchOption, length, map, filter, find, not, replicate, if◌then◌else◌, nat_lt, slice_index_or, slice_set};
+ghost use Rattle.std.specs.Prelude.{◌≡◌, ◌≤◌, ◌<◌, ◌+◌, ◌==◌, [], ◌∷◌, ◌++◌, None, Some, IfOk, IsSome, MatchOption, length, map, filter, find, not, replicate, if◌then◌else◌, nat_lt, slice_index_or, slice_set, vec_len, vec_capacity};
 ghost use Rattle.numbered_slots.specs.Slots.{rows_in, top, IsPlaceOf, AreRising, IsNowhere, IsAt};
 
 use crate::numbered::Numbered;
@@ -36,6 +36,33 @@ fn place_in(numbers: &[u64], number: u64) -> Option<usize>
     }
 }
 
+/// The row in a place, if there is one.
+fn read_at<T: Copy>(rows: &[Option<T>], place: usize) -> Option<T>
+    requires { place < length rows.now }
+    ensures { result ≡ slice_index_or rows.now place None }
+{
+    rows[place]
+}
+
+/// Puts a row, or none, into a place.
+fn write_at<T: Copy>(rows: &mut Vec<Option<T>>, place: usize, row: Option<T>)
+    requires { place < vec_len rows.old }
+    ensures items { rows.new.items ≡ slice_set rows.old.items place row }
+    ensures len { vec_len rows.new ≡ vec_len rows.old }
+{
+    rows[place] = row;
+}
+
+/// The place, where it has a row.
+fn if_full<T: Copy>(place: usize, row: Option<T>) -> Option<usize>
+    ensures { MatchOption result (row ≡ None) (λ p. (p ≡ place) × IsSome row) }
+{
+    match row {
+        Some(_) => Some(place),
+        None => None,
+    }
+}
+
 impl<T: Numbered> Slots<T> {
     /// No row, in no place. It takes no memory.
     pub fn new(alloc: Global) -> Self
@@ -64,6 +91,14 @@ impl<T: Numbered> Slots<T> {
         self.rows.len()
     }
 
+    /// How many places had a row: the next row goes behind them.
+    pub fn used(&self) -> usize
+        ensures used { result ≡ length self.now.numbers }
+        ensures within { result ≤ length self.now.places }
+    {
+        self.numbers.len()
+    }
+
     /// Whether a place is left behind all rows.
     pub fn has_room(&self) -> bool
         ensures { result ≡ nat_lt (length self.now.numbers) (length self.now.places) }
@@ -74,9 +109,11 @@ impl<T: Numbered> Slots<T> {
     /// The row in a place, if there is one.
     pub fn row(&self, place: usize) -> Option<T>
         requires { place < length self.now.places }
-        ensures { result ≡ slice_index_or self.now.places place None }
+        ensures row { result ≡ slice_index_or self.now.places place None }
+        ensures whole { MatchOption result (Unit {0})
+            (λ row. IsPlaceOf T.number_of self.now.places (T.number_of row) place) }
     {
-        self.rows[place]
+        read_at(&self.rows, place)
     }
 
     /// The places, each with a row or none.
@@ -92,11 +129,9 @@ impl<T: Numbered> Slots<T> {
             (find (λ r. T.number_of r == number) (rows_in self.now.places) ≡ None)
             (IsPlaceOf T.number_of self.now.places number) }
     {
-        let place = place_in(&self.numbers, number)?;
-        if self.rows[place].is_some() {
-            Some(place)
-        } else {
-            None
+        match place_in(&self.numbers, number) {
+            Some(place) => if_full(place, self.row(place)),
+            None => None,
         }
     }
 
@@ -108,7 +143,7 @@ impl<T: Numbered> Slots<T> {
             map (λ r. if T.number_of r == T.number_of row then row else r) (rows_in self.old.places) }
         ensures numbers { self.new.numbers ≡ self.old.numbers }
     {
-        self.rows[place] = Some(row);
+        write_at(&mut self.rows, place, Some(row));
     }
 
     /// Takes the row of that number out of its place.
@@ -118,7 +153,7 @@ impl<T: Numbered> Slots<T> {
         ensures rows { rows_in self.new.places ≡ filter (λ r. not (T.number_of r == number)) (rows_in self.old.places) }
         ensures numbers { self.new.numbers ≡ self.old.numbers }
     {
-        self.rows[place] = None;
+        write_at(&mut self.rows, place, None);
     }
 
     /// Adds a row whose number is above all that were pushed, behind all others. It takes no memory.
@@ -134,6 +169,6 @@ impl<T: Numbered> Slots<T> {
             Ok(()) => (),
             Err(_) => unreachable!(),
         }
-        self.rows[place] = Some(row);
+        write_at(&mut self.rows, place, Some(row));
     }
 }
