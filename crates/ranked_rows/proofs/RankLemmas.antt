@@ -128,3 +128,7 @@ pub unset : {K : Type 0} (keys : List (Option K)) (place : ℕ) (old new : Optio
 unset keys place None None is o n = sym (set-get_or keys place None) ∙ ap (set keys place) is
 unset keys place None (Some k) is o n = absurd cc
 unset keys place (Some k) new is o n = absurd cc
+
+-- as many early places as early numbers
+pub early_length : {T K : Type 0} (number : T → ℕ) (key : T → Option K) (before : K → K → Bool) (bound : K) (places : List (Option T)) → length (early_slots before bound 0 (map (key_in key) places)) ≡ length (early_numbers number key before bound (rows_in places))
+early_length number key before bound places = sym (length-map (early_slots before bound 0 (map (key_in key) places)) (number_at number places)) ∙ ap length (early_are number key before bound places)

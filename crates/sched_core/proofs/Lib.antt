@@ -2,6 +2,7 @@ pub mod AddressLemmas
 pub mod AllLemmas
 pub mod BookLemmas
 pub mod CallLemmas
+pub mod ChangeLemmas
 pub mod EndLemmas
 pub mod FactLemmas
 pub mod FreeLemmas
