@@ -25,6 +25,7 @@ const NOW: u64 = 1000;
 const JOBS_EACH: u64 = 4;
 
 /// A job that runs.
+#[derive(Drop)]
 struct Running {
     job: JobId,
     server: ServerId,
@@ -80,24 +81,15 @@ fn start(state: &mut SchedState<ShortTokens>) -> Option<Running> {
 }
 
 // The jobs go through: each ends the one that was started before all that are open, and takes its room.
-fn go_through(
-    state: &mut SchedState<ShortTokens>,
-    open: &mut [Running],
-    jobs: u64,
-) -> Option<()> {
-    let mut left = jobs;
-    while left > 0 {
-        for place in open.iter_mut() {
-            if left == 0 {
-                return Some(());
-            }
-            report(state, place, JobState::Complete)?;
-            *place = start(state)?;
-            left -= 1;
-        }
-        if open.is_empty() {
-            return None;
-        }
+fn go_through(state: &mut SchedState<ShortTokens>, open: &mut [Running], jobs: u64) -> Option<()> {
+    let count = open.len() as u64;
+    if count == 0 {
+        return None;
+    }
+    for n in 0..jobs {
+        let place = open.get_mut((n % count) as usize)?;
+        report(state, place, JobState::Complete)?;
+        *place = start(state)?;
     }
     Some(())
 }

@@ -98,7 +98,7 @@ update_changes now server job state answer n rows = refl
 -- one registration more ends
 pub end_more : (ns : List ℕ) (n : ℕ) (rows : List ServerRow)
     → filter (λ r. not (names (ns ++ n ∷ []) r.reg)) rows
-        ≡ filter (λ r. not (n == r.reg)) (filter (λ r. not (names ns r.reg)) rows)
+    ≡ filter (λ r. not (n == r.reg)) (filter (λ r. not (names ns r.reg)) rows)
 end_more ns n rows = filter_each (λ r. not (names (ns ++ n ∷ []) r.reg)) (λ r. not (names ns r.reg) && not (n == r.reg)) each rows
     ∙ filter-filter (λ r. not (n == r.reg)) (λ r. not (names ns r.reg)) rows
   where

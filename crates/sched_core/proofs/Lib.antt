@@ -1,6 +1,7 @@
 pub mod AddressLemmas
 pub mod AllLemmas
 pub mod BookLemmas
+pub mod BookedLemmas
 pub mod CallLemmas
 pub mod ChangeLemmas
 pub mod EndLemmas

@@ -238,8 +238,7 @@ pub rising_only : (rows : List ServerRow) → AreRising (map (λ r. r.reg) rows)
     → AllByRecursion (λ x. AllByRecursion (λ y. y.reg ≡ x.reg → y ≡ x) rows) rows
 rising_only [] rising = tt
 rising_only (r ∷ rows) rising =
-    let apart = rising_apart r rows rising.0 in
-    (
+    let apart = rising_apart r rows rising.0 in (
       ((λ e. refl), apart.0),
       all-both (λ x. r.reg ≡ x.reg → r ≡ x) (λ x. AllByRecursion (λ y. y.reg ≡ x.reg → y ≡ x) rows)
           (λ x. AllByRecursion (λ y. y.reg ≡ x.reg → y ≡ x) (r ∷ rows)) (λ x own rest. (own, rest)) rows apart.1 (rising_only rows rising.1),
@@ -276,10 +275,10 @@ pub old_pick : (rows : List ServerRow) (row : ServerRow) → AreRising (map (λ 
     → AllByRecursion (λ r. has_room r ≡ true → IsFirst is_older row r) rows → pick rows ≡ Some row
 old_pick rows row rising listed room faulty first =
     ap (λ l. or_else (first_best is_lighter l) (first_best is_older (roomy rows)))
-        (none_pass is_faultless (roomy rows) (all-filter (λ r. has_room r ≡ true → is_faultless r ≡ true → ⊥) (λ r. is_faultless r ≡ true → ⊥) has_room (λ r h t. h t) rows faulty))
+    (none_pass is_faultless (roomy rows) (all-filter (λ r. has_room r ≡ true → is_faultless r ≡ true → ⊥) (λ r. is_faultless r ≡ true → ⊥) has_room (λ r h t. h t) rows faulty))
     ∙ first_only (λ r. Unit {0}) is_older older_through older_not (roomy rows) row (all_unit (roomy rows)) room_rising
-        (λ Q all. listed (λ r. has_room r ≡ true → Q r) (unfilter Q has_room rows all) room) (rising_only (roomy rows) room_rising)
-        (all-filter (λ r. has_room r ≡ true → IsFirst is_older row r) (IsFirst is_older row) has_room (λ r h t. h t) rows first)
+    (λ Q all. listed (λ r. has_room r ≡ true → Q r) (unfilter Q has_room rows all) room) (rising_only (roomy rows) room_rising)
+    (all-filter (λ r. has_room r ≡ true → IsFirst is_older row r) (IsFirst is_older row) has_room (λ r h t. h t) rows first)
   where
     room_rising : AreRising (map (λ r. r.reg) (roomy rows))
     room_rising = rising-filter (λ r. r.reg) has_room rows rising

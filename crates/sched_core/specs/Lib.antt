@@ -16,3 +16,4 @@ pub mod Calls
 pub mod Laws
 pub mod Books
 pub mod Texts
+pub mod Booked
