@@ -338,7 +338,7 @@ rows_positive : (log : List CoreEntry) → AllByRecursion (λ p. 1 ≤ p.1) (pai
 rows_positive log all = all-map HasCpus (row_of log) (standing log)
     (all-unmap (λ p. 1 ≤ p.1) view (standing log) all)
 
-rows_rising : (log : List CoreEntry) → AreRising (map (λ p. p.0) (pairs log))
+pub rows_rising : (log : List CoreEntry) → AreRising (map (λ p. p.0) (pairs log))
     → AreRising (map (λ r. r.reg) (servers_of log))
 rows_rising log rising =
     subst AreRising (map-map (λ p. p.0) view (standing log)
