@@ -33,7 +33,8 @@ impl Scheduler {
 
     /// Hands its configuration on; Ok where the listener ended by itself.
     pub fn start<N: Serve>(self, serve: &mut N) -> Result<(), Failed>
-        ensures ok { OnOk result (Recorded (scheduler_call self result) (N.calls serve.old) (N.calls serve.new)) }
+        ensures ok { OnOk result (Recorded (scheduler_call self result) (N.calls serve.old)
+            (N.calls serve.new)) }
         ensures failed { OnErr result
             (KeptOrRecorded (scheduler_call self result) (N.calls serve.old) (N.calls serve.new)) }
         ensures steady { OnOk result (N.faults serve.new ≡ N.faults serve.old) }
@@ -68,7 +69,8 @@ impl Server {
 
     /// Hands its configuration on; Ok where the listener ended by itself.
     pub fn start<N: Serve>(self, serve: &mut N) -> Result<(), Failed>
-        ensures ok { OnOk result (Recorded (server_call self result) (N.calls serve.old) (N.calls serve.new)) }
+        ensures ok { OnOk result
+            (Recorded (server_call self result) (N.calls serve.old) (N.calls serve.new)) }
         ensures failed { OnErr result
             (KeptOrRecorded (server_call self result) (N.calls serve.old) (N.calls serve.new)) }
         ensures steady { OnOk result (N.faults serve.new ≡ N.faults serve.old) }

@@ -23,7 +23,8 @@ pub bytes_from_ascii : (bytes : List ℕ) → IsAscii bytes → IsBytes bytes
 bytes_from_ascii bytes h i = let low = h i in omega arith
 
 pub value_of-encoded : (text : List ℕ) → IsAscii text → value_of (encoded text) ≡ read text
-value_of-encoded text h = rw (bytes_of-encoded text (bytes_from_ascii text h)) (json_of-utf8 text (IsUtf8-from_ascii text h))
+value_of-encoded text h = rw (bytes_of-encoded text (bytes_from_ascii text h))
+    (json_of-utf8 text (IsUtf8-from_ascii text h))
 
 -- ---- a digest is bytes
 
@@ -49,7 +50,8 @@ word n (suc (suc (suc (suc i)))) = lit< tt
 digest : (h : List ℕ) (n : ℕ) → IsBytes (digest_bytes h n)
 unfolding digest_bytes
 digest h zero = λ i. lit< tt
-digest h (suc n) = append (digest_bytes h n) (to_be_bytes w32 (slice_index h n)) (digest h n) (word (slice_index h n))
+digest h (suc n) = append (digest_bytes h n) (to_be_bytes w32 (slice_index h n)) (digest h n)
+    (word (slice_index h n))
 
 pub hmac_bytes : (key text : List ℕ) → IsBytes (hmac_of key text)
 unfolding hmac_of sha256

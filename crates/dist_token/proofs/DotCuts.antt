@@ -1,5 +1,6 @@
 -- What cutting a text at its dots gives.
-use Rattle.std.proofs.Common.{◌≡◌, ℕ, ◌+◌, ◌<◌, List, [], ◌∷◌, ◌++◌, length, take, refl, ap, sym, ◌∙◌, ap₂, arith, append_assoc, length-append, Bool, Option, Some, None, Bor, ne_eqb, lit<}
+use Rattle.std.proofs.Common.{◌≡◌, ℕ, ◌+◌, ◌<◌, List, [], ◌∷◌, ◌++◌, length, take, refl, ap, sym, ◌∙◌, ap₂}
+use Rattle.std.proofs.Common.{arith, append_assoc, length-append, Bool, Option, Some, None, Bor, ne_eqb, lit<}
 use Rattle.std.specs.List.{slice_split}
 use Rattle.std.specs.Prelude.{◌==◌}
 use Rattle.std.proofs.lemmas.List.Splits.{slice_split_first, slice_split_none, length-slice_split}
@@ -24,7 +25,8 @@ cut_at_dot text None h =
 cut_at_dot text (Some x) h =
     let at = split_once_first 46 text (Some x) h (lit< tt) in
     record {
-      parts = slice_split_first is_dot text 0 at.0 ∙ ap₂ (λ a b. a ∷ slice_split is_dot b) (sym at.1) (sym at.2);
+      parts = slice_split_first is_dot text 0 at.0 ∙ ap₂ (λ a b. a ∷ slice_split is_dot b) (sym at.1)
+          (sym at.2);
       whole = (split_parts 46 text (Some x) h (lit< tt)).0;
     }
 
@@ -37,7 +39,10 @@ pub three_and_more : (h c m s : List ℕ) → three (h ∷ c ∷ m ∷ dot_parts
 unfolding dot_parts
 three_and_more h c m s = more h c m (dot_parts s) (omega (arith, length-slice_split is_dot s))
 
-pub take_signed : (h c m rest text : List ℕ) → text ≡ h ++ 46 ∷ rest → rest ≡ c ++ 46 ∷ m → take (length h + 1 + length c) text ≡ signed_text h c
+pub take_signed : (h c m rest text : List ℕ) → text ≡ h ++ 46 ∷ rest → rest ≡ c ++ 46 ∷ m
+    → take (length h + 1 + length c) text ≡ signed_text h c
 take_signed h c m rest text e f =
-    let whole : text ≡ signed_text h c ++ 46 ∷ m = e ∙ ap (λ r. h ++ 46 ∷ r) f ∙ sym (append_assoc h (46 ∷ c) (46 ∷ m)) in
-    ap (take (length h + 1 + length c)) whole ∙ take_at (signed_text h c) (46 ∷ m) (length h + 1 + length c) (omega (arith, length-append h (46 ∷ c)))
+    let whole : text ≡ signed_text h c ++ 46 ∷ m = e ∙ ap (λ r. h ++ 46 ∷ r) f
+    ∙ sym (append_assoc h (46 ∷ c) (46 ∷ m)) in
+    ap (take (length h + 1 + length c)) whole ∙ take_at (signed_text h c) (46 ∷ m) (length h + 1 + length c)
+    (omega (arith, length-append h (46 ∷ c)))

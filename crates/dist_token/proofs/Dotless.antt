@@ -1,5 +1,6 @@
 -- A text in base64url holds no dot.
-use Rattle.std.proofs.Common.{◌≡◌, ℕ, ◌+◌, ◌*◌, ◌/◌, ◌%◌, List, [], ◌∷◌, ◌++◌, Bool, true, false, not, refl, ap, append-nil, inl, inr}
+use Rattle.std.proofs.Common.{◌≡◌, ℕ, ◌+◌, ◌*◌, ◌/◌, ◌%◌, List, [], ◌∷◌, ◌++◌, Bool, true, false, not, refl}
+use Rattle.std.proofs.Common.{ap, append-nil, inl, inr}
 use Rattle.std.proofs.lemmas.Bool.{cases_lt}
 use Rattle.std.proofs.lemmas.List.{get_or_past}
 use Rattle.std.specs.Prelude.{◌==◌, slice_index}
@@ -37,7 +38,13 @@ unfolding encode_symbols
 free [] = tt
 free (a ∷ []) = (symbol (a / 4), (symbol (a % 4 * 16), tt))
 free (a ∷ b ∷ []) = (symbol (a / 4), (symbol (a % 4 * 16 + b / 16), (symbol (b % 16 * 4), tt)))
-free (a ∷ b ∷ c ∷ rest) = (symbol (a / 4), (symbol (a % 4 * 16 + b / 16), (symbol (b % 16 * 4 + c / 64), (symbol (c % 64), free rest))))
+free (a ∷ b ∷ c ∷ rest) = (
+  symbol (a / 4),
+  (
+    symbol (a % 4 * 16 + b / 16),
+    (symbol (b % 16 * 4 + c / 64), (symbol (c % 64), free rest)),
+  ),
+)
 
 no_dot : (bytes : List ℕ) → All IsNoDot (encoded bytes)
 unfolding encoded
@@ -47,6 +54,7 @@ pub parts_of_last : (bytes : List ℕ) → dot_parts (encoded bytes) ≡ encoded
 unfolding dot_parts
 parts_of_last bytes = slice_split_none is_dot (encoded bytes) (no_dot bytes)
 
-pub parts_of_more : (bytes rest : List ℕ) → dot_parts (encoded bytes ++ 46 ∷ rest) ≡ encoded bytes ∷ dot_parts rest
+pub parts_of_more : (bytes rest : List ℕ) → dot_parts (encoded bytes ++ 46 ∷ rest) ≡ encoded bytes ∷ dot_parts
+    rest
 unfolding dot_parts
 parts_of_more bytes rest = slice_split_at is_dot (encoded bytes) 46 rest (no_dot bytes) refl

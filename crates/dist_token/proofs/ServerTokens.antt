@@ -1,5 +1,7 @@
 -- The tokens that are made for servers are accepted.
-use Rattle.std.proofs.Common.{◌≡◌, ◌≢◌, ℕ, ◌+◌, ◌<◌, ◌==◌, ◌&&◌, not, nat_lt, List, [], ◌∷◌, ◌++◌, true, Some, Ok, codes, decimal, length, drop, refl, ap, ap₂, sym, ◌∙◌, arith, append_assoc, lit<, lit≤, ne_eqb, lt-ltb, length-append}
+use Rattle.std.proofs.Common.{◌≡◌, ◌≢◌, ℕ, ◌+◌, ◌<◌, ◌==◌, ◌&&◌, not, nat_lt, List, [], ◌∷◌, ◌++◌, true, Some}
+use Rattle.std.proofs.Common.{Ok, codes, decimal, length, drop, refl, ap, ap₂, sym, ◌∙◌, arith, append_assoc}
+use Rattle.std.proofs.Common.{lit<, lit≤, ne_eqb, lt-ltb, length-append}
 use Rattle.std.proofs.lemmas.Slice.Eq.{bytes_eq-Decides}
 use Rattle.std.specs.Fmt.{digits}
 use Rattle.std.specs.List.{position_or_len, list_all}
@@ -46,7 +48,8 @@ escape_plain [] h = refl
 escape_plain (b ∷ bs) h =
     let both = and_parts (is_addr_byte b) (list_all is_addr_byte bs) h in
     let p = plain b both.0 in
-    ap₂ (λ x y. x ++ y) (escape_byte_plain b p.no_quote p.no_slash (omega (arith, p.above))) (escape_plain bs both.1)
+    ap₂ (λ x y. x ++ y) (escape_byte_plain b p.no_quote p.no_slash (omega (arith, p.above)))
+    (escape_plain bs both.1)
 
 ascii_plain : (s : List ℕ) → list_all is_addr_byte s ≡ true → IsAscii s
 ascii_plain [] h = IsAscii-nil
@@ -59,37 +62,50 @@ abbrev start : List ℕ
 start = codes "{\"exp\":0,\"server_id\":\""
 
 abbrev server_json : List ℕ → json.Json
-server_json address = json.object (json.member (codes "exp") (json.number (decimal 0)) (json.member (codes "server_id") (json.string address) json.no_members))
+server_json address = json.object
+    (json.member (codes "exp") (json.number (decimal 0))
+    (json.member (codes "server_id") (json.string address) json.no_members))
 
 abbrev server_value : List ℕ → Data
-server_value address = object (member (codes "exp") (number (unsigned 0)) (member (codes "server_id") (string address) no_members))
+server_value address = object
+    (member (codes "exp") (number (unsigned 0)) (member (codes "server_id") (string address) no_members))
 
-server_print : (address : List ℕ) → escape address ≡ address → server_claims_text address ≡ print (json_tokens (server_json address))
+server_print : (address : List ℕ) → escape address ≡ address → server_claims_text address ≡ print
+    (json_tokens (server_json address))
 unfolding print_from escape_byte digits
 server_print address e =
     append_assoc start address (codes "\"}")
-    ∙ ap (λ s. start ++ s) (sym (append_assoc address (34 ∷ []) (125 ∷ [])) ∙ ap (λ s. (s ++ 34 ∷ []) ++ 125 ∷ []) (sym e))
+    ∙ ap (λ s. start ++ s) (sym (append_assoc address (34 ∷ []) (125 ∷ []))
+    ∙ ap (λ s. (s ++ 34 ∷ []) ++ 125 ∷ []) (sym e))
 
 server_means : (address : List ℕ) → of_json (server_json address) ≡ Some (server_value address)
 server_means address = rw (number_of-decimal 0 (lit< tt))
 
-read-server_claims_text : (address : List ℕ) → list_all is_addr_byte address ≡ true → read (server_claims_text address) ≡ Some (server_value address)
+read-server_claims_text : (address : List ℕ) → list_all is_addr_byte address ≡ true
+    → read (server_claims_text address) ≡ Some (server_value address)
 read-server_claims_text address h =
-    read_printed (server_json address) (server_value address) (server_claims_text address) (server_print address (escape_plain address h)) (IsNumber-decimal 0 (lit< tt), (tt, tt)) (lit≤ tt) (server_means address)
+    read_printed (server_json address) (server_value address) (server_claims_text address)
+    (server_print address (escape_plain address h)) (IsNumber-decimal 0 (lit< tt), (tt, tt)) (lit≤ tt)
+    (server_means address)
 
-claims_ascii : (address : List ℕ) → list_all is_addr_byte address ≡ true → IsAscii (server_claims_text address)
-claims_ascii address h = IsAscii-append (start ++ address) (codes "\"}") (IsAscii-append start address (ascii start refl) (ascii_plain address h)) (ascii (codes "\"}") refl)
+claims_ascii : (address : List ℕ) → list_all is_addr_byte address ≡ true
+    → IsAscii (server_claims_text address)
+claims_ascii address h = IsAscii-append (start ++ address) (codes "\"}")
+    (IsAscii-append start address (ascii start refl) (ascii_plain address h)) (ascii (codes "\"}") refl)
 
 -- a signed token that was made is accepted
-pub server_accepted : (key : List ℕ) (server : Addr) → IsAddr server → server_verdict key (token_text key (server_claims_text (addr_text server))) ≡ Ok server
+pub server_accepted : (key : List ℕ) (server : Addr) → IsAddr server
+    → server_verdict key (token_text key (server_claims_text (addr_text server))) ≡ Ok server
 server_accepted key server is =
     let address = addr_text server in
     let bytes = printed_addr_bytes server is in
-    rw (tested-token_text key (server_claims_text address) (server_value address) (claims_ascii address bytes) (read-server_claims_text address bytes)) (rw (printed_back server is))
+    rw (tested-token_text key (server_claims_text address) (server_value address) (claims_ascii address bytes)
+    (read-server_claims_text address bytes)) (rw (printed_back server is))
 
 -- ---- plain tokens
 
-first_space : (address shared : List ℕ) → list_all is_addr_byte address ≡ true → position_or_len is_space (address ++ 32 ∷ shared) ≡ length address
+first_space : (address shared : List ℕ) → list_all is_addr_byte address ≡ true
+    → position_or_len is_space (address ++ 32 ∷ shared) ≡ length address
 first_space [] shared h = refl
 first_space (b ∷ bs) shared h =
     let both = and_parts (is_addr_byte b) (list_all is_addr_byte bs) h in
@@ -102,9 +118,14 @@ past_space address shared =
     ∙ drop_at (address ++ 32 ∷ []) shared (length address + 1) (length-append address (32 ∷ []))
 
 -- a plain token that was made is accepted
-pub plain_accepted : (server : Addr) (shared : List ℕ) → IsAddr server → plain_server shared (plain_text (addr_text server) shared) ≡ Some server
+pub plain_accepted : (server : Addr) (shared : List ℕ) → IsAddr server
+    → plain_server shared (plain_text (addr_text server) shared) ≡ Some server
 plain_accepted server shared is =
     let address = addr_text server in
     let bytes = printed_addr_bytes server is in
-    let inside : length address < length (plain_text address shared) = omega (arith, length-append address (32 ∷ shared)) in
-    rw (first_space address shared bytes) (rw (lt-ltb _ _ inside) (rw (past_space address shared) (rw (take_at address (32 ∷ shared) (length address) refl) (rw ((bytes_eq-Decides shared shared).1 refl) (printed_back server is)))))
+    let inside : length address < length (plain_text address shared) =
+    omega (arith, length-append address (32 ∷ shared)) in
+    rw (first_space address shared bytes)
+    (rw (lt-ltb _ _ inside) (rw (past_space address shared)
+    (rw (take_at address (32 ∷ shared) (length address) refl)
+    (rw ((bytes_eq-Decides shared shared).1 refl) (printed_back server is)))))

@@ -1,5 +1,8 @@
--- The rule of forwarded tokens: a token is accepted where a peer that is asked with it answers with a success.
-use Rattle.std.specs.Prelude.{◌≡◌, ℕ, ◌*◌, ◌-◌, ◌⊎◌, min, nat_lt, nat_le, ◌&&◌, List, [], ◌∷◌, ◌++◌, codes, decimal, Bool, true, false, if◌then◌else◌, Option, Some, None, option_map, unwrap_or, Result, Ok, Err, ⊤}
+-- The rule of forwarded tokens: a token is accepted where a peer that is asked with it answers with a
+-- success.
+use Rattle.std.specs.Prelude.{◌≡◌, ℕ, ◌*◌, ◌-◌, ◌⊎◌, min, nat_lt, nat_le, ◌&&◌, List, [], ◌∷◌, ◌++◌, codes}
+use Rattle.std.specs.Prelude.{decimal, Bool, true, false, if◌then◌else◌, Option, Some, None, option_map}
+use Rattle.std.specs.Prelude.{unwrap_or, Result, Ok, Err, ⊤}
 use Rattle.std.specs.Option.{option_or}
 use Rattle.std.specs.Bool.{MatchBool}
 use Rattle.std.specs.Str.{bytes_eq}
@@ -49,7 +52,13 @@ forwarded url token = record {
 
 -- the row of one question
 abbrev pub question : Parts → List ℕ → Result (List ℕ) AskFault → Asked
-question url token answer = record { host = host_of url; port = port_of url; request = request_text (forwarded url token); answer = answer }
+question url token answer =
+    record {
+      host = host_of url;
+      port = port_of url;
+      request = request_text (forwarded url token);
+      answer = answer;
+    }
 
 -- ---- the answer
 
@@ -65,7 +74,8 @@ is_success code = nat_le 200 code && nat_le code 299
 
 -- the token's moment is this one now, and every other token's is as it was
 abbrev pub Moves : (List ℕ → Option ℕ) → (List ℕ → Option ℕ) → List ℕ → Option ℕ → Type 0
-Moves old new token moment = (other : List ℕ) → new other ≡ (if bytes_eq token other then moment else old other)
+Moves old new token moment = (other : List ℕ)
+    → new other ≡ (if bytes_eq token other then moment else old other)
 
 -- for how many milliseconds an accepted token is accepted again
 abbrev pub lasting_ms : ℕ → ℕ
@@ -101,7 +111,8 @@ pub record Stays (old new : Forwarding) : Type 0 where
 
 -- what the record gained shows the answer: exactly one row, or where memory ran out none, or one that says so
 abbrev pub Shows : Parts → List ℕ → Result ℕ TokenError → Option (List Asked) → Option (List Asked) → Type 0
-Shows url token (Ok code) old new = (reply : List ℕ) × Recorded (question url token (Ok reply)) old new × HasCode reply code
+Shows url token (Ok code) old new = (reply : List ℕ) × Recorded (question url token (Ok reply)) old new
+    × HasCode reply code
 Shows url token (Err LinkFault) old new = Recorded (question url token (Err Failed)) old new
 Shows url token (Err Memory) old new = KeptOrRecorded (question url token (Err AskedMemory)) old new
 Shows url token (Err other) old new = ⊥
@@ -125,10 +136,12 @@ Asks old now token (Err other) new = ⊥
 
 -- the answer that a check may give: a token that is kept and fresh is accepted, and the peer is asked
 -- about any other
-pub record MayAnswer (old : Forwarding) (now : ℕ) (token : List ℕ) (answer : Result ⊤ TokenError) (new : Forwarding) : Type 0 where
+pub record MayAnswer (old : Forwarding) (now : ℕ) (token : List ℕ) (answer : Result ⊤ TokenError)
+    (new : Forwarding) : Type 0 where
   pub url : new.url ≡ old.url
   pub cache_secs : new.cache_secs ≡ old.cache_secs
-  pub decided : MatchBool (is_fresh old.cache_secs now (old.moment_of token)) ((answer ≡ Ok tt) × Stays old new) (Asks old now token answer new)
+  pub decided : MatchBool (is_fresh old.cache_secs now (old.moment_of token))
+      ((answer ≡ Ok tt) × Stays old new) (Asks old now token answer new)
 
 -- what a client is shown
 abbrev pub forwarding_shown : List ℕ

@@ -1,5 +1,7 @@
 -- The tests that a token passes, in order.
-use Rattle.std.specs.Prelude.{ℕ, suc, ◌==◌, ◌&&◌, List, [], ◌∷◌, length, nat_lt, codes, Bool, false, if◌then◌else◌, Option, Some, None, ok_or, option_and_then, option_map, Result, Ok, Err, ⊤}
+use Rattle.std.specs.Prelude.{ℕ, suc, ◌==◌, ◌&&◌, List, [], ◌∷◌, length, nat_lt, codes, Bool, false}
+use Rattle.std.specs.Prelude.{if◌then◌else◌, Option, Some, None, ok_or, option_and_then, option_map, Result}
+use Rattle.std.specs.Prelude.{Ok, Err, ⊤}
 use Rattle.std.specs.List.{position_or_len, before_first, after_first}
 use Rattle.std.specs.Str.{is_utf8, bytes_eq}
 use Rattle.base64.specs.Engines.{url_safe_no_pad}

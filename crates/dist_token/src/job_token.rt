@@ -77,7 +77,8 @@ fn claims_for(alloc: Global, id: u64) -> Result<String, Memory>
 // The token for a job, under a key.
 fn job_token(alloc: Global, key: &[u8], id: u64) -> Result<String, Memory>
     ensures text { IfOk result (λ token. string_bytes token ≡ token_text key.now (job_claims_text id)) }
-    ensures accepted { OnOk result (job_verdict key.now id (token_text key.now (job_claims_text id)) ≡ Ok tt) }
+    ensures accepted { OnOk result
+        (job_verdict key.now id (token_text key.now (job_claims_text id)) ≡ Ok tt) }
 {
     let claims = claims_for(alloc, id)?;
     token_under(alloc, key, claims.as_bytes())

@@ -2,8 +2,10 @@
 ghost use Rattle.std.specs.Prelude.{◌≡◌, IfOk, OnOk, string_bytes};
 ghost use Rattle.http_head.specs.WrittenRequest.{request_text};
 ghost use Rattle.dist_types.specs.Cause.{Rose};
-ghost use Rattle.dist_types.specs.declared.token_error.TokenError.TheVariants.{LinkFault, Memory as OutOfMemory};
-ghost use Rattle.dist_token.specs.Forwarded.{target_of, forwarded, HasCode, is_success, is_fresh, Shows, host_of, port_of};
+ghost use Rattle.dist_types.specs.declared.token_error.TokenError.TheVariants.{LinkFault};
+ghost use Rattle.dist_types.specs.declared.token_error.TokenError.TheVariants.{Memory as OutOfMemory};
+ghost use Rattle.dist_token.specs.Forwarded.{target_of, forwarded, HasCode, is_success, is_fresh, Shows};
+ghost use Rattle.dist_token.specs.Forwarded.{host_of, port_of};
 
 use crate::checks::{ClientAuthCheck, ClientVisibleMsg};
 use crate::kept::{Kept, forget, keep, moment_of, none_kept};
@@ -161,7 +163,8 @@ impl<D: Dialer + Send> ClientAuthCheck for ProxyTokenCheck<D> {
     ghost use Rattle.dist_token.specs.Forwarded.{MayAnswer, forwarding_shown};
     ghost use Rattle.dist_token.specs.ProxyViews.{seen};
 
-    ghost may_answer = { λ old now token answer new. MayAnswer (seen D.asked D.faults old) now token answer (seen D.asked D.faults new) };
+    ghost may_answer = { λ old now token answer new. MayAnswer (seen D.asked D.faults old) now token answer
+        (seen D.asked D.faults new) };
 
     ghost shown = { λ check e. forwarding_shown };
 

@@ -107,8 +107,11 @@ pub fn create_jwt_server_token(
     server_id: ServerId,
     key: &[u8],
 ) -> Result<String, Memory>
-    ensures text { IfOk result (λ token. string_bytes token ≡ token_text key.now (server_claims_text (addr_text server_id))) }
-    ensures accepted { OnOk result (server_verdict key.now (token_text key.now (server_claims_text (addr_text server_id))) ≡ Ok server_id) }
+    ensures text { IfOk result
+        (λ token. string_bytes token ≡ token_text key.now (server_claims_text (addr_text server_id))) }
+    ensures accepted { OnOk result
+        (server_verdict key.now (token_text key.now (server_claims_text (addr_text server_id)))
+        ≡ Ok server_id) }
 {
     fits(server_id.addr());
     let claims = server_claims(alloc, server_id)?;
@@ -122,8 +125,10 @@ pub fn create_server_token(
     server_id: ServerId,
     auth_token: &str,
 ) -> Result<String, Memory>
-    ensures text { IfOk result (λ token. string_bytes token ≡ plain_text (addr_text server_id) auth_token.now) }
-    ensures accepted { OnOk result (plain_server auth_token.now (plain_text (addr_text server_id) auth_token.now) ≡ Some server_id) }
+    ensures text { IfOk result
+        (λ token. string_bytes token ≡ plain_text (addr_text server_id) auth_token.now) }
+    ensures accepted { OnOk result
+        (plain_server auth_token.now (plain_text (addr_text server_id) auth_token.now) ≡ Some server_id) }
 {
     fits(server_id.addr());
     let address = server_id.addr();

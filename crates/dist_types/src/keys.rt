@@ -1,7 +1,8 @@
 //! Values that are keys: `==`, the order and the hash of each are those of what it shows.
 ghost use Rattle.std.specs.Prelude.{◌≡◌, ◌↔◌, IsTrue, fold};
 ghost use Rattle.dist_types.specs.Addr.{same_addr};
-ghost use Rattle.dist_types.specs.Keys.{addr_order, addr_writes, same_ip, ip_order, ip_writes, text_order, text_writes, same_text, number_writes};
+ghost use Rattle.dist_types.specs.Keys.{addr_order, addr_writes, same_ip, ip_order, ip_writes, text_order};
+ghost use Rattle.dist_types.specs.Keys.{text_writes, same_text, number_writes};
 ghost use Rattle.std.specs.Ordering.{nat_cmp};
 
 use crate::addr::{Addr, Ip};

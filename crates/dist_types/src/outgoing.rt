@@ -3,7 +3,8 @@ ghost use Rattle.std.specs.Prelude.{◌≡◌, ◌≤◌, ◌≢◌, List, ℕ, 
 ghost use Rattle.dist_types.specs.Cause.{Rose};
 ghost use Rattle.dist_types.specs.Content.{Recorded, KeptOrRecorded};
 ghost use Rattle.dist_types.specs.declared.dialer.Asked.{Asked};
-ghost use Rattle.dist_types.specs.Outgoing.{Assigned, Updated, Lent, Peer, Calls, assigned_row, updated_row, nothing_lent};
+ghost use Rattle.dist_types.specs.Outgoing.{Assigned, Updated, Lent, Peer, Calls, assigned_row, updated_row};
+ghost use Rattle.dist_types.specs.Outgoing.{nothing_lent};
 
 use crate::fault::Memory;
 use crate::ids::{JobId, ServerId};

@@ -1,5 +1,6 @@
 //! What is written: the trait, the sink in memory, the one of the system, and writing all of a text.
-ghost use Rattle.std.specs.Prelude.{◌≡◌, ◌≤◌, ◌<◌, [], List, ℕ, length, take, IfOk, OnOk, OnErr, Option, Some, None};
+ghost use Rattle.std.specs.Prelude.{◌≡◌, ◌≤◌, ◌<◌, [], List, ℕ, length, take, IfOk, OnOk, OnErr, Option};
+ghost use Rattle.std.specs.Prelude.{Some, None};
 ghost use Rattle.dist_types.specs.Cause.{Rose};
 ghost use Rattle.dist_types.specs.Real.{std_sink_faults};
 ghost use Rattle.dist_types.specs.Content.{Added, Began};
@@ -69,7 +70,8 @@ impl MemSink {
 impl Sink for MemSink {
     ghost use Rattle.std.specs.Prelude.{◌+◌, ◌⊎◌, IsTrue, is_err, true};
     ghost use Rattle.dist_types.specs.Cause.{counted};
-    ghost use Rattle.dist_types.specs.InMemory.{is_listed, sink_held, sink_fails, sink_calls, sink_faults, sink_room};
+    ghost use Rattle.dist_types.specs.InMemory.{is_listed, sink_held, sink_fails, sink_calls, sink_faults};
+    ghost use Rattle.dist_types.specs.InMemory.{sink_room};
 
     ghost held = { λ s. Some s.bytes.items };
 

@@ -1,5 +1,6 @@
 //! What is read: the trait, the source in memory, the one of the system, and reading to a limit.
-ghost use Rattle.std.specs.Prelude.{◌≡◌, ◌≤◌, ◌<◌, ◌+◌, ◌≢◌, ◌⊎◌, List, ℕ, length, take, drop, IfOk, IfErr, IfSome, OnOk, OnErr, Option, Some, None, Err};
+ghost use Rattle.std.specs.Prelude.{◌≡◌, ◌≤◌, ◌<◌, ◌+◌, ◌≢◌, ◌⊎◌, List, ℕ, length, take, drop, IfOk, IfErr};
+ghost use Rattle.std.specs.Prelude.{IfSome, OnOk, OnErr, Option, Some, None, Err};
 ghost use Rattle.dist_types.specs.Cause.{Rose};
 ghost use Rattle.dist_types.specs.Real.{std_source_faults};
 ghost use Rattle.dist_types.specs.Content.{Taken, TookFront, IsAtEnd, left_behind};
@@ -66,7 +67,8 @@ impl MemSource {
 impl Source for MemSource {
     ghost use Rattle.std.specs.Prelude.{is_err, min};
     ghost use Rattle.dist_types.specs.Cause.{counted};
-    ghost use Rattle.dist_types.specs.InMemory.{is_listed, source_left, source_fails, source_calls, source_faults};
+    ghost use Rattle.dist_types.specs.InMemory.{is_listed, source_left, source_fails, source_calls};
+    ghost use Rattle.dist_types.specs.InMemory.{source_faults};
 
     ghost left = { λ s. Some (drop s.at s.bytes.items) };
 

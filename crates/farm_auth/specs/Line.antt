@@ -22,7 +22,8 @@ token_line key server = token_text key (server_claims_text (addr_text server)) +
 -- the line of a command, where its key is base64url
 abbrev pub auth_line : AuthSubcommand → Stream → Option (List ℕ)
 auth_line (Base64 n) stream = Some (random_line n stream)
-auth_line (JwtHS256ServerToken key server) stream = option_map (λ bytes. token_line bytes server) (bytes_of key)
+auth_line (JwtHS256ServerToken key server) stream = option_map (λ bytes. token_line bytes server)
+    (bytes_of key)
 
 -- what is left of the stream
 abbrev pub stream_left : AuthSubcommand → Stream → Stream

@@ -20,7 +20,8 @@ fn random_bytes<R: Rng>(
     random: &mut R,
     num_bytes: usize,
 ) -> Result<Vec<u8>, AllocError>
-    ensures { IfOk result (λ bytes. (bytes.items, R.stream random.new) ≡ fill_bytes num_bytes (R.stream random.old)) }
+    ensures { IfOk result (λ bytes. (bytes.items, R.stream random.new) ≡ fill_bytes num_bytes
+        (R.stream random.old)) }
 {
     let mut bytes = Vec::new(alloc);
     bytes.resize(num_bytes, 0)?;
@@ -69,8 +70,11 @@ fn token_under(alloc: Global, key: &[u8], server_id: ServerId) -> Result<String,
 
 /// The token of a server under a key in base64url, and a line end.
 fn token_line(alloc: Global, secret_key: &str, server_id: ServerId) -> Result<String, FarmFault>
-    ensures ok { IfOk result (λ line. option_map (λ key. token_line key server_id) (bytes_of secret_key.now) ≡ Some (string_bytes line)) }
-    ensures err { IfErr result (λ e. (e ≡ FarmFault.Memory) ⊎ ((bytes_of secret_key.now ≡ None) × IsLineFault e)) }
+    ensures ok { IfOk result
+        (λ line. option_map (λ key. token_line key server_id) (bytes_of secret_key.now) ≡ Some
+        (string_bytes line)) }
+    ensures err { IfErr result
+        (λ e. (e ≡ FarmFault.Memory) ⊎ ((bytes_of secret_key.now ≡ None) × IsLineFault e)) }
 {
     match bytes_of(alloc, secret_key) {
         Ok(Some(key)) => token_under(alloc, &key, server_id),

@@ -1,5 +1,6 @@
 -- The least unknown key is unknown, and no greater than any other.
-use Rattle.std.proofs.Common.{◌≡◌, ◌⊎◌, Ordering, inl, inr, ℕ, List, [], ◌∷◌, Bool, true, false, ◌||◌, if◌then◌else◌, Option, Some, None, refl, sym, ◌∙◌, ap, subst}
+use Rattle.std.proofs.Common.{◌≡◌, ◌⊎◌, Ordering, inl, inr, ℕ, List, [], ◌∷◌, Bool, true, false, ◌||◌}
+use Rattle.std.proofs.Common.{if◌then◌else◌, Option, Some, None, refl, sym, ◌∙◌, ap, subst}
 use Rattle.std.specs.Cmp.Lexicographic.{slice_cmp}
 use Rattle.std.specs.Ordering.{nat_cmp, is_gt, ordering_reverse}
 use Rattle.std.specs.declared.cmp.Ordering.TheVariants.{Less, Equal, Greater}
@@ -7,7 +8,8 @@ use Rattle.std.specs.Str.{bytes_eq}
 use Rattle.std.proofs.lemmas.Cmp.{upto, tied_itself, nat_list_cmp_total}
 use Rattle.std.proofs.lemmas.Slice.Eq.{bytes_eq-Decides}
 use Rattle.toml.specs.Data.{Data, Members, no_members, member}
-use Rattle.farm_config.specs.Unknown.{is_known, lesser, least_from, least_unknown, has_key, IsUnknown, IsLeast}
+use Rattle.farm_config.specs.Unknown.{is_known, lesser, least_from, least_unknown, has_key, IsUnknown}
+use Rattle.farm_config.specs.Unknown.{IsLeast}
 
 -- no greater, in byte order
 abbrev UpTo : List ℕ → List ℕ → Type 0
@@ -43,7 +45,8 @@ lesser_other key other = by (slice_cmp nat_cmp key other) refl
     by Equal e = ap is_gt e
     by Greater e = itself other
 
-lesser_is : (key : List ℕ) (least : Option (List ℕ)) → (lesser key least ≡ key) ⊎ (least ≡ Some (lesser key least))
+lesser_is : (key : List ℕ) (least : Option (List ℕ)) → (lesser key least ≡ key)
+    ⊎ (least ≡ Some (lesser key least))
 lesser_is key None = inl refl
 lesser_is key (Some other) = by (is_gt (slice_cmp nat_cmp key other))
   where
@@ -52,7 +55,8 @@ lesser_is key (Some other) = by (is_gt (slice_cmp nat_cmp key other))
     by false = inl refl
 
 -- unknown keys of a longer table
-is_later : (known : List (List ℕ)) (key : List ℕ) (value : Data) (rest : Members) (k : List ℕ) → IsUnknown known rest k
+is_later : (known : List (List ℕ)) (key : List ℕ) (value : Data) (rest : Members) (k : List ℕ)
+    → IsUnknown known rest k
     → IsUnknown known (member key value rest) k
 is_later known key value rest k u = (by (bytes_eq k key), u.1)
   where
@@ -83,9 +87,15 @@ none_here known k u = cc (u.0)
 
 at_end : (known : List (List ℕ)) (least : Option (List ℕ)) → LeastOf known least no_members least
 at_end known None = (refl, none_here known)
-at_end known (Some l) = (inl refl, λ s e. subst (UpTo l) (cc e) (itself l), λ k u. absurd (none_here known k u))
+at_end known (Some l) = (
+  inl refl,
+  λ s e. subst (UpTo l) (cc e) (itself l),
+  λ k u.
+      absurd (none_here known k u),
+)
 
-behind_known : (known : List (List ℕ)) (least : Option (List ℕ)) (key : List ℕ) (value : Data) (rest : Members)
+behind_known : (known : List (List ℕ)) (least : Option (List ℕ)) (key : List ℕ) (value : Data)
+    (rest : Members)
     (r : Option (List ℕ)) → is_known known key ≡ true → LeastOf known least rest r
     → LeastOf known least (member key value rest) r
 behind_known known least key value rest None e f = (f.0, λ k u. by k u (is_either known key value rest k u))
@@ -96,15 +106,18 @@ behind_known known least key value rest None e f = (f.0, λ k u. by k u (is_eith
 behind_known known least key value rest (Some l) e f =
     (from (f.0), f.1, λ k u. by k u (is_either known key value rest k u))
   where
-    from : (least ≡ Some l) ⊎ IsUnknown known rest l → (least ≡ Some l) ⊎ IsUnknown known (member key value rest) l
+    from : (least ≡ Some l) ⊎ IsUnknown known rest l → (least ≡ Some l)
+        ⊎ IsUnknown known (member key value rest) l
     from (inl same) = inl same
     from (inr u) = inr (is_later known key value rest l u)
 
-    by : (k : List ℕ) → IsUnknown known (member key value rest) k → (k ≡ key) ⊎ IsUnknown known rest k → UpTo l k
+    by : (k : List ℕ) → IsUnknown known (member key value rest) k → (k ≡ key) ⊎ IsUnknown known rest k
+        → UpTo l k
     by k u (inl same) = absurd (cc (subst (λ w. is_known known w ≡ false) same (u.1), e))
     by k u (inr w) = f.2 k w
 
-behind_unknown : (known : List (List ℕ)) (least : Option (List ℕ)) (key : List ℕ) (value : Data) (rest : Members)
+behind_unknown : (known : List (List ℕ)) (least : Option (List ℕ)) (key : List ℕ) (value : Data)
+    (rest : Members)
     (r : Option (List ℕ)) → is_known known key ≡ false → LeastOf known (Some (lesser key least)) rest r
     → LeastOf known least (member key value rest) r
 behind_unknown known least key value rest None e f = absurd (cc (f.0))
@@ -130,7 +143,8 @@ behind_unknown known least key value rest (Some l) e f =
         (subst (λ w. UpTo (lesser key w) s) (sym is) (lesser_other key s))
 
     by : (k : List ℕ) → (k ≡ key) ⊎ IsUnknown known rest k → UpTo l k
-    by k (inl same) = subst (UpTo l) (sym same) (through l (lesser key least) key to_lesser (lesser_key key least))
+    by k (inl same) = subst (UpTo l) (sym same)
+        (through l (lesser key least) key to_lesser (lesser_key key least))
     by k (inr w) = f.2 k w
 
 least_of : (known : List (List ℕ)) (least : Option (List ℕ)) (table : Members)
@@ -141,7 +155,8 @@ least_of known least (member key value rest) =
   where
     by : (b : Bool) → is_known known key ≡ b → LeastOf known least rest (least_from known least rest)
         → LeastOf known (Some (lesser key least)) rest (least_from known (Some (lesser key least)) rest)
-        → LeastOf known least (member key value rest) (least_from known (if b then least else Some (lesser key least)) rest)
+        → LeastOf known least (member key value rest)
+        (least_from known (if b then least else Some (lesser key least)) rest)
     by true e f g = behind_known known least key value rest _ e f
     by false e f g = behind_unknown known least key value rest _ e g
 

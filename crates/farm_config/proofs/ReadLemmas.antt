@@ -1,5 +1,6 @@
 -- What is read from the bytes of a file is what the file says.
-use Rattle.std.proofs.Common.{◌≡◌, ℕ, List, [], Option, Some, None, IfSome, Result, Ok, Err, ok_or, refl, sym, ap, subst, ◌∙◌}
+use Rattle.std.proofs.Common.{◌≡◌, ℕ, List, [], Option, Some, None, IfSome, Result, Ok, Err, ok_or, refl, sym}
+use Rattle.std.proofs.Common.{ap, subst, ◌∙◌}
 use Rattle.farm_script.specs.declared.fault.ConfigCause.{ConfigCause}
 use Rattle.farm_script.specs.declared.fault.ConfigCause.TheVariants.{Missing, Unreadable, NotToml, Key}
 use Rattle.farm_config.specs.declared.cause.ConfigFault.{ConfigFault}
@@ -10,40 +11,54 @@ use Rattle.farm_config.specs.Told.{Gives}
 use Rattle.farm_config.specs.Reading.{of_file, says, of_bytes, IsFileFault, IsRead}
 
 -- what a file's bytes are told to be, so its bytes in the files
-bytes_there : (found : Option (List ℕ)) (bytes : List ℕ) → of_file of_bytes found ≡ Ok bytes → found ≡ Some bytes
+bytes_there : (found : Option (List ℕ)) (bytes : List ℕ) → of_file of_bytes found ≡ Ok bytes
+    → found ≡ Some bytes
 bytes_there None bytes e = absurd cc
 bytes_there (Some other) bytes e = cc
 
-there : {A : Type 0} (reads : List ℕ → Result A ConfigCause) (bytes name : List ℕ) (files : Option (List NamedFile)) (verdict : Result A ConfigCause)
-    → IfSome files (λ told. says of_bytes name told ≡ Ok bytes) → reads bytes ≡ verdict → IfSome files (λ told. says reads name told ≡ verdict)
+there : {A : Type 0} (reads : List ℕ → Result A ConfigCause) (bytes name : List ℕ)
+    (files : Option (List NamedFile)) (verdict : Result A ConfigCause)
+    → IfSome files (λ told. says of_bytes name told ≡ Ok bytes) → reads bytes ≡ verdict
+    → IfSome files (λ told. says reads name told ≡ verdict)
 there reads bytes name None verdict found e = tt
-there reads bytes name (Some told) verdict found e = ap (of_file reads) (bytes_there (file_at name told) bytes found) ∙ e
+there reads bytes name (Some told) verdict found e =
+    ap (of_file reads) (bytes_there (file_at name told) bytes found) ∙ e
 
-no_bytes : (found : Option (List ℕ)) (c : ConfigCause) → of_file of_bytes found ≡ Err c → (c ≡ Missing) × (found ≡ None)
+no_bytes : (found : Option (List ℕ)) (c : ConfigCause) → of_file of_bytes found ≡ Err c → (c ≡ Missing)
+    × (found ≡ None)
 no_bytes None c e = (cc, refl)
 no_bytes (Some bytes) c e = absurd cc
 
-fault_there : {A : Type 0} (reads : List ℕ → Result A ConfigCause) (c : ConfigCause) (name : List ℕ) (files : Option (List NamedFile))
-    → IfSome files (λ told. says of_bytes name told ≡ Err c) → IfSome files (λ told. says reads name told ≡ Err c)
+fault_there : {A : Type 0} (reads : List ℕ → Result A ConfigCause) (c : ConfigCause) (name : List ℕ)
+    (files : Option (List NamedFile))
+    → IfSome files (λ told. says of_bytes name told ≡ Err c)
+    → IfSome files (λ told. says reads name told ≡ Err c)
 fault_there reads c name None h = tt
 fault_there reads c name (Some told) h =
     let n = no_bytes (file_at name told) c h in
     ap (of_file reads) n.1 ∙ ap (λ (d : ConfigCause). Err d) (sym n.0)
 
 -- what was read of bytes that are a file's
-pub read_from : {A : Type 0} (reads : List ℕ → Result A ConfigCause) (answer : Result A ConfigFault) (bytes name : List ℕ) (files : Option (List NamedFile)) (before after : ℕ)
-    → (after ≡ before) × IfSome files (λ told. says of_bytes name told ≡ Ok bytes) → Gives (λ x. x) (reads bytes) answer
+pub read_from : {A : Type 0} (reads : List ℕ → Result A ConfigCause) (answer : Result A ConfigFault)
+    (bytes name : List ℕ) (files : Option (List NamedFile)) (before after : ℕ)
+    → (after ≡ before) × IfSome files (λ told. says of_bytes name told ≡ Ok bytes)
+    → Gives (λ x. x) (reads bytes) answer
     → IsRead (λ x. x) answer (says reads name) files before after
-read_from reads (Ok x) bytes name files before after found gives = (found.0, there reads bytes name files _ found.1 gives)
+read_from reads (Ok x) bytes name files before after found gives =
+    (found.0, there reads bytes name files _ found.1 gives)
 read_from reads (Err Memory) bytes name files before after found gives = found.0
 read_from reads (Err (Cause Missing)) bytes name files before after found gives = absurd gives.1
 read_from reads (Err (Cause Unreadable)) bytes name files before after found gives = absurd gives.1
-read_from reads (Err (Cause NotToml)) bytes name files before after found gives = (found.0, there reads bytes name files _ found.1 gives.0)
-read_from reads (Err (Cause (Key key))) bytes name files before after found gives = (found.0, there reads bytes name files _ found.1 gives.0)
+read_from reads (Err (Cause NotToml)) bytes name files before after found gives =
+    (found.0, there reads bytes name files _ found.1 gives.0)
+read_from reads (Err (Cause (Key key))) bytes name files before after found gives =
+    (found.0, there reads bytes name files _ found.1 gives.0)
 
 -- why the bytes were not read is why nothing was
-pub unread : {A : Type 0} (reads : List ℕ → Result A ConfigCause) (fault : ConfigFault) (name : List ℕ) (files : Option (List NamedFile)) (before after : ℕ)
-    → IsFileFault fault (says of_bytes name) files before after → IsFileFault fault (says reads name) files before after
+pub unread : {A : Type 0} (reads : List ℕ → Result A ConfigCause) (fault : ConfigFault) (name : List ℕ)
+    (files : Option (List NamedFile)) (before after : ℕ)
+    → IsFileFault fault (says of_bytes name) files before after
+    → IsFileFault fault (says reads name) files before after
 unread reads Memory name files before after h = h
 unread reads (Cause Unreadable) name files before after h = h
 unread reads (Cause Missing) name files before after h = (h.0, fault_there reads Missing name files h.1)

@@ -1,5 +1,6 @@
 -- One key more of a table, and a test of what stands behind references.
-use Rattle.std.proofs.Common.{◌≡◌, ℕ, List, [], ◌∷◌, Bool, true, false, Option, Some, map, string_bytes, Bor, refl, ap, ◌||◌}
+use Rattle.std.proofs.Common.{◌≡◌, ℕ, List, [], ◌∷◌, Bool, true, false, Option, Some, map, string_bytes, Bor}
+use Rattle.std.proofs.Common.{refl, ap, ◌||◌}
 use Rattle.std.specs.List.{list_any}
 use Rattle.std.specs.Str.{bytes_eq}
 use Rattle.toml.specs.View.{members_view}
@@ -7,12 +8,14 @@ use Rattle.toml.proofs.Views.{Entry}
 use Rattle.farm_config.specs.Unknown.{lesser, least_with, least_from}
 
 -- a test of what stands behind references
-pub any_behind : (p : List ℕ → Bool) (names : List (Bor (List ℕ))) → list_any (λ (name : Bor (List ℕ)). p name.now) names ≡ list_any p (map (λ name. name.now) names)
+pub any_behind : (p : List ℕ → Bool) (names : List (Bor (List ℕ)))
+    → list_any (λ (name : Bor (List ℕ)). p name.now) names ≡ list_any p (map (λ name. name.now) names)
 any_behind p [] = refl
 any_behind p (x ∷ xs) = ap (λ b. p x.now || b) (any_behind p xs)
 
 -- the least key of a table, by its first key
-pub least_more : (known : List (List ℕ)) (least next : Option (List ℕ)) (e : Entry) (es : List Entry) (key : List ℕ)
+pub least_more : (known : List (List ℕ)) (least next : Option (List ℕ)) (e : Entry) (es : List Entry)
+    (key : List ℕ)
     → key ≡ string_bytes e.0 → next ≡ least_with known least key
     → least_from known next (members_view es) ≡ least_from known least (members_view (e ∷ es))
 least_more known least next e es key same is = rw (is, same) refl

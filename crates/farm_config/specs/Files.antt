@@ -7,7 +7,8 @@ use Rattle.farm_config.specs.declared.files.RealFiles.{RealFiles}
 
 -- the bytes of the first file of that name, where there is one
 abbrev pub file_at : List ℕ → List NamedFile → Option (List ℕ)
-file_at name files = option_map (λ (f : NamedFile). f.bytes) (find (λ (f : NamedFile). bytes_eq f.name name) files)
+file_at name files = option_map (λ (f : NamedFile). f.bytes)
+    (find (λ (f : NamedFile). bytes_eq f.name name) files)
 
 -- the files
 abbrev pub mem_files : MemFiles → List NamedFile

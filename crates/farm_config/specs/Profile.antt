@@ -1,5 +1,6 @@
 -- The profile of configurations, over the TOML table that a file is.
-use Rattle.std.specs.Prelude.{ℕ, Bool, false, List, [], ◌∷◌, if◌then◌else◌, Option, Some, None, option_and_then, option_map, unwrap_or, ok_or, Result, Ok, Err, ⊤, codes}
+use Rattle.std.specs.Prelude.{ℕ, Bool, false, List, [], ◌∷◌, if◌then◌else◌, Option, Some, None}
+use Rattle.std.specs.Prelude.{option_and_then, option_map, unwrap_or, ok_or, Result, Ok, Err, ⊤, codes}
 use Rattle.std.specs.Str.{bytes_eq, is_utf8}
 use Rattle.toml.specs.Data.{Data, as_table, Members, get_member}
 use Rattle.toml.specs.Parse.{parse_document}
@@ -19,7 +20,8 @@ use Rattle.farm_script.specs.declared.fault.ConfigCause.{ConfigCause}
 use Rattle.farm_script.specs.declared.fault.ConfigCause.TheVariants.{NotToml, Key}
 use Rattle.farm_config.specs.Told.{◌>>=◌, needed}
 use Rattle.farm_config.specs.Unknown.{least_unknown}
-use Rattle.farm_config.specs.Values.{has_only, text_at, address_at, http_url_at, optional_number_at, is_secret}
+use Rattle.farm_config.specs.Values.{has_only, text_at, address_at, http_url_at, optional_number_at}
+use Rattle.farm_config.specs.Values.{is_secret}
 
 -- each key is known, or the least that is not, in byte order, is the bad one
 abbrev pub known_or : Option (List ℕ) → Result ⊤ ConfigCause
@@ -47,9 +49,12 @@ proxied url secs = option_and_then (λ u. option_map (λ s. client.ProxyToken u 
 
 unfoldable pub client_auth_of : List ℕ → Members → Option ClientAuth
 client_auth_of kind table =
-    if bytes_eq kind (codes "DANGEROUSLY_INSECURE") then alone (codes "type" ∷ []) table (Some client.Insecure)
-    else if bytes_eq kind (codes "token") then alone (codes "type" ∷ codes "token" ∷ []) table (option_map (λ t. client.Token t) (text_at (codes "token") table))
-    else if bytes_eq kind (codes "proxy_token") then alone (codes "type" ∷ codes "url" ∷ codes "cache_secs" ∷ []) table
+    if bytes_eq kind (codes "DANGEROUSLY_INSECURE") then alone (codes "type" ∷ []) table
+    (Some client.Insecure)
+    else if bytes_eq kind (codes "token") then alone (codes "type" ∷ codes "token" ∷ []) table
+    (option_map (λ t. client.Token t) (text_at (codes "token") table))
+    else if bytes_eq kind (codes "proxy_token")
+    then alone (codes "type" ∷ codes "url" ∷ codes "cache_secs" ∷ []) table
     (proxied (http_url_at (codes "url") table) (optional_number_at (codes "cache_secs") table))
     else None
 
@@ -59,16 +64,20 @@ signing text = if is_secret text then Some (server.JwtHS256 text) else None
 
 unfoldable pub server_auth_of : List ℕ → Members → Option ServerAuth
 server_auth_of kind table =
-    if bytes_eq kind (codes "DANGEROUSLY_INSECURE") then alone (codes "type" ∷ []) table (Some server.Insecure)
-    else if bytes_eq kind (codes "token") then alone (codes "type" ∷ codes "token" ∷ []) table (option_map (λ t. server.Token t) (text_at (codes "token") table))
-    else if bytes_eq kind (codes "jwt_hs256") then alone (codes "type" ∷ codes "secret_key" ∷ []) table (option_and_then signing (text_at (codes "secret_key") table))
+    if bytes_eq kind (codes "DANGEROUSLY_INSECURE") then alone (codes "type" ∷ []) table
+    (Some server.Insecure)
+    else if bytes_eq kind (codes "token") then alone (codes "type" ∷ codes "token" ∷ []) table
+    (option_map (λ t. server.Token t) (text_at (codes "token") table))
+    else if bytes_eq kind (codes "jwt_hs256") then alone (codes "type" ∷ codes "secret_key" ∷ []) table
+    (option_and_then signing (text_at (codes "secret_key") table))
     else None
 
 -- ---- the build server's tables
 
 -- the one builder that there is
 unfoldable pub builder_of : List ℕ → Members → Option ⊤
-builder_of kind table = if bytes_eq kind (codes "echo") then alone (codes "type" ∷ []) table (Some tt) else None
+builder_of kind table = if bytes_eq kind (codes "echo") then alone (codes "type" ∷ []) table (Some tt)
+    else None
 
 -- a signed token whose server is this one
 abbrev pub names_server : Addr → Result Addr TokenError → Bool
@@ -81,9 +90,12 @@ own_token address token = if names_server address (extracted token) then Some to
 -- the token that a server of this address shows to the scheduler
 unfoldable pub scheduler_auth_of : Addr → List ℕ → Members → Option (List ℕ)
 scheduler_auth_of address kind table =
-    if bytes_eq kind (codes "DANGEROUSLY_INSECURE") then alone (codes "type" ∷ []) table (Some (plain_text (addr_text address) (codes "dangerously_insecure_server")))
-    else if bytes_eq kind (codes "token") then alone (codes "type" ∷ codes "token" ∷ []) table (option_map (plain_text (addr_text address)) (text_at (codes "token") table))
-    else if bytes_eq kind (codes "jwt_token") then alone (codes "type" ∷ codes "token" ∷ []) table (option_and_then (own_token address) (text_at (codes "token") table))
+    if bytes_eq kind (codes "DANGEROUSLY_INSECURE") then alone (codes "type" ∷ []) table
+    (Some (plain_text (addr_text address) (codes "dangerously_insecure_server")))
+    else if bytes_eq kind (codes "token") then alone (codes "type" ∷ codes "token" ∷ []) table
+    (option_map (plain_text (addr_text address)) (text_at (codes "token") table))
+    else if bytes_eq kind (codes "jwt_token") then alone (codes "type" ∷ codes "token" ∷ []) table
+    (option_and_then (own_token address) (text_at (codes "token") table))
     else None
 
 -- an address, or the other one where there is no value
@@ -105,7 +117,8 @@ scheduler_in table = do
   Ok (record { public_addr = public_addr; client_auth = client_auth; server_auth = server_auth })
 
 abbrev pub server_keys : List (List ℕ)
-server_keys = codes "builder" ∷ codes "cache_dir" ∷ codes "public_addr" ∷ codes "bind_address" ∷ codes "scheduler_url" ∷ codes "scheduler_auth"
+server_keys = codes "builder" ∷ codes "cache_dir" ∷ codes "public_addr" ∷ codes "bind_address" ∷ codes
+    "scheduler_url" ∷ codes "scheduler_auth"
     ∷ codes "toolchain_cache_size" ∷ []
 
 unfoldable pub server_in : Members → Result ServerConfig ConfigCause
@@ -114,9 +127,11 @@ server_in table = do
   _ ← needed (codes "builder") (typed_at builder_of (codes "builder") table)
   cache_dir ← needed (codes "cache_dir") (text_at (codes "cache_dir") table)
   public_addr ← needed (codes "public_addr") (address_at (codes "public_addr") table)
-  bind_address ← needed (codes "bind_address") (address_or public_addr (get_member (codes "bind_address") table) (codes "bind_address") table)
+  bind_address ← needed (codes "bind_address")
+      (address_or public_addr (get_member (codes "bind_address") table) (codes "bind_address") table)
   scheduler_url ← needed (codes "scheduler_url") (http_url_at (codes "scheduler_url") table)
-  scheduler_auth ← needed (codes "scheduler_auth") (typed_at (scheduler_auth_of public_addr) (codes "scheduler_auth") table)
+  scheduler_auth ← needed (codes "scheduler_auth")
+      (typed_at (scheduler_auth_of public_addr) (codes "scheduler_auth") table)
   size ← needed (codes "toolchain_cache_size") (optional_number_at (codes "toolchain_cache_size") table)
   Ok (record {
     cache_dir = cache_dir;

@@ -1,5 +1,6 @@
 -- What a key of a TOML table says.
-use Rattle.std.specs.Prelude.{ℕ, List, pos, Bool, false, not, ◌==◌, ◌&&◌, is_some, length, if◌then◌else◌, Option, Some, None, option_and_then, codes}
+use Rattle.std.specs.Prelude.{ℕ, List, pos, Bool, false, not, ◌==◌, ◌&&◌, is_some, length, if◌then◌else◌}
+use Rattle.std.specs.Prelude.{Option, Some, None, option_and_then, codes}
 use Rattle.std.specs.Str.{bytes_eq}
 use Rattle.std.specs.Result.{result_ok}
 use Rattle.toml.specs.Data.{Data, integer, as_str, as_table, Members, get_member}

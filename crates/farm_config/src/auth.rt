@@ -4,7 +4,8 @@ ghost use Rattle.toml.specs.View.{table_view};
 ghost use Rattle.dist_types.specs.Addr.{addr_text};
 ghost use Rattle.dist_token.specs.Token.{plain_text};
 ghost use Rattle.farm_config.specs.Values.{text_at, http_url_at, optional_number_at};
-ghost use Rattle.farm_config.specs.Profile.{typed_at, client_auth_of, server_auth_of, builder_of, scheduler_auth_of, proxied, signing, own_token};
+ghost use Rattle.farm_config.specs.Profile.{typed_at, client_auth_of, server_auth_of, builder_of};
+ghost use Rattle.farm_config.specs.Profile.{scheduler_auth_of, proxied, signing, own_token};
 
 use crate::look_up::{has_only, http_url_at, optional_number_at, table_at, text_at};
 use crate::values::is_secret;
@@ -34,7 +35,8 @@ fn copy_at(alloc: Global, table: &Table, key: &str) -> Result<Option<Text>, Memo
 }
 
 fn shared_client(alloc: Global, table: &Table) -> Result<Option<ClientAuth>, Memory>
-    ensures { IfOk result (λ auth. auth ≡ option_map (λ t. ClientAuth.Token t) (text_at (codes "token") (table_view table.now))) }
+    ensures { IfOk result (λ auth. auth ≡ option_map (λ t. ClientAuth.Token t)
+        (text_at (codes "token") (table_view table.now))) }
 {
     match copy_at(alloc, table, "token")? {
         Some(token) => Ok(Some(ClientAuth::Token { token })),
@@ -94,7 +96,8 @@ pub fn client_auth_at(alloc: Global, table: &Table, key: &str) -> Result<Option<
 }
 
 fn shared_server(alloc: Global, table: &Table) -> Result<Option<ServerAuth>, Memory>
-    ensures { IfOk result (λ auth. auth ≡ option_map (λ t. ServerAuth.Token t) (text_at (codes "token") (table_view table.now))) }
+    ensures { IfOk result (λ auth. auth ≡ option_map (λ t. ServerAuth.Token t)
+        (text_at (codes "token") (table_view table.now))) }
 {
     match copy_at(alloc, table, "token")? {
         Some(token) => Ok(Some(ServerAuth::Token { token })),
@@ -103,7 +106,8 @@ fn shared_server(alloc: Global, table: &Table) -> Result<Option<ServerAuth>, Mem
 }
 
 fn signing_server(alloc: Global, table: &Table) -> Result<Option<ServerAuth>, Memory>
-    ensures { IfOk result (λ auth. auth ≡ option_and_then signing (text_at (codes "secret_key") (table_view table.now))) }
+    ensures { IfOk result (λ auth. auth ≡ option_and_then signing
+        (text_at (codes "secret_key") (table_view table.now))) }
 {
     match text_at(table, "secret_key") {
         Some(text) => {
@@ -190,7 +194,8 @@ fn plain_token(alloc: Global, address: Addr, shared: &str) -> Result<Text, Memor
 }
 
 fn shared_token(alloc: Global, address: Addr, table: &Table) -> Result<Option<Text>, Memory>
-    ensures { IfOk result (λ token. token ≡ option_map (plain_text (addr_text address)) (text_at (codes "token") (table_view table.now))) }
+    ensures { IfOk result (λ token. token ≡ option_map (plain_text (addr_text address))
+        (text_at (codes "token") (table_view table.now))) }
 {
     match text_at(table, "token") {
         Some(shared) => {
@@ -217,7 +222,8 @@ fn own_token(alloc: Global, address: Addr, text: &str) -> Result<Option<Text>, M
 }
 
 fn signed_token(alloc: Global, address: Addr, table: &Table) -> Result<Option<Text>, Memory>
-    ensures { IfOk result (λ token. token ≡ option_and_then (own_token address) (text_at (codes "token") (table_view table.now))) }
+    ensures { IfOk result (λ token. token ≡ option_and_then (own_token address)
+        (text_at (codes "token") (table_view table.now))) }
 {
     match text_at(table, "token") {
         Some(text) => own_token(alloc, address, text),
@@ -263,7 +269,8 @@ pub fn scheduler_auth_at(
     table: &Table,
     key: &str,
 ) -> Result<Option<Text>, Memory>
-    ensures { IfOk result (λ token. token ≡ typed_at (scheduler_auth_of address) key.now (table_view table.now)) }
+    ensures { IfOk result (λ token. token ≡ typed_at (scheduler_auth_of address) key.now
+        (table_view table.now)) }
 {
     match table_at(table, key) {
         Some(inner) => match text_at(inner, "type") {

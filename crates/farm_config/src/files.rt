@@ -1,5 +1,6 @@
 //! Files by name: the trait, the files in memory, and those of the system.
-ghost use Rattle.std.specs.Prelude.{◌≡◌, ◌≢◌, ◌≤◌, ◌↔◌, ◌⊎◌, List, ℕ, Option, Some, None, Err, IfOk, IfSome, OnOk, length, option_map};
+ghost use Rattle.std.specs.Prelude.{◌≡◌, ◌≢◌, ◌≤◌, ◌↔◌, ◌⊎◌, List, ℕ, Option, Some, None, Err, IfOk, IfSome};
+ghost use Rattle.std.specs.Prelude.{OnOk, length, option_map};
 ghost use Rattle.dist_types.specs.Cause.{Rose, counted};
 ghost use Rattle.farm_config.specs.Files.{file_at, real_files_faults};
 ghost use Rattle.farm_config.specs.declared.files.NamedFile.{NamedFile};

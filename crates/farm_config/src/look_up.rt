@@ -5,7 +5,8 @@ ghost use Rattle.std.specs.Str.{bytes_eq};
 ghost use Rattle.toml.specs.Data.{get_member, as_table};
 ghost use Rattle.toml.specs.View.{view, table_view};
 ghost use Rattle.farm_config.specs.Unknown.{lesser, least_with, least_unknown, IsLeast};
-ghost use Rattle.farm_config.specs.Values.{has_only, text_at, address_at, http_url_at, http_url_in, optional_number, optional_number_at};
+ghost use Rattle.farm_config.specs.Values.{has_only, text_at, address_at, http_url_at, http_url_in};
+ghost use Rattle.farm_config.specs.Values.{optional_number, optional_number_at};
 
 use dist_types::addr::{Addr, read_addr};
 use dist_types::fault::Memory;

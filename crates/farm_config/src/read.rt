@@ -4,7 +4,8 @@ ghost use Rattle.toml.specs.View.{table_view};
 ghost use Rattle.toml.specs.Data.{get_member};
 ghost use Rattle.farm_config.specs.Reading.{of_bytes, says, IsRead};
 ghost use Rattle.farm_config.specs.Told.{Gives, Tells, needed};
-ghost use Rattle.farm_config.specs.Profile.{known, address_or, scheduler_in, server_in, text_in, document_in, table_in, scheduler_config_in, server_config_in};
+ghost use Rattle.farm_config.specs.Profile.{known, address_or, scheduler_in, server_in, text_in, document_in};
+ghost use Rattle.farm_config.specs.Profile.{table_in, scheduler_config_in, server_config_in};
 
 use crate::auth::{builder_at, client_auth_at, scheduler_auth_at, server_auth_at};
 use crate::cause::ConfigFault;
@@ -51,7 +52,8 @@ fn known(alloc: Global, keys: &[&str], table: &Table) -> Result<(), ConfigFault>
 }
 
 fn address_or(other: Addr, table: &Table, key: &str) -> Option<Addr>
-    ensures { result ≡ address_or other (get_member key.now (table_view table.now)) key.now (table_view table.now) }
+    ensures { result ≡ address_or other (get_member key.now (table_view table.now)) key.now
+        (table_view table.now) }
 {
     match value_at(table, key) {
         Some(_) => address_at(table, key),

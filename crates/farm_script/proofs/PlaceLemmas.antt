@@ -1,5 +1,7 @@
 -- Places of elements, tests of lists, and equal addresses.
-use Rattle.std.proofs.Common.{◌≡◌, ℕ, ◌+◌, ◌==◌, Bool, true, false, cond, not, ◌||◌, ◌&&◌, List, [], ◌∷◌, ◌++◌, map, Option, Some, None, is_some, refl, sym, ap, subst, ◌∙◌, eqb-true, eq-eqb, nat_eq, get_or, suc, ◌⊎◌, inl, inr, arith}
+use Rattle.std.proofs.Common.{◌≡◌, ℕ, ◌+◌, ◌==◌, Bool, true, false, cond, not, ◌||◌, ◌&&◌, List, [], ◌∷◌}
+use Rattle.std.proofs.Common.{◌++◌, map, Option, Some, None, is_some, refl, sym, ap, subst, ◌∙◌, eqb-true}
+use Rattle.std.proofs.Common.{eq-eqb, nat_eq, get_or, suc, ◌⊎◌, inl, inr, arith}
 use Rattle.std.specs.Option.{is_none}
 use Rattle.std.proofs.Math.ListN.{set}
 use Rattle.std.specs.List.{list_any, position, position_from}
@@ -32,14 +34,17 @@ none_not : (o : Option ℕ) → is_none o ≡ not (is_some o)
 none_not None = refl
 none_not (Some i) = refl
 
-any_map : (addr : Addr) (ss : List SetupServer) → list_any (λ s. same_addr s.addr addr) ss ≡ has_addr addr (map (λ s. s.addr) ss)
+any_map : (addr : Addr) (ss : List SetupServer) → list_any (λ s. same_addr s.addr addr) ss ≡ has_addr addr
+    (map (λ s. s.addr) ss)
 any_map addr [] = refl
 any_map addr (s ∷ ss) = ap (λ (v : Bool). same_addr s.addr addr || v) (any_map addr ss)
 
-pub there : (addr : Addr) (ss : List SetupServer) → is_some (position (λ s. same_addr s.addr addr) ss) ≡ has_addr addr (map (λ s. s.addr) ss)
+pub there : (addr : Addr) (ss : List SetupServer)
+    → is_some (position (λ s. same_addr s.addr addr) ss) ≡ has_addr addr (map (λ s. s.addr) ss)
 there addr ss = any_at (λ s. same_addr s.addr addr) ss ∙ any_map addr ss
 
-pub not_there : (addr : Addr) (ss : List SetupServer) → is_none (position (λ s. same_addr s.addr addr) ss) ≡ not (has_addr addr (map (λ s. s.addr) ss))
+pub not_there : (addr : Addr) (ss : List SetupServer)
+    → is_none (position (λ s. same_addr s.addr addr) ss) ≡ not (has_addr addr (map (λ s. s.addr) ss))
 not_there addr ss = none_not (position (λ s. same_addr s.addr addr) ss) ∙ ap not (there addr ss)
 
 -- the test on addresses is equality
@@ -74,51 +79,64 @@ none_cond : (b : Bool) (i : ℕ) (o : Option ℕ) → cond b (Some i) o ≡ None
 none_cond true i o e = absurd cc
 none_cond false i o e = (refl, e)
 
-none_answered : (addr : Addr) (answer : BuilderLine) (k : ℕ) (ss : List SetupServer) → position_from (λ s. same_addr s.addr addr) k ss ≡ None → ss ≡ answered addr answer ss
+none_answered : (addr : Addr) (answer : BuilderLine) (k : ℕ) (ss : List SetupServer)
+    → position_from (λ s. same_addr s.addr addr) k ss ≡ None → ss ≡ answered addr answer ss
 none_answered addr answer k [] e = refl
 none_answered addr answer k (s ∷ ss) e =
     let p = none_cond (same_addr s.addr addr) k (position_from (λ x. same_addr x.addr addr) (k + 1) ss) e in
     ap (λ (xs : List SetupServer). s ∷ xs) (none_answered addr answer (k + 1) ss p.1)
     ∙ sym (cond_off (same_addr s.addr addr) (with_answer answer s ∷ ss) (s ∷ answered addr answer ss) p.0)
 
-pub answered_none : (addr : Addr) (answer : BuilderLine) (ss : List SetupServer) → position (λ s. same_addr s.addr addr) ss ≡ None → ss ≡ answered addr answer ss
-answered_none addr answer ss e = none_answered addr answer 0 ss (sym (position_from-zero (λ s. same_addr s.addr addr) ss) ∙ e)
+pub answered_none : (addr : Addr) (answer : BuilderLine) (ss : List SetupServer)
+    → position (λ s. same_addr s.addr addr) ss ≡ None → ss ≡ answered addr answer ss
+answered_none addr answer ss e = none_answered addr answer 0 ss
+    (sym (position_from-zero (λ s. same_addr s.addr addr) ss) ∙ e)
 
 -- at index j stands the server that gets the answer
 record IsAnswered (addr : Addr) (answer : BuilderLine) (ss : List SetupServer) (j : ℕ) : Type 0 where
-  put : (d s : SetupServer) → d ≡ get_or ss j d → s ≡ with_answer answer d → set ss j s ≡ answered addr answer ss
+  put : (d s : SetupServer) → d ≡ get_or ss j d → s ≡ with_answer answer d
+      → set ss j s ≡ answered addr answer ss
 
-some_cond : (b : Bool) (i k : ℕ) (o : Option ℕ) → cond b (Some i) o ≡ Some k → ((b ≡ true) × (i ≡ k)) ⊎ ((b ≡ false) × (o ≡ Some k))
+some_cond : (b : Bool) (i k : ℕ) (o : Option ℕ) → cond b (Some i) o ≡ Some k → ((b ≡ true) × (i ≡ k))
+    ⊎ ((b ≡ false) × (o ≡ Some k))
 some_cond true i k o e = inl (refl, cc)
 some_cond false i k o e = inr (refl, e)
 
-some_answered : (addr : Addr) (answer : BuilderLine) (k i : ℕ) (ss : List SetupServer) → position_from (λ s. same_addr s.addr addr) k ss ≡ Some i
+some_answered : (addr : Addr) (answer : BuilderLine) (k i : ℕ) (ss : List SetupServer)
+    → position_from (λ s. same_addr s.addr addr) k ss ≡ Some i
     → (j : ℕ) × (i ≡ k + j) × IsAnswered addr answer ss j
 some_answered addr answer k i [] e = absurd cc
-some_answered addr answer k i (s ∷ ss) e = elim (some_cond (same_addr s.addr addr) k i (position_from (λ x. same_addr x.addr addr) (k + 1) ss) e) [
-  | inl p ↦ (
-    0,
-    omega (arith, p.1),
-    record {
-      put = λ d y at is. ap (λ (x : SetupServer). x ∷ ss) (is ∙ ap (with_answer answer) at)
-          ∙ sym (cond_is (same_addr s.addr addr) (with_answer answer s ∷ ss) (s ∷ answered addr answer ss) p.0);
-    },
-  )
-  | inr p ↦
-      let r = some_answered addr answer (k + 1) i ss p.1 in (
-        suc r.0,
-        omega (arith, r.1),
+some_answered addr answer k i (s ∷ ss) e =
+    elim (some_cond (same_addr s.addr addr) k i (position_from (λ x. same_addr x.addr addr) (k + 1) ss) e) [
+      | inl p ↦ (
+        0,
+        omega (arith, p.1),
         record {
-          put = λ d y at is. ap (λ (xs : List SetupServer). s ∷ xs) (r.2.put d y at is)
-              ∙ sym (cond_off (same_addr s.addr addr) (with_answer answer s ∷ ss) (s ∷ answered addr answer ss) p.0);
+          put = λ d y at is. ap (λ (x : SetupServer). x ∷ ss) (is ∙ ap (with_answer answer) at)
+              ∙ sym (cond_is (same_addr s.addr addr) (with_answer answer s ∷ ss)
+              (s ∷ answered addr answer ss) p.0);
         },
       )
-]
+      | inr p ↦
+          let r = some_answered addr answer (k + 1) i ss p.1 in (
+            suc r.0,
+            omega (arith, r.1),
+            record {
+              put = λ d y at is. ap (λ (xs : List SetupServer). s ∷ xs) (r.2.put d y at is)
+                  ∙ sym (cond_off (same_addr s.addr addr) (with_answer answer s ∷ ss)
+                  (s ∷ answered addr answer ss) p.0);
+            },
+          )
+    ]
 
-pub answered_some : (addr : Addr) (answer : BuilderLine) (ss : List SetupServer) (i : ℕ) (d s : SetupServer) → position (λ x. same_addr x.addr addr) ss ≡ Some i
-    → d ≡ get_or ss i d → s ≡ record d { builder = d.builder ++ answer ∷ [] } → set ss i s ≡ answered addr answer ss
+pub answered_some : (addr : Addr) (answer : BuilderLine) (ss : List SetupServer) (i : ℕ) (d s : SetupServer)
+    → position (λ x. same_addr x.addr addr) ss ≡ Some i
+    → d ≡ get_or ss i d → s ≡ record d { builder = d.builder ++ answer ∷ [] }
+    → set ss i s ≡ answered addr answer ss
 answered_some addr answer ss i d s e at is =
     let r = some_answered addr answer 0 i ss (sym (position_from-zero (λ x. same_addr x.addr addr) ss) ∙ e) in
     let same : r.0 ≡ i = omega (arith, r.1) in
-    let put : (j : ℕ) → r.0 ≡ j → d ≡ get_or ss j d → set ss j s ≡ answered addr answer ss = λ j k at_j. subst (λ (n : ℕ). d ≡ get_or ss n d → set ss n s ≡ answered addr answer ss) k (λ q. r.2.put d s q is) at_j in
+    let put : (j : ℕ) → r.0 ≡ j → d ≡ get_or ss j d → set ss j s ≡ answered addr answer ss = λ j k at_j.
+    subst (λ (n : ℕ). d ≡ get_or ss n d → set ss n s ≡ answered addr answer ss) k
+    (λ q. r.2.put d s q is) at_j in
     put i same at

@@ -1,5 +1,7 @@
 -- A script is read as what its lines spell.
-use Rattle.std.proofs.Common.{◌≡◌, ◌↔◌, ◌⊎◌, ℕ, ◌+◌, ◌-◌, ◌≤◌, List, [], ◌∷◌, ◌++◌, length, map, Option, Some, None, Result, Ok, Err, refl, sym, ap, subst, ◌∙◌, append_assoc, append-nil, inl, inr}
+use Rattle.std.proofs.Common.{◌≡◌, ◌↔◌, ◌⊎◌, ℕ, ◌+◌, ◌-◌, ◌≤◌, List, [], ◌∷◌, ◌++◌, length, map, Option, Some}
+use Rattle.std.proofs.Common.{None, Result, Ok, Err, refl, sym, ap, subst, ◌∙◌, append_assoc, append-nil, inl}
+use Rattle.std.proofs.Common.{inr}
 use Rattle.std.specs.Prelude.{option_to_list, IfOk, IfErr}
 use Rattle.std.specs.List.{filter_map, AllByRecursion}
 use Rattle.farm_script.specs.declared.setup.Setup.{Setup}
@@ -14,7 +16,8 @@ use Rattle.farm_script.specs.Pieces.{pieces, text_of}
 use Rattle.farm_script.specs.Grammar.{HasKeyLength}
 use Rattle.farm_script.specs.Place.{scheduler_in, server_in, event_in}
 use Rattle.farm_script.specs.Setups.{AreApart, IsSetup}
-use Rattle.farm_script.specs.Script.{Read, take_line, and_then, finished_with, script_from, script, nothing_read, Tells, GivesScript}
+use Rattle.farm_script.specs.Script.{Read, take_line, and_then, finished_with, script_from, script}
+use Rattle.farm_script.specs.Script.{nothing_read, Tells, GivesScript}
 use Rattle.farm_script.specs.FirstFaulty.{IsFirstFaulty, IsFaultless}
 use Rattle.farm_script.specs.Spelled.{with_answers, EachLine, Says}
 use Rattle.farm_script.proofs.LineLemmas.{one_value}
@@ -31,12 +34,25 @@ pub record SaysRest (said : List Line) (ps : List (List ℕ)) (x : Setup × List
   pub matches : Matches end (said ++ rest)
   pub finish : finished_with number end end.scheduler ≡ Ok x
 
-rest_end : (said : List Line) (number : ℕ) (r : Read) (x : Setup × List Event) → Matches r said → finished_with number r r.scheduler ≡ Ok x → SaysRest said [] x
-rest_end said number r x m e = record { rest = []; each = tt; number = number; end = r; matches = subst (Matches r) (sym (append-nil said)) m; finish = e }
+rest_end : (said : List Line) (number : ℕ) (r : Read) (x : Setup × List Event) → Matches r said
+    → finished_with number r r.scheduler ≡ Ok x → SaysRest said [] x
+rest_end said number r x m e =
+    record {
+      rest = [];
+      each = tt;
+      number = number;
+      end = r;
+      matches = subst (Matches r)
+          (sym (append-nil said)) m;
+      finish = e;
+    }
 
-rest_step : (done : List (List ℕ)) (said : List Line) (number room : ℕ) (r : Read) (p : List ℕ) (ps : List (List ℕ)) (x : Setup × List Event) (o : Result Read FarmFault) → IsAt done said number room r
+rest_step : (done : List (List ℕ)) (said : List Line) (number room : ℕ) (r : Read) (p : List ℕ)
+    (ps : List (List ℕ)) (x : Setup × List Event) (o : Result Read FarmFault) → IsAt done said number room r
     → take_line number room r p ≡ o → and_then o (λ s. script_from (number + 1) (room - length p) s ps) ≡ Ok x
-    → ((s : Read) (taken : IsTaken done said r p room s) → script_from (number + 1) (room - length p) s ps ≡ Ok x → SaysRest (said ++ taken.line ∷ []) ps x) → SaysRest said (p ∷ ps) x
+    → ((s : Read) (taken : IsTaken done said r p room s)
+    → script_from (number + 1) (room - length p) s ps ≡ Ok x → SaysRest (said ++ taken.line ∷ []) ps x)
+    → SaysRest said (p ∷ ps) x
 rest_step done said number room r p ps x (Err f) at is e later = absurd cc
 rest_step done said number room r p ps x (Ok s) at is e later =
     let taken = read_taken done said number room r p s at is in
@@ -50,12 +66,15 @@ rest_step done said number room r p ps x (Ok s) at is e later =
       finish = more.finish;
     }
 
-rest_from : (done : List (List ℕ)) (said : List Line) (number room : ℕ) (r : Read) (ps : List (List ℕ)) (x : Setup × List Event) → IsAt done said number room r → script_from number room r ps ≡ Ok x → SaysRest said ps x
+rest_from : (done : List (List ℕ)) (said : List Line) (number room : ℕ) (r : Read) (ps : List (List ℕ))
+    (x : Setup × List Event) → IsAt done said number room r → script_from number room r ps ≡ Ok x
+    → SaysRest said ps x
 unfolding script_from
 rest_from done said number room r [] x at e = rest_end said number r x at.matches e
 rest_from done said number room r (p ∷ ps) x at e =
     rest_step done said number room r p ps x (take_line number room r p) at refl e
-    (λ s taken f. rest_from (done ++ p ∷ []) (said ++ taken.line ∷ []) (number + 1) (room - length p) s ps x (next_at done said number room r p s at taken) f)
+    (λ s taken f. rest_from (done ++ p ∷ []) (said ++ taken.line ∷ []) (number + 1) (room - length p) s ps x
+    (next_at done said number room r p s at taken) f)
 
 -- what a reader had at the end of a script
 pub record IsFinished (r : Read) (x : Setup × List Event) : Type 0 where
@@ -63,7 +82,8 @@ pub record IsFinished (r : Read) (x : Setup × List Event) : Type 0 where
   pub servers : r.servers ≡ x.0.servers
   pub events : r.events ≡ x.1
 
-finished_parts : (number : ℕ) (r : Read) (o : Option SetupScheduler) (x : Setup × List Event) → r.scheduler ≡ o → finished_with number r o ≡ Ok x → IsFinished r x
+finished_parts : (number : ℕ) (r : Read) (o : Option SetupScheduler) (x : Setup × List Event)
+    → r.scheduler ≡ o → finished_with number r o ≡ Ok x → IsFinished r x
 finished_parts number r None x is e = absurd cc
 finished_parts number r (Some s) x is e =
     let made : Setup × List Event = (record { scheduler = s; servers = r.servers }, r.events) in
@@ -77,7 +97,8 @@ script_says bytes x e =
     record {
       lines = rest.rest;
       each = rest.each;
-      scheduler_is = rest.matches.scheduler ∙ ap (λ (o : Option SetupScheduler). option_to_list o) parts.scheduler;
+      scheduler_is = rest.matches.scheduler
+          ∙ ap (λ (o : Option SetupScheduler). option_to_list o) parts.scheduler;
       servers_are = rest.matches.servers ∙ parts.servers;
       events_are = rest.matches.events ∙ parts.events;
     }
@@ -89,20 +110,25 @@ script_setup bytes x e =
     let parts = finished_parts rest.number rest.end rest.end.scheduler x refl rest.finish in
     let m = rest.matches in
     let tokens = m.tokens x.0.scheduler parts.scheduler in
-    let apart = subst (λ (o : Option SetupScheduler). AreApart (map (λ s. s.addr) (option_to_list o) ++ map (λ s. s.addr) rest.end.servers)) parts.scheduler m.apart in
+    let apart = subst (λ (o : Option SetupScheduler). AreApart
+    (map (λ s. s.addr) (option_to_list o) ++ map (λ s. s.addr) rest.end.servers)) parts.scheduler m.apart
+    in
     record {
-      apart = subst (λ (ss : List SetupServer). AreApart (x.0.scheduler.addr ∷ map (λ s. s.addr) ss)) parts.servers apart;
+      apart = subst (λ (ss : List SetupServer). AreApart (x.0.scheduler.addr ∷ map (λ s. s.addr) ss))
+          parts.servers apart;
       few = subst (λ (ss : List SetupServer). length ss ≤ 1000) parts.servers m.few;
       client = tokens.client;
       auth = tokens.auth;
-      keys = subst (λ (ss : List SetupServer). AllByRecursion (λ s. HasKeyLength s.key) ss) parts.servers m.keys;
+      keys = subst (λ (ss : List SetupServer). AllByRecursion (λ s. HasKeyLength s.key) ss) parts.servers
+          m.keys;
     }
 
 -- lines spell one list of values
 one_each : (ps : List (List ℕ)) (ks ls : List Line) → EachLine ps ks → EachLine ps ls → ks ≡ ls
 one_each [] [] [] p q = refl
 one_each (t ∷ ts) (k ∷ ks) (l ∷ ls) p q =
-    ap (λ (x : Line). x ∷ ks) (one_value Refused (text_of t) k l p.0 q.0) ∙ ap (λ (xs : List Line). l ∷ xs) (one_each ts ks ls p.1 q.1)
+    ap (λ (x : Line). x ∷ ks) (one_value Refused (text_of t) k l p.0 q.0) ∙ ap (λ (xs : List Line). l ∷ xs)
+    (one_each ts ks ls p.1 q.1)
 one_each [] (k ∷ ks) ls p q = absurd p
 one_each [] [] (l ∷ ls) p q = absurd q
 one_each (t ∷ ts) [] ls p q = absurd p
@@ -115,18 +141,24 @@ abbrev setup_with : SetupScheduler → List SetupServer → Setup
 setup_with scheduler servers = record { scheduler = scheduler; servers = servers }
 
 one_setup : (s t : Setup) → s.scheduler ≡ t.scheduler → s.servers ≡ t.servers → s ≡ t
-one_setup s t e f = ap (λ (x : SetupScheduler). setup_with x s.servers) e ∙ ap (λ (xs : List SetupServer). setup_with t.scheduler xs) f
+one_setup s t e f = ap (λ (x : SetupScheduler). setup_with x s.servers) e
+    ∙ ap (λ (xs : List SetupServer). setup_with t.scheduler xs) f
 
-pub one_script : (bytes : List ℕ) (s t : Setup) (es fs : List Event) → Says bytes s es → Says bytes t fs → (s ≡ t) × (es ≡ fs)
+pub one_script : (bytes : List ℕ) (s t : Setup) (es fs : List Event) → Says bytes s es → Says bytes t fs
+    → (s ≡ t) × (es ≡ fs)
 one_script bytes s t es fs p q =
     let same = one_each (pieces bytes) p.lines q.lines p.each q.each in
-    let schedulers : filter_map scheduler_in p.lines ≡ t.scheduler ∷ [] = ap (λ (ls : List Line). filter_map scheduler_in ls) same ∙ q.scheduler_is in
-    let servers : s.servers ≡ t.servers = sym p.servers_are ∙ ap (λ (ls : List Line). map (with_answers ls) (filter_map server_in ls)) same ∙ q.servers_are in (
-      one_setup s t (head_is s.scheduler t.scheduler (filter_map scheduler_in p.lines) p.scheduler_is schedulers) servers,
+    let schedulers : filter_map scheduler_in p.lines ≡ t.scheduler ∷ [] =
+    ap (λ (ls : List Line). filter_map scheduler_in ls) same ∙ q.scheduler_is in
+    let servers : s.servers ≡ t.servers = sym p.servers_are
+    ∙ ap (λ (ls : List Line). map (with_answers ls) (filter_map server_in ls)) same ∙ q.servers_are in (
+      one_setup s t (head_is s.scheduler t.scheduler (filter_map scheduler_in p.lines) p.scheduler_is
+          schedulers) servers,
       sym p.events_are ∙ ap (λ (ls : List Line). filter_map event_in ls) same ∙ q.events_are,
     )
 
-read_says : (bytes : List ℕ) (setup : Setup) (events : List Event) (r : Result (Setup × List Event) FarmFault) → script bytes ≡ r
+read_says : (bytes : List ℕ) (setup : Setup) (events : List Event) (r : Result (Setup × List Event) FarmFault)
+    → script bytes ≡ r
     → IsFaultless bytes → Says bytes setup events → script bytes ≡ Ok (setup, events)
 read_says bytes setup events (Err f) is none says = absurd (none f ((first_faulty bytes f).0 is))
 read_says bytes setup events (Ok x) is none says =
@@ -149,17 +181,22 @@ script_is_said bytes setup events = (
 
 -- ---- what the reader answers
 
-pub read_said : {X : Type 0} (view : X → Setup × List Event) (r : Result X FarmFault) (bytes : List ℕ) → GivesScript view r (script bytes) → IfOk r (λ x. Says bytes (view x).0 (view x).1)
+pub read_said : {X : Type 0} (view : X → Setup × List Event) (r : Result X FarmFault) (bytes : List ℕ)
+    → GivesScript view r (script bytes) → IfOk r (λ x. Says bytes (view x).0 (view x).1)
 read_said view (Ok x) bytes e = script_says bytes (view x) e
 read_said view (Err f) bytes e = tt
 
-pub read_setup : {X : Type 0} (view : X → Setup × List Event) (r : Result X FarmFault) (bytes : List ℕ) → GivesScript view r (script bytes) → IfOk r (λ x. IsSetup (view x).0)
+pub read_setup : {X : Type 0} (view : X → Setup × List Event) (r : Result X FarmFault) (bytes : List ℕ)
+    → GivesScript view r (script bytes) → IfOk r (λ x. IsSetup (view x).0)
 read_setup view (Ok x) bytes e = script_setup bytes (view x) e
 read_setup view (Err f) bytes e = tt
 
-pub told_faulty : (f : FarmFault) (bytes : List ℕ) → Tells f (script bytes) → (f ≡ fault.Memory) ⊎ IsFirstFaulty bytes f
-told_faulty f bytes e = elim (told f (script bytes) e) [ inl m ↦ inl m | inr is ↦ inr ((first_faulty bytes f).0 is) ]
+pub told_faulty : (f : FarmFault) (bytes : List ℕ) → Tells f (script bytes) → (f ≡ fault.Memory)
+    ⊎ IsFirstFaulty bytes f
+told_faulty f bytes e = elim
+    (told f (script bytes) e) [ inl m ↦ inl m | inr is ↦ inr ((first_faulty bytes f).0 is) ]
 
-pub read_faulty : {X : Type 0} (view : X → Setup × List Event) (r : Result X FarmFault) (bytes : List ℕ) → GivesScript view r (script bytes) → IfErr r (λ f. (f ≡ fault.Memory) ⊎ IsFirstFaulty bytes f)
+pub read_faulty : {X : Type 0} (view : X → Setup × List Event) (r : Result X FarmFault) (bytes : List ℕ)
+    → GivesScript view r (script bytes) → IfErr r (λ f. (f ≡ fault.Memory) ⊎ IsFirstFaulty bytes f)
 read_faulty view (Ok x) bytes e = tt
 read_faulty view (Err f) bytes e = told_faulty f bytes e

@@ -1,5 +1,7 @@
 -- A line is cut into words, and put together from them.
-use Rattle.std.proofs.Common.{◌≡◌, ℕ, ◌+◌, ◌≤◌, ◌==◌, Bool, true, false, cond, nat_eq, List, [], ◌∷◌, ◌++◌, length, get_or, take, drop, Option, Some, None, refl, sym, ap, subst, ◌∙◌, append_assoc, append-nil, arith, suc, ◌⊎◌, inl, inr}
+use Rattle.std.proofs.Common.{◌≡◌, ℕ, ◌+◌, ◌≤◌, ◌==◌, Bool, true, false, cond, nat_eq, List, [], ◌∷◌, ◌++◌}
+use Rattle.std.proofs.Common.{length, get_or, take, drop, Option, Some, None, refl, sym, ap, subst, ◌∙◌}
+use Rattle.std.proofs.Common.{append_assoc, append-nil, arith, suc, ◌⊎◌, inl, inr}
 use Rattle.std.specs.List.{position, position_from, list_all, onto_first}
 use Rattle.std.specs.Cmp.Lexicographic.{pointwise}
 use Rattle.std.specs.Option.{option_map}
@@ -12,17 +14,20 @@ use Rattle.std.proofs.lemmas.Iterator.Adapters.{position_from-zero}
 use Rattle.std.proofs.lemmas.Slice.Eq.{bytes_eq-Decides}
 use Rattle.dist_types.specs.Addr.{◌>>=◌}
 use Rattle.dist_types.proofs.AddrLemmas.{bind_some}
-use Rattle.farm_script.specs.Words.{first_word, words, parted, next_word, strip, field, named, last, behind, is_visible}
+use Rattle.farm_script.specs.Words.{first_word, words, parted, next_word, strip, field, named, last, behind}
+use Rattle.farm_script.specs.Words.{is_visible}
 use Rattle.farm_script.proofs.VisibleLemmas.{both}
 
 -- ---- steps that may fail
 
-pub guard_off : {A : Type 0} (b : Bool) (o : Option A) (y : A) → cond b None o ≡ Some y → (b ≡ false) × (o ≡ Some y)
+pub guard_off : {A : Type 0} (b : Bool) (o : Option A) (y : A) → cond b None o ≡ Some y → (b ≡ false)
+    × (o ≡ Some y)
 guard_off true o y e = absurd cc
 guard_off false o y e = (refl, e)
 
 -- a step that gave a value, and what the rest makes of it
-pub bind_is : {A B : Type 0} (o : Option A) (f : A → Option B) (x : A) (y : Option B) → o ≡ Some x → f x ≡ y → (o >>= f) ≡ y
+pub bind_is : {A B : Type 0} (o : Option A) (f : A → Option B) (x : A) (y : Option B) → o ≡ Some x → f x ≡ y
+    → (o >>= f) ≡ y
 bind_is o f x y e h = ap (λ (p : Option _). p >>= f) e ∙ h
 
 -- a reader of texts, and the relation that it decides
@@ -46,23 +51,29 @@ visible_lacks (b ∷ bs) e =
 
 -- ---- cutting at the first space
 
-found_at : (i : ℕ) (w rest : List ℕ) → Lacks w → position_from (λ b. b == 32) i (w ++ 32 ∷ rest) ≡ Some (i + length w)
+found_at : (i : ℕ) (w rest : List ℕ) → Lacks w → position_from (λ b. b == 32) i (w ++ 32 ∷ rest) ≡ Some
+    (i + length w)
 found_at i [] rest l = ap (λ (n : ℕ). Some n) (omega arith)
 found_at i (b ∷ bs) rest l =
-    ap (λ (v : Bool). cond v (Some i) (position_from (λ b. b == 32) (i + 1) (bs ++ 32 ∷ rest))) l.0 ∙ found_at (i + 1) bs rest l.1 ∙ ap (λ (n : ℕ). Some n) (omega arith)
+    ap (λ (v : Bool). cond v (Some i) (position_from (λ b. b == 32) (i + 1) (bs ++ 32 ∷ rest))) l.0
+    ∙ found_at (i + 1) bs rest l.1 ∙ ap (λ (n : ℕ). Some n) (omega arith)
 
 space_behind : (w rest : List ℕ) → Lacks w → position (λ b. b == 32) (w ++ 32 ∷ rest) ≡ Some (length w)
-space_behind w rest l = position_from-zero (λ b. b == 32) (w ++ 32 ∷ rest) ∙ found_at 0 w rest l ∙ ap (λ (n : ℕ). Some n) (omega arith)
+space_behind w rest l = position_from-zero (λ b. b == 32) (w ++ 32 ∷ rest) ∙ found_at 0 w rest l
+    ∙ ap (λ (n : ℕ). Some n) (omega arith)
 
 pub first_word_complete : (w rest : List ℕ) → Lacks w → first_word (w ++ 32 ∷ rest) ≡ Some (w, rest)
 first_word_complete w rest l =
     let place : position (λ b. b == 32) (w ++ 32 ∷ rest) ≡ Some (length w) = space_behind w rest l in
     let front : take (length w) (w ++ 32 ∷ rest) ≡ w = take_at w (32 ∷ rest) (length w) refl in
     let back : drop (length w + 1) (w ++ 32 ∷ rest) ≡ rest =
-    ap (λ (x : List ℕ). drop (length w + 1) x) (sym (append_assoc w (32 ∷ []) rest)) ∙ drop_at (w ++ 32 ∷ []) rest (length w + 1) (omega (arith, length-append w (32 ∷ []))) in
+    ap (λ (x : List ℕ). drop (length w + 1) x) (sym (append_assoc w (32 ∷ []) rest))
+    ∙ drop_at (w ++ 32 ∷ []) rest (length w + 1) (omega (arith, length-append w (32 ∷ []))) in
     rw (place, front, back) refl
 
-pub first_place : (t w rest : List ℕ) (o : Option ℕ) → position (λ b. b == 32) t ≡ o → option_map {U = List ℕ × List ℕ} (λ i. (take i t, drop (i + 1) t)) o ≡ Some (w, rest) → t ≡ w ++ 32 ∷ rest
+pub first_place : (t w rest : List ℕ) (o : Option ℕ) → position (λ b. b == 32) t ≡ o
+    → option_map {U = List ℕ × List ℕ} (λ i. (take i t, drop (i + 1) t)) o ≡ Some (w, rest)
+    → t ≡ w ++ 32 ∷ rest
 first_place t w rest None is e = absurd cc
 first_place t w rest (Some i) is e =
     let at = position-Some (λ b. b == 32) t i 0 is in
@@ -88,38 +99,50 @@ strip_complete p r =
 
 -- ---- a field and the space that ends it
 
-pub field_sound : {A : Type 0} (read : List ℕ → Option A) (Is : List ℕ → A → Type 0) (law : IsReader read Is) (t : List ℕ) (x : A) (rest : List ℕ)
+pub field_sound : {A : Type 0} (read : List ℕ → Option A) (Is : List ℕ → A → Type 0) (law : IsReader read Is)
+    (t : List ℕ) (x : A) (rest : List ℕ)
     → field read t ≡ Some (x, rest) → (w : List ℕ) × Is w x × (t ≡ w ++ 32 ∷ rest)
 field_sound read Is law t x rest e =
     let a = bind_some (first_word t) (λ w. read w.0 >>= λ y. Some (y, w.1)) (x, rest) e in
     let b = bind_some (read a.0.0) (λ y. Some (y, a.0.1)) (x, rest) a.2 in
-    let parts = some_pair_parts b.0 x a.0.1 rest b.2 in
-    (a.0.0, law.sound a.0.0 x (b.1 ∙ ap (λ y. Some y) parts.0), first_word_sound t a.0.0 a.0.1 a.1 ∙ ap (λ (r : List ℕ). a.0.0 ++ 32 ∷ r) parts.1)
+    let parts = some_pair_parts b.0 x a.0.1 rest b.2 in (
+      a.0.0,
+      law.sound a.0.0 x (b.1 ∙ ap (λ y. Some y) parts.0),
+      first_word_sound t a.0.0 a.0.1 a.1
+          ∙ ap (λ (r : List ℕ). a.0.0 ++ 32 ∷ r) parts.1,
+    )
 
-pub field_complete : {A : Type 0} (read : List ℕ → Option A) (Is : List ℕ → A → Type 0) (law : IsReader read Is) (w : List ℕ) (x : A) (rest : List ℕ)
+pub field_complete : {A : Type 0} (read : List ℕ → Option A) (Is : List ℕ → A → Type 0)
+    (law : IsReader read Is) (w : List ℕ) (x : A) (rest : List ℕ)
     → Is w x → Lacks w → field read (w ++ 32 ∷ rest) ≡ Some (x, rest)
 field_complete read Is law w x rest is l = rw (first_word_complete w rest l, law.complete w x is) refl
 
-pub named_sound : {A : Type 0} (p : List ℕ) (read : List ℕ → Option A) (Is : List ℕ → A → Type 0) (law : IsReader read Is) (t : List ℕ) (x : A) (rest : List ℕ)
+pub named_sound : {A : Type 0} (p : List ℕ) (read : List ℕ → Option A) (Is : List ℕ → A → Type 0)
+    (law : IsReader read Is) (t : List ℕ) (x : A) (rest : List ℕ)
     → named p read t ≡ Some (x, rest) → (w : List ℕ) × Is w x × (t ≡ p ++ (w ++ 32 ∷ rest))
 named_sound p read Is law t x rest e =
     let a = bind_some (strip p t) (λ r. field read r) (x, rest) e in
     let b = field_sound read Is law a.0 x rest a.2 in
     (b.0, b.1, strip_sound p t a.0 a.1 ∙ ap (λ (r : List ℕ). p ++ r) b.2)
 
-pub named_complete : {A : Type 0} (p : List ℕ) (read : List ℕ → Option A) (Is : List ℕ → A → Type 0) (law : IsReader read Is) (w : List ℕ) (x : A) (rest : List ℕ)
+pub named_complete : {A : Type 0} (p : List ℕ) (read : List ℕ → Option A) (Is : List ℕ → A → Type 0)
+    (law : IsReader read Is) (w : List ℕ) (x : A) (rest : List ℕ)
     → Is w x → Lacks w → named p read (p ++ (w ++ 32 ∷ rest)) ≡ Some (x, rest)
-named_complete p read Is law w x rest is l = ap (λ (o : Option (List ℕ)). o >>= λ r. field read r) (strip_complete p (w ++ 32 ∷ rest)) ∙ field_complete read Is law w x rest is l
+named_complete p read Is law w x rest is l = ap (λ (o : Option (List ℕ)). o >>= λ r. field read r)
+    (strip_complete p (w ++ 32 ∷ rest)) ∙ field_complete read Is law w x rest is l
 
-pub last_sound : {A : Type 0} (p : List ℕ) (read : List ℕ → Option A) (Is : List ℕ → A → Type 0) (law : IsReader read Is) (t : List ℕ) (x : A)
+pub last_sound : {A : Type 0} (p : List ℕ) (read : List ℕ → Option A) (Is : List ℕ → A → Type 0)
+    (law : IsReader read Is) (t : List ℕ) (x : A)
     → last p read t ≡ Some x → (w : List ℕ) × Is w x × (t ≡ p ++ w)
 last_sound p read Is law t x e =
     let a = bind_some (strip p t) read x e in
     (a.0, law.sound a.0 x a.2, strip_sound p t a.0 a.1)
 
-pub last_complete : {A : Type 0} (p : List ℕ) (read : List ℕ → Option A) (Is : List ℕ → A → Type 0) (law : IsReader read Is) (w : List ℕ) (x : A)
+pub last_complete : {A : Type 0} (p : List ℕ) (read : List ℕ → Option A) (Is : List ℕ → A → Type 0)
+    (law : IsReader read Is) (w : List ℕ) (x : A)
     → Is w x → last p read (p ++ w) ≡ Some x
-last_complete p read Is law w x is = ap (λ (o : Option (List ℕ)). o >>= read) (strip_complete p w) ∙ law.complete w x is
+last_complete p read Is law w x is = ap (λ (o : Option (List ℕ)). o >>= read) (strip_complete p w)
+    ∙ law.complete w x is
 
 -- ---- the parts of a text, one after the other
 
@@ -135,7 +158,8 @@ follow_number t p w d r s e same rest = cc
 
 -- ---- the words of a text
 
-off_words : (b : Bool) (c : ℕ) (ws : List (List ℕ)) → b ≡ false → cond b ([] ∷ ws) (onto_first c ws) ≡ onto_first c ws
+off_words : (b : Bool) (c : ℕ) (ws : List (List ℕ)) → b ≡ false
+    → cond b ([] ∷ ws) (onto_first c ws) ≡ onto_first c ws
 off_words true c ws e = absurd cc
 off_words false c ws e = refl
 
@@ -147,7 +171,8 @@ words_end (c ∷ cs) l = off_words (c == 32) c (words cs) l.0 ∙ ap (onto_first
 pub words_at : (w rest : List ℕ) → Lacks w → words (w ++ 32 ∷ rest) ≡ w ∷ words rest
 unfolding words
 words_at [] rest l = refl
-words_at (c ∷ cs) rest l = off_words (c == 32) c (words (cs ++ 32 ∷ rest)) l.0 ∙ ap (onto_first c) (words_at cs rest l.1)
+words_at (c ∷ cs) rest l = off_words (c == 32) c (words (cs ++ 32 ∷ rest)) l.0
+    ∙ ap (onto_first c) (words_at cs rest l.1)
 
 -- what stands before the first space has none
 none_lacks_step : (b : Bool) (i : ℕ) (o : Option ℕ) → cond b (Some i) o ≡ None → (b ≡ false) × (o ≡ None)
@@ -163,11 +188,13 @@ none_from i (c ∷ cs) e =
 pub none_lacks : (t : List ℕ) → position (λ b. b == 32) t ≡ None → Lacks t
 none_lacks t e = none_from 0 t (sym (position_from-zero (λ b. b == 32) t) ∙ e)
 
-some_step : (b : Bool) (i k : ℕ) (o : Option ℕ) → cond b (Some i) o ≡ Some k → ((b ≡ true) × (i ≡ k)) ⊎ ((b ≡ false) × (o ≡ Some k))
+some_step : (b : Bool) (i k : ℕ) (o : Option ℕ) → cond b (Some i) o ≡ Some k → ((b ≡ true) × (i ≡ k))
+    ⊎ ((b ≡ false) × (o ≡ Some k))
 some_step true i k o e = inl (refl, cc)
 some_step false i k o e = inr (refl, e)
 
-some_from : (i k : ℕ) (t : List ℕ) → position_from (λ b. b == 32) i t ≡ Some k → (j : ℕ) × (k ≡ i + j) × Lacks (take j t)
+some_from : (i k : ℕ) (t : List ℕ) → position_from (λ b. b == 32) i t ≡ Some k → (j : ℕ) × (k ≡ i + j)
+    × Lacks (take j t)
 some_from i k [] e = absurd cc
 some_from i k (c ∷ cs) e = elim (some_step (c == 32) i k (position_from (λ b. b == 32) (i + 1) cs) e) [
   | inl p ↦ (0, omega (arith, p.1), tt)
@@ -189,7 +216,8 @@ spaced (Some t) = 32 ∷ t
 
 not_found : (i : ℕ) (w : List ℕ) → Lacks w → position_from (λ b. b == 32) i w ≡ None
 not_found i [] l = refl
-not_found i (b ∷ bs) l = ap (λ (v : Bool). cond v (Some i) (position_from (λ b. b == 32) (i + 1) bs)) l.0 ∙ not_found (i + 1) bs l.1
+not_found i (b ∷ bs) l = ap (λ (v : Bool). cond v (Some i) (position_from (λ b. b == 32) (i + 1) bs)) l.0
+    ∙ not_found (i + 1) bs l.1
 
 pub next_word_at : (w : List ℕ) (o : Option (List ℕ)) → Lacks w → next_word (w ++ spaced o) ≡ (w, o)
 next_word_at w None l =
@@ -199,10 +227,12 @@ next_word_at w (Some rest) l =
     let place : position (λ b. b == 32) (w ++ 32 ∷ rest) ≡ Some (length w) = space_behind w rest l in
     let front : take (length w) (w ++ 32 ∷ rest) ≡ w = take_at w (32 ∷ rest) (length w) refl in
     let back : drop (length w + 1) (w ++ 32 ∷ rest) ≡ rest =
-    ap (λ (x : List ℕ). drop (length w + 1) x) (sym (append_assoc w (32 ∷ []) rest)) ∙ drop_at (w ++ 32 ∷ []) rest (length w + 1) (omega (arith, length-append w (32 ∷ []))) in
+    ap (λ (x : List ℕ). drop (length w + 1) x) (sym (append_assoc w (32 ∷ []) rest))
+    ∙ drop_at (w ++ 32 ∷ []) rest (length w + 1) (omega (arith, length-append w (32 ∷ []))) in
     ap (parted (w ++ 32 ∷ rest)) place ∙ cc
 
-parted_text : (t : List ℕ) (o : Option ℕ) → position (λ b. b == 32) t ≡ o → t ≡ (parted t o).0 ++ spaced (parted t o).1
+parted_text : (t : List ℕ) (o : Option ℕ) → position (λ b. b == 32) t ≡ o
+    → t ≡ (parted t o).0 ++ spaced (parted t o).1
 parted_text t None e = sym (append-nil t)
 parted_text t (Some i) e = first_place t (take i t) (drop (i + 1) t) (Some i) e refl
 
@@ -210,10 +240,12 @@ pub next_word_text : (t : List ℕ) → t ≡ (next_word t).0 ++ spaced (next_wo
 next_word_text t = parted_text t (position (λ b. b == 32) t) refl
 
 -- a text that begins with a prefix, and one that does not
-pub behind_is : {A : Type 0} (p r : List ℕ) (read : List ℕ → Option A) (other : Option A) → behind (strip p (p ++ r)) read other ≡ read r
+pub behind_is : {A : Type 0} (p r : List ℕ) (read : List ℕ → Option A) (other : Option A)
+    → behind (strip p (p ++ r)) read other ≡ read r
 behind_is p r read other = ap (λ (o : Option (List ℕ)). behind o read other) (strip_complete p r)
 
-pub behind_cases : {A : Type 0} (p t : List ℕ) (read : List ℕ → Option A) (other : Option A) (o : Option (List ℕ)) (y : A) → strip p t ≡ o → behind o read other ≡ Some y
+pub behind_cases : {A : Type 0} (p t : List ℕ) (read : List ℕ → Option A) (other : Option A)
+    (o : Option (List ℕ)) (y : A) → strip p t ≡ o → behind o read other ≡ Some y
     → ((r : List ℕ) × (t ≡ p ++ r) × (read r ≡ Some y)) ⊎ (other ≡ Some y)
 behind_cases p t read other (Some r) y is e = inl (r, strip_sound p t r is, e)
 behind_cases p t read other None y is e = inr e

@@ -5,7 +5,9 @@ use Rattle.farm_script.specs.Texts.{◌⧺◌}
 use Rattle.farm_script.specs.declared.fault.ConfigCause.{ConfigCause}
 use Rattle.farm_script.specs.declared.fault.ConfigCause.TheVariants.{Missing, Unreadable, NotToml, Key}
 use Rattle.farm_script.specs.declared.fault.FarmFault.{FarmFault}
-use Rattle.farm_script.specs.declared.fault.FarmFault.TheVariants.{Usage, BadLine, DuplicateAddress, ScopedAddress, ReadFault, WriteFault, BadConfig, ServeFault, Memory}
+use Rattle.farm_script.specs.declared.fault.FarmFault.TheVariants.{Usage, BadLine, DuplicateAddress}
+use Rattle.farm_script.specs.declared.fault.FarmFault.TheVariants.{ScopedAddress, ReadFault, WriteFault}
+use Rattle.farm_script.specs.declared.fault.FarmFault.TheVariants.{BadConfig, ServeFault, Memory}
 
 -- why a configuration is none
 abbrev pub cause_text : ConfigCause → List ℕ

@@ -1,5 +1,7 @@
 -- The fields of a line, each read from one word.
-use Rattle.std.specs.Prelude.{ℕ, ◌+◌, ◌-◌, ◌*◌, ◌==◌, ◌&&◌, ◌||◌, nat_eq, nat_lt, nat_le, Bool, if◌then◌else◌, List, [], ◌∷◌, length, slice_index, Option, Some, None, Result, Ok, Err, codes, ℤ, pos, negsuc}
+use Rattle.std.specs.Prelude.{ℕ, ◌+◌, ◌-◌, ◌*◌, ◌==◌, ◌&&◌, ◌||◌, nat_eq, nat_lt, nat_le, Bool, if◌then◌else◌}
+use Rattle.std.specs.Prelude.{List, [], ◌∷◌, length, slice_index, Option, Some, None, Result, Ok, Err, codes}
+use Rattle.std.specs.Prelude.{ℤ, pos, negsuc}
 use Rattle.std.specs.Char.{is_ascii_digit}
 use Rattle.std.specs.List.{list_all}
 use Rattle.std.specs.Str.{is_utf8}
@@ -14,7 +16,8 @@ use Rattle.farm_script.specs.Words.{is_visible}
 
 -- a number with one more digit, below 2 ^ 64
 abbrev pub append_digit : ℕ → ℕ → Option ℕ
-append_digit n c = if is_ascii_digit c && nat_lt (n * 10 + (c - 48)) 18446744073709551616 then Some (n * 10 + (c - 48)) else None
+append_digit n c = if is_ascii_digit c && nat_lt (n * 10 + (c - 48)) 18446744073709551616
+    then Some (n * 10 + (c - 48)) else None
 
 -- a number with more digits
 unfoldable pub digits_on : ℕ → List ℕ → Option ℕ
@@ -23,7 +26,8 @@ digits_on n (c ∷ cs) = append_digit n c >>= λ m. digits_on m cs
 
 -- digits without a leading zero, below 2 ^ 64
 abbrev pub number_at : List ℕ → Option ℕ
-number_at t = if (length t == 0) || (nat_lt 1 (length t) && (slice_index t 0 == 48)) then None else digits_on 0 t
+number_at t = if (length t == 0) || (nat_lt 1 (length t) && (slice_index t 0 == 48)) then None
+    else digits_on 0 t
 
 -- a number from 1 to 2 ^ 31, below 0
 abbrev pub below_zero : ℕ → Option ℤ
@@ -70,7 +74,8 @@ ok_of (Err e) = None
 
 -- pairs of hex digits, at least one, or a dash for no bytes
 abbrev pub hex_at : List ℕ → Option (List ℕ)
-hex_at t = if pointwise nat_eq t (codes "-") then Some [] else if length t == 0 then None else ok_of (decode_of t)
+hex_at t = if pointwise nat_eq t (codes "-") then Some [] else if length t == 0 then None
+    else ok_of (decode_of t)
 
 -- 1 to 1,024 bytes
 abbrev pub as_key : List ℕ → Option (List ℕ)

@@ -14,7 +14,8 @@ abbrev pub size : List (List ℕ) → ℕ
 size [] = 0
 size (p ∷ ps) = length p + size ps
 
--- Line p, behind lines that say this, is within the limits, in the grammar but for scopes of its addresses, and in its place.
+-- Line p, behind lines that say this, is within the limits, in the grammar but for scopes of its addresses,
+-- and in its place.
 pub record IsInPlace (done : List (List ℕ)) (said : List Line) (p : List ℕ) : Type 0 where
   pub number : length done < 1000000
   pub room : size done + length p ≤ 67108864
@@ -36,19 +37,22 @@ pub record IsDuplicate (done : List (List ℕ)) (said : List Line) (p : List ℕ
   pub says : IsLine (text_of p) line
   pub again : duplicate (before_of said) line ≡ true
 
--- Why a line is faulty, with its number: it is not in its place; or it is, and is a line for a scope alone; or it is a line, and its address stands before.
+-- Why a line is faulty, with its number: it is not in its place; or it is, and is a line for a scope alone;
+-- or it is a line, and its address stands before.
 abbrev pub IsFaulty : List (List ℕ) → List Line → List ℕ → FarmFault → Type 0
 IsFaulty done said p (fault.BadLine n) = (n ≡ length done + 1) × (IsInPlace done said p → ⊥)
-IsFaulty done said p (fault.ScopedAddress n) = (n ≡ length done + 1) × IsInPlace done said p × ((l : Line) → IsLine (text_of p) l → ⊥)
+IsFaulty done said p (fault.ScopedAddress n) = (n ≡ length done + 1) × IsInPlace done said p
+    × ((l : Line) → IsLine (text_of p) l → ⊥)
 IsFaulty done said p (fault.DuplicateAddress n) = (n ≡ length done + 1) × IsDuplicate done said p
 IsFaulty done said p other = ⊥
 
--- The first fault from here on, behind lines that are done and say this. Where no line is faulty, but none says the scheduler, it is a bad line at the
--- number after the last.
+-- The first fault from here on, behind lines that are done and say this. Where no line is faulty, but none
+-- says the scheduler, it is a bad line at the number after the last.
 abbrev pub FirstFaultyFrom : List (List ℕ) → List Line → List (List ℕ) → FarmFault → Type 0
 FirstFaultyFrom done said [] f = (filter_map scheduler_in said ≡ []) × (f ≡ fault.BadLine (length done + 1))
 FirstFaultyFrom done said (p ∷ ps) f =
-    IsFaulty done said p f ⊎ ((l : Line) × IsFine done said p l × FirstFaultyFrom (done ++ p ∷ []) (said ++ l ∷ []) ps f)
+    IsFaulty done said p f ⊎ ((l : Line) × IsFine done said p l × FirstFaultyFrom (done ++ p ∷ [])
+    (said ++ l ∷ []) ps f)
 
 -- the input's first faulty line has this cause and number
 abbrev pub IsFirstFaulty : List ℕ → FarmFault → Type 0

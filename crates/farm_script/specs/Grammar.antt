@@ -1,5 +1,6 @@
 -- The grammar of lines: which bytes spell which value.
-use Rattle.std.specs.Prelude.{◌≡◌, ℕ, ◌^◌, ◌<◌, ◌≤◌, ◌⊎◌, true, List, [], ◌∷◌, ◌++◌, length, Ok, codes, ℤ, pos, negsuc, suc}
+use Rattle.std.specs.Prelude.{◌≡◌, ℕ, ◌^◌, ◌<◌, ◌≤◌, ◌⊎◌, true, List, [], ◌∷◌, ◌++◌, length, Ok, codes, ℤ}
+use Rattle.std.specs.Prelude.{pos, negsuc, suc}
 use Rattle.std.specs.List.{list_all}
 use Rattle.std.specs.Str.{IsUtf8}
 use Rattle.std.specs.Fmt.{decimal}
@@ -19,7 +20,8 @@ use Rattle.farm_script.specs.declared.setup.SetupScheduler.{SetupScheduler}
 use Rattle.farm_script.specs.declared.setup.SetupServer.{SetupServer}
 use Rattle.farm_script.specs.declared.event.Event.{Event}
 use Rattle.farm_script.specs.declared.event.EventKind.{EventKind}
-use Rattle.farm_script.specs.declared.event.EventKind.TheVariants.{Request, Deliver, Fail, Return, Answer, Beat, Restart}
+use Rattle.farm_script.specs.declared.event.EventKind.TheVariants.{Request, Deliver, Fail, Return, Answer}
+use Rattle.farm_script.specs.declared.event.EventKind.TheVariants.{Beat, Restart}
 use Rattle.farm_script.specs.declared.lines.SetupLine.{SetupLine}
 use Rattle.farm_script.specs.declared.lines.SetupLine.TheVariants.{Scheduler, Server, Builder}
 use Rattle.farm_script.specs.declared.lines.Line.{Line}
@@ -81,7 +83,8 @@ pub record IsSchedulerLine (scopes : Scopes) (t : List ℕ) (s : SetupScheduler)
   pub count : s.count < 2 ^ 64
   pub is_client : IsToken client s.client
   pub is_auth : IsAuth auth s.auth
-  pub spelled : t ≡ codes "scheduler " ⧺ addr ⧺ codes " base " ⧺ decimal s.base ⧺ codes " count " ⧺ decimal s.count ⧺ codes " client " ⧺ client ⧺ codes " " ⧺ auth
+  pub spelled : t ≡ codes "scheduler " ⧺ addr ⧺ codes " base " ⧺ decimal s.base ⧺ codes " count "
+      ⧺ decimal s.count ⧺ codes " client " ⧺ client ⧺ codes " " ⧺ auth
 
 -- server ADDR cpus N nonce N key KEY capacity N
 pub record IsServerLine (scopes : Scopes) (t : List ℕ) (s : SetupServer) : Type 0 where
@@ -93,7 +96,8 @@ pub record IsServerLine (scopes : Scopes) (t : List ℕ) (s : SetupServer) : Typ
   pub is_key : IsKey key s.key
   pub capacity : s.capacity < 2 ^ 64
   pub builder : s.builder ≡ []
-  pub spelled : t ≡ codes "server " ⧺ addr ⧺ codes " cpus " ⧺ decimal s.cpus ⧺ codes " nonce " ⧺ decimal s.nonce ⧺ codes " key " ⧺ key ⧺ codes " capacity " ⧺ decimal s.capacity
+  pub spelled : t ≡ codes "server " ⧺ addr ⧺ codes " cpus " ⧺ decimal s.cpus ⧺ codes " nonce "
+      ⧺ decimal s.nonce ⧺ codes " key " ⧺ key ⧺ codes " capacity " ⧺ decimal s.capacity
 
 -- a space, a name, a space and bytes, for each output
 abbrev pub AreOutputs : List ℕ → List (List ℕ × List ℕ) → Type 0
@@ -103,7 +107,8 @@ AreOutputs t (output ∷ outputs) =
     × (t ≡ codes " " ⧺ name ⧺ codes " " ⧺ bytes ⧺ more)
 
 -- ok CODE HEX HEX, and a name and bytes for each output
-pub record IsListed (t : List ℕ) (code : ℤ) (stdout stderr : List ℕ) (outputs : List (List ℕ × List ℕ)) : Type 0 where
+pub record IsListed (t : List ℕ) (code : ℤ) (stdout stderr : List ℕ) (outputs : List (List ℕ × List ℕ)) : Type
+    0 where
   pub code_text : List ℕ
   pub out_text : List ℕ
   pub err_text : List ℕ
@@ -134,7 +139,8 @@ IsSetupLine scopes t (Server s) = IsServerLine scopes t s
 IsSetupLine scopes t (Builder addr answer) = IsBuilderLine t addr answer
 
 -- request ADDR ADDR HEX
-pub record IsRequest (scopes : Scopes) (t : List ℕ) (target_addr peer_addr : Addr) (value : List ℕ) : Type 0 where
+pub record IsRequest (scopes : Scopes) (t : List ℕ) (target_addr peer_addr : Addr)
+    (value : List ℕ) : Type 0 where
   pub target : List ℕ
   pub peer : List ℕ
   pub hex : List ℕ
@@ -162,7 +168,8 @@ pub record IsBeat (scopes : Scopes) (t : List ℕ) (server_addr : Addr) : Type 0
   pub spelled : t ≡ codes "beat " ⧺ server
 
 -- restart ADDR key KEY nonce N
-pub record IsRestart (scopes : Scopes) (t : List ℕ) (server_addr : Addr) (value : List ℕ) (nonce : ℕ) : Type 0 where
+pub record IsRestart (scopes : Scopes) (t : List ℕ) (server_addr : Addr) (value : List ℕ)
+    (nonce : ℕ) : Type 0 where
   pub server : List ℕ
   pub key : List ℕ
   pub is_server : IsHost scopes server server_addr
@@ -187,7 +194,8 @@ pub record IsEventLine (scopes : Scopes) (t : List ℕ) (e : Event) : Type 0 whe
   pub is_kind : IsKind scopes kind e.kind
   pub spelled : t ≡ decimal e.at ⧺ codes " " ⧺ kind
 
--- A line is skipped, or says how the farm is set up, or what happens. Its addresses may have scopes where those are taken.
+-- A line is skipped, or says how the farm is set up, or what happens. Its addresses may have scopes where
+-- those are taken.
 abbrev pub Spells : Scopes → List ℕ → Line → Type 0
 Spells scopes t lines.Skip = (t ≡ []) ⊎ ((rest : List ℕ) × (t ≡ codes "#" ++ rest))
 Spells scopes t (lines.Setup s) = IsSetupLine scopes t s

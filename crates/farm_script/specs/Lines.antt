@@ -1,5 +1,6 @@
 -- What a line says. Of an address with a scope the reader takes or refuses the word, as it is told.
-use Rattle.std.specs.Prelude.{ℕ, ◌==◌, nat_eq, Bool, true, if◌then◌else◌, List, [], ◌∷◌, Option, Some, None, codes}
+use Rattle.std.specs.Prelude.{ℕ, ◌==◌, nat_eq, Bool, true, if◌then◌else◌, List, [], ◌∷◌, Option, Some, None}
+use Rattle.std.specs.Prelude.{codes}
 use Rattle.std.specs.Cmp.Lexicographic.{pointwise}
 use Rattle.dist_types.specs.Addr.{◌>>=◌}
 use Rattle.farm_script.specs.Words.{first_word, next_word, words, strip, field, named, last, behind}
@@ -13,7 +14,8 @@ use Rattle.farm_script.specs.declared.setup.SetupScheduler.{SetupScheduler}
 use Rattle.farm_script.specs.declared.setup.SetupServer.{SetupServer}
 use Rattle.farm_script.specs.declared.event.Event.{Event}
 use Rattle.farm_script.specs.declared.event.EventKind.{EventKind}
-use Rattle.farm_script.specs.declared.event.EventKind.TheVariants.{Request, Deliver, Fail, Return, Answer, Beat, Restart}
+use Rattle.farm_script.specs.declared.event.EventKind.TheVariants.{Request, Deliver, Fail, Return, Answer}
+use Rattle.farm_script.specs.declared.event.EventKind.TheVariants.{Beat, Restart}
 use Rattle.farm_script.specs.declared.lines.SetupLine.{SetupLine}
 use Rattle.farm_script.specs.declared.lines.SetupLine.TheVariants.{Scheduler, Server, Builder}
 use Rattle.farm_script.specs.declared.lines.Line.{Line}
@@ -43,7 +45,14 @@ server_at scopes t = do
   nonce ← named (codes "nonce ") number_at cpus.1
   key ← named (codes "key ") key_at nonce.1
   capacity ← last (codes "capacity ") number_at key.1
-  Some (record { addr = addr.0; cpus = cpus.0; nonce = nonce.0; key = key.0; capacity = capacity; builder = [] })
+  Some (record {
+    addr = addr.0;
+    cpus = cpus.0;
+    nonce = nonce.0;
+    key = key.0;
+    capacity = capacity;
+    builder = [];
+  })
 
 -- the names and bytes of outputs, a word each
 unfoldable pub outputs_at : List (List ℕ) → Option (List (List ℕ × List ℕ))
@@ -144,7 +153,8 @@ is_skipped (c ∷ cs) = c == 35
 -- what a line says that is not skipped: by its first word, else an event
 unfoldable pub said_at : Scopes → List ℕ → Option Line
 said_at scopes t =
-    behind (strip (codes "scheduler ") t) (λ r. scheduler_at scopes r >>= λ s. Some (lines.Setup (Scheduler s)))
+    behind (strip (codes "scheduler ") t)
+    (λ r. scheduler_at scopes r >>= λ s. Some (lines.Setup (Scheduler s)))
     (behind (strip (codes "server ") t) (λ r. server_at scopes r >>= λ s. Some (lines.Setup (Server s)))
     (behind (strip (codes "builder ") t) (λ r. builder_at r >>= λ b. Some (lines.Setup b))
     (event_at scopes t >>= λ e. Some (lines.Event e))))

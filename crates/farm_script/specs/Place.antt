@@ -1,5 +1,6 @@
 -- Where a line may stand, by what the lines before it say.
-use Rattle.std.specs.Prelude.{◌||◌, nat_le, Bool, true, false, not, List, [], ◌∷◌, length, map, Option, Some, None}
+use Rattle.std.specs.Prelude.{◌||◌, nat_le, Bool, true, false, not, List, [], ◌∷◌, length, map, Option, Some}
+use Rattle.std.specs.Prelude.{None}
 use Rattle.std.specs.List.{filter_map, list_any}
 use Rattle.dist_types.specs.declared.addr.Addr.{Addr}
 use Rattle.dist_types.specs.Addr.{same_addr}
@@ -55,11 +56,13 @@ is_nil (x ∷ xs) = false
 abbrev pub has_addr : Addr → List Addr → Bool
 has_addr addr addrs = list_any (λ a. same_addr a addr) addrs
 
--- Setup lines stand before all events: one scheduler, behind it at most 1,000 servers, and behind a server the answers of its builder.
+-- Setup lines stand before all events: one scheduler, behind it at most 1,000 servers, and behind a server
+-- the answers of its builder.
 abbrev pub misplaced : Before → Line → Bool
 misplaced b lines.Skip = false
 misplaced b (lines.Setup (Scheduler s)) = not (is_nil b.events) || not (is_nil b.schedulers)
-misplaced b (lines.Setup (Server s)) = not (is_nil b.events) || is_nil b.schedulers || nat_le 1000 (length b.servers)
+misplaced b (lines.Setup (Server s)) = not (is_nil b.events) || is_nil b.schedulers
+    || nat_le 1000 (length b.servers)
 misplaced b (lines.Setup (Builder addr answer)) = not (is_nil b.events) || not (has_addr addr b.servers)
 misplaced b (lines.Event e) = false
 

@@ -1,5 +1,6 @@
 -- A script, read line by line: the setup and the events, or the first faulty line with its cause.
-use Rattle.std.specs.Prelude.{◌≡◌, ℕ, ◌+◌, ◌-◌, ◌&&◌, nat_le, Bool, if◌then◌else◌, List, [], ◌∷◌, ◌++◌, length, map, Option, Some, None, option_to_list, Result, Ok, Err}
+use Rattle.std.specs.Prelude.{◌≡◌, ℕ, ◌+◌, ◌-◌, ◌&&◌, nat_le, Bool, if◌then◌else◌, List, [], ◌∷◌, ◌++◌}
+use Rattle.std.specs.Prelude.{length, map, Option, Some, None, option_to_list, Result, Ok, Err}
 use Rattle.dist_types.specs.declared.addr.Addr.{Addr}
 use Rattle.dist_types.specs.Addr.{same_addr}
 use Rattle.farm_script.specs.Pieces.{pieces, text_of}
@@ -30,24 +31,37 @@ read_of r = record { scheduler = r.scheduler; servers = r.servers.items; events 
 
 -- what of it decides where a line may stand
 abbrev pub before : Read → Before
-before r = record { schedulers = map (λ s. s.addr) (option_to_list r.scheduler); servers = map (λ s. s.addr) r.servers; events = r.events }
+before r = record {
+  schedulers = map (λ s. s.addr) (option_to_list r.scheduler);
+  servers = map (λ s. s.addr) r.servers;
+  events = r.events;
+}
 
 -- the servers, of which the first at this address has one more answer of its builder
 abbrev pub answered : Addr → BuilderLine → List SetupServer → List SetupServer
 answered addr answer [] = []
-answered addr answer (s ∷ ss) = if same_addr s.addr addr then record s { builder = s.builder ++ answer ∷ [] } ∷ ss else s ∷ answered addr answer ss
+answered addr answer (s ∷ ss) = if same_addr s.addr addr
+    then record s { builder = s.builder ++ answer ∷ [] } ∷ ss else s ∷ answered addr answer ss
 
 -- what was read, with what one more line says
 abbrev pub with_line : Read → Line → Read
 with_line r lines.Skip = r
-with_line r (lines.Setup (Scheduler s)) = record { scheduler = Some s; servers = r.servers; events = r.events }
-with_line r (lines.Setup (Server s)) = record { scheduler = r.scheduler; servers = r.servers ++ s ∷ []; events = r.events }
-with_line r (lines.Setup (Builder addr answer)) = record { scheduler = r.scheduler; servers = answered addr answer r.servers; events = r.events }
-with_line r (lines.Event e) = record { scheduler = r.scheduler; servers = r.servers; events = r.events ++ e ∷ [] }
+with_line r (lines.Setup (Scheduler s)) =
+    record { scheduler = Some s; servers = r.servers; events = r.events }
+with_line r (lines.Setup (Server s)) = record {
+  scheduler = r.scheduler;
+  servers = r.servers ++ s ∷ [];
+  events = r.events;
+}
+with_line r (lines.Setup (Builder addr answer)) =
+    record { scheduler = r.scheduler; servers = answered addr answer r.servers; events = r.events }
+with_line r (lines.Event e) =
+    record { scheduler = r.scheduler; servers = r.servers; events = r.events ++ e ∷ [] }
 
 -- a line within the limits: its number, its length without its end, and where its last byte stands
 abbrev pub fits : ℕ → ℕ → List ℕ → Bool
-fits number room piece = nat_le number 1000000 && nat_le (length piece) room && nat_le (length (text_of piece)) 2097152
+fits number room piece = nat_le number 1000000 && nat_le (length piece) room
+    && nat_le (length (text_of piece)) 2097152
 
 -- what was read, with a line more, or why that line is faulty
 abbrev pub onto : ℕ → Read → Line → Result Read FarmFault
@@ -59,7 +73,8 @@ onto number r l =
 -- why a line is faulty that is one for scopes alone, or none
 abbrev pub fault_of : ℕ → Read → Option Line → FarmFault
 fault_of number r None = fault.BadLine number
-fault_of number r (Some l) = if misplaced (before r) l then fault.BadLine number else fault.ScopedAddress number
+fault_of number r (Some l) = if misplaced (before r) l then fault.BadLine number
+    else fault.ScopedAddress number
 
 -- what was read, with what the line says, or why it is faulty
 abbrev pub judged : ℕ → Read → Option Line → Option Line → Result Read FarmFault
@@ -69,7 +84,8 @@ judged number r None any = Err (fault_of number r any)
 -- what was read, with one line more, or why it is faulty
 abbrev pub take_line : ℕ → ℕ → Read → List ℕ → Result Read FarmFault
 take_line number room r piece =
-    if fits number room piece then judged number r (line_at Refused (text_of piece)) (line_at Taken (text_of piece))
+    if fits number room piece then judged number r (line_at Refused (text_of piece))
+    (line_at Taken (text_of piece))
     else Err (fault.BadLine number)
 
 -- the next step, where this one met no fault
@@ -89,7 +105,8 @@ finished number r = finished_with number r r.scheduler
 -- the lines from this number on, with so much room left, behind what was read
 unfoldable pub script_from : ℕ → ℕ → Read → List (List ℕ) → Result (Setup × List Event) FarmFault
 script_from number room r [] = finished number r
-script_from number room r (p ∷ ps) = and_then (take_line number room r p) (λ s. script_from (number + 1) (room - length p) s ps)
+script_from number room r (p ∷ ps) = and_then (take_line number room r p)
+    (λ s. script_from (number + 1) (room - length p) s ps)
 
 -- at the start
 abbrev pub nothing_read : Read

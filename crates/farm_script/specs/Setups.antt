@@ -17,7 +17,8 @@ abbrev pub HasAuth : SetupAuth → Type 0
 HasAuth (Plain token) = IsToken token token
 HasAuth (Jwt key) = HasKeyLength key
 
--- The addresses of the scheduler and of its servers differ; there are at most 1,000 servers; tokens and keys have their lengths.
+-- The addresses of the scheduler and of its servers differ; there are at most 1,000 servers; tokens and keys
+-- have their lengths.
 pub record IsSetup (s : Setup) : Type 0 where
   pub apart : AreApart (s.scheduler.addr ∷ map (λ x. x.addr) s.servers)
   pub few : length s.servers ≤ 1000

@@ -33,7 +33,8 @@ EachLine (p ∷ ps) (l ∷ ls) = IsLine (text_of p) l × EachLine ps ls
 EachLine [] (l ∷ ls) = ⊥
 EachLine (p ∷ ps) [] = ⊥
 
--- The script's lines spell values, of which one is the scheduler, others are the servers, each with the answers of its builder, and others are the events, in order.
+-- The script's lines spell values, of which one is the scheduler, others are the servers, each with the
+-- answers of its builder, and others are the events, in order.
 pub record Says (bytes : List ℕ) (setup : Setup) (events : List Event) : Type 0 where
   pub lines : List Line
   pub each : EachLine (pieces bytes) lines

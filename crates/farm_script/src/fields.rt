@@ -2,7 +2,9 @@
 ghost use Rattle.std.specs.Prelude.{◌≡◌};
 ghost use Rattle.farm_script.specs.Reading.{Gives};
 ghost use Rattle.farm_script.specs.Words.{field};
-ghost use Rattle.farm_script.specs.Fields.{append_digit, digits_on, number_at, below_zero, from_zero, code_at, addr_at, any_addr_at, host_at, is_token, token_at, hex_at, as_key, key_at, as_name, name_at};
+ghost use Rattle.farm_script.specs.Fields.{append_digit, digits_on, number_at, below_zero, from_zero};
+ghost use Rattle.farm_script.specs.Fields.{code_at, addr_at, any_addr_at, host_at, is_token, token_at};
+ghost use Rattle.farm_script.specs.Fields.{hex_at, as_key, key_at, as_name, name_at};
 
 use crate::fault::LineFault;
 use crate::lines::Scopes;

@@ -2,7 +2,9 @@
 ghost use Rattle.std.specs.Prelude.{◌≡◌};
 ghost use Rattle.std.specs.Option.{option_map};
 ghost use Rattle.farm_script.specs.Reading.{Gives};
-ghost use Rattle.farm_script.specs.Lines.{auth_at, scheduler_at, server_at, output_at, outputs_behind, listed_at, answer_line_at, builder_at, request_at, answer_at, restart_at, kind_behind, kind_at, event_at, said_at, line_at};
+ghost use Rattle.farm_script.specs.Lines.{auth_at, scheduler_at, server_at, output_at, outputs_behind};
+ghost use Rattle.farm_script.specs.Lines.{listed_at, answer_line_at, builder_at, request_at, answer_at};
+ghost use Rattle.farm_script.specs.Lines.{restart_at, kind_behind, kind_at, event_at, said_at, line_at};
 
 use crate::event::{Event, EventKind};
 use crate::fault::LineFault;

@@ -1,12 +1,14 @@
 //! Scripts, read line by line.
-ghost use Rattle.std.specs.Prelude.{◌≡◌, ◌≤◌, ◌++◌, ◌∷◌, [], ℕ, length, map, option_to_list, IfOk, IfErr, OnOk, IsTrue, ◌⊎◌, ◌||◌, position};
+ghost use Rattle.std.specs.Prelude.{◌≡◌, ◌≤◌, ◌++◌, ◌∷◌, [], ℕ, length, map, option_to_list, IfOk, IfErr};
+ghost use Rattle.std.specs.Prelude.{OnOk, IsTrue, ◌⊎◌, ◌||◌, position};
 ghost use Rattle.dist_types.specs.Addr.{same_addr};
 ghost use Rattle.farm_script.specs.Lines.{line_at};
 ghost use Rattle.farm_script.specs.Place.{misplaced, duplicate, has_addr};
 ghost use Rattle.farm_script.specs.FirstFaulty.{IsFirstFaulty};
 ghost use Rattle.farm_script.specs.Spelled.{Says};
 ghost use Rattle.farm_script.specs.Setups.{IsSetup};
-ghost use Rattle.farm_script.specs.Script.{read_of, before, answered, with_line, onto, fault_of, fits, take_line, finished, script, Tells, GivesScript};
+ghost use Rattle.farm_script.specs.Script.{read_of, before, answered, with_line, onto, fault_of, fits};
+ghost use Rattle.farm_script.specs.Script.{take_line, finished, script, Tells, GivesScript};
 ghost use Rattle.farm_script.specs.declared.fault.FarmFault.TheVariants as fault;
 ghost use Rattle.farm_script.specs.declared.lines.Scopes.TheVariants.{Taken};
 
@@ -89,7 +91,8 @@ fn is_misplaced(reading: &Reading, line: &Line) -> bool
 
 /// Whether the scheduler or a server is at an address.
 fn is_taken(reading: &Reading, addr: &Addr) -> bool
-    ensures { result ≡ (has_addr addr.now (before (read_of reading.now)).schedulers || has_addr addr.now (before (read_of reading.now)).servers) }
+    ensures { result ≡ (has_addr addr.now (before (read_of reading.now)).schedulers
+        || has_addr addr.now (before (read_of reading.now)).servers) }
 {
     is_at(&reading.scheduler, addr) || has_server(&reading.servers, addr)
 }
@@ -219,7 +222,8 @@ fn onto(alloc: Global, number: u64, reading: Reading, line: Line) -> Result<Read
 
 /// Why the line of this number is faulty, whose addresses without scopes are in no line.
 fn scoped_or_bad(alloc: Global, number: u64, reading: &Reading, text: &[u8]) -> FarmFault
-    ensures told { (result ≡ fault.Memory) ⊎ (result ≡ fault_of number (read_of reading.now) (line_at Taken text.now)) }
+    ensures told { (result ≡ fault.Memory)
+        ⊎ (result ≡ fault_of number (read_of reading.now) (line_at Taken text.now)) }
 {
     match read_line(alloc, Scopes::Taken, text) {
         Ok(line) => {

@@ -1,5 +1,6 @@
 -- A token is found where a text is what it says, and a text is compared as a list.
-use Rattle.std.proofs.Common.{◌≡◌, ℕ, cond, List, ◌∷◌, ◌++◌, length, take, drop, Option, Some, None, true, refl, sym, ap, ◌∙◌}
+use Rattle.std.proofs.Common.{◌≡◌, ℕ, cond, List, ◌∷◌, ◌++◌, length, take, drop, Option, Some, None, true}
+use Rattle.std.proofs.Common.{refl, sym, ap, ◌∙◌}
 use Rattle.std.specs.Prelude.{codes, bytes_eq, nat_eq}
 use Rattle.std.specs.List.{starts_with}
 use Rattle.std.proofs.lemmas.List.{take-append-drop}
@@ -17,18 +18,21 @@ equal_texts a b = (bytes_eq-Decides a b).0
 pub same_text : (a : List ℕ) → bytes_eq a a ≡ true
 same_text a = (bytes_eq-Decides a a).1 refl
 
-pub begins : (text front : List ℕ) → starts_with nat_eq text front ≡ true → text ≡ front ++ drop (length front) text
+pub begins : (text front : List ℕ) → starts_with nat_eq text front ≡ true
+    → text ≡ front ++ drop (length front) text
 begins text front h =
     let same = equal_texts front (take (length front) text) h in
     sym (take-append-drop (length front) text) ∙ ap (λ (t : List ℕ). t ++ drop (length front) text) (sym same)
 
 -- ---- tokens
 
-pub some_step : {A B : Type 0} (x : Option A) (f : A → Option B) (y : B) → (x >>= f) ≡ Some y → (a : A) × (x ≡ Some a) × (f a ≡ Some y)
+pub some_step : {A B : Type 0} (x : Option A) (f : A → Option B) (y : B) → (x >>= f) ≡ Some y → (a : A)
+    × (x ≡ Some a) × (f a ≡ Some y)
 some_step (Some a) f y e = (a, refl, e)
 some_step None f y e = absurd cc
 
-pub token_shown : (o : Option (List ℕ)) (token : List ℕ) → token_in o ≡ Some token → o ≡ Some (codes "Bearer " ++ token)
+pub token_shown : (o : Option (List ℕ)) (token : List ℕ) → token_in o ≡ Some token
+    → o ≡ Some (codes "Bearer " ++ token)
 unfolding token_in
 token_shown None token e = absurd cc
 token_shown (Some text) token e =

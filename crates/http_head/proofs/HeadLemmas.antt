@@ -11,7 +11,8 @@ use Rattle.http_head.specs.declared.request.Request.{Request}
 use Rattle.http_head.specs.Fields.{body_length}
 use Rattle.http_head.specs.Head.{HasNoHead, IsRequest, IsNoRequest, IsHeld}
 
-pub same_request : (r q : Request) → r.method ≡ q.method → r.target ≡ q.target → r.headers ≡ q.headers → r.body ≡ q.body → r ≡ q
+pub same_request : (r q : Request) → r.method ≡ q.method → r.target ≡ q.target → r.headers ≡ q.headers
+    → r.body ≡ q.body → r ≡ q
 same_request r q a b c d = λ i. record { method = a i; target = b i; headers = c i; body = d i }
 
 pub one_request : (bytes : List ℕ) (r q : Request) → IsRequest bytes r → IsRequest bytes q → r ≡ q
@@ -30,12 +31,19 @@ none_by bytes len p (h, x) refused k rest y =
     let same = request_unique bytes h k (drop len bytes) rest x.reads y.reads in
     let fields = x.fields ∙ ap (λ t. map name_and_value t.fields) same.0 in
     let count : length p.headers.now ≡ length k.fields = simp length-map at (ap length fields) in
-    refused (omega (arith, y.within.few, count)) (omega (arith, y.within.short, x.len_is, ap (λ t. length (print_request t)) same.0))
+    refused (omega (arith, y.within.few, count))
+    (omega (arith, y.within.short, x.len_is, ap (λ t. length (print_request t)) same.0))
 
-pub is_request : (bytes body : List ℕ) (p : parsed.Request) (method target : Bor (List ℕ)) (len : ℕ) → IsHeld bytes p len
+pub is_request : (bytes body : List ℕ) (p : parsed.Request) (method target : Bor (List ℕ)) (len : ℕ)
+    → IsHeld bytes p len
     → p.method ≡ Some method → p.path ≡ Some target → body ≡ drop len bytes
     → body_length (map header_parts p.headers.now) ≡ Some (length body)
-    → IsRequest bytes (record { method = method.now; target = target.now; headers = map header_parts p.headers.now; body = body })
+    → IsRequest bytes (record {
+      method = method.now;
+      target = target.now;
+      headers = map header_parts p.headers.now;
+      body = body;
+    })
 is_request bytes body p method target len x is_method is_target after says = (
   x.head,
   record {
@@ -47,7 +55,8 @@ is_request bytes body p method target len x is_method is_target after says = (
   },
 )
 
-pub no_request : (bytes body : List ℕ) (p : parsed.Request) (len : ℕ) → IsHeld bytes p len → body ≡ drop len bytes
+pub no_request : (bytes body : List ℕ) (p : parsed.Request) (len : ℕ) → IsHeld bytes p len
+    → body ≡ drop len bytes
     → (body_length (map header_parts p.headers.now) ≡ Some (length body) → ⊥) → IsNoRequest bytes
 no_request bytes body p len x after refused r (k, y) =
     let same = request_unique bytes x.head k (drop len bytes) r.body x.holds.reads y.opens.reads in

@@ -12,16 +12,27 @@ use Rattle.http_head.specs.Opening.{AnnouncesNone, FindsOpening}
 
 -- what is copied of what the parser holds
 abbrev pub held : parsed.Request → List ℕ → List ℕ → ℕ → ℕ → Head
-held p method target len n = record { method = method; target = target; headers = map header_parts p.headers.now; len = len; body_len = n }
+held p method target len n =
+    record {
+      method = method;
+      target = target;
+      headers = map header_parts p.headers.now;
+      len = len;
+      body_len = n;
+    }
 
-pub is_opening : (bytes : List ℕ) (len n : ℕ) (p : parsed.Request) (method target : Bor (List ℕ)) → IsHeld bytes p len
+pub is_opening : (bytes : List ℕ) (len n : ℕ) (p : parsed.Request) (method target : Bor (List ℕ))
+    → IsHeld bytes p len
     → p.method ≡ Some method → p.path ≡ Some target → body_length (map header_parts p.headers.now) ≡ Some n
     → FindsOpening bytes (Some (held p method.now target.now len n))
 is_opening bytes len n p method target x is_method is_target says = (
   x.head,
   record {
     within = x.inside;
-    announces = record { opens = record { reads = x.holds.reads; within = x.within }; body = rw (← x.holds.fields) says };
+    announces = record {
+      opens = record { reads = x.holds.reads; within = x.within };
+      body = rw (← x.holds.fields) says;
+    };
     method = (λ i. unwrap_or ((ap option_copied (sym is_method) ∙ x.holds.method) i) []);
     target = (λ i. unwrap_or ((ap option_copied (sym is_target) ∙ x.holds.path) i) []);
     headers = x.holds.fields;

@@ -1,5 +1,6 @@
 -- Bytes are one reply at most, and begin with one head of a reply at most.
-use Rattle.std.proofs.Common.{◌≡◌, ℕ, ◌≤◌, true, List, length, drop, map, Option, Some, None, refl, arith, ap, sym, ◌∙◌, subst}
+use Rattle.std.proofs.Common.{◌≡◌, ℕ, ◌≤◌, true, List, length, drop, map, Option, Some, None, refl, arith, ap}
+use Rattle.std.proofs.Common.{sym, ◌∙◌, subst}
 use Rattle.std.specs.Prelude.{unwrap_or}
 use Rattle.std.proofs.lemmas.List.{length-map}
 use Rattle.httparse.specs.declared.borrowed.Response as parsed
@@ -20,7 +21,8 @@ none_by bytes len p (h, x) refused k rest y =
     let same = response_unique bytes h k (drop len bytes) rest x.reads y.reads in
     let fields = x.fields ∙ ap (λ t. map name_and_value t.fields) same.0 in
     let count : length p.headers.now ≡ length k.fields = simp length-map at (ap length fields) in
-    refused (omega (arith, y.within.few, count)) (omega (arith, y.within.short, x.len_is, ap (λ t. length (print_response t)) same.0))
+    refused (omega (arith, y.within.few, count))
+    (omega (arith, y.within.short, x.len_is, ap (λ t. length (print_response t)) same.0))
 
 pub one_status : (bytes : List ℕ) (a b : Option ℕ) → HasStatus bytes a → HasStatus bytes b → a ≡ b
 one_status bytes (Some a) (Some b) (h, r, x, e) (k, q, y, f) =
@@ -31,7 +33,8 @@ one_status bytes None None none nothing = refl
 
 -- ---- the reply that the bytes are
 
-pub is_reply : (bytes body : List ℕ) (p : parsed.Response) (code len : ℕ) → IsReplyHeld bytes p len → p.code ≡ Some code → body ≡ drop len bytes
+pub is_reply : (bytes body : List ℕ) (p : parsed.Response) (code len : ℕ) → IsReplyHeld bytes p len
+    → p.code ≡ Some code → body ≡ drop len bytes
     → allows (map header_parts p.headers.now) (length body) ≡ true
     → IsReply bytes (record { code = code; headers = map header_parts p.headers.now; body = body })
 is_reply bytes body p code len x is_code after allowed = (
@@ -44,7 +47,8 @@ is_reply bytes body p code len x is_code after allowed = (
   },
 )
 
-pub no_reply : (bytes body : List ℕ) (p : parsed.Response) (len : ℕ) → IsReplyHeld bytes p len → body ≡ drop len bytes
+pub no_reply : (bytes body : List ℕ) (p : parsed.Response) (len : ℕ) → IsReplyHeld bytes p len
+    → body ≡ drop len bytes
     → (allows (map header_parts p.headers.now) (length body) ≡ true → ⊥) → IsNoReply bytes
 no_reply bytes body p len x after refused r (k, y) =
     let same = response_unique bytes x.head k (drop len bytes) r.body x.holds.reads y.opens.reads in
@@ -54,8 +58,10 @@ no_reply bytes body p len x after refused r (k, y) =
 pub none_found : (bytes : List ℕ) → HasNoReplyHead bytes → IsNoReply bytes
 none_found bytes none r (h, x) = none h r.body x.opens
 
-pub has_status : (bytes : List ℕ) (p : parsed.Response) (len : ℕ) → IsReplyHeld bytes p len → HasStatus bytes p.code
-has_status bytes p len x = subst (λ o. HasStatus bytes o) (sym x.holds.code) (x.head, drop len bytes, record { reads = x.holds.reads; within = x.within }, refl)
+pub has_status : (bytes : List ℕ) (p : parsed.Response) (len : ℕ) → IsReplyHeld bytes p len
+    → HasStatus bytes p.code
+has_status bytes p len x = subst (λ o. HasStatus bytes o) (sym x.holds.code)
+    (x.head, drop len bytes, record { reads = x.holds.reads; within = x.within }, refl)
 
 pub one_reply : (bytes : List ℕ) (r q : Reply) → IsReply bytes r → IsReply bytes q → r ≡ q
 one_reply bytes r q (h, x) (k, y) =

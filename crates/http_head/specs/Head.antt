@@ -3,7 +3,8 @@ use Rattle.std.specs.Prelude.{◌≡◌, ℕ, ◌≤◌, List, [], length, map, 
 use Rattle.httparse.specs.declared.borrowed.Request as parsed
 use Rattle.httparse.specs.declared.borrowed.Response as parsed_reply
 use Rattle.httparse.specs.Borrowed.{HoldsRequest, HoldsResponse}
-use Rattle.httparse.specs.Grammar.{RequestHead, ReadsRequest, print_request, ResponseHead, ReadsResponse, print_response, status_code}
+use Rattle.httparse.specs.Grammar.{RequestHead, ReadsRequest, print_request, ResponseHead, ReadsResponse}
+use Rattle.httparse.specs.Grammar.{print_response, status_code}
 use Rattle.httparse.specs.Spans.{name_and_value}
 use Rattle.http_head.specs.declared.error.HttpError.{HttpError}
 use Rattle.http_head.specs.declared.error.HttpError.TheVariants.{BadHead, Memory, ParseError}
@@ -111,5 +112,6 @@ FindsReplyHead bytes p None = HasNoReplyHead bytes
 
 -- the status of the reply's head that begins the bytes, whatever it says of its body; or that none does
 abbrev pub HasStatus : List ℕ → Option ℕ → Type 0
-HasStatus bytes (Some code) = (h : ResponseHead) × (rest : List ℕ) × OpensReply bytes h rest × (code ≡ status_code h)
+HasStatus bytes (Some code) = (h : ResponseHead) × (rest : List ℕ) × OpensReply bytes h rest
+    × (code ≡ status_code h)
 HasStatus bytes None = HasNoReplyHead bytes

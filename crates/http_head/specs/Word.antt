@@ -1,7 +1,8 @@
 -- The words of refusals for want of a sender who is let in.
 use Rattle.std.specs.Prelude.{ℕ, List, codes}
 use Rattle.http_head.specs.declared.word.Word.{Word}
-use Rattle.http_head.specs.declared.word.Word.TheVariants.{NoBearerAuth, BearerAuthFailed, InvalidBearerToken, MismatchedAddress, InvalidJwt, LinkFailed}
+use Rattle.http_head.specs.declared.word.Word.TheVariants.{NoBearerAuth, BearerAuthFailed, InvalidBearerToken}
+use Rattle.http_head.specs.declared.word.Word.TheVariants.{MismatchedAddress, InvalidJwt, LinkFailed}
 
 -- the word of a refusal
 abbrev pub word_text : Word → List ℕ

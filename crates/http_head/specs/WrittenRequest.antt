@@ -1,5 +1,6 @@
 -- A request that is written, its text, and which ones can be sent.
-use Rattle.std.specs.Prelude.{◌≡◌, ◌≢◌, ℕ, ◌<◌, ◌≤◌, Bool, true, not, ◌&&◌, ◌==◌, nat_lt, nat_le, List, [], ◌∷◌, ◌++◌, length, Option, Some, None, unwrap_or, IfSome, IsUtf8, codes}
+use Rattle.std.specs.Prelude.{◌≡◌, ◌≢◌, ℕ, ◌<◌, ◌≤◌, Bool, true, not, ◌&&◌, ◌==◌, nat_lt, nat_le, List, []}
+use Rattle.std.specs.Prelude.{◌∷◌, ◌++◌, length, Option, Some, None, unwrap_or, IfSome, IsUtf8, codes}
 use Rattle.std.specs.Fmt.{decimal}
 use Rattle.std.specs.List.{list_all}
 use Rattle.http_head.specs.declared.request.Request.{Request}
@@ -24,7 +25,8 @@ token_line (Some token) = codes "Authorization: Bearer " ⧺ token ⧺ codes "\r
 -- the lines of a body of so many bytes
 abbrev pub content_lines : Method → ℕ → List ℕ
 content_lines Get len = []
-content_lines Post len = codes "Content-Type: application/octet-stream\r\nContent-Length: " ⧺ decimal len ⧺ codes "\r\n"
+content_lines Post len = codes "Content-Type: application/octet-stream\r\nContent-Length: " ⧺ decimal len
+    ⧺ codes "\r\n"
 
 -- the body, which is empty where none was given
 abbrev pub body_of : WrittenRequest → List ℕ
@@ -53,7 +55,8 @@ is_printed b = nat_le 32 b && not (b == 127)
 abbrev pub is_visible : ℕ → Bool
 is_visible b = nat_lt 32 b && not (b == 127)
 
--- a token that a field carries as it is: a text that is not empty, with no control byte and no space at its end
+-- a token that a field carries as it is: a text that is not empty, with no control byte and no space at its
+-- end
 pub record IsToken (token : List ℕ) : Type 0 where
   pub some : 0 < length token
   pub text : IsUtf8 token
@@ -70,8 +73,8 @@ pub record IsWithinLimits (w : WrittenRequest) : Type 0 where
   pub head : length (head_text w) ≤ 65536
   pub body : length (body_of w) ≤ 1073741824
 
--- The request can be sent: its target is a text that is not empty, target and host have no control byte and no
--- space, its token is one that a field carries, and it is within the limits.
+-- The request can be sent: its target is a text that is not empty, target and host have no control byte and
+-- no space, its token is one that a field carries, and it is within the limits.
 pub record IsSendable (w : WrittenRequest) : Type 0 where
   pub some_target : 0 < length w.target
   pub target_text : IsUtf8 w.target
@@ -91,17 +94,24 @@ token_fields (Some token) = (codes "Authorization", codes "Bearer " ++ token) �
 -- the fields of a body of so many bytes
 abbrev pub content_fields : Method → ℕ → List Field
 content_fields Get len = []
-content_fields Post len = (codes "Content-Type", codes "application/octet-stream") ∷ (codes "Content-Length", decimal len) ∷ []
+content_fields Post len = (codes "Content-Type", codes "application/octet-stream") ∷
+    (codes "Content-Length", decimal len) ∷ []
 
 -- all fields
 abbrev pub fields_of : WrittenRequest → List Field
 fields_of w =
     (codes "Host", w.host)
-    ∷ (token_fields w.token ++ (content_fields w.method (length (body_of w)) ++ ((codes "Connection", codes "close") ∷ [])))
+    ∷ (token_fields w.token ++
+    (content_fields w.method (length (body_of w)) ++ ((codes "Connection", codes "close") ∷ [])))
 
 -- what a reader sees
 abbrev pub read_back : WrittenRequest → Request
-read_back w = record { method = method_text w.method; target = w.target; headers = fields_of w; body = body_of w }
+read_back w = record {
+  method = method_text w.method;
+  target = w.target;
+  headers = fields_of w;
+  body = body_of w;
+}
 
 -- the content type that a method has
 abbrev pub content_of : Method → Option (List ℕ)

@@ -1,7 +1,8 @@
 //! The heads of requests and replies (RFC 9112, sections 2 to 6, as the crate `httparse` reads them).
 ghost use Rattle.std.specs.Prelude.{◌≡◌, ◌≤◌, IfOk, IfErr, map, length, drop};
 ghost use Rattle.httparse.specs.Borrowed.{header_parts};
-ghost use Rattle.http_head.specs.Head.{IsRequest, Refuses, FindsHead, IsReply, RefusesReply, FindsReplyHead, HasStatus};
+ghost use Rattle.http_head.specs.Head.{IsRequest, Refuses, FindsHead, IsReply, RefusesReply, FindsReplyHead};
+ghost use Rattle.http_head.specs.Head.{HasStatus};
 
 use crate::error::HttpError;
 use crate::fields::{allows, is_body};
@@ -35,8 +36,8 @@ pub(crate) fn parse_head<'b>(head: &mut httparse::Request<'_, 'b>, bytes: &'b [u
     Some(len)
 }
 
-/// Parses the reply's head that begins the bytes, within the limits: how many bytes it has. None exactly where
-/// none begins them.
+/// Parses the reply's head that begins the bytes, within the limits: how many bytes it has. None exactly
+/// where none begins them.
 fn parse_reply_head<'b>(head: &mut httparse::Response<'_, 'b>, bytes: &'b [u8]) -> Option<usize>
     requires { length head.now.headers.now ≡ 100 }
     ensures { FindsReplyHead bytes.now head.new result }

@@ -3,9 +3,9 @@
 //!
 //! The contract: bytes are one request at most, and `read_head` answers it exactly where they are one; of
 //! replies `read_reply_head` alike, and `status_of` their status alone. `WrittenRequest::bytes` gives the
-//! text of a written request, and the law `requests_read_back` says that a sendable one is read with exactly its
-//! method, target, token, content type and body. Bytes have one stop and one cut. Want of memory is the one
-//! other answer.
+//! text of a written request, and the law `requests_read_back` says that a sendable one is read with exactly
+//! its method, target, token, content type and body. Bytes have one stop and one cut. Want of memory is the
+//! one other answer.
 //!
 //! The layers above use all of the modules, and of the definitions `IsRequest`, `IsReply`, `HasStatus`,
 //! `header`, `token_in`, `request_text`, `IsSendable`, `Carries`, `stop_of` and `IsCut`.

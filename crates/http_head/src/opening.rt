@@ -49,8 +49,9 @@ fn copy_head(
     })
 }
 
-/// The request's head that begins the bytes, within the limits of `read_head`, and how many bytes of a body it
-/// announces. None exactly where none begins them, or it announces no number. Refused for want of memory alone.
+/// The request's head that begins the bytes, within the limits of `read_head`, and how many bytes of a body
+/// it announces. None exactly where none begins them, or it announces no number. Refused for want of memory
+/// alone.
 pub fn head_of(alloc: Global, bytes: &[u8]) -> Result<Option<Head>, AllocError>
     ensures { IfOk result (FindsOpening bytes.now) }
 {

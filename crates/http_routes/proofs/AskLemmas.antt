@@ -1,5 +1,6 @@
 -- What is asked of a scheduler whose check of clients knows one token.
-use Rattle.std.proofs.Common.{◌≡◌, inl, inr, ℕ, List, Option, Some, None, false, Result, Ok, Err, refl, sym, ap, ◌∙◌}
+use Rattle.std.proofs.Common.{◌≡◌, inl, inr, ℕ, List, Option, Some, None, false, Result, Ok, Err, refl, sym}
+use Rattle.std.proofs.Common.{ap, ◌∙◌}
 use Rattle.std.specs.Prelude.{codes, option_map, ⊤}
 use Rattle.dist_types.specs.declared.addr.Addr.{Addr}
 use Rattle.dist_types.specs.declared.token_error.TokenError.{TokenError}
@@ -22,17 +23,30 @@ may_equal old now token answer new = (new ≡ old) × (answer ≡ equal_verdict 
 abbrev pub shows_equal : List ℕ → TokenError → List ℕ
 shows_equal check e = fixed_shown
 
-equal_admits : (o : Option (List ℕ)) (now : ℕ) (old new : List ℕ) (said : Option Admission) → Admits may_equal shows_equal o now old said new
+equal_admits : (o : Option (List ℕ)) (now : ℕ) (old new : List ℕ) (said : Option Admission)
+    → Admits may_equal shows_equal o now old said new
     → (said ≡ option_map (equal_admission old) o) × (new ≡ old)
 equal_admits None now old new said (none, same) = (none, same)
-equal_admits (Some token) now old new said (says, is, a) = (is ∙ ap Some (a.told ∙ ap (admission_by (λ e. fixed_shown)) a.answers.1), a.answers.0)
+equal_admits (Some token) now old new said (says, is, a) =
+    (is ∙ ap Some (a.told ∙ ap (admission_by (λ e. fixed_shown)) a.answers.1), a.answers.0)
 
-pub asked_equal : (serves : List ℕ → Option Addr) (bytes : List ℕ) (peer : Addr) (now : ℕ) (old new : List ℕ) (asked : Asked)
+pub asked_equal : (serves : List ℕ → Option Addr) (bytes : List ℕ) (peer : Addr) (now : ℕ) (old new : List ℕ)
+    (asked : Asked)
     → IsAskedOf may_equal shows_equal serves bytes peer now old asked new
     → IsAskedUnder (equal_admission old) serves bytes peer asked × (new ≡ old)
 asked_equal serves bytes peer now old new asked (inl (r, x, routed, json)) =
-    let m = equal_admits (client_token r) now old new routed.said routed.admits in
-    (inl (r, x, λ i. record { what = (routed.routes ∙ ap (λ (s : Option Admission). answered (asked_of serves r peer s)) m.0) i; json = json i }), m.1)
+    let m = equal_admits (client_token r) now old new routed.said routed.admits in (
+      inl (
+        r,
+        x,
+        λ i. record {
+          what = (routed.routes
+              ∙ ap (λ (s : Option Admission). answered (asked_of serves r peer s)) m.0) i;
+          json = json i;
+        },
+      ),
+      m.1,
+    )
 asked_equal serves bytes peer now old new asked (inr (none, is, same)) = (inr (none, is), same)
 
 -- a request that is at none of the three places tells a job's state, or is refused
@@ -44,7 +58,8 @@ pub elsewhere_asked : (serves : List ℕ → Option Addr) (r : Request) (peer : 
 unfolding asked_of
 elsewhere_asked serves r peer said a b s = rw (a, b, s) refl
 
-pub one_question : (lets : List ℕ → Admission) (serves : List ℕ → Option Addr) (bytes : List ℕ) (peer : Addr) (a b : Asked)
+pub one_question : (lets : List ℕ → Admission) (serves : List ℕ → Option Addr) (bytes : List ℕ) (peer : Addr)
+    (a b : Asked)
     → IsAskedUnder lets serves bytes peer a → IsAskedUnder lets serves bytes peer b → a ≡ b
 one_question lets serves bytes peer a b (inl (r, x, e)) (inl (q, y, f)) =
     e ∙ (ap (λ s. question_under lets serves s peer) (one_request bytes r q x y) ∙ sym f)

@@ -1,5 +1,6 @@
 -- A reply of the scheduler is known at once exactly where a request is refused, or the bytes are no request.
-use Rattle.std.proofs.Common.{◌≡◌, ◌↔◌, ◌⊎◌, inl, inr, ℕ, Bool, true, false, cond, List, Option, Some, None, Result, Ok, Err, refl, sym, ap, ◌∙◌}
+use Rattle.std.proofs.Common.{◌≡◌, ◌↔◌, ◌⊎◌, inl, inr, ℕ, Bool, true, false, cond, List, Option, Some, None}
+use Rattle.std.proofs.Common.{Result, Ok, Err, refl, sym, ap, ◌∙◌}
 use Rattle.std.specs.Prelude.{codes, option_map}
 use Rattle.dist_types.specs.declared.addr.Addr.{Addr}
 use Rattle.dist_types.specs.declared.ids.JobId.{JobId}
@@ -29,41 +30,66 @@ use Rattle.http_routes.specs.Sender.{client_test, server_of}
 use Rattle.http_routes.specs.Steps.{◌>>=◌}
 use Rattle.http_routes.proofs.PlaceLemmas.{at_place, place_at, in_form, form_in, no_job_named}
 use Rattle.http_routes.proofs.RefusedLemmas.{message_refused, refused_message}
-use Rattle.http_routes.proofs.RouteLemmas.{beat_no_alloc, state_no_alloc, state_no_beat, state_no_status, state_named, named_state, said_there, post_alloc, post_beat, get_status, client_of, never_done, body_fits}
-use Rattle.http_routes.proofs.SenderLemmas.{client_admitted, admitted_client, client_refused, refused_client, sender_shown, shown_sender, server_refused, refused_server}
+use Rattle.http_routes.proofs.RouteLemmas.{beat_no_alloc, state_no_alloc, state_no_beat, state_no_status}
+use Rattle.http_routes.proofs.RouteLemmas.{state_named, named_state, said_there, post_alloc, post_beat}
+use Rattle.http_routes.proofs.RouteLemmas.{get_status, client_of, never_done, body_fits}
+use Rattle.http_routes.proofs.SenderLemmas.{client_admitted, admitted_client, client_refused, refused_client}
+use Rattle.http_routes.proofs.SenderLemmas.{sender_shown, shown_sender, server_refused, refused_server}
 use Rattle.http_routes.proofs.StepLemmas.{two, two_first, two_second}
 
 -- ---- the routes, one by one
 
-alloc_refused : (lets : List ℕ → Admission) (r : Request) (e : Refusal) → post_alloc r ≡ true → alloc_of r (said_by lets r) ≡ Err e → AllocRefused r lets e
+alloc_refused : (lets : List ℕ → Admission) (r : Request) (e : Refusal) → post_alloc r ≡ true
+    → alloc_of r (said_by lets r) ≡ Err e → AllocRefused r lets e
 unfolding alloc_of
-alloc_refused lets r e at h = by_step (two (client_test (said_by lets r)) (message_in toolchain_at r) (λ u tc. Alloc tc) e h)
+alloc_refused lets r e at h =
+    by_step (two (client_test (said_by lets r)) (message_in toolchain_at r) (λ u tc. Alloc tc) e h)
   where
     there : client_of lets r ≡ client_test (said_by lets r)
     there = ap client_test (sym (said_there lets r at))
 
-    by_step : (client_test (said_by lets r) ≡ Err e) ⊎ ((u : Unit {0}) × (client_test (said_by lets r) ≡ Ok u) × (message_in toolchain_at r ≡ Err e)) → AllocRefused r lets e
+    by_step : (client_test (said_by lets r) ≡ Err e) ⊎ ((u : Unit {0}) × (client_test (said_by lets r) ≡ Ok u)
+        × (message_in toolchain_at r ≡ Err e)) → AllocRefused r lets e
     by_step (inl none) = inl (client_refused lets r e (there ∙ none))
-    by_step (inr (u, is, k)) = inr (client_admitted lets r (there ∙ is), message_refused SpellsToolchain toolchain_at toolchain_codec r e k)
+    by_step (inr (u, is, k)) =
+        inr (
+          client_admitted lets r (there ∙ is),
+          message_refused SpellsToolchain toolchain_at toolchain_codec
+              r e k,
+        )
 
-refused_alloc : (lets : List ℕ → Admission) (r : Request) (e : Refusal) → post_alloc r ≡ true → IsBytes r.body → AllocRefused r lets e → alloc_of r (said_by lets r) ≡ Err e
+refused_alloc : (lets : List ℕ → Admission) (r : Request) (e : Refusal) → post_alloc r ≡ true → IsBytes r.body
+    → AllocRefused r lets e → alloc_of r (said_by lets r) ≡ Err e
 unfolding alloc_of
 refused_alloc lets r e at fits (inl none) = rw (said_there lets r at, refused_client lets r e none) refl
 refused_alloc lets r e at fits (inr (admitted, none)) =
-    rw (said_there lets r at, admitted_client lets r admitted, refused_message SpellsToolchain toolchain_at toolchain_codec r e fits none) refl
+    rw (
+      said_there lets r at,
+      admitted_client lets r admitted,
+      refused_message SpellsToolchain toolchain_at toolchain_codec r e fits none,
+    ) refl
 
-module _ {M : Type 0} (Spells : M → List ℕ → Type 0) (at : List ℕ → Option (M × List ℕ)) (codec : IsCodec Spells at) (g : Addr → M → SchedRouted) (serves : List ℕ → Option Addr) (r : Request) (peer : Addr) (e : Refusal) where
-  telling_refused : (server_of serves r peer >>= λ s. message_in at r >>= λ m. Ok (g s m)) ≡ Err e → TellingRefused Spells r peer serves e
+module _ {M : Type 0} (Spells : M → List ℕ → Type 0) (at : List ℕ → Option (M × List ℕ))
+    (codec : IsCodec Spells at) (g : Addr → M → SchedRouted) (serves : List ℕ → Option Addr) (r : Request)
+    (peer : Addr) (e : Refusal) where
+  telling_refused : (server_of serves r peer >>= λ s. message_in at r >>= λ m. Ok (g s m)) ≡ Err e
+      → TellingRefused Spells r peer serves e
   telling_refused h = by_step (two (server_of serves r peer) (message_in at r) g e h)
     where
-      by_step : (server_of serves r peer ≡ Err e) ⊎ ((s : Addr) × (server_of serves r peer ≡ Ok s) × (message_in at r ≡ Err e)) → TellingRefused Spells r peer serves e
+      by_step : (server_of serves r peer ≡ Err e)
+          ⊎ ((s : Addr) × (server_of serves r peer ≡ Ok s) × (message_in at r ≡ Err e))
+          → TellingRefused Spells r peer serves e
       by_step (inl none) = inl (server_refused serves r peer e none)
-      by_step (inr (s, is, k)) = inr (s, sender_shown serves r peer s is, message_refused Spells at codec r e k)
+      by_step (inr (s, is, k)) =
+          inr (s, sender_shown serves r peer s is, message_refused Spells at codec r e k)
 
-  refused_telling : IsBytes r.body → TellingRefused Spells r peer serves e → (server_of serves r peer >>= λ s. message_in at r >>= λ m. Ok (g s m)) ≡ Err e
-  refused_telling fits (inl none) = two_first (server_of serves r peer) (message_in at r) g e (refused_server serves r peer e none)
+  refused_telling : IsBytes r.body → TellingRefused Spells r peer serves e
+      → (server_of serves r peer >>= λ s. message_in at r >>= λ m. Ok (g s m)) ≡ Err e
+  refused_telling fits (inl none) = two_first (server_of serves r peer) (message_in at r) g e
+      (refused_server serves r peer e none)
   refused_telling fits (inr (s, from, none)) =
-      two_second (server_of serves r peer) (message_in at r) g s e (shown_sender serves r peer s from) (refused_message Spells at codec r e fits none)
+      two_second (server_of serves r peer) (message_in at r) g s e (shown_sender serves r peer s from)
+      (refused_message Spells at codec r e fits none)
 
 -- ---- the request
 
@@ -81,21 +107,35 @@ no_state_named : (r : Request) → ¬ (NamesSome r (codes "/api/v1/scheduler/job
 unfolding state_job
 no_state_named r none = no_job_named (codes "/api/v1/scheduler/job_state/") r (λ job n. none (job, n))
 
-module _ (lets : List ℕ → Admission) (serves : List ℕ → Option Addr) (r : Request) (peer : Addr) (e : Refusal) where
+module _ (lets : List ℕ → Admission) (serves : List ℕ → Option Addr) (r : Request) (peer : Addr)
+    (e : Refusal) where
   pub is_refused : asked_of serves r peer (said_by lets r) ≡ Err e → IsRefused r peer lets serves e
   unfolding asked_of report_of beat_of update_of
   is_refused h = by_tests (post_alloc r) (post_beat r) (get_status r) (state_job r) refl refl refl refl h
     where
-      by_tests : (a b s : Bool) (j : Option JobId) → post_alloc r ≡ a → post_beat r ≡ b → get_status r ≡ s → state_job r ≡ j
-          → cond a (alloc_of r (said_by lets r)) (cond b (beat_of serves r peer) (cond s (Ok Status) (of_job (update_of serves r peer) (Err NoRoute) j))) ≡ Err e
+      by_tests : (a b s : Bool) (j : Option JobId) → post_alloc r ≡ a → post_beat r ≡ b → get_status r ≡ s
+          → state_job r ≡ j
+          → cond a (alloc_of r (said_by lets r))
+          (cond b (beat_of serves r peer)
+          (cond s (Ok Status) (of_job (update_of serves r peer) (Err NoRoute) j))) ≡ Err e
           → IsRefused r peer lets serves e
       by_tests true b s j at_a at_b at_s at_j k =
-          inl (at_place r (codes "POST") (codes "/api/v1/scheduler/alloc_job") at_a, alloc_refused lets r e at_a k)
+          inl (
+            at_place r (codes "POST") (codes "/api/v1/scheduler/alloc_job") at_a,
+            alloc_refused lets r e at_a k,
+          )
       by_tests false true s j at_a at_b at_s at_j k =
-          inr (inl (at_place r (codes "POST") (codes "/api/v1/scheduler/heartbeat_server") at_b, telling_refused SpellsHeartbeat heartbeat_at heartbeat_codec Beat serves r peer e k))
+          inr (inl (
+            at_place r (codes "POST") (codes "/api/v1/scheduler/heartbeat_server") at_b,
+            telling_refused SpellsHeartbeat heartbeat_at heartbeat_codec Beat serves r peer e k,
+          ))
       by_tests false false true j at_a at_b at_s at_j k = absurd cc
       by_tests false false false (Some job) at_a at_b at_s at_j k =
-          inr (inr (inl ((job, state_named r job at_j), telling_refused SpellsState state_at state_codec (λ s m. Update s job m) serves r peer e k)))
+          inr (inr (inl (
+            (job, state_named r job at_j),
+            telling_refused SpellsState state_at state_codec
+                (λ s m. Update s job m) serves r peer e k,
+          )))
       by_tests false false false None at_a at_b at_s at_j k =
           inr (inr (inr (
             record {
@@ -107,7 +147,8 @@ module _ (lets : List ℕ → Admission) (serves : List ℕ → Option Addr) (r 
             (let same : e ≡ NoRoute = cc in same),
           )))
 
-  pub refused_is : IsBytes r.body → IsRefused r peer lets serves e → asked_of serves r peer (said_by lets r) ≡ Err e
+  pub refused_is : IsBytes r.body → IsRefused r peer lets serves e
+      → asked_of serves r peer (said_by lets r) ≡ Err e
   unfolding asked_of report_of beat_of update_of
   refused_is fits (inl (at, why)) =
       let there = place_at r (codes "POST") (codes "/api/v1/scheduler/alloc_job") at in
@@ -116,7 +157,12 @@ module _ (lets : List ℕ → Admission) (serves : List ℕ → Option Addr) (r 
       rw (beat_no_alloc r at, place_at r (codes "POST") (codes "/api/v1/scheduler/heartbeat_server") at)
       (refused_telling SpellsHeartbeat heartbeat_at heartbeat_codec Beat serves r peer e fits why)
   refused_is fits (inr (inr (inl ((job, named), why)))) =
-      rw (state_no_alloc r job named, state_no_beat r job named, state_no_status r job named, named_state r job named)
+      rw (
+        state_no_alloc r job named,
+        state_no_beat r job named,
+        state_no_status r job named,
+        named_state r job named,
+      )
       (refused_telling SpellsState state_at state_codec (λ s m. Update s job m) serves r peer e fits why)
   refused_is fits (inr (inr (inr (none, same)))) =
       rw (
@@ -128,26 +174,39 @@ module _ (lets : List ℕ → Admission) (serves : List ℕ → Option Addr) (r 
 
 -- ---- the bytes
 
-pub replies_at_once : (lets : List ℕ → Admission) (serves : List ℕ → Option Addr) (bytes : List ℕ) (peer : Addr) (reply : Response) (json : Bool) → IsBytes bytes
+pub replies_at_once : (lets : List ℕ → Admission) (serves : List ℕ → Option Addr) (bytes : List ℕ)
+    (peer : Addr) (reply : Response) (json : Bool) → IsBytes bytes
     → IsAskedUnder lets serves bytes peer (record { what = Done reply; json = json })
-    ↔ (((r : Request) × (refusal : Refusal) × IsRequest bytes r × IsRefused r peer lets serves refusal × (reply ≡ refusal_response refusal) × InForm r json)
+    ↔ (((r : Request) × (refusal : Refusal) × IsRequest bytes r × IsRefused r peer lets serves refusal
+    × (reply ≡ refusal_response refusal) × InForm r json)
     ⊎ (IsNoRequest bytes × (reply ≡ refusal_response BadHead) × (json ≡ false)))
 replies_at_once lets serves bytes peer reply json fits = (to, from)
   where
     Known : Type 0
     Known =
-        ((r : Request) × (refusal : Refusal) × IsRequest bytes r × IsRefused r peer lets serves refusal × (reply ≡ refusal_response refusal) × InForm r json)
+        ((r : Request) × (refusal : Refusal) × IsRequest bytes r × IsRefused r peer lets serves refusal
+        × (reply ≡ refusal_response refusal) × InForm r json)
         ⊎ (IsNoRequest bytes × (reply ≡ refusal_response BadHead) × (json ≡ false))
 
-    by_result : (r : Request) → IsRequest bytes r → InForm r json → (y : Result SchedRouted Refusal) → asked_of serves r peer (said_by lets r) ≡ y → Done reply ≡ answered y → Known
+    by_result : (r : Request) → IsRequest bytes r → InForm r json → (y : Result SchedRouted Refusal)
+        → asked_of serves r peer (said_by lets r) ≡ y → Done reply ≡ answered y → Known
     by_result r x form (Ok y) is h = absurd (never_done lets serves r peer reply (is ∙ ap Ok (sym h)))
-    by_result r x form (Err d) is h = inl (r, d, x, is_refused lets serves r peer d is, (let known : reply ≡ refusal_response d = cc in known), form)
+    by_result r x form (Err d) is h =
+        inl (
+          r,
+          d,
+          x,
+          is_refused lets serves r peer d is,
+          (let known : reply ≡ refusal_response d = cc in known),
+          form,
+        )
 
     to : IsAskedUnder lets serves bytes peer (record { what = Done reply; json = json }) → Known
     to (inr (none, e)) =
         let same : Done reply ≡ Done (refusal_response BadHead) = ap (λ (a : Asked). a.what) e in
         inr (none, (let known : reply ≡ refusal_response BadHead = cc in known), ap (λ (a : Asked). a.json) e)
-    to (inl (r, x, e)) = by_result r x (in_form r json (ap (λ (a : Asked). a.json) e)) (asked_of serves r peer (said_by lets r)) refl (ap (λ (a : Asked). a.what) e)
+    to (inl (r, x, e)) = by_result r x (in_form r json (ap (λ (a : Asked). a.json) e))
+        (asked_of serves r peer (said_by lets r)) refl (ap (λ (a : Asked). a.what) e)
 
     from : Known → IsAskedUnder lets serves bytes peer (record { what = Done reply; json = json })
     from (inr (none, e, j)) = inr (none, λ i. record { what = Done (e i); json = j i })

@@ -1,5 +1,7 @@
 -- A reply that was printed is read as it was meant.
-use Rattle.std.proofs.Common.{◌≡◌, ℕ, ◌<◌, ◌≤◌, ◌^◌, ◌&&◌, ◌==◌, nat_le, true, List, [], ◌∷◌, ◌++◌, length, map, codes, decimal, Some, refl, ap, sym, ◌∙◌, arith, append_assoc, length-append, lit<}
+use Rattle.std.proofs.Common.{◌≡◌, ℕ, ◌<◌, ◌≤◌, ◌^◌, ◌&&◌, ◌==◌, nat_le, true, List, [], ◌∷◌, ◌++◌, length}
+use Rattle.std.proofs.Common.{map, codes, decimal, Some, refl, ap, sym, ◌∙◌, arith, append_assoc}
+use Rattle.std.proofs.Common.{length-append, lit<}
 use Rattle.std.specs.List.{list_all, AllByRecursion}
 use Rattle.std.specs.Char.{is_ascii_digit}
 use Rattle.std.specs.Str.Parse.{digits_value}
@@ -8,23 +10,28 @@ use Rattle.std.proofs.lemmas.Fmt.{digits_decimal, digits_value-decimal, decimal_
 use Rattle.httparse.specs.Grammar.{crlf, ResponseHead, print_response, is_token_byte, is_value_byte, trim_ows}
 use Rattle.httparse.proofs.GrammarLemmas.{print_response-append}
 use Rattle.http_head.specs.declared.word.Word.{Word}
-use Rattle.http_head.specs.declared.word.Word.TheVariants.{NoBearerAuth, BearerAuthFailed, InvalidBearerToken, MismatchedAddress, InvalidJwt, LinkFailed}
+use Rattle.http_head.specs.declared.word.Word.TheVariants.{NoBearerAuth, BearerAuthFailed, InvalidBearerToken}
+use Rattle.http_head.specs.declared.word.Word.TheVariants.{MismatchedAddress, InvalidJwt, LinkFailed}
 use Rattle.http_routes.specs.declared.reply.Response.{Response}
-use Rattle.http_routes.specs.declared.reply.Response.TheVariants.{Binary, Json, BadRequest, ServerError, BadRealIp, Unauthorised, NotFound}
+use Rattle.http_routes.specs.declared.reply.Response.TheVariants.{Binary, Json, BadRequest, ServerError}
+use Rattle.http_routes.specs.declared.reply.Response.TheVariants.{BadRealIp, Unauthorised, NotFound}
 use Rattle.http_head.specs.Fields.{is_number, allows}
 use Rattle.http_head.specs.Head.{IsReply}
 use Rattle.http_routes.specs.Reply.{body_of, reply_text, head_text}
 use Rattle.http_head.specs.Word.{word_text}
 use Rattle.http_routes.specs.ReadBack.{code_of, fields_of, seen}
 use Rattle.http_head.proofs.FieldLemmas.{digits}
-use Rattle.http_head.proofs.LineLemmas.{all_pass, line_of, IsPlain, lines_valid, lines_values, length_plain, text_then, section_then}
+use Rattle.http_head.proofs.LineLemmas.{all_pass, line_of, IsPlain, lines_valid, lines_values, length_plain}
+use Rattle.http_head.proofs.LineLemmas.{text_then, section_then}
 
 -- ---- the length
 
 short_decimal : (n : ℕ) → n ≤ 1073741824 → length (decimal n) ≤ 10
 short_decimal n low = length-decimal-le 10 n (omega arith) (omega arith) (omega arith)
 
-pub length_told : (n : ℕ) → n ≤ 1073741824 → (is_number (decimal n) && nat_le (digits_value 10 (decimal n)) 1073741824 && digits_value 10 (decimal n) == n) ≡ true
+pub length_told : (n : ℕ) → n ≤ 1073741824
+    → (is_number (decimal n) && nat_le (digits_value 10 (decimal n)) 1073741824
+    && digits_value 10 (decimal n) == n) ≡ true
 length_told n low =
     let fits : n < 2 ^ 64 = omega arith in
     let all = digits_decimal digits n fits in
@@ -63,7 +70,8 @@ head_of r = record {
   last = crlf;
 }
 
-word_plain : (w : Word) → IsPlain (codes "WWW-Authenticate", codes "Bearer error=\"" ++ (word_text w ++ codes "\""))
+word_plain : (w : Word) → IsPlain
+    (codes "WWW-Authenticate", codes "Bearer error=\"" ++ (word_text w ++ codes "\""))
 unfolding is_token_byte trim_ows
 word_plain NoBearerAuth = (lit< tt, refl, refl, refl)
 word_plain BearerAuthFailed = (lit< tt, refl, refl, refl)
@@ -80,7 +88,8 @@ word_short MismatchedAddress = omega arith
 word_short InvalidJwt = omega arith
 word_short LinkFailed = omega arith
 
-last_plain : (n : ℕ) → n ≤ 1073741824 → AllByRecursion IsPlain ((codes "Content-Length", decimal n) ∷ (codes "Connection", codes "close") ∷ [])
+last_plain : (n : ℕ) → n ≤ 1073741824
+    → AllByRecursion IsPlain ((codes "Content-Length", decimal n) ∷ (codes "Connection", codes "close") ∷ [])
 unfolding is_token_byte trim_ows
 last_plain n low = (length_plain n low, ((lit< tt, refl, refl, refl), record {}))
 
@@ -94,7 +103,8 @@ fields_plain BadRealIp low = last_plain 0 low
 fields_plain (Unauthorised word body) low = (word_plain word, last_plain (length body) low)
 fields_plain NotFound low = last_plain 0 low
 
-status_valid : (r : Response) → (length (digits_of r) ≡ 3) × (list_all is_ascii_digit (digits_of r) ≡ true) × (list_all is_value_byte (reason_of r) ≡ true)
+status_valid : (r : Response) → (length (digits_of r) ≡ 3) × (list_all is_ascii_digit (digits_of r) ≡ true)
+    × (list_all is_value_byte (reason_of r) ≡ true)
 status_valid (Binary body) = (refl, refl, refl)
 status_valid (Json body) = (refl, refl, refl)
 status_valid (BadRequest body) = (refl, refl, refl)
@@ -104,7 +114,8 @@ status_valid (Unauthorised word body) = (refl, refl, refl)
 status_valid NotFound = (refl, refl, refl)
 
 abbrev plain_text : Response → List ℕ
-plain_text r = codes "HTTP/1.1 " ++ (digits_of r ++ (32 ∷ reason_of r ++ (13 ∷ 10 ∷ text_then (fields_of r) (13 ∷ 10 ∷ body_of r))))
+plain_text r = codes "HTTP/1.1 " ++
+    (digits_of r ++ (32 ∷ reason_of r ++ (13 ∷ 10 ∷ text_then (fields_of r) (13 ∷ 10 ∷ body_of r))))
 
 text_is : (r : Response) → reply_text r ≡ plain_text r
 unfolding reply_text
@@ -119,9 +130,11 @@ text_is NotFound = simp append_assoc refl
 pub printed : (r : Response) → reply_text r ≡ print_response (head_of r) ++ body_of r
 printed r =
     text_is r ∙ sym (print_response-append (head_of r) (body_of r)
-    ∙ (λ i. codes "HTTP/1.1 " ++ (digits_of r ++ (32 ∷ reason_of r ++ (13 ∷ 10 ∷ section_then (fields_of r) (body_of r) i)))))
+    ∙ (λ i. codes "HTTP/1.1 " ++
+    (digits_of r ++ (32 ∷ reason_of r ++ (13 ∷ 10 ∷ section_then (fields_of r) (body_of r) i)))))
 
-pub allowed : (r : Response) → length (body_of r) ≤ 1073741824 → allows (fields_of r) (length (body_of r)) ≡ true
+pub allowed : (r : Response) → length (body_of r) ≤ 1073741824
+    → allows (fields_of r) (length (body_of r)) ≡ true
 unfolding allows
 allowed (Binary body) low = length_told (length body) low
 allowed (Json body) low = length_told (length body) low
@@ -153,12 +166,15 @@ short_text : (r : Response) → length (body_of r) ≤ 1073741824 → length (he
 short_text (Binary body) low = let d = short_decimal (length body) low in simp length-append (omega arith)
 short_text (Json body) low = let d = short_decimal (length body) low in simp length-append (omega arith)
 short_text (BadRequest body) low = let d = short_decimal (length body) low in simp length-append (omega arith)
-short_text (ServerError body) low = let d = short_decimal (length body) low in simp length-append (omega arith)
+short_text (ServerError body) low = let d = short_decimal (length body) low in simp length-append
+    (omega arith)
 short_text BadRealIp low = let d = short_decimal 0 low in simp length-append (omega arith)
-short_text (Unauthorised word body) low = let d = short_decimal (length body) low in let w = word_short word in simp length-append (omega arith)
+short_text (Unauthorised word body) low = let d = short_decimal (length body) low in let w = word_short word
+    in simp length-append (omega arith)
 short_text NotFound low = let d = short_decimal 0 low in simp length-append (omega arith)
 
-pub short_head : (r : Response) → length (body_of r) ≤ 1073741824 → length (print_response (head_of r)) ≤ 65536
+pub short_head : (r : Response) → length (body_of r) ≤ 1073741824
+    → length (print_response (head_of r)) ≤ 65536
 unfolding reply_text
 short_head r low =
     let total = ap length (printed r) in

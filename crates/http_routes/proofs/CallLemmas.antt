@@ -1,5 +1,6 @@
 -- What the reply to a call says, in the words of its parts.
-use Rattle.std.proofs.Common.{◌≡◌, ◌↔◌, inl, inr, ◌==◌, ℕ, ◌+◌, ◌<◌, get_or, Bool, true, false, cond, List, length, Option, Some, None, Result, Ok, Err, refl, sym, ap, subst, ◌∙◌, arith}
+use Rattle.std.proofs.Common.{◌≡◌, ◌↔◌, inl, inr, ◌==◌, ℕ, ◌+◌, ◌<◌, get_or, Bool, true, false, cond, List}
+use Rattle.std.proofs.Common.{length, Option, Some, None, Result, Ok, Err, refl, sym, ap, subst, ◌∙◌, arith}
 use Rattle.std.proofs.lemmas.Bool.Decides.{nat_tests}
 use Rattle.std.proofs.lemmas.List.{get_or-append-add}
 use Rattle.httparse.specs.Grammar.{print_response}
@@ -10,9 +11,12 @@ use Rattle.dist_types.specs.declared.results.AssignJobResult.{AssignJobResult}
 use Rattle.dist_wire.specs.Codec.{IsBytes, IsCodec}
 use Rattle.dist_wire.specs.Reading.{assign_at}
 use Rattle.http_head.specs.declared.error.HttpError.{HttpError}
-use Rattle.http_head.specs.declared.error.HttpError.TheVariants.{BadHead, WrongContentType, ParseError, BadRealIp, NoRoute, Unauthorised, Status, Memory}
+use Rattle.http_head.specs.declared.error.HttpError.TheVariants.{BadHead, WrongContentType, ParseError}
+use Rattle.http_head.specs.declared.error.HttpError.TheVariants.{BadRealIp, NoRoute, Unauthorised, Status}
+use Rattle.http_head.specs.declared.error.HttpError.TheVariants.{Memory}
 use Rattle.http_head.specs.declared.reply.Reply.{Reply}
-use Rattle.http_routes.specs.Calls.{told_by, Tells, Reads, IsReplyFault, answer_by, IsAnswer, assigned_by, IsAssigned}
+use Rattle.http_routes.specs.Calls.{told_by, Tells, Reads, IsReplyFault, answer_by, IsAnswer, assigned_by}
+use Rattle.http_routes.specs.Calls.{IsAssigned}
 use Rattle.http_head.specs.Head.{IsReply}
 use Rattle.http_routes.specs.Message.{BeginsWith, begins_in}
 use Rattle.http_routes.specs.Steps.{unless_none}
@@ -29,22 +33,30 @@ module _ {M : Type 0} (at : List ℕ → Option (M × List ℕ)) (bytes : List �
   one_telling a b (inr (none, e)) (inr (nothing, f)) = e ∙ sym f
 
 module _ {M : Type 0} (at : List ℕ → Option (M × List ℕ)) where
-  pub one_answer : (bytes : List ℕ) (a b : Result M CallFault) → IsAnswer at bytes a → IsAnswer at bytes b → a ≡ b
+  pub one_answer : (bytes : List ℕ) (a b : Result M CallFault) → IsAnswer at bytes a → IsAnswer at bytes b
+      → a ≡ b
   one_answer bytes a b (s, x, e) (t, y, f) = e ∙ (ap answer_by (one_telling at bytes s t x y) ∙ sym f)
 
-pub one_assignment : (bytes : List ℕ) (a b : Result AssignJobResult CallFault) → IsAssigned bytes a → IsAssigned bytes b → a ≡ b
-one_assignment bytes a b (s, x, e) (t, y, f) = e ∙ (ap assigned_by (one_telling assign_at bytes s t x y) ∙ sym f)
+pub one_assignment : (bytes : List ℕ) (a b : Result AssignJobResult CallFault) → IsAssigned bytes a
+    → IsAssigned bytes b → a ≡ b
+one_assignment bytes a b (s, x, e) (t, y, f) = e
+    ∙ (ap assigned_by (one_telling assign_at bytes s t x y) ∙ sym f)
 
 -- what bytes say is no message for one of three reasons
-pub told_fault : {M : Type 0} (at : List ℕ → Option (M × List ℕ)) (bytes : List ℕ) (e : HttpError) → Tells at bytes (Err e) → IsReplyFault e
+pub told_fault : {M : Type 0} (at : List ℕ → Option (M × List ℕ)) (bytes : List ℕ) (e : HttpError)
+    → Tells at bytes (Err e) → IsReplyFault e
 unfolding told_by
-told_fault {M = M} at bytes e (inr (none, h)) = let same : ParseError ≡ e = cc in subst (λ (d : HttpError). IsReplyFault d) same (tt {0})
+told_fault {M = M} at bytes e (inr (none, h)) = let same : ParseError ≡ e =
+    cc in subst (λ (d : HttpError). IsReplyFault d) same (tt {0})
 told_fault {M = M} at bytes e (inl (r, x, h)) = by_test (r.code == 200) (begins_in at r.body) (sym h)
   where
-    by_test : (b : Bool) (o : Option M) → cond b (unless_none ParseError o) (Err (Status r.code r.body)) ≡ Err e → IsReplyFault e
+    by_test : (b : Bool) (o : Option M) → cond b (unless_none ParseError o) (Err (Status r.code r.body))
+        ≡ Err e → IsReplyFault e
     by_test true (Some m) k = absurd cc
-    by_test true None k = let same : ParseError ≡ e = cc in subst (λ (d : HttpError). IsReplyFault d) same (tt {0})
-    by_test false o k = let same : Status r.code r.body ≡ e = cc in subst (λ (d : HttpError). IsReplyFault d) same (tt {0})
+    by_test true None k = let same : ParseError ≡ e = cc in subst (λ (d : HttpError). IsReplyFault d) same
+        (tt {0})
+    by_test false o k = let same : Status r.code r.body ≡ e =
+        cc in subst (λ (d : HttpError). IsReplyFault d) same (tt {0})
 
 -- an error that no reply means
 abbrev pub IsOther : HttpError → Type 0
@@ -53,7 +65,8 @@ IsOther (Status code body) = ⊥
 IsOther Memory = ⊥
 IsOther other = Unit {0}
 
-pub none_other : {M : Type 0} (at : List ℕ → Option (M × List ℕ)) (bytes : List ℕ) (r : Result M HttpError) (e d : HttpError)
+pub none_other : {M : Type 0} (at : List ℕ → Option (M × List ℕ)) (bytes : List ℕ) (r : Result M HttpError)
+    (e d : HttpError)
     → Reads at bytes r → r ≡ Err e → e ≡ d → IsOther d → ⊥
 none_other {M = M} at bytes r e d reads is same other =
     by_kind d (subst (λ (x : Result M HttpError). Reads at bytes x) (is ∙ ap Err same) reads) other
@@ -72,8 +85,10 @@ none_other {M = M} at bytes r e d reads is same other =
 pub begins_assigned : (bytes : List ℕ) (a : AssignJobResult) → IsAssigned bytes (Ok a) → begins a.state ≡ true
 begins_assigned bytes a (told, x, e) = by_told told e
   where
-    by_test : (answer : AssignJobResult) (b : Bool) → begins answer.state ≡ b → Ok a ≡ cond b (Ok answer) (Err (BadState answer.state)) → begins a.state ≡ true
-    by_test answer true is h = let same : answer ≡ a = cc in subst (λ (r : AssignJobResult). begins r.state ≡ true) same is
+    by_test : (answer : AssignJobResult) (b : Bool) → begins answer.state ≡ b
+        → Ok a ≡ cond b (Ok answer) (Err (BadState answer.state)) → begins a.state ≡ true
+    by_test answer true is h = let same : answer ≡ a =
+        cc in subst (λ (r : AssignJobResult). begins r.state ≡ true) same is
     by_test answer false is h = absurd cc
 
     by_told : (t : Result AssignJobResult HttpError) → Ok a ≡ assigned_by t → begins a.state ≡ true
@@ -82,16 +97,24 @@ begins_assigned bytes a (told, x, e) = by_told told e
 
 body_fits : (bytes : List ℕ) (r : Reply) → IsBytes bytes → IsReply bytes r → IsBytes r.body
 body_fits bytes r fits (h, x) i =
-    subst (λ n. n < 256) (ap (λ (t : List ℕ). get_or t (length (print_response h) + i) 0) x.opens.reads.1 ∙ get_or-append-add (print_response h) r.body i 0) (fits (length (print_response h) + i))
+    subst (λ n. n < 256) (ap (λ (t : List ℕ). get_or t (length (print_response h) + i) 0) x.opens.reads.1
+    ∙ get_or-append-add (print_response h) r.body i 0) (fits (length (print_response h) + i))
 
-module _ {M : Type 0} (Spells : M → List ℕ → Type 0) (at : List ℕ → Option (M × List ℕ)) (codec : IsCodec Spells at) where
-  told : (r : Reply) (m : M) → IsBytes r.body → told_by at r ≡ Ok m → (r.code ≡ 200) × BeginsWith Spells r.body m
+module _ {M : Type 0} (Spells : M → List ℕ → Type 0) (at : List ℕ → Option (M × List ℕ))
+    (codec : IsCodec Spells at) where
+  told : (r : Reply) (m : M) → IsBytes r.body → told_by at r ≡ Ok m → (r.code ≡ 200)
+      × BeginsWith Spells r.body m
   unfolding told_by
   told r m fits e =
-      let t = by_test (r.code == 200) (unless_none ParseError (begins_in at r.body)) (Status r.code r.body) e in
-      (same r.code t.0, read_begins Spells at codec r.body m fits (from_none ParseError (begins_in at r.body) m t.1))
+      let t = by_test (r.code == 200) (unless_none ParseError (begins_in at r.body)) (Status r.code r.body) e
+      in (
+        same r.code t.0,
+        read_begins Spells at codec r.body m fits
+            (from_none ParseError (begins_in at r.body) m t.1),
+      )
     where
-      by_test : (b : Bool) (x : Result M HttpError) (d : HttpError) → cond b x (Err d) ≡ Ok m → (b ≡ true) × (x ≡ Ok m)
+      by_test : (b : Bool) (x : Result M HttpError) (d : HttpError) → cond b x (Err d) ≡ Ok m → (b ≡ true)
+          × (x ≡ Ok m)
       by_test true x d k = (refl, k)
       by_test false x d k = absurd cc
 
@@ -102,12 +125,14 @@ module _ {M : Type 0} (Spells : M → List ℕ → Type 0) (at : List ℕ → Op
   unfolding told_by
   tell r m code b = let read = begins_read Spells at codec r.body m b in rw (code, read) refl
 
-  pub replies_told : (bytes : List ℕ) (m : M) → IsBytes bytes → Tells at bytes (Ok m) ↔ ((r : Reply) × IsReply bytes r × (r.code ≡ 200) × BeginsWith Spells r.body m)
+  pub replies_told : (bytes : List ℕ) (m : M) → IsBytes bytes → Tells at bytes (Ok m)
+      ↔ ((r : Reply) × IsReply bytes r × (r.code ≡ 200) × BeginsWith Spells r.body m)
   replies_told bytes m fits = (to, from)
     where
       to : Tells at bytes (Ok m) → (r : Reply) × IsReply bytes r × (r.code ≡ 200) × BeginsWith Spells r.body m
       to (inl (r, x, e)) = let t = told r m (body_fits bytes r fits x) (sym e) in (r, x, t.0, t.1)
       to (inr (none, e)) = absurd cc
 
-      from : ((r : Reply) × IsReply bytes r × (r.code ≡ 200) × BeginsWith Spells r.body m) → Tells at bytes (Ok m)
+      from : ((r : Reply) × IsReply bytes r × (r.code ≡ 200) × BeginsWith Spells r.body m)
+          → Tells at bytes (Ok m)
       from (r, x, code, b) = inl (r, x, sym (tell r m code b))

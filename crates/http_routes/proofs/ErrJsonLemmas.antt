@@ -7,14 +7,18 @@ use Rattle.json.specs.Token.{Token}
 use Rattle.http_routes.specs.ErrJson.{err_text, err_tokens, end_tokens}
 
 -- what stands behind a cause
-end_printed : (t : List ℕ) (more : List Token) → print_from true (end_tokens t ++ more) ≡ codes ",\"description\":" ++ (quoted t ++ (codes "}" ++ print_from true more))
+end_printed : (t : List ℕ) (more : List Token)
+    → print_from true (end_tokens t ++ more) ≡ codes ",\"description\":" ++
+    (quoted t ++ (codes "}" ++ print_from true more))
 unfolding print_from escape_byte
 end_printed t more = refl
 
-end_joined : (t rest : List ℕ) → (codes ",\"description\":" ++ (quoted t ++ codes "}")) ++ rest ≡ codes ",\"description\":" ++ (quoted t ++ (codes "}" ++ rest))
+end_joined : (t rest : List ℕ) → (codes ",\"description\":" ++ (quoted t ++ codes "}")) ++ rest
+    ≡ codes ",\"description\":" ++ (quoted t ++ (codes "}" ++ rest))
 end_joined t rest = ap (λ x. codes ",\"description\":" ++ x) (append_assoc (quoted t) (codes "}") rest)
 
-printed_behind : (ts : List (List ℕ)) (more : List Token) → print_from false (err_tokens ts ++ more) ≡ err_text ts ++ print_from true more
+printed_behind : (ts : List (List ℕ)) (more : List Token)
+    → print_from false (err_tokens ts ++ more) ≡ err_text ts ++ print_from true more
 unfolding err_tokens err_text print_from escape_byte
 printed_behind [] more = refl
 printed_behind (t ∷ ts) more =

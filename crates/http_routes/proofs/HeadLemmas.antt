@@ -9,4 +9,5 @@ use Rattle.http_routes.proofs.AskLemmas as under
 
 pub one_question : (bytes : List ℕ) (peer : Addr) (client token : List ℕ) (a b : Asked)
     → IsAsked bytes peer client token a → IsAsked bytes peer client token b → a ≡ b
-one_question bytes peer client token a b = under.one_question (equal_admission client) (plain_server token) bytes peer a b
+one_question bytes peer client token a b = under.one_question (equal_admission client)
+    (plain_server token) bytes peer a b

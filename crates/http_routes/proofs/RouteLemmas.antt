@@ -1,5 +1,6 @@
 -- What a request asks of the scheduler, in the words of its parts.
-use Rattle.std.proofs.Common.{◌≡◌, ◌↔◌, inl, inr, ℕ, ◌+◌, ◌<◌, get_or, Bool, true, false, cond, List, ◌++◌, length, Option, Some, None, Result, Ok, Err, refl, sym, ap, subst, ◌∙◌}
+use Rattle.std.proofs.Common.{◌≡◌, ◌↔◌, inl, inr, ℕ, ◌+◌, ◌<◌, get_or, Bool, true, false, cond, List, ◌++◌}
+use Rattle.std.proofs.Common.{length, Option, Some, None, Result, Ok, Err, refl, sym, ap, subst, ◌∙◌}
 use Rattle.std.specs.Prelude.{codes, option_map}
 use Rattle.std.proofs.lemmas.List.{get_or-append-add}
 use Rattle.dist_types.specs.declared.addr.Addr.{Addr}
@@ -39,19 +40,23 @@ use Rattle.http_routes.proofs.StepLemmas.{two_ok}
 -- ---- places
 
 -- a request that names a job behind a front is at no other place
-pub state_no_alloc : (r : Request) (job : JobId) → NamesJob r (codes "/api/v1/scheduler/job_state/") job → is_at (codes "POST") (codes "/api/v1/scheduler/alloc_job") r ≡ false
+pub state_no_alloc : (r : Request) (job : JobId) → NamesJob r (codes "/api/v1/scheduler/job_state/") job
+    → is_at (codes "POST") (codes "/api/v1/scheduler/alloc_job") r ≡ false
 unfolding is_at
 state_no_alloc r job n = rw (n.at.sent_by, n.at.sent_to) refl
 
-pub state_no_beat : (r : Request) (job : JobId) → NamesJob r (codes "/api/v1/scheduler/job_state/") job → is_at (codes "POST") (codes "/api/v1/scheduler/heartbeat_server") r ≡ false
+pub state_no_beat : (r : Request) (job : JobId) → NamesJob r (codes "/api/v1/scheduler/job_state/") job
+    → is_at (codes "POST") (codes "/api/v1/scheduler/heartbeat_server") r ≡ false
 unfolding is_at
 state_no_beat r job n = rw (n.at.sent_by, n.at.sent_to) refl
 
-pub state_no_status : (r : Request) (job : JobId) → NamesJob r (codes "/api/v1/scheduler/job_state/") job → is_at (codes "GET") (codes "/api/v1/scheduler/status") r ≡ false
+pub state_no_status : (r : Request) (job : JobId) → NamesJob r (codes "/api/v1/scheduler/job_state/") job
+    → is_at (codes "GET") (codes "/api/v1/scheduler/status") r ≡ false
 unfolding is_at
 state_no_status r job n = rw n.at.sent_by refl
 
-pub beat_no_alloc : (r : Request) → IsAt r (codes "POST") (codes "/api/v1/scheduler/heartbeat_server") → is_at (codes "POST") (codes "/api/v1/scheduler/alloc_job") r ≡ false
+pub beat_no_alloc : (r : Request) → IsAt r (codes "POST") (codes "/api/v1/scheduler/heartbeat_server")
+    → is_at (codes "POST") (codes "/api/v1/scheduler/alloc_job") r ≡ false
 unfolding is_at
 beat_no_alloc r at = rw (at.sent_by, at.sent_to) refl
 
@@ -59,16 +64,19 @@ pub status_no_post : (r : Request) (path : List ℕ) → IsStatus r → is_at (c
 unfolding is_at
 status_no_post r path at = rw at.sent_by refl
 
-pub state_named : (r : Request) (job : JobId) → state_job r ≡ Some job → NamesJob r (codes "/api/v1/scheduler/job_state/") job
+pub state_named : (r : Request) (job : JobId) → state_job r ≡ Some job
+    → NamesJob r (codes "/api/v1/scheduler/job_state/") job
 unfolding state_job
 state_named r job e = job_named (codes "/api/v1/scheduler/job_state/") r job e
 
-pub named_state : (r : Request) (job : JobId) → NamesJob r (codes "/api/v1/scheduler/job_state/") job → state_job r ≡ Some job
+pub named_state : (r : Request) (job : JobId) → NamesJob r (codes "/api/v1/scheduler/job_state/") job
+    → state_job r ≡ Some job
 unfolding state_job
 named_state r job n = named_job (codes "/api/v1/scheduler/job_state/") r job n
 
 -- at the place of requests for jobs the check of clients is asked about the token that is shown
-pub said_there : (lets : List ℕ → Admission) (r : Request) → is_at (codes "POST") (codes "/api/v1/scheduler/alloc_job") r ≡ true
+pub said_there : (lets : List ℕ → Admission) (r : Request)
+    → is_at (codes "POST") (codes "/api/v1/scheduler/alloc_job") r ≡ true
     → said_by lets r ≡ option_map lets (token_in (header (codes "authorization") r.headers))
 unfolding client_token
 said_there lets r at = rw at refl
@@ -88,43 +96,64 @@ abbrev pub client_of : (List ℕ → Admission) → Request → Result (Unit {0}
 client_of lets r = client_test (option_map lets (token_in (header (codes "authorization") r.headers)))
 
 -- what was asked, by its route
-data Route (lets : List ℕ → Admission) (serves : List ℕ → Option Addr) (r : Request) (peer : Addr) (w : SchedRouted) : Type 0 where
-  by_alloc : (tc : List ℕ) → IsAt r (codes "POST") (codes "/api/v1/scheduler/alloc_job") → client_of lets r ≡ Ok tt → message_in toolchain_at r ≡ Ok tc → Alloc tc ≡ w → Route lets serves r peer w
-  by_beat : (server : Addr) (m : HeartbeatServerHttpRequest) → IsAt r (codes "POST") (codes "/api/v1/scheduler/heartbeat_server") → server_of serves r peer ≡ Ok server → message_in heartbeat_at r ≡ Ok m → Beat server m ≡ w → Route lets serves r peer w
-  by_update : (server : Addr) (job : JobId) (state : JobState) → NamesJob r (codes "/api/v1/scheduler/job_state/") job → server_of serves r peer ≡ Ok server → message_in state_at r ≡ Ok state → Update server job state ≡ w → Route lets serves r peer w
+data Route (lets : List ℕ → Admission) (serves : List ℕ → Option Addr) (r : Request) (peer : Addr)
+    (w : SchedRouted) : Type 0 where
+  by_alloc : (tc : List ℕ) → IsAt r (codes "POST") (codes "/api/v1/scheduler/alloc_job")
+      → client_of lets r ≡ Ok tt → message_in toolchain_at r ≡ Ok tc → Alloc tc ≡ w
+      → Route lets serves r peer w
+  by_beat : (server : Addr) (m : HeartbeatServerHttpRequest)
+      → IsAt r (codes "POST") (codes "/api/v1/scheduler/heartbeat_server")
+      → server_of serves r peer ≡ Ok server → message_in heartbeat_at r ≡ Ok m → Beat server m ≡ w
+      → Route lets serves r peer w
+  by_update : (server : Addr) (job : JobId) (state : JobState)
+      → NamesJob r (codes "/api/v1/scheduler/job_state/") job → server_of serves r peer ≡ Ok server
+      → message_in state_at r ≡ Ok state → Update server job state ≡ w → Route lets serves r peer w
   by_status : IsStatus r → Status ≡ w → Route lets serves r peer w
 
-alloc_parts : (lets : List ℕ → Admission) (r : Request) (w : SchedRouted) → post_alloc r ≡ true → alloc_of r (said_by lets r) ≡ Ok w
+alloc_parts : (lets : List ℕ → Admission) (r : Request) (w : SchedRouted) → post_alloc r ≡ true
+    → alloc_of r (said_by lets r) ≡ Ok w
     → (tc : List ℕ) × (client_of lets r ≡ Ok tt) × (message_in toolchain_at r ≡ Ok tc) × (Alloc tc ≡ w)
 unfolding alloc_of
 alloc_parts lets r w at e =
     let p = two_ok (client_test (said_by lets r)) (message_in toolchain_at r) (λ u tc. Alloc tc) w e in
     (p.1, ap client_test (sym (said_there lets r at)) ∙ p.2, p.3, p.4)
 
-beat_parts : (serves : List ℕ → Option Addr) (r : Request) (peer : Addr) (w : SchedRouted) → beat_of serves r peer ≡ Ok w
-    → (server : Addr) × (m : HeartbeatServerHttpRequest) × (server_of serves r peer ≡ Ok server) × (message_in heartbeat_at r ≡ Ok m) × (Beat server m ≡ w)
+beat_parts : (serves : List ℕ → Option Addr) (r : Request) (peer : Addr) (w : SchedRouted)
+    → beat_of serves r peer ≡ Ok w
+    → (server : Addr) × (m : HeartbeatServerHttpRequest) × (server_of serves r peer ≡ Ok server)
+    × (message_in heartbeat_at r ≡ Ok m) × (Beat server m ≡ w)
 unfolding beat_of
 beat_parts serves r peer w e = two_ok (server_of serves r peer) (message_in heartbeat_at r) Beat w e
 
-update_parts : (serves : List ℕ → Option Addr) (r : Request) (peer : Addr) (job : JobId) (w : SchedRouted) → update_of serves r peer job ≡ Ok w
-    → (server : Addr) × (state : JobState) × (server_of serves r peer ≡ Ok server) × (message_in state_at r ≡ Ok state) × (Update server job state ≡ w)
+update_parts : (serves : List ℕ → Option Addr) (r : Request) (peer : Addr) (job : JobId) (w : SchedRouted)
+    → update_of serves r peer job ≡ Ok w
+    → (server : Addr) × (state : JobState) × (server_of serves r peer ≡ Ok server)
+    × (message_in state_at r ≡ Ok state) × (Update server job state ≡ w)
 unfolding update_of
-update_parts serves r peer job w e = two_ok (server_of serves r peer) (message_in state_at r) (λ s m. Update s job m) w e
+update_parts serves r peer job w e = two_ok (server_of serves r peer) (message_in state_at r)
+    (λ s m. Update s job m) w e
 
-route : (lets : List ℕ → Admission) (serves : List ℕ → Option Addr) (r : Request) (peer : Addr) (w : SchedRouted) → asked_of serves r peer (said_by lets r) ≡ Ok w → Route lets serves r peer w
+route : (lets : List ℕ → Admission) (serves : List ℕ → Option Addr) (r : Request) (peer : Addr)
+    (w : SchedRouted) → asked_of serves r peer (said_by lets r) ≡ Ok w → Route lets serves r peer w
 unfolding asked_of report_of
-route lets serves r peer w e = by_tests (post_alloc r) (post_beat r) (get_status r) (state_job r) refl refl refl refl e
+route lets serves r peer w e = by_tests (post_alloc r) (post_beat r) (get_status r)
+    (state_job r) refl refl refl refl e
   where
-    by_tests : (a b s : Bool) (j : Option JobId) → post_alloc r ≡ a → post_beat r ≡ b → get_status r ≡ s → state_job r ≡ j
-        → cond a (alloc_of r (said_by lets r)) (cond b (beat_of serves r peer) (cond s (Ok Status) (of_job (update_of serves r peer) (Err NoRoute) j))) ≡ Ok w
+    by_tests : (a b s : Bool) (j : Option JobId) → post_alloc r ≡ a → post_beat r ≡ b → get_status r ≡ s
+        → state_job r ≡ j
+        → cond a (alloc_of r (said_by lets r))
+        (cond b (beat_of serves r peer)
+        (cond s (Ok Status) (of_job (update_of serves r peer) (Err NoRoute) j))) ≡ Ok w
         → Route lets serves r peer w
     by_tests true b s j at_a at_b at_s at_j h =
         let p = alloc_parts lets r w at_a h in
         by_alloc p.0 (at_place r (codes "POST") (codes "/api/v1/scheduler/alloc_job") at_a) p.1 p.2 p.3
     by_tests false true s j at_a at_b at_s at_j h =
         let p = beat_parts serves r peer w h in
-        by_beat p.0 p.1 (at_place r (codes "POST") (codes "/api/v1/scheduler/heartbeat_server") at_b) p.2 p.3 p.4
-    by_tests false false true j at_a at_b at_s at_j h = by_status (at_place r (codes "GET") (codes "/api/v1/scheduler/status") at_s) cc
+        by_beat p.0 p.1 (at_place r (codes "POST") (codes "/api/v1/scheduler/heartbeat_server") at_b) p.2 p.3
+        p.4
+    by_tests false false true j at_a at_b at_s at_j h =
+        by_status (at_place r (codes "GET") (codes "/api/v1/scheduler/status") at_s) cc
     by_tests false false false None at_a at_b at_s at_j h = absurd cc
     by_tests false false false (Some job) at_a at_b at_s at_j h =
         let p = update_parts serves r peer job w h in
@@ -133,24 +162,37 @@ route lets serves r peer w e = by_tests (post_alloc r) (post_beat r) (get_status
 -- ---- the requests that ask each thing
 
 module _ (lets : List ℕ → Admission) (serves : List ℕ → Option Addr) (r : Request) (peer : Addr) where
-  is_allocation : (tc : List ℕ) → IsBytes r.body → asked_of serves r peer (said_by lets r) ≡ Ok (Alloc tc) → IsAllocation r lets tc
+  is_allocation : (tc : List ℕ) → IsBytes r.body → asked_of serves r peer (said_by lets r) ≡ Ok (Alloc tc)
+      → IsAllocation r lets tc
   is_allocation tc fits e = by_route (route lets serves r peer (Alloc tc) e)
     where
       by_route : Route lets serves r peer (Alloc tc) → IsAllocation r lets tc
       by_route (by_alloc t at test message is) =
           let same : t ≡ tc = cc in
-          record { at = at; admitted = client_admitted lets r test; message = message_held SpellsToolchain toolchain_at toolchain_codec r tc fits (message ∙ ap Ok same) }
+          record {
+            at = at;
+            admitted = client_admitted lets r test;
+            message = message_held SpellsToolchain toolchain_at toolchain_codec r tc fits
+                (message ∙ ap Ok same);
+          }
       by_route (by_beat s m at sender message is) = absurd cc
       by_route (by_update s j m at sender message is) = absurd cc
       by_route (by_status at is) = absurd cc
 
-  pub allocation_is : (tc : List ℕ) → IsAllocation r lets tc → asked_of serves r peer (said_by lets r) ≡ Ok (Alloc tc)
+  pub allocation_is : (tc : List ℕ) → IsAllocation r lets tc → asked_of serves r peer (said_by lets r) ≡ Ok
+      (Alloc tc)
   unfolding asked_of alloc_of
   allocation_is tc a =
       let at = place_at r (codes "POST") (codes "/api/v1/scheduler/alloc_job") a.at in
-      rw (at, said_there lets r at, admitted_client lets r a.admitted, held_message SpellsToolchain toolchain_at toolchain_codec r tc a.message) refl
+      rw (
+        at,
+        said_there lets r at,
+        admitted_client lets r a.admitted,
+        held_message SpellsToolchain toolchain_at toolchain_codec r tc a.message,
+      ) refl
 
-  is_heartbeat : (server : Addr) (m : HeartbeatServerHttpRequest) → IsBytes r.body → asked_of serves r peer (said_by lets r) ≡ Ok (Beat server m) → IsHeartbeat r peer serves server m
+  is_heartbeat : (server : Addr) (m : HeartbeatServerHttpRequest) → IsBytes r.body
+      → asked_of serves r peer (said_by lets r) ≡ Ok (Beat server m) → IsHeartbeat r peer serves server m
   is_heartbeat server m fits e = by_route (route lets serves r peer (Beat server m) e)
     where
       by_route : Route lets serves r peer (Beat server m) → IsHeartbeat r peer serves server m
@@ -158,16 +200,29 @@ module _ (lets : List ℕ → Admission) (serves : List ℕ → Option Addr) (r 
       by_route (by_beat s b at sender message is) =
           let same_server : s ≡ server = cc in
           let same : b ≡ m = cc in
-          record { at = at; sender = sender_shown serves r peer server (sender ∙ ap Ok same_server); message = message_held SpellsHeartbeat heartbeat_at heartbeat_codec r m fits (message ∙ ap Ok same) }
+          record {
+            at = at;
+            sender = sender_shown serves r peer server (sender ∙ ap Ok same_server);
+            message = message_held SpellsHeartbeat heartbeat_at heartbeat_codec r m fits
+                (message ∙ ap Ok same);
+          }
       by_route (by_update s j b at sender message is) = absurd cc
       by_route (by_status at is) = absurd cc
 
-  pub heartbeat_is : (server : Addr) (m : HeartbeatServerHttpRequest) → IsHeartbeat r peer serves server m → asked_of serves r peer (said_by lets r) ≡ Ok (Beat server m)
+  pub heartbeat_is : (server : Addr) (m : HeartbeatServerHttpRequest) → IsHeartbeat r peer serves server m
+      → asked_of serves r peer (said_by lets r) ≡ Ok (Beat server m)
   unfolding asked_of beat_of
   heartbeat_is server m h =
-      rw (beat_no_alloc r h.at, place_at r (codes "POST") (codes "/api/v1/scheduler/heartbeat_server") h.at, shown_sender serves r peer server h.sender, held_message SpellsHeartbeat heartbeat_at heartbeat_codec r m h.message) refl
+      rw (
+        beat_no_alloc r h.at,
+        place_at r (codes "POST") (codes "/api/v1/scheduler/heartbeat_server") h.at,
+        shown_sender serves r peer server h.sender,
+        held_message SpellsHeartbeat heartbeat_at heartbeat_codec r m h.message,
+      ) refl
 
-  is_update : (server : Addr) (job : JobId) (state : JobState) → IsBytes r.body → asked_of serves r peer (said_by lets r) ≡ Ok (Update server job state) → IsUpdate r peer serves server job state
+  is_update : (server : Addr) (job : JobId) (state : JobState) → IsBytes r.body
+      → asked_of serves r peer (said_by lets r) ≡ Ok (Update server job state)
+      → IsUpdate r peer serves server job state
   is_update server job state fits e = by_route (route lets serves r peer (Update server job state) e)
     where
       by_route : Route lets serves r peer (Update server job state) → IsUpdate r peer serves server job state
@@ -184,7 +239,8 @@ module _ (lets : List ℕ → Admission) (serves : List ℕ → Option Addr) (r 
           }
       by_route (by_status at is) = absurd cc
 
-  pub update_is : (server : Addr) (job : JobId) (state : JobState) → IsUpdate r peer serves server job state → asked_of serves r peer (said_by lets r) ≡ Ok (Update server job state)
+  pub update_is : (server : Addr) (job : JobId) (state : JobState) → IsUpdate r peer serves server job state
+      → asked_of serves r peer (said_by lets r) ≡ Ok (Update server job state)
   unfolding asked_of report_of update_of
   update_is server job state u =
       rw (
@@ -227,47 +283,65 @@ module _ (lets : List ℕ → Admission) (serves : List ℕ → Option Addr) (r 
 
 pub body_fits : (bytes : List ℕ) (r : Request) → IsBytes bytes → IsRequest bytes r → IsBytes r.body
 body_fits bytes r fits (h, x) i =
-    subst (λ n. n < 256) (ap (λ (t : List ℕ). get_or t (length (print_request h) + i) 0) x.opens.reads.1 ∙ get_or-append-add (print_request h) r.body i 0) (fits (length (print_request h) + i))
+    subst (λ n. n < 256) (ap (λ (t : List ℕ). get_or t (length (print_request h) + i) 0) x.opens.reads.1
+    ∙ get_or-append-add (print_request h) r.body i 0) (fits (length (print_request h) + i))
 
-module _ (lets : List ℕ → Admission) (serves : List ℕ → Option Addr) (bytes : List ℕ) (peer : Addr) (json : Bool) where
+module _ (lets : List ℕ → Admission) (serves : List ℕ → Option Addr) (bytes : List ℕ) (peer : Addr)
+    (json : Bool) where
   -- what is asked and is no reply known at once was asked by a request
-  asks : (w : SchedRouted) → ((reply : Response) → w ≡ Done reply → ⊥) → IsAskedUnder lets serves bytes peer (record { what = w; json = json })
+  asks : (w : SchedRouted) → ((reply : Response) → w ≡ Done reply → ⊥) → IsAskedUnder lets serves bytes peer
+      (record { what = w; json = json })
       → (r : Request) × IsRequest bytes r × (asked_of serves r peer (said_by lets r) ≡ Ok w) × InForm r json
   asks w other (inr (none, e)) = absurd (other (refusal_response BadHead) (ap (λ (a : Asked). a.what) e))
-  asks w other (inl (r, x, e)) =
-      (r, x, by_result (asked_of serves r peer (said_by lets r)) (ap (λ (a : Asked). a.what) e), in_form r json (ap (λ (a : Asked). a.json) e))
+  asks w other (inl (r, x, e)) = (
+    r,
+    x,
+    by_result (asked_of serves r peer (said_by lets r)) (ap (λ (a : Asked). a.what) e),
+    in_form r json (ap (λ (a : Asked). a.json) e),
+  )
     where
       by_result : (y : Result SchedRouted Refusal) → w ≡ answered y → y ≡ Ok w
       by_result (Ok y) h = ap Ok (sym h)
       by_result (Err d) h = absurd (other (refusal_response d) h)
 
-  pub asked_by : (w : SchedRouted) (r : Request) → IsRequest bytes r → asked_of serves r peer (said_by lets r) ≡ Ok w → InForm r json
+  pub asked_by : (w : SchedRouted) (r : Request) → IsRequest bytes r
+      → asked_of serves r peer (said_by lets r) ≡ Ok w → InForm r json
       → IsAskedUnder lets serves bytes peer (record { what = w; json = json })
-  asked_by w r x is form = inl (r, x, λ i. record { what = answered (sym is i); json = form_in r json form i })
+  asked_by w r x is form =
+      inl (r, x, λ i. record { what = answered (sym is i); json = form_in r json form i })
 
   pub allocations_asked : (tc : List ℕ) → IsBytes bytes
-      → IsAskedUnder lets serves bytes peer (record { what = Alloc tc; json = json }) ↔ ((r : Request) × IsRequest bytes r × IsAllocation r lets tc × InForm r json)
+      → IsAskedUnder lets serves bytes peer (record { what = Alloc tc; json = json })
+      ↔ ((r : Request) × IsRequest bytes r × IsAllocation r lets tc × InForm r json)
   allocations_asked tc fits = (
-    λ h. let (r, x, is, form) = asks (Alloc tc) (λ reply e. cc) h in (r, x, is_allocation lets serves r peer tc (body_fits bytes r fits x) is, form),
+    λ h. let (r, x, is, form) = asks (Alloc tc) (λ reply e. cc) h
+        in (r, x, is_allocation lets serves r peer tc (body_fits bytes r fits x) is, form),
     λ (r, x, a, form). asked_by (Alloc tc) r x (allocation_is lets serves r peer tc a) form,
   )
 
   pub heartbeats_asked : (server : Addr) (m : HeartbeatServerHttpRequest) → IsBytes bytes
-      → IsAskedUnder lets serves bytes peer (record { what = Beat server m; json = json }) ↔ ((r : Request) × IsRequest bytes r × IsHeartbeat r peer serves server m × InForm r json)
+      → IsAskedUnder lets serves bytes peer (record { what = Beat server m; json = json })
+      ↔ ((r : Request) × IsRequest bytes r × IsHeartbeat r peer serves server m × InForm r json)
   heartbeats_asked server m fits = (
-    λ h. let (r, x, is, form) = asks (Beat server m) (λ reply e. cc) h in (r, x, is_heartbeat lets serves r peer server m (body_fits bytes r fits x) is, form),
+    λ h. let (r, x, is, form) = asks (Beat server m) (λ reply e. cc) h
+        in (r, x, is_heartbeat lets serves r peer server m (body_fits bytes r fits x) is, form),
     λ (r, x, a, form). asked_by (Beat server m) r x (heartbeat_is lets serves r peer server m a) form,
   )
 
   pub updates_asked : (server : Addr) (job : JobId) (state : JobState) → IsBytes bytes
-      → IsAskedUnder lets serves bytes peer (record { what = Update server job state; json = json }) ↔ ((r : Request) × IsRequest bytes r × IsUpdate r peer serves server job state × InForm r json)
+      → IsAskedUnder lets serves bytes peer (record { what = Update server job state; json = json })
+      ↔ ((r : Request) × IsRequest bytes r × IsUpdate r peer serves server job state × InForm r json)
   updates_asked server job state fits = (
-    λ h. let (r, x, is, form) = asks (Update server job state) (λ reply e. cc) h in (r, x, is_update lets serves r peer server job state (body_fits bytes r fits x) is, form),
-    λ (r, x, a, form). asked_by (Update server job state) r x (update_is lets serves r peer server job state a) form,
+    λ h. let (r, x, is, form) = asks (Update server job state) (λ reply e. cc) h
+        in (r, x, is_update lets serves r peer server job state (body_fits bytes r fits x) is, form),
+    λ (r, x, a, form). asked_by (Update server job state) r x
+        (update_is lets serves r peer server job state a) form,
   )
 
-  pub statuses_asked : IsAskedUnder lets serves bytes peer (record { what = Status; json = json }) ↔ ((r : Request) × IsRequest bytes r × IsStatus r × InForm r json)
+  pub statuses_asked : IsAskedUnder lets serves bytes peer (record { what = Status; json = json })
+      ↔ ((r : Request) × IsRequest bytes r × IsStatus r × InForm r json)
   statuses_asked = (
-    λ h. let (r, x, is, form) = asks Status (λ reply e. cc) h in (r, x, is_status lets serves r peer is, form),
+    λ h. let (r, x, is, form) = asks Status (λ reply e. cc) h
+        in (r, x, is_status lets serves r peer is, form),
     λ (r, x, a, form). asked_by Status r x (status_is lets serves r peer a) form,
   )

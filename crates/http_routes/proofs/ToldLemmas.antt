@@ -1,5 +1,7 @@
 -- What is written for a call is read as it was meant.
-use Rattle.std.proofs.Common.{◌≡◌, inl, ℕ, ◌+◌, ◌-◌, ◌<◌, ◌≤◌, ◌^◌, ◌==◌, not, true, false, List, [], ◌++◌, length, drop, codes, decimal, Option, Some, None, Result, Ok, refl, sym, ap, ◌∙◌, arith, append-nil, append_assoc, length-append}
+use Rattle.std.proofs.Common.{◌≡◌, inl, ℕ, ◌+◌, ◌-◌, ◌<◌, ◌≤◌, ◌^◌, ◌==◌, not, true, false, List, [], ◌++◌}
+use Rattle.std.proofs.Common.{length, drop, codes, decimal, Option, Some, None, Result, Ok, refl, sym, ap}
+use Rattle.std.proofs.Common.{◌∙◌, arith, append-nil, append_assoc, length-append}
 use Rattle.std.specs.Prelude.{IsUtf8, ⊤}
 use Rattle.std.specs.List.{list_all}
 use Rattle.std.specs.Char.{is_ascii_digit, is_ascii_graphic}
@@ -27,7 +29,8 @@ use Rattle.http_head.specs.declared.written_request.WrittenRequest.{WrittenReque
 use Rattle.http_head.specs.Bearer.{token_in}
 use Rattle.http_head.specs.Fields.{header, path_of}
 use Rattle.http_head.specs.Head.{IsRequest}
-use Rattle.http_head.specs.WrittenRequest.{is_visible, request_text, IsToken, IsWithinLimits, IsSendable, Carries}
+use Rattle.http_head.specs.WrittenRequest.{is_visible, request_text, IsToken, IsWithinLimits, IsSendable}
+use Rattle.http_head.specs.WrittenRequest.{Carries}
 use Rattle.http_head.proofs.BearerLemmas.{token_shown}
 use Rattle.http_head.proofs.FieldLemmas.{digits}
 use Rattle.http_head.proofs.LineLemmas.{weaker}
@@ -43,7 +46,8 @@ use Rattle.http_routes.specs.Place.{job_of}
 use Rattle.http_routes.specs.RunHead.{run_body}
 use Rattle.http_routes.specs.Sender.{IsAdmitted, IsFrom, ShowsJob, Shows}
 use Rattle.http_routes.specs.ServerRoute.{body_at, AsksAssign, AsksSubmit, AsksRun}
-use Rattle.http_routes.specs.Written.{post_with, alloc_with, status_with, heartbeat_with, state_with, assign_with, submit_with, run_with, CanGo}
+use Rattle.http_routes.specs.Written.{post_with, alloc_with, status_with, heartbeat_with, state_with}
+use Rattle.http_routes.specs.Written.{assign_with, submit_with, run_with, CanGo}
 use Rattle.http_routes.proofs.PlaceLemmas.{no_query, written_job, job_named}
 use Rattle.http_routes.proofs.RouteLemmas.{asked_by, allocation_is, heartbeat_is, update_is, status_is}
 use Rattle.http_routes.proofs.RunHeadLemmas.{body_read_back, inputs_behind}
@@ -62,7 +66,8 @@ graphic_visible b h = grind (arith, nat_tests)
 
 -- the text of an address can stand in a head
 pub addr_visible : (addr : Addr) → IsAddr addr → list_all is_visible (addr_text addr) ≡ true
-addr_visible addr is = weaker is_ascii_graphic is_visible graphic_visible (addr_text addr) (printed_graphic addr is)
+addr_visible addr is = weaker is_ascii_graphic is_visible graphic_visible (addr_text addr)
+    (printed_graphic addr is)
 
 -- a path: visible text without a question mark
 record IsPath (path : List ℕ) : Type 0 where
@@ -74,46 +79,73 @@ record IsPath (path : List ℕ) : Type 0 where
 -- a job's number behind a front
 behind : (front : List ℕ) (job : JobId) → job.0 < 2 ^ 64 → 0 < length front → IsUtf8 front
     → ((more : List ℕ) → list_all is_visible more ≡ true → list_all is_visible (front ++ more) ≡ true)
-    → ((more : List ℕ) → list_all (λ b. not (b == 63)) more ≡ true → list_all (λ b. not (b == 63)) (front ++ more) ≡ true)
+    → ((more : List ℕ) → list_all (λ b. not (b == 63)) more ≡ true → list_all (λ b. not (b == 63))
+    (front ++ more) ≡ true)
     → IsPath (front ++ decimal job.0)
 behind front job fits some text visible no_question =
     let all = digits_decimal digits job.0 fits in
     let total = length-append front (decimal job.0) in
     record {
       visible = visible (decimal job.0) (weaker is_ascii_digit is_visible digit_visible (decimal job.0) all);
-      no_question = no_question (decimal job.0) (weaker is_ascii_digit (λ b. not (b == 63)) digit_no_question (decimal job.0) all);
-      text = IsUtf8-append front (decimal job.0) text (IsUtf8-from_ascii (decimal job.0) (IsAscii-from_digits (decimal job.0) (digits.to (decimal job.0) all)));
+      no_question = no_question (decimal job.0) (weaker is_ascii_digit (λ b. not (b == 63)) digit_no_question
+          (decimal job.0) all);
+      text = IsUtf8-append front (decimal job.0) text
+          (IsUtf8-from_ascii (decimal job.0)
+          (IsAscii-from_digits (decimal job.0) (digits.to (decimal job.0) all)));
       some = omega arith;
     }
 
 alloc_path : IsPath (codes "/api/v1/scheduler/alloc_job")
-alloc_path = record { visible = refl; no_question = refl; text = ascii_text (codes "/api/v1/scheduler/alloc_job") refl; some = omega arith }
+alloc_path = record {
+  visible = refl;
+  no_question = refl;
+  text = ascii_text (codes "/api/v1/scheduler/alloc_job") refl;
+  some = omega arith;
+}
 
 status_path : IsPath (codes "/api/v1/scheduler/status")
-status_path = record { visible = refl; no_question = refl; text = ascii_text (codes "/api/v1/scheduler/status") refl; some = omega arith }
+status_path = record {
+  visible = refl;
+  no_question = refl;
+  text = ascii_text (codes "/api/v1/scheduler/status") refl;
+  some = omega arith;
+}
 
 beat_path : IsPath (codes "/api/v1/scheduler/heartbeat_server")
-beat_path = record { visible = refl; no_question = refl; text = ascii_text (codes "/api/v1/scheduler/heartbeat_server") refl; some = omega arith }
+beat_path = record {
+  visible = refl;
+  no_question = refl;
+  text = ascii_text (codes "/api/v1/scheduler/heartbeat_server") refl;
+  some = omega arith;
+}
 
 state_path : (job : JobId) → job.0 < 2 ^ 64 → IsPath (codes "/api/v1/scheduler/job_state/" ++ decimal job.0)
 state_path job fits =
-    behind (codes "/api/v1/scheduler/job_state/") job fits (omega arith) (ascii_text (codes "/api/v1/scheduler/job_state/") refl) (λ more h. h) (λ more h. h)
+    behind (codes "/api/v1/scheduler/job_state/") job fits (omega arith)
+    (ascii_text (codes "/api/v1/scheduler/job_state/") refl) (λ more h. h) (λ more h. h)
 
-assign_path : (job : JobId) → job.0 < 2 ^ 64 → IsPath (codes "/api/v1/distserver/assign_job/" ++ decimal job.0)
+assign_path : (job : JobId) → job.0 < 2 ^ 64
+    → IsPath (codes "/api/v1/distserver/assign_job/" ++ decimal job.0)
 assign_path job fits =
-    behind (codes "/api/v1/distserver/assign_job/") job fits (omega arith) (ascii_text (codes "/api/v1/distserver/assign_job/") refl) (λ more h. h) (λ more h. h)
+    behind (codes "/api/v1/distserver/assign_job/") job fits (omega arith)
+    (ascii_text (codes "/api/v1/distserver/assign_job/") refl) (λ more h. h) (λ more h. h)
 
-submit_path : (job : JobId) → job.0 < 2 ^ 64 → IsPath (codes "/api/v1/distserver/submit_toolchain/" ++ decimal job.0)
+submit_path : (job : JobId) → job.0 < 2 ^ 64
+    → IsPath (codes "/api/v1/distserver/submit_toolchain/" ++ decimal job.0)
 submit_path job fits =
-    behind (codes "/api/v1/distserver/submit_toolchain/") job fits (omega arith) (ascii_text (codes "/api/v1/distserver/submit_toolchain/") refl) (λ more h. h) (λ more h. h)
+    behind (codes "/api/v1/distserver/submit_toolchain/") job fits (omega arith)
+    (ascii_text (codes "/api/v1/distserver/submit_toolchain/") refl) (λ more h. h) (λ more h. h)
 
 run_path : (job : JobId) → job.0 < 2 ^ 64 → IsPath (codes "/api/v1/distserver/run_job/" ++ decimal job.0)
 run_path job fits =
-    behind (codes "/api/v1/distserver/run_job/") job fits (omega arith) (ascii_text (codes "/api/v1/distserver/run_job/") refl) (λ more h. h) (λ more h. h)
+    behind (codes "/api/v1/distserver/run_job/") job fits (omega arith)
+    (ascii_text (codes "/api/v1/distserver/run_job/") refl) (λ more h. h) (λ more h. h)
 
 -- ---- POSTs under a token
 
-posted : (path host token body : List ℕ) → IsPath path → CanGo host token (post_with path host token body) → (r : Request) × IsRequest (request_text (post_with path host token body)) r × Carries (post_with path host token body) r
+posted : (path host token body : List ℕ) → IsPath path → CanGo host token (post_with path host token body)
+    → (r : Request) × IsRequest (request_text (post_with path host token body)) r
+    × Carries (post_with path host token body) r
 posted path host token body p g =
     requests_read_back (post_with path host token body) record {
       some_target = p.some;
@@ -125,7 +157,8 @@ posted path host token body p g =
       limits = g.limits;
     }
 
-module _ (path host token body : List ℕ) (p : IsPath path) (r : Request) (c : Carries (post_with path host token body) r) where
+module _ (path host token body : List ℕ) (p : IsPath path) (r : Request)
+    (c : Carries (post_with path host token body) r) where
   at_path : path_of r.target ≡ path
   at_path = ap path_of c.target ∙ no_query path p.no_question
 
@@ -143,7 +176,8 @@ module _ (path host token body : List ℕ) (p : IsPath path) (r : Request) (c : 
     body = record { text = body; rest = []; spelled = spelled; parts = c.body ∙ sym (append-nil body) };
   }
 
-  sender : (serves : List ℕ → Option Addr) (peer server : Addr) → serves token ≡ Some server → ip_of peer ≡ ip_of server → IsFrom r peer serves server
+  sender : (serves : List ℕ → Option Addr) (peer server : Addr) → serves token ≡ Some server
+      → ip_of peer ≡ ip_of server → IsFrom r peer serves server
   sender serves peer server own ip = record {
     shown = token;
     bearer = shows;
@@ -151,14 +185,17 @@ module _ (path host token body : List ℕ) (p : IsPath path) (r : Request) (c : 
     ip = rw c.no_real_ip (sym ip);
   }
 
-  names : (front : List ℕ) (job : JobId) → job.0 < 2 ^ 64 → path ≡ front ++ decimal job.0 → NamesJob r front job
+  names : (front : List ℕ) (job : JobId) → job.0 < 2 ^ 64 → path ≡ front ++ decimal job.0
+      → NamesJob r front job
   names front job fits is = job_named front r job (written_job front r job c.method (at_path ∙ is) fits)
 
 -- ---- to the scheduler
 
 module _ (lets : List ℕ → Admission) (serves : List ℕ → Option Addr) (peer : Addr) where
-  pub allocations_read_back : (host token tc : List ℕ) → CanGo host token (alloc_with host token tc) → SpellsToolchain tc (bytes_text tc) → lets token ≡ Admitted
-      → IsAskedUnder lets serves (request_text (alloc_with host token tc)) peer (record { what = Alloc tc; json = false })
+  pub allocations_read_back : (host token tc : List ℕ) → CanGo host token (alloc_with host token tc)
+      → SpellsToolchain tc (bytes_text tc) → lets token ≡ Admitted
+      → IsAskedUnder lets serves (request_text (alloc_with host token tc)) peer
+      (record { what = Alloc tc; json = false })
   unfolding alloc_with
   allocations_read_back host token tc g spelled admitted =
       let path = codes "/api/v1/scheduler/alloc_job" in
@@ -172,9 +209,11 @@ module _ (lets : List ℕ → Admission) (serves : List ℕ → Option Addr) (pe
       })
       (in_binary path host token body alloc_path r c)
 
-  pub heartbeats_read_back : (host token : List ℕ) (beat : HeartbeatServerHttpRequest) (server : Addr) → CanGo host token (heartbeat_with host token beat)
+  pub heartbeats_read_back : (host token : List ℕ) (beat : HeartbeatServerHttpRequest) (server : Addr)
+      → CanGo host token (heartbeat_with host token beat)
       → SpellsHeartbeat beat (heartbeat_text beat) → serves token ≡ Some server → ip_of peer ≡ ip_of server
-      → IsAskedUnder lets serves (request_text (heartbeat_with host token beat)) peer (record { what = Beat server beat; json = false })
+      → IsAskedUnder lets serves (request_text (heartbeat_with host token beat)) peer
+      (record { what = Beat server beat; json = false })
   unfolding heartbeat_with
   heartbeats_read_back host token beat server g spelled own ip =
       let path = codes "/api/v1/scheduler/heartbeat_server" in
@@ -194,16 +233,19 @@ module _ (lets : List ℕ → Admission) (serves : List ℕ → Option Addr) (pe
   spells_state State.Started = (omega arith, refl)
   spells_state State.Complete = (omega arith, refl)
 
-  pub states_read_back : (host token : List ℕ) (job : JobId) (state : JobState) (server : Addr) → CanGo host token (state_with host token job state)
+  pub states_read_back : (host token : List ℕ) (job : JobId) (state : JobState) (server : Addr)
+      → CanGo host token (state_with host token job state)
       → job.0 < 2 ^ 64 → serves token ≡ Some server → ip_of peer ≡ ip_of server
-      → IsAskedUnder lets serves (request_text (state_with host token job state)) peer (record { what = Update server job state; json = false })
+      → IsAskedUnder lets serves (request_text (state_with host token job state)) peer
+      (record { what = Update server job state; json = false })
   unfolding state_with
   states_read_back host token job state server g fits own ip =
       let path = codes "/api/v1/scheduler/job_state/" ++ decimal job.0 in
       let body = state_bytes state in
       let p = state_path job fits in
       let (r, x, c) = posted path host token body p g in
-      asked_by lets serves (request_text (post_with path host token body)) peer false (Update server job state) r x
+      asked_by lets serves (request_text (post_with path host token body)) peer false
+      (Update server job state) r x
       (update_is lets serves r peer server job state record {
         names = names path host token body p r c (codes "/api/v1/scheduler/job_state/") job fits refl;
         sender = sender path host token body p r c serves peer server own ip;
@@ -211,8 +253,10 @@ module _ (lets : List ℕ → Admission) (serves : List ℕ → Option Addr) (pe
       })
       (in_binary path host token body p r c)
 
-  pub statuses_read_back : (host : List ℕ) → list_all is_visible host ≡ true → IsWithinLimits (status_with host)
-      → IsAskedUnder lets serves (request_text (status_with host)) peer (record { what = Status; json = false })
+  pub statuses_read_back : (host : List ℕ) → list_all is_visible host ≡ true
+      → IsWithinLimits (status_with host)
+      → IsAskedUnder lets serves (request_text (status_with host)) peer
+      (record { what = Status; json = false })
   unfolding status_with
   statuses_read_back host visible limits =
       let (r, x, c) = requests_read_back (status_with host) record {
@@ -225,7 +269,11 @@ module _ (lets : List ℕ → Admission) (serves : List ℕ → Option Addr) (pe
         limits = limits;
       } in
       asked_by lets serves (request_text (status_with host)) peer false Status r x
-      (status_is lets serves r peer record { sent_by = c.method; sent_to = ap path_of c.target ∙ no_query (codes "/api/v1/scheduler/status") status_path.no_question })
+      (status_is lets serves r peer record {
+        sent_by = c.method;
+        sent_to = ap path_of c.target
+            ∙ no_query (codes "/api/v1/scheduler/status") status_path.no_question;
+      })
       (λ e. absurd (let both = sym c.no_accept ∙ e in cc))
 
 -- ---- to a server
@@ -238,7 +286,8 @@ body_is_end bytes r (h, x) =
     ap (drop (body_at bytes r)) parts ∙ drop_at (print_request h) r.body (body_at bytes r) (omega arith)
 
 module _ (verdict : ℕ → List ℕ → Result ⊤ TokenError) where
-  pub assignments_read_back : (server : Addr) (token tc : List ℕ) (job : JobId) → CanGo (addr_text server) token (assign_with server job token (bytes_text tc))
+  pub assignments_read_back : (server : Addr) (token tc : List ℕ) (job : JobId)
+      → CanGo (addr_text server) token (assign_with server job token (bytes_text tc))
       → job.0 < 2 ^ 64 → SpellsToolchain tc (bytes_text tc) → verdict job.0 token ≡ Ok tt
       → AsksAssign verdict (request_text (assign_with server job token (bytes_text tc))) job tc
   unfolding assign_with
@@ -259,8 +308,10 @@ module _ (verdict : ℕ → List ℕ → Result ⊤ TokenError) where
             (in_binary path host token body p r c) refl,
       )
 
-  pub submissions_read_back : (host token archive : List ℕ) (job : JobId) → CanGo host token (submit_with host token job archive)
-      → job.0 < 2 ^ 64 → verdict job.0 token ≡ Ok tt → AsksSubmit verdict (request_text (submit_with host token job archive)) job archive
+  pub submissions_read_back : (host token archive : List ℕ) (job : JobId)
+      → CanGo host token (submit_with host token job archive)
+      → job.0 < 2 ^ 64 → verdict job.0 token ≡ Ok tt
+      → AsksSubmit verdict (request_text (submit_with host token job archive)) job archive
   unfolding submit_with
   submissions_read_back host token archive job g fits own =
       let path = codes "/api/v1/distserver/submit_toolchain/" ++ decimal job.0 in
@@ -270,15 +321,18 @@ module _ (verdict : ℕ → List ℕ → Result ⊤ TokenError) where
         body_at bytes r,
         at_server.asked_by verdict bytes false (body_at bytes r) (Submit job) r x
             (at_server.submission_is verdict r job record {
-              names = names path host token archive p r c (codes "/api/v1/distserver/submit_toolchain/") job fits refl;
+              names = names path host token archive p r c (codes "/api/v1/distserver/submit_toolchain/") job
+                  fits refl;
               shows = (token, shows path host token archive p r c, own);
             })
             (in_binary path host token archive p r c) refl,
         body_is_end bytes r x ∙ c.body,
       )
 
-  pub runs_read_back : (host token inputs : List ℕ) (job : JobId) (run : RunJobHttpRequest) → CanGo host token (run_with host token job run inputs)
-      → job.0 < 2 ^ 64 → SpellsRun run (run_text run) → length (run_text run) < 2 ^ 32 → verdict job.0 token ≡ Ok tt
+  pub runs_read_back : (host token inputs : List ℕ) (job : JobId) (run : RunJobHttpRequest)
+      → CanGo host token (run_with host token job run inputs)
+      → job.0 < 2 ^ 64 → SpellsRun run (run_text run) → length (run_text run) < 2 ^ 32
+      → verdict job.0 token ≡ Ok tt
       → AsksRun verdict (request_text (run_with host token job run inputs)) job run inputs
   unfolding run_with
   runs_read_back host token inputs job run g fits spelled low own =
@@ -299,5 +353,6 @@ module _ (verdict : ℕ → List ℕ → Result ⊤ TokenError) where
               body = rw c.body whole;
             })
             (in_binary path host token body p r c) refl,
-        sym (drop-drop at (body_at bytes r) bytes) ∙ (ap (drop at) (body_is_end bytes r x ∙ c.body) ∙ inputs_behind body run at inputs whole),
+        sym (drop-drop at (body_at bytes r) bytes)
+            ∙ (ap (drop at) (body_is_end bytes r x ∙ c.body) ∙ inputs_behind body run at inputs whole),
       )

@@ -17,19 +17,23 @@ use Rattle.http_routes.specs.Route.{wants_json, question_under, IsRouted}
 abbrev pub bad_question : Asked
 bad_question = record { what = Done (refusal_response BadHead); json = false }
 
--- What the bytes ask, as a request of that peer or as a bad head, of a scheduler that lets clients in by their tokens, and
--- accepts servers by theirs.
+-- What the bytes ask, as a request of that peer or as a bad head, of a scheduler that lets clients in by
+-- their tokens, and accepts servers by theirs.
 abbrev pub IsAskedUnder : (List ℕ → Admission) → (List ℕ → Option Addr) → List ℕ → Addr → Asked → Type 0
 IsAskedUnder lets serves bytes peer asked =
     ((r : Request) × IsRequest bytes r × (asked ≡ question_under lets serves r peer))
     ⊎ (IsNoRequest bytes × (asked ≡ bad_question))
 
--- The same where a check of clients is asked, which may give those answers and shows those texts, and becomes `new`.
-abbrev pub IsAskedOf : {K : Type 0} → (K → ℕ → List ℕ → Result ⊤ TokenError → K → Type 0) → (K → TokenError → List ℕ) → (List ℕ → Option Addr) → List ℕ → Addr → ℕ → K → Asked → K → Type 0
+-- The same where a check of clients is asked, which may give those answers and shows those texts, and becomes
+-- `new`.
+abbrev pub IsAskedOf : {K : Type 0} → (K → ℕ → List ℕ → Result ⊤ TokenError → K → Type 0)
+    → (K → TokenError → List ℕ) → (List ℕ → Option Addr) → List ℕ → Addr → ℕ → K → Asked → K → Type 0
 IsAskedOf may_answer shown serves bytes peer now old asked new =
-    ((r : Request) × IsRequest bytes r × IsRouted may_answer shown serves r peer now old asked.what new × (asked.json ≡ wants_json r))
+    ((r : Request) × IsRequest bytes r × IsRouted may_answer shown serves r peer now old asked.what new
+    × (asked.json ≡ wants_json r))
     ⊎ (IsNoRequest bytes × (asked ≡ bad_question) × (new ≡ old))
 
 -- the same, under one token of all clients and one of all servers
 abbrev pub IsAsked : List ℕ → Addr → List ℕ → List ℕ → Asked → Type 0
-IsAsked bytes peer client expected asked = IsAskedUnder (equal_admission client) (plain_server expected) bytes peer asked
+IsAsked bytes peer client expected asked = IsAskedUnder (equal_admission client)
+    (plain_server expected) bytes peer asked

@@ -14,7 +14,8 @@ use Rattle.http_routes.specs.Steps.{unless_none}
 
 -- the message of a reply: its status is 200, and the message begins its body
 unfoldable pub told_by : {M : Type 0} → (List ℕ → Option (M × List ℕ)) → Reply → Result M HttpError
-told_by at r = if r.code == 200 then unless_none ParseError (begins_in at r.body) else Err (Status r.code r.body)
+told_by at r = if r.code == 200 then unless_none ParseError (begins_in at r.body)
+    else Err (Status r.code r.body)
 
 -- what the bytes say, as a reply or as none
 abbrev pub Tells : {M : Type 0} → (List ℕ → Option (M × List ℕ)) → List ℕ → Result M HttpError → Type 0
@@ -23,7 +24,8 @@ Tells at bytes told =
 
 -- the answer is what the bytes say, unless memory ran out
 abbrev pub Reads : {M : Type 0} → (List ℕ → Option (M × List ℕ)) → List ℕ → Result M HttpError → Type 0
-Reads at bytes answer = MatchResult answer (λ m. Tells at bytes (Ok m)) (λ e. ¬ (e ≡ Memory) → Tells at bytes (Err e))
+Reads at bytes answer = MatchResult answer (λ m. Tells at bytes (Ok m))
+    (λ e. ¬ (e ≡ Memory) → Tells at bytes (Err e))
 
 -- why a reply tells no message: it is no reply, or holds none, or its status is another
 abbrev pub IsReplyFault : HttpError → Type 0
@@ -56,4 +58,5 @@ assigned_by (Err e) = Err (call_fault e)
 
 -- what the bytes of the reply to an assignment say
 abbrev pub IsAssigned : List ℕ → Result AssignJobResult CallFault → Type 0
-IsAssigned bytes answer = (told : Result AssignJobResult HttpError) × Tells assign_at bytes told × (answer ≡ assigned_by told)
+IsAssigned bytes answer = (told : Result AssignJobResult HttpError) × Tells assign_at bytes told
+    × (answer ≡ assigned_by told)

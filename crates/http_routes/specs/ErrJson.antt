@@ -13,10 +13,12 @@ abbrev mutual
   texts_behind None' = []
   texts_behind (Some' p e) = texts_of e
 
--- the JSON of texts, outermost first: an object that tells the first one, with that of the others as its cause
+-- the JSON of texts, outermost first: an object that tells the first one, with that of the others as its
+-- cause
 unfoldable pub err_text : List (List ℕ) → List ℕ
 err_text [] = codes "null"
-err_text (t ∷ ts) = codes "{\"cause\":" ++ (err_text ts ++ (codes ",\"description\":" ++ (quoted t ++ codes "}")))
+err_text (t ∷ ts) = codes "{\"cause\":" ++
+    (err_text ts ++ (codes ",\"description\":" ++ (quoted t ++ codes "}")))
 
 -- the tokens after a cause
 abbrev pub end_tokens : List ℕ → List Token

@@ -5,15 +5,20 @@ use Rattle.dist_types.specs.Addr.{addr_text}
 use Rattle.dist_types.specs.Ids.{state_text}
 use Rattle.dist_types.specs.declared.ids.JobId.{JobId}
 use Rattle.dist_types.specs.declared.outgoing.CallFault.{CallFault}
-use Rattle.dist_types.specs.declared.outgoing.CallFault.TheVariants.{Lost, Status, Unreadable, BadState, Memory as OutOfMemory}
+use Rattle.dist_types.specs.declared.outgoing.CallFault.TheVariants.{Lost, Status, Unreadable, BadState}
+use Rattle.dist_types.specs.declared.outgoing.CallFault.TheVariants.{Memory as OutOfMemory}
 use Rattle.sched_core.specs.declared.answers.Undone.{Undone}
 use Rattle.sched_core.specs.declared.answers.Undone.TheVariants.{Unassigned, NotKnown, NoServer, Foreign}
 use Rattle.http_head.specs.declared.error.HttpError.{HttpError}
-use Rattle.http_head.specs.declared.error.HttpError.TheVariants.{BadHead, WrongContentType, ParseError, BadRealIp, Unauthorised}
+use Rattle.http_head.specs.declared.error.HttpError.TheVariants.{BadHead, WrongContentType, ParseError}
+use Rattle.http_head.specs.declared.error.HttpError.TheVariants.{BadRealIp, Unauthorised}
 use Rattle.http_routes.specs.declared.fault.RouteFault.{RouteFault}
 use Rattle.http_routes.specs.declared.fault.BuildFailure.{BuildFailure}
 use Rattle.http_routes.specs.declared.fault.BuildFailure.TheVariants as failure
-use Rattle.http_routes.specs.declared.fault.RouteFault.TheVariants.{BadCpus, UnknownJob, WrongServer, BadTransition, IdsSpent, AssignFailed, AlreadyAssigned, UpdateFailed, BuildFailed}
+use Rattle.http_routes.specs.declared.fault.RouteFault.TheVariants.{BadCpus, UnknownJob, WrongServer}
+use Rattle.http_routes.specs.declared.fault.RouteFault.TheVariants.{BadTransition, IdsSpent, AssignFailed}
+use Rattle.http_routes.specs.declared.fault.RouteFault.TheVariants.{AlreadyAssigned, UpdateFailed}
+use Rattle.http_routes.specs.declared.fault.RouteFault.TheVariants.{BuildFailed}
 use Rattle.http_routes.specs.declared.refusal.RouilleBincodeError.{RouilleBincodeError}
 use Rattle.http_routes.specs.declared.refusal.RouilleBincodeError.TheVariants as input
 use Rattle.http_routes.specs.declared.reply.Response as response
@@ -42,8 +47,10 @@ undone_text Foreign = codes "assign job failed and job not known to the server"
 abbrev pub fault_text : RouteFault → List ℕ
 fault_text (BadCpus cpus) = codes "Invalid number of CPUs (" ⧺ decimal cpus ⧺ codes ") specified in heartbeat"
 fault_text UnknownJob = codes "Unknown job"
-fault_text (WrongServer job server) = codes "Job id " ⧺ decimal job.0 ⧺ codes " is not registered on server ServerId(" ⧺ addr_text server ⧺ codes ")"
-fault_text (BadTransition old new) = codes "Invalid job state transition from " ⧺ state_text old ⧺ codes " to " ⧺ state_text new
+fault_text (WrongServer job server) = codes "Job id " ⧺ decimal job.0
+    ⧺ codes " is not registered on server ServerId(" ⧺ addr_text server ⧺ codes ")"
+fault_text (BadTransition old new) = codes "Invalid job state transition from " ⧺ state_text old
+    ⧺ codes " to " ⧺ state_text new
 fault_text IdsSpent = codes "No job ids left"
 fault_text (AssignFailed undone call) = undone_text undone
 fault_text (AlreadyAssigned job) = codes "Job " ⧺ decimal job.0 ⧺ codes " is already assigned"
@@ -86,7 +93,8 @@ word_body other = []
 abbrev pub reply_of : HttpError → response.Response
 reply_of BadHead = reply.BadRequest (err_text (codes "bad request head" ∷ []))
 reply_of WrongContentType = reply.BadRequest (err_text (input_text input.WrongContentType ∷ []))
-reply_of ParseError = reply.BadRequest (err_text (input_text input.ParseError ∷ codes "no message begins the body" ∷ []))
+reply_of ParseError = reply.BadRequest
+    (err_text (input_text input.ParseError ∷ codes "no message begins the body" ∷ []))
 reply_of BadRealIp = reply.BadRealIp
 reply_of (Unauthorised word) = reply.Unauthorised word (word_body word)
 reply_of other = reply.NotFound
@@ -97,4 +105,5 @@ no_room_text standing = codes "Insufficient capacity across " ⧺ decimal standi
 
 -- the job's reservation ended before its server answered
 abbrev pub dropped_text : JobId → List ℕ
-dropped_text job = codes "Job " ⧺ decimal job.0 ⧺ codes " assignment was cleaned up before allocation completed"
+dropped_text job = codes "Job " ⧺ decimal job.0
+    ⧺ codes " assignment was cleaned up before allocation completed"

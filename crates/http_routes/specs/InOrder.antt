@@ -40,13 +40,15 @@ pub record IsAllocation (r : Request) (lets : List ℕ → Admission) (tc : List
   pub message : HasMessage SpellsToolchain r tc
 
 -- the request is that heartbeat of that server
-pub record IsHeartbeat (r : Request) (peer : Addr) (serves : List ℕ → Option Addr) (server : Addr) (beat : HeartbeatServerHttpRequest) : Type 0 where
+pub record IsHeartbeat (r : Request) (peer : Addr) (serves : List ℕ → Option Addr) (server : Addr)
+    (beat : HeartbeatServerHttpRequest) : Type 0 where
   pub at : IsAt r (codes "POST") (codes "/api/v1/scheduler/heartbeat_server")
   pub sender : IsFrom r peer serves server
   pub message : HasMessage SpellsHeartbeat r beat
 
 -- the request tells, of that server, the state of that job
-pub record IsUpdate (r : Request) (peer : Addr) (serves : List ℕ → Option Addr) (server : Addr) (job : JobId) (state : JobState) : Type 0 where
+pub record IsUpdate (r : Request) (peer : Addr) (serves : List ℕ → Option Addr) (server : Addr) (job : JobId)
+    (state : JobState) : Type 0 where
   pub names : NamesJob r (codes "/api/v1/scheduler/job_state/") job
   pub sender : IsFrom r peer serves server
   pub message : HasMessage SpellsState r state
@@ -58,18 +60,21 @@ IsStatus r = IsAt r (codes "GET") (codes "/api/v1/scheduler/status")
 -- ---- of a server; the verdict says whether a text is accepted as a job's token
 
 -- the request asks to take that job, with that toolchain
-pub record IsAssignment (r : Request) (verdict : ℕ → List ℕ → Result ⊤ TokenError) (job : JobId) (tc : List ℕ) : Type 0 where
+pub record IsAssignment (r : Request) (verdict : ℕ → List ℕ → Result ⊤ TokenError) (job : JobId)
+    (tc : List ℕ) : Type 0 where
   pub names : NamesJob r (codes "/api/v1/distserver/assign_job/") job
   pub shows : ShowsJob r verdict job
   pub message : HasMessage SpellsToolchain r tc
 
 -- the request brings that job's toolchain
-pub record IsSubmission (r : Request) (verdict : ℕ → List ℕ → Result ⊤ TokenError) (job : JobId) : Type 0 where
+pub record IsSubmission (r : Request) (verdict : ℕ → List ℕ → Result ⊤ TokenError)
+    (job : JobId) : Type 0 where
   pub names : NamesJob r (codes "/api/v1/distserver/submit_toolchain/") job
   pub shows : ShowsJob r verdict job
 
 -- the request asks to run that job, and its inputs begin at that place of its body
-pub record IsRun (r : Request) (verdict : ℕ → List ℕ → Result ⊤ TokenError) (job : JobId) (run : RunJobHttpRequest) (place : ℕ) : Type 0 where
+pub record IsRun (r : Request) (verdict : ℕ → List ℕ → Result ⊤ TokenError) (job : JobId)
+    (run : RunJobHttpRequest) (place : ℕ) : Type 0 where
   pub names : NamesJob r (codes "/api/v1/distserver/run_job/") job
   pub shows : ShowsJob r verdict job
   pub inputs : List ℕ

@@ -1,5 +1,6 @@
 -- The place of a request: its method, its path, and the job that the path names.
-use Rattle.std.specs.Prelude.{ℕ, Bool, ◌&&◌, List, length, drop, nat_eq, nat_lt, if◌then◌else◌, Option, Some, None, codes, bytes_eq}
+use Rattle.std.specs.Prelude.{ℕ, Bool, ◌&&◌, List, length, drop, nat_eq, nat_lt, if◌then◌else◌, Option, Some}
+use Rattle.std.specs.Prelude.{None, codes, bytes_eq}
 use Rattle.std.specs.List.{starts_with}
 use Rattle.std.specs.Str.Parse.{without_leading_plus, digits_value}
 use Rattle.dist_types.specs.declared.ids.JobId.{JobId}
@@ -18,7 +19,8 @@ stripped front text = if starts_with nat_eq text front then Some (drop (length f
 -- the job of an id: an optional plus and at least one digit, at most 2^64 - 1
 unfoldable pub job_in : List ℕ → Option JobId
 job_in text =
-    if is_digits (without_leading_plus text) && nat_lt (digits_value 10 (without_leading_plus text)) 18446744073709551616
+    if is_digits (without_leading_plus text) && nat_lt (digits_value 10 (without_leading_plus text))
+    18446744073709551616
     then Some (record { 0 = digits_value 10 (without_leading_plus text) }) else None
 
 -- the job of an id, where one is given
@@ -28,7 +30,8 @@ given_job (Some id) = job_in id
 
 -- the job that a POST names behind a front
 unfoldable pub job_of : List ℕ → Request → Option JobId
-job_of front r = if bytes_eq r.method (codes "POST") then given_job (stripped front (path_of r.target)) else None
+job_of front r = if bytes_eq r.method (codes "POST") then given_job (stripped front (path_of r.target))
+    else None
 
 -- ---- the fronts of the routes with an id
 

@@ -2,7 +2,8 @@
 use Rattle.std.specs.Prelude.{ℕ, List, [], ◌∷◌, ◌++◌, length, codes}
 use Rattle.std.specs.Fmt.{decimal}
 use Rattle.http_routes.specs.declared.reply.Response.{Response}
-use Rattle.http_routes.specs.declared.reply.Response.TheVariants.{Binary, Json, BadRequest, ServerError, BadRealIp, Unauthorised, NotFound}
+use Rattle.http_routes.specs.declared.reply.Response.TheVariants.{Binary, Json, BadRequest, ServerError}
+use Rattle.http_routes.specs.declared.reply.Response.TheVariants.{BadRealIp, Unauthorised, NotFound}
 use Rattle.http_head.specs.declared.reply.Reply.{Reply}
 use Rattle.http_head.specs.Fields.{Field}
 use Rattle.http_head.specs.Word.{word_text}
@@ -25,12 +26,14 @@ first_fields (Json body) = (codes "Content-Type", codes "application/json") ∷ 
 first_fields (BadRequest body) = (codes "Content-Type", codes "application/json") ∷ []
 first_fields (ServerError body) = (codes "Content-Type", codes "application/json") ∷ []
 first_fields BadRealIp = []
-first_fields (Unauthorised word body) = (codes "WWW-Authenticate", codes "Bearer error=\"" ++ (word_text word ++ codes "\"")) ∷ []
+first_fields (Unauthorised word body) =
+    (codes "WWW-Authenticate", codes "Bearer error=\"" ++ (word_text word ++ codes "\"")) ∷ []
 first_fields NotFound = []
 
 -- all fields
 abbrev pub fields_of : Response → List Field
-fields_of r = first_fields r ++ ((codes "Content-Length", decimal (length (body_of r))) ∷ (codes "Connection", codes "close") ∷ [])
+fields_of r = first_fields r ++ ((codes "Content-Length", decimal (length (body_of r))) ∷
+    (codes "Connection", codes "close") ∷ [])
 
 -- what a reader sees
 abbrev pub seen : Response → Reply

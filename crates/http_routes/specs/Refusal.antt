@@ -1,10 +1,16 @@
 -- The reply to each refusal of a request.
 use Rattle.std.specs.Prelude.{ℕ, List, [], ◌∷◌, Bool, if◌then◌else◌, codes}
 use Rattle.dist_types.specs.declared.token_error.TokenError.{TokenError}
-use Rattle.dist_types.specs.declared.token_error.TokenError.TheVariants.{BadToken, BadMac, MismatchedClaims, FixedMismatch, ForwardRefused, LinkFault, Memory}
-use Rattle.http_head.specs.declared.word.Word.TheVariants.{NoBearerAuth, InvalidBearerToken, MismatchedAddress, InvalidJwt}
+use Rattle.dist_types.specs.declared.token_error.TokenError.TheVariants.{BadToken, BadMac, MismatchedClaims}
+use Rattle.dist_types.specs.declared.token_error.TokenError.TheVariants.{FixedMismatch, ForwardRefused}
+use Rattle.dist_types.specs.declared.token_error.TokenError.TheVariants.{LinkFault, Memory}
+use Rattle.http_head.specs.declared.word.Word.TheVariants.{NoBearerAuth, InvalidBearerToken}
+use Rattle.http_head.specs.declared.word.Word.TheVariants.{MismatchedAddress, InvalidJwt}
 use Rattle.http_routes.specs.declared.refusal.Refusal as refusal
-use Rattle.http_routes.specs.declared.refusal.Refusal.TheVariants.{BadHead, WrongContentType, NoMessage, BadRealIp, NoRoute, NoClientToken, ClientRefused, NoServer, OtherAddress, NoJobToken, JobRefused, BadRunHead}
+use Rattle.http_routes.specs.declared.refusal.Refusal.TheVariants.{BadHead, WrongContentType, NoMessage}
+use Rattle.http_routes.specs.declared.refusal.Refusal.TheVariants.{BadRealIp, NoRoute, NoClientToken}
+use Rattle.http_routes.specs.declared.refusal.Refusal.TheVariants.{ClientRefused, NoServer, OtherAddress}
+use Rattle.http_routes.specs.declared.refusal.Refusal.TheVariants.{NoJobToken, JobRefused, BadRunHead}
 use Rattle.http_routes.specs.declared.refusal.RouilleBincodeError.TheVariants as input
 use Rattle.http_routes.specs.declared.reply.Response.{Response}
 use Rattle.http_routes.specs.declared.reply.Response.TheVariants as reply
@@ -23,7 +29,8 @@ jwt_text Memory = codes "out of memory"
 
 -- what is wrong with the head of a run, by whether its length was there
 abbrev pub run_head_text : Bool → List ℕ
-run_head_text told = if told then codes "failed to deserialize run job request" else codes "failed to read run job input length"
+run_head_text told = if told then codes "failed to deserialize run job request"
+    else codes "failed to read run job input length"
 
 -- the reply 401 to a job's token, by its text
 abbrev pub invalid_jwt : List ℕ → Response
@@ -33,7 +40,8 @@ invalid_jwt text = reply.Unauthorised InvalidJwt (err_text (text ∷ []))
 abbrev pub refusal_response : refusal.Refusal → Response
 refusal_response BadHead = reply.BadRequest (err_text (codes "bad request head" ∷ []))
 refusal_response WrongContentType = reply.BadRequest (err_text (input_text input.WrongContentType ∷ []))
-refusal_response NoMessage = reply.BadRequest (err_text (input_text input.ParseError ∷ codes "no message begins the body" ∷ []))
+refusal_response NoMessage =
+    reply.BadRequest (err_text (input_text input.ParseError ∷ codes "no message begins the body" ∷ []))
 refusal_response BadRealIp = reply.BadRealIp
 refusal_response NoRoute = reply.NotFound
 refusal_response NoClientToken = reply.Unauthorised NoBearerAuth []

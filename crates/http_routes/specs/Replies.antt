@@ -12,9 +12,11 @@ use Rattle.dist_types.specs.declared.results.SchedulerStatusResult.{SchedulerSta
 use Rattle.dist_types.specs.declared.results.SubmitToolchainResult.{SubmitToolchainResult}
 use Rattle.dist_types.specs.declared.results.UpdateJobStateResult.{UpdateJobStateResult}
 use Rattle.dist_types.specs.declared.results.UpdateJobStateResult.TheVariants.{Success}
-use Rattle.dist_wire.specs.Json.{heard_json, status_json, response_json, update_json, assign_json, submit_json, ran_json}
+use Rattle.dist_wire.specs.Json.{heard_json, status_json, response_json, update_json, assign_json}
+use Rattle.dist_wire.specs.Json.{submit_json, ran_json}
 use Rattle.dist_wire.specs.Response as sent
-use Rattle.dist_wire.specs.Written.{heard_text, status_text, response_text, update_text, assign_text, submit_text, ran_text}
+use Rattle.dist_wire.specs.Written.{heard_text, status_text, response_text, update_text, assign_text}
+use Rattle.dist_wire.specs.Written.{submit_text, ran_text}
 use Rattle.sched_core.specs.declared.answers.Committed.{Committed}
 use Rattle.sched_core.specs.declared.answers.Committed.TheVariants as committed
 use Rattle.sched_core.specs.declared.entry.UpdateAnswer.{UpdateAnswer}
@@ -22,7 +24,8 @@ use Rattle.sched_core.specs.declared.entry.UpdateAnswer.TheVariants.{Accepted, U
 use Rattle.sched_core.specs.declared.error.SchedError.{SchedError}
 use Rattle.sched_core.specs.declared.error.SchedError.TheVariants as error
 use Rattle.http_routes.specs.declared.fault.RouteFault.{RouteFault}
-use Rattle.http_routes.specs.declared.fault.RouteFault.TheVariants.{BadCpus, UnknownJob, WrongServer, BadTransition, IdsSpent}
+use Rattle.http_routes.specs.declared.fault.RouteFault.TheVariants.{BadCpus, UnknownJob, WrongServer}
+use Rattle.http_routes.specs.declared.fault.RouteFault.TheVariants.{BadTransition, IdsSpent}
 use Rattle.http_routes.specs.declared.reply.Response.{Response}
 use Rattle.http_routes.specs.Fault.{fault_response_of, dropped_text}
 use Rattle.http_routes.specs.Reply.{response_of}
@@ -47,9 +50,12 @@ update_response json answer = response_of update_text update_json json answer
 
 -- to who asked for a job, by what became of the commit of its reservation
 abbrev pub commit_response : Bool → Bool → Committed → Response
-commit_response json need_toolchain (committed.Kept job_alloc) = alloc_response json (alloc.Success job_alloc need_toolchain)
-commit_response json need_toolchain (committed.Dropped job) = alloc_response json (alloc.Fail (dropped_text job))
-commit_response json need_toolchain (committed.Foreign job) = alloc_response json (alloc.Fail (dropped_text job))
+commit_response json need_toolchain (committed.Kept job_alloc) =
+    alloc_response json (alloc.Success job_alloc need_toolchain)
+commit_response json need_toolchain (committed.Dropped job) =
+    alloc_response json (alloc.Fail (dropped_text job))
+commit_response json need_toolchain (committed.Foreign job) =
+    alloc_response json (alloc.Fail (dropped_text job))
 
 -- to a report on a job of that server, by the answer of the core entry
 abbrev pub update_reply : Bool → UpdateAnswer → Addr → JobId → JobState → Response
@@ -58,7 +64,8 @@ update_reply json Unknown server job state = fault_response_of UnknownJob
 update_reply json Wrong server job state = fault_response_of (WrongServer job server)
 update_reply json (Transition from) server job state = fault_response_of (BadTransition from state)
 
--- what the scheduler's refusal of a server's request about a job is told as; want of memory is told by no reply
+-- what the scheduler's refusal of a server's request about a job is told as; want of memory is told by no
+-- reply
 abbrev pub core_fault : Addr → JobId → SchedError → Option RouteFault
 core_fault server job (error.BadCpus cpus) = Some (BadCpus cpus)
 core_fault server job error.IdsSpent = Some IdsSpent

@@ -6,14 +6,16 @@ use Rattle.dist_wire.specs.Json.{json_text}
 use Rattle.http_head.specs.Text.{◌⧺◌}
 use Rattle.http_head.specs.Word.{word_text}
 use Rattle.http_routes.specs.declared.reply.Response.{Response}
-use Rattle.http_routes.specs.declared.reply.Response.TheVariants.{Binary, Json, BadRequest, ServerError, BadRealIp, Unauthorised, NotFound}
+use Rattle.http_routes.specs.declared.reply.Response.TheVariants.{Binary, Json, BadRequest, ServerError}
+use Rattle.http_routes.specs.declared.reply.Response.TheVariants.{BadRealIp, Unauthorised, NotFound}
 
 -- the status line, and the fields before the length
 abbrev pub opening_text : Response → List ℕ
 opening_text (Binary body) = codes "HTTP/1.1 200 OK\r\nContent-Type: application/octet-stream\r\n"
 opening_text (Json body) = codes "HTTP/1.1 200 OK\r\nContent-Type: application/json\r\n"
 opening_text (BadRequest body) = codes "HTTP/1.1 400 Bad Request\r\nContent-Type: application/json\r\n"
-opening_text (ServerError body) = codes "HTTP/1.1 500 Internal Server Error\r\nContent-Type: application/json\r\n"
+opening_text (ServerError body) =
+    codes "HTTP/1.1 500 Internal Server Error\r\nContent-Type: application/json\r\n"
 opening_text BadRealIp = codes "HTTP/1.1 400 Bad Request\r\n"
 opening_text (Unauthorised word body) =
     codes "HTTP/1.1 401 Unauthorized\r\nWWW-Authenticate: Bearer error=\"" ⧺ word_text word ⧺ codes "\"\r\n"
@@ -31,7 +33,8 @@ body_of NotFound = []
 
 -- the head, which tells the body's length
 abbrev pub head_text : Response → List ℕ
-head_text r = opening_text r ⧺ codes "Content-Length: " ⧺ decimal (length (body_of r)) ⧺ codes "\r\nConnection: close\r\n\r\n"
+head_text r = opening_text r ⧺ codes "Content-Length: " ⧺ decimal (length (body_of r))
+    ⧺ codes "\r\nConnection: close\r\n\r\n"
 
 -- the bytes of the reply
 unfoldable pub reply_text : Response → List ℕ

@@ -1,5 +1,6 @@
 -- What a request asks of the scheduler, with the refusals in order.
-use Rattle.std.specs.Prelude.{◌≡◌, ℕ, Bool, false, List, if◌then◌else◌, Option, Some, None, option_map, Result, Ok, Err, ⊤, codes, bytes_eq}
+use Rattle.std.specs.Prelude.{◌≡◌, ℕ, Bool, false, List, if◌then◌else◌, Option, Some, None, option_map}
+use Rattle.std.specs.Prelude.{Result, Ok, Err, ⊤, codes, bytes_eq}
 use Rattle.dist_types.specs.declared.addr.Addr.{Addr}
 use Rattle.dist_types.specs.declared.ids.JobId.{JobId}
 use Rattle.dist_types.specs.declared.token_error.TokenError.{TokenError}
@@ -59,7 +60,8 @@ unfoldable pub report_of : (List ℕ → Option Addr) → Request → Addr → R
 report_of serves r peer = of_job (update_of serves r peer) (Err NoRoute) (state_job r)
 
 -- what the request asks, or why it is refused
-unfoldable pub asked_of : (List ℕ → Option Addr) → Request → Addr → Option Admission → Result SchedRouted Refusal
+unfoldable pub asked_of : (List ℕ → Option Addr) → Request → Addr → Option Admission
+    → Result SchedRouted Refusal
 asked_of serves r peer said =
     if is_at (codes "POST") (codes "/api/v1/scheduler/alloc_job") r then alloc_of r said
     else if is_at (codes "POST") (codes "/api/v1/scheduler/heartbeat_server") r then beat_of serves r peer
@@ -75,13 +77,19 @@ answered (Err refusal) = Done (refusal_response refusal)
 abbrev pub said_by : (List ℕ → Admission) → Request → Option Admission
 said_by lets r = option_map lets (client_token r)
 
--- what a request asks of a scheduler that lets clients in by their tokens, and accepts servers by theirs; and the form of the reply
+-- what a request asks of a scheduler that lets clients in by their tokens, and accepts servers by theirs; and
+-- the form of the reply
 abbrev pub question_under : (List ℕ → Admission) → (List ℕ → Option Addr) → Request → Addr → Asked
-question_under lets serves r peer = record { what = answered (asked_of serves r peer (said_by lets r)); json = wants_json r }
+question_under lets serves r peer = record {
+  what = answered (asked_of serves r peer (said_by lets r));
+  json = wants_json r;
+}
 
--- The request is routed so by a scheduler whose check of clients may give those answers and shows those texts, and becomes
--- `new`, and which accepts servers by their tokens.
-pub record IsRouted {K : Type 0} (may_answer : K → ℕ → List ℕ → Result ⊤ TokenError → K → Type 0) (shown : K → TokenError → List ℕ) (serves : List ℕ → Option Addr) (r : Request) (peer : Addr) (now : ℕ) (old : K) (routed : SchedRouted) (new : K) : Type 0 where
+-- The request is routed so by a scheduler whose check of clients may give those answers and shows those
+-- texts, and becomes `new`, and which accepts servers by their tokens.
+pub record IsRouted {K : Type 0} (may_answer : K → ℕ → List ℕ → Result ⊤ TokenError → K → Type 0)
+    (shown : K → TokenError → List ℕ) (serves : List ℕ → Option Addr) (r : Request) (peer : Addr) (now : ℕ)
+    (old : K) (routed : SchedRouted) (new : K) : Type 0 where
   pub said : Option Admission
   pub admits : Admits may_answer shown (client_token r) now old said new
   pub routes : routed ≡ answered (asked_of serves r peer said)

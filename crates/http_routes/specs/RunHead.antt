@@ -1,5 +1,6 @@
 -- The body of a request to run a job: a head, behind its length, and the inputs.
-use Rattle.std.specs.Prelude.{◌≡◌, ℕ, ◌+◌, ◌<◌, ◌^◌, ◌==◌, List, ◌++◌, length, if◌then◌else◌, true, false, Option, Some, None, Result, Ok}
+use Rattle.std.specs.Prelude.{◌≡◌, ℕ, ◌+◌, ◌<◌, ◌^◌, ◌==◌, List, ◌++◌, length, if◌then◌else◌, true, false}
+use Rattle.std.specs.Prelude.{Option, Some, None, Result, Ok}
 use Rattle.std.specs.Int.{w32, from_be_bytes, to_be_bytes}
 use Rattle.dist_wire.specs.Reading.{exactly_at, run_at}
 use Rattle.dist_wire.specs.Spelling.{SpellsRun}
@@ -10,8 +11,8 @@ use Rattle.http_routes.specs.declared.refusal.Refusal.{Refusal}
 use Rattle.http_routes.specs.declared.refusal.Refusal.TheVariants.{BadRunHead}
 use Rattle.http_routes.specs.Steps.{◌>>=◌, unless_none}
 
--- The body is a length of four bytes, the high byte first, a head of that many bytes that is one spelling of the run and
--- nothing more, and the inputs, which begin at that place.
+-- The body is a length of four bytes, the high byte first, a head of that many bytes that is one spelling of
+-- the run and nothing more, and the inputs, which begin at that place.
 pub record IsRunBody (body : List ℕ) (run : RunJobHttpRequest) (at : ℕ) (inputs : List ℕ) : Type 0 where
   pub head : List ℕ
   pub fits : length head < 2 ^ 32

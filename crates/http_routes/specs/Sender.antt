@@ -1,5 +1,6 @@
 -- Who sent a request.
-use Rattle.std.specs.Prelude.{◌≡◌, ℕ, Bool, false, List, ◌++◌, Option, Some, None, Result, Ok, Err, ⊤, codes, bytes_eq}
+use Rattle.std.specs.Prelude.{◌≡◌, ℕ, Bool, false, List, ◌++◌, Option, Some, None, Result, Ok, Err, ⊤, codes}
+use Rattle.std.specs.Prelude.{bytes_eq}
 use Rattle.dist_types.specs.declared.addr.Addr.{Addr}
 use Rattle.dist_types.specs.declared.addr.Ip.{Ip}
 use Rattle.dist_types.specs.declared.addr.Ip.TheVariants.{V4, V6}
@@ -12,7 +13,9 @@ use Rattle.http_head.specs.Fields.{header}
 use Rattle.http_routes.specs.declared.admission.Admission.{Admission}
 use Rattle.http_routes.specs.declared.admission.Admission.TheVariants as says
 use Rattle.http_routes.specs.declared.refusal.Refusal.{Refusal}
-use Rattle.http_routes.specs.declared.refusal.Refusal.TheVariants.{BadRealIp, NoClientToken, ClientRefused, NoServer, OtherAddress, NoJobToken, JobRefused}
+use Rattle.http_routes.specs.declared.refusal.Refusal.TheVariants.{BadRealIp, NoClientToken, ClientRefused}
+use Rattle.http_routes.specs.declared.refusal.Refusal.TheVariants.{NoServer, OtherAddress, NoJobToken}
+use Rattle.http_routes.specs.declared.refusal.Refusal.TheVariants.{JobRefused}
 use Rattle.http_routes.specs.Steps.{◌>>=◌, unless_none, unless_false}
 
 -- the token that the request shows, or the refusal where it shows none

@@ -1,5 +1,6 @@
 -- What a request asks of a build server, with the refusals in order.
-use Rattle.std.specs.Prelude.{◌≡◌, ◌⊎◌, ℕ, ◌+◌, ◌-◌, false, List, length, drop, Option, Some, None, Result, Ok, Err, ⊤}
+use Rattle.std.specs.Prelude.{◌≡◌, ◌⊎◌, ℕ, ◌+◌, ◌-◌, false, List, length, drop, Option, Some, None, Result}
+use Rattle.std.specs.Prelude.{Ok, Err, ⊤}
 use Rattle.dist_types.specs.declared.ids.JobId.{JobId}
 use Rattle.dist_types.specs.declared.token_error.TokenError.{TokenError}
 use Rattle.dist_wire.specs.Reading.{toolchain_at}
@@ -61,26 +62,37 @@ body_at bytes r = length bytes - length r.body
 
 -- what a request asks, the form of the reply, and where its body begins in its bytes
 abbrev pub server_question : (ℕ → List ℕ → Result ⊤ TokenError) → List ℕ → Request → ServerAsked
-server_question verdict bytes r = record { what = server_answered (server_asked_of verdict r); json = wants_json r; body = body_at bytes r }
+server_question verdict bytes r = record {
+  what = server_answered (server_asked_of verdict r);
+  json = wants_json r;
+  body = body_at bytes r;
+}
 
 -- what the bytes ask of a server, as a request or as a bad head
 abbrev pub IsServerAsked : (ℕ → List ℕ → Result ⊤ TokenError) → List ℕ → ServerAsked → Type 0
 IsServerAsked verdict bytes asked =
     ((r : Request) × IsRequest bytes r × (asked ≡ server_question verdict bytes r))
-    ⊎ (IsNoRequest bytes × (asked ≡ record { what = Done (refusal_response BadHead); json = false; body = length bytes }))
+    ⊎ (IsNoRequest bytes × (asked ≡ record {
+      what = Done (refusal_response BadHead);
+      json = false;
+      body = length bytes;
+    }))
 
 -- ---- what a server is asked, with the bytes that are brought
 
 -- the bytes ask a server to take the job with that toolchain
 abbrev pub AsksAssign : (ℕ → List ℕ → Result ⊤ TokenError) → List ℕ → JobId → List ℕ → Type 0
-AsksAssign verdict bytes job tc = (body : ℕ) × IsServerAsked verdict bytes (record { what = Assign job tc; json = false; body = body })
+AsksAssign verdict bytes job tc = (body : ℕ)
+    × IsServerAsked verdict bytes (record { what = Assign job tc; json = false; body = body })
 
 -- the bytes bring a server that archive for the job
 abbrev pub AsksSubmit : (ℕ → List ℕ → Result ⊤ TokenError) → List ℕ → JobId → List ℕ → Type 0
 AsksSubmit verdict bytes job archive =
-    (body : ℕ) × IsServerAsked verdict bytes (record { what = Submit job; json = false; body = body }) × (drop body bytes ≡ archive)
+    (body : ℕ) × IsServerAsked verdict bytes (record { what = Submit job; json = false; body = body })
+    × (drop body bytes ≡ archive)
 
 -- the bytes ask a server to run the job so, with those inputs
 abbrev pub AsksRun : (ℕ → List ℕ → Result ⊤ TokenError) → List ℕ → JobId → RunJobHttpRequest → List ℕ → Type 0
 AsksRun verdict bytes job run inputs =
-    (body at : ℕ) × IsServerAsked verdict bytes (record { what = Run job run at; json = false; body = body }) × (drop (body + at) bytes ≡ inputs)
+    (body at : ℕ) × IsServerAsked verdict bytes (record { what = Run job run at; json = false; body = body })
+    × (drop (body + at) bytes ≡ inputs)

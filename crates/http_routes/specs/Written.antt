@@ -16,7 +16,13 @@ use Rattle.http_routes.specs.RunHead.{run_body}
 
 -- a POST under a token
 abbrev pub post_with : List ℕ → List ℕ → List ℕ → List ℕ → WrittenRequest
-post_with target host token body = record { method = Post; target = target; host = host; token = Some token; body = Some body }
+post_with target host token body = record {
+  method = Post;
+  target = target;
+  host = host;
+  token = Some token;
+  body = Some body;
+}
 
 -- ---- to the scheduler
 
@@ -26,29 +32,40 @@ alloc_with host token tc = post_with (codes "/api/v1/scheduler/alloc_job") host 
 
 -- the request for the status, which shows no token
 unfoldable pub status_with : List ℕ → WrittenRequest
-status_with host = record { method = Get; target = codes "/api/v1/scheduler/status"; host = host; token = None; body = None }
+status_with host = record {
+  method = Get;
+  target = codes "/api/v1/scheduler/status";
+  host = host;
+  token = None;
+  body = None;
+}
 
 -- the heartbeat of a server
 unfoldable pub heartbeat_with : List ℕ → List ℕ → HeartbeatServerHttpRequest → WrittenRequest
-heartbeat_with host token beat = post_with (codes "/api/v1/scheduler/heartbeat_server") host token (heartbeat_text beat)
+heartbeat_with host token beat = post_with (codes "/api/v1/scheduler/heartbeat_server") host token
+    (heartbeat_text beat)
 
 -- the report of a job's state
 unfoldable pub state_with : List ℕ → List ℕ → JobId → JobState → WrittenRequest
-state_with host token job state = post_with (codes "/api/v1/scheduler/job_state/" ++ decimal job.0) host token (state_bytes state)
+state_with host token job state = post_with (codes "/api/v1/scheduler/job_state/" ++ decimal job.0) host token
+    (state_bytes state)
 
 -- ---- to a server
 
 -- the request that asks a server to take a job, under the job's token and with that body
 unfoldable pub assign_with : Addr → JobId → List ℕ → List ℕ → WrittenRequest
-assign_with server job token body = post_with (codes "/api/v1/distserver/assign_job/" ++ decimal job.0) (addr_text server) token body
+assign_with server job token body = post_with (codes "/api/v1/distserver/assign_job/" ++ decimal job.0)
+    (addr_text server) token body
 
 -- the request that brings a server a job's toolchain
 unfoldable pub submit_with : List ℕ → List ℕ → JobId → List ℕ → WrittenRequest
-submit_with host token job archive = post_with (codes "/api/v1/distserver/submit_toolchain/" ++ decimal job.0) host token archive
+submit_with host token job archive = post_with (codes "/api/v1/distserver/submit_toolchain/" ++ decimal job.0)
+    host token archive
 
 -- the request to run a job
 unfoldable pub run_with : List ℕ → List ℕ → JobId → RunJobHttpRequest → List ℕ → WrittenRequest
-run_with host token job run inputs = post_with (codes "/api/v1/distserver/run_job/" ++ decimal job.0) host token (run_body run inputs)
+run_with host token job run inputs = post_with (codes "/api/v1/distserver/run_job/" ++ decimal job.0) host
+    token (run_body run inputs)
 
 -- ---- the bytes
 
@@ -66,8 +83,8 @@ heartbeat_request_text scheduler token beat = request_text (heartbeat_with (addr
 
 -- ---- what can be sent
 
--- a request under a token can be sent to a host: the host has no control byte and no space, the token is one that a field
--- carries, and head and body are within the limits of what is read
+-- a request under a token can be sent to a host: the host has no control byte and no space, the token is one
+-- that a field carries, and head and body are within the limits of what is read
 pub record CanGo (host token : List ℕ) (request : WrittenRequest) : Type 0 where
   pub visible : list_all is_visible host ≡ true
   pub carried : IsToken token

@@ -56,7 +56,8 @@ fn refused<K: ClientAuthCheck>(
     client: &K,
     e: TokenError,
 ) -> Result<Admission, HttpError>
-    ensures ok { IfOk result (λ says. (says ≡ Admission.Refused (word_by e) (K.shown client.now e)) × ¬ (e ≡ TokenError.Memory)) }
+    ensures ok { IfOk result (λ says. (says ≡ Admission.Refused (word_by e) (K.shown client.now e))
+        × ¬ (e ≡ TokenError.Memory)) }
     ensures err { IfErr result (λ fault. fault ≡ HttpError.Memory) }
 {
     let Some(word) = word_of(&e) else {
@@ -78,7 +79,8 @@ fn asked<K: ClientAuthCheck>(
     now: u64,
     token: &str,
 ) -> Result<Admission, HttpError>
-    ensures ok { IfOk result (λ says. IsAdmission K.may_answer K.shown client.old now token.now says client.new) }
+    ensures ok { IfOk result
+        (λ says. IsAdmission K.may_answer K.shown client.old now token.now says client.new) }
     ensures err { IfErr result (λ fault. fault ≡ HttpError.Memory) }
     ensures left { (answer : Result ⊤ Refusal) × K.may_answer client.old now token.now answer client.new }
 {
@@ -88,15 +90,16 @@ fn asked<K: ClientAuthCheck>(
     }
 }
 
-/// What the check says of the token that a request shows to it; none where it shows none. Refused for want of memory
-/// alone.
+/// What the check says of the token that a request shows to it; none where it shows none. Refused for want of
+/// memory alone.
 pub(crate) fn said_of<K: ClientAuthCheck>(
     alloc: Global,
     request: &Request,
     now: u64,
     client: &mut K,
 ) -> Result<Option<Admission>, HttpError>
-    ensures ok { IfOk result (λ said. Admits K.may_answer K.shown (client_token request.now) now client.old said client.new) }
+    ensures ok { IfOk result
+        (λ said. Admits K.may_answer K.shown (client_token request.now) now client.old said client.new) }
     ensures err { IfErr result (λ fault. fault ≡ HttpError.Memory) }
     ensures left { MayBeAsked K.may_answer (client_token request.now) now client.old client.new }
 {

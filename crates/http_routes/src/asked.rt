@@ -23,8 +23,8 @@ fn bad_question(alloc: Global) -> Result<Asked, HttpError>
     })
 }
 
-/// What the bytes that a peer sent ask of the scheduler at that moment, under its checks of clients and of servers;
-/// bytes that are no request get their reply. Refused for want of memory alone.
+/// What the bytes that a peer sent ask of the scheduler at that moment, under its checks of clients and of
+/// servers; bytes that are no request get their reply. Refused for want of memory alone.
 pub fn asked_of_checks<K: ClientAuthCheck, V: ServerAuthCheck>(
     alloc: Global,
     bytes: &[u8],
@@ -54,8 +54,8 @@ pub fn asked_of_checks<K: ClientAuthCheck, V: ServerAuthCheck>(
     }
 }
 
-/// The same of a scheduler whose clients all have one token. The check stays as it was. Refused for want of memory
-/// alone.
+/// The same of a scheduler whose clients all have one token. The check stays as it was. Refused for want of
+/// memory alone.
 #[tactic(auto, using(crate::proofs::AskLemmas::asked_equal))]
 pub fn asked_under<V: ServerAuthCheck>(
     alloc: Global,
@@ -64,7 +64,8 @@ pub fn asked_under<V: ServerAuthCheck>(
     client: &mut EqCheck,
     server: &V,
 ) -> Result<Asked, HttpError>
-    ensures ok { IfOk result (IsAskedUnder (equal_admission client.old) (V.server_of server.now) bytes.now peer) }
+    ensures ok { IfOk result
+        (IsAskedUnder (equal_admission client.old) (V.server_of server.now) bytes.now peer) }
     ensures same { OnOk result (client.new ≡ client.old) }
     ensures err { IfErr result (λ e. e ≡ HttpError.Memory) }
 {
@@ -72,8 +73,8 @@ pub fn asked_under<V: ServerAuthCheck>(
     Ok(asked)
 }
 
-/// What the bytes that a peer sent ask of the scheduler, under one token of all clients and one of all servers; bytes
-/// that are no request get their reply. Refused for want of memory alone.
+/// What the bytes that a peer sent ask of the scheduler, under one token of all clients and one of all
+/// servers; bytes that are no request get their reply. Refused for want of memory alone.
 pub fn asked(
     alloc: Global,
     bytes: &[u8],

@@ -39,8 +39,8 @@ pub fn read_reply<M: Message>(alloc: Global, bytes: &[u8]) -> Result<M, HttpErro
     }
 }
 
-/// What the reply to a call says: the message; or Status where its status is not 200, Unreadable where the bytes are no
-/// reply or no message begins its body. Refused for want of memory alone.
+/// What the reply to a call says: the message; or Status where its status is not 200, Unreadable where the
+/// bytes are no reply or no message begins its body. Refused for want of memory alone.
 pub fn answer<M: Message>(alloc: Global, reply: &[u8]) -> Result<Result<M, CallFault>, HttpError>
     ensures ok { IfOk result (IsAnswer M.at reply.now) }
     ensures err { IfErr result (λ e. e ≡ HttpError.Memory) }
@@ -70,8 +70,8 @@ fn begun(answer: AssignJobResult) -> Result<AssignJobResult, CallFault>
 }
 
 /// What the reply to an assignment says: the answer of a server that takes the job, Pending or Ready; or
-/// BadState where it tells another state, Status where its status is not 200, Unreadable where the bytes are no
-/// reply or no answer begins its body. Refused for want of memory alone.
+/// BadState where it tells another state, Status where its status is not 200, Unreadable where the bytes are
+/// no reply or no answer begins its body. Refused for want of memory alone.
 pub fn assigned(
     alloc: Global,
     reply: &[u8],

@@ -1,7 +1,8 @@
 //! The faults of a request whose route is known, and the replies that tell them.
 ghost use Rattle.std.specs.Prelude.{◌≡◌, [], ◌∷◌, IfOk, IfErr};
 ghost use Rattle.http_routes.specs.ErrJson.{texts_of};
-ghost use Rattle.http_routes.specs.Fault.{call_text, failure_text, fault_texts, fault_response_of, no_room_text, dropped_text};
+ghost use Rattle.http_routes.specs.Fault.{call_text, failure_text, fault_texts, fault_response_of};
+ghost use Rattle.http_routes.specs.Fault.{no_room_text, dropped_text};
 
 use crate::err_json::ErrJson;
 use crate::error::HttpError;
@@ -203,7 +204,8 @@ pub fn no_room_text(alloc: Global, standing: u64) -> Result<Text, HttpError>
     Ok(Text::new(text))
 }
 
-/// Why no job was allocated: its reservation ended before the server answered. Refused for want of memory alone.
+/// Why no job was allocated: its reservation ended before the server answered. Refused for want of memory
+/// alone.
 pub fn dropped_text(alloc: Global, job: JobId) -> Result<Text, HttpError>
     ensures ok { IfOk result (λ text. text ≡ dropped_text job) }
     ensures err { IfErr result (λ e. e ≡ HttpError.Memory) }

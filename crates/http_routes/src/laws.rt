@@ -1,5 +1,6 @@
 //! Laws over all bytes: each is a function with no body, whose contract is the law.
-ghost use Rattle.std.specs.Prelude.{◌≡◌, ◌↔◌, ◌⊎◌, ◌≤◌, ◌<◌, ◌^◌, ℕ, Bool, List, length, Option, Some, Result, Ok, ⊤, true, false};
+ghost use Rattle.std.specs.Prelude.{◌≡◌, ◌↔◌, ◌⊎◌, ◌≤◌, ◌<◌, ◌^◌, ℕ, Bool, List, length, Option, Some};
+ghost use Rattle.std.specs.Prelude.{Result, Ok, ⊤, true, false};
 ghost use Rattle.dist_types.specs.Addr.{addr_text, ip_of, IsAddr};
 ghost use Rattle.dist_types.specs.declared.addr.Addr.{Addr};
 ghost use Rattle.dist_types.specs.declared.ids.JobId.{JobId};
@@ -29,14 +30,16 @@ ghost use Rattle.http_routes.specs.declared.server_route.ServerAsked.{ServerAske
 ghost use Rattle.http_routes.specs.declared.server_route.ServerRouted.TheVariants as server;
 ghost use Rattle.http_routes.specs.Asked.{IsAskedUnder};
 ghost use Rattle.http_routes.specs.Calls.{Tells, IsAnswer, IsAssigned};
-ghost use Rattle.http_routes.specs.InOrder.{InForm, IsAllocation, IsHeartbeat, IsUpdate, IsStatus, IsAssignment, IsSubmission, IsRun};
+ghost use Rattle.http_routes.specs.InOrder.{InForm, IsAllocation, IsHeartbeat, IsUpdate, IsStatus};
+ghost use Rattle.http_routes.specs.InOrder.{IsAssignment, IsSubmission, IsRun};
 ghost use Rattle.http_routes.specs.Message.{BeginsWith};
 ghost use Rattle.http_routes.specs.ReadBack.{seen};
 ghost use Rattle.http_routes.specs.Refusal.{refusal_response};
 ghost use Rattle.http_routes.specs.Refused.{IsRefused, IsServerRefused};
 ghost use Rattle.http_routes.specs.Reply.{body_of, reply_text};
 ghost use Rattle.http_routes.specs.ServerRoute.{body_at, IsServerAsked, AsksAssign, AsksSubmit, AsksRun};
-ghost use Rattle.http_routes.specs.Written.{alloc_with, status_with, heartbeat_with, state_with, assign_with, submit_with, run_with, CanGo};
+ghost use Rattle.http_routes.specs.Written.{alloc_with, status_with, heartbeat_with, state_with, assign_with};
+ghost use Rattle.http_routes.specs.Written.{submit_with, run_with, CanGo};
 
 use dist_wire::message::Message;
 
@@ -47,12 +50,13 @@ pub fn replies_read_back()
 
 /// Bytes that a peer sent ask one thing of the scheduler at most, in one form.
 pub fn one_question()
-    ensures { (lets : List ℕ → Admission) (serves : List ℕ → Option Addr) (bytes : List ℕ) (peer : Addr) (a b : Asked)
+    ensures { (lets : List ℕ → Admission) (serves : List ℕ → Option Addr) (bytes : List ℕ) (peer : Addr)
+        (a b : Asked)
         → IsAskedUnder lets serves bytes peer a → IsAskedUnder lets serves bytes peer b → a ≡ b }
 {}
 
-/// Bytes ask for a job exactly where they are a request that does, with that toolchain, and shows a token that lets
-/// its client in.
+/// Bytes ask for a job exactly where they are a request that does, with that toolchain, and shows a token
+/// that lets its client in.
 pub fn allocations_asked()
     ensures { (lets : List ℕ → Admission) (serves : List ℕ → Option Addr) (bytes : List ℕ) (peer : Addr)
         (tc : List ℕ) (json : Bool) → IsBytes bytes
@@ -63,7 +67,8 @@ pub fn allocations_asked()
 /// Bytes ask for a heartbeat to be noted exactly where they are a request that is that heartbeat of
 /// that server.
 pub fn heartbeats_asked()
-    ensures { (lets : List ℕ → Admission) (serves : List ℕ → Option Addr) (bytes : List ℕ) (peer server : Addr)
+    ensures { (lets : List ℕ → Admission) (serves : List ℕ → Option Addr) (bytes : List ℕ)
+        (peer server : Addr)
         (m : HeartbeatServerHttpRequest) (json : Bool) → IsBytes bytes
         → IsAskedUnder lets serves bytes peer (record { what = Beat server m; json = json })
         ↔ ((r : Request) × IsRequest bytes r × IsHeartbeat r peer serves server m × InForm r json) }
@@ -71,7 +76,8 @@ pub fn heartbeats_asked()
 
 /// Bytes ask for a state of a job to be taken exactly where they are a request that tells it, of that server.
 pub fn updates_asked()
-    ensures { (lets : List ℕ → Admission) (serves : List ℕ → Option Addr) (bytes : List ℕ) (peer server : Addr)
+    ensures { (lets : List ℕ → Admission) (serves : List ℕ → Option Addr) (bytes : List ℕ)
+        (peer server : Addr)
         (job : JobId) (state : JobState) (json : Bool) → IsBytes bytes
         → IsAskedUnder lets serves bytes peer (record { what = Update server job state; json = json })
         ↔ ((r : Request) × IsRequest bytes r × IsUpdate r peer serves server job state × InForm r json) }
@@ -79,13 +85,15 @@ pub fn updates_asked()
 
 /// Bytes ask for the status exactly where they are a request for it.
 pub fn statuses_asked()
-    ensures { (lets : List ℕ → Admission) (serves : List ℕ → Option Addr) (bytes : List ℕ) (peer : Addr) (json : Bool)
+    ensures { (lets : List ℕ → Admission) (serves : List ℕ → Option Addr) (bytes : List ℕ) (peer : Addr)
+        (json : Bool)
         → IsAskedUnder lets serves bytes peer (record { what = Status; json = json })
         ↔ ((r : Request) × IsRequest bytes r × IsStatus r × InForm r json) }
 {}
 
-/// A reply of the scheduler is known at once exactly where the bytes are a request that one test of its route refuses,
-/// in the tests' order, and it is the reply to that refusal; or they are no request, and it is the reply to a bad head.
+/// A reply of the scheduler is known at once exactly where the bytes are a request that one test of its route
+/// refuses, in the tests' order, and it is the reply to that refusal; or they are no request, and it is the
+/// reply to a bad head.
 pub fn replies_at_once()
     ensures { (lets : List ℕ → Admission) (serves : List ℕ → Option Addr) (bytes : List ℕ) (peer : Addr)
         (reply : Response) (json : Bool) → IsBytes bytes
@@ -101,36 +109,44 @@ pub fn one_server_question()
         → IsServerAsked verdict bytes a → IsServerAsked verdict bytes b → a ≡ b }
 {}
 
-/// Bytes ask a server to take a job exactly where they are a request that does, with that toolchain, and shows a token
-/// that is accepted for the job.
+/// Bytes ask a server to take a job exactly where they are a request that does, with that toolchain, and
+/// shows a token that is accepted for the job.
 pub fn assignments_asked()
-    ensures { (verdict : ℕ → List ℕ → Result ⊤ TokenError) (bytes : List ℕ) (job : JobId) (tc : List ℕ) (json : Bool)
+    ensures { (verdict : ℕ → List ℕ → Result ⊤ TokenError) (bytes : List ℕ) (job : JobId) (tc : List ℕ)
+        (json : Bool)
         (body : ℕ) → IsBytes bytes
         → IsServerAsked verdict bytes (record { what = server.Assign job tc; json = json; body = body })
-        ↔ ((r : Request) × IsRequest bytes r × IsAssignment r verdict job tc × InForm r json × (body ≡ body_at bytes r)) }
+        ↔ ((r : Request) × IsRequest bytes r × IsAssignment r verdict job tc × InForm r json
+        × (body ≡ body_at bytes r)) }
 {}
 
-/// Bytes bring a server a job's toolchain exactly where they are a request that does, and shows a token that is accepted
-/// for the job.
+/// Bytes bring a server a job's toolchain exactly where they are a request that does, and shows a token that
+/// is accepted for the job.
 pub fn submissions_asked()
-    ensures { (verdict : ℕ → List ℕ → Result ⊤ TokenError) (bytes : List ℕ) (job : JobId) (json : Bool) (body : ℕ)
+    ensures { (verdict : ℕ → List ℕ → Result ⊤ TokenError) (bytes : List ℕ) (job : JobId) (json : Bool)
+        (body : ℕ)
         → IsServerAsked verdict bytes (record { what = server.Submit job; json = json; body = body })
-        ↔ ((r : Request) × IsRequest bytes r × IsSubmission r verdict job × InForm r json × (body ≡ body_at bytes r)) }
+        ↔ ((r : Request) × IsRequest bytes r × IsSubmission r verdict job × InForm r json
+        × (body ≡ body_at bytes r)) }
 {}
 
-/// Bytes ask a server to run a job exactly where they are a request that does, with that run, whose inputs begin at
-/// that place of its body, and shows a token that is accepted for the job.
+/// Bytes ask a server to run a job exactly where they are a request that does, with that run, whose inputs
+/// begin at that place of its body, and shows a token that is accepted for the job.
 pub fn runs_asked()
-    ensures { (verdict : ℕ → List ℕ → Result ⊤ TokenError) (bytes : List ℕ) (job : JobId) (run : RunJobHttpRequest)
+    ensures { (verdict : ℕ → List ℕ → Result ⊤ TokenError) (bytes : List ℕ) (job : JobId)
+        (run : RunJobHttpRequest)
         (at : ℕ) (json : Bool) (body : ℕ) → IsBytes bytes
         → IsServerAsked verdict bytes (record { what = server.Run job run at; json = json; body = body })
-        ↔ ((r : Request) × IsRequest bytes r × IsRun r verdict job run at × InForm r json × (body ≡ body_at bytes r)) }
+        ↔ ((r : Request) × IsRequest bytes r × IsRun r verdict job run at × InForm r json
+        × (body ≡ body_at bytes r)) }
 {}
 
-/// A reply of a server is known at once exactly where the bytes are a request that one test of its route refuses, in the
-/// tests' order, and it is the reply to that refusal; or they are no request, and it is the reply to a bad head.
+/// A reply of a server is known at once exactly where the bytes are a request that one test of its route
+/// refuses, in the tests' order, and it is the reply to that refusal; or they are no request, and it is the
+/// reply to a bad head.
 pub fn server_replies_at_once()
-    ensures { (verdict : ℕ → List ℕ → Result ⊤ TokenError) (bytes : List ℕ) (reply : Response) (json : Bool) (body : ℕ)
+    ensures { (verdict : ℕ → List ℕ → Result ⊤ TokenError) (bytes : List ℕ) (reply : Response) (json : Bool)
+        (body : ℕ)
         → IsBytes bytes
         → IsServerAsked verdict bytes (record { what = server.Done reply; json = json; body = body })
         ↔ (((r : Request) × (refusal : Refusal) × IsRequest bytes r × IsServerRefused r verdict refusal
@@ -148,7 +164,8 @@ pub fn replies_told<M: Message>()
 
 /// The bytes of the reply to a call say one thing at most.
 pub fn one_answer<M: Message>()
-    ensures { (bytes : List ℕ) (a b : Result M CallFault) → IsAnswer M.at bytes a → IsAnswer M.at bytes b → a ≡ b }
+    ensures { (bytes : List ℕ) (a b : Result M CallFault) → IsAnswer M.at bytes a → IsAnswer M.at bytes b
+        → a ≡ b }
 {}
 
 /// The bytes of a reply to an assignment say one thing at most.
@@ -169,38 +186,46 @@ pub fn addresses_are_visible()
 
 /// A request for a job, where its token lets a client in, is read as one for that toolchain.
 pub fn allocations_read_back()
-    ensures { (host token tc : List ℕ) (lets : List ℕ → Admission) (serves : List ℕ → Option Addr) (peer : Addr)
-        → CanGo host token (alloc_with host token tc) → SpellsToolchain tc (bytes_text tc) → lets token ≡ Admitted
-        → IsAskedUnder lets serves (request_text (alloc_with host token tc)) peer (record { what = Alloc tc; json = false }) }
+    ensures { (host token tc : List ℕ) (lets : List ℕ → Admission) (serves : List ℕ → Option Addr)
+        (peer : Addr)
+        → CanGo host token (alloc_with host token tc) → SpellsToolchain tc (bytes_text tc)
+        → lets token ≡ Admitted
+        → IsAskedUnder lets serves (request_text (alloc_with host token tc)) peer
+        (record { what = Alloc tc; json = false }) }
 {}
 
 /// A request for the status is read as one.
 pub fn statuses_read_back()
     ensures { (host : List ℕ) (lets : List ℕ → Admission) (serves : List ℕ → Option Addr) (peer : Addr)
         → list_all is_visible host ≡ true → IsWithinLimits (status_with host)
-        → IsAskedUnder lets serves (request_text (status_with host)) peer (record { what = Status; json = false }) }
+        → IsAskedUnder lets serves (request_text (status_with host)) peer
+        (record { what = Status; json = false }) }
 {}
 
-/// A heartbeat, written under a token that is accepted for a server and sent from its IP, is read as that server's.
+/// A heartbeat, written under a token that is accepted for a server and sent from its IP, is read as that
+/// server's.
 pub fn heartbeats_read_back()
     ensures { (host token : List ℕ) (beat : HeartbeatServerHttpRequest) (lets : List ℕ → Admission)
         (serves : List ℕ → Option Addr) (peer server : Addr)
         → CanGo host token (heartbeat_with host token beat) → SpellsHeartbeat beat (heartbeat_text beat)
         → serves token ≡ Some server → ip_of peer ≡ ip_of server
-        → IsAskedUnder lets serves (request_text (heartbeat_with host token beat)) peer (record { what = Beat server beat; json = false }) }
+        → IsAskedUnder lets serves (request_text (heartbeat_with host token beat)) peer
+        (record { what = Beat server beat; json = false }) }
 {}
 
-/// A report of a job's state, written under a token that is accepted for a server and sent from its IP, is read as that
-/// server's update of that job to that state.
+/// A report of a job's state, written under a token that is accepted for a server and sent from its IP, is
+/// read as that server's update of that job to that state.
 pub fn states_read_back()
     ensures { (host token : List ℕ) (job : JobId) (state : JobState) (lets : List ℕ → Admission)
         (serves : List ℕ → Option Addr) (peer server : Addr)
         → CanGo host token (state_with host token job state) → job.0 < 2 ^ 64
         → serves token ≡ Some server → ip_of peer ≡ ip_of server
-        → IsAskedUnder lets serves (request_text (state_with host token job state)) peer (record { what = Update server job state; json = false }) }
+        → IsAskedUnder lets serves (request_text (state_with host token job state)) peer
+        (record { what = Update server job state; json = false }) }
 {}
 
-/// A request to take a job, written under a token that is accepted for the job, is read as one, with that toolchain.
+/// A request to take a job, written under a token that is accepted for the job, is read as one, with that
+/// toolchain.
 pub fn assignments_read_back()
     ensures { (server : Addr) (token tc : List ℕ) (job : JobId) (verdict : ℕ → List ℕ → Result ⊤ TokenError)
         → CanGo (addr_text server) token (assign_with server job token (bytes_text tc)) → job.0 < 2 ^ 64
@@ -215,12 +240,13 @@ pub fn submissions_read_back()
         → AsksSubmit verdict (request_text (submit_with host token job archive)) job archive }
 {}
 
-/// A request to run a job, written under a token that is accepted for the job, is read as one, with that run and those
-/// inputs.
+/// A request to run a job, written under a token that is accepted for the job, is read as one, with that run
+/// and those inputs.
 pub fn runs_read_back()
     ensures { (host token inputs : List ℕ) (job : JobId) (run : RunJobHttpRequest)
         (verdict : ℕ → List ℕ → Result ⊤ TokenError)
-        → CanGo host token (run_with host token job run inputs) → job.0 < 2 ^ 64 → SpellsRun run (run_text run)
+        → CanGo host token (run_with host token job run inputs) → job.0 < 2 ^ 64
+        → SpellsRun run (run_text run)
         → length (run_text run) < 2 ^ 32 → verdict job.0 token ≡ Ok tt
         → AsksRun verdict (request_text (run_with host token job run inputs)) job run inputs }
 {}

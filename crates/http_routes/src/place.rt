@@ -1,6 +1,7 @@
 //! The place of a request: its method, its path, and the job that the path names.
 ghost use Rattle.std.specs.Prelude.{◌≡◌, option_copied};
-ghost use Rattle.http_routes.specs.Place.{is_at, stripped, job_in, job_of, state_job, assign_job, submit_job, run_job};
+ghost use Rattle.http_routes.specs.Place.{is_at, stripped, job_in, job_of, state_job, assign_job, submit_job};
+ghost use Rattle.http_routes.specs.Place.{run_job};
 
 use crate::request::Request;
 use dist_types::ids::JobId;

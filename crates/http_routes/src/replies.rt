@@ -1,8 +1,10 @@
-//! The replies to what the scheduler and a build server answer: in JSON where that is wanted, else in binary. Each is
-//! refused for want of memory alone.
+//! The replies to what the scheduler and a build server answer: in JSON where that is wanted, else in binary.
+//! Each is refused for want of memory alone.
 ghost use Rattle.std.specs.Prelude.{◌≡◌, IfOk, Some};
 ghost use Rattle.http_routes.specs.Fault.{fault_response_of};
-ghost use Rattle.http_routes.specs.Replies.{heard_response, status_response, alloc_response, update_response, commit_response, core_fault, report_response, assign_response, submit_response, run_response};
+ghost use Rattle.http_routes.specs.Replies.{heard_response, status_response, alloc_response, update_response};
+ghost use Rattle.http_routes.specs.Replies.{commit_response, core_fault, report_response, assign_response};
+ghost use Rattle.http_routes.specs.Replies.{submit_response, run_response};
 ghost use Rattle.sched_core.specs.Texts.{no_room_text, dropped_text};
 
 use crate::error::HttpError;
@@ -157,7 +159,8 @@ pub fn to_commit(
     }
 }
 
-/// What the scheduler's refusal of a server's request about a job is told as; want of memory is told by no reply.
+/// What the scheduler's refusal of a server's request about a job is told as; want of memory is told by no
+/// reply.
 pub fn core_fault(server: ServerId, job: JobId, error: SchedError) -> Option<RouteFault>
     ensures { result ≡ core_fault server job error }
 {

@@ -1,7 +1,8 @@
 //! The routes of the scheduler: what a request asks of it.
 ghost use Rattle.std.specs.Prelude.{◌≡◌, IfOk, IfErr};
 ghost use Rattle.http_routes.specs.Admission.{client_token, MayBeAsked};
-ghost use Rattle.http_routes.specs.Route.{wants_json, alloc_of, beat_of, update_of, report_of, asked_of, answered, IsRouted};
+ghost use Rattle.http_routes.specs.Route.{wants_json, alloc_of, beat_of, update_of, report_of, asked_of};
+ghost use Rattle.http_routes.specs.Route.{answered, IsRouted};
 ghost use Rattle.http_routes.specs.Steps.{Decides};
 
 use crate::admission::{Admission, said_of};
@@ -161,9 +162,9 @@ fn routed<V: ServerAuthCheck>(
     }
 }
 
-/// What a request of that peer asks of the scheduler at that moment, under its checks of clients and of servers; a
-/// request that is refused gets its reply. The check of clients is asked once, where a request for a job shows a token,
-/// and else stays as it was. Refused for want of memory alone.
+/// What a request of that peer asks of the scheduler at that moment, under its checks of clients and of
+/// servers; a request that is refused gets its reply. The check of clients is asked once, where a request for
+/// a job shows a token, and else stays as it was. Refused for want of memory alone.
 pub fn scheduler_route<K: ClientAuthCheck, V: ServerAuthCheck>(
     alloc: Global,
     request: &Request,

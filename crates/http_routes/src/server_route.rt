@@ -1,6 +1,7 @@
 //! The routes of a build server: what a request asks of it.
 ghost use Rattle.std.specs.Prelude.{◌≡◌, IfOk, IfErr};
-ghost use Rattle.http_routes.specs.ServerRoute.{assign_of, submit_of, run_of, server_asked_of, server_answered, IsServerAsked};
+ghost use Rattle.http_routes.specs.ServerRoute.{assign_of, submit_of, run_of, server_asked_of};
+ghost use Rattle.http_routes.specs.ServerRoute.{server_answered, IsServerAsked};
 ghost use Rattle.http_routes.specs.Steps.{Decides};
 
 use crate::error::HttpError;
@@ -107,8 +108,8 @@ fn server_asked_of<A: JobAuthorizer>(
     }
 }
 
-/// What a request asks of a build server whose jobs have the authorizer's tokens; a request that is refused gets its
-/// reply. Refused for want of memory alone.
+/// What a request asks of a build server whose jobs have the authorizer's tokens; a request that is refused
+/// gets its reply. Refused for want of memory alone.
 pub fn server_route<A: JobAuthorizer>(
     alloc: Global,
     request: &Request,
@@ -128,8 +129,8 @@ pub fn server_route<A: JobAuthorizer>(
     }
 }
 
-/// What the bytes ask of a build server whose jobs have the authorizer's tokens; bytes that are no request get their
-/// reply. Refused for want of memory alone.
+/// What the bytes ask of a build server whose jobs have the authorizer's tokens; bytes that are no request
+/// get their reply. Refused for want of memory alone.
 pub fn server_asked<A: JobAuthorizer>(
     alloc: Global,
     bytes: &[u8],

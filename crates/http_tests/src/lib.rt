@@ -1,5 +1,5 @@
-//! Tests of requests and replies: heads by their rule, what each route asks and refuses, replies and faults to the
-//! byte, what a client's calls write, and what the reply to a call says.
+//! Tests of requests and replies: heads by their rule, what each route asks and refuses, replies and faults
+//! to the byte, what a client's calls write, and what the reply to a call says.
 #![tactic(auto)]
 
 #[cfg(test)]

@@ -50,8 +50,8 @@ const BAD_HEAD: &[u8] =
 const NOT_FOUND: &[u8] =
     b"HTTP/1.1 404 Not Found\r\nContent-Length: 0\r\nConnection: close\r\n\r\n";
 
-/// What a row shows, the method and the target, the fields but for the length, the body, and the reply that is
-/// known at once, if one is.
+/// What a row shows, the method and the target, the fields but for the length, the body, and the reply that
+/// is known at once, if one is.
 type Row = (
     &'static str,
     &'static str,

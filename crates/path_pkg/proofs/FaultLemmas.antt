@@ -16,10 +16,26 @@ of_simplify Failed = refl
 of_simplify NotUtf8 = refl
 of_simplify Memory = refl
 
-pub pack_refused : (f : TreeFault) (old new : Told) → Refused (TreeCause f) old new → Refused (PackCause (pack_error f)) old new
-pack_refused Failed old new h = record { nodes = h.nodes; faults = h.faults; misnamed = h.misnamed; caused = h.caused }
-pack_refused NotUtf8 old new h = record { nodes = h.nodes; faults = h.faults; misnamed = h.misnamed; caused = h.caused }
-pack_refused Memory old new h = record { nodes = h.nodes; faults = h.faults; misnamed = h.misnamed; caused = h.caused }
+pub pack_refused : (f : TreeFault) (old new : Told) → Refused (TreeCause f) old new
+    → Refused (PackCause (pack_error f)) old new
+pack_refused Failed old new h = record {
+  nodes = h.nodes;
+  faults = h.faults;
+  misnamed = h.misnamed;
+  caused = h.caused;
+}
+pack_refused NotUtf8 old new h = record {
+  nodes = h.nodes;
+  faults = h.faults;
+  misnamed = h.misnamed;
+  caused = h.caused;
+}
+pack_refused Memory old new h = record {
+  nodes = h.nodes;
+  faults = h.faults;
+  misnamed = h.misnamed;
+  caused = h.caused;
+}
 
 -- what asks the tree nothing leaves it as it was
 pub untouched : (e : PackError) (told : Told) → PackCause e told told → Refused (PackCause e) told told

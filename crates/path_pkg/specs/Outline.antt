@@ -21,16 +21,19 @@ record_at rank e = if rank == 0 then Dir e.0 else if rank == 1 then File e.0 els
 -- the records of a package in the order in which they are written, of each kind and path the last
 unfoldable pub written_order : List Record → List Record
 written_order records =
-    map (record_at 0) (sorted 0 records) ++ (map (record_at 1) (sorted 1 records) ++ map (record_at 2) (sorted 2 records))
+    map (record_at 0) (sorted 0 records) ++ (map (record_at 1) (sorted 1 records) ++ map (record_at 2)
+    (sorted 2 records))
 
 -- frames of these records, with some content for each file, were written, or after a refusal a front of them
-pub record PutsFrames {T : Type 0} (result : Result T PackError) (records : List Record) (old new : Option (List ℕ)) : Type 0 where
+pub record PutsFrames {T : Type 0} (result : Result T PackError) (records : List Record)
+    (old new : Option (List ℕ)) : Type 0 where
   pub frames : List Frame
   pub outlines : map outline frames ≡ records
   pub puts : Puts result (flat_map frame_bytes frames) old new
 
 -- the same with the byte at the end
-pub record PutsPackage {T : Type 0} (result : Result T PackError) (records : List Record) (old new : Option (List ℕ)) : Type 0 where
+pub record PutsPackage {T : Type 0} (result : Result T PackError) (records : List Record)
+    (old new : Option (List ℕ)) : Type 0 where
   pub frames : List Frame
   pub outlines : map outline frames ≡ records
   pub puts : Puts result (spelled frames) old new

@@ -1,5 +1,6 @@
 -- What a package is made of, and what each call adds to it.
-use Rattle.std.specs.Prelude.{◌≡◌, ℕ, List, [], ◌∷◌, ◌++◌, map, length, Bool, true, false, ◌&&◌, ◌||◌, ◌==◌, nat_le, if◌then◌else◌, Result, Ok, Err}
+use Rattle.std.specs.Prelude.{◌≡◌, ℕ, List, [], ◌∷◌, ◌++◌, map, length, Bool, true, false, ◌&&◌, ◌||◌, ◌==◌}
+use Rattle.std.specs.Prelude.{nat_le, if◌then◌else◌, Result, Ok, Err}
 use Rattle.std.specs.List.{list_all}
 use Rattle.path_pkg.specs.Told.{Nodes}
 use Rattle.path_pkg.specs.Path.{is_absolute, joined}
@@ -73,7 +74,8 @@ unwanted Packs.File = NotFile
 unfoldable pub added : Packed → Nodes → List ℕ → Result (List Record) PackError
 added what t path =
     if is_absolute path
-    then (if is_wanted what (target_kind_at t path) then then_checked what (simplified true t path) else Err (unwanted what))
+    then (if is_wanted what (target_kind_at t path) then then_checked what (simplified true t path)
+    else Err (unwanted what))
     else Err NotAbsolute
 
 -- whether a path in a directory is packed: a file, or a link that leads to one
@@ -93,7 +95,8 @@ abbrev pub onto : List Record → Result (List Record) PackError → Result (Lis
 onto before (Ok more) = Ok (before ++ more)
 onto before (Err e) = Err e
 
-abbrev pub then_onto : Result (List Record) PackError → Result (List Record) PackError → Result (List Record) PackError
+abbrev pub then_onto : Result (List Record) PackError → Result (List Record) PackError
+    → Result (List Record) PackError
 then_onto (Ok before) more = onto before more
 then_onto (Err e) more = Err e
 

@@ -1,5 +1,6 @@
 -- Where a path leads, with each link on it followed.
-use Rattle.std.specs.Prelude.{ℕ, List, [], ◌∷◌, ◌++◌, map, filter, length, Bool, ◌&&◌, nat_lt, nat_eq, true, if◌then◌else◌, Option, None, Result, Ok, Err}
+use Rattle.std.specs.Prelude.{ℕ, List, [], ◌∷◌, ◌++◌, map, filter, length, Bool, ◌&&◌, nat_lt, nat_eq, true}
+use Rattle.std.specs.Prelude.{if◌then◌else◌, Option, None, Result, Ok, Err}
 use Rattle.std.specs.Str.{bytes_eq}
 use Rattle.std.specs.List.{starts_with}
 use Rattle.path_pkg.specs.Told.{Nodes}

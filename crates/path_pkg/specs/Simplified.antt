@@ -19,15 +19,17 @@ abbrev pub link_target : Nodes → Spot → List ℕ
 link_target t s = unwrap_or (link_at t (spot_text s)) []
 
 -- The steps, taken from a spot on. Without recording, a link is a part as any other, and one below which `..`
--- stands is refused. With recording, a link is replaced by its target, taken from beside it, and the pair is noted once
--- the target is simple; from there on `follow` goes on.
-unfoldable pub taken_by : (Spot → List Step → Result Spot PackError) → Nodes → Bool → Spot → List Step → Result Spot PackError
+-- stands is refused. With recording, a link is replaced by its target, taken from beside it, and the pair is
+-- noted once the target is simple; from there on `follow` goes on.
+unfoldable pub taken_by : (Spot → List Step → Result Spot PackError) → Nodes → Bool → Spot → List Step
+    → Result Spot PackError
 taken_by follow t recording s [] = Ok s
 taken_by follow t recording s (Up ∷ rest) =
     if is_link t (spot_text s) then Err LinkInParent else taken_by follow t recording (above s) rest
 taken_by follow t recording s (Name name ∷ rest) =
     if is_met t recording (below s name)
-    then follow (beside s (link_target t (below s name))) (steps_of (link_target t (below s name)) ++ Linked (spot_text (below s name)) ∷ rest)
+    then follow (beside s (link_target t (below s name)))
+    (steps_of (link_target t (below s name)) ++ Linked (spot_text (below s name)) ∷ rest)
     else taken_by follow t recording (below s name) rest
 taken_by follow t recording s (Linked path ∷ rest) = taken_by follow t recording (noted s path) rest
 

@@ -1,5 +1,7 @@
 -- Paths of Windows, as they are sent.
-use Rattle.std.specs.Prelude.{ℕ, zero, suc, ◌+◌, List, [], ◌∷◌, ◌++◌, map, filter, drop, slice_index, codes, Bool, false, not, ◌&&◌, ◌||◌, ◌==◌, if◌then◌else◌, Option, Some, None, String, string_bytes}
+use Rattle.std.specs.Prelude.{ℕ, zero, suc, ◌+◌, List, [], ◌∷◌, ◌++◌, map, filter, drop, slice_index, codes}
+use Rattle.std.specs.Prelude.{Bool, false, not, ◌&&◌, ◌||◌, ◌==◌, if◌then◌else◌, Option, Some, None, String}
+use Rattle.std.specs.Prelude.{string_bytes}
 use Rattle.std.specs.List.{slice_split, flat_map, list_any}
 use Rattle.std.specs.Map.{lookup}
 use Rattle.std.specs.Char.{is_ascii_alphabetic, to_ascii_uppercase}
@@ -13,17 +15,20 @@ is_separator b = b == 47 || b == 92
 
 -- whether a path begins with a letter, `:` and a separator
 unfoldable pub is_plain : List ℕ → Bool
-is_plain path = is_ascii_alphabetic (slice_index path 0) && slice_index path 1 == 58 && is_separator (slice_index path 2)
+is_plain path = is_ascii_alphabetic (slice_index path 0) && slice_index path 1 == 58
+    && is_separator (slice_index path 2)
 
 -- whether a path begins with `\\?\`, a letter and `:\`
 unfoldable pub is_verbatim : List ℕ → Bool
 is_verbatim path =
-    slice_index path 0 == 92 && slice_index path 1 == 92 && slice_index path 2 == 63 && slice_index path 3 == 92
+    slice_index path 0 == 92 && slice_index path 1 == 92 && slice_index path 2 == 63
+    && slice_index path 3 == 92
     && is_ascii_alphabetic (slice_index path 4) && slice_index path 5 == 58 && slice_index path 6 == 92
 
 -- whether a path begins otherwise with a separator, or with a letter and `:`
 unfoldable pub is_barred : List ℕ → Bool
-is_barred path = is_separator (slice_index path 0) || (is_ascii_alphabetic (slice_index path 0) && slice_index path 1 == 58)
+is_barred path = is_separator (slice_index path 0)
+    || (is_ascii_alphabetic (slice_index path 0) && slice_index path 1 == 58)
 
 -- the parts between each two `\`, without the empty ones
 abbrev pub is_full : List ℕ → Bool
@@ -34,7 +39,8 @@ verbatim_parts path = filter is_full (slice_split (λ b. b == 92) path)
 
 -- the parts between each two separators, without the empty ones: cut at each `\`, and each piece at each `/`
 abbrev pub parts_of : List ℕ → List (List ℕ)
-parts_of path = flat_map (λ piece. filter is_full (slice_split (λ b. b == 47) piece)) (slice_split (λ b. b == 92) path)
+parts_of path = flat_map (λ piece. filter is_full (slice_split (λ b. b == 47) piece))
+    (slice_split (λ b. b == 92) path)
 
 -- the parts without each `.`
 abbrev pub without_dots : List (List ℕ) → List (List ℕ)
@@ -101,13 +107,15 @@ letters_from first (suc n) = first ∷ letters_from (first + 1) n
 abbrev pub plain_mappings : List Entry → List ℕ → List Entry
 plain_mappings mapped [] = []
 plain_mappings mapped (x ∷ xs) =
-    (if list_any (λ e. is_on_plain x e.1) mapped then (x ∷ 58 ∷ [], disk_text x) ∷ [] else []) ++ plain_mappings mapped xs
+    (if list_any (λ e. is_on_plain x e.1) mapped then (x ∷ 58 ∷ [], disk_text x) ∷ [] else [])
+    ++ plain_mappings mapped xs
 
 -- the verbatim disks of the paths that were mapped, each once, by letter
 abbrev pub verbatim_mappings : List Entry → List ℕ → List Entry
 verbatim_mappings mapped [] = []
 verbatim_mappings mapped (x ∷ xs) =
-    (if list_any (λ e. is_on_verbatim x e.1) mapped then (92 ∷ 92 ∷ 63 ∷ 92 ∷ x ∷ 58 ∷ [], disk_text x) ∷ [] else []) ++ verbatim_mappings mapped xs
+    (if list_any (λ e. is_on_verbatim x e.1) mapped then (92 ∷ 92 ∷ 63 ∷ 92 ∷ x ∷ 58 ∷ [], disk_text x) ∷ []
+    else []) ++ verbatim_mappings mapped xs
 
 -- the disks of the paths that were mapped, each with its text: the plain ones and then the verbatim ones
 abbrev pub mappings : List Entry → List Entry

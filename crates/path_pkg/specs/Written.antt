@@ -1,5 +1,6 @@
 -- What a package is written as.
-use Rattle.std.specs.Prelude.{◌≡◌, ℕ, ◌≤◌, List, [], ◌∷◌, ◌++◌, map, length, ◌==◌, if◌then◌else◌, Option, Some, None, Result, Ok, Err, String, string_bytes}
+use Rattle.std.specs.Prelude.{◌≡◌, ℕ, ◌≤◌, List, [], ◌∷◌, ◌++◌, map, length, ◌==◌, if◌then◌else◌, Option}
+use Rattle.std.specs.Prelude.{Some, None, Result, Ok, Err, String, string_bytes}
 use Rattle.std.specs.List.{filter_map}
 use Rattle.std.specs.Option.{unwrap_or}
 use Rattle.std.specs.BTreeMap.{insert_entry}
@@ -65,21 +66,25 @@ frame_at t rank e =
 -- the records of a package in the order in which they are written
 abbrev pub frames : Nodes → List Record → List Frame
 frames t records =
-    map (frame_at t 0) (sorted 0 records) ++ (map (frame_at t 1) (sorted 1 records) ++ map (frame_at t 2) (sorted 2 records))
+    map (frame_at t 0) (sorted 0 records) ++ (map (frame_at t 1) (sorted 1 records) ++ map (frame_at t 2)
+    (sorted 2 records))
 
 -- the framed list of a package
 unfoldable pub framed : Nodes → List Record → List ℕ
 framed t records = spelled (frames t records)
 
--- the cause of a refusal: one count of the tree or of the sink rose and the others stayed; want of memory raises none
+-- the cause of a refusal: one count of the tree or of the sink rose and the others stayed; want of memory
+-- raises none
 abbrev pub WriteCause : PackError → ℕ → ℕ → Told → Told → Type 0
-WriteCause Packs.TreeFault f f2 old new = Rose old.faults new.faults × (new.misnamed ≡ old.misnamed) × (f2 ≡ f)
+WriteCause Packs.TreeFault f f2 old new = Rose old.faults new.faults × (new.misnamed ≡ old.misnamed)
+    × (f2 ≡ f)
 WriteCause Packs.NotUtf8 f f2 old new = Rose old.misnamed new.misnamed × (new.faults ≡ old.faults) × (f2 ≡ f)
 WriteCause Packs.SinkFault f f2 old new = Rose f f2 × (new ≡ old)
 WriteCause Packs.Memory f f2 old new = (new ≡ old) × (f2 ≡ f)
 WriteCause _ f f2 old new = ⊥
 
--- an answer leaves the tree and the sink's count as they were, and a refusal is a fault or want of memory and has its cause
+-- an answer leaves the tree and the sink's count as they were, and a refusal is a fault or want of memory and
+-- has its cause
 abbrev pub Writes : {T : Type 0} → Result T PackError → Told → Told → ℕ → ℕ → Type 0
 Writes (Ok x) old new f f2 = (new ≡ old) × (f2 ≡ f)
 Writes (Err e) old new f f2 = Refused (WriteCause e f f2) old new × (f ≤ f2)

@@ -3,7 +3,8 @@ ghost use Rattle.std.specs.Prelude.{◌≡◌, ◌↔◌, true, false, map, stri
 ghost use Rattle.std.specs.List.{list_all};
 ghost use Rattle.path_pkg.specs.Fault.{is_decided, is_simplify_error, Gives, PackLeavesTree};
 ghost use Rattle.path_pkg.specs.Path.{is_absolute};
-ghost use Rattle.path_pkg.specs.Records.{record_fits, is_wanted, unwanted, then_checked, added, is_packed, found, onto, all_found, found_at, contents_records};
+ghost use Rattle.path_pkg.specs.Records.{record_fits, is_wanted, unwanted, then_checked, added, is_packed};
+ghost use Rattle.path_pkg.specs.Records.{found, onto, all_found, found_at, contents_records};
 ghost use Rattle.path_pkg.specs.Place.{spot_of};
 ghost use Rattle.path_pkg.specs.Resolved.{target_kind_at};
 ghost use Rattle.path_pkg.specs.Simplified.{simplified};
@@ -48,7 +49,8 @@ fn is_wanted(what: Packed, kind: Kind) -> bool
 /// Whether a path leads to what is wanted.
 #[tactic(auto, using(crate::proofs::FaultLemmas::undecided, crate::proofs::FaultLemmas::of_simplify, crate::proofs::FaultLemmas::pack_refused, crate::proofs::FaultLemmas::untouched))]
 fn leads_to<T: Tree>(tree: &mut T, path: &str, what: Packed) -> Result<bool, PackError>
-    ensures leads { IfOk result (λ b. WhereTold (T.told tree.old) (λ t. b ≡ is_wanted what (target_kind_at t path.now))) }
+    ensures leads { IfOk result
+        (λ b. WhereTold (T.told tree.old) (λ t. b ≡ is_wanted what (target_kind_at t path.now))) }
     ensures decided { IfErr result (λ e. is_decided e ≡ false) }
     ensures reasons { IfErr result (λ e. is_simplify_error e ≡ true) }
     ensures leaves { PackLeavesTree result (T.told tree.old) (T.told tree.new) }
@@ -65,7 +67,8 @@ fn records_to<T: Links>(
     path: &str,
     what: Packed,
 ) -> Result<Vec<Record>, PackError>
-    ensures records { WhereTold (T.told tree.old) (λ t. Gives (λ v. v.items) (then_checked what (simplified true t path.now)) result) }
+    ensures records { WhereTold (T.told tree.old)
+        (λ t. Gives (λ v. v.items) (then_checked what (simplified true t path.now)) result) }
     ensures reasons { IfErr result (λ e. ¬ (e ≡ PackError.NotAbsolute)) }
     ensures fit { IfOk result (λ v. list_all record_fits v.items ≡ true) }
     ensures leaves { PackLeavesTree result (T.told tree.old) (T.told tree.new) }
@@ -155,7 +158,8 @@ fn all_found<T: Tree>(
     before: Vec<Record>,
     paths: &[String],
 ) -> Result<Vec<Record>, PackError>
-    ensures records { WhereTold (T.told tree.old) (λ t. Gives (λ v. v.items) (onto before.items (all_found t (map string_bytes paths.now))) result) }
+    ensures records { WhereTold (T.told tree.old)
+        (λ t. Gives (λ v. v.items) (onto before.items (all_found t (map string_bytes paths.now))) result) }
     ensures reasons { IfErr result (λ e. is_simplify_error e ≡ true) }
     ensures leaves { PackLeavesTree result (T.told tree.old) (T.told tree.new) }
 {
@@ -176,7 +180,8 @@ pub(crate) fn contents<T: Tree>(
     tree: &mut T,
     path: &str,
 ) -> Result<Vec<Record>, PackError>
-    ensures records { WhereTold (T.told tree.old) (λ t. Gives (λ v. v.items) (contents_records t path.now) result) }
+    ensures records { WhereTold (T.told tree.old)
+        (λ t. Gives (λ v. v.items) (contents_records t path.now) result) }
     ensures not_absolute { (result ≡ Err PackError.NotAbsolute) ↔ (is_absolute path.now ≡ false) }
     ensures fit { IfOk result (λ v. list_all record_fits v.items ≡ true) }
     ensures leaves { PackLeavesTree result (T.told tree.old) (T.told tree.new) }
@@ -200,7 +205,8 @@ fn contents_at<T: Tree>(
     tree: &mut T,
     place: &Place,
 ) -> Result<Vec<Record>, PackError>
-    ensures records { WhereTold (T.told tree.old) (λ t. Gives (λ v. v.items) (found_at t (spot_of place.now)) result) }
+    ensures records { WhereTold (T.told tree.old)
+        (λ t. Gives (λ v. v.items) (found_at t (spot_of place.now)) result) }
     ensures reasons { IfErr result (λ e. ¬ (e ≡ PackError.NotAbsolute)) }
     ensures fit { IfOk result (λ v. list_all record_fits v.items ≡ true) }
     ensures leaves { PackLeavesTree result (T.told tree.old) (T.told tree.new) }

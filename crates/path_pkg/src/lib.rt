@@ -1,11 +1,11 @@
-//! Paths and packages: paths as they are sent and as they are read again, paths made simple, and packages of a tree's
-//! directories, files and links, written as a framed list.
+//! Paths and packages: paths as they are sent and as they are read again, paths made simple, and packages of
+//! a tree's directories, files and links, written as a framed list.
 //!
-//! The contract: a path is mapped, made simple or packed exactly as the definitions of `specs/` say of its text and of
-//! what a tree tells that it holds, and is refused exactly where they say, in their order; a tree or a sink fails a call
-//! only where its count rose; a refused call adds nothing; what is written is the one framed list of what was added, and
-//! after a fault a front of it.
-//! The layers above use the transformers, the packagers' traits and the builder.
+//! The contract: a path is mapped, made simple or packed exactly as the definitions of `specs/` say of its
+//! text and of what a tree tells that it holds, and is refused exactly where they say, in their order; a tree
+//! or a sink fails a call only where its count rose; a refused call adds nothing; what is written is the one
+//! framed list of what was added, and after a fault a front of it. The layers above use the transformers, the
+//! packagers' traits and the builder.
 #![tactic(auto)]
 
 mod collect;

@@ -20,7 +20,8 @@ pub(crate) trait LinkLookup {
     /// The target of the link at a path.
     fn link_target(&mut self, path: &str) -> Result<String, TreeFault>
         requires { WhereTold (told self.old) (λ t. is_link t path.now ≡ true) }
-        ensures target { IfOk result (λ s. WhereTold (told self.old) (λ t. link_at t path.now ≡ Some (string_bytes s))) }
+        ensures target { IfOk result
+            (λ s. WhereTold (told self.old) (λ t. link_at t path.now ≡ Some (string_bytes s))) }
         ensures leaves { LeavesTree result (told self.old) (told self.new) };
 }
 

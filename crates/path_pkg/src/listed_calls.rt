@@ -5,8 +5,8 @@ ghost use Rattle.dist_types.specs.InMemory.{is_listed};
 
 use dist_types::fault::{Failed, raise};
 
-/// One more call. It fails, and raises the count of faults, exactly where its number, which is the count of the calls
-/// before it, is listed. Both counts stop at their end, 2^64 - 1.
+/// One more call. It fails, and raises the count of faults, exactly where its number, which is the count of
+/// the calls before it, is listed. Both counts stop at their end, 2^64 - 1.
 pub fn begin_call(fails: &[u64], calls: &mut u64, faults: &mut u64) -> Result<(), Failed>
     ensures fails { is_err result ≡ is_listed fails.now calls.old }
     ensures calls { calls.new ≡ counted calls.old }

@@ -23,7 +23,8 @@ pub struct MemPackager {
 
 impl MemPackager {
     ghost use Rattle.std.specs.Prelude.{◌++◌};
-    ghost use Rattle.path_pkg.specs.MemPackager.{packager_bytes, packager_refuses, packager_calls, packager_refusals};
+    ghost use Rattle.path_pkg.specs.MemPackager.{packager_bytes, packager_refuses, packager_calls};
+    ghost use Rattle.path_pkg.specs.MemPackager.{packager_refusals};
 
     /// A packager of these bytes, which was not called so far. It takes no memory.
     pub fn new(alloc: Global, bytes: Bytes, refuses: Vec<u64>) -> Self
@@ -72,7 +73,8 @@ impl MemPackager {
 
 impl ToolchainPackager for MemPackager {
     ghost use Rattle.std.specs.Prelude.{Some};
-    ghost use Rattle.path_pkg.specs.MemPackager.{packager_bytes, packager_refuses, packager_calls, packager_refusals};
+    ghost use Rattle.path_pkg.specs.MemPackager.{packager_bytes, packager_refuses, packager_calls};
+    ghost use Rattle.path_pkg.specs.MemPackager.{packager_refusals};
 
     ghost refusals = { packager_refusals };
 
@@ -100,14 +102,15 @@ impl ToolchainPackager for MemPackager {
 
 impl InputsPackager for MemPackager {
     ghost use Rattle.std.specs.Prelude.{Some};
-    ghost use Rattle.path_pkg.specs.MemPackager.{packager_bytes, packager_refuses, packager_calls, packager_refusals};
+    ghost use Rattle.path_pkg.specs.MemPackager.{packager_bytes, packager_refuses, packager_calls};
+    ghost use Rattle.path_pkg.specs.MemPackager.{packager_refusals};
 
     ghost refusals = { packager_refusals };
 
     ghost packs = { λ p. Some (packager_bytes p) };
 
-    /// Appends its bytes, and gives a transformer that mapped nothing. Refused exactly where this call is listed, unless
-    /// memory ran out.
+    /// Appends its bytes, and gives a transformer that mapped nothing. Refused exactly where this call is
+    /// listed, unless memory ran out.
     fn write_inputs(&mut self, out: &mut Vec<u8>) -> Result<PathTransformer, PackFault>
         ensures packed { OnOk result (Appends (Some (packager_bytes self.old)) out.old.items out.new.items) }
         ensures appends { HasAppended out.old.items out.new.items }

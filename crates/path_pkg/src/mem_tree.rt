@@ -37,7 +37,8 @@ pub struct MemTree {
 }
 
 impl MemTree {
-    ghost use Rattle.path_pkg.specs.InMemory.{tree_nodes, tree_fails, tree_misnames, tree_calls, tree_faults, tree_misnamed};
+    ghost use Rattle.path_pkg.specs.InMemory.{tree_nodes, tree_fails, tree_misnames, tree_calls, tree_faults};
+    ghost use Rattle.path_pkg.specs.InMemory.{tree_misnamed};
 
     /// A tree of which nothing was asked so far. It takes no memory.
     pub fn new(
@@ -70,7 +71,8 @@ impl Links for MemTree {
     ghost use Rattle.std.specs.Prelude.{Some, None, Err};
     ghost use Rattle.path_pkg.specs.Told.{WhereTold, LeavesTree};
     ghost use Rattle.path_pkg.specs.Tree.{kind_at, link_at};
-    ghost use Rattle.path_pkg.specs.InMemory.{tree_told, tree_nodes, tree_fails, tree_misnames, tree_calls, kind_verdict, link_verdict, Answers, told_in_byte_order};
+    ghost use Rattle.path_pkg.specs.InMemory.{tree_told, tree_nodes, tree_fails, tree_misnames, tree_calls};
+    ghost use Rattle.path_pkg.specs.InMemory.{kind_verdict, link_verdict, Answers, told_in_byte_order};
 
     ghost told = { tree_told };
 
@@ -81,21 +83,28 @@ impl Links for MemTree {
 
         ensures exact { result ≡ kind_verdict self.old path.now }
         ensures calls { tree_calls self.new ≡ counted (tree_calls self.old) }
-        ensures kept { (tree_nodes self.new ≡ tree_nodes self.old) × (tree_fails self.new ≡ tree_fails self.old) × (tree_misnames self.new ≡ tree_misnames self.old) }
+        ensures kept { (tree_nodes self.new ≡ tree_nodes self.old)
+            × (tree_fails self.new ≡ tree_fails self.old)
+            × (tree_misnames self.new ≡ tree_misnames self.old) }
     {
         begin_call(&self.fails, &mut self.calls, &mut self.faults)?;
         Ok(kind_of(node(&self.nodes, path)))
     }
 
-    /// Failed exactly where this call is listed or there is no link, and else NotUtf8 exactly where its path is listed.
+    /// Failed exactly where this call is listed or there is no link, and else NotUtf8 exactly where its path
+    /// is listed.
     fn read_link(&mut self, path: &str) -> Result<String, TreeFault>
-        ensures target { IfOk result (λ s. WhereTold (tree_told self.old) (λ t. link_at t path.now ≡ Some (string_bytes s))) }
-        ensures no_link { WhereTold (tree_told self.old) (λ t. link_at t path.now ≡ None → result ≡ Err TreeFault.Failed) }
+        ensures target { IfOk result
+            (λ s. WhereTold (tree_told self.old) (λ t. link_at t path.now ≡ Some (string_bytes s))) }
+        ensures no_link { WhereTold (tree_told self.old) (λ t. link_at t path.now ≡ None
+            → result ≡ Err TreeFault.Failed) }
         ensures leaves { LeavesTree result (tree_told self.old) (tree_told self.new) }
 
         ensures exact { Answers string_bytes (link_verdict self.old path.now) result }
         ensures calls { tree_calls self.new ≡ counted (tree_calls self.old) }
-        ensures kept { (tree_nodes self.new ≡ tree_nodes self.old) × (tree_fails self.new ≡ tree_fails self.old) × (tree_misnames self.new ≡ tree_misnames self.old) }
+        ensures kept { (tree_nodes self.new ≡ tree_nodes self.old)
+            × (tree_fails self.new ≡ tree_fails self.old)
+            × (tree_misnames self.new ≡ tree_misnames self.old) }
     {
         begin_call(&self.fails, &mut self.calls, &mut self.faults)?;
         match link_of(node(&self.nodes, path)) {
@@ -145,16 +154,20 @@ impl Tree for MemTree {
     ghost use Rattle.std.specs.Prelude.{Some};
     ghost use Rattle.path_pkg.specs.Told.{WhereTold, LeavesTree};
     ghost use Rattle.path_pkg.specs.Resolved.{target_kind_at, content_at, paths_below};
-    ghost use Rattle.path_pkg.specs.InMemory.{tree_told, tree_nodes, tree_fails, tree_misnames, tree_calls, target_kind_verdict, read_verdict, walk_verdict, Answers};
+    ghost use Rattle.path_pkg.specs.InMemory.{tree_told, tree_nodes, tree_fails, tree_misnames, tree_calls};
+    ghost use Rattle.path_pkg.specs.InMemory.{target_kind_verdict, read_verdict, walk_verdict, Answers};
 
     /// Failed exactly where this call is listed.
     fn target_kind(&mut self, path: &str) -> Result<Kind, TreeFault>
-        ensures kind { IfOk result (λ k. WhereTold (tree_told self.old) (λ t. k ≡ target_kind_at t path.now)) }
+        ensures kind { IfOk result
+            (λ k. WhereTold (tree_told self.old) (λ t. k ≡ target_kind_at t path.now)) }
         ensures leaves { LeavesTree result (tree_told self.old) (tree_told self.new) }
 
         ensures exact { Answers (λ k. k) (target_kind_verdict self.old path.now) result }
         ensures calls { tree_calls self.new ≡ counted (tree_calls self.old) }
-        ensures kept { (tree_nodes self.new ≡ tree_nodes self.old) × (tree_fails self.new ≡ tree_fails self.old) × (tree_misnames self.new ≡ tree_misnames self.old) }
+        ensures kept { (tree_nodes self.new ≡ tree_nodes self.old)
+            × (tree_fails self.new ≡ tree_fails self.old)
+            × (tree_misnames self.new ≡ tree_misnames self.old) }
     {
         begin_call(&self.fails, &mut self.calls, &mut self.faults)?;
         let node = target_node(self.alloc, &self.nodes, path)?;
@@ -163,12 +176,15 @@ impl Tree for MemTree {
 
     /// Failed exactly where this call is listed or the path leads to no file.
     fn read(&mut self, path: &str) -> Result<Vec<u8>, TreeFault>
-        ensures content { IfOk result (λ v. WhereTold (tree_told self.old) (λ t. content_at t path.now ≡ Some v.items)) }
+        ensures content { IfOk result
+            (λ v. WhereTold (tree_told self.old) (λ t. content_at t path.now ≡ Some v.items)) }
         ensures leaves { LeavesTree result (tree_told self.old) (tree_told self.new) }
 
         ensures exact { Answers (λ v. v.items) (read_verdict self.old path.now) result }
         ensures calls { tree_calls self.new ≡ counted (tree_calls self.old) }
-        ensures kept { (tree_nodes self.new ≡ tree_nodes self.old) × (tree_fails self.new ≡ tree_fails self.old) × (tree_misnames self.new ≡ tree_misnames self.old) }
+        ensures kept { (tree_nodes self.new ≡ tree_nodes self.old)
+            × (tree_fails self.new ≡ tree_fails self.old)
+            × (tree_misnames self.new ≡ tree_misnames self.old) }
     {
         begin_call(&self.fails, &mut self.calls, &mut self.faults)?;
         let node = target_node(self.alloc, &self.nodes, path)?;
@@ -186,12 +202,15 @@ impl Tree for MemTree {
 
     /// Failed exactly where this call is listed, and else NotUtf8 exactly where a listed path lies below.
     fn walk(&mut self, path: &str) -> Result<Vec<String>, TreeFault>
-        ensures paths { IfOk result (λ v. WhereTold (tree_told self.old) (λ t. map string_bytes v.items ≡ paths_below t path.now)) }
+        ensures paths { IfOk result
+            (λ v. WhereTold (tree_told self.old) (λ t. map string_bytes v.items ≡ paths_below t path.now)) }
         ensures leaves { LeavesTree result (tree_told self.old) (tree_told self.new) }
 
         ensures exact { Answers (λ v. map string_bytes v.items) (walk_verdict self.old path.now) result }
         ensures calls { tree_calls self.new ≡ counted (tree_calls self.old) }
-        ensures kept { (tree_nodes self.new ≡ tree_nodes self.old) × (tree_fails self.new ≡ tree_fails self.old) × (tree_misnames self.new ≡ tree_misnames self.old) }
+        ensures kept { (tree_nodes self.new ≡ tree_nodes self.old)
+            × (tree_fails self.new ≡ tree_fails self.old)
+            × (tree_misnames self.new ≡ tree_misnames self.old) }
     {
         begin_call(&self.fails, &mut self.calls, &mut self.faults)?;
         let prefix = dir_prefix(self.alloc, path)?;

@@ -50,7 +50,8 @@ impl ToolchainPackageBuilder {
 
     /// Adds the directory `/tmp`.
     pub fn add_common<T: Tree>(&mut self, tree: &mut T) -> Result<(), PackError>
-        ensures records { WhereTold (T.told tree.old) (λ t. Gives (λ _. self.new) (onto self.old (added Dir t (codes "/tmp"))) result) }
+        ensures records { WhereTold (T.told tree.old)
+            (λ t. Gives (λ _. self.new) (onto self.old (added Dir t (codes "/tmp"))) result) }
         ensures absolute { IfErr result (λ e. ¬ (e ≡ PackError.NotAbsolute)) }
         ensures err { OnErr result (self.new ≡ self.old) }
         ensures leaves { PackLeavesTree result (T.told tree.old) (T.told tree.new) }
@@ -58,11 +59,13 @@ impl ToolchainPackageBuilder {
         self.add_dir(tree, "/tmp")
     }
 
-    /// Adds a directory and the links on its way. The root adds only the links. In this order: NotAbsolute exactly
-    /// where the path does not begin with `/`; NotDir where it leads to no directory; TooManyLinks past forty
-    /// links; PathTooLong where a packed path, or the path or target of a link, is longer than 65,535 bytes.
+    /// Adds a directory and the links on its way. The root adds only the links. In this order: NotAbsolute
+    /// exactly where the path does not begin with `/`; NotDir where it leads to no directory; TooManyLinks
+    /// past forty links; PathTooLong where a packed path, or the path or target of a link, is longer than
+    /// 65,535 bytes.
     pub fn add_dir<T: Tree>(&mut self, tree: &mut T, path: &str) -> Result<(), PackError>
-        ensures records { WhereTold (T.told tree.old) (λ t. Gives (λ _. self.new) (onto self.old (added Dir t path.now)) result) }
+        ensures records { WhereTold (T.told tree.old)
+            (λ t. Gives (λ _. self.new) (onto self.old (added Dir t path.now)) result) }
         ensures not_absolute { (result ≡ Err PackError.NotAbsolute) ↔ (is_absolute path.now ≡ false) }
         ensures err { OnErr result (self.new ≡ self.old) }
         ensures leaves { PackLeavesTree result (T.told tree.old) (T.told tree.new) }
@@ -78,7 +81,8 @@ impl ToolchainPackageBuilder {
 
     /// Adds a file and the links on its way, and is refused as `add_dir`, with NotFile in place of NotDir.
     pub fn add_file<T: Tree>(&mut self, tree: &mut T, path: &str) -> Result<(), PackError>
-        ensures records { WhereTold (T.told tree.old) (λ t. Gives (λ _. self.new) (onto self.old (added File t path.now)) result) }
+        ensures records { WhereTold (T.told tree.old)
+            (λ t. Gives (λ _. self.new) (onto self.old (added File t path.now)) result) }
         ensures not_absolute { (result ≡ Err PackError.NotAbsolute) ↔ (is_absolute path.now ≡ false) }
         ensures err { OnErr result (self.new ≡ self.old) }
         ensures leaves { PackLeavesTree result (T.told tree.old) (T.told tree.new) }
@@ -92,10 +96,11 @@ impl ToolchainPackageBuilder {
         }
     }
 
-    /// Adds each file below a directory and each link there that leads to a file, with the links on their way, and
-    /// skips all else. It is refused as `add_dir`, and then adds nothing.
+    /// Adds each file below a directory and each link there that leads to a file, with the links on their
+    /// way, and skips all else. It is refused as `add_dir`, and then adds nothing.
     pub fn add_dir_contents<T: Tree>(&mut self, tree: &mut T, path: &str) -> Result<(), PackError>
-        ensures records { WhereTold (T.told tree.old) (λ t. Gives (λ _. self.new) (onto self.old (contents_records t path.now)) result) }
+        ensures records { WhereTold (T.told tree.old)
+            (λ t. Gives (λ _. self.new) (onto self.old (contents_records t path.now)) result) }
         ensures not_absolute { (result ≡ Err PackError.NotAbsolute) ↔ (is_absolute path.now ≡ false) }
         ensures err { OnErr result (self.new ≡ self.old) }
         ensures leaves { PackLeavesTree result (T.told tree.old) (T.told tree.new) }
@@ -109,18 +114,20 @@ impl ToolchainPackageBuilder {
         }
     }
 
-    /// Writes the package as a framed list: its directories, then its files, then its links, each by path in byte
-    /// order, of each path the last. Over a tree that does not tell what stands where, its paths and links are these, with
-    /// some content for each file. TreeFault, NotUtf8 and SinkFault come only where a count rose. After a refusal a front
-    /// of the list was written.
+    /// Writes the package as a framed list: its directories, then its files, then its links, each by path in
+    /// byte order, of each path the last. Over a tree that does not tell what stands where, its paths and
+    /// links are these, with some content for each file. TreeFault, NotUtf8 and SinkFault come only where a
+    /// count rose. After a refusal a front of the list was written.
     pub fn into_framed_list<T: Tree, W: Sink>(
         self,
         tree: &mut T,
         out: &mut W,
     ) -> Result<(), PackError>
-        ensures puts { WhereTold (T.told tree.old) (λ t. Puts result (framed t self) (W.held out.old) (W.held out.new)) }
+        ensures puts { WhereTold (T.told tree.old)
+            (λ t. Puts result (framed t self) (W.held out.old) (W.held out.new)) }
         ensures outline { PutsPackage result (written_order self) (W.held out.old) (W.held out.new) }
-        ensures writes { Writes result (T.told tree.old) (T.told tree.new) (W.faults out.old) (W.faults out.new) }
+        ensures writes { Writes result (T.told tree.old) (T.told tree.new) (W.faults out.old)
+            (W.faults out.new) }
     {
         let alloc = self.alloc;
         write_package(alloc, tree, out, &self.records)

@@ -147,7 +147,8 @@ pub(crate) fn paths_below(
     nodes: &BTreeMap<String, Node>,
     path: &str,
 ) -> Result<Vec<String>, AllocError>
-    ensures { IfOk result (λ v. map string_bytes v.items ≡ paths_below (nodes_of nodes.now.entries) path.now) }
+    ensures { IfOk result (λ v. map string_bytes v.items ≡ paths_below
+        (nodes_of nodes.now.entries) path.now) }
 {
     let prefix = dir_prefix(alloc, path)?;
     let mut paths = Vec::new(alloc);
@@ -160,7 +161,8 @@ pub(crate) fn paths_below(
 }
 
 fn push_copy(alloc: Global, paths: &mut Vec<String>, path: &str) -> Result<(), AllocError>
-    ensures { OnOk result (map string_bytes paths.new.items ≡ map string_bytes paths.old.items ++ path.now ∷ []) }
+    ensures { OnOk result (map string_bytes paths.new.items ≡ map string_bytes paths.old.items ++ path.now
+        ∷ []) }
 {
     let copy = String::from_str(alloc, path)?;
     paths.push(copy)?;

@@ -4,7 +4,8 @@ ghost use Rattle.std.specs.List.{list_all};
 ghost use Rattle.path_pkg.specs.Fault.{Gives};
 ghost use Rattle.path_pkg.specs.Path.{joined};
 ghost use Rattle.path_pkg.specs.Place.{spot_of};
-ghost use Rattle.path_pkg.specs.Records.{unrooted, record_fits, record_of, own_record, link_records, records_at, checked};
+ghost use Rattle.path_pkg.specs.Records.{unrooted, record_fits, record_of, own_record, link_records};
+ghost use Rattle.path_pkg.specs.Records.{records_at, checked};
 
 use crate::fault::PackError;
 use crate::path::path_text;

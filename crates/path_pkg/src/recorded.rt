@@ -21,7 +21,10 @@ use std::collections::BTreeMap;
 
 /// Puts back what stood at a path before another target was put there.
 fn restore(links: &mut BTreeMap<String, String>, path: String, old: Option<String>)
-    ensures { (before : List Entry) (v : List ℕ) → IsStrictlySortedBy (slice_cmp nat_cmp) (map (λ e. e.0) before) → pairs_of links.old.entries ≡ put before (string_bytes path, v) → local_of before (string_bytes path) ≡ option_map string_bytes old → pairs_of links.new.entries ≡ before }
+    ensures { (before : List Entry) (v : List ℕ) → IsStrictlySortedBy (slice_cmp nat_cmp)
+        (map (λ e. e.0) before) → pairs_of links.old.entries ≡ put before (string_bytes path, v)
+        → local_of before (string_bytes path) ≡ option_map string_bytes old
+        → pairs_of links.new.entries ≡ before }
 {
     match old {
         Some(target) => {
@@ -39,8 +42,10 @@ fn record_one(
     path: String,
     target: String,
 ) -> Result<Option<String>, AllocError>
-    ensures ok { OnOk result (pairs_of links.new.entries ≡ put (pairs_of links.old.entries) (string_bytes path, string_bytes target)) }
-    ensures old { IfOk result (λ old. local_of (pairs_of links.old.entries) (string_bytes path) ≡ option_map string_bytes old) }
+    ensures ok { OnOk result (pairs_of links.new.entries ≡ put (pairs_of links.old.entries)
+        (string_bytes path, string_bytes target)) }
+    ensures old { IfOk result
+        (λ old. local_of (pairs_of links.old.entries) (string_bytes path) ≡ option_map string_bytes old) }
     ensures sorted { IsStrictlySortedBy (slice_cmp nat_cmp) (map (λ e. e.0) (pairs_of links.old.entries)) }
     ensures err { OnErr result (pairs_of links.new.entries ≡ pairs_of links.old.entries) }
 {
@@ -81,8 +86,12 @@ fn simplify_recorded<T: Links>(
     path: &str,
     links: &mut BTreeMap<String, String>,
 ) -> Result<String, PackError>
-    ensures simplified { WhereTold (T.told tree.old) (λ t. Gives string_bytes (simple_path true t path.now) result) }
-    ensures links { OnOk result (WhereTold (T.told tree.old) (λ t. pairs_of links.new.entries ≡ recorded_with (pairs_of links.old.entries) (simplified true t path.now))) }
+    ensures simplified { WhereTold (T.told tree.old)
+        (λ t. Gives string_bytes (simple_path true t path.now) result) }
+    ensures links { OnOk result
+        (WhereTold (T.told tree.old)
+        (λ t. pairs_of links.new.entries ≡ recorded_with (pairs_of links.old.entries)
+        (simplified true t path.now))) }
     ensures err { OnErr result (pairs_of links.new.entries ≡ pairs_of links.old.entries) }
     ensures reasons { IfErr result (λ e. is_simplify_error e ≡ true) }
     ensures leaves { PackLeavesTree result (T.told tree.old) (T.told tree.new) }
@@ -97,8 +106,8 @@ fn simplify_recorded<T: Links>(
     }
 }
 
-/// Makes paths simple. Where it has a map, each link on a path is replaced by its target, and recorded there with what
-/// stands in its place.
+/// Makes paths simple. Where it has a map, each link on a path is replaced by its target, and recorded there
+/// with what stands in its place.
 #[derive(Drop)]
 pub struct SimplifyPath<'a> {
     /// The paths of links, each with its target made simple.
@@ -106,18 +115,26 @@ pub struct SimplifyPath<'a> {
 }
 
 impl SimplifyPath<'_> {
-    /// The path without empty parts, without `.`, and without `..`, each of which drops the part before it. LinkInParent
-    /// where a `..` stands behind a link, which with recording is replaced before; TooManyLinks at the forty-first link that
-    /// is replaced, those of targets counted. After a refusal the map is as it was.
+    /// The path without empty parts, without `.`, and without `..`, each of which drops the part before it.
+    /// LinkInParent where a `..` stands behind a link, which with recording is replaced before; TooManyLinks
+    /// at the forty-first link that is replaced, those of targets counted. After a refusal the map is as it
+    /// was.
     pub fn simplify<T: Links>(
         &mut self,
         alloc: Global,
         tree: &mut T,
         path: &str,
     ) -> Result<String, PackError>
-        ensures simplified { WhereTold (T.told tree.old) (λ t. Gives string_bytes (simple_path (is_some (recorded self.old.resolved_symlinks)) t path.now) result) }
-        ensures links { OnOk result (WhereTold (T.told tree.old) (λ t. recorded self.new.resolved_symlinks ≡ option_map (λ links. recorded_with links (simplified true t path.now)) (recorded self.old.resolved_symlinks))) }
-        ensures err { OnErr result (recorded self.new.resolved_symlinks ≡ recorded self.old.resolved_symlinks) }
+        ensures simplified { WhereTold (T.told tree.old)
+            (λ t. Gives string_bytes (simple_path (is_some (recorded self.old.resolved_symlinks)) t path.now)
+            result) }
+        ensures links { OnOk result
+            (WhereTold (T.told tree.old)
+            (λ t. recorded self.new.resolved_symlinks ≡ option_map
+            (λ links. recorded_with links (simplified true t path.now))
+            (recorded self.old.resolved_symlinks))) }
+        ensures err { OnErr result
+            (recorded self.new.resolved_symlinks ≡ recorded self.old.resolved_symlinks) }
         ensures reasons { IfErr result (λ e. is_simplify_error e ≡ true) }
         ensures same_map { IsSameMap self.old.resolved_symlinks self.new.resolved_symlinks }
         ensures leaves { PackLeavesTree result (T.told tree.old) (T.told tree.new) }

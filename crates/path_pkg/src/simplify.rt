@@ -23,7 +23,8 @@ pub const MAX_LINKS: u32 = 40;
 
 #[tactic(auto, using(crate::proofs::FaultLemmas::undecided, crate::proofs::FaultLemmas::of_simplify, crate::proofs::FaultLemmas::pack_refused, crate::proofs::FaultLemmas::untouched))]
 fn is_link_at<T: LinkLookup>(alloc: Global, tree: &mut T, place: &Place) -> Result<bool, PackError>
-    ensures link { IfOk result (λ b. WhereTold (T.told tree.old) (λ t. b ≡ is_link t (spot_text (spot_of place.now)))) }
+    ensures link { IfOk result
+        (λ b. WhereTold (T.told tree.old) (λ t. b ≡ is_link t (spot_text (spot_of place.now)))) }
     ensures decided { IfErr result (λ e. is_decided e ≡ false) }
     ensures reasons { IfErr result (λ e. is_simplify_error e ≡ true) }
     ensures leaves { PackLeavesTree result (T.told tree.old) (T.told tree.new) }
@@ -37,9 +38,11 @@ fn is_link_at<T: LinkLookup>(alloc: Global, tree: &mut T, place: &Place) -> Resu
 #[tactic(auto, using(crate::proofs::FaultLemmas::untouched))]
 fn go_up<T: LinkLookup>(alloc: Global, tree: &mut T, place: Place) -> Result<Place, PackError>
     ensures up { IfOk result (λ p. spot_of p ≡ above (spot_of place)) }
-    ensures free { OnOk result (WhereTold (T.told tree.old) (λ t. is_link t (spot_text (spot_of place)) ≡ false)) }
+    ensures free { OnOk result
+        (WhereTold (T.told tree.old) (λ t. is_link t (spot_text (spot_of place)) ≡ false)) }
     ensures reasons { IfErr result (λ e. is_simplify_error e ≡ true) }
-    ensures at_link { IfErr result (λ e. is_decided e ≡ true → (e ≡ PackError.LinkInParent) × WhereTold (T.told tree.old) (λ t. is_link t (spot_text (spot_of place)) ≡ true)) }
+    ensures at_link { IfErr result (λ e. is_decided e ≡ true → (e ≡ PackError.LinkInParent)
+        × WhereTold (T.told tree.old) (λ t. is_link t (spot_text (spot_of place)) ≡ true)) }
     ensures leaves { PackLeavesTree result (T.told tree.old) (T.told tree.new) }
 {
     if is_link_at(alloc, tree, &place)? {
@@ -55,7 +58,8 @@ fn is_met<T: LinkLookup>(
     recording: bool,
     place: &Place,
 ) -> Result<bool, PackError>
-    ensures met { IfOk result (λ b. WhereTold (T.told tree.old) (λ t. b ≡ is_met t recording (spot_of place.now))) }
+    ensures met { IfOk result
+        (λ b. WhereTold (T.told tree.old) (λ t. b ≡ is_met t recording (spot_of place.now))) }
     ensures decided { IfErr result (λ e. is_decided e ≡ false) }
     ensures reasons { IfErr result (λ e. is_simplify_error e ≡ true) }
     ensures leaves { PackLeavesTree result (T.told tree.old) (T.told tree.new) }
@@ -66,7 +70,8 @@ fn is_met<T: LinkLookup>(
     is_link_at(alloc, tree, place)
 }
 
-/// From the link where one is: the place that its target is taken from, the steps of the target, and then the others.
+/// From the link where one is: the place that its target is taken from, the steps of the target, and then the
+/// others.
 #[tactic(auto, using(crate::proofs::FaultLemmas::undecided, crate::proofs::FaultLemmas::of_simplify, crate::proofs::FaultLemmas::pack_refused, crate::proofs::FaultLemmas::untouched))]
 fn follow<T: LinkLookup>(
     alloc: Global,
@@ -75,8 +80,12 @@ fn follow<T: LinkLookup>(
     others: VecDeque<Step>,
 ) -> Result<(Place, VecDeque<Step>), PackError>
     requires { WhereTold (T.told tree.old) (λ t. is_link t (spot_text (spot_of place)) ≡ true) }
-    ensures place { IfOk result (λ r. WhereTold (T.told tree.old) (λ t. spot_of r.0 ≡ beside (above (spot_of place)) (link_target t (spot_of place)))) }
-    ensures steps { IfOk result (λ r. WhereTold (T.told tree.old) (λ t. r.1.items ≡ steps_of (link_target t (spot_of place)) ++ Linked (spot_text (spot_of place)) ∷ others.items)) }
+    ensures place { IfOk result
+        (λ r. WhereTold (T.told tree.old)
+        (λ t. spot_of r.0 ≡ beside (above (spot_of place)) (link_target t (spot_of place)))) }
+    ensures steps { IfOk result
+        (λ r. WhereTold (T.told tree.old) (λ t. r.1.items ≡ steps_of (link_target t (spot_of place)) ++ Linked
+        (spot_text (spot_of place)) ∷ others.items)) }
     ensures decided { IfErr result (λ e. is_decided e ≡ false) }
     ensures reasons { IfErr result (λ e. is_simplify_error e ≡ true) }
     ensures leaves { PackLeavesTree result (T.told tree.old) (T.told tree.new) }
@@ -107,7 +116,8 @@ fn take<T: LinkLookup>(
     place: Place,
     todo: VecDeque<Step>,
 ) -> Result<Place, PackError>
-    ensures taken { WhereTold (T.told tree.old) (λ t. Gives spot_of (taken left t recording (spot_of place) todo.items) result) }
+    ensures taken { WhereTold (T.told tree.old)
+        (λ t. Gives spot_of (taken left t recording (spot_of place) todo.items) result) }
     ensures reasons { IfErr result (λ e. is_simplify_error e ≡ true) }
     ensures leaves { PackLeavesTree result (T.told tree.old) (T.told tree.new) }
 {
@@ -145,7 +155,8 @@ pub(crate) fn simplified<T: LinkLookup>(
     recording: bool,
     path: &str,
 ) -> Result<Place, PackError>
-    ensures simplified { WhereTold (T.told tree.old) (λ t. Gives spot_of (simplified recording t path.now) result) }
+    ensures simplified { WhereTold (T.told tree.old)
+        (λ t. Gives spot_of (simplified recording t path.now) result) }
     ensures reasons { IfErr result (λ e. is_simplify_error e ≡ true) }
     ensures leaves { PackLeavesTree result (T.told tree.old) (T.told tree.new) }
 {
@@ -158,7 +169,8 @@ pub(crate) fn simplified<T: LinkLookup>(
 /// TreeFault and NotUtf8 come only where the tree's count of them rose.
 #[tactic(auto, using(crate::proofs::FaultLemmas::untouched))]
 pub fn simplify_path<T: Links>(alloc: Global, tree: &mut T, path: &str) -> Result<String, PackError>
-    ensures simplified { WhereTold (T.told tree.old) (λ t. Gives string_bytes (simple_path false t path.now) result) }
+    ensures simplified { WhereTold (T.told tree.old)
+        (λ t. Gives string_bytes (simple_path false t path.now) result) }
     ensures reasons { IfErr result (λ e. is_simplify_error e ≡ true) }
     ensures leaves { PackLeavesTree result (T.told tree.old) (T.told tree.new) }
 {

@@ -1,7 +1,8 @@
 //! The records of a package in the order in which they are written.
 ghost use Rattle.std.specs.Prelude.{◌≡◌, IfOk, OnOk, OnErr};
 ghost use Rattle.std.specs.Option.{option_to_list};
-ghost use Rattle.path_pkg.specs.Written.{texts_of, put, put_all, rank_of, entry_of, in_rank, sorted, EntriesFit};
+ghost use Rattle.path_pkg.specs.Written.{texts_of, put, put_all, rank_of, entry_of, in_rank, sorted};
+ghost use Rattle.path_pkg.specs.Written.{EntriesFit};
 ghost use Rattle.path_pkg.specs.Records.{RecordsFit};
 
 use crate::record::Record;
@@ -49,7 +50,8 @@ pub(crate) fn put(
     path: &str,
     target: &str,
 ) -> Result<(), AllocError>
-    ensures put { OnOk result (texts_of entries.new.entries ≡ put (texts_of entries.old.entries) (path.now, target.now)) }
+    ensures put { OnOk result (texts_of entries.new.entries ≡ put (texts_of entries.old.entries)
+        (path.now, target.now)) }
     ensures same { OnErr result (texts_of entries.new.entries ≡ texts_of entries.old.entries) }
 {
     let key = String::from_str(alloc, path)?;
@@ -59,7 +61,8 @@ pub(crate) fn put(
 }
 
 fn put_ranked(alloc: Global, entries: &mut Entries, rank: u8, r: &Record) -> Result<(), AllocError>
-    ensures { OnOk result (texts_of entries.new.entries ≡ put_all (texts_of entries.old.entries) (option_to_list (in_rank rank r.now))) }
+    ensures { OnOk result (texts_of entries.new.entries ≡ put_all (texts_of entries.old.entries)
+        (option_to_list (in_rank rank r.now))) }
 {
     if rank_of(r) != rank {
         return Ok(());

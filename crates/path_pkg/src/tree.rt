@@ -9,8 +9,9 @@ use crate::node::Kind;
 
 /// What making a path simple asks of a tree: where its links are, and where they lead.
 pub trait Links {
-    /// What stands where, as far as it is told, and the counts of faults and of names that are not UTF-8. A call that is
-    /// refused leaves what stands where; Failed and NotUtf8 raise their own count alone, and Memory raises none.
+    /// What stands where, as far as it is told, and the counts of faults and of names that are not UTF-8. A
+    /// call that is refused leaves what stands where; Failed and NotUtf8 raise their own count alone, and
+    /// Memory raises none.
     ghost told: { Self → Told };
 
     /// The kind of what stands at a path. A link at its end is not followed.
@@ -20,8 +21,10 @@ pub trait Links {
 
     /// The target of the link at a path. Failed where there is no link.
     fn read_link(&mut self, path: &str) -> Result<String, TreeFault>
-        ensures target { IfOk result (λ s. WhereTold (told self.old) (λ t. link_at t path.now ≡ Some (string_bytes s))) }
-        ensures no_link { WhereTold (told self.old) (λ t. link_at t path.now ≡ None → result ≡ Err TreeFault.Failed) }
+        ensures target { IfOk result
+            (λ s. WhereTold (told self.old) (λ t. link_at t path.now ≡ Some (string_bytes s))) }
+        ensures no_link { WhereTold (told self.old) (λ t. link_at t path.now ≡ None
+            → result ≡ Err TreeFault.Failed) }
         ensures leaves { LeavesTree result (told self.old) (told self.new) };
 
     /// The paths of what stands where strictly rise in byte order.
@@ -32,16 +35,19 @@ pub trait Links {
 pub trait Tree: Links {
     /// The kind of what a path leads to, with each link followed, and None past forty links.
     fn target_kind(&mut self, path: &str) -> Result<Kind, TreeFault>
-        ensures kind { IfOk result (λ k. WhereTold (Self.told self.old) (λ t. k ≡ target_kind_at t path.now)) }
+        ensures kind { IfOk result
+            (λ k. WhereTold (Self.told self.old) (λ t. k ≡ target_kind_at t path.now)) }
         ensures leaves { LeavesTree result (Self.told self.old) (Self.told self.new) };
 
     /// The content of the file that a path leads to, with each link followed. Failed where there is no file.
     fn read(&mut self, path: &str) -> Result<Vec<u8>, TreeFault>
-        ensures content { IfOk result (λ v. WhereTold (Self.told self.old) (λ t. content_at t path.now ≡ Some v.items)) }
+        ensures content { IfOk result
+            (λ v. WhereTold (Self.told self.old) (λ t. content_at t path.now ≡ Some v.items)) }
         ensures leaves { LeavesTree result (Self.told self.old) (Self.told self.new) };
 
     /// All paths below a directory, in byte order. No link is followed.
     fn walk(&mut self, path: &str) -> Result<Vec<String>, TreeFault>
-        ensures paths { IfOk result (λ v. WhereTold (Self.told self.old) (λ t. map string_bytes v.items ≡ paths_below t path.now)) }
+        ensures paths { IfOk result
+            (λ v. WhereTold (Self.told self.old) (λ t. map string_bytes v.items ≡ paths_below t path.now)) }
         ensures leaves { LeavesTree result (Self.told self.old) (Self.told self.new) };
 }

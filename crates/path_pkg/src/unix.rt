@@ -50,7 +50,8 @@ impl PathTransformer {
         PathTransformer { alloc }
     }
 
-    /// The text that an absolute path is sent as: None exactly where it does not begin with `/` or is not UTF-8.
+    /// The text that an absolute path is sent as: None exactly where it does not begin with `/` or is not
+    /// UTF-8.
     pub fn as_dist_abs(&mut self, p: &[u8]) -> Result<Option<String>, PackError>
         ensures text { IfOk result (λ o. option_map string_bytes o ≡ unix_dist_abs p.now) }
         ensures err { IfErr result (λ e. e ≡ PackError.Memory) }

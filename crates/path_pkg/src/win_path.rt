@@ -1,9 +1,12 @@
 //! The text that a path of Windows is sent as.
-ghost use Rattle.std.specs.Prelude.{◌≡◌, ◌++◌, ◌∷◌, [], slice_index, drop, ◌<◌, ◌+◌, true, filter, IfOk, OnOk, not, ◌==◌, ◌&&◌, string_bytes};
+ghost use Rattle.std.specs.Prelude.{◌≡◌, ◌++◌, ◌∷◌, [], slice_index, drop, ◌<◌, ◌+◌, true, filter, IfOk};
+ghost use Rattle.std.specs.Prelude.{OnOk, not, ◌==◌, ◌&&◌, string_bytes};
 ghost use Rattle.std.specs.List.{slice_split, flat_map};
 ghost use Rattle.std.specs.Option.{option_map};
 ghost use Rattle.std.specs.Str.{bytes_eq};
-ghost use Rattle.path_pkg.specs.Windows.{is_separator, is_plain, is_verbatim, is_barred, is_full, parts_of, verbatim_parts, without_dots, after_first, disk_text, on_disk, abs_text, any_text};
+ghost use Rattle.path_pkg.specs.Windows.{is_separator, is_plain, is_verbatim, is_barred, is_full, parts_of};
+ghost use Rattle.path_pkg.specs.Windows.{verbatim_parts, without_dots, after_first, disk_text, on_disk};
+ghost use Rattle.path_pkg.specs.Windows.{abs_text, any_text};
 ghost use Rattle.path_pkg.specs.Path.{joined};
 ghost use Rattle.std.specs.Char.{is_ascii_alphabetic};
 
@@ -33,7 +36,8 @@ pub(crate) fn is_plain(path: &[u8]) -> bool
 }
 
 fn begins_verbatim(path: &[u8]) -> bool
-    ensures { result ≡ (slice_index path.now 0 == 92 && slice_index path.now 1 == 92 && slice_index path.now 2 == 63 && slice_index path.now 3 == 92) }
+    ensures { result ≡ (slice_index path.now 0 == 92 && slice_index path.now 1 == 92
+        && slice_index path.now 2 == 63 && slice_index path.now 3 == 92) }
 {
     byte(path, 0) == b'\\'
         && byte(path, 1) == b'\\'
@@ -85,7 +89,8 @@ fn push_full(alloc: Global, parts: &mut Vec<Text>, piece: &str) -> Result<(), Al
 /// Adds the parts of a text that is cut at a byte, without the empty ones.
 fn push_cut(alloc: Global, parts: &mut Vec<Text>, text: &str, at: char) -> Result<(), AllocError>
     requires { at < 128 }
-    ensures { OnOk result (parts.new.items ≡ parts.old.items ++ filter is_full (slice_split (λ b. b == at) text.now)) }
+    ensures { OnOk result (parts.new.items ≡ parts.old.items ++ filter is_full
+        (slice_split (λ b. b == at) text.now)) }
 {
     for piece in text.split(at) {
         push_full(alloc, parts, piece)?;
@@ -167,7 +172,8 @@ pub(crate) fn disk_text(alloc: Global, letter: u8) -> Result<String, AllocError>
 
 fn verbatim_text(alloc: Global, path: &str) -> Result<String, AllocError>
     requires { is_verbatim path.now ≡ true }
-    ensures { IfOk result (λ s. string_bytes s ≡ on_disk (slice_index path.now 4) (verbatim_parts (drop 7 path.now))) }
+    ensures { IfOk result (λ s. string_bytes s ≡ on_disk (slice_index path.now 4)
+        (verbatim_parts (drop 7 path.now))) }
 {
     let parts = verbatim_parts(alloc, after(path, 6))?;
     let text = disk_path(alloc, byte(path.as_bytes(), 4), &parts)?;
@@ -176,7 +182,8 @@ fn verbatim_text(alloc: Global, path: &str) -> Result<String, AllocError>
 
 fn plain_text(alloc: Global, path: &str) -> Result<String, AllocError>
     requires { is_plain path.now ≡ true }
-    ensures { IfOk result (λ s. string_bytes s ≡ on_disk (slice_index path.now 0) (without_dots (parts_of (drop 3 path.now)))) }
+    ensures { IfOk result (λ s. string_bytes s ≡ on_disk (slice_index path.now 0)
+        (without_dots (parts_of (drop 3 path.now)))) }
 {
     let parts = without_dots(parts_of(alloc, after(path, 2))?);
     let text = disk_path(alloc, byte(path.as_bytes(), 0), &parts)?;

@@ -1,8 +1,11 @@
 //! Paths of Windows, as they are sent and as they are read again.
-ghost use Rattle.std.specs.Prelude.{◌≡◌, ◌++◌, ◌∷◌, ◌<◌, [], All, if◌then◌else◌, IfOk, IfErr, OnErr, OnOk, string_bytes};
+ghost use Rattle.std.specs.Prelude.{◌≡◌, ◌++◌, ◌∷◌, ◌<◌, [], All, if◌then◌else◌, IfOk, IfErr, OnErr, OnOk};
+ghost use Rattle.std.specs.Prelude.{string_bytes};
 ghost use Rattle.std.specs.List.{list_any};
 ghost use Rattle.std.specs.Option.{option_map, option_copied};
-ghost use Rattle.path_pkg.specs.Windows.{windows_dist, windows_dist_abs, is_on_plain, is_on_verbatim, plain_mappings, verbatim_mappings, mappings, mapped_with, local_of, pairs_of, letters_from};
+ghost use Rattle.path_pkg.specs.Windows.{windows_dist, windows_dist_abs, is_on_plain, is_on_verbatim};
+ghost use Rattle.path_pkg.specs.Windows.{plain_mappings, verbatim_mappings, mappings, mapped_with, local_of};
+ghost use Rattle.path_pkg.specs.Windows.{pairs_of, letters_from};
 ghost use Rattle.path_pkg.specs.Written.{texts_of};
 
 use crate::fault::PackError;
@@ -13,8 +16,8 @@ use std::alloc::{AllocError, Global};
 use std::collections::BTreeMap;
 use std::marker::Model;
 
-/// Maps the paths of a client under Windows, and keeps the path that was mapped last to each text. Contracts see it as
-/// the pairs of a text and that path, by text in byte order.
+/// Maps the paths of a client under Windows, and keeps the path that was mapped last to each text. Contracts
+/// see it as the pairs of a text and that path, by text in byte order.
 #[derive(Debug, Drop)]
 pub struct PathTransformer {
     alloc: Global,
@@ -75,8 +78,8 @@ impl PathTransformer {
         }
     }
 
-    /// The text that a path on a disk is sent as, which is kept with the path. None exactly where the path is on no disk
-    /// or is not UTF-8.
+    /// The text that a path on a disk is sent as, which is kept with the path. None exactly where the path is
+    /// on no disk or is not UTF-8.
     pub fn as_dist_abs(&mut self, p: &[u8]) -> Result<Option<String>, PackError>
         ensures text { IfOk result (λ o. option_map string_bytes o ≡ windows_dist_abs p.now) }
         ensures mapped { OnOk result (self.new ≡ mapped_with self.old p.now (windows_dist_abs p.now)) }
@@ -90,8 +93,8 @@ impl PathTransformer {
         keep(self.alloc, &mut self.mapped, path, text)
     }
 
-    /// The text that a path is sent as, which is kept with the path. None exactly where the path begins with a separator
-    /// or a letter and `:` and is on no disk, or is not UTF-8.
+    /// The text that a path is sent as, which is kept with the path. None exactly where the path begins with
+    /// a separator or a letter and `:` and is on no disk, or is not UTF-8.
     pub fn as_dist(&mut self, p: &[u8]) -> Result<Option<String>, PackError>
         ensures text { IfOk result (λ o. option_map string_bytes o ≡ windows_dist p.now) }
         ensures mapped { OnOk result (self.new ≡ mapped_with self.old p.now (windows_dist p.now)) }
@@ -105,8 +108,8 @@ impl PathTransformer {
         keep(self.alloc, &mut self.mapped, path, text)
     }
 
-    /// The disks of the paths that are kept, each with its text: the plain ones `X:` and then the verbatim ones
-    /// `\\?\X:`, each once, by letter.
+    /// The disks of the paths that are kept, each with its text: the plain ones `X:` and then the verbatim
+    /// ones `\\?\X:`, each once, by letter.
     pub fn disk_mappings(&self) -> Result<Vec<(String, String)>, PackError>
         ensures mappings { IfOk result (λ v. pairs_of v.items ≡ mappings self.now) }
         ensures err { IfErr result (λ e. e ≡ PackError.Memory) }
@@ -150,7 +153,9 @@ fn keep(
     text: Option<String>,
 ) -> Result<Option<String>, PackError>
     ensures text { IfOk result (λ o. option_map string_bytes o ≡ option_map string_bytes text) }
-    ensures mapped { OnOk result (texts_of mapped.new.entries ≡ mapped_with (texts_of mapped.old.entries) path.now (option_map string_bytes text)) }
+    ensures mapped { OnOk result
+        (texts_of mapped.new.entries ≡ mapped_with (texts_of mapped.old.entries) path.now
+        (option_map string_bytes text)) }
     ensures err { IfErr result (λ e. e ≡ PackError.Memory) }
     ensures same { OnErr result (texts_of mapped.new.entries ≡ texts_of mapped.old.entries) }
 {
@@ -170,7 +175,8 @@ fn push_plain(
     letter: u8,
 ) -> Result<(), AllocError>
     requires { letter < 128 }
-    ensures { OnOk result (pairs_of pairs.new.items ≡ pairs_of pairs.old.items ++ plain_mappings (texts_of mapped.now.entries) (letter ∷ [])) }
+    ensures { OnOk result (pairs_of pairs.new.items ≡ pairs_of pairs.old.items ++ plain_mappings
+        (texts_of mapped.now.entries) (letter ∷ [])) }
 {
     if !has_plain(mapped, letter) {
         return Ok(());
@@ -190,7 +196,8 @@ fn push_verbatim(
     letter: u8,
 ) -> Result<(), AllocError>
     requires { letter < 128 }
-    ensures { OnOk result (pairs_of pairs.new.items ≡ pairs_of pairs.old.items ++ verbatim_mappings (texts_of mapped.now.entries) (letter ∷ [])) }
+    ensures { OnOk result (pairs_of pairs.new.items ≡ pairs_of pairs.old.items ++ verbatim_mappings
+        (texts_of mapped.now.entries) (letter ∷ [])) }
 {
     if !has_verbatim(mapped, letter) {
         return Ok(());
@@ -208,7 +215,8 @@ fn push_plain_disks(
     pairs: &mut Vec<(String, String)>,
     mapped: &Entries,
 ) -> Result<(), AllocError>
-    ensures { OnOk result (pairs_of pairs.new.items ≡ pairs_of pairs.old.items ++ plain_mappings (texts_of mapped.now.entries) (letters_from 65 26)) }
+    ensures { OnOk result (pairs_of pairs.new.items ≡ pairs_of pairs.old.items ++ plain_mappings
+        (texts_of mapped.now.entries) (letters_from 65 26)) }
 {
     for letter in b'A'..b'Z' + 1 {
         push_plain(alloc, pairs, mapped, letter)?;
@@ -221,7 +229,8 @@ fn push_verbatim_disks(
     pairs: &mut Vec<(String, String)>,
     mapped: &Entries,
 ) -> Result<(), AllocError>
-    ensures { OnOk result (pairs_of pairs.new.items ≡ pairs_of pairs.old.items ++ verbatim_mappings (texts_of mapped.now.entries) (letters_from 65 26)) }
+    ensures { OnOk result (pairs_of pairs.new.items ≡ pairs_of pairs.old.items ++ verbatim_mappings
+        (texts_of mapped.now.entries) (letters_from 65 26)) }
 {
     for letter in b'A'..b'Z' + 1 {
         push_verbatim(alloc, pairs, mapped, letter)?;

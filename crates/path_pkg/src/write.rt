@@ -1,11 +1,13 @@
 //! Writing a package.
-ghost use Rattle.std.specs.Prelude.{◌≡◌, ◌≤◌, ◌++◌, ◌∷◌, [], length, map, string_bytes, IfOk, IfErr, OnErr, OnOk};
+ghost use Rattle.std.specs.Prelude.{◌≡◌, ◌≤◌, ◌++◌, ◌∷◌, [], length, map, string_bytes, IfOk, IfErr, OnErr};
+ghost use Rattle.std.specs.Prelude.{OnOk};
 ghost use Rattle.dist_types.specs.Cause.{Rose};
 ghost use Rattle.path_pkg.specs.Framed.{frame_bytes};
 ghost use Rattle.path_pkg.specs.Framed.Frame.{FileFrame};
 ghost use Rattle.path_pkg.specs.Outline.{record_at, written_order, PutsFrames, PutsPackage};
 ghost use Rattle.path_pkg.specs.Told.{WhereTold};
-ghost use Rattle.path_pkg.specs.Written.{content_in, frame_at, texts_of, group_bytes, framed, EntriesFit, Puts, Writes};
+ghost use Rattle.path_pkg.specs.Written.{content_in, frame_at, texts_of, group_bytes, framed, EntriesFit};
+ghost use Rattle.path_pkg.specs.Written.{Puts, Writes};
 ghost use Rattle.path_pkg.specs.Records.{RecordsFit};
 
 use crate::fault::PackError;
@@ -62,7 +64,9 @@ fn write_file<T: Tree, W: Sink>(
     path: &str,
 ) -> Result<(), PackError>
     requires { length path.now ≤ 65535 }
-    ensures puts { WhereTold (T.told tree.old) (λ t. Puts result (frame_bytes (FileFrame path.now (content_in t path.now))) (W.held out.old) (W.held out.new)) }
+    ensures puts { WhereTold (T.told tree.old)
+        (λ t. Puts result (frame_bytes (FileFrame path.now (content_in t path.now))) (W.held out.old)
+        (W.held out.new)) }
     ensures outline { PutsFrames result (Record.File path.now ∷ []) (W.held out.old) (W.held out.new) }
     ensures writes { Writes result (T.told tree.old) (T.told tree.new) (W.faults out.old) (W.faults out.new) }
 {
@@ -84,8 +88,11 @@ fn write_frame<T: Tree, W: Sink>(
 ) -> Result<(), PackError>
     requires path { length path.now ≤ 65535 }
     requires target { length target.now ≤ 65535 }
-    ensures puts { WhereTold (T.told tree.old) (λ t. Puts result (frame_bytes (frame_at t rank (path.now, target.now))) (W.held out.old) (W.held out.new)) }
-    ensures outline { PutsFrames result (record_at rank (path.now, target.now) ∷ []) (W.held out.old) (W.held out.new) }
+    ensures puts { WhereTold (T.told tree.old)
+        (λ t. Puts result (frame_bytes (frame_at t rank (path.now, target.now))) (W.held out.old)
+        (W.held out.new)) }
+    ensures outline { PutsFrames result (record_at rank (path.now, target.now) ∷ []) (W.held out.old)
+        (W.held out.new) }
     ensures writes { Writes result (T.told tree.old) (T.told tree.new) (W.faults out.old) (W.faults out.new) }
 {
     if rank == 0 {
@@ -109,8 +116,11 @@ fn write_group<T: Tree, W: Sink>(
     entries: &Entries,
 ) -> Result<(), PackError>
     requires { EntriesFit (texts_of entries.now.entries) }
-    ensures puts { WhereTold (T.told tree.old) (λ t. Puts result (group_bytes t rank (texts_of entries.now.entries)) (W.held out.old) (W.held out.new)) }
-    ensures outline { PutsFrames result (map (record_at rank) (texts_of entries.now.entries)) (W.held out.old) (W.held out.new) }
+    ensures puts { WhereTold (T.told tree.old)
+        (λ t. Puts result (group_bytes t rank (texts_of entries.now.entries)) (W.held out.old)
+        (W.held out.new)) }
+    ensures outline { PutsFrames result (map (record_at rank) (texts_of entries.now.entries)) (W.held out.old)
+        (W.held out.new) }
     ensures writes { Writes result (T.told tree.old) (T.told tree.new) (W.faults out.old) (W.faults out.new) }
 {
     for (path, target) in entries {
@@ -131,8 +141,11 @@ fn write_links<T: Tree, W: Sink>(
     links: &Entries,
 ) -> Result<(), PackError>
     requires { EntriesFit (texts_of links.now.entries) }
-    ensures puts { WhereTold (T.told tree.old) (λ t. Puts result (group_bytes t 2 (texts_of links.now.entries) ++ 69 ∷ []) (W.held out.old) (W.held out.new)) }
-    ensures outline { PutsPackage result (map (record_at 2) (texts_of links.now.entries)) (W.held out.old) (W.held out.new) }
+    ensures puts { WhereTold (T.told tree.old)
+        (λ t. Puts result (group_bytes t 2 (texts_of links.now.entries) ++ 69 ∷ []) (W.held out.old)
+        (W.held out.new)) }
+    ensures outline { PutsPackage result (map (record_at 2) (texts_of links.now.entries)) (W.held out.old)
+        (W.held out.new) }
     ensures writes { Writes result (T.told tree.old) (T.told tree.new) (W.faults out.old) (W.faults out.new) }
 {
     match write_group(alloc, tree, out, 2, links) {
@@ -152,8 +165,11 @@ fn write_files<T: Tree, W: Sink>(
 ) -> Result<(), PackError>
     requires files { EntriesFit (texts_of files.now.entries) }
     requires links { EntriesFit (texts_of links.now.entries) }
-    ensures puts { WhereTold (T.told tree.old) (λ t. Puts result (group_bytes t 1 (texts_of files.now.entries) ++ (group_bytes t 2 (texts_of links.now.entries) ++ 69 ∷ [])) (W.held out.old) (W.held out.new)) }
-    ensures outline { PutsPackage result (map (record_at 1) (texts_of files.now.entries) ++ map (record_at 2) (texts_of links.now.entries)) (W.held out.old) (W.held out.new) }
+    ensures puts { WhereTold (T.told tree.old)
+        (λ t. Puts result (group_bytes t 1 (texts_of files.now.entries) ++
+        (group_bytes t 2 (texts_of links.now.entries) ++ 69 ∷ [])) (W.held out.old) (W.held out.new)) }
+    ensures outline { PutsPackage result (map (record_at 1) (texts_of files.now.entries) ++ map (record_at 2)
+        (texts_of links.now.entries)) (W.held out.old) (W.held out.new) }
     ensures writes { Writes result (T.told tree.old) (T.told tree.new) (W.faults out.old) (W.faults out.new) }
 {
     match write_group(alloc, tree, out, 1, files) {
@@ -175,8 +191,14 @@ fn write_entries<T: Tree, W: Sink>(
     requires dirs { EntriesFit (texts_of dirs.now.entries) }
     requires files { EntriesFit (texts_of files.now.entries) }
     requires links { EntriesFit (texts_of links.now.entries) }
-    ensures puts { WhereTold (T.told tree.old) (λ t. Puts result (group_bytes t 0 (texts_of dirs.now.entries) ++ (group_bytes t 1 (texts_of files.now.entries) ++ (group_bytes t 2 (texts_of links.now.entries) ++ 69 ∷ []))) (W.held out.old) (W.held out.new)) }
-    ensures outline { PutsPackage result (map (record_at 0) (texts_of dirs.now.entries) ++ (map (record_at 1) (texts_of files.now.entries) ++ map (record_at 2) (texts_of links.now.entries))) (W.held out.old) (W.held out.new) }
+    ensures puts { WhereTold (T.told tree.old)
+        (λ t. Puts result (group_bytes t 0 (texts_of dirs.now.entries) ++
+        (group_bytes t 1 (texts_of files.now.entries) ++
+        (group_bytes t 2 (texts_of links.now.entries) ++ 69 ∷ []))) (W.held out.old) (W.held out.new)) }
+    ensures outline { PutsPackage result
+        (map (record_at 0) (texts_of dirs.now.entries) ++
+        (map (record_at 1) (texts_of files.now.entries) ++ map (record_at 2) (texts_of links.now.entries)))
+        (W.held out.old) (W.held out.new) }
     ensures writes { Writes result (T.told tree.old) (T.told tree.new) (W.faults out.old) (W.faults out.new) }
 {
     match write_group(alloc, tree, out, 0, dirs) {
@@ -194,7 +216,8 @@ pub(crate) fn write_package<T: Tree, W: Sink>(
     records: &[Record],
 ) -> Result<(), PackError>
     requires { RecordsFit records.now }
-    ensures puts { WhereTold (T.told tree.old) (λ t. Puts result (framed t records.now) (W.held out.old) (W.held out.new)) }
+    ensures puts { WhereTold (T.told tree.old)
+        (λ t. Puts result (framed t records.now) (W.held out.old) (W.held out.new)) }
     ensures outline { PutsPackage result (written_order records.now) (W.held out.old) (W.held out.new) }
     ensures writes { Writes result (T.told tree.old) (T.told tree.new) (W.faults out.old) (W.faults out.new) }
 {

@@ -1,5 +1,6 @@
-//! Paths made simple over one tree, with links that are relative, absolute, in parents and in cycles of one, two and
-//! forty-one. A row is the path, what it is without recording, what it is with it, and the links that are then recorded.
+//! Paths made simple over one tree, with links that are relative, absolute, in parents and in cycles of one,
+//! two and forty-one. A row is the path, what it is without recording, what it is with it, and the links that
+//! are then recorded.
 use crate::trees::tree;
 use path_pkg::fault::PackError;
 use path_pkg::mem_tree::MemTree;

@@ -1,5 +1,5 @@
-//! The tree of a system whose every call is refused: want of memory is Memory, a name that is not UTF-8 is NotUtf8, and
-//! all else is Failed, where it does not say that nothing is there.
+//! The tree of a system whose every call is refused: want of memory is Memory, a name that is not UTF-8 is
+//! NotUtf8, and all else is Failed, where it does not say that nothing is there.
 use path_pkg::fault::TreeFault;
 use path_pkg::node::Kind;
 use path_pkg::real_tree::RealTree;

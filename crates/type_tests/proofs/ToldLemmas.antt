@@ -1,5 +1,6 @@
 -- Two calls over a dialer that was lent.
-use Rattle.std.proofs.Common.{◌≡◌, ◌≢◌, List, [], ◌∷◌, ◌++◌, Option, Some, None, Err, ap, ◌∙◌, subst, append_assoc}
+use Rattle.std.proofs.Common.{◌≡◌, ◌≢◌, List, [], ◌∷◌, ◌++◌, Option, Some, None, Err, ap, ◌∙◌, subst}
+use Rattle.std.proofs.Common.{append_assoc}
 use Rattle.std.specs.Prelude.{ℕ, IfSome, Result}
 use Rattle.dist_types.specs.Outgoing.{Lent, Calls, Sends, updated_row}
 use Rattle.dist_types.specs.declared.dialer.Asked.{Asked}

@@ -1,5 +1,6 @@
 -- A state that is told over a dialer: its request, and what the reply says.
-use Rattle.std.specs.Prelude.{◌≡◌, ◌≢◌, ℕ, List, [], ◌∷◌, ◌++◌, codes, bytes_eq, Option, Some, IfSome, Result, Ok, Err, if◌then◌else◌}
+use Rattle.std.specs.Prelude.{◌≡◌, ◌≢◌, ℕ, List, [], ◌∷◌, ◌++◌, codes, bytes_eq, Option, Some, IfSome, Result}
+use Rattle.std.specs.Prelude.{Ok, Err, if◌then◌else◌}
 use Rattle.std.specs.Fmt.{decimal}
 use Rattle.dist_types.specs.Ids.{state_text}
 use Rattle.dist_types.specs.Outgoing.{Updated, Peer, Lent, Calls, updated_row}

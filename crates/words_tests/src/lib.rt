@@ -1,4 +1,5 @@
-//! Lists of words, and whether each stands in a row of the command line. Tests alone; nothing above uses this crate.
+//! Lists of words, and whether each stands in a row of the command line. Tests alone; nothing above uses this
+//! crate.
 #![tactic(auto)]
 
 #[cfg(test)]

@@ -1,5 +1,5 @@
-//! The rows: words behind the program's name, and whether they stand in a row. The first seventy-three are those of
-//! `tests/command-lines`.
+//! The rows: words behind the program's name, and whether they stand in a row. The first seventy-three are
+//! those of `tests/command-lines`.
 use farm_words::asked::asked_by;
 use farm_words::option_words::options_in;
 use std::alloc::Global;

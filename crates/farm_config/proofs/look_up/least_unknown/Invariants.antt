@@ -7,5 +7,6 @@ use Rattle.farm_config.proofs.look_up.least_unknown.Given as goal
 
 abbrev pub invariant-loop-key : goal.invariant-loop-key
 invariant-loop-key l =
-    least_from (map (λ name. name.now) l.known) (option_map (λ k. k.now) l.least) (members_view l.key-iterator)
+    least_from (map (λ name. name.now) l.known) (option_map (λ k. k.now) l.least)
+    (members_view l.key-iterator)
     ≡ least_from (map (λ name. name.now) l.known) None (members_view l.table.entries)

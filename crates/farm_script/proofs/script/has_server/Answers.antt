@@ -7,5 +7,6 @@ use Rattle.farm_script.proofs.script.has_server.Goals as goal
 
 pub returns : goal.returns
 returns c =
-    let at : c.place_of.result ≡ position (λ s. same_addr s.addr c.args.addr.now) c.args.servers.now = c.place_of.ensures in
+    let at : c.place_of.result ≡ position (λ s. same_addr s.addr c.args.addr.now) c.args.servers.now =
+    c.place_of.ensures in
     c.is_some.ensures ∙ ap (λ (o : Option ℕ). is_some o) at ∙ there c.args.addr.now c.args.servers.now

@@ -9,23 +9,30 @@ pub returns-in-Err : goal.returns-in-Err
 returns-in-Err c =
     let some : 0 < length c.loop-rest.rest.now = grind (arith, nat_tests) in
     let told : Tells c.in-Err.fault (script c.args.bytes.now) =
-    line_stop c.in-Err.fault c.loop-rest.number c.loop-rest.room (read_of c.loop-rest.reading) c.loop-rest.rest.now c.split_at.result.0.now c.split_at.result.1.now c.first_len.result (script c.args.bytes.now)
-    some c.first_len.ensures.len c.split_at.ensures.front c.split_at.ensures.back c.in-Err.ensures.exact c.loop-rest.invariant.same in
+    line_stop c.in-Err.fault c.loop-rest.number c.loop-rest.room
+    (read_of c.loop-rest.reading) c.loop-rest.rest.now c.split_at.result.0.now c.split_at.result.1.now
+    c.first_len.result (script c.args.bytes.now)
+    some c.first_len.ensures.len c.split_at.ensures.front c.split_at.ensures.back c.in-Err.ensures.exact
+    c.loop-rest.invariant.same in
     record { exact = told; says = tt; faulty = told_faulty c.in-Err.fault c.args.bytes.now told; setup = tt }
 
 -- what was read to the end
 gives : goal.returns-clause-exact
 gives c =
     let none : length c.loop-rest.rest.now ≡ 0 = grind (arith, nat_tests) in
-    let e = at_end c.loop-rest.number c.loop-rest.room (read_of c.loop-rest.reading) c.loop-rest.rest.now (script c.args.bytes.now) none c.loop-rest.invariant.same in
+    let e = at_end c.loop-rest.number c.loop-rest.room (read_of c.loop-rest.reading) c.loop-rest.rest.now
+    (script c.args.bytes.now) none c.loop-rest.invariant.same in
     subst (λ (done : Done). GivesScript (λ x. (x.0, x.1.items)) c.finish.result done) e c.finish.ensures
 
 pub loop-rest-preserved : goal.loop-rest-preserved
 loop-rest-preserved c =
     let some : 0 < length c.loop-rest.rest.now = grind (arith, nat_tests) in
     record {
-      same = line_step c.loop-rest.number c.loop-rest.room (read_of c.loop-rest.reading) (read_of c.in-Ok.next) c.loop-rest.rest.now c.split_at.result.0.now c.split_at.result.1.now c.first_len.result (script c.args.bytes.now)
-          some c.first_len.ensures.len c.split_at.ensures.front c.split_at.ensures.back c.in-Ok.ensures.exact c.loop-rest.invariant.same;
+      same = line_step c.loop-rest.number c.loop-rest.room (read_of c.loop-rest.reading)
+          (read_of c.in-Ok.next) c.loop-rest.rest.now c.split_at.result.0.now c.split_at.result.1.now
+          c.first_len.result (script c.args.bytes.now)
+          some c.first_len.ensures.len c.split_at.ensures.front c.split_at.ensures.back c.in-Ok.ensures.exact
+          c.loop-rest.invariant.same;
       within = omega (arith, c.in-Ok.ensures.number);
     }
 

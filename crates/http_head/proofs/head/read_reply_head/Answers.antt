@@ -14,7 +14,8 @@ returns-in_err-reply-clause-err c =
     let p = err_from_is_err_and c.from_residual.result c.from_residual.ensures.1 in
     rw (p.1, p.2) (
       _,
-      is_reply c.args.bytes.now c.after-body.result.now c.parse_reply_head.new.head c.unwrap-code.result c.in-Some.len
+      is_reply c.args.bytes.now c.after-body.result.now c.parse_reply_head.new.head c.unwrap-code.result
+          c.in-Some.len
           (rw c.in-Some.is at c.parse_reply_head.ensures) c.unwrap-code.ensures c.after-body.ensures
           (sym c.allows.ensures ∙ c.if-not-allows.false),
     )
@@ -22,6 +23,7 @@ returns-in_err-reply-clause-err c =
 pub returns-clause-ok : goal.returns-clause-ok
 returns-clause-ok c =
     rw c.in_ok-reply.ensures
-    (is_reply c.args.bytes.now c.after-body.result.now c.parse_reply_head.new.head c.unwrap-code.result c.in-Some.len
+    (is_reply c.args.bytes.now c.after-body.result.now c.parse_reply_head.new.head c.unwrap-code.result
+    c.in-Some.len
     (rw c.in-Some.is at c.parse_reply_head.ensures) c.unwrap-code.ensures c.after-body.ensures
     (sym c.allows.ensures ∙ c.if-not-allows.false))

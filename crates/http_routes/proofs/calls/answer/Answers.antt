@@ -3,20 +3,25 @@ use Rattle.http_routes.proofs.calls.answer.Goals as goal
 
 pub unreachable-requires : goal.unreachable-requires
 unreachable-requires g c =
-    none_other g.M.Codec.at c.args.reply.now c.read_reply.result c.in-Err-BadHead.field-0 _ c.read_reply.ensures c.in-Err-BadHead.is c.in-Err-BadHead.field-0-is (tt {0})
+    none_other g.M.Codec.at c.args.reply.now c.read_reply.result c.in-Err-BadHead.field-0 _
+    c.read_reply.ensures c.in-Err-BadHead.is c.in-Err-BadHead.field-0-is (tt {0})
 
 pub unreachable-requires-in-Err-WrongContentType : goal.unreachable-requires-in-Err-WrongContentType
 unreachable-requires-in-Err-WrongContentType g c =
-    none_other g.M.Codec.at c.args.reply.now c.read_reply.result c.in-Err-WrongContentType.field-0 _ c.read_reply.ensures c.in-Err-WrongContentType.is c.in-Err-WrongContentType.field-0-is (tt {0})
+    none_other g.M.Codec.at c.args.reply.now c.read_reply.result c.in-Err-WrongContentType.field-0 _
+    c.read_reply.ensures c.in-Err-WrongContentType.is c.in-Err-WrongContentType.field-0-is (tt {0})
 
 pub unreachable-requires-in-Err-BadRealIp : goal.unreachable-requires-in-Err-BadRealIp
 unreachable-requires-in-Err-BadRealIp g c =
-    none_other g.M.Codec.at c.args.reply.now c.read_reply.result c.in-Err-BadRealIp.field-0 _ c.read_reply.ensures c.in-Err-BadRealIp.is c.in-Err-BadRealIp.field-0-is (tt {0})
+    none_other g.M.Codec.at c.args.reply.now c.read_reply.result c.in-Err-BadRealIp.field-0 _
+    c.read_reply.ensures c.in-Err-BadRealIp.is c.in-Err-BadRealIp.field-0-is (tt {0})
 
 pub unreachable-requires-in-Err-NoRoute : goal.unreachable-requires-in-Err-NoRoute
 unreachable-requires-in-Err-NoRoute g c =
-    none_other g.M.Codec.at c.args.reply.now c.read_reply.result c.in-Err-NoRoute.field-0 _ c.read_reply.ensures c.in-Err-NoRoute.is c.in-Err-NoRoute.field-0-is (tt {0})
+    none_other g.M.Codec.at c.args.reply.now c.read_reply.result c.in-Err-NoRoute.field-0 _
+    c.read_reply.ensures c.in-Err-NoRoute.is c.in-Err-NoRoute.field-0-is (tt {0})
 
 pub unreachable-requires-in-Err-Unauthorised : goal.unreachable-requires-in-Err-Unauthorised
 unreachable-requires-in-Err-Unauthorised g c =
-    none_other g.M.Codec.at c.args.reply.now c.read_reply.result c.in-Err-Unauthorised.field-0 _ c.read_reply.ensures c.in-Err-Unauthorised.is c.in-Err-Unauthorised.field-0-is (tt {0})
+    none_other g.M.Codec.at c.args.reply.now c.read_reply.result c.in-Err-Unauthorised.field-0 _
+    c.read_reply.ensures c.in-Err-Unauthorised.is c.in-Err-Unauthorised.field-0-is (tt {0})

@@ -11,11 +11,17 @@ returns-in-Ok-clause-records g c = λ t e.
     let next = ap (λ w. w.nodes) c.in_ok-paths.ensures.leaves ∙ e in
     let same = ap (paths_below t) (c.as_str.ensures.value ∙ c.in_ok-path.ensures) in
     gives_same (λ v. v.items) _ _ c.checked.result
-    (sym (found_there t (spot_of c.args.place.now) _ _ _ (c.in_ok-links.ensures ∙ ap link_records c.deref.ensures.value) (ap (map string_bytes) c.deref-2.ensures.value ∙ c.in_ok-paths.ensures.paths t e ∙ same) (c.in-Ok.ensures.records t next)))
+    (sym (found_there t (spot_of c.args.place.now) _ _ _
+    (c.in_ok-links.ensures ∙ ap link_records c.deref.ensures.value)
+    (ap (map string_bytes) c.deref-2.ensures.value ∙ c.in_ok-paths.ensures.paths t e ∙ same)
+    (c.in-Ok.ensures.records t next)))
     c.checked.ensures.records
 
 pub returns-clause-records : goal.returns-clause-records
 returns-clause-records g c = λ t e d.
     let next = ap (λ w. w.nodes) c.in_ok-paths.ensures.leaves ∙ e in
     let same = ap (paths_below t) (c.as_str.ensures.value ∙ c.in_ok-path.ensures) in
-    found_there t (spot_of c.args.place.now) _ _ _ (c.in_ok-links.ensures ∙ ap link_records c.deref.ensures.value) (ap (map string_bytes) c.deref-2.ensures.value ∙ c.in_ok-paths.ensures.paths t e ∙ same) (c.in-Err.ensures.records t next d)
+    found_there t (spot_of c.args.place.now) _ _ _
+    (c.in_ok-links.ensures ∙ ap link_records c.deref.ensures.value)
+    (ap (map string_bytes) c.deref-2.ensures.value ∙ c.in_ok-paths.ensures.paths t e ∙ same)
+    (c.in-Err.ensures.records t next d)

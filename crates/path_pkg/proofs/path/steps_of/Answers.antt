@@ -8,9 +8,12 @@ use Rattle.path_pkg.proofs.path.steps_of.Goals as goal
 
 pub loop-piece-preserved : goal.loop-piece-preserved
 loop-piece-preserved c =
-    made_more step_in (λ p. p.now) c.loop-piece.yielded c.in-Some.piece _ _ _ c.in_ok-push_some.ensures c.in_ok-step.ensures c.loop-piece.invariant
+    made_more step_in (λ p. p.now) c.loop-piece.yielded c.in-Some.piece _ _ _ c.in_ok-push_some.ensures
+    c.in_ok-step.ensures c.loop-piece.invariant
 
 pub returns : goal.returns
 unfolding steps_of
 returns c =
-    c.loop-piece.invariant ∙ ap (filter_map step_in) (YieldsList-end (YieldsList-from_str_split 47 c.args.path.now (lit< tt) (cc) (cc) (cc)) c.loop-piece.yielded _ c.loop-piece.yielded_by _ _ c.in-None.is c.next.ensures.steps).0
+    c.loop-piece.invariant ∙ ap (filter_map step_in)
+    (YieldsList-end (YieldsList-from_str_split 47 c.args.path.now (lit< tt) (cc) (cc) (cc))
+    c.loop-piece.yielded _ c.loop-piece.yielded_by _ _ c.in-None.is c.next.ensures.steps).0

@@ -5,7 +5,9 @@ use Rattle.path_pkg.proofs.recorded.simplify_recorded.Goals as goal
 
 pub returns-in_ok-record_all-in-Ok-clause-simplified : goal.returns-in_ok-record_all-in-Ok-clause-simplified
 returns-in_ok-record_all-in-Ok-clause-simplified g c = λ t e.
-    simple_ok true t c.args.path.now _ (c.in-Ok.ensures.simplified t e) ∙ ap (λ (x : List ℕ). Ok x) (sym c.in_ok-simple-in-Ok.ensures)
+    simple_ok true t c.args.path.now _ (c.in-Ok.ensures.simplified t e) ∙ ap (λ (x : List ℕ). Ok x)
+    (sym c.in_ok-simple-in-Ok.ensures)
 
 pub returns-in-Err-clause-simplified : goal.returns-in-Err-clause-simplified
-returns-in-Err-clause-simplified g c = λ t e d. simple_err true t c.args.path.now _ (c.in-Err.ensures.simplified t e d)
+returns-in-Err-clause-simplified g c = λ t e d. simple_err true t c.args.path.now _
+    (c.in-Err.ensures.simplified t e d)

@@ -11,7 +11,9 @@ decreases-take g l = l.left
 abbrev pub invariant-loop-step : goal.invariant-loop-step
 invariant-loop-step g l = record {
   told : g.T.LinkLookup.told l.tree ≡ g.T.LinkLookup.told l.initial.tree;
-  same : (t : Nodes) → (g.T.LinkLookup.told l.tree).nodes ≡ Some t → taken l.left t l.recording (spot_of l.place) l.todo.items ≡ taken l.left t l.recording (spot_of l.fn.place) l.fn.todo.items;
+  same : (t : Nodes) → (g.T.LinkLookup.told l.tree).nodes ≡ Some t
+      → taken l.left t l.recording (spot_of l.place) l.todo.items ≡ taken l.left t l.recording
+      (spot_of l.fn.place) l.fn.todo.items;
 }
 
 abbrev pub decreases-loop-step : goal.decreases-loop-step

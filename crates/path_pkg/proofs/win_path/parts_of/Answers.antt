@@ -8,4 +8,5 @@ use Rattle.path_pkg.proofs.win_path.parts_of.Goals as goal
 pub returns : goal.returns
 returns c =
     c.loop-piece.invariant ∙ ap (flat_map (λ piece. filter is_full (slice_split (λ b. b == 47) piece)))
-    (YieldsList-end (YieldsList-from_str_split 92 c.args.path.now (lit< tt) (cc) (cc) (cc)) c.loop-piece.yielded _ c.loop-piece.yielded_by _ _ c.in-None.is c.next.ensures.steps).0
+    (YieldsList-end (YieldsList-from_str_split 92 c.args.path.now (lit< tt) (cc) (cc) (cc))
+    c.loop-piece.yielded _ c.loop-piece.yielded_by _ _ c.in-None.is c.next.ensures.steps).0

@@ -7,4 +7,6 @@ pub after-requires : goal.after-requires
 after-requires c = verbatim_ascii c.args.path.now c.requires
 
 pub disk_path-requires : goal.disk_path-requires
-disk_path-requires c = ap is_ascii_alphabetic (c.byte.ensures ∙ ap (λ p. slice_index p 4) c.as_bytes.ensures.value) ∙ verbatim_letter c.args.path.now c.requires
+disk_path-requires c = ap is_ascii_alphabetic
+    (c.byte.ensures ∙ ap (λ p. slice_index p 4) c.as_bytes.ensures.value)
+    ∙ verbatim_letter c.args.path.now c.requires

@@ -6,8 +6,10 @@ use Rattle.path_pkg.proofs.windows.push_plain_disks.Goals as goal
 
 pub loop-letter-preserved : goal.loop-letter-preserved
 loop-letter-preserved c =
-    plain_more (texts_of c.args.mapped.now.entries) (pairs_of c.loop-letter.pairs.items) _ _ c.loop-letter.letter _ _ (omega arith) c.in_ok-push_plain.ensures c.loop-letter.invariant
+    plain_more (texts_of c.args.mapped.now.entries) (pairs_of c.loop-letter.pairs.items) _ _
+    c.loop-letter.letter _ _ (omega arith) c.in_ok-push_plain.ensures c.loop-letter.invariant
 
 pub returns : goal.returns
 returns c =
-    plain_done (texts_of c.args.mapped.now.entries) (pairs_of c.loop-letter.pairs.items) _ c.loop-letter.letter _ (omega arith) c.loop-letter.invariant
+    plain_done (texts_of c.args.mapped.now.entries) (pairs_of c.loop-letter.pairs.items) _
+    c.loop-letter.letter _ (omega arith) c.loop-letter.invariant

@@ -5,5 +5,6 @@ use Rattle.path_pkg.proofs.windows.push_plain_disks.Given as goal
 
 abbrev pub invariant-loop-letter : goal.invariant-loop-letter
 invariant-loop-letter l =
-    pairs_of l.pairs.items ++ plain_mappings (texts_of l.mapped.entries) (letters_from l.letter (91 - l.letter))
+    pairs_of l.pairs.items ++ plain_mappings (texts_of l.mapped.entries)
+    (letters_from l.letter (91 - l.letter))
     ≡ pairs_of l.initial.pairs.items ++ plain_mappings (texts_of l.mapped.entries) (letters_from 65 26)

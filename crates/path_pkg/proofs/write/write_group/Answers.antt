@@ -14,17 +14,21 @@ loop-path-preserved g c =
       fit = fit_rest _ _ _ rest c.loop-path.invariant.fit;
       so_far = λ t e.
           let here = ap (λ w. w.nodes) (sym writes.0) ∙ e in
-          group_more t c.args.rank _ _ _ _ _ _ _ _ _ _ rest c.as_str.ensures.value c.get.ensures.text (c.loop-path.invariant.so_far t here) (c.in-Ok.ensures.puts t here);
-      some = one_so_far _ c.args.rank _ _ _ _ _ _ _ _ _ _ rest c.as_str.ensures.value c.get.ensures.text c.loop-path.invariant.some c.in-Ok.ensures.outline;
+          group_more t c.args.rank _ _ _ _ _ _ _ _ _ _ rest c.as_str.ensures.value c.get.ensures.text
+          (c.loop-path.invariant.so_far t here) (c.in-Ok.ensures.puts t here);
+      some = one_so_far _ c.args.rank _ _ _ _ _ _ _ _ _ _ rest c.as_str.ensures.value c.get.ensures.text
+          c.loop-path.invariant.some c.in-Ok.ensures.outline;
     }
 
 pub returns-in-Err-clause-puts : goal.returns-in-Err-clause-puts
 returns-in-Err-clause-puts g c = λ t e.
     let here = ap (λ w. w.nodes) c.loop-path.invariant.told ∙ e in
     let rest = ap texts_of c.in-Some.ensures.steps in
-    group_began t c.args.rank _ _ _ _ _ _ _ _ _ _ rest c.as_str.ensures.value c.get.ensures.text (c.loop-path.invariant.so_far t here) (c.in-Err.ensures.puts t here)
+    group_began t c.args.rank _ _ _ _ _ _ _ _ _ _ rest c.as_str.ensures.value c.get.ensures.text
+    (c.loop-path.invariant.so_far t here) (c.in-Err.ensures.puts t here)
 
 pub returns-in-Err-clause-outline : goal.returns-in-Err-clause-outline
 returns-in-Err-clause-outline g c =
     let rest = ap texts_of c.in-Some.ensures.steps in
-    stopped_so_far c.in-Err.fault c.args.rank _ _ _ _ _ _ _ _ _ _ rest c.as_str.ensures.value c.get.ensures.text c.loop-path.invariant.some c.in-Err.ensures.outline
+    stopped_so_far c.in-Err.fault c.args.rank _ _ _ _ _ _ _ _ _ _ rest c.as_str.ensures.value
+    c.get.ensures.text c.loop-path.invariant.some c.in-Err.ensures.outline

@@ -11,6 +11,8 @@ invariant-loop-path g l = record {
   steady : g.W.Sink.faults l.out ≡ g.W.Sink.faults l.initial.out;
   fit : EntriesFit (texts_of l.path-iterator);
   so_far : (t : Nodes) → (g.T.Links.told l.tree).nodes ≡ Some t
-      → (done : List ℕ) × (done ++ group_bytes t l.rank (texts_of l.path-iterator) ≡ group_bytes t l.rank (texts_of l.entries.entries)) × Added done (g.W.Sink.held l.initial.out) (g.W.Sink.held l.out);
-  some : FramesSoFar l.rank (texts_of l.path-iterator) (texts_of l.entries.entries) (g.W.Sink.held l.initial.out) (g.W.Sink.held l.out);
+      → (done : List ℕ) × (done ++ group_bytes t l.rank (texts_of l.path-iterator) ≡ group_bytes t l.rank
+      (texts_of l.entries.entries)) × Added done (g.W.Sink.held l.initial.out) (g.W.Sink.held l.out);
+  some : FramesSoFar l.rank (texts_of l.path-iterator) (texts_of l.entries.entries)
+      (g.W.Sink.held l.initial.out) (g.W.Sink.held l.out);
 }

@@ -5,11 +5,13 @@ use Rattle.path_pkg.proofs.write.write_package.Goals as goal
 pub returns-clause-puts : goal.returns-clause-puts
 returns-clause-puts g c = λ t e.
     puts_same c.write_entries.result _ _ _ _
-    (framed_is t c.args.records.now _ _ _ c.in_ok-dirs.ensures.sorted c.in_ok-files.ensures.sorted c.in_ok-links.ensures.sorted)
+    (framed_is t c.args.records.now _ _ _ c.in_ok-dirs.ensures.sorted c.in_ok-files.ensures.sorted
+    c.in_ok-links.ensures.sorted)
     (c.write_entries.ensures.puts t e)
 
 pub returns-clause-outline : goal.returns-clause-outline
 returns-clause-outline g c =
     same_package c.write_entries.result _ _ _ _
-    (package_is c.args.records.now _ _ _ c.in_ok-dirs.ensures.sorted c.in_ok-files.ensures.sorted c.in_ok-links.ensures.sorted)
+    (package_is c.args.records.now _ _ _ c.in_ok-dirs.ensures.sorted c.in_ok-files.ensures.sorted
+    c.in_ok-links.ensures.sorted)
     c.write_entries.ensures.outline
