@@ -58,8 +58,11 @@ use Rattle.http_routes.proofs.SenderLemmas.{job_shown}
 use Rattle.http_routes.proofs.ServerLemmas.{one_question as one_server_question}
 use Rattle.http_routes.proofs.StepLemmas.{ok_step, two_ok}
 use Rattle.build_server.specs.Books.{held_for}
-use Rattle.build_server.specs.Builds.{ran_of, built_of}
-use Rattle.build_server.specs.Rules.{assign_verdict}
+use Rattle.build_server.specs.Builds.{Order, ran_of, built_of}
+use Rattle.build_server.specs.Rules.{assign_verdict, Finds}
+use Rattle.build_server.specs.declared.run.Taken.{Taken}
+use Rattle.build_server.specs.declared.run.Taken.TheVariants as takes
+use Rattle.farm_script.specs.declared.setup.BuilderLine.{BuilderLine}
 use Rattle.build_server.specs.declared.fault.ServerFault.{ServerFault}
 use Rattle.build_server.specs.declared.run.Outcome.{Outcome}
 use Rattle.build_server.specs.declared.run.Outcome.TheVariants as outcome
@@ -87,15 +90,17 @@ use Rattle.farm_run.specs.Builds.{SettlesCall, build_by, IsBuild, AreBuiltOnce, 
 use Rattle.farm_run.specs.Calls.{call_at, delivered_by, delivery_at, settles_by, is_void, waiting_at}
 use Rattle.farm_run.specs.Effects.{word_effect, effect_of, entry_of}
 use Rattle.farm_run.specs.Farm.{Farmed, Runs}
-use Rattle.farm_run.specs.Next.{GoesOn, IsSettled, IsMade, IsNext, EachNext, IsRun}
+use Rattle.farm_run.proofs.RunLemmas.{Runs-is}
+use Rattle.farm_run.specs.Next.{GoesOn, IsSettled, IsMade, IsNext, EachNext, steady, IsRun}
 use Rattle.farm_run.specs.Seen.{core_log, core_of, serves}
-use Rattle.farm_run.specs.Served.{assigned, served, told_of, books_of, state_call, run_outcome}
+use Rattle.farm_run.specs.Served.{assigned, served, told_of, books_of, state_call, opening_effect}
+use Rattle.farm_run.specs.Weather.{Crew, listed, handed, Outside, Weather, calm, between, books_in, order_of, Ends, Works}
+use Rattle.lru_disk_cache.specs.Archives.{Archives}
 use Rattle.farm_run.specs.Servers.{ServerNow, server_of, server_at, server_now, is_over}
-use Rattle.farm_run.specs.Settled.{IsUpdated, assignment_end, running, ready_end, started_end, complete_end, Reports, Lives, ReportsIn}
+use Rattle.farm_run.specs.Settled.{IsUpdated, assignment_end, running, ReadyEnds, StartedEnds, complete_end, Reports, Lives, ReportsIn}
 use Rattle.farm_run.specs.Ways.{Way, server_way, caller_by, caller_of, target_of, delivery_way, return_way, is_inside, beat_way, restart_way, way_of, brought_at, to_nothing, to_nobody, to_scheduler, to_server, to_call, to_beat, to_restart}
 use Rattle.farm_run.proofs.NextLemmas.{settles_it, way_settles, runs_lawful}
 use Rattle.farm_run.proofs.ReportLemmas.{state_asked, told_accepted}
-use Rattle.farm_run.proofs.RunLemmas.{Runs-is}
 use Rattle.farm_run.proofs.ServerLemmas.{server_setup}
 use Rattle.farm_run.proofs.SettleLemmas.{take_take, get_front, get_take, next_at, each_front, settled_once}
 use Rattle.farm_run.proofs.StartedLemmas.{starts_by, once, was_ready}
@@ -188,16 +193,39 @@ ran_told addr server j job (outcome.Folder tc) e = absurd cc
 ran_told addr server j job (outcome.Built tc result) e = let p = same_Some _ _ e in (ap (λ (q : Addr × JobId). q.0) p, ap (λ (q : Addr × JobId). q.1) p)
 ran_told addr server j job (outcome.Refused tc) e = let p = same_Some _ _ e in (ap (λ (q : Addr × JobId). q.0) p, ap (λ (q : Addr × JobId). q.1) p)
 
-started_told : (setup : Setup) (s : ServerNow) (server : Addr) (j job : JobId) (outputs : List (List ℕ)) (inputs : List ℕ) (o : Option (List ℕ))
-    → Tells (running setup s.setup.addr j (run_outcome s o outputs inputs)) server job → (tc : List ℕ) × (o ≡ Some tc) × (s.setup.addr ≡ server) × (j ≡ job)
-started_told setup s server j job outputs inputs None e = absurd cc
-started_told setup s server j job outputs inputs (Some tc) e =
-    let p = ran_told s.setup.addr server j job (run_outcome s (Some tc) outputs inputs) e in
+-- a builder that was not asked is told of no run
+none_ends : (new crew : Crew) (line : Option BuilderLine) (order : Order) (went : Outcome) → Ends crew new line order takes.None went → went ≡ outcome.None
+none_ends new listed line order went ends = let is : Ok outcome.None ≡ Ok went = ends.1 in cc
+none_ends new (handed rows) line order went ends = let is : Ok went ≡ Ok outcome.None = ends.4.1 in cc
+
+none_works : (s : ServerNow) (old new : Outside) (order : Order) (went : Outcome) (t : Taken) → Finds None (books_in s old) (books_in s new) t
+    → Ends old.builder new.builder (slice_get s.setup.builder s.builds) order t went → went ≡ outcome.None
+none_works s old new order went takes.None finds ends = none_ends new.builder old.builder (slice_get s.setup.builder s.builds) order went ends
+none_works s old new order went (takes.Unlisted tc) finds ends = absurd finds
+none_works s old new order went (takes.Folder tc) finds ends = absurd finds
+none_works s old new order went (takes.Read tc archive) finds ends = absurd finds
+
+-- a job that is not held is not run, whatever the weather
+none_held : (w : Weather) (s : ServerNow) (run : RunJobHttpRequest) (inputs : List ℕ) (went : Outcome) → Works w s None run inputs went → went ≡ outcome.None
+none_held calm s run inputs went is = is
+none_held (between old new) s run inputs went is = none_works s old new (order_of run inputs) went is.taken is.finds is.ends
+
+started_told : (w : Weather) (setup : Setup) (s : ServerNow) (server : Addr) (j job : JobId) (run : RunJobHttpRequest) (inputs : List ℕ) (o : Option (List ℕ)) (went : Outcome) → Works w s o run inputs went
+    → Tells (running setup s.setup.addr j went) server job → (tc : List ℕ) × (o ≡ Some tc) × (s.setup.addr ≡ server) × (j ≡ job)
+started_told w setup s server j job run inputs None went is e =
+    let none : Tells (running setup s.setup.addr j outcome.None) server job = subst (λ (x : Outcome). Tells (running setup s.setup.addr j x) server job) (none_held w s run inputs went is) e in
+    absurd cc
+started_told w setup s server j job run inputs (Some tc) went is e =
+    let p = ran_told s.setup.addr server j job went e in
     (tc, refl, p.0, p.1)
 
-ready_quiet : (s : ServerNow) (root : ℕ) (json : Bool) (job : JobId) (archive : List ℕ) (r : Result UpdateJobStateResult CallFault) → built_in (ready_end s root json job archive r).step ≡ None
-ready_quiet s root json job archive (Ok u) = refl
-ready_quiet s root json job archive (Err f) = refl
+ready_quiet : (w : Weather) (s : ServerNow) (root : ℕ) (json : Bool) (job : JobId) (archive : List ℕ) (r : Result UpdateJobStateResult CallFault) (x : Effect) → ReadyEnds w s root json job archive r x → built_in x.step ≡ None
+ready_quiet w s root json job archive (Ok u) x is = ap (λ (y : Effect). built_in y.step) is.2
+ready_quiet w s root json job archive (Err f) x is = ap (λ (y : Effect). built_in y.step) is
+
+opening_quiet : (s : ServerNow) (o : Option Archives) → built_in (opening_effect s o).step ≡ None
+opening_quiet s None = refl
+opening_quiet s (Some archives) = refl
 
 complete_quiet : (addr : Addr) (root : ℕ) (json : Bool) (job : JobId) (o : Outcome) (r : Result UpdateJobStateResult CallFault) → built_in (complete_end addr root json job o r).step ≡ None
 complete_quiet addr root json job o (Ok u) = refl
@@ -259,14 +287,14 @@ not_off : (b : Bool) → not b ≡ false → b ≡ true
 not_off true h = refl
 not_off false h = absurd (false≢true (sym h))
 
-module _ (setup : Setup) (log : List Entry) (at n : ℕ) (reply : Option (List ℕ)) (x : Effect) (server : Addr) (job : JobId) (tells : Tells x server job) where
+module _ (w : Weather) (setup : Setup) (log : List Entry) (at n : ℕ) (reply : Option (List ℕ)) (x : Effect) (server : Addr) (job : JobId) (tells : Tells x server job) where
   module _ (p : Pending) (of_call : IsCallOf setup log n p) where
     module _ (addr : Addr) (life : ℕ) (s : ServerNow) (now : server_now setup log addr ≡ Some s) where
       by_answer : s.life ≡ life → (j : JobId) (run : RunJobHttpRequest) (place : ℕ) → p.ask ≡ Report addr life (told.Started j run place) → (r : Result UpdateJobStateResult CallFault) → IsUpdated reply r
-          → x ≡ started_end setup s p.root j run (drop place (brought_at log p.root)) r → Ended setup log n reply x server job
-      by_answer lives j run place asks (Err f) up same = absurd (quiet x server job (started_end setup s p.root j run (drop place (brought_at log p.root)) (Err f)) tells same refl)
-      by_answer lives j run place asks (Ok u) up same =
-          let d = started_told setup s server j job run.outputs (drop place (brought_at log p.root)) (held_for j s.held) (ap (λ (z : Effect). built_in z.step) (sym same) ∙ tells) in
+          → StartedEnds w setup s p.root j run (drop place (brought_at log p.root)) r x → Ended setup log n reply x server job
+      by_answer lives j run place asks (Err f) up same = absurd (quiet x server job _ tells same refl)
+      by_answer lives j run place asks (Ok u) up (went, works, same) =
+          let d = started_told w setup s server j job run (drop place (brought_at log p.root)) (held_for j s.held) went works (ap (λ (z : Effect). built_in z.step) (sym same) ∙ tells) in
           let addr_is : addr ≡ server = sym (found_now setup log addr s now).own ∙ d.2 in
           record {
             pending = p;
@@ -283,41 +311,41 @@ module _ (setup : Setup) (log : List Entry) (at n : ℕ) (reply : Option (List �
             word = ap (λ (z : Effect). z.word) same;
           }
 
-      by_report : s.life ≡ life → (t : Told) → p.ask ≡ Report addr life t → Reports setup s (brought_at log p.root) p.root p.json reply t x → Ended setup log n reply x server job
+      by_report : s.life ≡ life → (t : Told) → p.ask ≡ Report addr life t → Reports w setup s (brought_at log p.root) p.root p.json reply t x → Ended setup log n reply x server job
       by_report lives (told.Ready j place) asks is =
-          absurd (quiet x server job (ready_end s p.root p.json j (drop place (brought_at log p.root)) is.0) tells is.2 (ready_quiet s p.root p.json j (drop place (brought_at log p.root)) is.0))
+          absurd (quiet x server job x tells refl (ready_quiet w s p.root p.json j (drop place (brought_at log p.root)) is.0 x is.2))
       by_report lives (told.Started j run place) asks is = by_answer lives j run place asks is.0 is.1 is.2
       by_report lives (told.Complete j o) asks is = absurd (quiet x server job (complete_end s.setup.addr p.root p.json j o is.0) tells is.2 (complete_quiet s.setup.addr p.root p.json j o is.0))
       by_report lives told.Heartbeat asks is = absurd (quiet x server job _ tells is.2 refl)
 
-      by_life : (over : Bool) → is_over life s ≡ over → (t : Told) → p.ask ≡ Report addr life t → Lives setup life s (brought_at log p.root) p.root p.json reply t over x → Ended setup log n reply x server job
+      by_life : (over : Bool) → is_over life s ≡ over → (t : Told) → p.ask ≡ Report addr life t → Lives w setup life s (brought_at log p.root) p.root p.json reply t over x → Ended setup log n reply x server job
       by_life true is t asks h = absurd (quiet x server job (word_effect Died) tells h refl)
       by_life false is t asks h = by_report (eqb-true s.life life (not_off (s.life == life) is)) t asks h
 
-    by_now : (addr : Addr) (life : ℕ) (o : Option ServerNow) → server_now setup log addr ≡ o → (t : Told) → p.ask ≡ Report addr life t → ReportsIn setup life (brought_at log p.root) p.root p.json reply t o x
+    by_now : (addr : Addr) (life : ℕ) (o : Option ServerNow) → server_now setup log addr ≡ o → (t : Told) → p.ask ≡ Report addr life t → ReportsIn w setup life (brought_at log p.root) p.root p.json reply t o x
         → Ended setup log n reply x server job
     by_now addr life None now t asks h = absurd (quiet x server job (word_effect Died) tells h refl)
     by_now addr life (Some s) now t asks h = by_life addr life s now (is_over life s) refl t asks h
 
-    by_ask : (ask : Ask) → p.ask ≡ ask → GoesOn setup log at p.root p.json reply ask x → Ended setup log n reply x server job
+    by_ask : (ask : Ask) → p.ask ≡ ask → GoesOn w setup log at p.root p.json reply ask x → Ended setup log n reply x server job
     by_ask (Assign t) asks h = absurd (quiet x server job (assignment_end (core_of setup log) p.root p.json at t h.0) tells h.2 (assignment_quiet (core_of setup log) p.root p.json at t h.0))
     by_ask (Report addr life t) asks h = by_now addr life (server_now setup log addr) refl t asks h
 
-  settled_ended : (o : Option Entry) → IsSettled setup log at n reply o x → Ended setup log n reply x server job
+  settled_ended : (o : Option Entry) → IsSettled w setup log at n reply o x → Ended setup log n reply x server job
   settled_ended None h = absurd (quiet x server job (word_effect Void) tells h refl)
-  settled_ended (Some w) h = by_ask h.0 h.1 h.0.ask refl h.2
+  settled_ended (Some e) h = by_ask h.0 h.1 h.0.ask refl h.2
 
-way_ended : (setup : Setup) (log : List Entry) (at : ℕ) (way : Way) (x : Effect) (server : Addr) (job : JobId) → Tells x server job → IsMade setup log at way x
+way_ended : (w : Weather) (setup : Setup) (log : List Entry) (at : ℕ) (way : Way) (x : Effect) (server : Addr) (job : JobId) → Tells x server job → IsMade w setup log at way x
     → (n : ℕ) × (reply : Option (List ℕ)) × (way ≡ to_call n reply) × Ended setup log n reply x server job
-way_ended setup log at (to_call n reply) x server job tells h = (n, reply, refl, settled_ended setup log at n reply x server job tells (waiting_at log n) h)
-way_ended setup log at (to_scheduler peer bytes) x server job tells h =
+way_ended w setup log at (to_call n reply) x server job tells h = (n, reply, refl, settled_ended w setup log at n reply x server job tells (waiting_at log n) h)
+way_ended w setup log at (to_scheduler peer bytes) x server job tells h =
     absurd (quiet x server job (answer_to (core_of setup log) (length log) at h.0.json h.0.what) tells h.2 (answer_quiet (core_of setup log) (length log) at h.0.json h.0.what))
-way_ended setup log at (to_server s bytes) x server job tells h =
+way_ended w setup log at (to_server s bytes) x server job tells h =
     absurd (quiet x server job (served setup s (length log) h.0.json h.0.what) tells h.2 (served_quiet setup s (length log) h.0.json h.0.what))
-way_ended setup log at (to_beat s) x server job tells h = absurd (quiet x server job _ tells h refl)
-way_ended setup log at (to_restart s key nonce) x server job tells h = absurd (quiet x server job _ tells h refl)
-way_ended setup log at to_nobody x server job tells h = absurd (quiet x server job (word_effect Down) tells h refl)
-way_ended setup log at to_nothing x server job tells h = absurd (quiet x server job (word_effect Void) tells h refl)
+way_ended w setup log at (to_beat s) x server job tells h = absurd (quiet x server job _ tells h refl)
+way_ended w setup log at (to_restart s key nonce) x server job tells h = absurd (quiet x server job (opening_effect s h.0) tells h.2 (opening_quiet s h.0))
+way_ended w setup log at to_nobody x server job tells h = absurd (quiet x server job (word_effect Down) tells h refl)
+way_ended w setup log at to_nothing x server job tells h = absurd (quiet x server job (word_effect Void) tells h refl)
 
 -- ---- the run request
 
@@ -402,19 +430,19 @@ no_run q (Assign u) step p server l job run place e asks = cc
 no_run q (Report addr life t) None p server l job run place e asks = cc
 no_run q (Report addr life t) (Some step) p server l job run place e asks = no_completion q.root q.json addr life step.kind p server l job run place e asks
 
-module _ (setup : Setup) (entries : List Entry) (n : ℕ) (e : Entry) (there : slice_get entries n ≡ Some e) (p : Pending) (server : Addr) (life : ℕ) (job : JobId) (run : RunJobHttpRequest) (place : ℕ)
+module _ (w : Weather) (setup : Setup) (entries : List Entry) (n : ℕ) (e : Entry) (there : slice_get entries n ≡ Some e) (p : Pending) (server : Addr) (life : ℕ) (job : JobId) (run : RunJobHttpRequest) (place : ℕ)
     (asks : p.ask ≡ Report server life (told.Started job run place)) where
   requested : (way : Way) → way_of setup (take n entries) e.event.kind ≡ way → IsMadeBy setup (take n entries) way (effect_of e) p → (x : Effect) → e ≡ entry_of e.event x
-      → IsMade setup (take n entries) e.event.at way x → IsRunRequest setup entries n server life job
+      → IsMade w setup (take n entries) e.event.at way x → IsRunRequest setup entries n server life job
   requested (to_server s bytes) same (a, shown, rep) x is (b, shown_b, x_is) =
       let all : Report s.setup.addr s.life rep.told ≡ Report server life (told.Started job run place) = sym (ap (λ (q : Pending). q.ask) rep.is) ∙ asks in
       let own : s.setup.addr ≡ server = cc in
       let lives : s.life ≡ life = cc in
       let told_is : rep.told ≡ told.Started job run place = cc in
-      let w = told_run a.body a.what job run place (rep.begins ∙ ap (λ (t : Told). Some t) told_is) in
-      let q = run_asked (job_verdict s.key) bytes a job run w.0 shown w.1 in
+      let wanted = told_run a.body a.what job run place (rep.begins ∙ ap (λ (t : Told). Some t) told_is) in
+      let q = run_asked (job_verdict s.key) bytes a job run wanted.0 shown wanted.1 in
       let one : b ≡ a = one_server_question (job_verdict s.key) bytes b a shown_b shown in
-      let what_is : b.what ≡ server_asked.Run job run w.0 = ap (λ (c : ServerAsked). c.what) one ∙ w.1 in
+      let what_is : b.what ≡ server_asked.Run job run wanted.0 = ap (λ (c : ServerAsked). c.what) one ∙ wanted.1 in
       record {
         entry = e;
         there = there;
@@ -441,7 +469,11 @@ module _ (setup : Setup) (entries : List Entry) (n : ℕ) (e : Entry) (there : s
 
 server_comes : (bytes bs : List ℕ) (o : Option ServerNow) (s : ServerNow) → server_way bs o ≡ to_server s bytes → o ≡ Some s
 server_comes bytes bs None s e = absurd cc
-server_comes bytes bs (Some t) s e = let same : t ≡ s = cc in ap (λ (u : ServerNow). Some u) same
+server_comes bytes bs (Some t) s e = by_run t.running e
+  where
+    by_run : (b : Bool) → cond b (to_server t bs) to_nobody ≡ to_server s bytes → Some t ≡ Some s
+    by_run true h = let same : t ≡ s = cc in ap (λ (u : ServerNow). Some u) same
+    by_run false h = absurd cc
 
 way_comes : (b : Bool) (peer : Addr) (bytes bs : List ℕ) (o : Option ServerNow) (s : ServerNow) → cond b (to_scheduler peer bs) (server_way bs o) ≡ to_server s bytes → o ≡ Some s
 way_comes true peer bytes bs o s e = absurd cc
@@ -457,7 +489,11 @@ no_outside false c bs s bytes e = cc
 
 pub no_beat : (o : Option ServerNow) (s : ServerNow) (bytes : List ℕ) → beat_way o ≡ to_server s bytes → ⊥
 no_beat None s bytes e = cc
-no_beat (Some t) s bytes e = cc
+no_beat (Some t) s bytes e = by_run t.running e
+  where
+    by_run : (b : Bool) → cond b (to_beat t) to_nobody ≡ to_server s bytes → ⊥
+    by_run true h = cc
+    by_run false h = cc
 
 pub no_restart : (key : List ℕ) (nonce : ℕ) (o : Option ServerNow) (s : ServerNow) (bytes : List ℕ) → restart_way key nonce o ≡ to_server s bytes → ⊥
 no_restart key nonce None s bytes e = cc
@@ -500,9 +536,9 @@ record Start (setup : Setup) (entries : List Entry) (d n : ℕ) (server : Addr) 
   core : entry.core ≡ Some made
   is_rule : IsRule (core_of setup (take d entries)) made
 
-module _ (setup : Setup) (words : HasWords setup) (entries : List Entry) (n : ℕ) (server : Addr) (life : ℕ) (job : JobId) (req : IsRunRequest setup entries n server life job) (is_addr : IsAddr server) (fits : job.0 < 2 ^ 64)
+module _ (w : Weather) (setup : Setup) (words : HasWords setup) (entries : List Entry) (n : ℕ) (server : Addr) (life : ℕ) (job : JobId) (req : IsRunRequest setup entries n server life job) (is_addr : IsAddr server) (fits : job.0 < 2 ^ 64)
     (d : ℕ) (e : Entry) (there : slice_get entries d ≡ Some e) (delivers : e.event.kind ≡ Deliver n) (r : Reply) (replies : e.reply ≡ Some r) (u : UpdateJobStateResult) (is_told : IsAnswer update_at r.bytes (Ok u))
-    (x : Effect) (made : IsMade setup (take d entries) e.event.at (way_of setup (take d entries) e.event.kind) x) (is : e ≡ entry_of e.event x) where
+    (x : Effect) (made : IsMade w setup (take d entries) e.event.at (way_of setup (take d entries) e.event.kind) x) (is : e ≡ entry_of e.event x) where
   abbrev sent : OutCall
   sent = state_call setup server job Started
 
@@ -511,7 +547,7 @@ module _ (setup : Setup) (words : HasWords setup) (entries : List Entry) (n : �
       let none : call_at (take d entries) n ≡ None = ap (λ (o : Option Entry). o >>= λ y. y.call) (get_past entries n d past) in
       let way : way_of setup (take d entries) e.event.kind ≡ to_nothing =
       ap (way_of setup (take d entries)) delivers ∙ ap (λ (o : Option OutCall). delivery_way setup (take d entries) (caller_of setup (take d entries) (slice_get (take d entries) n)) o) none in
-      let void : x ≡ word_effect Void = subst (λ (w : Way). IsMade setup (take d entries) e.event.at w x) way made in
+      let void : x ≡ word_effect Void = subst (λ (way : Way). IsMade w setup (take d entries) e.event.at way x) way made in
       let no : None ≡ Some r = sym (ap (λ (z : Effect). z.reply) void) ∙ sym (ap (λ (y : Entry). y.reply) is) ∙ replies in
       cc
 
@@ -527,7 +563,7 @@ module _ (setup : Setup) (words : HasWords setup) (entries : List Entry) (n : �
   start_after : n < d → Start setup entries d n server job
   start_after lt =
       let s = core_of setup (take d entries) in
-      let (a, shown, x_is) = subst (λ (w : Way). IsMade setup (take d entries) e.event.at w x) (arrives lt) made in
+      let (a, shown, x_is) = subst (λ (way : Way). IsMade w setup (take d entries) e.event.at way x) (arrives lt) made in
       let wanted : Asked = record { what = asked.Update server job Started; json = false } in
       let one : a ≡ wanted = one_question (equal_admission setup.scheduler.client) (serves setup.scheduler.auth) sent.bytes server a wanted shown (state_asked setup server job Started words is_addr fits) in
       let answer = advance (open_rows s.log) server job Started in
@@ -612,18 +648,18 @@ module _ (setup : Setup) (log : List Entry) (n : ℕ) (bytes : List ℕ) (inside
 
 -- ---- the runs
 
-module _ (setup : Setup) (events : List Event) (entries : List Entry) (fits : setup.scheduler.count < 2 ^ 64) (words : HasWords setup) (each : EachNext setup [] events entries) where
+module _ (W : ℕ → Weather) (setup : Setup) (events : List Event) (entries : List Entry) (fits : setup.scheduler.count < 2 ^ 64) (words : HasWords setup) (each : EachNext W setup [] events entries) where
   -- all that is known of a build
   record Full (b : ℕ) (server : Addr) (job : JobId) : Type 0 where
     started : IsStarted setup entries b server job
     start : Start setup entries started.delivery started.request server job
     settles : SettlesCall entries started.request b
 
-  next : (n : ℕ) (e : Entry) → slice_get entries n ≡ Some e → IsNext setup (take n entries) e.event e
-  next n e there = next_at setup [] events entries n e each there
+  next : (n : ℕ) (e : Entry) → slice_get entries n ≡ Some e → IsNext (W n) setup (take n entries) e.event e
+  next n e there = next_at W setup [] events entries n n e (omega arith) each there
 
   legal : (n : ℕ) → IsLegal setup.scheduler.base setup.scheduler.count (core_log (take n entries))
-  legal n = (runs_lawful setup events entries fits each n).legal
+  legal n = (runs_lawful W setup events entries fits each n).legal
 
   starts : (d n : ℕ) (server : Addr) (job : JobId) (s : Start setup entries d n server job) → starts_by s.made.kind job ≡ true
   starts d n server job s = ap (λ (k : CoreKind). starts_by k job) s.kind ∙ same_job-refl job
@@ -664,7 +700,7 @@ module _ (setup : Setup) (events : List Event) (entries : List Entry) (fits : se
         let (y, made, y_is) = next n h.of_call.entry g.1 in
         let by : IsMadeBy setup (take n entries) (way_of setup (take n entries) h.of_call.entry.event.kind) (effect_of h.of_call.entry) h.pending =
         subst (λ (l : List Entry). IsMadeBy setup l (way_of setup l h.of_call.entry.event.kind) (effect_of h.of_call.entry) h.pending) (take_take entries n b (omega (arith, g.0))) h.of_call.made in
-        (g.0, requested setup entries n h.of_call.entry g.1 h.pending server h.now.life job h.run h.place h.asks (way_of setup (take n entries) h.of_call.entry.event.kind) refl by y y_is made)
+        (g.0, requested (W n) setup entries n h.of_call.entry g.1 h.pending server h.now.life job h.run h.place h.asks (way_of setup (take n entries) h.of_call.entry.event.kind) refl by y y_is made)
 
     settles : (reply : Option (List ℕ)) → way_of setup (take b entries) e.event.kind ≡ to_call n reply → Ended setup (take b entries) n reply x server job → SettlesCall entries n b
     settles reply way h = record {
@@ -687,7 +723,7 @@ module _ (setup : Setup) (events : List Event) (entries : List Entry) (fits : se
         let (y, made, y_is) = next d v.entry g.1 in
         let id : job.0 < 2 ^ 64 = omega (arith, req.names.says.1, req.names.says.2) in
         let f = found_now setup (take b entries) server h.now h.now_is in
-        let s = start_of setup words entries n server h.now.life job req (found_addr setup (take b entries) server h.now words f) id d v.entry g.1 v.delivers v.reply v.replies
+        let s = start_of (W d) setup words entries n server h.now.life job req (found_addr setup (take b entries) server h.now words f) id d v.entry g.1 v.delivers v.reply v.replies
         h.answer (subst (λ (t : List ℕ). IsAnswer update_at t (Ok h.answer)) (sym v.text) h.accepted) y made y_is in
         record {
           started = record {
@@ -714,7 +750,7 @@ module _ (setup : Setup) (events : List Event) (entries : List Entry) (fits : se
       let tells : Tells x server job =
       ap built_in (sym (ap (λ (y : Entry). y.step) is) ∙ build.there) ∙ ap (option_map (λ (j : JobId). let p : Addr × JobId = (build.step.server, j) in p)) build.builds
       ∙ ap (λ (a : Addr). let p : Addr × JobId = (a, job) in Some p) build.at in
-      let (n, reply, way, h) = way_ended setup (take b entries) e.event.at (way_of setup (take b entries) e.event.kind) x server job tells made in
+      let (n, reply, way, h) = way_ended (W b) setup (take b entries) e.event.at (way_of setup (take b entries) e.event.kind) x server job tells made in
       full_of b e server job there x is n reply way h
 
   pub are_started : AreStarted setup entries
@@ -746,18 +782,18 @@ module _ (setup : Setup) (events : List Event) (entries : List Entry) (fits : se
       let f = full j d s job at a in
       let g = full k e t job bt b in
       let one = one_request f.started.delivery g.started.delivery f.started.request g.started.request s t job f.start g.start in
-      settled_once setup events entries each g.started.request j k (subst (λ (n : ℕ). SettlesCall entries n j) one f.settles) g.settles
+      settled_once W setup events entries each g.started.request j k (subst (λ (n : ℕ). SettlesCall entries n j) one f.settles) g.settles
 
-pub are_builds : (setup : Setup) (events : List Event) (entries : List Entry) → setup.scheduler.count < 2 ^ 64 → HasWords setup → EachNext setup [] events entries → AreBuilds setup entries
-are_builds setup events entries fits words each = record {
-  started = λ n. are_started setup (take n events) (take n entries) fits words (each_front setup [] events entries n each);
-  once = λ n. built_once setup (take n events) (take n entries) fits words (each_front setup [] events entries n each);
-  settled = λ n. settled_once setup (take n events) (take n entries) (each_front setup [] events entries n each);
+pub are_builds : (W : ℕ → Weather) (setup : Setup) (events : List Event) (entries : List Entry) → setup.scheduler.count < 2 ^ 64 → HasWords setup → EachNext W setup [] events entries → AreBuilds setup entries
+are_builds W setup events entries fits words each = record {
+  started = λ n. are_started W setup (take n events) (take n entries) fits words (each_front W setup [] events entries n each);
+  once = λ n. built_once W setup (take n events) (take n entries) fits words (each_front W setup [] events entries n each);
+  settled = λ n. settled_once W setup (take n events) (take n entries) (each_front W setup [] events entries n each);
 }
 
 -- the entries of a farm that ran events
 pub run_builds : (setup : Setup) (entries : List Entry) → setup.scheduler.count < 2 ^ 64 → (HasToken setup.scheduler.auth → HasWords setup) → IsRun setup entries → HasToken setup.scheduler.auth → AreBuilds setup entries
-run_builds setup entries fits words run token = are_builds setup (map (λ (e : Entry). e.event) entries) entries fits (words token) run
+run_builds setup entries fits words run token = are_builds steady setup (map (λ (e : Entry). e.event) entries) entries fits (words token) run
 
 pub Runs-builds : (old : Farmed) (events : List Event) (new : Farmed) → old.setup.scheduler.count < 2 ^ 64 → (HasToken old.setup.scheduler.auth → HasWords old.setup) → Runs old events new
     → IsRun new.setup new.entries → HasToken old.setup.scheduler.auth → AreBuilds new.setup new.entries

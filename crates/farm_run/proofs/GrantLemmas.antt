@@ -46,6 +46,7 @@ use Rattle.farm_run.specs.Reliable.{AsksAt, IsReturned, IsGranted, ReturnsGrant}
 use Rattle.farm_run.specs.Seen.{core_of, serves}
 use Rattle.farm_run.specs.Served.{served, state_call}
 use Rattle.farm_run.specs.Servers.{ServerNow, server_now}
+use Rattle.farm_run.specs.Weather.{Weather}
 use Rattle.farm_run.specs.Ways.{Way, server_way, stepper, caller_by, caller_of, delivery_way, way_of, to_nothing, to_scheduler}
 use Rattle.farm_run.proofs.BuildLemmas.{mapped, get_past, found_now, found_addr, caller_is, delivered, run_asked}
 use Rattle.farm_run.proofs.OneLemmas.{one_server_asked}
@@ -74,9 +75,9 @@ settling_caller setup log later step (Answer c bytes) n reply e = refl
 settling_caller setup log later step (Beat server) n reply e = absurd cc
 settling_caller setup log later step (Restart server key nonce) n reply e = absurd cc
 
-module _ (setup : Setup) (words : HasWords setup) (events : List Event) (entries : List Entry) (each : EachNext setup [] events entries) where
-  next : (n : ℕ) (e : Entry) → slice_get entries n ≡ Some e → IsNext setup (take n entries) e.event e
-  next n e there = next_at setup [] events entries n e each there
+module _ (W : ℕ → Weather) (setup : Setup) (words : HasWords setup) (events : List Event) (entries : List Entry) (each : EachNext W setup [] events entries) where
+  next : (n : ℕ) (e : Entry) → slice_get entries n ≡ Some e → IsNext (W n) setup (take n entries) e.event e
+  next n e there = next_at W setup [] events entries n n e (omega arith) each there
 
   -- a report that entry n makes as the server at the address
   module _ (n : ℕ) (c : Entry) (made_at : slice_get entries n ≡ Some c) (server : Addr) (job : JobId) (state : JobState) (tells : c.call ≡ Some (state_call setup server job state))
@@ -85,13 +86,13 @@ module _ (setup : Setup) (words : HasWords setup) (events : List Event) (entries
     sent = state_call setup server job state
 
     module _ (d : ℕ) (e : Entry) (there : slice_get entries d ≡ Some e) (delivers : e.event.kind ≡ Deliver n) (r : Reply) (replies : e.reply ≡ Some r) (x : Effect)
-        (made : IsMade setup (take d entries) e.event.at (way_of setup (take d entries) e.event.kind) x) (is : e ≡ entry_of e.event x) where
+        (made : IsMade (W d) setup (take d entries) e.event.at (way_of setup (take d entries) e.event.kind) x) (is : e ≡ entry_of e.event x) where
       nothing : d ≤ n → ⊥
       nothing past =
           let none : call_at (take d entries) n ≡ None = ap (λ (o : Option Entry). o >>= λ y. y.call) (get_past entries n d past) in
           let way : way_of setup (take d entries) e.event.kind ≡ to_nothing =
           ap (way_of setup (take d entries)) delivers ∙ ap (λ (o : Option OutCall). delivery_way setup (take d entries) (caller_of setup (take d entries) (slice_get (take d entries) n)) o) none in
-          let void : x ≡ word_effect Void = subst (λ (w : Way). IsMade setup (take d entries) e.event.at w x) way made in
+          let void : x ≡ word_effect Void = subst (λ (way : Way). IsMade (W d) setup (take d entries) e.event.at way x) way made in
           let no : None ≡ Some r = sym (ap (λ (z : Effect). z.reply) void) ∙ sym (ap (λ (y : Entry). y.reply) is) ∙ replies in
           cc
 
@@ -107,7 +108,7 @@ module _ (setup : Setup) (words : HasWords setup) (events : List Event) (entries
       answered : n < d → (seen : HttpReply) → IsReply r.bytes seen → seen.code ≡ 200 → IsAnswer update_at r.bytes (Ok Success)
       answered lt seen is_reply ok =
           let s = core_of setup (take d entries) in
-          let (a, shown, x_is) = subst (λ (w : Way). IsMade setup (take d entries) e.event.at w x) (arrives lt) made in
+          let (a, shown, x_is) = subst (λ (way : Way). IsMade (W d) setup (take d entries) e.event.at way x) (arrives lt) made in
           let wanted : Asked = record { what = asked.Update server job state; json = false } in
           let one : a ≡ wanted = one_question (equal_admission setup.scheduler.client) (serves setup.scheduler.auth) sent.bytes server a wanted shown (state_asked setup server job state words is_addr fits) in
           let answer = advance (open_rows s.log) server job state in
@@ -135,7 +136,7 @@ module _ (setup : Setup) (words : HasWords setup) (events : List Event) (entries
   asked_does : (n : ℕ) (server : Addr) (life : ℕ) (bytes : List ℕ) (a : ServerAsked) (q : AsksAt setup entries n server life bytes a) → q.entry.call ≡ (served setup q.now (length (take n entries)) a.json a.what).call
   asked_does n server life bytes a q =
       let (x, made, is) = next n q.entry q.there in
-      let own = subst (λ (w : Way). IsMade setup (take n entries) q.entry.event.at w x) q.comes made in
+      let own = subst (λ (way : Way). IsMade (W n) setup (take n entries) q.entry.event.at way x) q.comes made in
       let one : own.0 ≡ a = one_server_asked q.now bytes own.0 a own.1 q.asks in
       ap (λ (y : Entry). y.call) is ∙ ap (λ (z : Effect). z.call) own.2 ∙ ap (λ (b : ServerAsked). (served setup q.now (length (take n entries)) b.json b.what).call) one
 
@@ -166,7 +167,7 @@ module _ (setup : Setup) (words : HasWords setup) (events : List Event) (entries
         asked_does n server life bytes a q ∙ ap (λ (addr : Addr). Some (state_call setup addr job Started)) q.at in
         granted n q.entry q.there server job Started tells (asked_by_it n server life bytes a q) (addr_of j server now back.at) (run_fits n server life job run at json body bytes q) j life now back;
     ends = λ n j k server life job run at json body bytes now later q g back.
-        let ran = run_by setup events entries each n j server life job run at json body bytes now q g in
+        let ran = run_by W setup events entries each n j server life job run at json body bytes now q g in
         let same : ran.entry ≡ g.back.settles.entry = same_Some ran.entry g.back.settles.entry (sym ran.there ∙ g.back.settles.there) in
         let names : ◌≡◌ {A = Option (ℕ × Option (List ℕ))} (settles_by (take j entries) ran.entry.event.kind) (Some (n, Some g.bytes)) = ap (λ (y : Entry). settles_by (take j entries) y.event.kind) same ∙ g.back.names in
         granted j ran.entry ran.there server job Complete ran.tells

@@ -44,7 +44,8 @@ use Rattle.farm_run.specs.Effects.{entry_of, effect_of, word_effect}
 use Rattle.farm_run.specs.Farm.{with_core, IsWaiting, IsKept, kept_at, AreKept, IsAfter, IsReceived, IsMadeSo, IsSound, IsFarm}
 use Rattle.farm_run.specs.Next.{GoesOn, Follows, IsServed, IsSettled, IsMade}
 use Rattle.farm_run.specs.Seen.{core_log, core_of}
-use Rattle.farm_run.specs.Settled.{assignment_end, ready_end, started_end, complete_end, Reports, Lives, ReportsIn, IsOwnBy}
+use Rattle.farm_run.specs.Weather.{Weather, calm}
+use Rattle.farm_run.specs.Settled.{assignment_end, ReadyEnds, StartedEnds, complete_end, Reports, Lives, ReportsIn, IsOwnBy}
 use Rattle.farm_run.specs.Ways.{Way, way_of, brought_at, to_nothing, to_nobody, to_scheduler, to_server, to_call, to_beat, to_restart}
 use Rattle.farm_run.proofs.CallLemmas.{waiting-end}
 use Rattle.farm_run.proofs.NextLemmas.{call_ticket, settles_it, way_settles, sound_next}
@@ -90,7 +91,7 @@ new_kept setup log e (Some p) is = record {
 
 -- ---- what comes to an address, and what has nothing to do
 
-served_made : (setup : Setup) (log : List Entry) (at : ℕ) (way : Way) (x : Effect) → IsServed setup (core_of setup log) (length log) at way x → IsMade setup log at way x
+served_made : (setup : Setup) (log : List Entry) (at : ℕ) (way : Way) (x : Effect) → IsServed calm setup (core_of setup log) (length log) at way x → IsMade calm setup log at way x
 served_made setup log at (to_scheduler peer bytes) x is = is
 served_made setup log at (to_server s bytes) x is = is
 served_made setup log at (to_beat s) x is = is
@@ -99,7 +100,7 @@ served_made setup log at to_nothing x is = is
 served_made setup log at to_nobody x is = is
 served_made setup log at (to_call n reply) x is = absurd is
 
-begun_made : (setup : Setup) (log : List Entry) (at : ℕ) (way : Way) (x : Effect) (o : Option Pending) → IsServed setup (core_of setup log) (length log) at way x
+begun_made : (setup : Setup) (log : List Entry) (at : ℕ) (way : Way) (x : Effect) (o : Option Pending) → IsServed calm setup (core_of setup log) (length log) at way x
     → Keeps (IsBegunBy setup (core_log log) (length log) way x) x o → Keeps (IsMadeBy setup log way x) x o
 begun_made setup log at way x None served is = is
 begun_made setup log at (to_scheduler peer bytes) x (Some p) served is = is
@@ -202,35 +203,35 @@ end_loud : (s : Core) (root : ℕ) (json : Bool) (at : ℕ) (t : Ticket) (r : Re
 end_loud s root json at t (Ok a) = refl
 end_loud s root json at t (Err f) = refl
 
-ready_loud : (s : ServerNow) (root : ℕ) (json : Bool) (job : JobId) (archive : List ℕ) (r : Result UpdateJobStateResult CallFault) → is_void (ready_end s root json job archive r).word ≡ false
-ready_loud s root json job archive (Ok u) = refl
-ready_loud s root json job archive (Err f) = refl
+ready_loud : (w : Weather) (s : ServerNow) (root : ℕ) (json : Bool) (job : JobId) (archive : List ℕ) (r : Result UpdateJobStateResult CallFault) (x : Effect) → ReadyEnds w s root json job archive r x → is_void x.word ≡ false
+ready_loud w s root json job archive (Ok u) x is = ap (λ (y : Effect). is_void y.word) is.2
+ready_loud w s root json job archive (Err f) x is = ap (λ (y : Effect). is_void y.word) is
 
-started_loud : (setup : Setup) (s : ServerNow) (root : ℕ) (job : JobId) (run : RunJobHttpRequest) (inputs : List ℕ) (r : Result UpdateJobStateResult CallFault) → is_void (started_end setup s root job run inputs r).word ≡ false
-started_loud setup s root job run inputs (Ok u) = refl
-started_loud setup s root job run inputs (Err f) = refl
+started_loud : (w : Weather) (setup : Setup) (s : ServerNow) (root : ℕ) (job : JobId) (run : RunJobHttpRequest) (inputs : List ℕ) (r : Result UpdateJobStateResult CallFault) (x : Effect) → StartedEnds w setup s root job run inputs r x → is_void x.word ≡ false
+started_loud w setup s root job run inputs (Ok u) x is = ap (λ (y : Effect). is_void y.word) is.2
+started_loud w setup s root job run inputs (Err f) x is = ap (λ (y : Effect). is_void y.word) is
 
 complete_loud : (addr : Addr) (root : ℕ) (json : Bool) (job : JobId) (outcome : Outcome) (r : Result UpdateJobStateResult CallFault) → is_void (complete_end addr root json job outcome r).word ≡ false
 complete_loud addr root json job outcome (Ok u) = refl
 complete_loud addr root json job outcome (Err f) = refl
 
-reports_loud : (setup : Setup) (s : ServerNow) (bytes : List ℕ) (root : ℕ) (json : Bool) (reply : Option (List ℕ)) (t : Told) (x : Effect) → Reports setup s bytes root json reply t x → is_void x.word ≡ false
-reports_loud setup s bytes root json reply (told.Ready job at) x is = ap (λ (y : Effect). is_void y.word) is.2 ∙ ready_loud s root json job (drop at bytes) is.0
-reports_loud setup s bytes root json reply (told.Started job run at) x is = ap (λ (y : Effect). is_void y.word) is.2 ∙ started_loud setup s root job run (drop at bytes) is.0
-reports_loud setup s bytes root json reply (told.Complete job outcome) x is = ap (λ (y : Effect). is_void y.word) is.2 ∙ complete_loud s.setup.addr root json job outcome is.0
-reports_loud setup s bytes root json reply told.Heartbeat x is = ap (λ (y : Effect). is_void y.word) is.2
+reports_loud : (w : Weather) (setup : Setup) (s : ServerNow) (bytes : List ℕ) (root : ℕ) (json : Bool) (reply : Option (List ℕ)) (t : Told) (x : Effect) → Reports w setup s bytes root json reply t x → is_void x.word ≡ false
+reports_loud w setup s bytes root json reply (told.Ready job at) x is = ready_loud w s root json job (drop at bytes) is.0 x is.2
+reports_loud w setup s bytes root json reply (told.Started job run at) x is = started_loud w setup s root job run (drop at bytes) is.0 x is.2
+reports_loud w setup s bytes root json reply (told.Complete job outcome) x is = ap (λ (y : Effect). is_void y.word) is.2 ∙ complete_loud s.setup.addr root json job outcome is.0
+reports_loud w setup s bytes root json reply told.Heartbeat x is = ap (λ (y : Effect). is_void y.word) is.2
 
-lives_loud : (setup : Setup) (life : ℕ) (s : ServerNow) (bytes : List ℕ) (root : ℕ) (json : Bool) (reply : Option (List ℕ)) (t : Told) (over : Bool) (x : Effect) → Lives setup life s bytes root json reply t over x → is_void x.word ≡ false
-lives_loud setup life s bytes root json reply t true x is = ap (λ (y : Effect). is_void y.word) is
-lives_loud setup life s bytes root json reply t false x is = reports_loud setup s bytes root json reply t x is
+lives_loud : (w : Weather) (setup : Setup) (life : ℕ) (s : ServerNow) (bytes : List ℕ) (root : ℕ) (json : Bool) (reply : Option (List ℕ)) (t : Told) (over : Bool) (x : Effect) → Lives w setup life s bytes root json reply t over x → is_void x.word ≡ false
+lives_loud w setup life s bytes root json reply t true x is = ap (λ (y : Effect). is_void y.word) is
+lives_loud w setup life s bytes root json reply t false x is = reports_loud w setup s bytes root json reply t x is
 
-report_loud : (setup : Setup) (life : ℕ) (bytes : List ℕ) (root : ℕ) (json : Bool) (reply : Option (List ℕ)) (t : Told) (o : Option ServerNow) (x : Effect) → ReportsIn setup life bytes root json reply t o x → is_void x.word ≡ false
-report_loud setup life bytes root json reply t None x is = ap (λ (y : Effect). is_void y.word) is
-report_loud setup life bytes root json reply t (Some s) x is = lives_loud setup life s bytes root json reply t (is_over life s) x is
+report_loud : (w : Weather) (setup : Setup) (life : ℕ) (bytes : List ℕ) (root : ℕ) (json : Bool) (reply : Option (List ℕ)) (t : Told) (o : Option ServerNow) (x : Effect) → ReportsIn w setup life bytes root json reply t o x → is_void x.word ≡ false
+report_loud w setup life bytes root json reply t None x is = ap (λ (y : Effect). is_void y.word) is
+report_loud w setup life bytes root json reply t (Some s) x is = lives_loud w setup life s bytes root json reply t (is_over life s) x is
 
-pub goes_loud : (setup : Setup) (log : List Entry) (at root : ℕ) (json : Bool) (reply : Option (List ℕ)) (ask : Ask) (x : Effect) → GoesOn setup log at root json reply ask x → is_void x.word ≡ false
-goes_loud setup log at root json reply (Assign t) x is = ap (λ (y : Effect). is_void y.word) is.2 ∙ end_loud (core_of setup log) root json at t is.0
-goes_loud setup log at root json reply (Report server life t) x is = report_loud setup life (brought_at log root) root json reply t (server_now setup log server) x is
+pub goes_loud : (w : Weather) (setup : Setup) (log : List Entry) (at root : ℕ) (json : Bool) (reply : Option (List ℕ)) (ask : Ask) (x : Effect) → GoesOn w setup log at root json reply ask x → is_void x.word ≡ false
+goes_loud w setup log at root json reply (Assign t) x is = ap (λ (y : Effect). is_void y.word) is.2 ∙ end_loud (core_of setup log) root json at t is.0
+goes_loud w setup log at root json reply (Report server life t) x is = report_loud w setup life (brought_at log root) root json reply t (server_now setup log server) x is
 
 -- no report of a run's end follows on one
 no_second : (addr : Addr) (root : ℕ) (json : Bool) (job : JobId) (outcome : Outcome) (r : Result UpdateJobStateResult CallFault) (n : ℕ) (j : Bool) (a : Addr) (life : ℕ) → completion_at n j a life (complete_end addr root json job outcome r).step ≡ None
@@ -238,12 +239,12 @@ no_second addr root json job outcome (Ok u) n j a life = refl
 no_second addr root json job outcome (Err f) n j a life = refl
 
 lives_second : (setup : Setup) (life : ℕ) (s : ServerNow) (bytes : List ℕ) (root : ℕ) (json : Bool) (reply : Option (List ℕ)) (job : JobId) (outcome : Outcome) (over : Bool) (x : Effect) (n : ℕ) (j : Bool) (a : Addr) (l : ℕ)
-    → Lives setup life s bytes root json reply (told.Complete job outcome) over x → completion_at n j a l x.step ≡ None
+    → Lives calm setup life s bytes root json reply (told.Complete job outcome) over x → completion_at n j a l x.step ≡ None
 lives_second setup life s bytes root json reply job outcome true x n j a l is = ap (λ (y : Effect). completion_at n j a l y.step) is
 lives_second setup life s bytes root json reply job outcome false x n j a l is = ap (λ (y : Effect). completion_at n j a l y.step) is.2 ∙ no_second s.setup.addr root json job outcome is.0 n j a l
 
 report_second : (setup : Setup) (life : ℕ) (bytes : List ℕ) (root : ℕ) (json : Bool) (reply : Option (List ℕ)) (job : JobId) (outcome : Outcome) (o : Option ServerNow) (x : Effect) (n : ℕ) (j : Bool) (a : Addr) (l : ℕ)
-    → ReportsIn setup life bytes root json reply (told.Complete job outcome) o x → completion_at n j a l x.step ≡ None
+    → ReportsIn calm setup life bytes root json reply (told.Complete job outcome) o x → completion_at n j a l x.step ≡ None
 report_second setup life bytes root json reply job outcome None x n j a l is = ap (λ (y : Effect). completion_at n j a l y.step) is
 report_second setup life bytes root json reply job outcome (Some s) x n j a l is = lives_second setup life s bytes root json reply job outcome (is_over life s) x n j a l is
 
@@ -272,13 +273,13 @@ completes q (Report addr life t) (Some step) p e = completes_by q.root q.json ad
 
 -- a call whose settlement tells a run's end is no such report itself
 none_after : (setup : Setup) (log : List Entry) (at root : ℕ) (json : Bool) (reply : Option (List ℕ)) (q first : Pending) (ask : Ask) (x : Effect) (p : Pending)
-    → Completes first → first.ask ≡ ask → GoesOn setup log at root json reply ask x → completion_of first ask x.step ≡ Some p → ⊥
+    → Completes first → first.ask ≡ ask → GoesOn calm setup log at root json reply ask x → completion_of first ask x.step ≡ Some p → ⊥
 none_after setup log at root json reply q first (Assign t) x p c asks goes e = cc
 none_after setup log at root json reply q first (Report server life t) x p c asks goes e =
     let same : Report c.addr c.life (told.Complete c.job c.outcome) ≡ Report server life t = sym c.asks ∙ asks in
     let kind : told.Complete c.job c.outcome ≡ t = cc in
-    let ended : ReportsIn setup life (brought_at log root) root json reply (told.Complete c.job c.outcome) (server_now setup log server) x =
-    subst (λ (k : Told). ReportsIn setup life (brought_at log root) root json reply k (server_now setup log server) x) (sym kind) goes in
+    let ended : ReportsIn calm setup life (brought_at log root) root json reply (told.Complete c.job c.outcome) (server_now setup log server) x =
+    subst (λ (k : Told). ReportsIn calm setup life (brought_at log root) root json reply k (server_now setup log server) x) (sym kind) goes in
     let none = report_second setup life (brought_at log root) root json reply c.job c.outcome (server_now setup log server) x first.root first.json server life ended in
     let two : None ≡ Some p = sym none ∙ e in
     cc
@@ -300,7 +301,7 @@ first_call setup log n first not_it is =
     record { entry = is.entry; there = is.there; begun = first_way setup log n is.entry (way_of setup (take n log) is.entry.event.kind) first not_it size is.made }
 
 -- what is kept of the call that a settlement makes
-settled_kept : (setup : Setup) (log : List Entry) (at n : ℕ) (reply : Option (List ℕ)) (first : Pending) (x : Effect) (o : Option Pending) → IsCallOf setup log n first → Follows setup log at reply (Some first) x
+settled_kept : (setup : Setup) (log : List Entry) (at n : ℕ) (reply : Option (List ℕ)) (first : Pending) (x : Effect) (o : Option Pending) → IsCallOf setup log n first → Follows calm setup log at reply (Some first) x
     → Keeps (λ p. completion_of first first.ask x.step ≡ Some p) x o → Keeps (IsMadeBy setup log (to_call n reply) x) x o
 settled_kept setup log at n reply first x None call goes is = is
 settled_kept setup log at n reply first x (Some p) call goes is = (
@@ -315,20 +316,20 @@ settled_kept setup log at n reply first x (Some p) call goes is = (
 
 -- what follows where that is kept of the call
 pub settled_by : (setup : Setup) (s : Core) (log : List Entry) (ps : List (Option Pending)) (sts new : List Station) (event : Event) (n at : ℕ) (reply : Option (List ℕ)) (first : Pending) (m : Made)
-    → IsFarm setup s log ps sts → event.at ≡ at → way_of setup log event.kind ≡ to_call n reply → kept_at ps n ≡ Some first → Follows setup log at reply (Some first) m.effect
+    → IsFarm setup s log ps sts → event.at ≡ at → way_of setup log event.kind ≡ to_call n reply → kept_at ps n ≡ Some first → Follows calm setup log at reply (Some first) m.effect
     → Keeps (λ p. completion_of first first.ask m.effect.step ≡ Some p) m.effect m.pending → AreStations setup.servers (log ++ entry_of event m.effect ∷ []) new
     → IsMadeSo setup log event (way_of setup log event.kind) (set ps n None) new m
 settled_by setup s log ps sts new event n at reply first m is moment comes some follows keeps stand =
     let waits : IsWaiting setup log n first = subst (IsKept setup log n) some (is.kept.each n) in
     let names = way_settles setup log event.kind n reply comes in
-    let goes : Follows setup log event.at reply (Some first) m.effect = subst (λ (k : ℕ). Follows setup log k reply (Some first) m.effect) (sym moment) follows in
-    let made : IsMade setup log event.at (to_call n reply) m.effect = subst (λ (o : Option Entry). IsSettled setup log event.at n reply o m.effect) (sym waits.waits) (first, waits.call, goes) in
+    let goes : Follows calm setup log event.at reply (Some first) m.effect = subst (λ (k : ℕ). Follows calm setup log k reply (Some first) m.effect) (sym moment) follows in
+    let made : IsMade calm setup log event.at (to_call n reply) m.effect = subst (λ (o : Option Entry). IsSettled calm setup log event.at n reply o m.effect) (sym waits.waits) (first, waits.call, goes) in
     let kept : Keeps (IsMadeBy setup log (to_call n reply) m.effect) m.effect m.pending = settled_kept setup log event.at n reply first m.effect m.pending waits.call goes keeps in
     let here : Keeps (IsMadeBy setup log (way_of setup log event.kind) m.effect) m.effect m.pending = subst (λ (w : Way). Keeps (IsMadeBy setup log w m.effect) m.effect m.pending) (sym comes) kept in
     record {
-      made = subst (λ (w : Way). IsMade setup log event.at w m.effect) (sym comes) made;
+      made = subst (λ (w : Way). IsMade calm setup log event.at w m.effect) (sym comes) made;
       after = after_settled setup log (entry_of event m.effect) ps n reply is.kept names m.pending (new_kept setup log (entry_of event m.effect) m.pending here)
-          (inl (goes_loud setup log event.at first.root first.json reply first.ask m.effect goes));
+          (inl (goes_loud calm setup log event.at first.root first.json reply first.ask m.effect goes));
       stations = stand;
     }
 
@@ -340,9 +341,9 @@ settled_none setup s log ps sts event n reply m is comes none still same =
     let x = word_effect Void in
     let waits : waiting_at log n ≡ None = subst (IsKept setup log n) none (is.kept.each n) in
     let names = way_settles setup log event.kind n reply comes in
-    let made : IsMade setup log event.at (to_call n reply) x = subst (λ (o : Option Entry). IsSettled setup log event.at n reply o x) (sym waits) refl in
+    let made : IsMade calm setup log event.at (to_call n reply) x = subst (λ (o : Option Entry). IsSettled calm setup log event.at n reply o x) (sym waits) refl in
     let there : IsMadeSo setup log event (way_of setup log event.kind) (set ps n None) sts (record { effect = x; pending = None }) = record {
-      made = subst (λ (w : Way). IsMade setup log event.at w x) (sym comes) made;
+      made = subst (λ (w : Way). IsMade calm setup log event.at w x) (sym comes) made;
       after = after_settled setup log (entry_of event x) ps n reply is.kept names None (nothing_new setup log (entry_of event x) refl) (inr (refl, none));
       stations = stations_same setup.servers log sts (entry_of event x) is.stations still refl;
     } in
@@ -382,7 +383,7 @@ farm_next setup next s new log ps left sts after event m is made same core-is =
       apart = is.apart;
       run = IsRun-push setup log e is.run (m.effect, made.made, refl);
       core_is = core-is ∙ ap (λ (c : Core). with_core c m.effect.core) is.core_is ∙ core_of-push setup log e;
-      sound = sound_next setup log event e is.fits is.sound (m.effect, made.made, refl);
+      sound = sound_next calm setup log event e is.fits is.sound (m.effect, made.made, refl);
       kept = kept-push setup log e left m.pending made.after;
       stations = made.stations;
     } in

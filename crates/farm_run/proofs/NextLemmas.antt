@@ -57,16 +57,18 @@ use Rattle.dist_wire.specs.declared.run.RunJobHttpRequest.{RunJobHttpRequest}
 use Rattle.http_routes.specs.declared.server_route.ServerRouted.{ServerRouted}
 use Rattle.http_routes.specs.declared.server_route.ServerRouted.TheVariants as server_asked
 use Rattle.farm_run.specs.Servers.{ServerNow, server_now, is_over}
-use Rattle.farm_run.specs.Served.{assigned, served, books_of}
+use Rattle.farm_run.specs.Served.{assigned, served, books_of, opening_effect}
 use Rattle.farm_run.specs.declared.pending.Pending.{Pending}
 use Rattle.farm_run.specs.Answers.{hears, allocated, answer_to}
 use Rattle.farm_run.specs.Begun.{IsMadeBy, IsCallOf, completion_by, completion_of}
 use Rattle.farm_run.specs.Calls.{call_at, delivery_at, settles_by, is_void, settled_at, waiting_at}
 use Rattle.farm_run.specs.Effects.{entry_of, effect_of, word_effect}
 use Rattle.farm_run.specs.Farm.{IsSound, IsLawful, AreLawful}
-use Rattle.farm_run.specs.Next.{GoesOn, IsSettled, IsMade, IsNext, EachNext, IsRun}
+use Rattle.farm_run.specs.Next.{GoesOn, IsSettled, IsMade, IsNext, EachNext, steady, IsRun}
 use Rattle.farm_run.specs.Seen.{core_log, core_of}
-use Rattle.farm_run.specs.Settled.{IsOutcome, assignment_end, ready_end, started_end, complete_end, Reports, ReportsIn, Lives}
+use Rattle.farm_run.specs.Settled.{IsOutcome, assignment_end, ReadyEnds, StartedEnds, complete_end, Reports, ReportsIn, Lives}
+use Rattle.farm_run.specs.Weather.{Weather}
+use Rattle.lru_disk_cache.specs.Archives.{Archives}
 use Rattle.farm_run.specs.Tickets.{ticket_of, ticket_at}
 use Rattle.farm_run.specs.Ways.{Way, server_way, caller_of, delivery_way, return_way, is_inside, beat_way, restart_way, way_of, brought_at, to_nothing, to_nobody, to_scheduler, to_server, to_call, to_beat, to_restart}
 use Rattle.sched_core.proofs.OwnLemmas.{legal_front}
@@ -227,57 +229,61 @@ served_core setup s number json (server_asked.Submit job) = refl
 served_core setup s number json (server_asked.Run job run at) = refl
 served_core setup s number json (server_asked.Done response) = refl
 
-ready_core : (s : ServerNow) (root : ℕ) (json : Bool) (job : JobId) (archive : List ℕ) (r : Result UpdateJobStateResult CallFault) → (ready_end s root json job archive r).core ≡ None
-ready_core s root json job archive (Ok u) = refl
-ready_core s root json job archive (Err f) = refl
+ready_core : (w : Weather) (s : ServerNow) (root : ℕ) (json : Bool) (job : JobId) (archive : List ℕ) (r : Result UpdateJobStateResult CallFault) (x : Effect) → ReadyEnds w s root json job archive r x → x.core ≡ None
+ready_core w s root json job archive (Ok u) x is = ap (λ (y : Effect). y.core) is.2
+ready_core w s root json job archive (Err f) x is = ap (λ (y : Effect). y.core) is
 
-started_core : (setup : Setup) (s : ServerNow) (root : ℕ) (job : JobId) (run : RunJobHttpRequest) (inputs : List ℕ) (r : Result UpdateJobStateResult CallFault) → (started_end setup s root job run inputs r).core ≡ None
-started_core setup s root job run inputs (Ok u) = refl
-started_core setup s root job run inputs (Err f) = refl
+started_core : (w : Weather) (setup : Setup) (s : ServerNow) (root : ℕ) (job : JobId) (run : RunJobHttpRequest) (inputs : List ℕ) (r : Result UpdateJobStateResult CallFault) (x : Effect) → StartedEnds w setup s root job run inputs r x → x.core ≡ None
+started_core w setup s root job run inputs (Ok u) x is = ap (λ (y : Effect). y.core) is.2
+started_core w setup s root job run inputs (Err f) x is = ap (λ (y : Effect). y.core) is
 
 complete_core : (addr : Addr) (root : ℕ) (json : Bool) (job : JobId) (outcome : Outcome) (r : Result UpdateJobStateResult CallFault) → (complete_end addr root json job outcome r).core ≡ None
 complete_core addr root json job outcome (Ok u) = refl
 complete_core addr root json job outcome (Err f) = refl
 
-reports_core : (setup : Setup) (s : ServerNow) (bytes : List ℕ) (root : ℕ) (json : Bool) (reply : Option (List ℕ)) (t : Told) (x : Effect) → Reports setup s bytes root json reply t x → x.core ≡ None
-reports_core setup s bytes root json reply (told.Ready job at) x is = ap (λ (y : Effect). y.core) is.2 ∙ ready_core s root json job (drop at bytes) is.0
-reports_core setup s bytes root json reply (told.Started job run at) x is = ap (λ (y : Effect). y.core) is.2 ∙ started_core setup s root job run (drop at bytes) is.0
-reports_core setup s bytes root json reply (told.Complete job outcome) x is = ap (λ (y : Effect). y.core) is.2 ∙ complete_core s.setup.addr root json job outcome is.0
-reports_core setup s bytes root json reply told.Heartbeat x is = ap (λ (y : Effect). y.core) is.2
+reports_core : (w : Weather) (setup : Setup) (s : ServerNow) (bytes : List ℕ) (root : ℕ) (json : Bool) (reply : Option (List ℕ)) (t : Told) (x : Effect) → Reports w setup s bytes root json reply t x → x.core ≡ None
+reports_core w setup s bytes root json reply (told.Ready job at) x is = ready_core w s root json job (drop at bytes) is.0 x is.2
+reports_core w setup s bytes root json reply (told.Started job run at) x is = started_core w setup s root job run (drop at bytes) is.0 x is.2
+reports_core w setup s bytes root json reply (told.Complete job outcome) x is = ap (λ (y : Effect). y.core) is.2 ∙ complete_core s.setup.addr root json job outcome is.0
+reports_core w setup s bytes root json reply told.Heartbeat x is = ap (λ (y : Effect). y.core) is.2
 
-lives_core : (setup : Setup) (life : ℕ) (s : ServerNow) (bytes : List ℕ) (root : ℕ) (json : Bool) (reply : Option (List ℕ)) (t : Told) (over : Bool) (x : Effect) → Lives setup life s bytes root json reply t over x → x.core ≡ None
-lives_core setup life s bytes root json reply t true x is = ap (λ (y : Effect). y.core) is
-lives_core setup life s bytes root json reply t false x is = reports_core setup s bytes root json reply t x is
+lives_core : (w : Weather) (setup : Setup) (life : ℕ) (s : ServerNow) (bytes : List ℕ) (root : ℕ) (json : Bool) (reply : Option (List ℕ)) (t : Told) (over : Bool) (x : Effect) → Lives w setup life s bytes root json reply t over x → x.core ≡ None
+lives_core w setup life s bytes root json reply t true x is = ap (λ (y : Effect). y.core) is
+lives_core w setup life s bytes root json reply t false x is = reports_core w setup s bytes root json reply t x is
 
-pub reports_in_core : (setup : Setup) (life : ℕ) (bytes : List ℕ) (root : ℕ) (json : Bool) (reply : Option (List ℕ)) (t : Told) (o : Option ServerNow) (x : Effect) → ReportsIn setup life bytes root json reply t o x → x.core ≡ None
-reports_in_core setup life bytes root json reply t None x is = ap (λ (y : Effect). y.core) is
-reports_in_core setup life bytes root json reply t (Some s) x is = lives_core setup life s bytes root json reply t (is_over life s) x is
+pub reports_in_core : (w : Weather) (setup : Setup) (life : ℕ) (bytes : List ℕ) (root : ℕ) (json : Bool) (reply : Option (List ℕ)) (t : Told) (o : Option ServerNow) (x : Effect) → ReportsIn w setup life bytes root json reply t o x → x.core ≡ None
+reports_in_core w setup life bytes root json reply t None x is = ap (λ (y : Effect). y.core) is
+reports_in_core w setup life bytes root json reply t (Some s) x is = lives_core w setup life s bytes root json reply t (is_over life s) x is
 
 -- an effect without a core entry
 quiet_adds : (setup : Setup) (log : List Entry) (event : Event) (x : Effect) → x.core ≡ None → Adds setup log (entry_of event x)
 quiet_adds setup log event x none = inl (record { core = none })
 
-goes_adds : (setup : Setup) (log : List Entry) (event : Event) (at n root : ℕ) (json : Bool) (reply : Option (List ℕ)) (w : Entry) (p : Pending) (ask : Ask) (x : Effect)
-    → IsSound setup log → waiting_at log n ≡ Some w → IsCallOf setup log n p → p.ask ≡ ask → settles_by log event.kind ≡ Some (n, reply)
-    → GoesOn setup log at root json reply ask x → Adds setup log (entry_of event x)
-goes_adds setup log event at n root json reply w p (Assign t) x sound waits of_call asks names is =
+goes_adds : (w : Weather) (setup : Setup) (log : List Entry) (event : Event) (at n root : ℕ) (json : Bool) (reply : Option (List ℕ)) (wait : Entry) (p : Pending) (ask : Ask) (x : Effect)
+    → IsSound setup log → waiting_at log n ≡ Some wait → IsCallOf setup log n p → p.ask ≡ ask → settles_by log event.kind ≡ Some (n, reply)
+    → GoesOn w setup log at root json reply ask x → Adds setup log (entry_of event x)
+goes_adds w setup log event at n root json reply wait p (Assign t) x sound waits of_call asks names is =
     subst (λ (y : Effect). Adds setup log (entry_of event y)) (sym is.2)
     (assignment_adds setup log event at root json n reply w t is.0 sound waits (call_ticket setup log n p t of_call asks) names is.1)
-goes_adds setup log event at n root json reply w p (Report server life t) x sound waits of_call asks names is =
-    quiet_adds setup log event x (reports_in_core setup life (brought_at log root) root json reply t (server_now setup log server) x is)
+goes_adds w setup log event at n root json reply wait p (Report server life t) x sound waits of_call asks names is =
+    quiet_adds setup log event x (reports_in_core w setup life (brought_at log root) root json reply t (server_now setup log server) x is)
 
-settled_adds : (setup : Setup) (log : List Entry) (event : Event) (at n : ℕ) (reply : Option (List ℕ)) (o : Option Entry) (x : Effect)
-    → IsSound setup log → waiting_at log n ≡ o → settles_by log event.kind ≡ Some (n, reply) → IsSettled setup log at n reply o x → Adds setup log (entry_of event x)
-settled_adds setup log event at n reply None x sound waits names is = word_adds setup log event Void x is
-settled_adds setup log event at n reply (Some w) x sound waits names is =
-    goes_adds setup log event at n is.0.root is.0.json reply w is.0 is.0.ask x sound waits is.1 refl names is.2
+settled_adds : (w : Weather) (setup : Setup) (log : List Entry) (event : Event) (at n : ℕ) (reply : Option (List ℕ)) (o : Option Entry) (x : Effect)
+    → IsSound setup log → waiting_at log n ≡ o → settles_by log event.kind ≡ Some (n, reply) → IsSettled w setup log at n reply o x → Adds setup log (entry_of event x)
+settled_adds w setup log event at n reply None x sound waits names is = word_adds setup log event Void x is
+settled_adds w setup log event at n reply (Some wait) x sound waits names is =
+    goes_adds w setup log event at n is.0.root is.0.json reply wait is.0 is.0.ask x sound waits is.1 refl names is.2
 
 -- ---- the next entry
 
 -- bytes that come to an address settle no call
 no_server_call : (bytes : List ℕ) (o : Option ServerNow) (n : ℕ) (reply : Option (List ℕ)) → server_way bytes o ≡ to_call n reply → ⊥
 no_server_call bytes None n reply is = cc
-no_server_call bytes (Some s) n reply is = cc
+no_server_call bytes (Some s) n reply is = by_run s.running is
+  where
+    by_run : (b : Bool) → cond b (to_server s bytes) to_nobody ≡ to_call n reply → ⊥
+    by_run true e = cc
+    by_run false e = cc
 
 no_call : (b : Bool) (peer : Addr) (bytes : List ℕ) (o : Option ServerNow) (n : ℕ) (reply : Option (List ℕ)) → cond b (to_scheduler peer bytes) (server_way bytes o) ≡ to_call n reply → ⊥
 no_call true peer bytes o n reply is = cc
@@ -289,7 +295,11 @@ no_delivery setup log caller (Some c) n reply is = no_call (same_addr c.target s
 
 no_beat : (o : Option ServerNow) (n : ℕ) (reply : Option (List ℕ)) → beat_way o ≡ to_call n reply → ⊥
 no_beat None n reply is = cc
-no_beat (Some s) n reply is = cc
+no_beat (Some s) n reply is = by_run s.running is
+  where
+    by_run : (b : Bool) → cond b (to_beat s) to_nobody ≡ to_call n reply → ⊥
+    by_run true e = cc
+    by_run false e = cc
 
 no_restart : (key : List ℕ) (nonce : ℕ) (o : Option ServerNow) (n : ℕ) (reply : Option (List ℕ)) → restart_way key nonce o ≡ to_call n reply → ⊥
 no_restart key nonce None n reply is = cc
@@ -319,35 +329,39 @@ way_settles setup log (Answer c bytes) n reply is = settles_answer (is_inside se
 way_settles setup log (Beat server) n reply is = absurd (no_beat (server_now setup log server) n reply is)
 way_settles setup log (Restart server key nonce) n reply is = absurd (no_restart key nonce (server_now setup log server) n reply is)
 
-made_adds : (setup : Setup) (log : List Entry) (event : Event) (way : Way) (x : Effect) → way_of setup log event.kind ≡ way → IsSound setup log → IsMade setup log event.at way x → Adds setup log (entry_of event x)
-made_adds setup log event (to_scheduler peer bytes) x same sound is =
+opening_core : (s : ServerNow) (o : Option Archives) → (opening_effect s o).core ≡ None
+opening_core s None = refl
+opening_core s (Some archives) = refl
+
+made_adds : (w : Weather) (setup : Setup) (log : List Entry) (event : Event) (way : Way) (x : Effect) → way_of setup log event.kind ≡ way → IsSound setup log → IsMade w setup log event.at way x → Adds setup log (entry_of event x)
+made_adds w setup log event (to_scheduler peer bytes) x same sound is =
     subst (λ (y : Effect). Adds setup log (entry_of event y)) (sym is.2) (answer_adds setup log event (length log) event.at is.0.json is.0.what)
-made_adds setup log event (to_call n reply) x same sound is =
-    settled_adds setup log event event.at n reply (waiting_at log n) x sound refl (way_settles setup log event.kind n reply same) is
-made_adds setup log event (to_server s bytes) x same sound is =
+made_adds w setup log event (to_call n reply) x same sound is =
+    settled_adds w setup log event event.at n reply (waiting_at log n) x sound refl (way_settles setup log event.kind n reply same) is
+made_adds w setup log event (to_server s bytes) x same sound is =
     subst (λ (y : Effect). Adds setup log (entry_of event y)) (sym is.2)
     (quiet_adds setup log event (served setup s (length log) is.0.json is.0.what) (served_core setup s (length log) is.0.json is.0.what))
-made_adds setup log event (to_beat s) x same sound is = quiet_adds setup log event x (ap (λ (y : Effect). y.core) is)
-made_adds setup log event (to_restart s key nonce) x same sound is = quiet_adds setup log event x (ap (λ (y : Effect). y.core) is)
-made_adds setup log event to_nobody x same sound is = word_adds setup log event Down x is
-made_adds setup log event to_nothing x same sound is = word_adds setup log event Void x is
+made_adds w setup log event (to_beat s) x same sound is = quiet_adds setup log event x (ap (λ (y : Effect). y.core) is)
+made_adds w setup log event (to_restart s key nonce) x same sound is = quiet_adds setup log event x (ap (λ (y : Effect). y.core) is.2 ∙ opening_core s is.0)
+made_adds w setup log event to_nobody x same sound is = word_adds setup log event Down x is
+made_adds w setup log event to_nothing x same sound is = word_adds setup log event Void x is
 
-pub sound_next : (setup : Setup) (log : List Entry) (event : Event) (e : Entry) → setup.scheduler.count < 2 ^ 64 → IsSound setup log → IsNext setup log event e → IsSound setup (log ++ e ∷ [])
-sound_next setup log event e fits sound is =
+pub sound_next : (w : Weather) (setup : Setup) (log : List Entry) (event : Event) (e : Entry) → setup.scheduler.count < 2 ^ 64 → IsSound setup log → IsNext w setup log event e → IsSound setup (log ++ e ∷ [])
+sound_next w setup log event e fits sound is =
     subst (λ (d : Entry). IsSound setup (log ++ d ∷ [])) (sym is.2)
-    (sound-step setup log (entry_of event is.0) fits sound (made_adds setup log event (way_of setup log event.kind) is.0 refl sound is.1))
+    (sound-step setup log (entry_of event is.0) fits sound (made_adds w setup log event (way_of setup log event.kind) is.0 refl sound is.1))
 
 pub sound_none : (setup : Setup) → IsSound setup []
 sound_none setup = record { legal = tt; own = λ n w t waits is. let none : None ≡ Some w = waits in absurd cc }
 
 -- ---- runs
 
-pub sound_run : (setup : Setup) (log : List Entry) (events : List Event) (entries : List Entry) → setup.scheduler.count < 2 ^ 64 → IsSound setup log → EachNext setup log events entries → IsSound setup (log ++ entries)
-sound_run setup log [] [] fits sound each = subst (IsSound setup) (sym (append-nil log)) sound
-sound_run setup log (v ∷ vs) (x ∷ xs) fits sound each =
-    subst (IsSound setup) (append_assoc log (x ∷ []) xs) (sound_run setup (log ++ x ∷ []) vs xs fits (sound_next setup log v x fits sound each.0) each.1)
-sound_run setup log [] (x ∷ xs) fits sound each = absurd each
-sound_run setup log (v ∷ vs) [] fits sound each = absurd each
+pub sound_run : (W : ℕ → Weather) (setup : Setup) (log : List Entry) (events : List Event) (entries : List Entry) → setup.scheduler.count < 2 ^ 64 → IsSound setup log → EachNext W setup log events entries → IsSound setup (log ++ entries)
+sound_run W setup log [] [] fits sound each = subst (IsSound setup) (sym (append-nil log)) sound
+sound_run W setup log (v ∷ vs) (x ∷ xs) fits sound each =
+    subst (IsSound setup) (append_assoc log (x ∷ []) xs) (sound_run W setup (log ++ x ∷ []) vs xs fits (sound_next (W (length log)) setup log v x fits sound each.0) each.1)
+sound_run W setup log [] (x ∷ xs) fits sound each = absurd each
+sound_run W setup log (v ∷ vs) [] fits sound each = absurd each
 
 lawful : (base count : ℕ) (log : List CoreEntry) → count < 2 ^ 64 → IsLegal base count log → IsLawful base count log
 lawful base count log fits legal = record {
@@ -367,8 +381,8 @@ are_lawful setup entries fits sound = λ n.
     lawful setup.scheduler.base setup.scheduler.count (core_log (take n entries)) fits
     (legal_front setup.scheduler.base setup.scheduler.count (core_log (take n entries)) (core_log (drop n entries)) (subst (IsLegal setup.scheduler.base setup.scheduler.count) (front_log n entries) sound.legal))
 
-pub runs_lawful : (setup : Setup) (events : List Event) (entries : List Entry) → setup.scheduler.count < 2 ^ 64 → EachNext setup [] events entries → AreLawful setup entries
-runs_lawful setup events entries fits each = are_lawful setup entries fits (sound_run setup [] events entries fits (sound_none setup) each)
+pub runs_lawful : (W : ℕ → Weather) (setup : Setup) (events : List Event) (entries : List Entry) → setup.scheduler.count < 2 ^ 64 → EachNext W setup [] events entries → AreLawful setup entries
+runs_lawful W setup events entries fits each = are_lawful setup entries fits (sound_run W setup [] events entries fits (sound_none setup) each)
 
 pub run_lawful : (setup : Setup) (entries : List Entry) → setup.scheduler.count < 2 ^ 64 → IsRun setup entries → AreLawful setup entries
-run_lawful setup entries fits run = runs_lawful setup (map (λ (e : Entry). e.event) entries) entries fits run
+run_lawful setup entries fits run = runs_lawful steady setup (map (λ (e : Entry). e.event) entries) entries fits run

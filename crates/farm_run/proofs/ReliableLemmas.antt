@@ -1,5 +1,5 @@
 -- Which requests get the reply that their row names, and what a restart keeps.
-use Rattle.std.proofs.Common.{◌≡◌, ◌⊎◌, inl, inr, ℕ, suc, ◌+◌, ◌<◌, not, Bool, true, false, cond, List, [], length, map, take, drop, Option, Some, None, Ok, refl, ap, ◌∙◌, sym, subst, arith}
+use Rattle.std.proofs.Common.{◌≡◌, ◌⊎◌, inl, inr, ℕ, suc, ◌+◌, ◌<◌, not, Bool, true, false, cond, List, [], length, map, take, drop, Option, Some, None, Result, Ok, refl, ap, ◌∙◌, sym, subst, arith}
 use Rattle.std.specs.Prelude.{slice_get}
 use Rattle.std.specs.Option.{option_map}
 use Rattle.std.proofs.lemmas.Bool.{eq-eqb}
@@ -20,7 +20,10 @@ use Rattle.http_routes.specs.declared.server_route.ServerAsked.{ServerAsked}
 use Rattle.http_routes.specs.declared.server_route.ServerRouted.TheVariants as server_asked
 use Rattle.build_server.specs.Books.{held_for}
 use Rattle.build_server.specs.Builds.{ran_of, built_of, run_answer}
-use Rattle.build_server.specs.Rules.{submit_verdict}
+use Rattle.build_server.specs.declared.submit.Submitted.{Submitted}
+use Rattle.lru_disk_cache.specs.Archives.{Archives}
+use Rattle.dist_types.specs.declared.results.UpdateJobStateResult.{UpdateJobStateResult}
+use Rattle.dist_types.specs.declared.outgoing.CallFault.{CallFault}
 use Rattle.build_server.specs.declared.run.Outcome.{Outcome}
 use Rattle.build_server.specs.declared.run.Outcome.TheVariants as outcome
 use Rattle.farm_script.specs.declared.event.Event.{Event}
@@ -41,13 +44,14 @@ use Rattle.farm_run.specs.Begun.{IsBegunBy, IsFirstCall, IsMadeBy, IsCallOf, out
 use Rattle.farm_run.specs.Builds.{SettlesCall}
 use Rattle.farm_run.specs.Calls.{call_at, delivery_at, settles_by, is_void, waiting_at}
 use Rattle.farm_run.specs.Effects.{effect_of, entry_of}
-use Rattle.farm_run.specs.Next.{GoesOn, IsSettled, IsMade, IsNext, EachNext, IsRun}
-use Rattle.farm_run.specs.Reliable.{IsReserved, AsksAt, IsGranted, EndsBy, AllocationsEnd, SubmissionsEnd, IsRunBy, RestartsKeep, IsReliable}
+use Rattle.farm_run.specs.Next.{steady, GoesOn, IsSettled, IsMade, IsNext, EachNext, IsRun}
+use Rattle.farm_run.specs.Reliable.{IsReserved, AsksAt, IsGranted, EndsBy, AllocationsEnd, SubmissionsEnd, IsRunBy, reopened, RestartsKeep, IsReliable}
 use Rattle.farm_run.specs.Seen.{core_log, core_of}
-use Rattle.farm_run.specs.Served.{AsksServer, IsReport, report_of, told_of, books_of, run_outcome, restart_effect}
+use Rattle.farm_run.specs.Served.{AsksServer, IsReport, report_of, told_of, opening_effect}
 use Rattle.farm_run.specs.Servers.{ServerNow, restart_by, restarted, kind_after, stepped, server_after, server_of, server_now}
-use Rattle.farm_run.specs.Settled.{assignment_end, ready_end, started_end, complete_end, ended_response, running, Reports, Lives, ReportsIn}
-use Rattle.farm_run.specs.Ways.{Way, server_way, delivery_way, caller_of, is_inside, restart_way, way_of, brought_by, brought_of, brought_at, bytes_of, to_nothing, to_scheduler, to_server, to_call, to_restart}
+use Rattle.farm_run.specs.Settled.{assignment_end, ReadyEnds, StartedEnds, complete_end, ended_response, running, Reports, Lives, ReportsIn}
+use Rattle.farm_run.specs.Ways.{Way, server_way, delivery_way, caller_of, is_inside, restart_way, way_of, brought_by, brought_of, brought_at, bytes_of, to_nothing, to_nobody, to_scheduler, to_server, to_call, to_restart}
+use Rattle.farm_run.specs.Weather.{Weather, Stores, Works, Opens}
 use Rattle.farm_run.proofs.BuildLemmas.{found_now, call_later, no_return, no_outside, no_beat, no_restart}
 use Rattle.farm_run.proofs.OneLemmas.{one_asked, one_server_asked, one_outcome, one_update}
 use Rattle.farm_run.proofs.RepliedLemmas.{size_at, replied_once}
@@ -59,7 +63,11 @@ use Rattle.farm_run.proofs.TakenLemmas.{take_some}
 
 server_brings : (bytes bs : List ℕ) (o : Option ServerNow) (s : ServerNow) → server_way bs o ≡ to_server s bytes → bs ≡ bytes
 server_brings bytes bs None s e = absurd cc
-server_brings bytes bs (Some t) s e = cc
+server_brings bytes bs (Some t) s e = by_run t.running e
+  where
+    by_run : (b : Bool) → cond b (to_server t bs) to_nobody ≡ to_server s bytes → bs ≡ bytes
+    by_run true h = cc
+    by_run false h = absurd cc
 
 way_brings : (b : Bool) (peer : Addr) (bytes bs : List ℕ) (o : Option ServerNow) (s : ServerNow) → cond b (to_scheduler peer bs) (server_way bs o) ≡ to_server s bytes → bs ≡ bytes
 way_brings true peer bytes bs o s e = absurd cc
@@ -134,22 +142,23 @@ module _ (setup : Setup) (entries : List Entry) (n : ℕ) (server : Addr) (life 
 
 -- ---- a restart
 
-restarts_so : (now : ServerNow) (server : Addr) (key : List ℕ) (nonce : ℕ) → now.setup.addr ≡ server
-    → stepped (Some (record { server = now.setup.addr; kind = step.Opened now.archives })) (restarted (restart_by now.setup.addr (Restart server key nonce)) now)
-    ≡ record { setup = now.setup; life = counted now.life; key = key; nonce = nonce; held = []; archives = now.archives; builds = now.builds }
-restarts_so now server key nonce own =
-    let opened : Option Step = Some (record { server = now.setup.addr; kind = step.Opened now.archives }) in
-    let here : restart_by now.setup.addr (Restart server key nonce) ≡ Some (key, nonce) =
-    ap (λ (b : Bool). cond b (Some (key, nonce)) None) (ap (same_addr server) own ∙ same_self server) in
+own_restart : (now : ServerNow) (server : Addr) (key : List ℕ) (nonce : ℕ) → now.setup.addr ≡ server → restart_by now.setup.addr (Restart server key nonce) ≡ Some (key, nonce)
+own_restart now server key nonce own = ap (λ (b : Bool). cond b (Some (key, nonce)) None) (ap (same_addr server) own ∙ same_self server)
+
+pub restarts_so : (now : ServerNow) (server : Addr) (key : List ℕ) (nonce : ℕ) (o : Option Archives) → now.setup.addr ≡ server
+    → stepped (opening_effect now o).step (restarted (restart_by now.setup.addr (Restart server key nonce)) now) ≡ reopened now key nonce o
+restarts_so now server key nonce None own = ap (λ (r : Option (List ℕ × ℕ)). restarted r now) (own_restart now server key nonce own)
+restarts_so now server key nonce (Some archives) own =
+    let opened : Option Step = Some (record { server = now.setup.addr; kind = step.Opened archives }) in
     let fresh : ServerNow = restarted (Some (key, nonce)) now in
-    ap (λ (o : Option (List ℕ × ℕ)). stepped opened (restarted o now)) here
-    ∙ ap (λ (b : Bool). cond b (kind_after (step.Opened now.archives) fresh) fresh) (same_self now.setup.addr)
+    ap (λ (o : Option (List ℕ × ℕ)). stepped opened (restarted o now)) (own_restart now server key nonce own)
+    ∙ ap (λ (b : Bool). cond b (kind_after (step.Opened archives) fresh) fresh) (same_self now.setup.addr)
 
 -- ---- the runs
 
-module _ (setup : Setup) (events : List Event) (entries : List Entry) (each : EachNext setup [] events entries) where
-  next : (n : ℕ) (e : Entry) → slice_get entries n ≡ Some e → IsNext setup (take n entries) e.event e
-  next n e there = next_at setup [] events entries n e each there
+module _ (W : ℕ → Weather) (setup : Setup) (events : List Event) (entries : List Entry) (each : EachNext W setup [] events entries) where
+  next : (n : ℕ) (e : Entry) → slice_get entries n ≡ Some e → IsNext (W n) setup (take n entries) e.event e
+  next n e there = next_at W setup [] events entries n n e (omega arith) each there
 
   -- what an entry that settles a call makes of it
   record Continued (n k : ℕ) (e : Entry) (reply : Option (List ℕ)) : Type 0 where
@@ -159,7 +168,7 @@ module _ (setup : Setup) (events : List Event) (entries : List Entry) (each : Ea
     is : e ≡ entry_of e.event x
     pending : Pending
     of_call : IsCallOf setup (take k entries) n pending
-    goes : GoesOn setup (take k entries) e.event.at pending.root pending.json reply pending.ask x
+    goes : GoesOn (W k) setup (take k entries) e.event.at pending.root pending.json reply pending.ask x
 
   continued : (n k : ℕ) (s : SettlesCall entries n k) (reply : Option (List ℕ)) → settles_by (take k entries) s.entry.event.kind ≡ Some (n, reply) → Continued n k s.entry reply
   continued n k s reply names =
@@ -168,16 +177,16 @@ module _ (setup : Setup) (events : List Event) (entries : List Entry) (each : Ea
       by_way x is made t.silent (way_back setup (take k entries) s.entry.event.kind n reply names)
     where
       by_wait : (x : Effect) → s.entry ≡ entry_of s.entry.event x → is_void s.entry.word ≡ false → way_of setup (take k entries) s.entry.event.kind ≡ to_call n reply
-          → (o : Option Entry) → IsSettled setup (take k entries) s.entry.event.at n reply o x → Continued n k s.entry reply
+          → (o : Option Entry) → IsSettled (W k) setup (take k entries) s.entry.event.at n reply o x → Continued n k s.entry reply
       by_wait x is silent way None h = absurd (void s.entry.event x s.entry is h silent)
       by_wait x is silent way (Some w) h =
           record { before = (get_front entries n k h.1.entry h.1.there).0; way = way; x = x; is = is; pending = h.0; of_call = h.1; goes = h.2 }
 
-      by_way : (x : Effect) → s.entry ≡ entry_of s.entry.event x → IsMade setup (take k entries) s.entry.event.at (way_of setup (take k entries) s.entry.event.kind) x → is_void s.entry.word ≡ false
+      by_way : (x : Effect) → s.entry ≡ entry_of s.entry.event x → IsMade (W k) setup (take k entries) s.entry.event.at (way_of setup (take k entries) s.entry.event.kind) x → is_void s.entry.word ≡ false
           → (way_of setup (take k entries) s.entry.event.kind ≡ to_call n reply) ⊎ (way_of setup (take k entries) s.entry.event.kind ≡ to_nothing) → Continued n k s.entry reply
       by_way x is made silent (inl same) =
-          by_wait x is silent same (waiting_at (take k entries) n) (subst (λ (w : Way). IsMade setup (take k entries) s.entry.event.at w x) same made)
-      by_way x is made silent (inr same) = absurd (void s.entry.event x s.entry is (subst (λ (w : Way). IsMade setup (take k entries) s.entry.event.at w x) same made) silent)
+          by_wait x is silent same (waiting_at (take k entries) n) (subst (λ (way : Way). IsMade (W k) setup (take k entries) s.entry.event.at way x) same made)
+      by_way x is made silent (inr same) = absurd (void s.entry.event x s.entry is (subst (λ (way : Way). IsMade (W k) setup (take k entries) s.entry.event.at way x) same made) silent)
 
   -- ---- an allocation
 
@@ -190,7 +199,7 @@ module _ (setup : Setup) (events : List Event) (entries : List Entry) (each : Ea
       let own : IsMadeBy setup (take n entries) (way_of setup (take n entries) q.entry.event.kind) (effect_of q.entry) p =
       subst (λ (e : Entry). IsMadeBy setup (take n entries) (way_of setup (take n entries) e.event.kind) (effect_of e) p) same front in
       let begun : IsBegunBy setup (core_log (take n entries)) (length (take n entries)) (to_scheduler q.peer q.bytes) (effect_of q.entry) p =
-      subst (λ (w : Way). IsMadeBy setup (take n entries) w (effect_of q.entry) p) q.comes own in
+      subst (λ (way : Way). IsMadeBy setup (take n entries) w (effect_of q.entry) p) q.comes own in
       let wish : Asked = record { what = asked.Alloc q.tc; json = json } in
       let form : begun.0.json ≡ json = ap (λ (c : Asked). c.json) (one_asked setup q.peer q.bytes begun.0 wish begun.1 q.asks) in
       let one : begun.2.ticket ≡ t = same_Some begun.2.ticket t (sym begun.2.reserved ∙ q.reserves) in
@@ -200,8 +209,8 @@ module _ (setup : Setup) (events : List Event) (entries : List Entry) (each : Ea
   allocations_end = λ n k json t bytes a q back is_assigned.
       let e : Entry = back.settles.entry in
       let c = continued n k back.settles (Some bytes) back.names in
-      let goes : GoesOn setup (take k entries) e.event.at n json (Some bytes) (Assign t) c.x =
-      subst (λ (p : Pending). GoesOn setup (take k entries) e.event.at p.root p.json (Some bytes) p.ask c.x) (reserved_call n k json t q c.pending c.of_call) c.goes in
+      let goes : GoesOn (W k) setup (take k entries) e.event.at n json (Some bytes) (Assign t) c.x =
+      subst (λ (p : Pending). GoesOn (W k) setup (take k entries) e.event.at p.root p.json (Some bytes) p.ask c.x) (reserved_call n k json t q c.pending c.of_call) c.goes in
       let same : c.x ≡ assignment_end (core_of setup (take k entries)) n json e.event.at t (Ok a) =
       goes.2 ∙ ap (assignment_end (core_of setup (take k entries)) n json e.event.at t) (one_outcome (Some bytes) goes.0 (Ok a) goes.1 is_assigned) in
       record {
@@ -220,32 +229,36 @@ module _ (setup : Setup) (events : List Event) (entries : List Entry) (each : Ea
     back = continued n k g.back.settles (Some g.bytes) g.back.names
 
     reported : (root : ℕ) (json : Bool) (t : Told) (c : Continued n k g.back.settles.entry (Some g.bytes)) → c.pending ≡ record { root = root; json = json; ask = Report server life t }
-        → Reports setup now (brought_at (take k entries) root) root json (Some g.bytes) t c.x
+        → Reports (W k) setup now (brought_at (take k entries) root) root json (Some g.bytes) t c.x
     reported root json t c same =
         let bs = brought_at (take k entries) root in
-        let goes : ReportsIn setup life bs root json (Some g.bytes) t (server_now setup (take k entries) server) c.x =
-        subst (λ (p : Pending). GoesOn setup (take k entries) g.back.settles.entry.event.at p.root p.json (Some g.bytes) p.ask c.x) same c.goes in
-        let here : ReportsIn setup life bs root json (Some g.bytes) t (Some now) c.x = subst (λ (o : Option ServerNow). ReportsIn setup life bs root json (Some g.bytes) t o c.x) g.at goes in
-        subst (λ (b : Bool). Lives setup life now bs root json (Some g.bytes) t b c.x) (ap not (eq-eqb now.life life g.lives)) here
+        let goes : ReportsIn (W k) setup life bs root json (Some g.bytes) t (server_now setup (take k entries) server) c.x =
+        subst (λ (p : Pending). GoesOn (W k) setup (take k entries) g.back.settles.entry.event.at p.root p.json (Some g.bytes) p.ask c.x) same c.goes in
+        let here : ReportsIn (W k) setup life bs root json (Some g.bytes) t (Some now) c.x = subst (λ (o : Option ServerNow). ReportsIn (W k) setup life bs root json (Some g.bytes) t o c.x) g.at goes in
+        subst (λ (b : Bool). Lives (W k) setup life now bs root json (Some g.bytes) t b c.x) (ap not (eq-eqb now.life life g.lives)) here
 
     granted_addr : now.setup.addr ≡ server
     granted_addr = (found_now setup (take k entries) server now g.at).own
 
-  submissions_end : SubmissionsEnd setup entries
+  submissions_end : SubmissionsEnd W setup entries
   submissions_end = λ n k server life job json body bytes now q g.
       let a : ServerAsked = record { what = server_asked.Submit job; json = json; body = body } in
       let c = back n k server life now g in
       let r = reported n k server life now g n json (told.Ready job body) c (asked_call setup entries n server life bytes a q (told.Ready job body) refl k c.pending c.of_call) in
-      let same : c.x ≡ ready_end now n json job (drop body bytes) (Ok g.answer) =
-      r.2 ∙ ap (ready_end now n json job (drop body (brought_at (take k entries) n))) (one_update (Some g.bytes) r.0 (Ok g.answer) r.1 g.granted)
-      ∙ ap (λ (bs : List ℕ). ready_end now n json job (drop body bs) (Ok g.answer)) (asked_brought setup entries n server life bytes a q (told.Ready job body) refl k c.before) in
-      record {
-        entry = g.back.settles.entry;
-        there = g.back.settles.there;
-        steps = ap (λ (y : Entry). y.step) c.is ∙ ap (λ (z : Effect). z.step) same
-            ∙ ap (λ (addr : Addr). Some (record { server = addr; kind = step.Submitted job (submit_verdict (books_of now) (held_for job now.held) (drop body bytes)) })) (granted_addr n k server life now g);
-        replies = ap (λ (y : Entry). y.reply) c.is ∙ ap (λ (z : Effect). z.reply) same;
-      }
+      let bs : brought_at (take k entries) n ≡ bytes = asked_brought setup entries n server life bytes a q (told.Ready job body) refl k c.before in
+      let ok : ReadyEnds (W k) now n json job (drop body (brought_at (take k entries) n)) (Ok g.answer) c.x =
+      subst (λ (u : Result UpdateJobStateResult CallFault). ReadyEnds (W k) now n json job (drop body (brought_at (take k entries) n)) u c.x) (one_update (Some g.bytes) r.0 (Ok g.answer) r.1 g.granted) r.2 in
+      let (outcome, stores, same) = ok in (
+        outcome,
+        subst (λ (b : List ℕ). Stores (W k) now job (drop body b) outcome) bs stores,
+        record {
+          entry = g.back.settles.entry;
+          there = g.back.settles.there;
+          steps = ap (λ (y : Entry). y.step) c.is ∙ ap (λ (z : Effect). z.step) same
+              ∙ ap (λ (addr : Addr). Some (record { server = addr; kind = step.Submitted job outcome })) (granted_addr n k server life now g);
+          replies = ap (λ (y : Entry). y.reply) c.is ∙ ap (λ (z : Effect). z.reply) same;
+        },
+      )
 
   -- ---- a run
 
@@ -257,28 +270,33 @@ module _ (setup : Setup) (events : List Event) (entries : List Entry) (each : Ea
     abbrev start : Told
     start = told.Started job run (body + at)
 
-    abbrev went : Outcome
-    went = run_outcome now (held_for job now.held) run.outputs (drop (body + at) bytes)
-
     first : Continued n j g.back.settles.entry (Some g.bytes)
     first = back n j server life now g
 
-    run_is : (c : Continued n j g.back.settles.entry (Some g.bytes)) → c.x ≡ running setup server job went
-    run_is c =
-        let r = reported n j server life now g n json start c (asked_call setup entries n server life bytes wish q start refl j c.pending c.of_call) in
-        r.2 ∙ ap (started_end setup now n job run (drop (body + at) (brought_at (take j entries) n))) (one_update (Some g.bytes) r.0 (Ok g.answer) r.1 g.granted)
-        ∙ ap (λ (bs : List ℕ). running setup now.setup.addr job (run_outcome now (held_for job now.held) run.outputs (drop (body + at) bs))) (asked_brought setup entries n server life bytes wish q start refl j c.before)
-        ∙ ap (λ (addr : Addr). running setup addr job went) (granted_addr n j server life now g)
+    run_is : (outcome : Outcome) × Works (W j) now (held_for job now.held) run (drop (body + at) bytes) outcome × (first.x ≡ running setup server job outcome)
+    run_is =
+        let r = reported n j server life now g n json start first (asked_call setup entries n server life bytes wish q start refl j first.pending first.of_call) in
+        let bs : brought_at (take j entries) n ≡ bytes = asked_brought setup entries n server life bytes wish q start refl j first.before in
+        let ok : StartedEnds (W j) setup now n job run (drop (body + at) (brought_at (take j entries) n)) (Ok g.answer) first.x =
+        subst (λ (u : Result UpdateJobStateResult CallFault). StartedEnds (W j) setup now n job run (drop (body + at) (brought_at (take j entries) n)) u first.x) (one_update (Some g.bytes) r.0 (Ok g.answer) r.1 g.granted) r.2 in
+        let (outcome, works, same) = ok in (
+          outcome,
+          subst (λ (b : List ℕ). Works (W j) now (held_for job now.held) run (drop (body + at) b) outcome) bs works,
+          same ∙ ap (λ (addr : Addr). running setup addr job outcome) (granted_addr n j server life now g),
+        )
+
+    abbrev went : Outcome
+    went = run_is.0
 
     ran_step : g.back.settles.entry.step ≡ Some (record { server = server; kind = step.Ran job (ran_of went) (built_of went) })
-    ran_step = ap (λ (y : Entry). y.step) first.is ∙ ap (λ (z : Effect). z.step) (run_is first)
+    ran_step = ap (λ (y : Entry). y.step) first.is ∙ ap (λ (z : Effect). z.step) run_is.2
 
     pub run_by : IsRunBy setup entries j server job went
     run_by = record {
       entry = g.back.settles.entry;
       there = g.back.settles.there;
       steps = ran_step;
-      tells = ap (λ (y : Entry). y.call) first.is ∙ ap (λ (z : Effect). z.call) (run_is first);
+      tells = ap (λ (y : Entry). y.call) first.is ∙ ap (λ (z : Effect). z.call) run_is.2;
     }
 
     -- what is kept of the report of the run's end
@@ -291,7 +309,7 @@ module _ (setup : Setup) (events : List Event) (entries : List Entry) (each : Ea
         subst (λ (l : List Entry). IsMadeBy setup l (way_of setup l of_call.entry.event.kind) (effect_of of_call.entry) p) (take_take entries j k (omega (arith, f.0))) of_call.made in
         let own : IsMadeBy setup (take j entries) (way_of setup (take j entries) e.event.kind) (effect_of e) p =
         subst (λ (d : Entry). IsMadeBy setup (take j entries) (way_of setup (take j entries) d.event.kind) (effect_of d) p) same front in
-        let made : IsMadeBy setup (take j entries) (to_call n (Some g.bytes)) (effect_of e) p = subst (λ (w : Way). IsMadeBy setup (take j entries) w (effect_of e) p) first.way own in
+        let made : IsMadeBy setup (take j entries) (to_call n (Some g.bytes)) (effect_of e) p = subst (λ (way : Way). IsMadeBy setup (take j entries) w (effect_of e) p) first.way own in
         let began = asked_first setup entries n server life bytes wish q start refl j made.first made.call in
         let told_so : completion_at n json server life e.step ≡ Some p = sym (ap (λ (d : Pending). completion_of d d.ask e.step) began) ∙ made.is in
         sym (same_Some _ p (sym (ap (completion_at n json server life) ran_step) ∙ told_so))
@@ -311,29 +329,31 @@ module _ (setup : Setup) (events : List Event) (entries : List Entry) (each : Ea
           replies = ap (λ (y : Entry). y.reply) c.is ∙ ap (λ (z : Effect). z.reply) same;
         }
 
-  restarts_keep : RestartsKeep setup entries
+  restarts_keep : RestartsKeep W setup entries
   restarts_keep = λ k e server key nonce now there is at.
       let (x, made, same) = next k e there in
       let way : way_of setup (take k entries) e.event.kind ≡ to_restart now key nonce = ap (way_of setup (take k entries)) is ∙ ap (restart_way key nonce) at in
-      let does : x ≡ restart_effect now = subst (λ (w : Way). IsMade setup (take k entries) e.event.at w x) way made in
-      let opened : Option Step = Some (record { server = now.setup.addr; kind = step.Opened now.archives }) in
-      let steps : e.step ≡ opened = ap (λ (y : Entry). y.step) same ∙ ap (λ (z : Effect). z.step) does in
+      let (opened, opens, does) = subst (λ (way : Way). IsMade (W k) setup (take k entries) e.event.at way x) way made in
+      let effect : effect_of e ≡ opening_effect now opened = ap effect_of same ∙ does in
+      let steps : e.step ≡ (opening_effect now opened).step = ap (λ (z : Effect). z.step) effect in
       let f = found_now setup (take k entries) server now at in
-      let after : server_of f.server (take (suc k) entries) ≡ record { setup = now.setup; life = counted now.life; key = key; nonce = nonce; held = []; archives = now.archives; builds = now.builds } =
+      let after : server_of f.server (take (suc k) entries) ≡ reopened now key nonce opened =
       ap (server_of f.server) (take_some entries k e there) ∙ server-push f.server (take k entries) e ∙ ap (λ (s : ServerNow). server_after s e) f.is
       ∙ ap (λ (o : Option Step). stepped o (restarted (restart_by now.setup.addr e.event.kind) now)) steps
-      ∙ ap (λ (kd : EventKind). stepped opened (restarted (restart_by now.setup.addr kd) now)) is
-      ∙ restarts_so now server key nonce f.own in
-      (steps, ap (option_map (λ (s : SetupServer). server_of s (take (suc k) entries))) f.found ∙ ap (λ (s : ServerNow). Some s) after)
+      ∙ ap (λ (kd : EventKind). stepped (opening_effect now opened).step (restarted (restart_by now.setup.addr kd) now)) is
+      ∙ restarts_so now server key nonce opened f.own in
+      (opened, opens, effect, ap (option_map (λ (s : SetupServer). server_of s (take (suc k) entries))) f.found ∙ ap (λ (s : ServerNow). Some s) after)
 
-  pub is_reliable : IsReliable setup entries
+  pub is_reliable : IsReliable W setup entries
   is_reliable = record {
-    replied = replied_once setup events entries each;
+    replied = replied_once W setup events entries each;
     allocations = allocations_end;
     submissions = submissions_end;
-    runs = λ n j server life job run at json body bytes now q g. (run_by n j server life job run at json body bytes now q g, run_ends n j server life job run at json body bytes now q g);
+    runs = λ n j server life job run at json body bytes now q g.
+        let r = run_is n j server life job run at json body bytes now q g in
+        (r.0, r.1, run_by n j server life job run at json body bytes now q g, run_ends n j server life job run at json body bytes now q g);
     restarts = restarts_keep;
   }
 
-pub run_reliable : (setup : Setup) (entries : List Entry) → IsRun setup entries → IsReliable setup entries
-run_reliable setup entries run = is_reliable setup (map (λ (e : Entry). e.event) entries) entries run
+pub run_reliable : (setup : Setup) (entries : List Entry) → IsRun setup entries → IsReliable steady setup entries
+run_reliable setup entries run = is_reliable steady setup (map (λ (e : Entry). e.event) entries) entries run

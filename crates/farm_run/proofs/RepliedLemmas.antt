@@ -57,9 +57,11 @@ use Rattle.farm_run.specs.Effects.{word_effect, reply_effect, step_reply_effect,
 use Rattle.farm_run.specs.Next.{GoesOn, IsServed, IsSettled, IsMade, IsNext, EachNext}
 use Rattle.farm_run.specs.Reliable.{RepliesTo, AreRepliedOnce}
 use Rattle.farm_run.specs.Seen.{core_log, core_of}
-use Rattle.farm_run.specs.Served.{assigned, served, books_of}
+use Rattle.farm_run.specs.Served.{assigned, served, books_of, opening_effect}
 use Rattle.farm_run.specs.Servers.{ServerNow, server_now, is_over}
-use Rattle.farm_run.specs.Settled.{assignment_end, ready_end, started_end, complete_end, ended_response, Reports, Lives, ReportsIn}
+use Rattle.farm_run.specs.Weather.{Weather}
+use Rattle.lru_disk_cache.specs.Archives.{Archives}
+use Rattle.farm_run.specs.Settled.{assignment_end, ReadyEnds, StartedEnds, complete_end, ended_response, Reports, Lives, ReportsIn}
 use Rattle.farm_run.specs.Ways.{Way, way_of, brought_at, to_nothing, to_nobody, to_scheduler, to_server, to_call, to_beat, to_restart}
 use Rattle.farm_run.proofs.MadeLemmas.{goes_loud}
 use Rattle.farm_run.proofs.NextLemmas.{settles_it, way_settles}
@@ -129,15 +131,18 @@ assignment_says s root json at t (Err f) =
     let made = rule s (call.Undo at t.number t.job) in
     says_reply root (Some made) (fault_response_of (fault.AssignFailed (undone_by made.kind) f))
 
-ready_says : (s : ServerNow) (root : ℕ) (json : Bool) (job : JobId) (archive : List ℕ) (r : Result UpdateJobStateResult CallFault) → Says root (ready_end s root json job archive r)
-ready_says s root json job archive (Ok u) =
-    let outcome = submit_verdict (books_of s) (held_for job s.held) archive in
-    says_step root s.setup.addr (step.Submitted job outcome) (submit_response json (submit_result outcome))
-ready_says s root json job archive (Err f) = unreported_says root s.setup.addr job f
+ready_says : (w : Weather) (s : ServerNow) (root : ℕ) (json : Bool) (job : JobId) (archive : List ℕ) (r : Result UpdateJobStateResult CallFault) (x : Effect) → ReadyEnds w s root json job archive r x → Says root x
+ready_says w s root json job archive (Ok u) x (outcome, stores, is) =
+    subst (Says root) (sym is) (says_step root s.setup.addr (step.Submitted job outcome) (submit_response json (submit_result outcome)))
+ready_says w s root json job archive (Err f) x is = subst (Says root) (sym is) (unreported_says root s.setup.addr job f)
 
-started_says : (setup : Setup) (s : ServerNow) (root : ℕ) (job : JobId) (run : RunJobHttpRequest) (inputs : List ℕ) (r : Result UpdateJobStateResult CallFault) → Says root (started_end setup s root job run inputs r)
-started_says setup s root job run inputs (Ok u) = inl refl
-started_says setup s root job run inputs (Err f) = unreported_says root s.setup.addr job f
+started_says : (w : Weather) (setup : Setup) (s : ServerNow) (root : ℕ) (job : JobId) (run : RunJobHttpRequest) (inputs : List ℕ) (r : Result UpdateJobStateResult CallFault) (x : Effect) → StartedEnds w setup s root job run inputs r x → Says root x
+started_says w setup s root job run inputs (Ok u) x (went, works, is) = inl (ap (λ (y : Effect). y.reply) is)
+started_says w setup s root job run inputs (Err f) x is = subst (Says root) (sym is) (unreported_says root s.setup.addr job f)
+
+opening_says : (n : ℕ) (s : ServerNow) (o : Option Archives) → Says n (opening_effect s o)
+opening_says n s None = inl refl
+opening_says n s (Some archives) = inl refl
 
 complete_says : (addr : Addr) (root : ℕ) (json : Bool) (job : JobId) (outcome : Outcome) (r : Result UpdateJobStateResult CallFault) → Says root (complete_end addr root json job outcome r)
 complete_says addr root json job outcome (Ok u) = says_step root addr (step.Finished job) (ended_response json (run_answer outcome))
@@ -147,33 +152,33 @@ complete_says addr root json job outcome (Err f) = unreported_says root addr job
 moved : (n : ℕ) (x y : Effect) → x ≡ y → Says n y → Says n x
 moved n x y e h = subst (Says n) (sym e) h
 
-reports_says : (setup : Setup) (s : ServerNow) (bytes : List ℕ) (root : ℕ) (json : Bool) (reply : Option (List ℕ)) (t : Told) (x : Effect) → Reports setup s bytes root json reply t x → Says root x
-reports_says setup s bytes root json reply (told.Ready job at) x is = moved root x (ready_end s root json job (drop at bytes) is.0) is.2 (ready_says s root json job (drop at bytes) is.0)
-reports_says setup s bytes root json reply (told.Started job run at) x is = moved root x (started_end setup s root job run (drop at bytes) is.0) is.2 (started_says setup s root job run (drop at bytes) is.0)
-reports_says setup s bytes root json reply (told.Complete job outcome) x is = moved root x (complete_end s.setup.addr root json job outcome is.0) is.2 (complete_says s.setup.addr root json job outcome is.0)
-reports_says setup s bytes root json reply told.Heartbeat x is = inl (ap (λ (y : Effect). y.reply) is.2)
+reports_says : (w : Weather) (setup : Setup) (s : ServerNow) (bytes : List ℕ) (root : ℕ) (json : Bool) (reply : Option (List ℕ)) (t : Told) (x : Effect) → Reports w setup s bytes root json reply t x → Says root x
+reports_says w setup s bytes root json reply (told.Ready job at) x is = ready_says w s root json job (drop at bytes) is.0 x is.2
+reports_says w setup s bytes root json reply (told.Started job run at) x is = started_says w setup s root job run (drop at bytes) is.0 x is.2
+reports_says w setup s bytes root json reply (told.Complete job outcome) x is = moved root x (complete_end s.setup.addr root json job outcome is.0) is.2 (complete_says s.setup.addr root json job outcome is.0)
+reports_says w setup s bytes root json reply told.Heartbeat x is = inl (ap (λ (y : Effect). y.reply) is.2)
 
-lives_says : (setup : Setup) (life : ℕ) (s : ServerNow) (bytes : List ℕ) (root : ℕ) (json : Bool) (reply : Option (List ℕ)) (t : Told) (over : Bool) (x : Effect) → Lives setup life s bytes root json reply t over x → Says root x
-lives_says setup life s bytes root json reply t true x is = inl (ap (λ (y : Effect). y.reply) is)
-lives_says setup life s bytes root json reply t false x is = reports_says setup s bytes root json reply t x is
+lives_says : (w : Weather) (setup : Setup) (life : ℕ) (s : ServerNow) (bytes : List ℕ) (root : ℕ) (json : Bool) (reply : Option (List ℕ)) (t : Told) (over : Bool) (x : Effect) → Lives w setup life s bytes root json reply t over x → Says root x
+lives_says w setup life s bytes root json reply t true x is = inl (ap (λ (y : Effect). y.reply) is)
+lives_says w setup life s bytes root json reply t false x is = reports_says w setup s bytes root json reply t x is
 
-report_says : (setup : Setup) (life : ℕ) (bytes : List ℕ) (root : ℕ) (json : Bool) (reply : Option (List ℕ)) (t : Told) (o : Option ServerNow) (x : Effect) → ReportsIn setup life bytes root json reply t o x → Says root x
-report_says setup life bytes root json reply t None x is = inl (ap (λ (y : Effect). y.reply) is)
-report_says setup life bytes root json reply t (Some s) x is = lives_says setup life s bytes root json reply t (is_over life s) x is
+report_says : (w : Weather) (setup : Setup) (life : ℕ) (bytes : List ℕ) (root : ℕ) (json : Bool) (reply : Option (List ℕ)) (t : Told) (o : Option ServerNow) (x : Effect) → ReportsIn w setup life bytes root json reply t o x → Says root x
+report_says w setup life bytes root json reply t None x is = inl (ap (λ (y : Effect). y.reply) is)
+report_says w setup life bytes root json reply t (Some s) x is = lives_says w setup life s bytes root json reply t (is_over life s) x is
 
-goes_says : (setup : Setup) (log : List Entry) (at root : ℕ) (json : Bool) (reply : Option (List ℕ)) (ask : Ask) (x : Effect) → GoesOn setup log at root json reply ask x → Says root x
-goes_says setup log at root json reply (Assign t) x is = moved root x (assignment_end (core_of setup log) root json at t is.0) is.2 (assignment_says (core_of setup log) root json at t is.0)
-goes_says setup log at root json reply (Report server life t) x is = report_says setup life (brought_at log root) root json reply t (server_now setup log server) x is
+goes_says : (w : Weather) (setup : Setup) (log : List Entry) (at root : ℕ) (json : Bool) (reply : Option (List ℕ)) (ask : Ask) (x : Effect) → GoesOn w setup log at root json reply ask x → Says root x
+goes_says w setup log at root json reply (Assign t) x is = moved root x (assignment_end (core_of setup log) root json at t is.0) is.2 (assignment_says (core_of setup log) root json at t is.0)
+goes_says w setup log at root json reply (Report server life t) x is = report_says w setup life (brought_at log root) root json reply t (server_now setup log server) x is
 
 -- what an event does that settles no call
-served_says_so : (setup : Setup) (s : Core) (number at : ℕ) (way : Way) (x : Effect) → IsServed setup s number at way x → Says number x
-served_says_so setup s number at (to_scheduler peer bytes) x is = moved number x (answer_to s number at is.0.json is.0.what) is.2 (answer_says s number at is.0.json is.0.what)
-served_says_so setup s number at (to_server n bytes) x is = moved number x (served setup n number is.0.json is.0.what) is.2 (served_says setup n number is.0.json is.0.what)
-served_says_so setup s number at (to_beat n) x is = inl (ap (λ (y : Effect). y.reply) is)
-served_says_so setup s number at (to_restart n key nonce) x is = inl (ap (λ (y : Effect). y.reply) is)
-served_says_so setup s number at to_nobody x is = inl (ap (λ (y : Effect). y.reply) is)
-served_says_so setup s number at to_nothing x is = inl (ap (λ (y : Effect). y.reply) is)
-served_says_so setup s number at (to_call n reply) x is = absurd is
+served_says_so : (w : Weather) (setup : Setup) (s : Core) (number at : ℕ) (way : Way) (x : Effect) → IsServed w setup s number at way x → Says number x
+served_says_so w setup s number at (to_scheduler peer bytes) x is = moved number x (answer_to s number at is.0.json is.0.what) is.2 (answer_says s number at is.0.json is.0.what)
+served_says_so w setup s number at (to_server n bytes) x is = moved number x (served setup n number is.0.json is.0.what) is.2 (served_says setup n number is.0.json is.0.what)
+served_says_so w setup s number at (to_beat n) x is = inl (ap (λ (y : Effect). y.reply) is)
+served_says_so w setup s number at (to_restart n key nonce) x is = moved number x (opening_effect n is.0) is.2 (opening_says number n is.0)
+served_says_so w setup s number at to_nobody x is = inl (ap (λ (y : Effect). y.reply) is)
+served_says_so w setup s number at to_nothing x is = inl (ap (λ (y : Effect). y.reply) is)
+served_says_so w setup s number at (to_call n reply) x is = absurd is
 
 -- ---- where the reply to a call goes
 
@@ -221,9 +226,9 @@ no_completion q x p e h = by_ask q.ask (ap (λ (y : Effect). completion_of q q.a
 
 -- ---- the runs
 
-module _ (setup : Setup) (events : List Event) (entries : List Entry) (each : EachNext setup [] events entries) where
-  next : (n : ℕ) (e : Entry) → slice_get entries n ≡ Some e → IsNext setup (take n entries) e.event e
-  next n e there = next_at setup [] events entries n e each there
+module _ (W : ℕ → Weather) (setup : Setup) (events : List Event) (entries : List Entry) (each : EachNext W setup [] events entries) where
+  next : (n : ℕ) (e : Entry) → slice_get entries n ≡ Some e → IsNext (W n) setup (take n entries) e.event e
+  next n e there = next_at W setup [] events entries n n e (omega arith) each there
 
   abbrev HasCall : ℕ → Type 0
   HasCall n = (e : Entry) × (slice_get entries n ≡ Some e) × ((c : OutCall) × (e.call ≡ Some c))
@@ -239,7 +244,7 @@ module _ (setup : Setup) (events : List Event) (entries : List Entry) (each : Ea
   settled_call : (n k : ℕ) → SettlesCall entries n k → HasCall n
   settled_call n k s =
       let t = settlement n (take k entries) (drop (suc k) entries) s.entry s.settles in
-      let w = settles_waiting setup (take k entries) s.entry n t.reply (next k s.entry s.there) t.silent t.names in
+      let w = settles_waiting (W k) setup (take k entries) s.entry n t.reply (next k s.entry s.there) t.silent t.names in
       waiting_call n k w.0 w.1
 
   -- the reply to the call of entry c goes to entry n: its own, or one whose call entry c settled
@@ -248,18 +253,18 @@ module _ (setup : Setup) (events : List Event) (entries : List Entry) (each : Ea
 
   -- an entry that makes something of a call is a settlement of it
   settles : (n k : ℕ) (e : Entry) (there : slice_get entries k ≡ Some e) (x : Effect) (is : e ≡ entry_of e.event x) (reply : Option (List ℕ)) (p : Pending)
-      → way_of setup (take k entries) e.event.kind ≡ to_call n reply → IsCallOf setup (take k entries) n p → GoesOn setup (take k entries) e.event.at p.root p.json reply p.ask x → SettlesCall entries n k
+      → way_of setup (take k entries) e.event.kind ≡ to_call n reply → IsCallOf setup (take k entries) n p → GoesOn (W k) setup (take k entries) e.event.at p.root p.json reply p.ask x → SettlesCall entries n k
   settles n k e there x is reply p way of_call goes = record {
     entry = e;
     there = there;
     settles = settles_it (take k entries) n reply e (slice_get_within (take k entries) n of_call.entry of_call.there)
-        (ap (λ (y : Entry). is_void y.word) is ∙ goes_loud setup (take k entries) e.event.at p.root p.json reply p.ask x goes) (way_settles setup (take k entries) e.event.kind n reply way);
+        (ap (λ (y : Entry). is_void y.word) is ∙ goes_loud (W k) setup (take k entries) e.event.at p.root p.json reply p.ask x goes) (way_settles setup (take k entries) e.event.kind n reply way);
   }
 
   -- a completion is made by an entry that settles a call
   completed : (m c : ℕ) (d : Entry) (there : slice_get entries c ≡ Some d) (x : Effect) (is : d ≡ entry_of d.event x) (reply : Option (List ℕ)) (first p : Pending)
       → way_of setup (take c entries) d.event.kind ≡ to_call m reply → completion_of first first.ask x.step ≡ Some p
-      → (o : Option Entry) → IsSettled setup (take c entries) d.event.at m reply o x → SettlesCall entries m c
+      → (o : Option Entry) → IsSettled (W c) setup (take c entries) d.event.at m reply o x → SettlesCall entries m c
   completed m c d there x is reply first p way done None h = absurd (no_completion first x p h done)
   completed m c d there x is reply first p way done (Some w) h = settles m c d there x is reply h.0 way h.1 h.2
 
@@ -289,7 +294,7 @@ module _ (setup : Setup) (events : List Event) (entries : List Entry) (each : Ea
           let done : completion_of made.first made.first.ask x.step ≡ Some p = ap (λ (o : Option Step). completion_of made.first made.first.ask o) (sym step_is) ∙ made.is in
           let s : SettlesCall entries m c =
           completed m c of_call.entry there x is reply made.first p same done (waiting_at (take c entries) m)
-          (subst (λ (w : Way). IsMade setup (take c entries) of_call.entry.event.at w x) same y_made) in
+          (subst (λ (way : Way). IsMade (W c) setup (take c entries) of_call.entry.event.at way x) same y_made) in
           let first_root : made.first.root ≡ m =
           begun_root setup (core_log (take m (take c entries))) m (way_of setup (take m (take c entries)) made.call.entry.event.kind) (effect_of made.call.entry) made.first made.call.begun in
           let root : p.root ≡ m = same_root made.first made.first.ask (effect_of of_call.entry) p made.is ∙ first_root in
@@ -307,18 +312,18 @@ module _ (setup : Setup) (events : List Event) (entries : List Entry) (each : Ea
     spoken n (inl none) = absurd (let no : None ≡ Some r = sym none ∙ said in cc)
     spoken n (inr h) = (ap (λ (y : Entry). y.call) is ∙ h.0, h.1 r said)
 
-    at_once : (way : Way) → IsServed setup (core_of setup (take j entries)) (length (take j entries)) e.event.at way x → (e.call ≡ None) × Replying r.to j
+    at_once : (way : Way) → IsServed (W j) setup (core_of setup (take j entries)) (length (take j entries)) e.event.at way x → (e.call ≡ None) × Replying r.to j
     at_once way h =
-        let t = spoken (length (take j entries)) (served_says_so setup (core_of setup (take j entries)) (length (take j entries)) e.event.at way x h) in
+        let t = spoken (length (take j entries)) (served_says_so (W j) setup (core_of setup (take j entries)) (length (take j entries)) e.event.at way x h) in
         (t.0, inl (t.1 ∙ size_at entries j e there))
 
-    replying : (way : Way) → way_of setup (take j entries) e.event.kind ≡ way → IsMade setup (take j entries) e.event.at way x → (e.call ≡ None) × Replying r.to j
+    replying : (way : Way) → way_of setup (take j entries) e.event.kind ≡ way → IsMade (W j) setup (take j entries) e.event.at way x → (e.call ≡ None) × Replying r.to j
     replying (to_call c reply) same made = by_wait (waiting_at (take j entries) c) made
       where
-        by_wait : (o : Option Entry) → IsSettled setup (take j entries) e.event.at c reply o x → (e.call ≡ None) × Replying r.to j
+        by_wait : (o : Option Entry) → IsSettled (W j) setup (take j entries) e.event.at c reply o x → (e.call ≡ None) × Replying r.to j
         by_wait None h = absurd (let no : None ≡ Some r = sym (ap (λ (y : Effect). y.reply) h) ∙ said in cc)
         by_wait (Some w) h =
-            let t = spoken h.0.root (goes_says setup (take j entries) e.event.at h.0.root h.0.json reply h.0.ask x h.2) in
+            let t = spoken h.0.root (goes_says (W j) setup (take j entries) e.event.at h.0.root h.0.json reply h.0.ask x h.2) in
             (t.0, inr (c, settles c j e there x is reply h.0 same h.1 h.2, subst (λ (n : ℕ). Goes n c) (sym t.1) (rooted c j h.0 h.1)))
     replying (to_scheduler peer bytes) same made = at_once (to_scheduler peer bytes) made
     replying (to_server s bytes) same made = at_once (to_server s bytes) made
@@ -347,14 +352,14 @@ module _ (setup : Setup) (events : List Event) (entries : List Entry) (each : Ea
   replied_once = λ n j k a b. one n j k a b (known n j a).1 (known n k b).1
     where
       both : (n j k c d : ℕ) → RepliesTo entries n j → RepliesTo entries n k → SettlesCall entries c j → SettlesCall entries d k → Goes n c → Goes n d → j ≡ k
-      both n j k c d a b s t (inl p) (inl q) = settled_once setup events entries each c j k s (subst (λ (m : ℕ). SettlesCall entries m k) (sym q ∙ p) t)
+      both n j k c d a b s t (inl p) (inl q) = settled_once W setup events entries each c j k s (subst (λ (m : ℕ). SettlesCall entries m k) (sym q ∙ p) t)
       both n j k c d a b s t (inr p) (inr q) =
-          settled_once setup events entries each c j k s (subst (λ (m : ℕ). SettlesCall entries m k) (settled_once setup events entries each n d c q p) t)
+          settled_once W setup events entries each c j k s (subst (λ (m : ℕ). SettlesCall entries m k) (settled_once W setup events entries each n d c q p) t)
       both n j k c d a b s t (inl p) (inr q) =
-          let same : d ≡ j = settled_once setup events entries each n d j q (subst (λ (m : ℕ). SettlesCall entries m j) (sym p) s) in
+          let same : d ≡ j = settled_once W setup events entries each n d j q (subst (λ (m : ℕ). SettlesCall entries m j) (sym p) s) in
           absurd (clash n j a (called_at d j same (settled_call d k t)))
       both n j k c d a b s t (inr p) (inl q) =
-          let same : c ≡ k = settled_once setup events entries each n c k p (subst (λ (m : ℕ). SettlesCall entries m k) (sym q) t) in
+          let same : c ≡ k = settled_once W setup events entries each n c k p (subst (λ (m : ℕ). SettlesCall entries m k) (sym q) t) in
           absurd (clash n k b (called_at c k same (settled_call c j s)))
 
       own_call : (n k c : ℕ) → SettlesCall entries c k → Goes n c → HasCall n

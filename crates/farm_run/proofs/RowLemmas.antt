@@ -46,7 +46,8 @@ use Rattle.farm_run.specs.Effects.{word_effect, entry_of}
 use Rattle.farm_run.specs.Farm.{IsFarm, IsReceived, IsMadeSo}
 use Rattle.farm_run.specs.Served.{assigned, served, books_of, IsServerAnswered, beat_effect, restart_effect, report_of}
 use Rattle.farm_run.specs.Servers.{ServerNow, restarted, stepped, server_of, server_at, server_now, is_over}
-use Rattle.farm_run.specs.Settled.{ready_end, started_end, complete_end, Reports, Lives, ReportsIn}
+use Rattle.farm_run.specs.Weather.{Weather, calm}
+use Rattle.farm_run.specs.Settled.{ReadyEnds, StartedEnds, ready_end, started_end, complete_end, Reports, Lives, ReportsIn}
 use Rattle.farm_run.specs.Stations.{now_of, IsWell, AreStations, IsStepAt}
 use Rattle.farm_run.specs.Ways.{Way, way_of, server_way, way_to, beat_way, restart_way, to_nothing, to_nobody, to_scheduler, to_server, to_beat, to_restart}
 use Rattle.farm_run.specs.Calls.{settles_by}
@@ -68,30 +69,41 @@ served_of setup s number json (server_asked.Done response) = tt
 pub answered_of : (setup : Setup) (s : ServerNow) (number : ℕ) (bytes : List ℕ) (x : Effect) → IsServerAnswered setup s number bytes x → IsStepOf s.setup.addr x.step
 answered_of setup s number bytes x is = subst (λ (y : Effect). IsStepOf s.setup.addr y.step) (sym is.2) (served_of setup s number is.0.json is.0.what)
 
-ready_of : (s : ServerNow) (root : ℕ) (json : Bool) (job : JobId) (archive : List ℕ) (r : Result UpdateJobStateResult CallFault) → IsStepOf s.setup.addr (ready_end s root json job archive r).step
-ready_of s root json job archive (Ok u) = refl
-ready_of s root json job archive (Err f) = refl
+ready_of : (w : Weather) (s : ServerNow) (root : ℕ) (json : Bool) (job : JobId) (archive : List ℕ) (r : Result UpdateJobStateResult CallFault) (x : Effect) → ReadyEnds w s root json job archive r x → IsStepOf s.setup.addr x.step
+ready_of w s root json job archive (Ok u) x is = subst (λ (y : Effect). IsStepOf s.setup.addr y.step) (sym is.2) refl
+ready_of w s root json job archive (Err f) x is = subst (λ (y : Effect). IsStepOf s.setup.addr y.step) (sym is) refl
 
-started_of : (setup : Setup) (s : ServerNow) (root : ℕ) (job : JobId) (run : RunJobHttpRequest) (inputs : List ℕ) (r : Result UpdateJobStateResult CallFault) → IsStepOf s.setup.addr (started_end setup s root job run inputs r).step
-started_of setup s root job run inputs (Ok u) = refl
-started_of setup s root job run inputs (Err f) = refl
+started_of : (w : Weather) (setup : Setup) (s : ServerNow) (root : ℕ) (job : JobId) (run : RunJobHttpRequest) (inputs : List ℕ) (r : Result UpdateJobStateResult CallFault) (x : Effect) → StartedEnds w setup s root job run inputs r x → IsStepOf s.setup.addr x.step
+started_of w setup s root job run inputs (Ok u) x is = subst (λ (y : Effect). IsStepOf s.setup.addr y.step) (sym is.2) refl
+started_of w setup s root job run inputs (Err f) x is = subst (λ (y : Effect). IsStepOf s.setup.addr y.step) (sym is) refl
 
 complete_of : (addr : Addr) (root : ℕ) (json : Bool) (job : JobId) (outcome : Outcome) (r : Result UpdateJobStateResult CallFault) → IsStepOf addr (complete_end addr root json job outcome r).step
 complete_of addr root json job outcome (Ok u) = refl
 complete_of addr root json job outcome (Err f) = refl
 
-reports_of : (setup : Setup) (s : ServerNow) (bytes : List ℕ) (root : ℕ) (json : Bool) (reply : Option (List ℕ)) (t : Told) (x : Effect) → Reports setup s bytes root json reply t x → IsStepOf s.setup.addr x.step
-reports_of setup s bytes root json reply (told.Ready job at) x is = subst (λ (y : Effect). IsStepOf s.setup.addr y.step) (sym is.2) (ready_of s root json job (drop at bytes) is.0)
-reports_of setup s bytes root json reply (told.Started job run at) x is = subst (λ (y : Effect). IsStepOf s.setup.addr y.step) (sym is.2) (started_of setup s root job run (drop at bytes) is.0)
+reports_of : (setup : Setup) (s : ServerNow) (bytes : List ℕ) (root : ℕ) (json : Bool) (reply : Option (List ℕ)) (t : Told) (x : Effect) → Reports calm setup s bytes root json reply t x → IsStepOf s.setup.addr x.step
+reports_of setup s bytes root json reply (told.Ready job at) x is = ready_of calm s root json job (drop at bytes) is.0 x is.2
+reports_of setup s bytes root json reply (told.Started job run at) x is = started_of calm setup s root job run (drop at bytes) is.0 x is.2
 reports_of setup s bytes root json reply (told.Complete job outcome) x is = subst (λ (y : Effect). IsStepOf s.setup.addr y.step) (sym is.2) (complete_of s.setup.addr root json job outcome is.0)
 reports_of setup s bytes root json reply told.Heartbeat x is = subst (λ (y : Effect). IsStepOf s.setup.addr y.step) (sym is.2) refl
 
-lives_of : (setup : Setup) (life : ℕ) (s : ServerNow) (bytes : List ℕ) (root : ℕ) (json : Bool) (reply : Option (List ℕ)) (t : Told) (over : Bool) (x : Effect) → Lives setup life s bytes root json reply t over x → IsStepOf s.setup.addr x.step
+lives_of : (setup : Setup) (life : ℕ) (s : ServerNow) (bytes : List ℕ) (root : ℕ) (json : Bool) (reply : Option (List ℕ)) (t : Told) (over : Bool) (x : Effect) → Lives calm setup life s bytes root json reply t over x → IsStepOf s.setup.addr x.step
 lives_of setup life s bytes root json reply t true x is = subst (λ (y : Effect). IsStepOf s.setup.addr y.step) (sym is) tt
 lives_of setup life s bytes root json reply t false x is = reports_of setup s bytes root json reply t x is
 
-pub report_step : (setup : Setup) (life : ℕ) (s : ServerNow) (bytes : List ℕ) (root : ℕ) (json : Bool) (reply : Option (List ℕ)) (t : Told) (x : Effect) → ReportsIn setup life bytes root json reply t (Some s) x → IsStepOf s.setup.addr x.step
+pub report_step : (setup : Setup) (life : ℕ) (s : ServerNow) (bytes : List ℕ) (root : ℕ) (json : Bool) (reply : Option (List ℕ)) (t : Told) (x : Effect) → ReportsIn calm setup life bytes root json reply t (Some s) x → IsStepOf s.setup.addr x.step
 report_step setup life s bytes root json reply t x is = lives_of setup life s bytes root json reply t (is_over life s) x is
+
+-- ---- in calm weather
+
+pub ready_ends : (s : ServerNow) (root : ℕ) (json : Bool) (job : JobId) (archive : List ℕ) (r : Result UpdateJobStateResult CallFault) (x : Effect) → x ≡ ready_end s root json job archive r → ReadyEnds calm s root json job archive r x
+ready_ends s root json job archive (Ok u) x is = (_, refl, is)
+ready_ends s root json job archive (Err f) x is = is
+
+pub started_ends : (setup : Setup) (s : ServerNow) (root : ℕ) (job : JobId) (run : RunJobHttpRequest) (inputs : List ℕ) (r : Result UpdateJobStateResult CallFault) (x : Effect) → x ≡ started_end setup s root job run inputs r
+    → StartedEnds calm setup s root job run inputs r x
+started_ends setup s root job run inputs (Ok u) x is = (_, refl, is)
+started_ends setup s root job run inputs (Err f) x is = is
 
 -- ---- what is received
 
@@ -138,15 +150,15 @@ no_beat_received setup s log number at addr m none same =
 
 -- nobody is there whom it comes back to
 pub no_report : (setup : Setup) (log : List Entry) (life : ℕ) (bytes : List ℕ) (root : ℕ) (json : Bool) (reply : Option (List ℕ)) (t : Told) (addr : Addr) (x : Effect)
-    → position (λ (s : SetupServer). same_addr s.addr addr) setup.servers ≡ None → x ≡ word_effect Died → ReportsIn setup life bytes root json reply t (server_now setup log addr) x
+    → position (λ (s : SetupServer). same_addr s.addr addr) setup.servers ≡ None → x ≡ word_effect Died → ReportsIn calm setup life bytes root json reply t (server_now setup log addr) x
 no_report setup log life bytes root json reply t addr x none died =
     let nobody : server_now setup log addr ≡ None = ap (λ (o : Option SetupServer). option_map (λ s. server_of s log) o) (place_none setup addr none) in
-    subst (λ (o : Option ServerNow). ReportsIn setup life bytes root json reply t o x) (sym nobody) died
+    subst (λ (o : Option ServerNow). ReportsIn calm setup life bytes root json reply t o x) (sym nobody) died
 
 pub report_there : (setup : Setup) (log : List Entry) (sts : List Station) (life : ℕ) (bytes : List ℕ) (root : ℕ) (json : Bool) (reply : Option (List ℕ)) (t : Told) (addr : Addr) (place : ℕ) (st : Station) (x : Effect) (f : IsFound setup addr place)
-    → AreStations setup.servers log sts → slice_get sts place ≡ Some st → ReportsIn setup life bytes root json reply t (Some (now_of f.server st)) x → ReportsIn setup life bytes root json reply t (server_now setup log addr) x
+    → AreStations setup.servers log sts → slice_get sts place ≡ Some st → ReportsIn calm setup life bytes root json reply t (Some (now_of f.server st)) x → ReportsIn calm setup life bytes root json reply t (server_now setup log addr) x
 report_there setup log sts life bytes root json reply t addr place st x f are there is =
-    subst (λ (o : Option ServerNow). ReportsIn setup life bytes root json reply t o x) (sym (station_now setup log sts addr place st f are there)) is
+    subst (λ (o : Option ServerNow). ReportsIn calm setup life bytes root json reply t o x) (sym (station_now setup log sts addr place st f are there)) is
 
 -- ---- what the scheduler does has no step
 
@@ -256,7 +268,7 @@ restart_made_by setup s log ps sts new event addr key nonce m (Some place) is ki
     let n = now_of f.server st.0 in
     let one : Made = record { effect = restart_effect n; pending = None } in
     let here : IsReceived setup s (length log) event.at (to_restart n key nonce) m =
-    subst (λ (q : Made). IsReceived setup s (length log) event.at (to_restart n key nonce) q) (sym r.0) (record { served = refl; kept = refl }) in
+    subst (λ (q : Made). IsReceived setup s (length log) event.at (to_restart n key nonce) q) (sym r.0) (record { served = (Some n.archives, refl, refl); kept = refl }) in
     let way : way_of setup log event.kind ≡ to_restart n key nonce = ap (way_of setup log) kind ∙ ap (restart_way key nonce) (station_now setup log sts addr place st.0 f is.stations st.1) in
     let of : IsStepOf f.server.addr (entry_of event m.effect).step = subst (λ (q : Made). IsStepOf f.server.addr (entry_of event q.effect).step) (sym r.0) refl in
     let stand = stations_restarted setup log sts (entry_of event m.effect) addr key nonce place st.0 r.1.0 f is.apart is.stations st.1 kind of r.1.3 r.1.2 in

@@ -7,7 +7,8 @@ use Rattle.sched_core.specs.declared.entry.CoreEntry.{CoreEntry}
 use Rattle.farm_script.specs.declared.event.Event.{Event}
 use Rattle.farm_run.specs.declared.entry.Entry.{Entry}
 use Rattle.farm_script.specs.declared.fault.FarmFault.{FarmFault}
-use Rattle.farm_run.specs.Next.{IsNext, EachNext, IsRun}
+use Rattle.farm_run.specs.Next.{IsNext, EachNext, steady, IsRun}
+use Rattle.farm_run.specs.Weather.{calm}
 use Rattle.farm_run.specs.Seen.{core_log, core_of}
 use Rattle.farm_script.specs.declared.setup.Setup.{Setup}
 use Rattle.farm_script.specs.Script.{script}
@@ -37,10 +38,10 @@ core_of-push setup log e =
     ∙ ap (λ (l : List CoreEntry). record { base = setup.scheduler.base; count = setup.scheduler.count; log = l }) (sym (core_log-push log e))
 
 pub EachNext-push : (setup : Setup) (log : List Entry) (events : List Event) (entries : List Entry) (event : Event) (e : Entry)
-    → EachNext setup log events entries → IsNext setup (log ++ entries) event e → EachNext setup log (events ++ event ∷ []) (entries ++ e ∷ [])
-EachNext-push setup log [] [] event e each is = (subst (λ (l : List Entry). IsNext setup l event e) (append-nil log) is, tt)
+    → EachNext steady setup log events entries → IsNext calm setup (log ++ entries) event e → EachNext steady setup log (events ++ event ∷ []) (entries ++ e ∷ [])
+EachNext-push setup log [] [] event e each is = (subst (λ (l : List Entry). IsNext calm setup l event e) (append-nil log) is, tt)
 EachNext-push setup log (v ∷ vs) (x ∷ xs) event e each is =
-    (each.0, EachNext-push setup (log ++ x ∷ []) vs xs event e each.1 (subst (λ (l : List Entry). IsNext setup l event e) (sym (append_assoc log (x ∷ []) xs)) is))
+    (each.0, EachNext-push setup (log ++ x ∷ []) vs xs event e each.1 (subst (λ (l : List Entry). IsNext calm setup l event e) (sym (append_assoc log (x ∷ []) xs)) is))
 EachNext-push setup log [] (x ∷ xs) event e each is = absurd each
 EachNext-push setup log (v ∷ vs) [] event e each is = absurd each
 
@@ -49,15 +50,15 @@ mapped_push [] e = refl
 mapped_push (x ∷ xs) e = ap (λ (vs : List Event). x.event ∷ vs) (mapped_push xs e)
 
 -- a run from none with one more entry, which is next
-pub IsRun-push : (setup : Setup) (log : List Entry) (e : Entry) → IsRun setup log → IsNext setup log e.event e → IsRun setup (log ++ e ∷ [])
+pub IsRun-push : (setup : Setup) (log : List Entry) (e : Entry) → IsRun setup log → IsNext calm setup log e.event e → IsRun setup (log ++ e ∷ [])
 IsRun-push setup log e run is =
-    subst (λ (vs : List Event). EachNext setup [] vs (log ++ e ∷ [])) (sym (mapped_push log e)) (EachNext-push setup [] (map (λ (d : Entry). d.event) log) log e.event e run is)
+    subst (λ (vs : List Event). EachNext steady setup [] vs (log ++ e ∷ [])) (sym (mapped_push log e)) (EachNext-push setup [] (map (λ (d : Entry). d.event) log) log e.event e run is)
 
 -- a run goes on by one event
 pub Runs-push : (old : Farmed) (events : List Event) (event : Event) (mid new : Farmed) (e : Entry)
-    → Runs old events mid → IsNext mid.setup mid.entries event e → new ≡ with_entries mid (e ∷ []) → Runs old (events ++ event ∷ []) new
+    → Runs old events mid → IsNext calm mid.setup mid.entries event e → new ≡ with_entries mid (e ∷ []) → Runs old (events ++ event ∷ []) new
 Runs-push old events event mid new e run is new-is =
-    let next : IsNext old.setup (old.entries ++ run.0) event e = subst (λ (m : Farmed). IsNext m.setup m.entries event e) run.2 is in
+    let next : IsNext calm old.setup (old.entries ++ run.0) event e = subst (λ (m : Farmed). IsNext calm m.setup m.entries event e) run.2 is in
     let end : with_entries mid (e ∷ []) ≡ with_entries old (run.0 ++ e ∷ []) =
     ap (λ (m : Farmed). with_entries m (e ∷ [])) run.2 ∙ ap (λ (es : List Entry). record { setup = old.setup; entries = es }) (append_assoc old.entries run.0 (e ∷ [])) in
     (run.0 ++ e ∷ [], EachNext-push old.setup old.entries events run.0 event e run.1 next, new-is ∙ end)
@@ -77,7 +78,7 @@ Runs-is old events mid entries run same is =
 -- the text of a farm that ran a script's events is that of the script's run
 pub run_text_is : {X : Type 0} (view : X → List ℕ) (r : Result X FarmFault) (bytes : List ℕ) (setup : Setup) (events run_events : List Event) (start farm : Farmed)
     → script bytes ≡ Ok (setup, events) → IsSetup setup → start ≡ record { setup = setup; entries = [] } → run_events ≡ events → Runs start run_events farm → AreLawful farm.setup farm.entries
-    → (HasToken start.setup.scheduler.auth → AreBuilds farm.setup farm.entries) → IsReliable farm.setup farm.entries
+    → (HasToken start.setup.scheduler.auth → AreBuilds farm.setup farm.entries) → IsReliable steady farm.setup farm.entries
     → IfOk r (λ t. view t ≡ run_text farm.setup farm.entries) → IfOk r (λ t. IsReadText bytes (view t))
 run_text_is view (Err f) bytes setup events run_events start farm read set start-is events-is run laws builds reliable h = tt
 run_text_is view (Ok t) bytes setup events run_events start farm read set start-is events-is run laws builds reliable h =
@@ -92,6 +93,6 @@ run_text_is view (Ok t) bytes setup events run_events start farm read set start-
       each = whole.1;
       lawful = subst (λ (f : Farmed). AreLawful f.setup f.entries) whole.2 laws;
       builds = subst (λ (f : Farmed). AreBuilds f.setup f.entries) whole.2 (builds token);
-      reliable = subst (λ (f : Farmed). IsReliable f.setup f.entries) whole.2 reliable;
+      reliable = subst (λ (f : Farmed). IsReliable steady f.setup f.entries) whole.2 reliable;
       is = h ∙ ap (λ (f : Farmed). run_text f.setup f.entries) whole.2;
     }

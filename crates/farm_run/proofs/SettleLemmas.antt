@@ -1,5 +1,5 @@
 -- Entries of a run by their places; a call is settled at most once.
-use Rattle.std.proofs.Common.{◌≡◌, ◌⊎◌, inl, inr, ℕ, zero, suc, ◌<◌, ◌≤◌, ◌&&◌, ◌||◌, nat_lt, not, Bool, true, false, cond, List, [], ◌∷◌, ◌++◌, length, take, drop, Option, Some, None, refl, ap, ◌∙◌, sym, subst, append_assoc, append-nil, arith}
+use Rattle.std.proofs.Common.{◌≡◌, ◌⊎◌, inl, inr, ℕ, zero, suc, ◌<◌, ◌≤◌, ◌&&◌, ◌||◌, nat_lt, not, Bool, true, false, cond, List, [], ◌∷◌, ◌++◌, length, take, drop, Option, Some, None, refl, ap, ◌∙◌, sym, subst, append_assoc, append-nil, length-append, arith}
 use Rattle.std.specs.Prelude.{slice_get}
 use Rattle.std.specs.List.{list_any}
 use Rattle.std.specs.Option.{option_map}
@@ -20,6 +20,7 @@ use Rattle.farm_run.specs.Builds.{SettlesCall, AreSettledOnce}
 use Rattle.farm_run.specs.Calls.{call_at, delivery_at, settles_by, is_void, is_of, settled_at, is_settled, waiting_at}
 use Rattle.farm_run.specs.Effects.{word_effect, entry_of}
 use Rattle.farm_run.specs.Next.{IsSettled, IsMade, IsNext, EachNext}
+use Rattle.farm_run.specs.Weather.{Weather}
 use Rattle.farm_run.specs.Ways.{Way, return_way, is_inside, way_of, to_nothing, to_call}
 
 -- ---- places
@@ -49,26 +50,29 @@ get_take (y ∷ ys) (suc n) (suc m) h = get_take ys n m (omega arith)
 -- ---- the entries of a run
 
 -- each entry is next over those before it
-pub next_at : (setup : Setup) (log : List Entry) (events : List Event) (entries : List Entry) (n : ℕ) (e : Entry) → EachNext setup log events entries → slice_get entries n ≡ Some e
-    → IsNext setup (log ++ take n entries) e.event e
-next_at setup log [] [] n e each at = absurd cc
-next_at setup log (v ∷ vs) (x ∷ xs) zero e each at =
+pub next_at : (W : ℕ → Weather) (setup : Setup) (log : List Entry) (events : List Event) (entries : List Entry) (n m : ℕ) (e : Entry) → m ≡ length log + n → EachNext W setup log events entries → slice_get entries n ≡ Some e
+    → IsNext (W m) setup (log ++ take n entries) e.event e
+next_at W setup log [] [] n m e numbered each at = absurd cc
+next_at W setup log (v ∷ vs) (x ∷ xs) zero m e numbered each at =
     let event : x.event ≡ v = ap (λ (y : Entry). y.event) each.0.2 in
-    let own : IsNext setup log x.event x = subst (λ (u : Event). IsNext setup log u x) (sym event) each.0 in
-    subst (λ (y : Entry). IsNext setup (log ++ []) y.event y) (same_Some x e at) (subst (λ (l : List Entry). IsNext setup l x.event x) (sym (append-nil log)) own)
-next_at setup log (v ∷ vs) (x ∷ xs) (suc n) e each at =
-    subst (λ (l : List Entry). IsNext setup l e.event e) (append_assoc log (x ∷ []) (take n xs)) (next_at setup (log ++ x ∷ []) vs xs n e each.1 at)
-next_at setup log [] (x ∷ xs) n e each at = absurd each
-next_at setup log (v ∷ vs) [] n e each at = absurd each
+    let first : length log ≡ m = omega (arith, numbered) in
+    let own : IsNext (W (length log)) setup log x.event x = subst (λ (u : Event). IsNext (W (length log)) setup log u x) (sym event) each.0 in
+    let there : IsNext (W m) setup log x.event x = subst (λ (k : ℕ). IsNext (W k) setup log x.event x) first own in
+    subst (λ (y : Entry). IsNext (W m) setup (log ++ []) y.event y) (same_Some x e at) (subst (λ (l : List Entry). IsNext (W m) setup l x.event x) (sym (append-nil log)) there)
+next_at W setup log (v ∷ vs) (x ∷ xs) (suc n) m e numbered each at =
+    subst (λ (l : List Entry). IsNext (W m) setup l e.event e) (append_assoc log (x ∷ []) (take n xs))
+    (next_at W setup (log ++ x ∷ []) vs xs n m e (omega (arith, numbered, length-append log (x ∷ []))) each.1 at)
+next_at W setup log [] (x ∷ xs) n m e numbered each at = absurd each
+next_at W setup log (v ∷ vs) [] n m e numbered each at = absurd each
 
 -- a front of a run is a run
-pub each_front : (setup : Setup) (log : List Entry) (events : List Event) (entries : List Entry) (n : ℕ) → EachNext setup log events entries → EachNext setup log (take n events) (take n entries)
-each_front setup log [] [] zero each = tt
-each_front setup log [] [] (suc n) each = tt
-each_front setup log (v ∷ vs) (x ∷ xs) zero each = tt
-each_front setup log (v ∷ vs) (x ∷ xs) (suc n) each = (each.0, each_front setup (log ++ x ∷ []) vs xs n each.1)
-each_front setup log [] (x ∷ xs) n each = absurd each
-each_front setup log (v ∷ vs) [] n each = absurd each
+pub each_front : (W : ℕ → Weather) (setup : Setup) (log : List Entry) (events : List Event) (entries : List Entry) (n : ℕ) → EachNext W setup log events entries → EachNext W setup log (take n events) (take n entries)
+each_front W setup log [] [] zero each = tt
+each_front W setup log [] [] (suc n) each = tt
+each_front W setup log (v ∷ vs) (x ∷ xs) zero each = tt
+each_front W setup log (v ∷ vs) (x ∷ xs) (suc n) each = (each.0, each_front W setup (log ++ x ∷ []) vs xs n each.1)
+each_front W setup log [] (x ∷ xs) n each = absurd each
+each_front W setup log (v ∷ vs) [] n each = absurd each
 
 -- ---- what an event that is to settle a call comes to
 
@@ -94,17 +98,17 @@ pub void : (event : Event) (x : Effect) (e : Entry) → e ≡ entry_of event x �
 void event x e is made off = false≢true (sym off ∙ ap (λ (y : Entry). is_void y.word) is ∙ ap (λ (y : Effect). is_void y.word) made)
 
 -- what an entry settles waited
-pub settles_waiting : (setup : Setup) (log : List Entry) (e : Entry) (n : ℕ) (reply : Option (List ℕ)) → IsNext setup log e.event e → is_void e.word ≡ false → settles_by log e.event.kind ≡ Some (n, reply)
+pub settles_waiting : (w : Weather) (setup : Setup) (log : List Entry) (e : Entry) (n : ℕ) (reply : Option (List ℕ)) → IsNext w setup log e.event e → is_void e.word ≡ false → settles_by log e.event.kind ≡ Some (n, reply)
     → (w : Entry) × (waiting_at log n ≡ Some w)
-settles_waiting setup log e n reply (x, made, is) off settles = by_way (way_back setup log e.event.kind n reply settles)
+settles_waiting w setup log e n reply (x, made, is) off settles = by_way (way_back setup log e.event.kind n reply settles)
   where
-    by_wait : (o : Option Entry) → IsSettled setup log e.event.at n reply o x → waiting_at log n ≡ o → (w : Entry) × (waiting_at log n ≡ Some w)
+    by_wait : (o : Option Entry) → IsSettled w setup log e.event.at n reply o x → waiting_at log n ≡ o → (w : Entry) × (waiting_at log n ≡ Some w)
     by_wait None h same = absurd (void e.event x e is h off)
     by_wait (Some w) h same = (w, same)
 
     by_way : (way_of setup log e.event.kind ≡ to_call n reply) ⊎ (way_of setup log e.event.kind ≡ to_nothing) → (w : Entry) × (waiting_at log n ≡ Some w)
-    by_way (inl same) = by_wait (waiting_at log n) (subst (λ (way : Way). IsMade setup log e.event.at way x) same made) refl
-    by_way (inr same) = absurd (void e.event x e is (subst (λ (way : Way). IsMade setup log e.event.at way x) same made) off)
+    by_way (inl same) = by_wait (waiting_at log n) (subst (λ (way : Way). IsMade w setup log e.event.at way x) same made) refl
+    by_way (inr same) = absurd (void e.event x e is (subst (λ (way : Way). IsMade w setup log e.event.at way x) same made) off)
 
 -- ---- once
 
@@ -148,11 +152,11 @@ settled_among n front (x ∷ xs) (suc k) e at t =
     or_true (settled_at n (record { before = front; at = x; after = xs })) (list_any (settled_at n) (cuts_behind (front ++ x ∷ []) xs))
     (settled_among n (front ++ x ∷ []) xs k e at (ap (λ (l : List Entry). settled_at n (record { before = l; at = e; after = [] })) (append_assoc front (x ∷ []) (take k xs)) ∙ t))
 
-module _ (setup : Setup) (events : List Event) (entries : List Entry) (each : EachNext setup [] events entries) where
+module _ (W : ℕ → Weather) (setup : Setup) (events : List Event) (entries : List Entry) (each : EachNext W setup [] events entries) where
   twice : (n j k : ℕ) → j < k → SettlesCall entries n j → SettlesCall entries n k → ⊥
   twice n j k less a b =
       let s = settlement n (take k entries) (drop (suc k) entries) b.entry b.settles in
-      let w = settles_waiting setup (take k entries) b.entry n s.reply (next_at setup [] events entries k b.entry each b.there) s.silent s.names in
+      let w = settles_waiting (W k) setup (take k entries) b.entry n s.reply (next_at W setup [] events entries k k b.entry (omega arith) each b.there) s.silent s.names in
       let before : settled_at n (record { before = take j (take k entries); at = a.entry; after = [] }) ≡ true =
       ap (λ (l : List Entry). settled_at n (record { before = l; at = a.entry; after = [] })) (take_take entries j k (omega (arith, less))) ∙ a.settles in
       true_false (is_settled (take k entries) n) (settled_among n [] (take k entries) j a.entry (get_take entries j k less ∙ a.there) before) (waits_unsettled (take k entries) n w.0 w.1)

@@ -1,5 +1,5 @@
 -- What a server's calls leave of its station.
-use Rattle.std.proofs.Common.{◌≡◌, ◌≢◌, ℕ, Bool, cond, List, [], Option, Some, None, Result, Ok, Err, refl, sym, ap, subst, ◌∙◌}
+use Rattle.std.proofs.Common.{◌≡◌, ◌≢◌, ℕ, Bool, true, cond, List, [], Option, Some, None, Result, Ok, Err, refl, sym, ap, subst, ◌∙◌}
 use Rattle.std.specs.Prelude.{slice_get}
 use Rattle.dist_types.specs.Cause.{counted}
 use Rattle.dist_types.specs.declared.builder.BuildFault.{BuildFault}
@@ -142,8 +142,8 @@ pub run_after : (s : SetupServer) (st : Station) (new : Books) (job : JobId) (t 
 run_after s st new job t heard went after is goes count =
     let left = left_by t heard went st.state.archives st.builds after goes count in
     ap (λ (h : Table). record (now_of s (with_books st new after)) { held = h }) is.held
-    ∙ ap (λ (a : Archives). record { setup = s; life = st.life; key = st.authorizer; nonce = st.nonce; held = without_job job st.state.held; archives = a; builds = after }) (is.archives ∙ left.0)
-    ∙ ap (λ (n : ℕ). record { setup = s; life = st.life; key = st.authorizer; nonce = st.nonce; held = without_job job st.state.held; archives = archives_after_run (ran_of went) st.state.archives; builds = n }) left.1
+    ∙ ap (λ (a : Archives). record { setup = s; life = st.life; key = st.authorizer; nonce = st.nonce; running = true; held = without_job job st.state.held; archives = a; builds = after }) (is.archives ∙ left.0)
+    ∙ ap (λ (n : ℕ). record { setup = s; life = st.life; key = st.authorizer; nonce = st.nonce; running = true; held = without_job job st.state.held; archives = archives_after_run (ran_of went) st.state.archives; builds = n }) left.1
     ∙ sym (own_step (now_of s st) (kinds.Ran job (ran_of went) (built_of went)))
 
 held_folder : (t : Taken) (heard : Result BuildResult BuildFault) (went : Outcome) → outcome_by t heard ≡ Ok went → NotBroken (ran_of went) → FolderHeld t
@@ -161,8 +161,8 @@ run_well s st new job t heard went after well is goes sound = well_books s st ne
 -- ---- a restart
 
 pub restart_after : (s : SetupServer) (st after : Station) (key : List ℕ) (nonce : ℕ) (opened : Archives) → opened ≡ st.state.archives
-    → now_of s after ≡ record { setup = s; life = counted st.life; key = key; nonce = nonce; held = []; archives = st.state.archives; builds = st.builds }
+    → now_of s after ≡ record { setup = s; life = counted st.life; key = key; nonce = nonce; running = true; held = []; archives = st.state.archives; builds = st.builds }
     → now_of s after ≡ stepped (Some (record { server = s.addr; kind = kinds.Opened opened })) (restarted (Some (key, nonce)) (now_of s st))
 restart_after s st after key nonce opened same is =
-    is ∙ ap (λ (a : Archives). record { setup = s; life = counted st.life; key = key; nonce = nonce; held = []; archives = a; builds = st.builds }) (sym same)
+    is ∙ ap (λ (a : Archives). record { setup = s; life = counted st.life; key = key; nonce = nonce; running = true; held = []; archives = a; builds = st.builds }) (sym same)
     ∙ sym (own_step (restarted (Some (key, nonce)) (now_of s st)) (kinds.Opened opened))

@@ -20,7 +20,8 @@ use Rattle.farm_run.specs.declared.station.Station.{Station}
 use Rattle.farm_run.specs.Begun.{IsCallOf, IsBegunBy, Keeps}
 use Rattle.farm_run.specs.Calls.{waiting_at}
 use Rattle.farm_run.specs.Effects.{entry_of}
-use Rattle.farm_run.specs.Next.{IsServed, IsMade, IsNext, EachNext, IsRun}
+use Rattle.farm_run.specs.Next.{IsServed, IsMade, IsNext, EachNext, steady, IsRun}
+use Rattle.farm_run.specs.Weather.{calm}
 use Rattle.farm_run.specs.Seen.{core_log, core_of}
 use Rattle.farm_run.specs.Stations.{AreStations, HasApart}
 use Rattle.farm_run.specs.Tickets.{ticket_at}
@@ -65,12 +66,12 @@ pub record IsAfter (setup : Setup) (log : List Entry) (e : Entry) (ps : List (Op
 
 -- what is made of bytes that come to an address: what they make, and what is kept of the call that this makes
 pub record IsReceived (setup : Setup) (core : Core) (number at : ℕ) (way : Way) (m : Made) : Type 0 where
-  pub served : IsServed setup core number at way m.effect
+  pub served : IsServed calm setup core number at way m.effect
   pub kept : Keeps (IsBegunBy setup core.log number way m.effect) m.effect m.pending
 
 -- what an event made: what is made of what it comes to, and what is kept after it
 pub record IsMadeSo (setup : Setup) (log : List Entry) (event : Event) (way : Way) (ps : List (Option Pending)) (sts : List Station) (m : Made) : Type 0 where
-  pub made : IsMade setup log event.at way m.effect
+  pub made : IsMade calm setup log event.at way m.effect
   pub after : IsAfter setup log (entry_of event m.effect) ps m.pending
   pub stations : AreStations setup.servers (log ++ entry_of event m.effect ∷ []) sts
 
@@ -106,9 +107,9 @@ pub record IsLawful (base count : ℕ) (log : List CoreEntry) : Type 0 where
 abbrev pub AreLawful : Setup → List Entry → Type 0
 AreLawful setup entries = (n : ℕ) → IsLawful setup.scheduler.base setup.scheduler.count (core_log (take n entries))
 
--- each event, whatever it is, has a next entry
+-- each event, whatever it is, has a next entry in calm weather
 abbrev pub HasNext : Setup → List Entry → Type 0
-HasNext setup log = (event : Event) → (e : Entry) × IsNext setup log event e
+HasNext setup log = (event : Event) → (e : Entry) × IsNext calm setup log event e
 
 -- ---- farms
 
@@ -122,14 +123,14 @@ pub record IsFarm (setup : Setup) (core : Core) (entries : List Entry) (ps : Lis
   pub kept : AreKept setup entries ps
   pub stations : AreStations setup.servers entries sts
 
--- one entry more, which is next
+-- one entry more, which is next in calm weather
 abbrev pub AddsNext : Setup → List Entry → Event → List Entry → Type 0
-AddsNext setup old event new = (e : Entry) × IsNext setup old event e × (new ≡ old ++ e ∷ [])
+AddsNext setup old event new = (e : Entry) × IsNext calm setup old event e × (new ≡ old ++ e ∷ [])
 
 -- one event makes its entry
 abbrev pub Steps : Farmed → Event → Farmed → Type 0
-Steps old event new = (e : Entry) × IsNext old.setup old.entries event e × (new ≡ with_entries old (e ∷ []))
+Steps old event new = (e : Entry) × IsNext calm old.setup old.entries event e × (new ≡ with_entries old (e ∷ []))
 
 -- the farm has one more entry for each of the events, each next over those before it
 abbrev pub Runs : Farmed → List Event → Farmed → Type 0
-Runs old events new = (entries : List Entry) × EachNext old.setup old.entries events entries × (new ≡ with_entries old entries)
+Runs old events new = (entries : List Entry) × EachNext steady old.setup old.entries events entries × (new ≡ with_entries old entries)

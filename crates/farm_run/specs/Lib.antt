@@ -15,6 +15,7 @@ pub mod Settled
 pub mod Stations
 pub mod Tickets
 pub mod Ways
+pub mod Weather
 pub use Rattle.farm_script.specs.Built
 pub use Rattle.farm_script.specs.FirstFaulty
 pub use Rattle.farm_script.specs.Grammar

@@ -7,7 +7,7 @@ use Rattle.farm_script.specs.FirstFaulty.{IsFaultless}
 use Rattle.farm_script.specs.Spelled.{Says}
 use Rattle.farm_run.specs.declared.entry.Entry.{Entry}
 use Rattle.farm_run.specs.Builds.{AreBuilds}
-use Rattle.farm_run.specs.Next.{EachNext}
+use Rattle.farm_run.specs.Next.{EachNext, steady}
 use Rattle.farm_run.specs.Farm.{AreLawful}
 use Rattle.farm_run.specs.Printed.{run_text}
 use Rattle.farm_run.specs.Reliable.{IsReliable}
@@ -22,10 +22,10 @@ pub record IsRunText (bytes text : List ℕ) : Type 0 where
   pub entries : List Entry
   pub fine : IsFaultless bytes
   pub says : Says bytes setup events
-  pub each : EachNext setup [] events entries
+  pub each : EachNext steady setup [] events entries
   pub lawful : AreLawful setup entries
   pub builds : AreBuilds setup entries
-  pub reliable : IsReliable setup entries
+  pub reliable : IsReliable steady setup entries
   pub is : text ≡ run_text setup entries
 
 -- the same, where the script is what reading it gives
@@ -34,8 +34,8 @@ pub record IsReadText (bytes text : List ℕ) : Type 0 where
   pub events : List Event
   pub entries : List Entry
   pub read : script bytes ≡ Ok (setup, events)
-  pub each : EachNext setup [] events entries
+  pub each : EachNext steady setup [] events entries
   pub lawful : AreLawful setup entries
   pub builds : AreBuilds setup entries
-  pub reliable : IsReliable setup entries
+  pub reliable : IsReliable steady setup entries
   pub is : text ≡ run_text setup entries

@@ -18,6 +18,7 @@ use Rattle.http_routes.specs.declared.fault.RouteFault.TheVariants as fault
 use Rattle.http_routes.specs.declared.server_route.ServerAsked.{ServerAsked}
 use Rattle.http_routes.specs.declared.server_route.ServerRouted.{ServerRouted}
 use Rattle.http_routes.specs.declared.server_route.ServerRouted.TheVariants as asked
+use Rattle.lru_disk_cache.specs.Archives.{Archives}
 use Rattle.build_server.specs.Books.{Books, is_listed}
 use Rattle.build_server.specs.Echo.{echo_of, data_of}
 use Rattle.build_server.specs.Rules.{assign_verdict}
@@ -34,7 +35,8 @@ use Rattle.farm_run.specs.declared.pending.Ask.TheVariants.{Report}
 use Rattle.farm_run.specs.declared.pending.Pending.{Pending}
 use Rattle.farm_run.specs.declared.pending.Told.{Told}
 use Rattle.farm_run.specs.declared.pending.Told.TheVariants as told
-use Rattle.farm_run.specs.Effects.{reply_effect, call_effect, step_effect, step_reply_effect, reply_to}
+use Rattle.farm_run.specs.declared.entry.EntryWord.TheVariants.{Down}
+use Rattle.farm_run.specs.Effects.{word_effect, reply_effect, call_effect, step_effect, step_reply_effect, reply_to}
 use Rattle.farm_run.specs.Seen.{server_token}
 use Rattle.farm_run.specs.Servers.{ServerNow}
 
@@ -101,9 +103,14 @@ pub record IsReport (s : ServerNow) (number : ℕ) (a : ServerAsked) (p : Pendin
 abbrev pub beat_effect : Setup → ServerNow → Effect
 beat_effect setup s = call_effect None (Some (beat_call setup s))
 
--- a restart: the opening lists the archives that are there
+-- a restart: the opening lists archives, or the server is down where the opening failed
+abbrev pub opening_effect : ServerNow → Option Archives → Effect
+opening_effect s None = word_effect Down
+opening_effect s (Some archives) = step_effect s.setup.addr (step.Opened archives)
+
+-- a restart in calm weather: the opening lists the archives that are there
 abbrev pub restart_effect : ServerNow → Effect
-restart_effect s = step_effect s.setup.addr (step.Opened s.archives)
+restart_effect s = opening_effect s (Some s.archives)
 
 -- ---- its builder
 

@@ -1,5 +1,5 @@
 -- The build servers of a farm, as its entries tell.
-use Rattle.std.specs.Prelude.{ℕ, List, [], Bool, not, ◌==◌, if◌then◌else◌, fold, find, Option, Some, None}
+use Rattle.std.specs.Prelude.{ℕ, List, [], Bool, true, false, not, ◌==◌, if◌then◌else◌, fold, find, Option, Some, None}
 use Rattle.std.specs.Option.{option_map}
 use Rattle.dist_types.specs.Addr.{same_addr}
 use Rattle.dist_types.specs.Cause.{counted}
@@ -19,20 +19,21 @@ use Rattle.farm_run.specs.declared.entry.Step.{Step}
 use Rattle.farm_run.specs.declared.entry.StepKind.{StepKind}
 use Rattle.farm_run.specs.declared.entry.StepKind.TheVariants as step
 
--- A build server at a moment: how it was set up, the number of its life with the key and the nonce of that life, the jobs that it holds by
--- rising id, its archives, least recent first, and how many builds its builder was asked for.
+-- A build server at a moment: how it was set up, the number of its life with the key and the nonce of that life, whether it runs, the jobs that
+-- it holds by rising id, its archives, least recent first, and how many builds its builder was asked for.
 pub record ServerNow : Type 0 where
   pub setup : SetupServer
   pub life : ℕ
   pub key : List ℕ
   pub nonce : ℕ
+  pub running : Bool
   pub held : Table
   pub archives : Archives
   pub builds : ℕ
 
--- as it was set up: its first life, with nothing held and no archives
+-- as it was set up: its first life, which runs, with nothing held and no archives
 abbrev pub server_begun : SetupServer → ServerNow
-server_begun s = record { setup = s; life = 0; key = s.key; nonce = s.nonce; held = []; archives = []; builds = 0 }
+server_begun s = record { setup = s; life = 0; key = s.key; nonce = s.nonce; running = true; held = []; archives = []; builds = 0 }
 
 -- the key and the nonce with which an event restarts the server at an address
 abbrev pub restart_by : Addr → EventKind → Option (List ℕ × ℕ)
@@ -44,10 +45,11 @@ restart_by addr (Answer call bytes) = None
 restart_by addr (Beat server) = None
 restart_by addr (Restart server key nonce) = if same_addr server addr then Some (key, nonce) else None
 
--- a restart ends a life, and begins one with that key and nonce; nothing is held, and no archive is there until the cache was opened
+-- a restart ends a life, and begins one with that key and nonce; nothing is held, and until the cache was opened no archive is there and the
+-- server does not run
 abbrev pub restarted : Option (List ℕ × ℕ) → ServerNow → ServerNow
 restarted None s = s
-restarted (Some p) s = record { setup = s.setup; life = counted s.life; key = p.0; nonce = p.1; held = []; archives = []; builds = s.builds }
+restarted (Some p) s = record { setup = s.setup; life = counted s.life; key = p.0; nonce = p.1; running = false; held = []; archives = []; builds = s.builds }
 
 -- the archives behind a run: the one that was looked up is the most recent
 abbrev pub archives_after_run : Ran → Archives → Archives
@@ -66,15 +68,15 @@ builds_after_run (ran.Unlisted tc) builds = builds
 builds_after_run ran.None builds = builds
 
 -- What a step of the server leaves: an assigned job is held until it is run; a stored archive is the most recent, and the dropped ones are
--- gone; an opening lists its archives.
+-- gone; an opening lists its archives, and the server runs.
 abbrev pub kind_after : StepKind → ServerNow → ServerNow
 kind_after (step.Heard as_what) s = s
 kind_after (step.Assigned job tc ready) s = record s { held = placed job tc s.held }
 kind_after (step.Submitted job outcome) s = record s { archives = archives_after_submit (held_for job s.held) outcome s.archives }
-kind_after (step.Ran job ran result) s = record { setup = s.setup; life = s.life; key = s.key; nonce = s.nonce; held = without_job job s.held; archives = archives_after_run ran s.archives; builds = builds_after_run ran s.builds }
+kind_after (step.Ran job ran result) s = record { setup = s.setup; life = s.life; key = s.key; nonce = s.nonce; running = s.running; held = without_job job s.held; archives = archives_after_run ran s.archives; builds = builds_after_run ran s.builds }
 kind_after (step.Finished job) s = s
 kind_after (step.Unreported job) s = s
-kind_after (step.Opened archives) s = record s { archives = archives }
+kind_after (step.Opened archives) s = record { setup = s.setup; life = s.life; key = s.key; nonce = s.nonce; running = true; held = s.held; archives = archives; builds = s.builds }
 
 -- what an entry's step leaves, where it is the server's
 abbrev pub stepped : Option Step → ServerNow → ServerNow

@@ -46,6 +46,7 @@ use Rattle.farm_run.specs.declared.pending.Told.{Told}
 use Rattle.farm_run.specs.declared.pending.Told.TheVariants as told
 use Rattle.farm_run.specs.Effects.{word_effect, reply_effect, step_effect, step_reply_effect, step_call_effect, reply_to}
 use Rattle.farm_run.specs.Served.{books_of, state_call, run_outcome}
+use Rattle.farm_run.specs.Weather.{Weather, Stores, Works}
 use Rattle.farm_run.specs.Servers.{ServerNow, is_over}
 
 -- ---- an assignment
@@ -85,18 +86,30 @@ abbrev pub submission : Addr → ℕ → Bool → JobId → Submitted → Effect
 submission addr root json job outcome = step_reply_effect addr (step.Submitted job outcome) (reply_to root (submit_response json (submit_result outcome)))
 
 -- Ready was told of a job, whose archive was submitted
-abbrev pub ready_end : ServerNow → ℕ → Bool → JobId → List ℕ → Result UpdateJobStateResult CallFault → Effect
-ready_end s root json job archive (Ok u) = submission s.setup.addr root json job (submit_verdict (books_of s) (held_for job s.held) archive)
-ready_end s root json job archive (Err f) = unreported s.setup.addr root job f
+abbrev pub ReadyEnds : Weather → ServerNow → ℕ → Bool → JobId → List ℕ → Result UpdateJobStateResult CallFault → Effect → Type 0
+ReadyEnds w s root json job archive (Ok u) x = (o : Submitted) × Stores w s job archive o × (x ≡ submission s.setup.addr root json job o)
+ReadyEnds w s root json job archive (Err f) x = x ≡ unreported s.setup.addr root job f
 
 -- a run that went so, whose end is told
 abbrev pub running : Setup → Addr → JobId → Outcome → Effect
 running setup addr job outcome = step_call_effect addr (step.Ran job (ran_of outcome) (built_of outcome)) (state_call setup addr job state.Complete)
 
 -- Started was told of a job, which was to be run
+abbrev pub StartedEnds : Weather → Setup → ServerNow → ℕ → JobId → RunJobHttpRequest → List ℕ → Result UpdateJobStateResult CallFault → Effect → Type 0
+StartedEnds w setup s root job run inputs (Ok u) x = (went : Outcome) × Works w s (held_for job s.held) run inputs went × (x ≡ running setup s.setup.addr job went)
+StartedEnds w setup s root job run inputs (Err f) x = x ≡ unreported s.setup.addr root job f
+
+-- ---- in calm weather
+
+abbrev pub ready_end : ServerNow → ℕ → Bool → JobId → List ℕ → Result UpdateJobStateResult CallFault → Effect
+ready_end s root json job archive (Ok u) = submission s.setup.addr root json job (submit_verdict (books_of s) (held_for job s.held) archive)
+ready_end s root json job archive (Err f) = unreported s.setup.addr root job f
+
 abbrev pub started_end : Setup → ServerNow → ℕ → JobId → RunJobHttpRequest → List ℕ → Result UpdateJobStateResult CallFault → Effect
 started_end setup s root job run inputs (Ok u) = running setup s.setup.addr job (run_outcome s (held_for job s.held) run.outputs inputs)
 started_end setup s root job run inputs (Err f) = unreported s.setup.addr root job f
+
+-- ---- the ends of runs
 
 -- why a build gave nothing, as a reply tells it
 abbrev pub failure_of : BuildCause → BuildFailure
@@ -123,24 +136,24 @@ heard_as (Ok answer) = if answer.is_new then heard.New else heard.Old
 heard_as (Err f) = heard.Lost
 
 -- a report of the server goes on by its reply; the bytes are those that the event of the root brought
-abbrev pub Reports : Setup → ServerNow → List ℕ → ℕ → Bool → Option (List ℕ) → Told → Effect → Type 0
-Reports setup s bytes root json reply (told.Ready job at) x =
-    (r : Result UpdateJobStateResult CallFault) × IsUpdated reply r × (x ≡ ready_end s root json job (drop at bytes) r)
-Reports setup s bytes root json reply (told.Started job run at) x =
-    (r : Result UpdateJobStateResult CallFault) × IsUpdated reply r × (x ≡ started_end setup s root job run (drop at bytes) r)
-Reports setup s bytes root json reply (told.Complete job outcome) x =
+abbrev pub Reports : Weather → Setup → ServerNow → List ℕ → ℕ → Bool → Option (List ℕ) → Told → Effect → Type 0
+Reports w setup s bytes root json reply (told.Ready job at) x =
+    (r : Result UpdateJobStateResult CallFault) × IsUpdated reply r × ReadyEnds w s root json job (drop at bytes) r x
+Reports w setup s bytes root json reply (told.Started job run at) x =
+    (r : Result UpdateJobStateResult CallFault) × IsUpdated reply r × StartedEnds w setup s root job run (drop at bytes) r x
+Reports w setup s bytes root json reply (told.Complete job outcome) x =
     (r : Result UpdateJobStateResult CallFault) × IsUpdated reply r × (x ≡ complete_end s.setup.addr root json job outcome r)
-Reports setup s bytes root json reply told.Heartbeat x =
+Reports w setup s bytes root json reply told.Heartbeat x =
     (r : Result HeartbeatServerResult CallFault) × IsHeard reply r × (x ≡ step_effect s.setup.addr (step.Heard (heard_as r)))
 
-abbrev pub Lives : Setup → ℕ → ServerNow → List ℕ → ℕ → Bool → Option (List ℕ) → Told → Bool → Effect → Type 0
-Lives setup life s bytes root json reply told true x = x ≡ word_effect Died
-Lives setup life s bytes root json reply told false x = Reports setup s bytes root json reply told x
+abbrev pub Lives : Weather → Setup → ℕ → ServerNow → List ℕ → ℕ → Bool → Option (List ℕ) → Told → Bool → Effect → Type 0
+Lives w setup life s bytes root json reply told true x = x ≡ word_effect Died
+Lives w setup life s bytes root json reply told false x = Reports w setup s bytes root json reply told x
 
 -- the same in the life that made it; where that is over, who asked is gone
-abbrev pub ReportsIn : Setup → ℕ → List ℕ → ℕ → Bool → Option (List ℕ) → Told → Option ServerNow → Effect → Type 0
-ReportsIn setup life bytes root json reply told None x = x ≡ word_effect Died
-ReportsIn setup life bytes root json reply told (Some s) x = Lives setup life s bytes root json reply told (is_over life s) x
+abbrev pub ReportsIn : Weather → Setup → ℕ → List ℕ → ℕ → Bool → Option (List ℕ) → Told → Option ServerNow → Effect → Type 0
+ReportsIn w setup life bytes root json reply told None x = x ≡ word_effect Died
+ReportsIn w setup life bytes root json reply told (Some s) x = Lives w setup life s bytes root json reply told (is_over life s) x
 
 -- ---- the reservations of calls
 

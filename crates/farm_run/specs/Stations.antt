@@ -1,5 +1,5 @@
 -- What the stations of a farm's build servers hold.
-use Rattle.std.specs.Prelude.{◌≡◌, ℕ, List, ◌∷◌, length, map, slice_get, set, Option, Some, codes}
+use Rattle.std.specs.Prelude.{◌≡◌, ℕ, List, ◌∷◌, length, map, slice_get, set, true, Option, Some, codes}
 use Rattle.build_server.specs.declared.run.Ran.{Ran}
 use Rattle.build_server.specs.declared.run.Ran.TheVariants as ran
 use Rattle.lru_disk_cache.specs.Archives.{IsInStep}
@@ -11,9 +11,9 @@ use Rattle.farm_run.specs.declared.station.Station.{Station}
 use Rattle.farm_run.specs.declared.entry.Step.{Step}
 use Rattle.farm_run.specs.Servers.{ServerNow, stepped, server_of}
 
--- the server that a station is
+-- the server that a station is: its folder does not fail, so it runs
 abbrev pub now_of : SetupServer → Station → ServerNow
-now_of s st = record { setup = s; life = st.life; key = st.authorizer; nonce = st.nonce; held = st.state.held; archives = st.state.archives; builds = st.builds }
+now_of s st = record { setup = s; life = st.life; key = st.authorizer; nonce = st.nonce; running = true; held = st.state.held; archives = st.state.archives; builds = st.builds }
 
 -- A station of a server: its cache has the server's capacity, in one place of its folder, and lists what the folder holds.
 pub record IsWell (s : SetupServer) (st : Station) : Type 0 where

@@ -12,6 +12,7 @@ ghost use Rattle.farm_run.specs.Effects.{step_effect};
 ghost use Rattle.farm_run.specs.Served.{books_of, build_answer, run_outcome};
 ghost use Rattle.farm_run.specs.Servers.{stepped};
 ghost use Rattle.farm_run.specs.Settled.{IsUpdated, IsHeard, unreported, submission, running, ready_end, started_end, complete_end, heard_as, failure_of, ended_response, Reports};
+ghost use Rattle.farm_run.specs.Weather.{calm};
 ghost use Rattle.farm_run.specs.Stations.{now_of, IsWell, NotBroken};
 ghost use Rattle.farm_script.specs.declared.fault.FarmFault.TheVariants as fault;
 
@@ -468,7 +469,7 @@ pub fn go_on(
     told: Told,
 ) -> Result<Made, FarmFault>
     requires well { IsWell server.now station.old }
-    ensures made { IfOk result (λ m. Reports desk.now.setup (now_of server.now station.old) back.now.brought.now back.now.root back.now.json (option_copied back.now.reply) told m.effect) }
+    ensures made { IfOk result (λ m. Reports calm desk.now.setup (now_of server.now station.old) back.now.brought.now back.now.root back.now.json (option_copied back.now.reply) told m.effect) }
     ensures kept { IfOk result (λ m. Keeps (λ p. completion_at back.now.root back.now.json server.now.addr station.old.life m.effect.step ≡ Some p) m.effect m.pending) }
     ensures after { IfOk result (λ m. now_of server.now station.new ≡ stepped m.effect.step (now_of server.now station.old)) }
     ensures still_well { OnOk result (IsWell server.now station.new) }

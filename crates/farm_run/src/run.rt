@@ -5,7 +5,7 @@ ghost use Rattle.farm_script.specs.declared.fault.FarmFault.TheVariants as fault
 ghost use Rattle.farm_script.specs.declared.setup.SetupServer.{SetupServer as Site};
 ghost use Rattle.farm_run.specs.Builds.{AreBuilds, HasToken, HasWords};
 ghost use Rattle.farm_run.specs.Farm.{IsFarm, IsMadeSo, AreLawful, HasNext, acted, AddsNext, Steps, Runs};
-ghost use Rattle.farm_run.specs.Next.{IsRun};
+ghost use Rattle.farm_run.specs.Next.{steady, IsRun};
 ghost use Rattle.farm_run.specs.Printed.{ids_given};
 ghost use Rattle.farm_run.specs.Reliable.{IsReliable};
 ghost use Rattle.farm_run.specs.Seen.{core_log};
@@ -235,13 +235,13 @@ impl Farm {
         ensures builds { IfOk result (λ farm. HasToken self.setup.scheduler.auth → AreBuilds farm.setup farm.entries) }
         // An entry is replied to at most once; a request whose calls are granted gets the reply that its row
         // names; a restart keeps the archives.
-        ensures reliable { IfOk result (λ farm. IsReliable farm.setup farm.entries) }
+        ensures reliable { IfOk result (λ farm. IsReliable steady farm.setup farm.entries) }
         // All hold also of the events before the one that memory ran out in.
         ensures err { IfErr result (λ s. (n : ℕ) × (n < length events.now)
             × Runs self (take n events.now) (record { setup = self.setup; entries = s.entries })) }
         ensures stopped_laws { IfErr result (λ s. AreLawful self.setup s.entries) }
         ensures stopped_builds { IfErr result (λ s. HasToken self.setup.scheduler.auth → AreBuilds self.setup s.entries) }
-        ensures stopped_reliable { IfErr result (λ s. IsReliable self.setup s.entries) }
+        ensures stopped_reliable { IfErr result (λ s. IsReliable steady self.setup s.entries) }
     {
         let mut farm = self;
         farm.words();

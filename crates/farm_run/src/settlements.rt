@@ -12,6 +12,7 @@ ghost use Rattle.farm_run.specs.Next.{Follows};
 ghost use Rattle.farm_run.specs.Seen.{core_of};
 ghost use Rattle.farm_run.specs.Servers.{restart_by, stepped, server_now};
 ghost use Rattle.farm_run.specs.Settled.{IsOwnBy, ReportsIn};
+ghost use Rattle.farm_run.specs.Weather.{calm};
 ghost use Rattle.farm_run.specs.Stations.{now_of, IsWell, AreWell, AreStations, IsStepAt, HasApart};
 ghost use Rattle.farm_run.specs.Ways.{way_of, to_call};
 
@@ -35,7 +36,7 @@ pub(crate) fn report_at(
 ) -> Result<Made, FarmFault>
     requires well { AreWell desk.now.setup.servers stations.old.items }
     ensures made { IfOk result (λ m. (s : Site) (st : Post) → slice_get desk.now.setup.servers place ≡ Some s → slice_get stations.old.items place ≡ Some st
-        → ReportsIn desk.now.setup back.now.life back.now.brought.now back.now.root back.now.json (option_copied back.now.reply) told (Some (now_of s st)) m.effect) }
+        → ReportsIn calm desk.now.setup back.now.life back.now.brought.now back.now.root back.now.json (option_copied back.now.reply) told (Some (now_of s st)) m.effect) }
     ensures kept { IfOk result (λ m. (s : Site) (st : Post) → slice_get desk.now.setup.servers place ≡ Some s → slice_get stations.old.items place ≡ Some st
         → Keeps (λ p. completion_at back.now.root back.now.json s.addr back.now.life m.effect.step ≡ Some p) m.effect m.pending) }
     ensures step { IfOk result (λ m. (s : Site) (st : Post) → slice_get desk.now.setup.servers place ≡ Some s → slice_get stations.old.items place ≡ Some st
@@ -70,7 +71,7 @@ pub(crate) fn report_in(
     told: Told,
 ) -> Result<Made, FarmFault>
     requires well { IsWell server.now station.old }
-    ensures made { IfOk result (λ m. ReportsIn desk.now.setup back.now.life back.now.brought.now back.now.root back.now.json (option_copied back.now.reply) told (Some (now_of server.now station.old)) m.effect) }
+    ensures made { IfOk result (λ m. ReportsIn calm desk.now.setup back.now.life back.now.brought.now back.now.root back.now.json (option_copied back.now.reply) told (Some (now_of server.now station.old)) m.effect) }
     ensures kept { IfOk result (λ m. Keeps (λ p. completion_at back.now.root back.now.json server.now.addr back.now.life m.effect.step ≡ Some p) m.effect m.pending) }
     ensures after { IfOk result (λ m. now_of server.now station.new ≡ stepped m.effect.step (now_of server.now station.old)) }
     ensures still_well { OnOk result (IsWell server.now station.new) }
@@ -94,7 +95,7 @@ pub(crate) fn report(
 ) -> Result<Made, FarmFault>
     requires apart { HasApart desk.now.setup }
     requires stations { AreStations desk.now.setup.servers entries.now stations.old.items }
-    ensures made { IfOk result (λ m. ReportsIn desk.now.setup back.now.life back.now.brought.now back.now.root back.now.json (option_copied back.now.reply) told
+    ensures made { IfOk result (λ m. ReportsIn calm desk.now.setup back.now.life back.now.brought.now back.now.root back.now.json (option_copied back.now.reply) told
         (server_now desk.now.setup entries.now back.now.server) m.effect) }
     ensures kept { IfOk result (λ m. Keeps (λ p. completion_at back.now.root back.now.json back.now.server back.now.life m.effect.step ≡ Some p) m.effect m.pending) }
     ensures stations { IfOk result (λ m. (event : Happening) → ((a : Place) → restart_by a event.kind ≡ None)
@@ -126,7 +127,7 @@ pub(crate) fn go_on(
     requires stations { AreStations desk.old.setup.servers entries.now stations.old.items }
     requires core { desk.old.state ≡ core_of desk.old.setup entries.now }
     requires own { IsOwnBy desk.old.state.log pending.ask }
-    ensures follows { IfOk result (λ m. Follows desk.old.setup entries.now settlement.now.at (option_copied settlement.now.reply) (Some pending) m.effect) }
+    ensures follows { IfOk result (λ m. Follows calm desk.old.setup entries.now settlement.now.at (option_copied settlement.now.reply) (Some pending) m.effect) }
     ensures kept { IfOk result (λ m. Keeps (λ p. completion_of pending pending.ask m.effect.step ≡ Some p) m.effect m.pending) }
     ensures stations { IfOk result (λ m. (event : Happening) → ((a : Place) → restart_by a event.kind ≡ None)
         → AreStations desk.old.setup.servers (entries.now ++ entry_of event m.effect ∷ []) stations.new.items) }

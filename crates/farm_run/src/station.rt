@@ -1,5 +1,5 @@
 //! The stations of a farm's build servers.
-ghost use Rattle.std.specs.Prelude.{◌≡◌, ◌≤◌, [], codes, IfOk, IfErr, OnOk};
+ghost use Rattle.std.specs.Prelude.{◌≡◌, ◌≤◌, [], codes, true, IfOk, IfErr, OnOk};
 ghost use Rattle.dist_types.specs.Cause.{counted};
 ghost use Rattle.lru_disk_cache.specs.Archives.{opened_archives, IsInStep};
 ghost use Rattle.lru_disk_cache.specs.Entries.{total};
@@ -94,7 +94,7 @@ impl Station {
         nonce: ServerNonce,
     ) -> Result<Station, FarmFault>
         requires well { IsWell server.now self }
-        ensures now { IfOk result (λ st. now_of server.now st ≡ record { setup = server.now; life = counted self.life; key = key.now; nonce = nonce; held = []; archives = self.state.archives; builds = self.builds }) }
+        ensures now { IfOk result (λ st. now_of server.now st ≡ record { setup = server.now; life = counted self.life; key = key.now; nonce = nonce; running = true; held = []; archives = self.state.archives; builds = self.builds }) }
         ensures reopened { IfOk result (IsWell server.now) }
         ensures err { IfErr result (λ e. e ≡ fault.Memory) }
     {

@@ -7,6 +7,7 @@ use Rattle.farm_run.specs.declared.pending.Pending.{Pending}
 use Rattle.farm_run.specs.Begun.{Keeps, completion_at}
 use Rattle.farm_run.specs.Effects.{entry_of}
 use Rattle.farm_run.specs.Stations.{now_of}
+use Rattle.farm_run.specs.Weather.{calm}
 use Rattle.farm_run.proofs.NextLemmas.{reports_in_core}
 use Rattle.farm_run.proofs.ServerLemmas.{place_found, are_well, stations_same, stations_stepped}
 use Rattle.farm_run.proofs.RowLemmas.{report_step, no_report, report_there}
@@ -56,5 +57,5 @@ pub returns-in_ok-made-in-Some-clause-core : goal.returns-in_ok-made-in-Some-cla
 returns-in_ok-made-in-Some-clause-core c =
     let f = place_found c.args.desk.now.setup c.args.back.now.server c.in-Some.place (sym c.in-Some.ensures.place) in
     let st = c.in_ok-made-in-Some.ensures.there in
-    reports_in_core c.args.desk.now.setup c.args.back.now.life c.args.back.now.brought.now c.args.back.now.root c.args.back.now.json (option_copied c.args.back.now.reply) c.args.told
+    reports_in_core calm c.args.desk.now.setup c.args.back.now.life c.args.back.now.brought.now c.args.back.now.root c.args.back.now.json (option_copied c.args.back.now.reply) c.args.told
     (Some (now_of f.server st.0)) c.in_ok-made-in-Some.made.effect (c.in_ok-made-in-Some.ensures.made f.server st.0 f.there st.1)
