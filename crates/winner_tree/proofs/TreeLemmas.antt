@@ -272,3 +272,17 @@ wider_done {K} before slots more wider n nodes extended new tree up high fits bo
   where
     is : IsWider before (leaves_of nodes) wider n nodes new
     is = record { same = same ∙ ap (λ l. take wider l) kept; len = len ∙ whole; up = omega arith; played = played }
+
+-- the nodes that are kept, and empty ones up to a length
+pub extended_len : {K : Type 0} (leaves m : ℕ) (nodes extended : List (Option (Entrant K))) → leaves ≤ length nodes → leaves ≤ m → extended ≡ take leaves nodes ++ replicate (m - leaves) None → length extended ≡ m
+extended_len {K} leaves m nodes extended short up kept =
+    let first : length (take leaves nodes) ≡ leaves = length-take-le leaves nodes short in
+    let rest : length (replicate {A = Option (Entrant K)} (m - leaves) None) ≡ m - leaves = length-replicate (m - leaves) None in
+    let sum : length (take leaves nodes) + length (replicate {A = Option (Entrant K)} (m - leaves) None) ≡ m = omega arith in
+    ap (λ l. length l) kept ∙ length-append (take leaves nodes) (replicate (m - leaves) None) ∙ sum
+
+-- the keys of more slots, by the list that was seen before
+pub grown : {K : Type 0} (slots more : ℕ) (nodes new : List (Option (Entrant K))) (old : List (Option K)) → slots ≤ length nodes → keys_of slots nodes ≡ old → keys_of more new ≡ keys_of slots nodes ++ replicate (more - slots) None → keys_of more new ≡ old ++ replicate (more - length old) None
+grown {K} slots more nodes new old short seen is =
+    let own : length old ≡ slots = ap (λ l. length l) (sym seen) ∙ keys_len slots nodes short in
+    is ∙ ap (λ l. l ++ replicate {A = Option K} (more - slots) None) seen ∙ ap (λ n. old ++ replicate {A = Option K} (more - n) None) (sym own)
