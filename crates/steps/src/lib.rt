@@ -1,9 +1,11 @@
 //! `Steps`: how many steps were taken, counted where nothing runs.
 //!
-//! A call whose cost is a clause takes a counter from its caller, and each of its looks at what it stores counts one step: `ensures looks {
-//! steps.new ≤ steps.old + 4 }`. The counter is seen as a number. It is kept by a book and a share of any ledger, which take no bytes, and
-//! nothing is left of it when the program runs.
+//! A call whose cost is a clause takes a counter from its caller, and each of its looks at what it stores
+//! counts one step: `ensures looks { steps.new ≤ steps.old + 4 }`. The counter is seen as a number. It is
+//! kept by a book and a share of any ledger, which take no bytes, and nothing is left of it when the program
+//! runs.
 #![tactic(auto)]
+
 ghost use Rattle.std.specs.Prelude.{◌≡◌, ◌+◌, ◌<◌};
 
 use std::marker::Model;

@@ -1,4 +1,5 @@
-//! A history of a tree: slots are added, keys are put in and taken out, and after each change the tree answers as the list of its keys.
+//! A history of a tree: slots are added, keys are put in and taken out, and after each change the tree
+//! answers as the list of its keys.
 ghost use Rattle.std.specs.Prelude.{◌≡◌, ◌<◌};
 
 use std::alloc::Global;

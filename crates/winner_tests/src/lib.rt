@@ -1,4 +1,5 @@
-//! Trees of keys, beside the same keys in a list that is gone over. Tests alone; nothing above uses this crate.
+//! Trees of keys, beside the same keys in a list that is gone over. Tests alone; nothing above uses this
+//! crate.
 #![tactic(auto)]
 
 mod history;

@@ -1,5 +1,6 @@
 -- The laws of the keys by which the scheduler picks.
-use Rattle.std.proofs.Common.{◌≡◌, ◌≢◌, ℕ, ◌+◌, ◌*◌, ◌<◌, ◌≤◌, max, Bool, true, false, cond, ◌⊎◌, refl, sym, ap, ◌∙◌, subst, inl, inr, arith, ltb-true, ltb-false, le-ltb, nat_lt}
+use Rattle.std.proofs.Common.{◌≡◌, ◌≢◌, ℕ, ◌+◌, ◌*◌, ◌<◌, ◌≤◌, max, Bool, true, false, cond, ◌⊎◌, refl, sym}
+use Rattle.std.proofs.Common.{ap, ◌∙◌, subst, inl, inr, arith, ltb-true, ltb-false, le-ltb, nat_lt}
 use Rattle.std.specs.Prelude.{◌==◌}
 use Rattle.std.proofs.Math.Nat.{mul-lt-mul_of_pos_right, lt_of_mul-lt-mul_right}
 use Rattle.std.proofs.lemmas.Bool.{cases_lt, eqb-true, eqb-false}
@@ -45,22 +46,26 @@ lt_apart a b p q =
     let two : a ≤ b = ltb-false b a q in
     omega arith
 
-less_one_way : (m n : ℕ) (rest back : Bool) → (rest ≡ true → back ≡ false) → less_or m n rest ≡ true → less_or n m back ≡ false
+less_one_way : (m n : ℕ) (rest back : Bool) → (rest ≡ true → back ≡ false) → less_or m n rest ≡ true
+    → less_or n m back ≡ false
 less_one_way m n rest back tie is =
     let le = is_less m n rest is in
     less_not n m back le.0 (λ e. tie (le.1 (sym e)))
 
 -- the moment, then the number
 pub moment_one_way : (a b : MomentKey) → moment_before a b ≡ true → moment_before b a ≡ false
-moment_one_way a b is = less_one_way a.moment b.moment (nat_lt a.number b.number) (nat_lt b.number a.number) (lt_one_way a.number b.number) is
+moment_one_way a b is = less_one_way a.moment b.moment (nat_lt a.number b.number) (nat_lt b.number a.number)
+    (lt_one_way a.number b.number) is
 
-pub moment_through : (a b c : MomentKey) → moment_before b a ≡ false → moment_before c b ≡ false → moment_before c a ≡ false
+pub moment_through : (a b c : MomentKey) → moment_before b a ≡ false → moment_before c b ≡ false
+    → moment_before c a ≡ false
 moment_through a b c p q =
     let one = not_less b.moment a.moment (nat_lt b.number a.number) p in
     let two = not_less c.moment b.moment (nat_lt c.number b.number) q in
     let le_one : a.moment ≤ b.moment = one.0 in
     let le_two : b.moment ≤ c.moment = two.0 in
-    less_not c.moment a.moment (nat_lt c.number a.number) (omega arith) (λ e. lt_through a.number b.number c.number (one.1 (omega arith)) (two.1 (omega arith)))
+    less_not c.moment a.moment (nat_lt c.number a.number) (omega arith)
+    (λ e. lt_through a.number b.number c.number (one.1 (omega arith)) (two.1 (omega arith)))
 
 pub moment_apart : (a b : MomentKey) → moment_before a b ≡ false → moment_before b a ≡ false → a ≡ b
 moment_apart a b p q =
@@ -95,59 +100,77 @@ of k = max k.cpus 1
 some_of : (k : LoadKey) → 1 ≤ of k
 some_of k = omega arith
 
-tie_one_way : (a b : LoadKey) → less_or a.number b.number (nat_lt a.cpus b.cpus) ≡ true → less_or b.number a.number (nat_lt b.cpus a.cpus) ≡ false
-tie_one_way a b is = less_one_way a.number b.number (nat_lt a.cpus b.cpus) (nat_lt b.cpus a.cpus) (lt_one_way a.cpus b.cpus) is
+tie_one_way : (a b : LoadKey) → less_or a.number b.number (nat_lt a.cpus b.cpus) ≡ true
+    → less_or b.number a.number (nat_lt b.cpus a.cpus) ≡ false
+tie_one_way a b is = less_one_way a.number b.number (nat_lt a.cpus b.cpus) (nat_lt b.cpus a.cpus)
+    (lt_one_way a.cpus b.cpus) is
 
-tie_through : (a b c : LoadKey) → less_or b.number a.number (nat_lt b.cpus a.cpus) ≡ false → less_or c.number b.number (nat_lt c.cpus b.cpus) ≡ false → less_or c.number a.number (nat_lt c.cpus a.cpus) ≡ false
+tie_through : (a b c : LoadKey) → less_or b.number a.number (nat_lt b.cpus a.cpus) ≡ false
+    → less_or c.number b.number (nat_lt c.cpus b.cpus) ≡ false
+    → less_or c.number a.number (nat_lt c.cpus a.cpus) ≡ false
 tie_through a b c p q =
     let one = not_less b.number a.number (nat_lt b.cpus a.cpus) p in
     let two = not_less c.number b.number (nat_lt c.cpus b.cpus) q in
     let le_one : a.number ≤ b.number = one.0 in
     let le_two : b.number ≤ c.number = two.0 in
-    less_not c.number a.number (nat_lt c.cpus a.cpus) (omega arith) (λ e. lt_through a.cpus b.cpus c.cpus (one.1 (omega arith)) (two.1 (omega arith)))
+    less_not c.number a.number (nat_lt c.cpus a.cpus) (omega arith)
+    (λ e. lt_through a.cpus b.cpus c.cpus (one.1 (omega arith)) (two.1 (omega arith)))
 
 pub load_one_way : (a b : LoadKey) → load_before a b ≡ true → load_before b a ≡ false
 load_one_way a b is =
-    less_one_way (a.load * of b) (b.load * of a) (less_or a.number b.number (nat_lt a.cpus b.cpus)) (less_or b.number a.number (nat_lt b.cpus a.cpus)) (tie_one_way a b) is
+    less_one_way (a.load * of b) (b.load * of a) (less_or a.number b.number (nat_lt a.cpus b.cpus))
+    (less_or b.number a.number (nat_lt b.cpus a.cpus)) (tie_one_way a b) is
 
-pub load_through : (a b c : LoadKey) → load_before b a ≡ false → load_before c b ≡ false → load_before c a ≡ false
+pub load_through : (a b c : LoadKey) → load_before b a ≡ false → load_before c b ≡ false
+    → load_before c a ≡ false
 load_through a b c p q =
-    less_not (c.load * of a) (a.load * of c) (less_or c.number a.number (nat_lt c.cpus a.cpus)) le (λ e. tie_through a b c (one.1 (first e)) (two.1 (second e)))
+    less_not (c.load * of a) (a.load * of c) (less_or c.number a.number (nat_lt c.cpus a.cpus)) le
+    (λ e. tie_through a b c (one.1 (first e)) (two.1 (second e)))
   where
-    one : (a.load * of b ≤ b.load * of a) × (b.load * of a ≡ a.load * of b → less_or b.number a.number (nat_lt b.cpus a.cpus) ≡ false)
+    one : (a.load * of b ≤ b.load * of a)
+        × (b.load * of a ≡ a.load * of b → less_or b.number a.number (nat_lt b.cpus a.cpus) ≡ false)
     one = not_less (b.load * of a) (a.load * of b) (less_or b.number a.number (nat_lt b.cpus a.cpus)) p
 
-    two : (b.load * of c ≤ c.load * of b) × (c.load * of b ≡ b.load * of c → less_or c.number b.number (nat_lt c.cpus b.cpus) ≡ false)
+    two : (b.load * of c ≤ c.load * of b)
+        × (c.load * of b ≡ b.load * of c → less_or c.number b.number (nat_lt c.cpus b.cpus) ≡ false)
     two = not_less (c.load * of b) (b.load * of c) (less_or c.number b.number (nat_lt c.cpus b.cpus)) q
 
     le : a.load * of c ≤ c.load * of a
     le =
         elim (cases_lt (c.load * of a) (a.load * of c)) [
-          inl lt ↦ let back : b.load * of a < a.load * of b = le_lt b.load (of b) c.load (of c) a.load (of a) (some_of b) (some_of c) two.0 lt in absurd (omega (arith, back, one.0))
-        | inr ge ↦ ge
+          | inl lt ↦ let back : b.load * of a < a.load * of b = le_lt b.load (of b) c.load (of c) a.load
+              (of a)
+              (some_of b) (some_of c) two.0 lt in absurd (omega (arith, back, one.0))
+          | inr ge ↦ ge
         ]
 
     first : c.load * of a ≡ a.load * of c → b.load * of a ≡ a.load * of b
     first e =
         elim (cases_lt (a.load * of b) (b.load * of a)) [
-          inl lt ↦ let less : a.load * of c < c.load * of a = lt_le a.load (of a) b.load (of b) c.load (of c) (some_of b) (some_of c) lt two.0 in absurd (omega (arith, less, e))
-        | inr ge ↦ omega (arith, ge, one.0)
+          | inl lt ↦ let less : a.load * of c < c.load * of a = lt_le a.load (of a) b.load (of b) c.load
+              (of c)
+              (some_of b) (some_of c) lt two.0 in absurd (omega (arith, less, e))
+          | inr ge ↦ omega (arith, ge, one.0)
         ]
 
     second : c.load * of a ≡ a.load * of c → c.load * of b ≡ b.load * of c
     second e =
         elim (cases_lt (b.load * of c) (c.load * of b)) [
-          inl lt ↦ let less : a.load * of c < c.load * of a = le_lt a.load (of a) b.load (of b) c.load (of c) (some_of a) (some_of b) one.0 lt in absurd (omega (arith, less, e))
-        | inr ge ↦ omega (arith, ge, two.0)
+          | inl lt ↦ let less : a.load * of c < c.load * of a = le_lt a.load (of a) b.load (of b) c.load
+              (of c)
+              (some_of a) (some_of b) one.0 lt in absurd (omega (arith, less, e))
+          | inr ge ↦ omega (arith, ge, two.0)
         ]
 
 pub load_apart : (a b : LoadKey) → load_before a b ≡ false → load_before b a ≡ false → a ≡ b
 load_apart a b p q = λ i. record { load = loads i; cpus = processors i; number = numbers i }
   where
-    one : (b.load * of a ≤ a.load * of b) × (a.load * of b ≡ b.load * of a → less_or a.number b.number (nat_lt a.cpus b.cpus) ≡ false)
+    one : (b.load * of a ≤ a.load * of b)
+        × (a.load * of b ≡ b.load * of a → less_or a.number b.number (nat_lt a.cpus b.cpus) ≡ false)
     one = not_less (a.load * of b) (b.load * of a) (less_or a.number b.number (nat_lt a.cpus b.cpus)) p
 
-    two : (a.load * of b ≤ b.load * of a) × (b.load * of a ≡ a.load * of b → less_or b.number a.number (nat_lt b.cpus a.cpus) ≡ false)
+    two : (a.load * of b ≤ b.load * of a)
+        × (b.load * of a ≡ a.load * of b → less_or b.number a.number (nat_lt b.cpus a.cpus) ≡ false)
     two = not_less (b.load * of a) (a.load * of b) (less_or b.number a.number (nat_lt b.cpus a.cpus)) q
 
     same : a.load * of b ≡ b.load * of a
@@ -171,9 +194,11 @@ load_apart a b p q = λ i. record { load = loads i; cpus = processors i; number 
     loads : a.load ≡ b.load
     loads =
         elim (cases_lt a.load b.load) [
-          inl lt ↦ let less : a.load * of a < b.load * of a = mul-lt-mul_of_pos_right lt (omega (arith, some_of a)) in absurd (omega (arith, less, level))
-        | inr ge ↦ elim (cases_lt b.load a.load) [
-              inl gt ↦ let less : b.load * of a < a.load * of a = mul-lt-mul_of_pos_right gt (omega (arith, some_of a)) in absurd (omega (arith, less, level))
+          | inl lt ↦ let less : a.load * of a < b.load * of a = mul-lt-mul_of_pos_right lt
+              (omega (arith, some_of a)) in absurd (omega (arith, less, level))
+          | inr ge ↦ elim (cases_lt b.load a.load) [
+            | inl gt ↦ let less : b.load * of a < a.load * of a = mul-lt-mul_of_pos_right gt
+                (omega (arith, some_of a)) in absurd (omega (arith, less, level))
             | inr le ↦ omega (arith, ge, le)
-            ]
+          ]
         ]

@@ -9,7 +9,8 @@ less_or m n rest = if m == n then rest else nat_lt m n
 
 -- the load for each processor, of which there is at least one, then the number
 abbrev pub load_before : LoadKey → LoadKey → Bool
-load_before a b = less_or (a.load * max b.cpus 1) (b.load * max a.cpus 1) (less_or a.number b.number (nat_lt a.cpus b.cpus))
+load_before a b = less_or (a.load * max b.cpus 1) (b.load * max a.cpus 1)
+    (less_or a.number b.number (nat_lt a.cpus b.cpus))
 
 -- the moment, then the number
 abbrev pub moment_before : MomentKey → MomentKey → Bool

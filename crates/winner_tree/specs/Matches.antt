@@ -1,5 +1,8 @@
--- What stands at the nodes of a tree: first the leaves, by slot, and behind them the winner of each pair of nodes in turn.
-use Rattle.std.specs.Prelude.{◌≡◌, ◌≢◌, ℕ, zero, suc, ◌+◌, ◌-◌, ◌*◌, ◌/◌, ◌^◌, ◌<◌, ◌≤◌, Bool, true, false, not, ◌&&◌, List, map, take, drop, length, Option, Some, None, slice_index_or, if◌then◌else◌, ◌==◌}
+-- What stands at the nodes of a tree: first the leaves, by slot, and behind them the winner of each pair of
+-- nodes in turn.
+use Rattle.std.specs.Prelude.{◌≡◌, ◌≢◌, ℕ, zero, suc, ◌+◌, ◌-◌, ◌*◌, ◌/◌, ◌^◌, ◌<◌, ◌≤◌, Bool, true, false}
+use Rattle.std.specs.Prelude.{not, ◌&&◌, List, map, take, drop, length, Option, Some, None, slice_index_or}
+use Rattle.std.specs.Prelude.{if◌then◌else◌, ◌==◌}
 use Rattle.winner_tree.specs.declared.entrant.Entrant.{Entrant}
 
 module _ {K : Type 0} where
@@ -29,7 +32,8 @@ module _ {K : Type 0} where
   abbrev pub span : List (Option (Entrant K)) → ℕ → ℕ → List (Option K)
   span nodes first n = map key_of (take n (drop first nodes))
 
-  -- a match ended as before, where only the key of one slot has changed: nobody won, or the same slot, and not that one
+  -- a match ended as before, where only the key of one slot has changed: nobody won, or the same slot, and
+  -- not that one
   abbrev pub keeps : ℕ → Option (Entrant K) → Option (Entrant K) → Bool
   keeps slot None None = true
   keeps slot None (Some new) = false
@@ -69,22 +73,27 @@ abbrev pub IsNoMore : ℕ → ℕ → Type 0
 IsNoMore slots leaves = (h : ℕ) → slots ≤ 2 ^ h → leaves ≤ 2 ^ h
 
 -- each match is played, and at a leaf stands the key of its slot
-pub record IsBoard {K : Type 0} (before : K → K → Bool) (leaves : ℕ) (nodes : List (Option (Entrant K))) : Type 0 where
+pub record IsBoard {K : Type 0} (before : K → K → Bool) (leaves : ℕ) (nodes : List (Option (Entrant K))) :
+    Type 0 where
   pub len : length nodes ≡ 2 * leaves - 1
   pub own : (at : ℕ) (e : Entrant K) → at < leaves → node nodes at ≡ Some e → e.slot ≡ at
   pub played : ArePlayed before leaves nodes
   pub bound : leaves ≤ 2 ^ 62
 
--- a tree of so many slots: the leaves are the least power of two that is enough, and those past the slots are empty
-pub record IsTree {K : Type 0} (before : K → K → Bool) (leaves slots : ℕ) (nodes : List (Option (Entrant K))) : Type 0 where
+-- a tree of so many slots: the leaves are the least power of two that is enough, and those past the slots are
+-- empty
+pub record IsTree {K : Type 0} (before : K → K → Bool) (leaves slots : ℕ) (nodes : List (Option (Entrant K)))
+    : Type 0 where
   pub board : IsBoard before leaves nodes
   pub fits : slots ≤ leaves
   pub free : (at : ℕ) → slots ≤ at → at < leaves → node nodes at ≡ None
   pub power : 0 < leaves → (t : ℕ) × (leaves ≡ 2 ^ t)
   pub least : IsNoMore slots leaves
 
--- the key of a slot has changed, and each match is played but that above the node `at`, the last that has risen from the slot
-pub record IsOpen {K : Type 0} (before : K → K → Bool) (leaves slot at : ℕ) (nodes : List (Option (Entrant K))) : Type 0 where
+-- the key of a slot has changed, and each match is played but that above the node `at`, the last that has
+-- risen from the slot
+pub record IsOpen {K : Type 0} (before : K → K → Bool) (leaves slot at : ℕ)
+    (nodes : List (Option (Entrant K))) : Type 0 where
   pub played : (pair : ℕ) → pair + 1 < leaves → pair ≢ at / 2 → IsPlayed before leaves nodes pair
   pub held : (i : ℕ) (e : Entrant K) → node nodes i ≡ Some e → e.slot ≢ slot → IsHeld leaves nodes e
 
@@ -92,4 +101,5 @@ pub record IsOpen {K : Type 0} (before : K → K → Bool) (leaves slot at : ℕ
 abbrev pub Spans : ℕ → ℕ → ℕ → ℕ → Type 0
 Spans leaves zero at first = (at ≡ first) × (first < leaves)
 Spans leaves (suc j) at first =
-    (pair : ℕ) × (at ≡ leaves + pair) × (pair + 1 < leaves) × Spans leaves j (2 * pair) first × Spans leaves j (2 * pair + 1) (first + 2 ^ j)
+    (pair : ℕ) × (at ≡ leaves + pair) × (pair + 1 < leaves) × Spans leaves j (2 * pair) first
+    × Spans leaves j (2 * pair + 1) (first + 2 ^ j)

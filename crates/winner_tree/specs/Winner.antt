@@ -1,5 +1,6 @@
 -- Which slot has the least key, and which slots have keys before a bound.
-use Rattle.std.specs.Prelude.{◌≡◌, ℕ, ◌+◌, Bool, false, List, [], ◌∷◌, Option, Some, None, slice_index_or, if◌then◌else◌}
+use Rattle.std.specs.Prelude.{◌≡◌, ℕ, ◌+◌, Bool, false, List, [], ◌∷◌, Option, Some, None, slice_index_or}
+use Rattle.std.specs.Prelude.{if◌then◌else◌}
 
 module _ {K : Type 0} where
   -- no slot has a key
@@ -8,7 +9,8 @@ module _ {K : Type 0} where
 
   -- no two slots have one key
   abbrev pub Differ : List (Option K) → Type 0
-  Differ keys = (a b : ℕ) (key : K) → slice_index_or keys a None ≡ Some key → slice_index_or keys b None ≡ Some key → a ≡ b
+  Differ keys = (a b : ℕ) (key : K) → slice_index_or keys a None ≡ Some key
+      → slice_index_or keys b None ≡ Some key → a ≡ b
 
 -- the slot has a key, and no slot's key goes before it
 pub record IsLeast {K : Type 0} (before : K → K → Bool) (keys : List (Option K)) (slot : ℕ) : Type 0 where
@@ -21,4 +23,5 @@ abbrev pub early_slots : {K : Type 0} → (K → K → Bool) → K → ℕ → L
 early_slots before bound at [] = []
 early_slots before bound at (None ∷ keys) = early_slots before bound (at + 1) keys
 early_slots before bound at (Some key ∷ keys) =
-    if before key bound then at ∷ early_slots before bound (at + 1) keys else early_slots before bound (at + 1) keys
+    if before key bound then at ∷ early_slots before bound (at + 1) keys else early_slots before bound
+    (at + 1) keys

@@ -20,7 +20,8 @@ fn early<K: Key>(entrant: &Option<Entrant<K>>, bound: &K) -> bool
     }
 }
 
-/// Appends the slots below a node, by the leaves from left to right. Where its winner is not before the bound there are none.
+/// Appends the slots below a node, by the leaves from left to right. Where its winner is not before the bound
+/// there are none.
 pub(crate) fn collect<K: Key, L: Ledger>(
     nodes: &Nodes<K>,
     at: usize,
@@ -30,9 +31,11 @@ pub(crate) fn collect<K: Key, L: Ledger>(
 ) -> Result<(), AllocError>
     requires board { IsBoard K.before (leaves_of nodes.now) nodes.now }
     requires within { at < length nodes.now }
-    ensures slots { OnOk result ((j first : ℕ) → Spans (leaves_of nodes.now) j at first → slots.new.items ≡ slots.old.items ++
+    ensures slots { OnOk result ((j first : ℕ) → Spans (leaves_of nodes.now) j at first
+        → slots.new.items ≡ slots.old.items ++
         early_slots K.before bound.now first (span nodes.now first (2 ^ j))) }
-    ensures looks { (j first : ℕ) → Spans (leaves_of nodes.now) j at first → steps.new ≤ steps.old + (2 * j * length
+    ensures looks { (j first : ℕ) → Spans (leaves_of nodes.now) j at first
+        → steps.new ≤ steps.old + (2 * j * length
         (early_slots K.before bound.now first (span nodes.now first (2 ^ j))) + 1) }
 {
     if !early(nodes.look(at, steps), bound) {

@@ -32,7 +32,10 @@ pub(crate) fn key<K: Key>(entrant: &Option<Entrant<K>>) -> Option<K>
 }
 
 /// The one of two that goes first, the first where they are equal.
-pub(crate) fn first<K: Key>(left: &Option<Entrant<K>>, right: &Option<Entrant<K>>) -> Option<Entrant<K>>
+pub(crate) fn first<K: Key>(
+    left: &Option<Entrant<K>>,
+    right: &Option<Entrant<K>>,
+) -> Option<Entrant<K>>
     ensures { result ≡ first_of K.before left.now right.now }
 {
     let Some(one) = left else {
@@ -41,11 +44,15 @@ pub(crate) fn first<K: Key>(left: &Option<Entrant<K>>, right: &Option<Entrant<K>
     let Some(other) = right else {
         return *left;
     };
-    if other.key.is_before(&one.key) { *right } else { *left }
+    if other.key.is_before(&one.key) {
+        *right
+    } else {
+        *left
+    }
 }
 
-/// Whether a match ended as before, where only the key of one slot has changed: nobody won, or the same slot did,
-/// and not that one.
+/// Whether a match ended as before, where only the key of one slot has changed: nobody won, or the same slot
+/// did, and not that one.
 pub(crate) fn stays<K: Key>(slot: usize, old: &Option<Entrant<K>>, new: &Option<Entrant<K>>) -> bool
     ensures { result ≡ keeps slot old.now new.now }
 {

@@ -40,7 +40,8 @@ impl Key for LoadKey {
     }
 }
 
-/// A moment and the number of a registration. The least moment goes first, and of equal ones the least number.
+/// A moment and the number of a registration. The least moment goes first, and of equal ones the least
+/// number.
 #[derive(Clone, Copy, Debug)]
 pub struct MomentKey {
     /// The moment, in milliseconds.

@@ -1,5 +1,6 @@
 //! `Nodes`: the nodes of a tree, each look at one of which is counted.
-ghost use Rattle.std.specs.Prelude.{◌≡◌, ◌+◌, ◌-◌, ◌*◌, ◌/◌, ◌^◌, ◌<◌, ◌≤◌, [], ◌++◌, length, take, replicate, None};
+ghost use Rattle.std.specs.Prelude.{◌≡◌, ◌+◌, ◌-◌, ◌*◌, ◌/◌, ◌^◌, ◌<◌, ◌≤◌, [], ◌++◌, length, take};
+ghost use Rattle.std.specs.Prelude.{replicate, None};
 ghost use Rattle.std.specs.Prelude.{slice_index_or, slice_set, OnOk, OnErr};
 ghost use Rattle.winner_tree.specs.Matches.{leaves_of, match_of};
 
@@ -108,7 +109,8 @@ impl<K: Key> Nodes<K> {
         first(left, right)
     }
 
-    /// Keeps so many nodes, and adds empty ones, so that there are `len`. Where there is no memory nothing changes.
+    /// Keeps so many nodes, and adds empty ones, so that there are `len`. Where there is no memory nothing
+    /// changes.
     pub(crate) fn extend(&mut self, kept: usize, len: usize) -> Result<(), AllocError>
         requires kept { kept ≤ length self.old }
         requires longer { length self.old ≤ len }

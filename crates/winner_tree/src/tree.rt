@@ -1,8 +1,10 @@
 //! `WinnerTree`: the key of each slot, and the matches between them.
 //!
-//! Of `leaves` leaves and one node fewer above them, the nodes stand in one list: first the leaves, by slot, and behind them the winner of
-//! each pair of nodes in turn (nodes 0 and 1, nodes 2 and 3, and so on), where winners are paired as leaves are. The last is the root.
-ghost use Rattle.std.specs.Prelude.{◌≡◌, ℕ, ◌+◌, ◌-◌, ◌*◌, ◌/◌, ◌^◌, ◌<◌, ◌≤◌, [], ◌++◌, length, take, replicate, None};
+//! Of `leaves` leaves and one node fewer above them, the nodes stand in one list: first the leaves, by slot,
+//! and behind them the winner of each pair of nodes in turn (nodes 0 and 1, nodes 2 and 3, and so on), where
+//! winners are paired as leaves are. The last is the root.
+ghost use Rattle.std.specs.Prelude.{◌≡◌, ℕ, ◌+◌, ◌-◌, ◌*◌, ◌/◌, ◌^◌, ◌<◌, ◌≤◌, [], ◌++◌, length, take};
+ghost use Rattle.std.specs.Prelude.{replicate, None};
 ghost use Rattle.std.specs.Prelude.{slice_index_or, slice_set, IfOk, IsOk, OnOk, OnErr, MatchOption};
 ghost use Rattle.std.specs.Int.{IsPowerOfTwo};
 ghost use Rattle.winner_tree.specs.Winner.{HasNone, IsLeast, early_slots};
@@ -120,7 +122,8 @@ impl<K: Key> WinnerTree<K> {
         self.slots
     }
 
-    /// Slots up to that number, the new ones without a key. It takes time in the number of slots where that passes a power of two.
+    /// Slots up to that number, the new ones without a key. It takes time in the number of slots where that
+    /// passes a power of two.
     ///
     /// Where there is no memory nothing changes.
     pub fn grow(&mut self, slots: usize) -> Result<(), AllocError>
@@ -185,7 +188,8 @@ impl<K: Key> WinnerTree<K> {
         steps: &mut Steps<L>,
     ) -> Result<Vec<usize>, AllocError>
         ensures slots { IfOk result (λ v. v.items ≡ early_slots K.before bound.now 0 self.now) }
-        ensures looks { (h : ℕ) → length self.now ≤ 2 ^ h → steps.new ≤ steps.old + (2 * h * length (early_slots
+        ensures looks { (h : ℕ) → length self.now ≤ 2 ^ h
+            → steps.new ≤ steps.old + (2 * h * length (early_slots
             K.before bound.now 0 self.now) + 1) }
     {
         let mut slots = Vec::new(alloc);
