@@ -1,5 +1,6 @@
 -- What a running server's answers say of its rows.
-use Rattle.std.proofs.Common.{◌≡◌, ◌≤◌, ◌<◌, inl, inr, ℕ, List, [], ◌∷◌, ◌++◌, length, Option, Some, None, Result, Ok, Err, refl, sym, ◌∙◌, ap, subst, append_assoc, append-nil, arith}
+use Rattle.std.proofs.Common.{◌≡◌, ◌≤◌, ◌<◌, inl, inr, ℕ, List, [], ◌∷◌, ◌++◌, length, Option, Some, None}
+use Rattle.std.proofs.Common.{Result, Ok, Err, refl, sym, ◌∙◌, ap, subst, append_assoc, append-nil, arith}
 use Rattle.std.specs.Prelude.{IfSome, OnOk}
 use Rattle.std.specs.Option.{option_map}
 use Rattle.sha2.specs.Sha256.{sha256}
@@ -25,8 +26,10 @@ use Rattle.dist_types.specs.declared.source.ReadError.{ReadError}
 use Rattle.dist_types.specs.declared.source.ReadError.TheVariants as read
 use Rattle.build_server.specs.Books.{Books}
 use Rattle.build_server.specs.Builds.{Order, Builder, IsBuilt, Builds, outcome_of, run_answer, ended}
-use Rattle.build_server.specs.Laws.{MayHaveBuilt, AnswersBuild, RecordedAll, ReportedBoth, AnswersReports, RunsAreTold, AnswersReady, AnswersReading, SubmissionsAreTold}
-use Rattle.build_server.specs.Rows.{Reports, Reading, IsReported, IsWhole, Unread, Ends, Fetches, Submitting, submit_answer, Follows, Proceeds, Running}
+use Rattle.build_server.specs.Laws.{MayHaveBuilt, AnswersBuild, RecordedAll, ReportedBoth, AnswersReports}
+use Rattle.build_server.specs.Laws.{RunsAreTold, AnswersReady, AnswersReading, SubmissionsAreTold}
+use Rattle.build_server.specs.Rows.{Reports, Reading, IsReported, IsWhole, Unread, Ends, Fetches, Submitting}
+use Rattle.build_server.specs.Rows.{submit_answer, Follows, Proceeds, Running}
 use Rattle.build_server.specs.Rules.{Update, fault_of, TellsUpdate}
 use Rattle.build_server.specs.declared.fault.ServerFault.{ServerFault}
 use Rattle.build_server.specs.declared.fault.ServerFault.TheVariants as fault

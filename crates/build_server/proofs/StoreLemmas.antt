@@ -1,5 +1,6 @@
 -- What a store comes to, put together from the cache's own clauses.
-use Rattle.std.proofs.Common.{◌≡◌, inl, inr, ℕ, ◌-◌, ◌≤◌, Bool, true, false, cond, List, [], ◌∷◌, ◌++◌, length, take, Ok, Err, refl, sym, ◌∙◌, ap, subst, arith, length-append}
+use Rattle.std.proofs.Common.{◌≡◌, inl, inr, ℕ, ◌-◌, ◌≤◌, Bool, true, false, cond, List, [], ◌∷◌, ◌++◌}
+use Rattle.std.proofs.Common.{length, take, Ok, Err, refl, sym, ◌∙◌, ap, subst, arith, length-append}
 use Rattle.std.specs.Prelude.{nat_lt, not}
 use Rattle.std.specs.List.{IsDistinct}
 use Rattle.std.specs.Map.{keys_of}
@@ -19,7 +20,8 @@ use Rattle.build_server.specs.Rules.{store_verdict, IsFrontOfDropped}
 use Rattle.build_server.specs.Stores.{IsStored, Stores, refusal}
 use Rattle.build_server.specs.declared.submit.Submitted.{Submitted}
 use Rattle.build_server.specs.declared.submit.Submitted.TheVariants.{Stored, Digest, Capacity, Folder}
-use Rattle.build_server.proofs.ListLemmas.{without_unlisted, dropped-trim, gone_out, none_gone, front_of_dropped, ids-append, take_front}
+use Rattle.build_server.proofs.ListLemmas.{without_unlisted, dropped-trim, gone_out, none_gone}
+use Rattle.build_server.proofs.ListLemmas.{front_of_dropped, ids-append, take_front}
 
 -- the verdict of the cache, as that of a submission
 by_tests : (same big : Bool) (x : Submitted) → cond (not same) (Err error.WrongDigest)

@@ -1,5 +1,6 @@
 -- What taking a job out comes to.
-use Rattle.std.proofs.Common.{◌≡◌, ℕ, Bool, true, false, cond, List, [], ◌∷◌, Some, None, Ok, refl, sym, ◌∙◌, ap, subst, arith}
+use Rattle.std.proofs.Common.{◌≡◌, ℕ, Bool, true, false, cond, List, [], ◌∷◌, Some, None, Ok, refl, sym, ◌∙◌}
+use Rattle.std.proofs.Common.{ap, subst, arith}
 use Rattle.std.specs.Prelude.{not}
 use Rattle.dist_types.specs.declared.ids.JobId.{JobId}
 use Rattle.lru_disk_cache.specs.Entries.{promoted_key}

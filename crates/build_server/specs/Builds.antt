@@ -1,5 +1,6 @@
 -- One build of a job that was taken out, and its end.
-use Rattle.std.specs.Prelude.{◌≡◌, ◌≢◌, ◌≤◌, ℕ, Bool, true, false, List, Option, Some, None, Result, Ok, Err, OnOk}
+use Rattle.std.specs.Prelude.{◌≡◌, ◌≢◌, ◌≤◌, ℕ, Bool, true, false, List, Option, Some, None, Result, Ok, Err}
+use Rattle.std.specs.Prelude.{OnOk}
 use Rattle.sha2.specs.Sha256.{sha256}
 use Rattle.dist_types.specs.Builder.{Built, built_row}
 use Rattle.dist_types.specs.Cause.{Rose}

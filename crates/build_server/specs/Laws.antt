@@ -1,5 +1,6 @@
 -- What follows for a reader from what a running server's calls leave.
-use Rattle.std.specs.Prelude.{◌≡◌, ◌≢◌, ◌≤◌, ◌<◌, ◌⊎◌, ◌++◌, [], ◌∷◌, ℕ, List, length, Option, IfSome, Result, Ok, Err, OnOk}
+use Rattle.std.specs.Prelude.{◌≡◌, ◌≢◌, ◌≤◌, ◌<◌, ◌⊎◌, ◌++◌, [], ◌∷◌, ℕ, List, length, Option, IfSome, Result}
+use Rattle.std.specs.Prelude.{Ok, Err, OnOk}
 use Rattle.std.specs.Option.{option_map}
 use Rattle.dist_types.specs.Builder.{built_row}
 use Rattle.dist_types.specs.Cause.{Rose}

@@ -1,5 +1,7 @@
 -- The rules of a build server, over what it keeps.
-use Rattle.std.specs.Prelude.{◌≡◌, ◌≢◌, ◌≤◌, ◌⊎◌, ℕ, Bool, true, false, not, nat_lt, is_some, if◌then◌else◌, List, [], ◌∷◌, ◌++◌, ◌-◌, length, Option, Some, None, Result, Ok, Err, OnOk, OnErr}
+use Rattle.std.specs.Prelude.{◌≡◌, ◌≢◌, ◌≤◌, ◌⊎◌, ℕ, Bool, true, false, not, nat_lt, is_some, if◌then◌else◌}
+use Rattle.std.specs.Prelude.{List, [], ◌∷◌, ◌++◌, ◌-◌, length, Option, Some, None, Result, Ok, Err, OnOk}
+use Rattle.std.specs.Prelude.{OnErr}
 use Rattle.std.specs.Str.{bytes_eq}
 use Rattle.dist_types.specs.declared.ids.JobId.{JobId}
 use Rattle.dist_types.specs.declared.outgoing.CallFault.{CallFault}
@@ -13,7 +15,8 @@ use Rattle.lru_disk_cache.specs.Archives.{Archives, id_of}
 use Rattle.lru_disk_cache.specs.Disk.{dropped}
 use Rattle.lru_disk_cache.specs.Entries.{promoted_key}
 use Rattle.lru_disk_cache.specs.Held.{Held, Holds}
-use Rattle.build_server.specs.Books.{Books, held_for, placed, without_job, is_listed, ids, without_ids, Fails, KeepsStep}
+use Rattle.build_server.specs.Books.{Books, held_for, placed, without_job, is_listed, ids, without_ids, Fails}
+use Rattle.build_server.specs.Books.{KeepsStep}
 use Rattle.build_server.specs.declared.fault.ServerFault.{ServerFault}
 use Rattle.build_server.specs.declared.fault.ServerFault.TheVariants as fault
 use Rattle.build_server.specs.declared.submit.Submitted.{Submitted}

@@ -5,7 +5,8 @@ ghost use Rattle.dist_types.specs.declared.source.ReadError.{ReadError as Unread
 ghost use Rattle.build_server.specs.Books.{Books};
 ghost use Rattle.build_server.specs.Rules.{Assigns, TellsAssign, Submits, Begins, TellsUpdate, Turns};
 ghost use Rattle.build_server.specs.Builds.{builder_of};
-ghost use Rattle.build_server.specs.Rows.{reports, reading, IsSubmitOn, Fetches, Ends, Finishes, Works, Runs, IsRunOn};
+ghost use Rattle.build_server.specs.Rows.{reports, reading, IsSubmitOn, Fetches, Ends, Finishes, Works, Runs};
+ghost use Rattle.build_server.specs.Rows.{IsRunOn};
 
 use crate::fault::{ServerFault, Update, fault_of};
 use crate::run::{RunDone, RunHeld};
@@ -68,7 +69,8 @@ pub fn assign_on<K: Keeping>(
     job_id: JobId,
     tc: Toolchain,
 ) -> Result<AssignJobResult, ServerFault>
-    ensures turns { Turns (λ old new. Assigns job_id tc old new result) (K.kept keeper.old) (K.kept keeper.new) }
+    ensures turns { Turns (λ old new. Assigns job_id tc old new result) (K.kept keeper.old)
+        (K.kept keeper.new) }
     ensures tells { TellsAssign job_id result }
 {
     keeper.assign(job_id, tc)
@@ -110,8 +112,8 @@ fn fetch<K: Keeping, R: Source>(
     }
 }
 
-/// Submits a toolchain under a job: reports Ready, and where that is accepted reads the archive to its end and
-/// has the keeper store it. An archive that cannot be read, or of more than 1,073,741,824 bytes, is
+/// Submits a toolchain under a job: reports Ready, and where that is accepted reads the archive to its end
+/// and has the keeper store it. An archive that cannot be read, or of more than 1,073,741,824 bytes, is
 /// CannotCache, whatever is held, and nothing is stored.
 pub fn submit_from<K: Keeping, O: ServerOutgoing, R: Source>(
     alloc: Global,

@@ -1,7 +1,8 @@
 //! Runs: a job that was taken out, its one build, and its end.
 ghost use Rattle.std.specs.Prelude.{◌≡◌};
 ghost use Rattle.std.specs.Option.{option_copied};
-ghost use Rattle.build_server.specs.Builds.{Builds, BuildsIn, builder_of, is_due, outcome_by, ran_of, built_of, ended, run_answer, complete_of};
+ghost use Rattle.build_server.specs.Builds.{Builds, BuildsIn, builder_of, is_due, outcome_by, ran_of};
+ghost use Rattle.build_server.specs.Builds.{built_of, ended, run_answer, complete_of};
 
 use crate::fault::{BuildCause, ServerFault, Update, fault_of};
 use dist_types::builder::{BuildFault, BuilderIncoming};
@@ -105,7 +106,8 @@ fn build_in<B: BuilderIncoming>(
     outputs: &[Text],
     inputs: &[u8],
 ) -> Result<RunDone, (RunHeld, Memory)>
-    ensures { BuildsIn tc archive (record { command = command.now; outputs = outputs.now; inputs = inputs.now })
+    ensures { BuildsIn tc archive
+        (record { command = command.now; outputs = outputs.now; inputs = inputs.now })
         (builder_of B.built B.refusals builder.old) (builder_of B.built B.refusals builder.new) result }
 {
     match builder.run_build(&tc, archive.get(), command, outputs, inputs) {

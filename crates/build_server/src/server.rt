@@ -94,9 +94,9 @@ pub trait ServerIncoming {
     ) -> Result<AssignJobResult, ServerFault>
         ensures tells { TellsAssign job_id result };
 
-    /// Takes a toolchain that is submitted under a job, as `submit_on` does: the reader is lent, and read to its
-    /// end after Ready was accepted. Where a read failed, which its count shows, or more than 1,073,741,824 bytes
-    /// came, the answer is CannotCache, whatever is held, and nothing is stored.
+    /// Takes a toolchain that is submitted under a job, as `submit_on` does: the reader is lent, and read to
+    /// its end after Ready was accepted. Where a read failed, which its count shows, or more than
+    /// 1,073,741,824 bytes came, the answer is CannotCache, whatever is held, and nothing is stored.
     fn handle_submit_toolchain<W: Wait, O: ServerOutgoing, R: Source>(
         &self,
         rt: &W,

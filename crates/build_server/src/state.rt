@@ -81,11 +81,11 @@ impl<F: Folder> ServerState<F> {
         Submit::new(job)
     }
 
-    /// Ends a submission by what the scheduler answered to Ready. Where that is not accepted: UpdateFailed, or
-    /// Memory where the update says so, and nothing changes. Else, in this order: None where the job is not
-    /// held, Listed where the archive is listed, Digest where its SHA-256 is not the toolchain's id, Capacity
-    /// where it is larger than the cache, and Stored; Folder where the folder failed, which some of those may
-    /// have gone before that the store would drop. Want of memory may leave the same.
+    /// Ends a submission by what the scheduler answered to Ready. Where that is not accepted: UpdateFailed,
+    /// or Memory where the update says so, and nothing changes. Else, in this order: None where the job is
+    /// not held, Listed where the archive is listed, Digest where its SHA-256 is not the toolchain's id,
+    /// Capacity where it is larger than the cache, and Stored; Folder where the folder failed, which some of
+    /// those may have gone before that the store would drop. Want of memory may leave the same.
     pub fn end_submit(
         &mut self,
         submit: Submit,
@@ -100,10 +100,10 @@ impl<F: Folder> ServerState<F> {
         }
     }
 
-    /// Takes a job out by what the scheduler answered to Started. Where that is not accepted: UpdateFailed, or
-    /// Memory where the update says so, and nothing is taken. Else the job is held no longer, and its archive
-    /// is read and most recent; None where the job was not held, Unlisted where the archive is not listed,
-    /// Folder where the folder failed. After Memory the job stays held.
+    /// Takes a job out by what the scheduler answered to Started. Where that is not accepted: UpdateFailed,
+    /// or Memory where the update says so, and nothing is taken. Else the job is held no longer, and its
+    /// archive is read and most recent; None where the job was not held, Unlisted where the archive is not
+    /// listed, Folder where the folder failed. After Memory the job stays held.
     pub fn begin_run(&mut self, job: JobId, started: Update) -> Result<RunHeld, ServerFault>
         ensures begins { Begins job started self.old self.new result }
     {
@@ -122,8 +122,8 @@ impl<F: Folder> ServerState<F> {
     }
 
     /// The toolchains of the archives with their sizes in bytes, least recent first. It takes no memory.
-    /// Whatever failed so far, their ids differ, their sizes fit the capacity, and each has a file of its size
-    /// whose SHA-256 is its id, where files are told.
+    /// Whatever failed so far, their ids differ, their sizes fit the capacity, and each has a file of its
+    /// size whose SHA-256 is its id, where files are told.
     pub fn archives(&self) -> Archives<'_>
         ensures rest { result ≡ self.now.archives }
     {

@@ -1,5 +1,6 @@
 //! What a server asks of its cache: to store an archive that is not listed, and to read one that is.
-ghost use Rattle.std.specs.Prelude.{◌≡◌, ◌≤◌, ◌-◌, length, take, is_some, true, false, IfOk, IfErr, OnOk, Ok, Err};
+ghost use Rattle.std.specs.Prelude.{◌≡◌, ◌≤◌, ◌-◌, length, take, is_some, true, false, IfOk, IfErr, OnOk, Ok};
+ghost use Rattle.std.specs.Prelude.{Err};
 ghost use Rattle.lru_disk_cache.specs.Archives.{IsInStep, IsArchiveStore};
 ghost use Rattle.lru_disk_cache.specs.Disk.{dropped};
 ghost use Rattle.lru_disk_cache.specs.Entries.{total};
@@ -82,7 +83,8 @@ pub(crate) fn store<F: Folder>(
     archive: &[u8],
 ) -> Result<Submitted, ServerFault>
     requires unlisted { is_listed tc.now cache.old.archives ≡ false }
-    requires stands { IsArchiveStore cache.old.path cache.old.capacity cache.old.archives (F.held cache.old.folder) }
+    requires stands { IsArchiveStore cache.old.path cache.old.capacity cache.old.archives
+        (F.held cache.old.folder) }
     ensures stores { Stores cache.old.capacity tc.now archive.now result
         cache.old.archives cache.new.archives (F.held cache.old.folder) (F.held cache.new.folder) }
     ensures in_step { IfOk result (λ outcome. NotFolder outcome

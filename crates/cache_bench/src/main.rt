@@ -1,9 +1,11 @@
-//! The program `cache_bench CALL DIR COUNT`: it makes a call so many times on a cache of archives in a directory.
+//! The program `cache_bench CALL DIR COUNT`: it makes a call so many times on a cache of archives in a
+//! directory.
 //!
-//! The calls are `fill` (stores so many archives of eight bytes), `look` (so many look-ups, spread over all archives), `evict` (opens the
-//! cache with just room for what it has, and stores so many new archives), `mix` (stores, looks up and removes in turn, with room for five)
-//! and `hash` (the SHA-256 of so many MiB). With a count of 0 each but `hash` opens the cache alone. It writes how many archives there are
-//! then, and before that, for `mix`, their ids, least recent first.
+//! The calls are `fill` (stores so many archives of eight bytes), `look` (so many look-ups, spread over all
+//! archives), `evict` (opens the cache with just room for what it has, and stores so many new archives),
+//! `mix` (stores, looks up and removes in turn, with room for five), `list` (opens the cache alone) and
+//! `hash` (the SHA-256 of so many MiB). With a count of 0 each but `hash` opens the cache alone. It writes
+//! how many archives there are then, and before that, for `mix` and `list`, their ids, least recent first.
 #![tactic(auto)]
 
 use dist_types::toolchain::Toolchain;
@@ -27,6 +29,7 @@ enum Call {
     Look,
     Evict,
     Mix,
+    List,
 }
 
 fn call_of(word: &str) -> Option<Call> {
@@ -35,6 +38,7 @@ fn call_of(word: &str) -> Option<Call> {
         "look" => Some(Call::Look),
         "evict" => Some(Call::Evict),
         "mix" => Some(Call::Mix),
+        "list" => Some(Call::List),
         _ => None,
     }
 }
@@ -110,6 +114,7 @@ fn measured<F: Folder + Drop>(
             mix(&mut cache, count)?;
             *ids = listed(alloc, &cache)?;
         }
+        Call::List => *ids = listed(alloc, &cache)?,
         Call::Look => {
             let all = listed(alloc, &cache)?;
             look(&mut cache, &all, count)?;
@@ -138,7 +143,7 @@ fn hashed(alloc: Global, count: u64) -> Result<u8, AllocError> {
 fn told(rt: &HostRuntime, words: &[String]) -> io::Result<ExitCode> {
     let usage = ExitCode::from(2);
     let (Some(word), Some(dir), Some(count)) = (words.get(1), words.get(2), words.get(3)) else {
-        eprintln!(rt; "cache_bench: fill|look|evict|mix|hash DIR COUNT")?;
+        eprintln!(rt; "cache_bench: fill|look|evict|mix|list|hash DIR COUNT")?;
         return Ok(usage);
     };
     let Ok(count) = count.as_str().parse::<u64>() else {

@@ -6,7 +6,8 @@ ghost use Rattle.sched_core.specs.Reservation.{unended};
 ghost use Rattle.sched_core.specs.Rows.{servers_of, held_rows, open_rows};
 ghost use Rattle.sched_core.specs.Prune.{prune};
 ghost use Rattle.sched_core.specs.Reap.{reap};
-ghost use Rattle.sched_core.specs.Rule.{rule, is_among, place_at, noted_over, commit_by, undo_by, beat_over, update_over, status_over};
+ghost use Rattle.sched_core.specs.Rule.{rule, is_among, place_at, noted_over, commit_by, undo_by, beat_over};
+ghost use Rattle.sched_core.specs.Rule.{update_over, status_over};
 
 use crate::questions::{
     address_if, open_jobs, reservation_count, reservation_place, reservations, servers,

@@ -1,12 +1,16 @@
 //! What is asked of the log, by walks over the whole list.
-ghost use Rattle.std.specs.Prelude.{◌≡◌, drop, ◌==◌, ◌&&◌, ◌+◌, ◌<◌, ◌^◌, ◌*◌, ◌++◌, ◌∷◌, [], IfOk, OnOk, Some, None, if◌then◌else◌, length, map, filter, count_by, nat_lt, option_and_then, option_to_list, is_none, unwrap_or, List};
+ghost use Rattle.std.specs.Prelude.{◌≡◌, drop, ◌==◌, ◌&&◌, ◌+◌, ◌<◌, ◌^◌, ◌*◌, ◌++◌, ◌∷◌, [], IfOk, OnOk};
+ghost use Rattle.std.specs.Prelude.{Some, None, if◌then◌else◌, length, map, filter, count_by, nat_lt};
+ghost use Rattle.std.specs.Prelude.{option_and_then, option_to_list, is_none, unwrap_or, List};
 ghost use Rattle.std.specs.List.{list_any, filter_map};
 ghost use Rattle.sched_core.specs.declared.entry.CoreEntry.{CoreEntry};
 ghost use Rattle.sched_core.specs.Log.{same_job, latest, newest, newer};
-ghost use Rattle.sched_core.specs.Standing.{registered_by, ended, stands, reserves_by, serves, is_sign, address_of};
+ghost use Rattle.sched_core.specs.Standing.{registered_by, ended, stands, reserves_by, serves, is_sign};
+ghost use Rattle.sched_core.specs.Standing.{address_of};
 ghost use Rattle.sched_core.specs.Reservation.{booked_by, bookings, unended, is_unended, claims_by, frees_by};
 ghost use Rattle.sched_core.specs.Fault.{noted_by, is_remembered, forgives_by, error_of};
-ghost use Rattle.sched_core.specs.Job.{place_of, places_by, committed_by, moves_by, state_now, state_of, is_open, closes_by};
+ghost use Rattle.sched_core.specs.Job.{place_of, places_by, committed_by, moves_by, state_now, state_of};
+ghost use Rattle.sched_core.specs.Job.{is_open, closes_by};
 ghost use Rattle.sched_core.specs.Rows.{row_of, servers_of, held_of, held_rows, open_of, open_rows};
 ghost use Rattle.sched_core.specs.Rule.{place_at};
 ghost use Rattle.sched_core.specs.Cuts.{cuts, seen};

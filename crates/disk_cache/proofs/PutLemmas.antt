@@ -14,13 +14,22 @@ use Rattle.disk_cache.specs.Custom.{Takes, taken_of}
 use Rattle.disk_cache.specs.Putting.{PutsBy}
 use Rattle.disk_cache.specs.Toolchains.{Toolchains}
 
-takes_starved : (o : Option Taken) (path : List ℕ) (c : CustomToolchain) (t : Toolchains) → Takes o path c (Err Memory) t t
+takes_starved : (o : Option Taken) (path : List ℕ) (c : CustomToolchain) (t : Toolchains)
+    → Takes o path c (Err Memory) t t
 takes_starved None path c t = (became_same Same t.held.files (λ f. refl), refl)
 takes_starved (Some x) path c t = (refl, refl)
 
-pub put_starved : (Uncalled : Type 0) (told : Option (List ℕ)) (before after : ℕ) (o : Option DistToolchainConfig) (e : OutOfMem) (path key : List ℕ) (t : Toolchains)
+pub put_starved : (Uncalled : Type 0) (told : Option (List ℕ)) (before after : ℕ)
+    (o : Option DistToolchainConfig) (e : OutOfMem) (path key : List ℕ) (t : Toolchains)
     → IsChoice o (Archive (Err e)) → Uncalled → PutsBy Uncalled told before after o path key (Err Memory) t t
 put_starved Uncalled told before after None e path key t h u = absurd h
 put_starved Uncalled told before after (Some (NoDist c)) e path key t h u = absurd h
-put_starved Uncalled told before after (Some (PathOverride c archive inside)) e path key t h u =
-    (record { custom = Err Memory; takes = takes_starved (taken_of path t.taken) path (record { archive = archive; compiler_executable = inside }) t; gives = refl }, u)
+put_starved Uncalled told before after (Some (PathOverride c archive inside)) e path key t h u = (
+  record {
+    custom = Err Memory;
+    takes = takes_starved (taken_of path t.taken) path
+        (record { archive = archive; compiler_executable = inside }) t;
+    gives = refl;
+  },
+  u,
+)

@@ -11,18 +11,23 @@ use Rattle.disk_cache.specs.Shelf.{IsShelf}
 use Rattle.disk_cache.specs.WeakMaps.{weak_map_at, weak_map_of}
 use Rattle.disk_cache.proofs.NameLemmas.{weak_outside}
 
-pub shelf_kept : (n : Names) (path later : List ℕ) (capacity size : ℕ) (archives others : Archives) (old new : Held) → IsShelf n path capacity archives old → later ≡ path
-    → IsArchiveStore later size others new → Became (ButUnder (front path)) old.files new.files → IsShelf n later size others new
+pub shelf_kept : (n : Names) (path later : List ℕ) (capacity size : ℕ) (archives others : Archives)
+    (old new : Held) → IsShelf n path capacity archives old → later ≡ path
+    → IsArchiveStore later size others new → Became (ButUnder (front path)) old.files new.files
+    → IsShelf n later size others new
 shelf_kept n path later capacity size archives others old new h same stands but = record {
   named = h.named;
   path_is = same ∙ h.path_is;
   stands = stands;
   reads = λ files told.
       let w = became_from (ButUnder (front path)) old.files new.files files but told in
-      let same_file : file_at files (weak_path n.dir) ≡ file_at w.0 (weak_path n.dir) = w.2 (weak_path n.dir) (weak_outside n path (weak_path n.dir) h.named h.path_is (sym h.named.weak_is)) in
+      let same_file : file_at files (weak_path n.dir) ≡ file_at w.0 (weak_path n.dir) =
+      w.2 (weak_path n.dir) (weak_outside n path (weak_path n.dir) h.named h.path_is
+      (sym h.named.weak_is)) in
       subst (λ (o : Option (List ℕ)). IsSome (weak_map_of o)) (sym same_file) (h.reads w.0 w.1);
 }
 
-pub shelf_stands : (n : Names) (path : List ℕ) (capacity : ℕ) (archives : Archives) (held : Held) → IsShelf n path capacity archives held → IsArchiveStore (cache_path n.dir) capacity archives held
+pub shelf_stands : (n : Names) (path : List ℕ) (capacity : ℕ) (archives : Archives) (held : Held)
+    → IsShelf n path capacity archives held → IsArchiveStore (cache_path n.dir) capacity archives held
 shelf_stands n path capacity archives held h =
     subst (λ (p : List ℕ). IsArchiveStore p capacity archives held) (h.path_is ∙ h.named.cache_is) h.stands

@@ -1,5 +1,6 @@
 -- What is configured for compilers.
-use Rattle.std.specs.Prelude.{◌≡◌, ℕ, List, [], ◌∷◌, ◌++◌, Bool, true, false, if◌then◌else◌, Option, Some, None, Result, Ok, Err}
+use Rattle.std.specs.Prelude.{◌≡◌, ℕ, List, [], ◌∷◌, ◌++◌, Bool, true, false, if◌then◌else◌, Option, Some}
+use Rattle.std.specs.Prelude.{None, Result, Ok, Err}
 use Rattle.std.specs.Str.{bytes_eq}
 use Rattle.disk_cache.specs.declared.config.CustomToolchain.{CustomToolchain}
 use Rattle.disk_cache.specs.declared.config.Choice.{Choice}
@@ -7,7 +8,8 @@ use Rattle.disk_cache.specs.declared.config.Choice.TheVariants.{Nothing, Disable
 use Rattle.disk_cache.specs.declared.config.DistToolchainConfig.{DistToolchainConfig}
 use Rattle.disk_cache.specs.declared.config.DistToolchainConfig.TheVariants.{PathOverride, NoDist}
 use Rattle.disk_cache.specs.declared.toolchain_error.ToolchainError.{ToolchainError}
-use Rattle.disk_cache.specs.declared.toolchain_error.ToolchainError.TheVariants.{DuplicateConfig, ConflictConfig}
+use Rattle.disk_cache.specs.declared.toolchain_error.ToolchainError.TheVariants.{DuplicateConfig}
+use Rattle.disk_cache.specs.declared.toolchain_error.ToolchainError.TheVariants.{ConflictConfig}
 
 -- the compiler that it is of
 abbrev pub compiler_of : DistToolchainConfig → List ℕ
@@ -23,7 +25,8 @@ config_of path (c ∷ cs) = if bytes_eq path (compiler_of c) then Some c else co
 abbrev pub custom_in : Option DistToolchainConfig → Option CustomToolchain
 custom_in None = None
 custom_in (Some (NoDist compiler)) = None
-custom_in (Some (PathOverride compiler archive inside)) = Some (record { archive = archive; compiler_executable = inside })
+custom_in (Some (PathOverride compiler archive inside)) =
+    Some (record { archive = archive; compiler_executable = inside })
 
 -- the archive that is configured for a compiler
 abbrev pub custom_of : List ℕ → List DistToolchainConfig → Option CustomToolchain
@@ -44,14 +47,17 @@ abbrev pub beside : Option DistToolchainConfig → DistToolchainConfig → Resul
 beside None config = Ok (tt {0})
 beside (Some earlier) config = Err (clash earlier config)
 
-abbrev pub and_next : Result (Unit {0}) ToolchainError → Result (Unit {0}) ToolchainError → Result (Unit {0}) ToolchainError
+abbrev pub and_next : Result (Unit {0}) ToolchainError → Result (Unit {0}) ToolchainError
+    → Result (Unit {0}) ToolchainError
 and_next (Ok done) next = next
 and_next (Err e) next = Err e
 
 -- each in turn beside those before it
-abbrev pub judged_from : List DistToolchainConfig → List DistToolchainConfig → Result (Unit {0}) ToolchainError
+abbrev pub judged_from : List DistToolchainConfig → List DistToolchainConfig
+    → Result (Unit {0}) ToolchainError
 judged_from before [] = Ok (tt {0})
-judged_from before (c ∷ cs) = and_next (beside (config_of (compiler_of c) before) c) (judged_from (before ++ c ∷ []) cs)
+judged_from before (c ∷ cs) = and_next (beside (config_of (compiler_of c) before) c)
+    (judged_from (before ++ c ∷ []) cs)
 
 -- the verdict on what is configured, in the order of the list
 abbrev pub config_verdict : List DistToolchainConfig → Result (Unit {0}) ToolchainError
@@ -63,7 +69,8 @@ config_verdict configs = judged_from [] configs
 abbrev pub IsChoice : Option DistToolchainConfig → Choice → Type 0
 IsChoice None Nothing = Unit {0}
 IsChoice (Some (NoDist compiler)) Disabled = Unit {0}
-IsChoice (Some (PathOverride compiler archive inside)) (Archive (Ok c)) = c ≡ record { archive = archive; compiler_executable = inside }
+IsChoice (Some (PathOverride compiler archive inside)) (Archive (Ok c)) =
+    c ≡ record { archive = archive; compiler_executable = inside }
 IsChoice (Some (PathOverride compiler archive inside)) (Archive (Err e)) = Unit {0}
 IsChoice None Disabled = ⊥
 IsChoice None (Archive c) = ⊥

@@ -1,5 +1,6 @@
 -- Archives that are configured for compilers.
-use Rattle.std.specs.Prelude.{◌≡◌, ℕ, ◌≤◌, List, [], ◌∷◌, ◌++◌, Bool, if◌then◌else◌, Option, Some, None, Result, Ok, Err, String, string_bytes}
+use Rattle.std.specs.Prelude.{◌≡◌, ℕ, ◌≤◌, List, [], ◌∷◌, ◌++◌, Bool, if◌then◌else◌, Option, Some, None}
+use Rattle.std.specs.Prelude.{Result, Ok, Err, String, string_bytes}
 use Rattle.std.specs.Str.{bytes_eq}
 use Rattle.std.specs.declared.alloc.Global.{Global}
 use Rattle.lru_disk_cache.specs.Files.{Files, file_at, Same}
@@ -45,11 +46,13 @@ custom_as id c = record { id = id; inside = c.compiler_executable; archive = c.a
 abbrev pub custom_seen : (List ℕ × String Global × String Global) → Custom
 custom_seen x = record { id = x.0; inside = string_bytes x.1; archive = string_bytes x.2 }
 
-abbrev pub custom_told : Result (List ℕ × String Global × String Global) ToolchainError → Result Custom ToolchainError
+abbrev pub custom_told : Result (List ℕ × String Global × String Global) ToolchainError
+    → Result Custom ToolchainError
 custom_told (Ok x) = Ok (custom_seen x)
 custom_told (Err e) = Err e
 
-abbrev pub customs_seen : Option (Result (List ℕ × String Global × String Global) ToolchainError) → Option (Result Custom ToolchainError)
+abbrev pub customs_seen : Option (Result (List ℕ × String Global × String Global) ToolchainError)
+    → Option (Result Custom ToolchainError)
 customs_seen None = None
 customs_seen (Some answer) = Some (custom_told answer)
 
@@ -64,26 +67,32 @@ IsCustom (Some c) (Some (Err e)) = Unit {0}
 -- why a configured archive was not read; nothing but the folder's state changes
 abbrev pub Unread : List ℕ → ToolchainError → Toolchains → Toolchains → Type 0
 Unread archive (Cache (Io OutOfMemory)) old new = ⊥
-Unread archive (Cache (Io fault)) old new = ReadFails archive fault old.held new.held × (new ≡ with_held old new.held)
+Unread archive (Cache (Io fault)) old new = ReadFails archive fault old.held new.held
+    × (new ≡ with_held old new.held)
 Unread archive Memory old new = Became Same old.held.files new.held.files × (new ≡ with_held old new.held)
 Unread archive other old new = ⊥
 
 -- A configured archive was read, and its SHA-256 taken.
-pub record IsTaken (path : List ℕ) (c : CustomToolchain) (answer : Custom) (old new : Toolchains) : Type 0 where
+pub record IsTaken (path : List ℕ) (c : CustomToolchain) (answer : Custom)
+    (old new : Toolchains) : Type 0 where
   pub bytes : List ℕ
   pub content : Holds old.held (λ files. file_at files c.archive ≡ Some bytes)
   pub gives : answer ≡ custom_as (id_of bytes) c
-  pub changes : new ≡ with_state old old.archives old.weak (old.taken ++ taking path (id_of bytes) c.archive ∷ []) old.held
+  pub changes : new ≡ with_state old old.archives old.weak
+      (old.taken ++ taking path (id_of bytes) c.archive ∷ []) old.held
 
--- What a configured archive is for a compiler: where its SHA-256 was taken that is given and nothing is read, and else the archive is read.
-abbrev pub Takes : Option Taken → List ℕ → CustomToolchain → Result Custom ToolchainError → Toolchains → Toolchains → Type 0
+-- What a configured archive is for a compiler: where its SHA-256 was taken that is given and nothing is read,
+-- and else the archive is read.
+abbrev pub Takes : Option Taken → List ℕ → CustomToolchain → Result Custom ToolchainError → Toolchains
+    → Toolchains → Type 0
 Takes (Some t) path c (Ok answer) old new = (answer ≡ custom_as t.id c) × (new ≡ old)
 Takes (Some t) path c (Err e) old new = (e ≡ Memory) × (new ≡ old)
 Takes None path c (Ok answer) old new = IsTaken path c answer old new
 Takes None path c (Err e) old new = Unread c.archive e old new
 
 -- What is told of the archive that is configured for a compiler: nothing exactly where none is.
-abbrev pub TellsCustom : Option CustomToolchain → List ℕ → Option (Result Custom ToolchainError) → Toolchains → Toolchains → Type 0
+abbrev pub TellsCustom : Option CustomToolchain → List ℕ → Option (Result Custom ToolchainError) → Toolchains
+    → Toolchains → Type 0
 TellsCustom None path None old new = new ≡ old
 TellsCustom None path (Some answer) old new = ⊥
 TellsCustom (Some c) path None old new = ⊥

@@ -8,7 +8,9 @@ use Rattle.lru_disk_cache.specs.Store.{IoCause}
 use Rattle.lru_disk_cache.specs.declared.error.Error.TheVariants.{Io}
 use Rattle.disk_cache.specs.declared.config.DistToolchainConfig.{DistToolchainConfig}
 use Rattle.disk_cache.specs.declared.toolchain_error.ToolchainError.{ToolchainError}
-use Rattle.disk_cache.specs.declared.toolchain_error.ToolchainError.TheVariants.{Cache, BadWeakMap, DuplicateConfig, ConflictConfig, Memory}
+use Rattle.disk_cache.specs.declared.toolchain_error.ToolchainError.TheVariants.{Cache, BadWeakMap}
+use Rattle.disk_cache.specs.declared.toolchain_error.ToolchainError.TheVariants.{DuplicateConfig}
+use Rattle.disk_cache.specs.declared.toolchain_error.ToolchainError.TheVariants.{ConflictConfig, Memory}
 use Rattle.disk_cache.specs.Configs.{config_verdict}
 use Rattle.disk_cache.specs.Names.{IsBeside, cache_path, temp_dir, weak_path}
 use Rattle.disk_cache.specs.WeakMaps.{weak_map_at}
@@ -28,7 +30,8 @@ SameArchives path old new = archives_in path new ≡ archives_in path old
 -- the files are as they were, but for the client's own
 abbrev pub ButOwn : List ℕ → Files → Files → Type 0
 ButOwn dir old new =
-    (q : List ℕ) → IsBeside (cache_path dir) q → IsBeside (temp_dir dir) q → bytes_eq (weak_path dir) q ≡ false → file_at new q ≡ file_at old q
+    (q : List ℕ) → IsBeside (cache_path dir) q → IsBeside (temp_dir dir) q
+    → bytes_eq (weak_path dir) q ≡ false → file_at new q ≡ file_at old q
 
 -- what is configured is refused, behind a weak map that was read
 abbrev pub RefusesConfigs : ToolchainError → List ℕ → List DistToolchainConfig → Held → Type 0

@@ -1,5 +1,6 @@
 -- Finding a toolchain, and putting one.
-use Rattle.std.specs.Prelude.{◌≡◌, ◌⊎◌, ℕ, List, [], length, Option, Some, None, option_map, IsSome, Result, Ok, Err, String, Vec, string_bytes}
+use Rattle.std.specs.Prelude.{◌≡◌, ◌⊎◌, ℕ, List, [], length, Option, Some, None, option_map, IsSome, Result}
+use Rattle.std.specs.Prelude.{Ok, Err, String, Vec, string_bytes}
 use Rattle.std.specs.Map.{lookup}
 use Rattle.std.specs.Str.{bytes_eq}
 use Rattle.std.specs.declared.alloc.Global.{Global}
@@ -22,7 +23,8 @@ use Rattle.disk_cache.specs.declared.custom.Placed.{Placed}
 use Rattle.disk_cache.specs.declared.custom.Placed.TheVariants.{Alone, Configured}
 use Rattle.disk_cache.specs.declared.custom.Taken.{Taken}
 use Rattle.disk_cache.specs.declared.toolchain_error.ToolchainError.{ToolchainError}
-use Rattle.disk_cache.specs.declared.toolchain_error.ToolchainError.TheVariants.{Cache, Disabled, PackagerFailed, Memory}
+use Rattle.disk_cache.specs.declared.toolchain_error.ToolchainError.TheVariants.{Cache, Disabled}
+use Rattle.disk_cache.specs.declared.toolchain_error.ToolchainError.TheVariants.{PackagerFailed, Memory}
 use Rattle.disk_cache.specs.Configs.{config_of}
 use Rattle.disk_cache.specs.Custom.{Takes, Unread, taken_of, last_taken}
 use Rattle.disk_cache.specs.Names.{cache_path}
@@ -35,15 +37,18 @@ abbrev pub bytes_seen : Result (Vec ℕ Global) ToolchainError → Result (List 
 bytes_seen (Ok v) = Ok v.items
 bytes_seen (Err e) = Err e
 
-abbrev pub archives_seen : Result (Option (Vec ℕ Global)) ToolchainError → Result (Option (List ℕ)) ToolchainError
+abbrev pub archives_seen : Result (Option (Vec ℕ Global)) ToolchainError
+    → Result (Option (List ℕ)) ToolchainError
 archives_seen (Ok o) = Ok (option_map (λ v. v.items) o)
 archives_seen (Err e) = Err e
 
 abbrev pub placed_as : (List ℕ × Option (String Global × String Global)) → Placed
 placed_as (id, None) = Alone id
-placed_as (id, Some (inside, archive)) = Configured (record { id = id; inside = string_bytes inside; archive = string_bytes archive })
+placed_as (id, Some (inside, archive)) =
+    Configured (record { id = id; inside = string_bytes inside; archive = string_bytes archive })
 
-abbrev pub placed_seen : Result (List ℕ × Option (String Global × String Global)) ToolchainError → Result Placed ToolchainError
+abbrev pub placed_seen : Result (List ℕ × Option (String Global × String Global)) ToolchainError
+    → Result Placed ToolchainError
 placed_seen (Ok x) = Ok (placed_as x)
 placed_seen (Err e) = Err e
 
@@ -60,12 +65,14 @@ pub record IsFound (id bytes : List ℕ) (old new : Toolchains) : Type 0 where
 -- the list is as it was, or the archive became the most recent
 abbrev pub KeptOrFound : List ℕ → Toolchains → Toolchains → Type 0
 KeptOrFound id old new =
-    (new ≡ with_held old new.held) ⊎ (new ≡ with_state old (promoted_key id old.archives) old.weak old.taken new.held)
+    (new ≡ with_held old new.held)
+    ⊎ (new ≡ with_state old (promoted_key id old.archives) old.weak old.taken new.held)
 
 -- Why a listed archive was not read: it became the most recent all the same.
 abbrev pub Unfound : List ℕ → ToolchainError → Toolchains → Toolchains → Type 0
 Unfound id (Cache (Io fault)) old new =
-    IoCause fault old.held new.held × (new ≡ with_state old (promoted_key id old.archives) old.weak old.taken new.held)
+    IoCause fault old.held new.held
+    × (new ≡ with_state old (promoted_key id old.archives) old.weak old.taken new.held)
 Unfound id Memory old new = KeptOrFound id old new
 Unfound id other old new = ⊥
 
@@ -88,7 +95,8 @@ ReadsCustom archive (Ok (Some bytes)) old new =
 ReadsCustom archive (Err e) old new = Unread archive e old new
 
 -- The archive of an id: the configured one of this id that was taken last, else that in the cache.
-abbrev pub GetsArchive : Option Taken → List ℕ → Result (Option (List ℕ)) ToolchainError → Toolchains → Toolchains → Type 0
+abbrev pub GetsArchive : Option Taken → List ℕ → Result (Option (List ℕ)) ToolchainError → Toolchains
+    → Toolchains → Type 0
 GetsArchive (Some t) id answer old new = ReadsCustom t.archive answer old new
 GetsArchive None id answer old new = FindsArchive id answer old new
 
@@ -97,11 +105,13 @@ Gets id answer old new = GetsArchive (last_taken id old.taken) id answer old new
 
 -- ---- put_toolchain
 
--- The archive of a recorded id is to be packaged: it is not listed, or, where files are not told, its file is missing.
+-- The archive of a recorded id is to be packaged: it is not listed, or, where files are not told, its file is
+-- missing.
 abbrev pub IsToPackage : List ℕ → Toolchains → Toolchains → Type 0
 IsToPackage id old new =
     ((lookup (bytes_eq id) old.archives ≡ None) × (new ≡ old))
-    ⊎ ((old.held.files ≡ None) × (new ≡ with_state old (promoted_key id old.archives) old.weak old.taken new.held))
+    ⊎ ((old.held.files ≡ None)
+    × (new ≡ with_state old (promoted_key id old.archives) old.weak old.taken new.held))
 
 -- what a refused look for a recorded archive comes to: none where it is to be packaged
 abbrev pub looked_of : Error → Result (Option (List ℕ)) ToolchainError
@@ -114,8 +124,10 @@ abbrev pub Unlooked : List ℕ → ToolchainError → Toolchains → Toolchains 
 Unlooked id (Cache (Io Missing)) old new = ⊥
 Unlooked id e old new = Unfound id e old new
 
--- The third case: the recorded id whose archive is listed and is read without a fault; none where one is to be packaged.
-abbrev pub LooksUp : Option (List ℕ) → Result (Option (List ℕ)) ToolchainError → Toolchains → Toolchains → Type 0
+-- The third case: the recorded id whose archive is listed and is read without a fault; none where one is to
+-- be packaged.
+abbrev pub LooksUp : Option (List ℕ) → Result (Option (List ℕ)) ToolchainError → Toolchains → Toolchains
+    → Type 0
 LooksUp None (Ok None) old new = new ≡ old
 LooksUp None (Ok (Some id)) old new = ⊥
 LooksUp None (Err e) old new = ⊥
@@ -147,8 +159,10 @@ Records key id (Err e) old new = Unrecorded key id e old new
 
 -- Bytes were stored under their SHA-256, as the most recent archive.
 pub record IsStored (bytes : List ℕ) (old new : Toolchains) : Type 0 where
-  pub changes : new ≡ with_state old (with_archive old.capacity (id_of bytes) (length bytes) old.archives) old.weak old.taken new.held
-  pub content : Holds new.held (λ files. file_at files (archive_path (cache_path old.dir) (id_of bytes)) ≡ Some bytes)
+  pub changes : new ≡ with_state old (with_archive old.capacity (id_of bytes) (length bytes) old.archives)
+      old.weak old.taken new.held
+  pub content : Holds new.held
+      (λ files. file_at files (archive_path (cache_path old.dir) (id_of bytes)) ≡ Some bytes)
   pub steady : new.held.faults ≡ old.held.faults
 
 -- they were not, for this refusal of the cache
@@ -173,29 +187,34 @@ id_if id (Ok done) = Ok id
 id_if id (Err e) = Err e
 
 -- an archive was stored: its id is recorded under the key, and told
-pub record RecordsStored (key id : List ℕ) (answer : Result (List ℕ) ToolchainError) (old new : Toolchains) : Type 0 where
+pub record RecordsStored (key id : List ℕ) (answer : Result (List ℕ) ToolchainError)
+    (old new : Toolchains) : Type 0 where
   pub outcome : Result (Unit {0}) ToolchainError
   pub records : Records key id outcome old new
   pub gives : answer ≡ id_if id outcome
 
 -- what follows a store: a refusal is told, and leaves the key unrecorded
-abbrev pub AfterStore : List ℕ → Result (List ℕ) Error → Result (List ℕ) ToolchainError → Toolchains → Toolchains → Type 0
+abbrev pub AfterStore : List ℕ → Result (List ℕ) Error → Result (List ℕ) ToolchainError → Toolchains
+    → Toolchains → Type 0
 AfterStore key (Ok id) answer old new = RecordsStored key id answer old new
 AfterStore key (Err e) answer old new = (answer ≡ Err (toolchain_error e)) × (new ≡ old)
 
 -- bytes that were packed are stored under their SHA-256, which is recorded under the key
-pub record IsStocked (key bytes : List ℕ) (answer : Result (List ℕ) ToolchainError) (old new : Toolchains) : Type 0 where
+pub record IsStocked (key bytes : List ℕ) (answer : Result (List ℕ) ToolchainError)
+    (old new : Toolchains) : Type 0 where
   pub stored : Result (List ℕ) Error
   pub between : Toolchains
   pub stores : Stores bytes stored old between
   pub follows : AfterStore key stored answer between new
 
-abbrev pub AfterPack : List ℕ → Result (List ℕ) ToolchainError → Result (List ℕ) ToolchainError → Toolchains → Toolchains → Type 0
+abbrev pub AfterPack : List ℕ → Result (List ℕ) ToolchainError → Result (List ℕ) ToolchainError → Toolchains
+    → Toolchains → Type 0
 AfterPack key (Ok bytes) answer old new = IsStocked key bytes answer old new
 AfterPack key (Err e) answer old new = (answer ≡ Err e) × (new ≡ old)
 
 -- The fourth case: the packager packs, and what it packed is stored and recorded.
-pub record Packages (told : Option (List ℕ)) (before after : ℕ) (key : List ℕ) (answer : Result (List ℕ) ToolchainError) (old new : Toolchains) : Type 0 where
+pub record Packages (told : Option (List ℕ)) (before after : ℕ) (key : List ℕ)
+    (answer : Result (List ℕ) ToolchainError) (old new : Toolchains) : Type 0 where
   pub packed : Result (List ℕ) ToolchainError
   pub packs : Packs told before after packed
   pub follows : AfterPack key packed answer old new
@@ -209,39 +228,50 @@ placed_custom (Ok custom) = Ok (Configured custom)
 placed_custom (Err e) = Err e
 
 -- the second case: the archive that is configured
-pub record PutsCustom (path : List ℕ) (c : CustomToolchain) (answer : Result Placed ToolchainError) (old new : Toolchains) : Type 0 where
+pub record PutsCustom (path : List ℕ) (c : CustomToolchain) (answer : Result Placed ToolchainError)
+    (old new : Toolchains) : Type 0 where
   pub custom : Result Custom ToolchainError
   pub takes : Takes (taken_of path old.taken) path c custom old new
   pub gives : answer ≡ placed_custom custom
 
 -- the fourth case, behind a look for what is recorded
-pub record PutsPackage (told : Option (List ℕ)) (before after : ℕ) (key : List ℕ) (answer : Result Placed ToolchainError) (old new : Toolchains) : Type 0 where
+pub record PutsPackage (told : Option (List ℕ)) (before after : ℕ) (key : List ℕ)
+    (answer : Result Placed ToolchainError) (old new : Toolchains) : Type 0 where
   pub packaged : Result (List ℕ) ToolchainError
   pub packages : Packages told before after key packaged old new
   pub gives : answer ≡ placed_alone packaged
 
 -- what follows the look for what is recorded; the packager is called where nothing is
-abbrev pub AfterLook : Type 0 → Option (List ℕ) → ℕ → ℕ → List ℕ → Result (Option (List ℕ)) ToolchainError → Result Placed ToolchainError
+abbrev pub AfterLook : Type 0 → Option (List ℕ) → ℕ → ℕ → List ℕ → Result (Option (List ℕ)) ToolchainError
+    → Result Placed ToolchainError
     → Toolchains → Toolchains → Type 0
-AfterLook Uncalled told before after key (Ok None) answer old new = PutsPackage told before after key answer old new
-AfterLook Uncalled told before after key (Ok (Some id)) answer old new = (answer ≡ Ok (Alone id)) × (new ≡ old) × Uncalled
+AfterLook Uncalled told before after key (Ok None) answer old new =
+    PutsPackage told before after key answer old new
+AfterLook Uncalled told before after key (Ok (Some id)) answer old new = (answer ≡ Ok (Alone id))
+    × (new ≡ old) × Uncalled
 AfterLook Uncalled told before after key (Err e) answer old new = (answer ≡ Err e) × (new ≡ old) × Uncalled
 
 -- the third and the fourth case
-pub record LooksThenPackages (Uncalled : Type 0) (told : Option (List ℕ)) (before after : ℕ) (key : List ℕ) (answer : Result Placed ToolchainError) (old new : Toolchains) : Type 0 where
+pub record LooksThenPackages (Uncalled : Type 0) (told : Option (List ℕ)) (before after : ℕ) (key : List ℕ)
+    (answer : Result Placed ToolchainError) (old new : Toolchains) : Type 0 where
   pub looked : Result (Option (List ℕ)) ToolchainError
   pub between : Toolchains
   pub looks : LooksUp (recorded_id key old.weak) looked old between
   pub follows : AfterLook Uncalled told before after key looked answer between new
 
--- The four cases, in their order, by what is configured for the compiler: that no archive is wanted is Disabled; a configured archive is
--- told; else what is recorded under the weak key, and else what is packaged. `Uncalled` says that the packager was not called.
-abbrev pub PutsBy : Type 0 → Option (List ℕ) → ℕ → ℕ → Option DistToolchainConfig → List ℕ → List ℕ → Result Placed ToolchainError → Toolchains → Toolchains → Type 0
-PutsBy Uncalled told before after (Some (NoDist c)) path key answer old new = (answer ≡ Err Disabled) × (new ≡ old) × Uncalled
+-- The four cases, in their order, by what is configured for the compiler: that no archive is wanted is
+-- Disabled; a configured archive is told; else what is recorded under the weak key, and else what is
+-- packaged. `Uncalled` says that the packager was not called.
+abbrev pub PutsBy : Type 0 → Option (List ℕ) → ℕ → ℕ → Option DistToolchainConfig → List ℕ → List ℕ
+    → Result Placed ToolchainError → Toolchains → Toolchains → Type 0
+PutsBy Uncalled told before after (Some (NoDist c)) path key answer old new = (answer ≡ Err Disabled)
+    × (new ≡ old) × Uncalled
 PutsBy Uncalled told before after (Some (PathOverride c archive inside)) path key answer old new =
     PutsCustom path (record { archive = archive; compiler_executable = inside }) answer old new × Uncalled
-PutsBy Uncalled told before after None path key answer old new = LooksThenPackages Uncalled told before after key answer old new
+PutsBy Uncalled told before after None path key answer old new =
+    LooksThenPackages Uncalled told before after key answer old new
 
-abbrev pub Puts : Type 0 → Option (List ℕ) → ℕ → ℕ → List ℕ → List ℕ → Result Placed ToolchainError → Toolchains → Toolchains → Type 0
+abbrev pub Puts : Type 0 → Option (List ℕ) → ℕ → ℕ → List ℕ → List ℕ → Result Placed ToolchainError
+    → Toolchains → Toolchains → Type 0
 Puts Uncalled told before after path key answer old new =
     PutsBy Uncalled told before after (config_of path old.configs) path key answer old new

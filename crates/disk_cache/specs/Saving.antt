@@ -7,20 +7,23 @@ use Rattle.lru_disk_cache.specs.Held.{Held, Holds}
 use Rattle.lru_disk_cache.specs.Store.{IoCause}
 use Rattle.lru_disk_cache.specs.declared.error.Error.TheVariants.{Io}
 use Rattle.lru_disk_cache.specs.declared.fault.FolderFault.{FolderFault}
-use Rattle.lru_disk_cache.specs.declared.fault.FolderFault.TheVariants.{Missing, Failed, Memory as OutOfMemory}
+use Rattle.lru_disk_cache.specs.declared.fault.FolderFault.TheVariants.{Missing, Failed}
+use Rattle.lru_disk_cache.specs.declared.fault.FolderFault.TheVariants.{Memory as OutOfMemory}
 use Rattle.disk_cache.specs.declared.toolchain_error.ToolchainError.{ToolchainError}
 use Rattle.disk_cache.specs.declared.toolchain_error.ToolchainError.TheVariants.{Cache, BadWeakMap, Memory}
 use Rattle.disk_cache.specs.WeakMaps.{weak_map_at}
 
 -- the file at each path but these two is as it was
 abbrev pub ButTwo : List ℕ → List ℕ → Files → Files → Type 0
-ButTwo one two old new = (q : List ℕ) → bytes_eq one q ≡ false → bytes_eq two q ≡ false → file_at new q ≡ file_at old q
+ButTwo one two old new = (q : List ℕ) → bytes_eq one q ≡ false → bytes_eq two q ≡ false
+    → file_at new q ≡ file_at old q
 
 -- the file at a path is as it was, or has these bytes
 abbrev pub OldOr : List ℕ → List ℕ → Files → Files → Type 0
 OldOr path text old new = (file_at new path ≡ file_at old path) ⊎ (file_at new path ≡ Some text)
 
--- why a file was not saved: Failed only where the count rose, Missing only where files are not told; the count never falls
+-- why a file was not saved: Failed only where the count rose, Missing only where files are not told; the
+-- count never falls
 abbrev pub SaveFails : FolderFault → Held → Held → Type 0
 SaveFails Missing old new = (old.files ≡ None) × (old.faults ≤ new.faults)
 SaveFails Failed old new = Rose old.faults new.faults × (old.faults ≤ new.faults)
@@ -35,6 +38,7 @@ BeginFails other old new = ⊥
 -- why a weak map was not loaded
 abbrev pub LoadFails : List ℕ → ToolchainError → Held → Held → Type 0
 LoadFails dir (Cache (Io fault)) old new = IoCause fault old new × (old.faults ≤ new.faults)
-LoadFails dir BadWeakMap old new = Holds old (λ files. weak_map_at dir files ≡ None) × (old.faults ≤ new.faults)
+LoadFails dir BadWeakMap old new = Holds old (λ files. weak_map_at dir files ≡ None)
+    × (old.faults ≤ new.faults)
 LoadFails dir Memory old new = old.faults ≤ new.faults
 LoadFails dir other old new = ⊥

@@ -6,8 +6,10 @@ use Rattle.disk_cache.specs.declared.names.Names.{Names}
 use Rattle.disk_cache.specs.Names.{AreNames}
 use Rattle.disk_cache.specs.WeakMaps.{weak_map_at}
 
--- the names are those of the path, the cache is the one that they name, and the weak map is one, where files are told
-pub record IsShelf (names : Names) (path : List ℕ) (capacity : ℕ) (archives : Archives) (held : Held) : Type 0 where
+-- the names are those of the path, the cache is the one that they name, and the weak map is one, where files
+-- are told
+pub record IsShelf (names : Names) (path : List ℕ) (capacity : ℕ) (archives : Archives)
+    (held : Held) : Type 0 where
   pub named : AreNames names
   pub path_is : path ≡ names.cache
   pub stands : IsArchiveStore path capacity archives held

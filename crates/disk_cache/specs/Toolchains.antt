@@ -9,7 +9,8 @@ use Rattle.lru_disk_cache.specs.Store.{IoCause, error_of}
 use Rattle.lru_disk_cache.specs.declared.error.Error.{Error}
 use Rattle.lru_disk_cache.specs.declared.error.Error.TheVariants.{Memory as NoMemory}
 use Rattle.lru_disk_cache.specs.declared.fault.FolderFault.{FolderFault}
-use Rattle.lru_disk_cache.specs.declared.fault.FolderFault.TheVariants.{Missing, Failed, Memory as OutOfMemory}
+use Rattle.lru_disk_cache.specs.declared.fault.FolderFault.TheVariants.{Missing, Failed}
+use Rattle.lru_disk_cache.specs.declared.fault.FolderFault.TheVariants.{Memory as OutOfMemory}
 use Rattle.dist_types.specs.Cause.{Rose}
 use Rattle.disk_cache.specs.declared.config.DistToolchainConfig.{DistToolchainConfig}
 use Rattle.disk_cache.specs.declared.custom.Taken.{Taken}
@@ -17,8 +18,9 @@ use Rattle.disk_cache.specs.declared.toolchain_error.ToolchainError.{ToolchainEr
 use Rattle.disk_cache.specs.declared.toolchain_error.ToolchainError.TheVariants.{Cache, Memory}
 use Rattle.disk_cache.specs.Names.{cache_path}
 
--- The path that a client's files lie below; its cache of archives, by its capacity and its list; the weak map; what is configured for
--- compilers; the configured archives whose SHA-256 was taken, in the order of taking; and what the folder tells.
+-- The path that a client's files lie below; its cache of archives, by its capacity and its list; the weak
+-- map; what is configured for compilers; the configured archives whose SHA-256 was taken, in the order of
+-- taking; and what the folder tells.
 pub record Toolchains : Type 0 where
   pub dir : List ℕ
   pub capacity : ℕ
@@ -28,8 +30,9 @@ pub record Toolchains : Type 0 where
   pub taken : List Taken
   pub held : Held
 
--- What holds of it, whatever failed so far: each listed archive has a file of its size whose SHA-256 is its id, and the file of the weak
--- map is an object of texts, or is not there, where files are told. So no later opening answers BadWeakMap.
+-- What holds of it, whatever failed so far: each listed archive has a file of its size whose SHA-256 is its
+-- id, and the file of the weak map is an object of texts, or is not there, where files are told. So no later
+-- opening answers BadWeakMap.
 pub record IsClient (t : Toolchains) : Type 0 where
   pub stands : IsArchiveStore (cache_path t.dir) t.capacity t.archives t.held
   pub reads : Holds t.held (λ files. IsSome (weak_map_at t.dir files))
@@ -41,7 +44,15 @@ IsWritten t = Holds t.held (λ files. weak_map_at t.dir files ≡ Some t.weak)
 -- a client's, with other archives, another weak map, other archives taken, and what its folder tells then
 abbrev pub with_state : Toolchains → Archives → Weak → List Taken → Held → Toolchains
 with_state t archives weak taken held =
-    record { dir = t.dir; capacity = t.capacity; archives = archives; weak = weak; configs = t.configs; taken = taken; held = held }
+    record {
+      dir = t.dir;
+      capacity = t.capacity;
+      archives = archives;
+      weak = weak;
+      configs = t.configs;
+      taken = taken;
+      held = held;
+    }
 
 -- only the folder's state may differ
 abbrev pub with_held : Toolchains → Held → Toolchains
@@ -58,7 +69,8 @@ toolchain_error e = Cache e
 abbrev pub fault_error : FolderFault → ToolchainError
 fault_error fault = toolchain_error (error_of fault)
 
--- Why a file beside the archives was not read, and that nothing changed: Missing where there is none, Failed only where the count rose.
+-- Why a file beside the archives was not read, and that nothing changed: Missing where there is none, Failed
+-- only where the count rose.
 abbrev pub ReadFails : List ℕ → FolderFault → Held → Held → Type 0
 ReadFails path Missing old new = (new ≡ old) × Holds old (Lacks path)
 ReadFails path Failed old new = Became Same old.files new.files × Rose old.faults new.faults

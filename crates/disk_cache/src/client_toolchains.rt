@@ -6,10 +6,12 @@ ghost use Rattle.lru_disk_cache.specs.Held.{Holds, Became};
 ghost use Rattle.lru_disk_cache.specs.Archives.{id_of, opened_archives};
 ghost use Rattle.lru_disk_cache.specs.Archiving.{FindFails};
 ghost use Rattle.disk_cache.specs.Configs.{config_of, config_verdict, custom_of, IsChoice};
-ghost use Rattle.disk_cache.specs.Custom.{TellsCustom, Takes, Unread, IsCustom, taken_of, last_taken, taking, custom_as, custom_told, customs_seen};
+ghost use Rattle.disk_cache.specs.Custom.{TellsCustom, Takes, Unread, IsCustom, taken_of, last_taken, taking};
+ghost use Rattle.disk_cache.specs.Custom.{custom_as, custom_told, customs_seen};
 ghost use Rattle.disk_cache.specs.Names.{cache_path, temp_dir};
 ghost use Rattle.disk_cache.specs.Opening.{IsEmpty, ButOwn, OpeningFails};
-ghost use Rattle.disk_cache.specs.Putting.{Gets, IsFound, ReadsCustom, FindsArchive, LooksUp, found_of, looked_of};
+ghost use Rattle.disk_cache.specs.Putting.{Gets, IsFound, ReadsCustom, FindsArchive, LooksUp, found_of};
+ghost use Rattle.disk_cache.specs.Putting.{looked_of};
 ghost use Rattle.disk_cache.specs.Putting.{Records, RecordsStored, Stores, IsStocked, Packs, Packages};
 ghost use Rattle.disk_cache.specs.Putting.{PutsCustom, PutsPackage, LooksThenPackages, Puts};
 ghost use Rattle.disk_cache.specs.Putting.{archives_seen, bytes_seen, placed_as, placed_seen};
@@ -35,8 +37,8 @@ use path_pkg::packagers::ToolchainPackager;
 use std::alloc::Global;
 use std::marker::Model;
 
-/// The toolchains of a client: archives that were packaged, in a cache under a path of a folder, each found again
-/// by a weak key of its compiler, and archives of the folder that are configured for compilers.
+/// The toolchains of a client: archives that were packaged, in a cache under a path of a folder, each found
+/// again by a weak key of its compiler, and archives of the folder that are configured for compilers.
 #[derive(Drop)]
 pub struct ClientToolchains<F: Folder> {
     alloc: Global,
@@ -71,12 +73,12 @@ impl<F: Folder> Model for ClientToolchains<F> {
 
 impl<F: Folder> ClientToolchains<F> {
     /// Opens the toolchains of a client below a path of the folder, which is empty or a key: the directory of
-    /// what was still being written, `toolchain_tmp`, is emptied; the cache of archives, `tc`, is opened; and the
-    /// weak map is read from `weak_map.json`, which is made where it is missing.
+    /// what was still being written, `toolchain_tmp`, is emptied; the cache of archives, `tc`, is opened; and
+    /// the weak map is read from `weak_map.json`, which is made where it is missing.
     ///
-    /// Refused as `ToolchainError::Cache` of `Error::Io`, where the folder fails; as `BadWeakMap`, where the file
-    /// is no object of texts; as `DuplicateConfig` or `ConflictConfig`, by the first that configures a compiler
-    /// again; and for want of memory. The folder is dropped then.
+    /// Refused as `ToolchainError::Cache` of `Error::Io`, where the folder fails; as `BadWeakMap`, where the
+    /// file is no object of texts; as `DuplicateConfig` or `ConflictConfig`, by the first that configures a
+    /// compiler again; and for want of memory. The folder is dropped then.
     pub fn new(
         alloc: Global,
         folder: F,
@@ -162,10 +164,12 @@ impl<F: Folder> ClientToolchains<F> {
         })
     }
 
-    /// The archive of a toolchain: of the configured archives with this id the one whose SHA-256 was taken last,
-    /// as it is, else the one in the cache, which becomes the most recent. None exactly where neither has it.
+    /// The archive of a toolchain: of the configured archives with this id the one whose SHA-256 was taken
+    /// last, as it is, else the one in the cache, which becomes the most recent. None exactly where neither
+    /// has it.
     ///
-    /// Refused as `ToolchainError::Cache` of `Error::Io`, where the archive was not read, and for want of memory.
+    /// Refused as `ToolchainError::Cache` of `Error::Io`, where the archive was not read, and for want of
+    /// memory.
     pub fn get_toolchain(&mut self, tc: &Toolchain) -> Result<Option<Vec<u8>>, ToolchainError>
         ensures gets { Gets tc.now (archives_seen result) self.old self.new }
         ensures later { self.old.held.faults ≤ self.new.held.faults }
@@ -176,11 +180,12 @@ impl<F: Folder> ClientToolchains<F> {
         answer
     }
 
-    /// What is told of the archive that is configured for a compiler: its toolchain, the compiler's path in it, and
-    /// the archive's name. None exactly where no archive is configured for it. Its SHA-256 is taken at the first
-    /// call that reads it, and is that of all later ones, which read nothing.
+    /// What is told of the archive that is configured for a compiler: its toolchain, the compiler's path in
+    /// it, and the archive's name. None exactly where no archive is configured for it. Its SHA-256 is taken
+    /// at the first call that reads it, and is that of all later ones, which read nothing.
     ///
-    /// Refused as `ToolchainError::Cache` of `Error::Io`, where the archive was not read, and for want of memory.
+    /// Refused as `ToolchainError::Cache` of `Error::Io`, where the archive was not read, and for want of
+    /// memory.
     pub fn get_custom_toolchain(
         &mut self,
         compiler_path: &str,
@@ -195,14 +200,15 @@ impl<F: Folder> ClientToolchains<F> {
         answer
     }
 
-    /// Puts the toolchain of a compiler, and tells its id, in four cases in this order. One that is configured to
-    /// have none is refused as `Disabled`. Of one with a configured archive that archive is told, beside it the
-    /// compiler's path in it and its name. Where an id is recorded under the weak key, and its archive is listed
-    /// and read, it is that. Else the packager packs, what it packed is stored, and recorded under the key.
+    /// Puts the toolchain of a compiler, and tells its id, in four cases in this order. One that is
+    /// configured to have none is refused as `Disabled`. Of one with a configured archive that archive is
+    /// told, beside it the compiler's path in it and its name. Where an id is recorded under the weak key,
+    /// and its archive is listed and read, it is that. Else the packager packs, what it packed is stored, and
+    /// recorded under the key.
     ///
-    /// Refused as `PackagerFailed` only where the packager's count rose; as `Cache` where the cache refuses what was
-    /// packed, or the folder fails; and for want of memory. Where recording fails, the archive stays listed, the
-    /// key is unrecorded, and the file of the weak map says the old or the new.
+    /// Refused as `PackagerFailed` only where the packager's count rose; as `Cache` where the cache refuses
+    /// what was packed, or the folder fails; and for want of memory. Where recording fails, the archive stays
+    /// listed, the key is unrecorded, and the file of the weak map says the old or the new.
     pub fn put_toolchain(
         &mut self,
         compiler_path: &str,
@@ -438,7 +444,8 @@ impl<F: Folder> ClientToolchains<F> {
         self.weak.recorded_id(key)
     }
 
-    // The recorded toolchain of a weak key, whose archive is listed and was read; none where one is to be packaged.
+    // The recorded toolchain of a weak key, whose archive is listed and was read; none where one is to be
+    // packaged.
     fn look_up(&mut self, key: &str) -> Result<Option<Toolchain>, ToolchainError>
         ensures looks { LooksUp (recorded_id key.now self.old.weak) result self.old self.new }
         ensures later { self.old.held.faults ≤ self.new.held.faults }

@@ -1,7 +1,8 @@
 //! What is configured for compilers, and the verdict on it.
 ghost use Rattle.std.specs.Prelude.{◌≡◌, IfOk, Some};
 ghost use Rattle.std.specs.Option.{option_map};
-ghost use Rattle.disk_cache.specs.Configs.{compiler_of, config_of, says_no_dist, clash, beside, config_verdict, IsChoice};
+ghost use Rattle.disk_cache.specs.Configs.{compiler_of, config_of, says_no_dist, clash, beside};
+ghost use Rattle.disk_cache.specs.Configs.{config_verdict, IsChoice};
 
 use crate::toolchain_error::ToolchainError;
 use dist_types::fault::Memory;

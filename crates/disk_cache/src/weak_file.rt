@@ -15,7 +15,8 @@ use lru_disk_cache::fault::FolderFault;
 use lru_disk_cache::folder::Folder;
 use std::alloc::Global;
 
-/// Writes the text of a weak map under another name, and renames it: a fault leaves the file's old text or the new.
+/// Writes the text of a weak map under another name, and renames it: a fault leaves the file's old text or
+/// the new.
 pub(crate) fn save<F: Folder>(
     cache: &mut TcCache<F>,
     names: &Names,
@@ -95,7 +96,8 @@ fn map_of(alloc: Global, bytes: &[u8]) -> Result<WeakMap, ToolchainError>
     }
 }
 
-/// The weak map of the file, which is made where it is missing: BadWeakMap exactly where it is no object of texts.
+/// The weak map of the file, which is made where it is missing: BadWeakMap exactly where it is no object of
+/// texts.
 pub(crate) fn load<F: Folder>(
     alloc: Global,
     cache: &mut TcCache<F>,

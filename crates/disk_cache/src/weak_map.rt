@@ -3,7 +3,8 @@ ghost use Rattle.std.specs.Prelude.{◌≡◌, [], IfOk, Some, is_some, option_m
 ghost use Rattle.serde_json.specs.Data.{string, put};
 ghost use Rattle.serde_json.specs.Find.{as_str, get};
 ghost use Rattle.serde_json.specs.View.{view, members_view};
-ghost use Rattle.disk_cache.specs.WeakMaps.{json_of, object_texts, texts_in, weak_map_in, recorded, recorded_id, with_recorded};
+ghost use Rattle.disk_cache.specs.WeakMaps.{json_of, object_texts, texts_in, weak_map_in, recorded};
+ghost use Rattle.disk_cache.specs.WeakMaps.{recorded_id, with_recorded};
 
 use dist_types::fault::Memory;
 use dist_types::toolchain::Toolchain;

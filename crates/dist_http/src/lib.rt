@@ -1,5 +1,5 @@
-//! Schedulers and build servers over HTTP/1.1 (RFC 9112), under one roof: the names of the crates below again, and
-//! `RealServe`, by which a configuration is served on the system.
+//! Schedulers and build servers over HTTP/1.1 (RFC 9112), under one roof: the names of the crates below
+//! again, and `RealServe`, by which a configuration is served on the system.
 //!
 //! The layers above use the calls on connections and on workers, the starts and `RealServe` from here.
 #![tactic(auto)]
@@ -27,6 +27,7 @@ pub use http_routes::refusal::RouilleBincodeError;
 pub use http_routes::reply::{Response, bincode_response, prepare_response};
 pub use http_routes::route::{SchedRouted, scheduler_route};
 pub use http_routes::server_route::{ServerRouted, server_route};
+pub use sched_core::HEARTBEAT_TIMEOUT;
 pub use scheduler_service::connection::serve_scheduler_connection;
 pub use scheduler_service::run_scheduler::serve_scheduler;
 pub use scheduler_service::workers::{Kit, serve_scheduler_workers};

@@ -14,9 +14,9 @@ pub type SchedulerCall = Box<dyn Fn(&SchedulerConfig, Start) -> Result<(), Start
 /// A start of a build server.
 pub type ServerCall = Box<dyn Fn(&ServerConfig, Start) -> Result<(), StartFault> + Drop>;
 
-/// Serves by the two calls that it is made of, which `main` makes of `serve_scheduler` and `serve_server` over the runtime
-/// of the system: what a call sends to threads may not rest on a bound, so no type parameter can be that runtime. It
-/// tells no record.
+/// Serves by the two calls that it is made of, which `main` makes of `serve_scheduler` and `serve_server`
+/// over the runtime of the system: what a call sends to threads may not rest on a bound, so no type parameter
+/// can be that runtime. It tells no record.
 #[derive(Drop)]
 pub struct RealServe<G> {
     scheduler: SchedulerCall,
@@ -31,7 +31,8 @@ pub struct RealServe<G> {
 }
 
 impl<G> RealServe<G> {
-    /// Serves for good, on a machine with so many processors, with random words from the generator. It takes no memory.
+    /// Serves for good, on a machine with so many processors, with random words from the generator. It takes
+    /// no memory.
     pub fn new(scheduler: SchedulerCall, server: ServerCall, random: G, cpus: u64) -> Self
         requires schedules { SchedulerCall.IsAlwaysCallable scheduler }
         requires serves { ServerCall.IsAlwaysCallable server }
@@ -47,8 +48,9 @@ impl<G> RealServe<G> {
         }
     }
 
-    /// The same, but that its listener ends after so many connections where a number is given, and that each fails where
-    /// it waits longer than so many milliseconds, of which there is at least one, for a byte to come or to go.
+    /// The same, but that its listener ends after so many connections where a number is given, and that each
+    /// fails where it waits longer than so many milliseconds, of which there is at least one, for a byte to
+    /// come or to go.
     pub fn with_limits(
         scheduler: SchedulerCall,
         server: ServerCall,

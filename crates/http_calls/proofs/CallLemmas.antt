@@ -1,5 +1,6 @@
 -- The paths of the routes are absolute, and what a call writes asks what it is meant to.
-use Rattle.std.proofs.Common.{◌≡◌, ℕ, ◌<◌, ◌^◌, true, false, List, [], ◌∷◌, ◌++◌, length, Option, Some, Ok, Result, sym, refl, ap, arith, lit<, codes, decimal, append-nil}
+use Rattle.std.proofs.Common.{◌≡◌, ℕ, ◌<◌, ◌^◌, true, false, List, [], ◌∷◌, ◌++◌, length, Option, Some, Ok}
+use Rattle.std.proofs.Common.{Result, sym, refl, ap, arith, lit<, codes, decimal, append-nil}
 use Rattle.std.specs.Prelude.{⊤}
 use Rattle.std.specs.Char.{is_ascii_digit}
 use Rattle.std.proofs.lemmas.Bool.Decides.{nat_tests}
@@ -23,9 +24,12 @@ use Rattle.http_routes.specs.declared.route.SchedRouted.TheVariants.{Alloc, Beat
 use Rattle.http_routes.specs.Asked.{IsAskedUnder}
 use Rattle.http_routes.specs.ServerRoute.{AsksSubmit, AsksRun}
 use Rattle.http_routes.specs.Written.{submit_with, run_with}
-use Rattle.http_routes.proofs.ToldLemmas.{addr_visible, allocations_read_back, statuses_read_back, heartbeats_read_back, states_read_back, submissions_read_back, runs_read_back}
+use Rattle.http_routes.proofs.ToldLemmas.{addr_visible, allocations_read_back, statuses_read_back}
+use Rattle.http_routes.proofs.ToldLemmas.{heartbeats_read_back, states_read_back, submissions_read_back}
+use Rattle.http_routes.proofs.ToldLemmas.{runs_read_back}
 use Rattle.http_calls.specs.Calls.{alloc_request, status_request, state_request, heartbeat_request}
-use Rattle.http_calls.specs.Urls.{IsHttp, IsAbsolutePath, host_of}
+use Rattle.http_routes.specs.Builder.{host_of}
+use Rattle.http_calls.specs.Urls.{IsHttp, IsAbsolutePath}
 use Rattle.http_calls.proofs.JoinLemmas.{is_plain_byte, IsPlain, plain_segments}
 use Rattle.http_calls.proofs.UrlLemmas.{clean}
 

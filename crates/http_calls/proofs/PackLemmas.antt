@@ -1,5 +1,6 @@
 -- Runs whose inputs a packager packs.
-use Rattle.std.proofs.Common.{◌≡◌, ℕ, ◌≤◌, List, [], ◌∷◌, ◌++◌, codes, length, Option, Some, None, Result, Ok, Err, refl, sym, ap, subst, ◌∙◌, append_assoc}
+use Rattle.std.proofs.Common.{◌≡◌, ℕ, ◌≤◌, List, [], ◌∷◌, ◌++◌, codes, length, Option, Some, None, Result, Ok}
+use Rattle.std.proofs.Common.{Err, refl, sym, ap, subst, ◌∙◌, append_assoc}
 use Rattle.std.specs.Fmt.{decimal}
 use Rattle.std.specs.Int.{w32, to_be_bytes}
 use Rattle.dist_types.specs.Addr.{addr_text}
@@ -27,33 +28,52 @@ body_more run more =
     append_assoc (to_be_bytes w32 (length (run_text run))) (run_text run ++ []) more
     ∙ ap (λ (t : List ℕ). to_be_bytes w32 (length (run_text run)) ++ t) (append_assoc (run_text run) [] more)
 
-pub packs_from : (told : Option (List ℕ)) (run : RunJobHttpRequest) (before after : List ℕ) → before ≡ run_body run [] → Appends told before after
+pub packs_from : (told : Option (List ℕ)) (run : RunJobHttpRequest) (before after : List ℕ)
+    → before ≡ run_body run [] → Appends told before after
     → (x : List ℕ) × Appends told [] x × (after ≡ run_body run x)
-packs_from None run before after is h = (h.0, (h.0, refl), h.1 ∙ (ap (λ (b : List ℕ). b ++ h.0) is ∙ body_more run h.0))
-packs_from (Some bytes) run before after is h = (bytes, refl, h ∙ (ap (λ (b : List ℕ). b ++ bytes) is ∙ body_more run bytes))
+packs_from None run before after is h =
+    (h.0, (h.0, refl), h.1 ∙ (ap (λ (b : List ℕ). b ++ h.0) is ∙ body_more run h.0))
+packs_from (Some bytes) run before after is h =
+    (bytes, refl, h ∙ (ap (λ (b : List ℕ). b ++ bytes) is ∙ body_more run bytes))
 
 pub posted_run : (job : JobAlloc) (run : RunJobHttpRequest) (inputs body token bytes : List ℕ)
-    → bytes ≡ request_text (post_with (codes "/api/v1/distserver/run_job/" ++ decimal job.job_id.0) (addr_text job.server_id) token body)
+    → bytes ≡ request_text (post_with (codes "/api/v1/distserver/run_job/" ++ decimal job.job_id.0)
+    (addr_text job.server_id) token body)
     → token ≡ job.auth → body ≡ run_body run inputs → bytes ≡ request_text (run_request job run inputs)
 unfolding run_with
 posted_run job run inputs body token bytes is token_is body_is =
-    is ∙ (λ i. request_text (post_with (codes "/api/v1/distserver/run_job/" ++ decimal job.job_id.0) (addr_text job.server_id) (token_is i) (body_is i)))
+    is ∙ (λ i. request_text (post_with (codes "/api/v1/distserver/run_job/" ++ decimal job.job_id.0)
+    (addr_text job.server_id) (token_is i) (body_is i)))
 
-pub ran_after : (job : JobAlloc) (run : RunJobHttpRequest) (inputs request : List ℕ) (answer sent : Result RunJobResult CallError) (old new : ClientParts)
+pub ran_after : (job : JobAlloc) (run : RunJobHttpRequest) (inputs request : List ℕ)
+    (answer sent : Result RunJobResult CallError) (old new : ClientParts)
     → request ≡ request_text (run_request job run inputs) → answer ≡ sent
-    → IsAsked wire.ran_at (dialed_host job.server_id) (port_at job.server_id) request sent old new → AfterPacking job run (Ok inputs) answer old new
+    → IsAsked wire.ran_at (dialed_host job.server_id) (port_at job.server_id) request sent old new
+    → AfterPacking job run (Ok inputs) answer old new
 ran_after job run inputs request answer sent old new is same h =
-    subst (λ a. IsAsked wire.ran_at (dialed_host job.server_id) (port_at job.server_id) (request_text (run_request job run inputs)) a old new) (sym same)
+    subst (λ a. IsAsked wire.ran_at (dialed_host job.server_id) (port_at job.server_id)
+    (request_text (run_request job run inputs)) a old new) (sym same)
     (subst (λ q. IsAsked wire.ran_at (dialed_host job.server_id) (port_at job.server_id) q sent old new) is h)
 
 -- the same run by another name
-pub packed_same : (Uncalled : Type 0) (told : Option (List ℕ)) (before after : ℕ) (job : JobAlloc) (run other : RunJobHttpRequest) (answer : Result (List ℕ) CallError)
-    → run ≡ other → PacksRequest Uncalled told before after job run answer → PacksRequest Uncalled told before after job other answer
-packed_same Uncalled told before after job run other answer e h = subst (λ r. PacksRequest Uncalled told before after job r answer) e h
+pub packed_same : (Uncalled : Type 0) (told : Option (List ℕ)) (before after : ℕ) (job : JobAlloc)
+    (run other : RunJobHttpRequest) (answer : Result (List ℕ) CallError)
+    → run ≡ other → PacksRequest Uncalled told before after job run answer
+    → PacksRequest Uncalled told before after job other answer
+packed_same Uncalled told before after job run other answer e h =
+    subst (λ r. PacksRequest Uncalled told before after job r answer) e h
 
 -- what was asked is said by another text of the request
-pub asked_as : {M : Type 0} (at : List ℕ → Option (M × List ℕ)) (host : List ℕ) (port : ℕ) (sent made told : List ℕ) (answer : Result M CallError) (old new : ClientParts)
-    → sent ≡ made → made ≡ told → Asks at host port sent answer old.asked new.asked → (answer ≡ Err LinkFault → Rose old.faults new.faults)
-    → old.faults ≤ new.faults → new ≡ with_dialer old new.asked new.faults → IsAsked at host port told answer old new
+pub asked_as : {M : Type 0} (at : List ℕ → Option (M × List ℕ)) (host : List ℕ) (port : ℕ)
+    (sent made told : List ℕ) (answer : Result M CallError) (old new : ClientParts)
+    → sent ≡ made → made ≡ told → Asks at host port sent answer old.asked new.asked
+    → (answer ≡ Err LinkFault → Rose old.faults new.faults)
+    → old.faults ≤ new.faults → new ≡ with_dialer old new.asked new.faults
+    → IsAsked at host port told answer old new
 asked_as at host port sent made told answer old new is_made is_told asks cause later changes =
-    record { asks = subst (λ q. Asks at host port q answer old.asked new.asked) (is_made ∙ is_told) asks; cause = cause; later = later; changes = changes }
+    record {
+      asks = subst (λ q. Asks at host port q answer old.asked new.asked) (is_made ∙ is_told) asks;
+      cause = cause;
+      later = later;
+      changes = changes;
+    }

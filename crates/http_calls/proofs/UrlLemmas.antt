@@ -1,5 +1,6 @@
 -- What a request says of an `http` URL can stand in a head.
-use Rattle.std.proofs.Common.{◌≡◌, ℕ, ◌<◌, ◌^◌, true, List, [], ◌∷◌, ◌++◌, codes, Option, Some, None, All, refl, ap, subst, arith, decimal, append-nil, length-append}
+use Rattle.std.proofs.Common.{◌≡◌, ℕ, ◌<◌, ◌^◌, true, List, [], ◌∷◌, ◌++◌, codes, Option, Some, None, All}
+use Rattle.std.proofs.Common.{refl, ap, subst, arith, decimal, append-nil, length-append}
 use Rattle.std.specs.Prelude.{IsUtf8, IfSome, unwrap_or}
 use Rattle.std.specs.Char.{is_ascii_digit}
 use Rattle.std.proofs.lemmas.Bool.Decides.{nat_tests}
@@ -18,7 +19,8 @@ use Rattle.url.proofs.HostRoundTrip.{IsHostByte, host_text_plain}
 use Rattle.url.proofs.InputLemmas.{Passes, list_all_from_All}
 use Rattle.url.proofs.SetLemmas.{passes_from_kept}
 use Rattle.url.proofs.SetterLemmas.{own_host}
-use Rattle.url.proofs.ValidLemmas.{segment_list_kept, special_has_authority, base_from_authority, hierarchical}
+use Rattle.url.proofs.ValidLemmas.{segment_list_kept, special_has_authority, base_from_authority}
+use Rattle.url.proofs.ValidLemmas.{hierarchical}
 use Rattle.dist_types.specs.declared.ids.JobId.{JobId}
 use Rattle.dist_types.specs.declared.results.JobState.{JobState}
 use Rattle.dist_wire.specs.Written.{state_bytes}
@@ -29,7 +31,8 @@ use Rattle.http_routes.specs.Written.{state_with}
 use Rattle.http_head.proofs.FieldLemmas.{digits}
 use Rattle.http_head.proofs.LineLemmas.{all_pass, weaker}
 use Rattle.http_head.proofs.WrittenRequestLemmas.{ascii_text}
-use Rattle.http_calls.specs.Urls.{IsHttp, IsClean, at_path, query_text, target_of, host_of}
+use Rattle.http_routes.specs.Builder.{query_text, target_of, host_of}
+use Rattle.http_calls.specs.Urls.{IsHttp, IsClean, at_path}
 use Rattle.http_calls.proofs.JoinLemmas.{kind_is}
 
 abbrev IsSeen : ℕ → Type 0

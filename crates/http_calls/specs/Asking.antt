@@ -1,5 +1,6 @@
 -- What a client's calls ask over its dialer, and what they answer.
-use Rattle.std.specs.Prelude.{◌≡◌, ◌⊎◌, ◌<◌, ◌≤◌, ◌^◌, ℕ, List, [], ◌++◌, codes, length, unwrap_or, Bool, Option, Some, None, Result, Ok, Err, MatchResult}
+use Rattle.std.specs.Prelude.{◌≡◌, ◌⊎◌, ◌<◌, ◌≤◌, ◌^◌, ℕ, List, [], ◌++◌, codes, length, unwrap_or, Bool}
+use Rattle.std.specs.Prelude.{Option, Some, None, Result, Ok, Err, MatchResult}
 use Rattle.std.specs.Net.Text.{ipv6_text}
 use Rattle.dist_types.specs.Addr.{v4_text}
 use Rattle.dist_types.specs.Cause.{Rose}
@@ -21,17 +22,22 @@ dialed_host (V4 octets port) = v4_text octets
 dialed_host (V6 groups port) = codes "[" ++ ipv6_text groups ++ codes "]"
 
 -- what the answer to a row is: what its reply says; LinkFault exactly where the dialer failed
-abbrev pub AnswersRow : {M : Type 0} → (List ℕ → Option (M × List ℕ)) → Result (List ℕ) AskFault → Result M CallError → Type 0
-AnswersRow {M} at (Ok reply) answer = MatchResult answer (λ m. Tells {M = M} at reply (Ok m)) (ReplyRefused {M = M} at reply)
+abbrev pub AnswersRow : {M : Type 0} → (List ℕ → Option (M × List ℕ)) → Result (List ℕ) AskFault
+    → Result M CallError → Type 0
+AnswersRow {M} at (Ok reply) answer = MatchResult answer (λ m. Tells {M = M} at reply (Ok m))
+    (ReplyRefused {M = M} at reply)
 AnswersRow at (Err Failed) answer = answer ≡ Err LinkFault
 AnswersRow at (Err OutOfMemory) answer = answer ≡ Err Memory
 
 -- the record has one more row, of this request to that host, and its reply gives the answer
-pub record AsksOnce {M : Type 0} (at : List ℕ → Option (M × List ℕ)) (host : List ℕ) (port : ℕ) (request : List ℕ) (answer : Result M CallError) (old new : Option (List Asked)) : Type 0 where
+pub record AsksOnce {M : Type 0} (at : List ℕ → Option (M × List ℕ)) (host : List ℕ) (port : ℕ)
+    (request : List ℕ) (answer : Result M CallError) (old new : Option (List Asked)) : Type 0 where
   pub heard : Result (List ℕ) AskFault
   pub row : Recorded (asked_row host port request heard) old new
   pub answers : AnswersRow at heard answer
 
 -- the same, or memory ran out and the record is as it was
-abbrev pub Asks : {M : Type 0} → (List ℕ → Option (M × List ℕ)) → List ℕ → ℕ → List ℕ → Result M CallError → Option (List Asked) → Option (List Asked) → Type 0
-Asks at host port request answer old new = AsksOnce at host port request answer old new ⊎ ((answer ≡ Err Memory) × (new ≡ old))
+abbrev pub Asks : {M : Type 0} → (List ℕ → Option (M × List ℕ)) → List ℕ → ℕ → List ℕ → Result M CallError
+    → Option (List Asked) → Option (List Asked) → Type 0
+Asks at host port request answer old new = AsksOnce at host port request answer old new
+    ⊎ ((answer ≡ Err Memory) × (new ≡ old))

@@ -1,5 +1,6 @@
 -- What a client is, and what its calls ask, answer and leave.
-use Rattle.std.specs.Prelude.{◌≡◌, ◌⊎◌, ◌<◌, ◌≤◌, ◌^◌, ℕ, List, [], length, map, unwrap_or, Bool, Option, Some, None, Result, Ok, Err, String, string_bytes, Vec}
+use Rattle.std.specs.Prelude.{◌≡◌, ◌⊎◌, ◌<◌, ◌≤◌, ◌^◌, ℕ, List, [], length, map, unwrap_or, Bool, Option}
+use Rattle.std.specs.Prelude.{Some, None, Result, Ok, Err, String, string_bytes, Vec}
 use Rattle.std.specs.declared.alloc.Global.{Global}
 use Rattle.dist_types.specs.Cause.{Rose}
 use Rattle.dist_types.specs.declared.command.CompileCommand.{CompileCommand}
@@ -30,10 +31,11 @@ use Rattle.http_calls.specs.Calls.{alloc_request, status_request, submit_request
 use Rattle.http_calls.specs.Servers.{port_at}
 use Rattle.http_calls.specs.Urls.{IsHttp}
 use Rattle.http_calls.specs.declared.error.CallError.{CallError}
-use Rattle.http_calls.specs.declared.error.CallError.TheVariants.{BadBase, HeadTooLong, LinkFault, NotLocal, Packager, Local, Memory}
+use Rattle.http_calls.specs.declared.error.CallError.TheVariants.{BadBase, HeadTooLong, LinkFault, NotLocal}
+use Rattle.http_calls.specs.declared.error.CallError.TheVariants.{Packager, Local, Memory}
 
--- The scheduler's URL, the client's token, whether includes alone are rewritten, its toolchains, and its dialer's record and count of
--- faults.
+-- The scheduler's URL, the client's token, whether includes alone are rewritten, its toolchains, and its
+-- dialer's record and count of faults.
 pub record ClientParts : Type 0 where
   pub base : Parts
   pub token : List ℕ
@@ -45,15 +47,31 @@ pub record ClientParts : Type 0 where
 -- with another record and another count of the dialer
 abbrev pub with_dialer : ClientParts → Option (List Asked) → ℕ → ClientParts
 with_dialer c asked faults =
-    record { base = c.base; token = c.token; rewrites = c.rewrites; toolchains = c.toolchains; asked = asked; faults = faults }
+    record {
+      base = c.base;
+      token = c.token;
+      rewrites = c.rewrites;
+      toolchains = c.toolchains;
+      asked = asked;
+      faults = faults;
+    }
 
 -- with other toolchains
 abbrev pub with_toolchains : ClientParts → Toolchains → ClientParts
 with_toolchains c toolchains =
-    record { base = c.base; token = c.token; rewrites = c.rewrites; toolchains = toolchains; asked = c.asked; faults = c.faults }
+    record {
+      base = c.base;
+      token = c.token;
+      rewrites = c.rewrites;
+      toolchains = toolchains;
+      asked = c.asked;
+      faults = c.faults;
+    }
 
--- A host was asked once, or memory ran out; LinkFault came only where the dialer's count rose, and nothing else changed.
-pub record IsAsked {M : Type 0} (at : List ℕ → Option (M × List ℕ)) (host : List ℕ) (port : ℕ) (request : List ℕ) (answer : Result M CallError) (old new : ClientParts) : Type 0 where
+-- A host was asked once, or memory ran out; LinkFault came only where the dialer's count rose, and nothing
+-- else changed.
+pub record IsAsked {M : Type 0} (at : List ℕ → Option (M × List ℕ)) (host : List ℕ) (port : ℕ)
+    (request : List ℕ) (answer : Result M CallError) (old new : ClientParts) : Type 0 where
   pub asks : Asks at host port request answer old.asked new.asked
   pub cause : answer ≡ Err LinkFault → Rose old.faults new.faults
   pub later : old.faults ≤ new.faults
@@ -62,18 +80,22 @@ pub record IsAsked {M : Type 0} (at : List ℕ → Option (M × List ℕ)) (host
 -- ---- to the scheduler
 
 -- the scheduler was asked so, or its URL is no `http` URL
-abbrev pub AsksScheduler : {M : Type 0} → (List ℕ → Option (M × List ℕ)) → List ℕ → Result M CallError → ClientParts → ClientParts → Type 0
+abbrev pub AsksScheduler : {M : Type 0} → (List ℕ → Option (M × List ℕ)) → List ℕ → Result M CallError
+    → ClientParts → ClientParts → Type 0
 AsksScheduler at request answer old new =
-    (IsHttp old.base × IsAsked at (host_text (host_or_empty old.base)) (unwrap_or old.base.port 80) request answer old new)
+    (IsHttp old.base × IsAsked at (host_text (host_or_empty old.base)) (unwrap_or old.base.port 80) request
+    answer old new)
     ⊎ (¬ (IsHttp old.base) × (answer ≡ Err BadBase) × (new ≡ old))
 
 -- a job with a toolchain was asked for, under the client's token
 abbrev pub Allocates : List ℕ → Result AllocJobResult CallError → ClientParts → ClientParts → Type 0
-Allocates tc answer old new = AsksScheduler wire.alloc_at (request_text (alloc_request old.base old.token tc)) answer old new
+Allocates tc answer old new = AsksScheduler wire.alloc_at (request_text (alloc_request old.base old.token tc))
+    answer old new
 
 -- the status was asked for, under no token
 abbrev pub AsksStatus : Result SchedulerStatusResult CallError → ClientParts → ClientParts → Type 0
-AsksStatus answer old new = AsksScheduler wire.status_at (request_text (status_request old.base)) answer old new
+AsksStatus answer old new = AsksScheduler wire.status_at (request_text (status_request old.base)) answer old
+    new
 
 -- ---- to the server of a job
 
@@ -82,47 +104,62 @@ abbrev pub local_error : ToolchainError → CallError
 local_error OutOfMemory = Memory
 local_error e = Local e
 
--- what follows the look for the archive: it was brought to the job's server; where there is none, or it was not read, nobody is asked
-abbrev pub AfterGet : JobAlloc → Result (Option (List ℕ)) ToolchainError → Result SubmitToolchainResult CallError → ClientParts → ClientParts → Type 0
+-- what follows the look for the archive: it was brought to the job's server; where there is none, or it was
+-- not read, nobody is asked
+abbrev pub AfterGet : JobAlloc → Result (Option (List ℕ)) ToolchainError
+    → Result SubmitToolchainResult CallError → ClientParts → ClientParts → Type 0
 AfterGet job (Ok (Some archive)) answer old new =
-    IsAsked wire.submit_at (dialed_host job.server_id) (port_at job.server_id) (request_text (submit_request job archive)) answer old new
+    IsAsked wire.submit_at (dialed_host job.server_id) (port_at job.server_id)
+    (request_text (submit_request job archive)) answer old new
 AfterGet job (Ok None) answer old new = (answer ≡ Err NotLocal) × (new ≡ old)
 AfterGet job (Err e) answer old new = (answer ≡ Err (local_error e)) × (new ≡ old)
 
 -- the archive of a toolchain was got, and brought to the job's server
-pub record Submits (job : JobAlloc) (tc : List ℕ) (answer : Result SubmitToolchainResult CallError) (old new : ClientParts) : Type 0 where
+pub record Submits (job : JobAlloc) (tc : List ℕ) (answer : Result SubmitToolchainResult CallError)
+    (old new : ClientParts) : Type 0 where
   pub found : Result (Option (List ℕ)) ToolchainError
   pub between : Toolchains
   pub gets : Gets tc found old.toolchains between
   pub follows : AfterGet job found answer (with_toolchains old between) new
 
--- What became of the inputs of a run: HeadTooLong exactly where command and outputs have 2^32 bytes or more, and then the packager is not
--- called; Packager only where its count rose; else what it packed, where it tells that.
-abbrev pub PacksInputs : Type 0 → Option (List ℕ) → ℕ → ℕ → RunJobHttpRequest → Result (List ℕ) CallError → Type 0
-PacksInputs Uncalled told before after run (Ok inputs) = Appends told [] inputs × (length (run_text run) < 2 ^ 32)
+-- What became of the inputs of a run: HeadTooLong exactly where command and outputs have 2^32 bytes or more,
+-- and then the packager is not called; Packager only where its count rose; else what it packed, where it
+-- tells that.
+abbrev pub PacksInputs : Type 0 → Option (List ℕ) → ℕ → ℕ → RunJobHttpRequest → Result (List ℕ) CallError
+    → Type 0
+PacksInputs Uncalled told before after run (Ok inputs) = Appends told [] inputs
+    × (length (run_text run) < 2 ^ 32)
 PacksInputs Uncalled told before after run (Err HeadTooLong) = (2 ^ 32 ≤ length (run_text run)) × Uncalled
-PacksInputs Uncalled told before after run (Err Packager) = Rose before after × (length (run_text run) < 2 ^ 32)
+PacksInputs Uncalled told before after run (Err Packager) = Rose before after
+    × (length (run_text run) < 2 ^ 32)
 PacksInputs Uncalled told before after run (Err Memory) = Unit {0}
 PacksInputs Uncalled told before after run (Err other) = ⊥
 
 -- the same as the body of a run
-abbrev pub PacksBody : Type 0 → Option (List ℕ) → ℕ → ℕ → RunJobHttpRequest → Result (List ℕ) CallError → Type 0
-PacksBody Uncalled told before after run (Ok body) = (inputs : List ℕ) × PacksInputs Uncalled told before after run (Ok inputs) × (body ≡ run_body run inputs)
+abbrev pub PacksBody : Type 0 → Option (List ℕ) → ℕ → ℕ → RunJobHttpRequest → Result (List ℕ) CallError
+    → Type 0
+PacksBody Uncalled told before after run (Ok body) = (inputs : List ℕ)
+    × PacksInputs Uncalled told before after run (Ok inputs) × (body ≡ run_body run inputs)
 PacksBody Uncalled told before after run (Err e) = PacksInputs Uncalled told before after run (Err e)
 
 -- the same as the request to run a job
-abbrev pub PacksRequest : Type 0 → Option (List ℕ) → ℕ → ℕ → JobAlloc → RunJobHttpRequest → Result (List ℕ) CallError → Type 0
+abbrev pub PacksRequest : Type 0 → Option (List ℕ) → ℕ → ℕ → JobAlloc → RunJobHttpRequest
+    → Result (List ℕ) CallError → Type 0
 PacksRequest Uncalled told before after job run (Ok request) =
-    (inputs : List ℕ) × PacksInputs Uncalled told before after run (Ok inputs) × (request ≡ request_text (run_request job run inputs))
+    (inputs : List ℕ) × PacksInputs Uncalled told before after run (Ok inputs)
+    × (request ≡ request_text (run_request job run inputs))
 PacksRequest Uncalled told before after job run (Err e) = PacksInputs Uncalled told before after run (Err e)
 
-abbrev pub AfterPacking : JobAlloc → RunJobHttpRequest → Result (List ℕ) CallError → Result RunJobResult CallError → ClientParts → ClientParts → Type 0
+abbrev pub AfterPacking : JobAlloc → RunJobHttpRequest → Result (List ℕ) CallError
+    → Result RunJobResult CallError → ClientParts → ClientParts → Type 0
 AfterPacking job run (Ok inputs) answer old new =
-    IsAsked wire.ran_at (dialed_host job.server_id) (port_at job.server_id) (request_text (run_request job run inputs)) answer old new
+    IsAsked wire.ran_at (dialed_host job.server_id) (port_at job.server_id)
+    (request_text (run_request job run inputs)) answer old new
 AfterPacking job run (Err e) answer old new = (answer ≡ Err e) × (new ≡ old)
 
 -- the inputs of a run were packed, and its server asked to run it
-pub record Runs (Uncalled : Type 0) (told : Option (List ℕ)) (before after : ℕ) (job : JobAlloc) (run : RunJobHttpRequest) (answer : Result RunJobResult CallError) (old new : ClientParts) : Type 0 where
+pub record Runs (Uncalled : Type 0) (told : Option (List ℕ)) (before after : ℕ) (job : JobAlloc)
+    (run : RunJobHttpRequest) (answer : Result RunJobResult CallError) (old new : ClientParts) : Type 0 where
   pub packed : Result (List ℕ) CallError
   pub packs : PacksInputs Uncalled told before after run packed
   pub follows : AfterPacking job run packed answer old new
@@ -139,12 +176,14 @@ first_of (Err e) = Err e
 -- ---- its toolchains
 
 -- a toolchain was put, and nobody was asked
-pub record PutsHere (Uncalled : Type 0) (told : Option (List ℕ)) (before after : ℕ) (path key : List ℕ) (answer : Result Placed ToolchainError) (old new : ClientParts) : Type 0 where
+pub record PutsHere (Uncalled : Type 0) (told : Option (List ℕ)) (before after : ℕ) (path key : List ℕ)
+    (answer : Result Placed ToolchainError) (old new : ClientParts) : Type 0 where
   pub puts : Puts Uncalled told before after path key answer old.toolchains new.toolchains
   pub changes : new ≡ with_toolchains old new.toolchains
 
 -- the archive's name in what is told of a configured archive
-abbrev pub IsName : Option (Result Custom ToolchainError) → Result (Option (String Global)) ToolchainError → Type 0
+abbrev pub IsName : Option (Result Custom ToolchainError) → Result (Option (String Global)) ToolchainError
+    → Type 0
 IsName None answer = answer ≡ Ok None
 IsName (Some (Ok custom)) (Ok (Some name)) = string_bytes name ≡ custom.archive
 IsName (Some (Ok custom)) (Ok None) = ⊥
@@ -152,7 +191,8 @@ IsName (Some (Ok custom)) (Err e) = ⊥
 IsName (Some (Err e)) answer = answer ≡ Err e
 
 -- the name of the archive that is configured for a compiler was told, and nobody was asked
-pub record TellsArchive (path : List ℕ) (answer : Result (Option (String Global)) ToolchainError) (old new : ClientParts) : Type 0 where
+pub record TellsArchive (path : List ℕ) (answer : Result (Option (String Global)) ToolchainError)
+    (old new : ClientParts) : Type 0 where
   pub custom : Option (Result Custom ToolchainError)
   pub tells : TellsCustom (custom_of path old.toolchains.configs) path custom old.toolchains new.toolchains
   pub name : IsName custom answer

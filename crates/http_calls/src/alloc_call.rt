@@ -38,10 +38,10 @@ impl Model for AllocCall {
 }
 
 impl AllocCall {
-    /// The call that asks the scheduler at that base for a job with that toolchain, under a client's token: BadBase
-    /// exactly where the base's scheme is not `http`; else refused for want of memory alone. Where the token is one
-    /// that a field carries and the request is within the limits, it is read as one for a job with that toolchain by
-    /// each scheduler that lets the token's client in.
+    /// The call that asks the scheduler at that base for a job with that toolchain, under a client's token:
+    /// BadBase exactly where the base's scheme is not `http`; else refused for want of memory alone. Where
+    /// the token is one that a field carries and the request is within the limits, it is read as one for a
+    /// job with that toolchain by each scheduler that lets the token's client in.
     pub fn start(
         alloc: Global,
         base: &Url,
@@ -68,8 +68,8 @@ impl AllocCall {
         self.request.get()
     }
 
-    /// The answer, by the reply that came: LinkFault exactly where none came; else what the reply says, unless memory
-    /// ran out.
+    /// The answer, by the reply that came: LinkFault exactly where none came; else what the reply says,
+    /// unless memory ran out.
     pub fn resume(self, reply: Result<&[u8], Failed>) -> Result<AllocJobResult, CallError>
         ensures told { Resumes wire.alloc_at reply.entry result }
         ensures link { (result ≡ Err CallError.LinkFault) ↔ IsErr reply.entry }

@@ -6,7 +6,6 @@ ghost use Rattle.url.specs.Parts.{host_or_empty};
 ghost use Rattle.http_calls.specs.Asking.{Asks, dialed_host};
 ghost use Rattle.http_calls.specs.Servers.{port_at};
 
-use crate::builder::{host_text, port_of};
 use crate::error::CallError;
 use crate::reply::resumed;
 use crate::servers::port_of as port_at;
@@ -15,6 +14,7 @@ use dist_types::dialer::{AskFault, Dialer};
 use dist_types::fault::Failed;
 use dist_types::ids::ServerId;
 use dist_wire::message::Message;
+use http_routes::builder::{host_text, port_of};
 use std::alloc::Global;
 use std::fmt;
 use std::net::Ipv6Addr;

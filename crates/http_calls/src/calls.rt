@@ -1,7 +1,8 @@
 //! What a client of the scheduler and of build servers can ask.
 ghost use Rattle.std.specs.Prelude.{◌≡◌};
 ghost use Rattle.disk_cache.specs.Putting.{placed_seen};
-ghost use Rattle.http_calls.specs.Client.{ClientParts, Allocates, AsksStatus, Submits, Runs, run_of, first_of, PutsHere, TellsArchive};
+ghost use Rattle.http_calls.specs.Client.{ClientParts, Allocates, AsksStatus, Submits, Runs, run_of};
+ghost use Rattle.http_calls.specs.Client.{first_of, PutsHere, TellsArchive};
 
 use crate::error::CallError;
 use disk_cache::ToolchainError;
@@ -15,25 +16,25 @@ use path_pkg::unix::PathTransformer;
 
 /// A client of the scheduler and of build servers.
 ///
-/// A call that asks adds exactly one row to the record of its dialer, and its answer is that call resumed with the
-/// reply of that row (`ParseError`, `Status`); it is `LinkFault` only where the dialer's count of faults rose. Want of
-/// memory may hide each.
+/// A call that asks adds exactly one row to the record of its dialer, and its answer is that call resumed
+/// with the reply of that row (`ParseError`, `Status`); it is `LinkFault` only where the dialer's count of
+/// faults rose. Want of memory may hide each.
 pub trait Client {
     /// Its parts: whom it asks, under which token, with which toolchains, and its dialer's record and count.
     ghost seen: { Self → ClientParts };
 
-    /// Asks the scheduler for a job with that toolchain, under the client's token. `BadBase` exactly where the
-    /// scheduler's URL is no `http` URL, and then nobody is asked.
+    /// Asks the scheduler for a job with that toolchain, under the client's token. `BadBase` exactly where
+    /// the scheduler's URL is no `http` URL, and then nobody is asked.
     fn do_alloc_job(&mut self, tc: &Toolchain) -> Result<AllocJobResult, CallError>
         ensures { Allocates tc.now result (seen self.old) (seen self.new) };
 
-    /// Asks the scheduler for its status, under no token. `BadBase` exactly where the scheduler's URL is no `http`
-    /// URL, and then nobody is asked.
+    /// Asks the scheduler for its status, under no token. `BadBase` exactly where the scheduler's URL is no
+    /// `http` URL, and then nobody is asked.
     fn do_get_status(&mut self) -> Result<SchedulerStatusResult, CallError>
         ensures { AsksStatus result (seen self.old) (seen self.new) };
 
-    /// Brings the archive of a toolchain to a job's server, under the job's token. `NotLocal` exactly where the client
-    /// has no such archive, and `Local` where it was not read; then nobody is asked.
+    /// Brings the archive of a toolchain to a job's server, under the job's token. `NotLocal` exactly where
+    /// the client has no such archive, and `Local` where it was not read; then nobody is asked.
     fn do_submit_toolchain(
         &mut self,
         job: &JobAlloc,
@@ -41,9 +42,9 @@ pub trait Client {
     ) -> Result<SubmitToolchainResult, CallError>
         ensures { Submits job.now tc.now result (seen self.old) (seen self.new) };
 
-    /// Asks a job's server to run it so, with the inputs that the packager packs, under the job's token, and gives what
-    /// mapped their paths beside the answer. `HeadTooLong` exactly where command and outputs have 2^32 bytes or more,
-    /// and `Packager` where the packager refuses; then nobody is asked.
+    /// Asks a job's server to run it so, with the inputs that the packager packs, under the job's token, and
+    /// gives what mapped their paths beside the answer. `HeadTooLong` exactly where command and outputs have
+    /// 2^32 bytes or more, and `Packager` where the packager refuses; then nobody is asked.
     fn do_run_job(
         &mut self,
         job: &JobAlloc,

@@ -5,7 +5,8 @@ ghost use Rattle.disk_cache.specs.Custom.{customs_seen};
 ghost use Rattle.disk_cache.specs.Putting.{Gets, archives_seen, placed_seen};
 ghost use Rattle.http_calls.specs.Asking.{dialed_host};
 ghost use Rattle.http_calls.specs.Servers.{port_at};
-ghost use Rattle.http_calls.specs.Client.{IsAsked, Allocates, AsksStatus, Submits, AfterGet, Runs, run_of, first_of};
+ghost use Rattle.http_calls.specs.Client.{IsAsked, Allocates, AsksStatus, Submits, AfterGet, Runs, run_of};
+ghost use Rattle.http_calls.specs.Client.{first_of};
 ghost use Rattle.http_calls.specs.Client.{local_error, with_toolchains, PutsHere, TellsArchive, IsName};
 
 use crate::alloc_call::AllocCall;
@@ -74,8 +75,8 @@ fn local_error(refusal: ToolchainError) -> CallError
 }
 
 impl<D: Dialer, F: Folder> Client<D, F> {
-    /// A client that asks the scheduler at that URL, under that token, over that dialer, and has those toolchains. It
-    /// takes no memory.
+    /// A client that asks the scheduler at that URL, under that token, over that dialer, and has those
+    /// toolchains. It takes no memory.
     pub fn new(
         alloc: Global,
         dialer: D,

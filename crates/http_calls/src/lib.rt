@@ -1,13 +1,15 @@
-//! What a client asks of the scheduler and of build servers: the URLs of the routes, the requests that are written, and
-//! the calls, each begun, sent by whoever can, and resumed with its reply.
+//! What a client asks of the scheduler and of build servers: the URLs of the routes, the requests that are
+//! written, and the calls, each begun, sent by whoever can, and resumed with its reply.
 //!
-//! The contract: a URL of a route is its base with the route's path, and BadBase comes exactly where the base is no
-//! `http` URL; a request is the text of its parts, which URL, token and body give; what a call writes is what its route
-//! reads; a resumed call answers what its reply says, and LinkFault exactly where none came. A call of a client adds one
-//! row to its dialer's record, and its answer is that call resumed with that row's reply.
+//! The contract: a URL of a route is its base with the route's path, and BadBase comes exactly where the base
+//! is no `http` URL; a request is the text of its parts, which URL, token and body give; what a call writes
+//! is what its route reads; a resumed call answers what its reply says, and LinkFault exactly where none
+//! came. A call of a client adds one row to its dialer's record, and its answer is that call resumed with
+//! that row's reply.
 //!
-//! The layer above uses `calls::Client` and `http::Client`, `urls`, `RequestBuilder` with `ReqwestRequestBuilderExt`, `AllocCall`, `StatusCall`,
-//! `SubmitCall`, `RunCall`, `state_report` and `heartbeat`; and of the definitions those of `Calls`, `Resumes` and `Client`.
+//! The layer above uses `calls::Client` and `http::Client`, `urls`, `RequestBuilder` with
+//! `ReqwestRequestBuilderExt`, `AllocCall`, `StatusCall`, `SubmitCall`, `RunCall`, `state_report` and
+//! `heartbeat`; and of the definitions those of `Calls`, `Resumes` and `Client`.
 #![tactic(auto)]
 
 pub mod alloc_call;

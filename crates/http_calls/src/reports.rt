@@ -17,10 +17,10 @@ use dist_wire::heartbeat::HeartbeatServerHttpRequest;
 use std::alloc::Global;
 use url::Url;
 
-/// The report of a job's state, under a server's token: BadBase exactly where the base's scheme is not `http`; else
-/// refused for want of memory alone. Where the token is one that a field carries and the request is within the limits,
-/// it is read as the update of that job to that state of the server that the token is accepted for, from whatever peer
-/// has the server's IP.
+/// The report of a job's state, under a server's token: BadBase exactly where the base's scheme is not
+/// `http`; else refused for want of memory alone. Where the token is one that a field carries and the request
+/// is within the limits, it is read as the update of that job to that state of the server that the token is
+/// accepted for, from whatever peer has the server's IP.
 pub fn state_report(
     alloc: Global,
     base: &Url,
@@ -40,16 +40,18 @@ pub fn state_report(
     Ok(bytes)
 }
 
-/// The heartbeat of a server, under its token: BadBase exactly where the base's scheme is not `http`; else refused for
-/// want of memory alone. Where the token is one that a field carries and the request is within the limits, it is read as
-/// that heartbeat of the server that the token is accepted for, from whatever peer has the server's IP.
+/// The heartbeat of a server, under its token: BadBase exactly where the base's scheme is not `http`; else
+/// refused for want of memory alone. Where the token is one that a field carries and the request is within
+/// the limits, it is read as that heartbeat of the server that the token is accepted for, from whatever peer
+/// has the server's IP.
 pub fn heartbeat(
     alloc: Global,
     base: &Url,
     token: &str,
     beat: &HeartbeatServerHttpRequest,
 ) -> Result<Bytes, CallError>
-    ensures text { IfOk result (λ bytes. bytes ≡ request_text (heartbeat_request base.now token.now beat.now)) }
+    ensures text { IfOk result
+        (λ bytes. bytes ≡ request_text (heartbeat_request base.now token.now beat.now)) }
     ensures asks { IfOk result (λ bytes. IsToken token.now
         → IsWithinLimits (heartbeat_request base.now token.now beat.now)
         → (lets : List ℕ → Admission) (serves : List ℕ → Option Addr) (peer server : Addr)

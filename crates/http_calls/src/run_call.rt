@@ -1,5 +1,6 @@
 //! The call that asks a job's server to run it.
-ghost use Rattle.std.specs.Prelude.{◌≡◌, ◌≤◌, ◌^◌, ◌⊎◌, ◌↔◌, Ok, Err, Result, ⊤, IsErr, List, ℕ, IfOk, IfErr, length, map, string_bytes};
+ghost use Rattle.std.specs.Prelude.{◌≡◌, ◌≤◌, ◌^◌, ◌⊎◌, ◌↔◌, Ok, Err, Result, ⊤, IsErr, List, ℕ, IfOk, IfErr};
+ghost use Rattle.std.specs.Prelude.{length, map, string_bytes};
 ghost use Rattle.dist_types.specs.declared.token_error.TokenError.{TokenError};
 ghost use Rattle.dist_wire.specs.Reading as wire;
 ghost use Rattle.dist_wire.specs.Written as spelling;
@@ -66,7 +67,8 @@ fn packed_run(
     run: &RunJobHttpRequest,
     inputs: &mut dyn InputsPackager,
 ) -> Result<(RunCall, PathTransformer), CallError>
-    ensures { PacksRequest (inputs.new ≡ inputs.old) (packs inputs.old) (refusals inputs.old) (refusals inputs.new) job.now run.now (first_of result) }
+    ensures { PacksRequest (inputs.new ≡ inputs.old) (packs inputs.old) (refusals inputs.old)
+        (refusals inputs.new) job.now run.now (first_of result) }
 {
     match packed_request(alloc, job, run, inputs) {
         Ok((request, transformer)) => Ok((RunCall { alloc, request }, transformer)),
@@ -75,10 +77,10 @@ fn packed_run(
 }
 
 impl RunCall {
-    /// The call that asks a job's server to run it so, with those inputs, under the job's token: HeadTooLong exactly
-    /// where command and outputs have 2^32 bytes or more; else refused for want of memory alone. Where the token is one
-    /// that a field carries and the request is within the limits, it is read as that run with those inputs by each server
-    /// that accepts the token for the job.
+    /// The call that asks a job's server to run it so, with those inputs, under the job's token: HeadTooLong
+    /// exactly where command and outputs have 2^32 bytes or more; else refused for want of memory alone.
+    /// Where the token is one that a field carries and the request is within the limits, it is read as that
+    /// run with those inputs by each server that accepts the token for the job.
     pub fn start(
         alloc: Global,
         job: &JobAlloc,
@@ -96,7 +98,8 @@ impl RunCall {
             → (verdict : ℕ → List ℕ → Result ⊤ TokenError) → verdict job.now.job_id.0 job.now.auth ≡ Ok tt
             → AsksRun verdict call job.now.job_id run inputs.now) }
         ensures err { IfErr result (λ e. (e ≡ CallError.Memory) ⊎ ((e ≡ CallError.HeadTooLong)
-            × (2 ^ 32 ≤ length (spelling.run_text (record { command = command; outputs = map string_bytes outputs.items }))))) }
+            × (2 ^ 32 ≤ length (spelling.run_text
+            (record { command = command; outputs = map string_bytes outputs.items }))))) }
     {
         let outputs = names_of(alloc, outputs)?;
         let run = RunJobHttpRequest { command, outputs };
@@ -111,9 +114,9 @@ impl RunCall {
         Ok(RunCall { alloc, request })
     }
 
-    /// The same with the inputs that a packager packs, and what mapped their paths: HeadTooLong exactly where command and
-    /// outputs have 2^32 bytes or more, and then the packager is not called; Packager where it refuses; else refused for
-    /// want of memory alone.
+    /// The same with the inputs that a packager packs, and what mapped their paths: HeadTooLong exactly where
+    /// command and outputs have 2^32 bytes or more, and then the packager is not called; Packager where it
+    /// refuses; else refused for want of memory alone.
     pub(crate) fn packed(
         alloc: Global,
         job: &JobAlloc,
@@ -121,7 +124,8 @@ impl RunCall {
         outputs: Vec<String>,
         inputs: &mut dyn InputsPackager,
     ) -> Result<(RunCall, PathTransformer), CallError>
-        ensures { PacksRequest (inputs.new ≡ inputs.old) (packs inputs.old) (refusals inputs.old) (refusals inputs.new) job.now (run_of command outputs) (first_of result) }
+        ensures { PacksRequest (inputs.new ≡ inputs.old) (packs inputs.old) (refusals inputs.old)
+            (refusals inputs.new) job.now (run_of command outputs) (first_of result) }
     {
         match run_of(alloc, command, outputs) {
             Ok(run) => {
@@ -139,8 +143,8 @@ impl RunCall {
         self.request.get()
     }
 
-    /// The answer, by the reply that came: LinkFault exactly where none came; else what the reply says, unless memory
-    /// ran out.
+    /// The answer, by the reply that came: LinkFault exactly where none came; else what the reply says,
+    /// unless memory ran out.
     pub fn resume(self, reply: Result<&[u8], Failed>) -> Result<RunJobResult, CallError>
         ensures told { Resumes wire.ran_at reply.entry result }
         ensures link { (result ≡ Err CallError.LinkFault) ↔ IsErr reply.entry }

@@ -1,10 +1,14 @@
 //! The requests that go to the scheduler at a base.
-ghost use Rattle.std.specs.Prelude.{◌≡◌, OnOk, IfOk, IfErr};
+ghost use Rattle.std.specs.Prelude.{◌≡◌, None, OnOk, IfOk, IfErr};
 ghost use Rattle.dist_wire.specs.Spelling.{SpellsToolchain, SpellsHeartbeat};
 ghost use Rattle.dist_wire.specs.Written as spelling;
+ghost use Rattle.http_head.specs.declared.written_request.Method.TheVariants.{Get};
 ghost use Rattle.http_head.specs.WrittenRequest.{request_text};
+ghost use Rattle.http_routes.specs.Builder.{target_of, host_of};
+ghost use Rattle.http_routes.specs.Written.{post_with};
 ghost use Rattle.url.specs.Parts.{IsValid};
-ghost use Rattle.http_calls.specs.Calls.{RefusesBase, alloc_request, status_request, state_request, heartbeat_request};
+ghost use Rattle.http_calls.specs.Calls.{RefusesBase, alloc_request, status_request, state_request};
+ghost use Rattle.http_calls.specs.Calls.{heartbeat_request};
 ghost use Rattle.http_calls.specs.Urls.{IsHttp};
 
 use crate::builder::{RequestBuilder, ReqwestRequestBuilderExt};
@@ -17,8 +21,42 @@ use dist_types::results::JobState;
 use dist_types::text::Bytes;
 use dist_types::toolchain::Toolchain;
 use dist_wire::heartbeat::HeartbeatServerHttpRequest;
+use dist_wire::message::Message;
+use http_head::error::HttpError;
 use std::alloc::Global;
 use url::Url;
+
+/// The bytes of a POST to a URL under a token, with a message as its body.
+fn built<M: Message>(alloc: Global, url: &Url, token: &str, message: &M) -> Result<Bytes, HttpError>
+    ensures text { IfOk result (λ bytes. bytes
+        ≡ request_text (post_with (target_of url.now) (host_of url.now) token.now (M.text message.now))) }
+    ensures spelled { OnOk result (M.spells message.now (M.text message.now)) }
+    ensures err { IfErr result (λ e. e ≡ HttpError.Memory) }
+{
+    let builder = RequestBuilder::post(alloc, url)?;
+    let builder = builder.bearer_auth(token)?;
+    let builder = builder.bincode(message)?;
+    let bytes = builder.build()?;
+    Ok(Bytes::new(bytes))
+}
+
+/// The same as a part of a call.
+fn posted<M: Message>(
+    alloc: Global,
+    url: &Url,
+    token: &str,
+    message: &M,
+) -> Result<Bytes, CallError>
+    ensures text { IfOk result (λ bytes. bytes
+        ≡ request_text (post_with (target_of url.now) (host_of url.now) token.now (M.text message.now))) }
+    ensures spelled { OnOk result (M.spells message.now (M.text message.now)) }
+    ensures err { IfErr result (λ e. e ≡ CallError.Memory) }
+{
+    match built(alloc, url, token, message) {
+        Ok(bytes) => Ok(bytes),
+        Err(_) => Err(CallError::Memory),
+    }
+}
 
 /// The bytes of a request for a job.
 #[tactic(auto, using(crate::proofs::UrlLemmas::target_at), unfolding(http_routes::specs::Written::alloc_with))]
@@ -35,9 +73,22 @@ pub(crate) fn alloc_text(
     ensures err { IfErr result (RefusesBase base.now) }
 {
     let url = scheduler_alloc_job(base)?;
-    let builder = RequestBuilder::post(alloc, &url)?;
-    let builder = builder.bearer_auth(token)?;
-    let builder = builder.bincode(tc)?;
+    let bytes = posted(alloc, &url, token, tc)?;
+    Ok(bytes)
+}
+
+/// The bytes of a GET of a URL, which shows no token.
+fn built_get(alloc: Global, url: &Url) -> Result<Bytes, HttpError>
+    ensures text { IfOk result (λ bytes. bytes ≡ request_text (record {
+      method = Get;
+      target = target_of url.now;
+      host = host_of url.now;
+      token = None;
+      body = None;
+    })) }
+    ensures err { IfErr result (λ e. e ≡ HttpError.Memory) }
+{
+    let builder = RequestBuilder::get(alloc, url)?;
     let bytes = builder.build()?;
     Ok(Bytes::new(bytes))
 }
@@ -51,9 +102,10 @@ pub(crate) fn status_text(alloc: Global, base: &Url) -> Result<Bytes, CallError>
     ensures err { IfErr result (RefusesBase base.now) }
 {
     let url = scheduler_status(base)?;
-    let builder = RequestBuilder::get(alloc, &url)?;
-    let bytes = builder.build()?;
-    Ok(Bytes::new(bytes))
+    match built_get(alloc, &url) {
+        Ok(bytes) => Ok(bytes),
+        Err(_) => Err(CallError::Memory),
+    }
 }
 
 /// The bytes of the report of a job's state.
@@ -71,11 +123,8 @@ pub(crate) fn state_text(
     ensures err { IfErr result (RefusesBase base.now) }
 {
     let url = scheduler_job_state(alloc, base, job)?;
-    let builder = RequestBuilder::post(alloc, &url)?;
-    let builder = builder.bearer_auth(token)?;
-    let builder = builder.bincode(&state)?;
-    let bytes = builder.build()?;
-    Ok(Bytes::new(bytes))
+    let bytes = posted(alloc, &url, token, &state)?;
+    Ok(bytes)
 }
 
 /// The bytes of a heartbeat.
@@ -86,16 +135,14 @@ pub(crate) fn heartbeat_text(
     token: &str,
     beat: &HeartbeatServerHttpRequest,
 ) -> Result<Bytes, CallError>
-    ensures text { IfOk result (λ bytes. bytes ≡ request_text (heartbeat_request base.now token.now beat.now)) }
+    ensures text { IfOk result
+        (λ bytes. bytes ≡ request_text (heartbeat_request base.now token.now beat.now)) }
     ensures http { OnOk result (IsHttp base.now) }
     ensures valid { IsValid base.now }
     ensures spelled { OnOk result (SpellsHeartbeat beat.now (spelling.heartbeat_text beat.now)) }
     ensures err { IfErr result (RefusesBase base.now) }
 {
     let url = scheduler_heartbeat_server(base)?;
-    let builder = RequestBuilder::post(alloc, &url)?;
-    let builder = builder.bearer_auth(token)?;
-    let builder = builder.bincode(beat)?;
-    let bytes = builder.build()?;
-    Ok(Bytes::new(bytes))
+    let bytes = posted(alloc, &url, token, beat)?;
+    Ok(bytes)
 }

@@ -1,6 +1,7 @@
-//! The requests that go to the server of a job. They are written from its address, and not over a URL, which writes some
-//! addresses otherwise and leaves out port 80.
-ghost use Rattle.std.specs.Prelude.{◌≡◌, ◌≤◌, ◌<◌, ◌^◌, ◌⊎◌, ◌++◌, ℕ, List, Ok, Result, ⊤, codes, string_bytes, length, OnOk, IfOk, IfErr};
+//! The requests that go to the server of a job. They are written from its address, and not over a URL, which
+//! writes some addresses otherwise and leaves out port 80.
+ghost use Rattle.std.specs.Prelude.{◌≡◌, ◌≤◌, ◌<◌, ◌^◌, ◌⊎◌, ◌++◌, ℕ, List, Ok, Result, ⊤, codes};
+ghost use Rattle.std.specs.Prelude.{string_bytes, length, OnOk, IfOk, IfErr};
 ghost use Rattle.std.specs.Fmt.{decimal};
 ghost use Rattle.dist_types.specs.Addr.{addr_text, IsAddr};
 ghost use Rattle.dist_types.specs.declared.token_error.TokenError.{TokenError};
@@ -12,15 +13,16 @@ ghost use Rattle.http_routes.specs.ServerRoute.{AsksSubmit, AsksRun};
 ghost use Rattle.http_routes.specs.Written.{post_with, submit_with, run_with};
 ghost use Rattle.http_calls.specs.Client.{PacksBody, PacksRequest, first_of};
 
+use crate::builder::{RequestBuilder, ReqwestRequestBuilderExt};
 use crate::error::CallError;
 use dist_types::addr::Addr;
 use dist_types::ids::{JobId, ServerId};
 use dist_types::results::JobAlloc;
-use dist_types::text::{Bytes, Text};
+use dist_types::text::Bytes;
 use dist_wire::error::WireError;
 use dist_wire::message::Message;
 use dist_wire::run::RunJobHttpRequest;
-use http_head::written_request::{Method, WrittenRequest};
+use http_head::error::HttpError;
 use path_pkg::fault::PackFault;
 use path_pkg::packagers::InputsPackager;
 use path_pkg::unix::PathTransformer;
@@ -41,27 +43,28 @@ fn fits(addr: Addr)
 }
 
 /// The bytes of a POST under a token.
-fn posted(
-    alloc: Global,
-    target: String,
-    host: String,
-    token: &str,
-    body: Bytes,
-) -> Result<Bytes, CallError>
+fn built(target: String, host: String, token: &str, body: Bytes) -> Result<Bytes, HttpError>
+    ensures text { IfOk result (λ bytes. bytes
+        ≡ request_text (post_with (string_bytes target) (string_bytes host) token.now body)) }
+    ensures err { IfErr result (λ e. e ≡ HttpError.Memory) }
+{
+    let builder = RequestBuilder::post_to(target, host);
+    let builder = builder.bearer_auth(token)?;
+    let builder = builder.bytes(body.into_inner())?;
+    let bytes = builder.build()?;
+    Ok(Bytes::new(bytes))
+}
+
+/// The same as a part of a call.
+fn posted(target: String, host: String, token: &str, body: Bytes) -> Result<Bytes, CallError>
     ensures text { IfOk result (λ bytes. bytes
         ≡ request_text (post_with (string_bytes target) (string_bytes host) token.now body)) }
     ensures err { IfErr result (λ e. e ≡ CallError.Memory) }
 {
-    let token = Text::of(alloc, token)?;
-    let written = WrittenRequest {
-        method: Method::Post,
-        target: Text::new(target),
-        host: Text::new(host),
-        token: Some(token),
-        body: Some(body),
-    };
-    let bytes = written.bytes(alloc)?;
-    Ok(bytes)
+    match built(target, host, token, body) {
+        Ok(bytes) => Ok(bytes),
+        Err(_) => Err(CallError::Memory),
+    }
 }
 
 /// The bytes of the request that brings a job's archive.
@@ -80,13 +83,13 @@ fn submit_text(
     let target = format!(in alloc; "/api/v1/distserver/submit_toolchain/{job}")?;
     let host = format!(in alloc; "{server}")?;
     let body = Bytes::from_slice(alloc, archive)?;
-    let bytes = posted(alloc, target, host, token, body)?;
+    let bytes = posted(target, host, token, body)?;
     Ok(bytes)
 }
 
-/// The request that brings the archive of a job to its server, under the job's token. Refused for want of memory alone.
-/// Where the token is one that a field carries and the request is within the limits, it is read as that job's archive by
-/// each server that accepts the token for the job.
+/// The request that brings the archive of a job to its server, under the job's token. Refused for want of
+/// memory alone. Where the token is one that a field carries and the request is within the limits, it is read
+/// as that job's archive by each server that accepts the token for the job.
 pub(crate) fn submit_request(
     alloc: Global,
     server: ServerId,
@@ -107,7 +110,8 @@ pub(crate) fn submit_request(
     Ok(bytes)
 }
 
-/// The body of a run: HeadTooLong exactly where the head has 2^32 bytes or more; else refused for want of memory alone.
+/// The body of a run: HeadTooLong exactly where the head has 2^32 bytes or more; else refused for want of
+/// memory alone.
 #[tactic(auto, unfolding(http_routes::specs::RunHead::run_body))]
 fn run_body(alloc: Global, run: &RunJobHttpRequest, inputs: &[u8]) -> Result<Bytes, CallError>
     ensures body { IfOk result (λ bytes. bytes ≡ run_body run.now inputs.now) }
@@ -130,14 +134,15 @@ fn run_body(alloc: Global, run: &RunJobHttpRequest, inputs: &[u8]) -> Result<Byt
     Ok(Bytes::new(bytes))
 }
 
-/// The body of a run whose inputs a packager packs: HeadTooLong exactly where the head has 2^32 bytes or more, and then
-/// the packager is not called.
+/// The body of a run whose inputs a packager packs: HeadTooLong exactly where the head has 2^32 bytes or
+/// more, and then the packager is not called.
 fn packed_body(
     alloc: Global,
     run: &RunJobHttpRequest,
     inputs: &mut dyn InputsPackager,
 ) -> Result<(Bytes, PathTransformer), CallError>
-    ensures { PacksBody (inputs.new ≡ inputs.old) (packs inputs.old) (refusals inputs.old) (refusals inputs.new) run.now (first_of result) }
+    ensures { PacksBody (inputs.new ≡ inputs.old) (packs inputs.old) (refusals inputs.old)
+        (refusals inputs.new) run.now (first_of result) }
 {
     let mut body = match run_body(alloc, run, &[]) {
         Ok(body) => body.into_inner(),
@@ -166,18 +171,20 @@ fn run_posted(
 {
     let target = format!(in alloc; "/api/v1/distserver/run_job/{job}")?;
     let host = format!(in alloc; "{server}")?;
-    let bytes = posted(alloc, target, host, token, body)?;
+    let bytes = posted(target, host, token, body)?;
     Ok(bytes)
 }
 
-/// The request that asks a job's server to run it with the inputs that a packager packs, under the job's token.
+/// The request that asks a job's server to run it with the inputs that a packager packs, under the job's
+/// token.
 pub(crate) fn packed_request(
     alloc: Global,
     job: &JobAlloc,
     run: &RunJobHttpRequest,
     inputs: &mut dyn InputsPackager,
 ) -> Result<(Bytes, PathTransformer), CallError>
-    ensures { PacksRequest (inputs.new ≡ inputs.old) (packs inputs.old) (refusals inputs.old) (refusals inputs.new) job.now run.now (first_of result) }
+    ensures { PacksRequest (inputs.new ≡ inputs.old) (packs inputs.old) (refusals inputs.old)
+        (refusals inputs.new) job.now run.now (first_of result) }
 {
     match packed_body(alloc, run, inputs) {
         Ok((body, transformer)) => {
@@ -210,13 +217,14 @@ fn run_text(
     let body = run_body(alloc, run, inputs)?;
     let target = format!(in alloc; "/api/v1/distserver/run_job/{job}")?;
     let host = format!(in alloc; "{server}")?;
-    let bytes = posted(alloc, target, host, token, body)?;
+    let bytes = posted(target, host, token, body)?;
     Ok(bytes)
 }
 
-/// The request that asks a job's server to run it, under the job's token: HeadTooLong exactly where the head has 2^32
-/// bytes or more; else refused for want of memory alone. Where the token is one that a field carries and the request is
-/// within the limits, it is read as that run with those inputs by each server that accepts the token for the job.
+/// The request that asks a job's server to run it, under the job's token: HeadTooLong exactly where the head
+/// has 2^32 bytes or more; else refused for want of memory alone. Where the token is one that a field carries
+/// and the request is within the limits, it is read as that run with those inputs by each server that accepts
+/// the token for the job.
 pub(crate) fn run_request(
     alloc: Global,
     server: ServerId,

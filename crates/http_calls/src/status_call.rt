@@ -36,9 +36,9 @@ impl Model for StatusCall {
 }
 
 impl StatusCall {
-    /// The call that asks the scheduler at that base for its status, with no token: BadBase exactly where the base's
-    /// scheme is not `http`; else refused for want of memory alone. Where the request is within the limits, it is read
-    /// as one for the status.
+    /// The call that asks the scheduler at that base for its status, with no token: BadBase exactly where the
+    /// base's scheme is not `http`; else refused for want of memory alone. Where the request is within the
+    /// limits, it is read as one for the status.
     pub fn start(alloc: Global, base: &Url) -> Result<StatusCall, CallError>
         ensures text { IfOk result (λ call. call ≡ request_text (status_request base.now)) }
         ensures asks { IfOk result (λ call. IsWithinLimits (status_request base.now)
@@ -58,8 +58,8 @@ impl StatusCall {
         self.request.get()
     }
 
-    /// The answer, by the reply that came: LinkFault exactly where none came; else what the reply says, unless memory
-    /// ran out.
+    /// The answer, by the reply that came: LinkFault exactly where none came; else what the reply says,
+    /// unless memory ran out.
     pub fn resume(self, reply: Result<&[u8], Failed>) -> Result<SchedulerStatusResult, CallError>
         ensures told { Resumes wire.status_at reply.entry result }
         ensures link { (result ≡ Err CallError.LinkFault) ↔ IsErr reply.entry }

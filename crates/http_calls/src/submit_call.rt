@@ -32,11 +32,12 @@ impl Model for SubmitCall {
 }
 
 impl SubmitCall {
-    /// The call that brings a job's server its archive, under the job's token. Refused for want of memory alone. Where
-    /// the token is one that a field carries and the request is within the limits, it is read as that job's archive by
-    /// each server that accepts the token for the job.
+    /// The call that brings a job's server its archive, under the job's token. Refused for want of memory
+    /// alone. Where the token is one that a field carries and the request is within the limits, it is read as
+    /// that job's archive by each server that accepts the token for the job.
     pub fn start(alloc: Global, job: &JobAlloc, archive: &[u8]) -> Result<SubmitCall, CallError>
-        ensures text { IfOk result (λ call. call ≡ request_text (written.submit_request job.now archive.now)) }
+        ensures text { IfOk result
+            (λ call. call ≡ request_text (written.submit_request job.now archive.now)) }
         ensures asks { IfOk result (λ call. IsToken job.now.auth
             → IsWithinLimits (written.submit_request job.now archive.now)
             → (verdict : ℕ → List ℕ → Result ⊤ TokenError) → verdict job.now.job_id.0 job.now.auth ≡ Ok tt
@@ -54,8 +55,8 @@ impl SubmitCall {
         self.request.get()
     }
 
-    /// The answer, by the reply that came: LinkFault exactly where none came; else what the reply says, unless memory
-    /// ran out.
+    /// The answer, by the reply that came: LinkFault exactly where none came; else what the reply says,
+    /// unless memory ran out.
     pub fn resume(self, reply: Result<&[u8], Failed>) -> Result<SubmitToolchainResult, CallError>
         ensures told { Resumes wire.submit_at reply.entry result }
         ensures link { (result ≡ Err CallError.LinkFault) ↔ IsErr reply.entry }

@@ -24,8 +24,8 @@ fn tested(base: &Url) -> Result<(), CallError>
     }
 }
 
-/// The base with another path, and with no query and no fragment. Refused for want of memory alone: no join of an
-/// absolute path to an `http` base is refused for another cause.
+/// The base with another path, and with no query and no fragment. Refused for want of memory alone: no join
+/// of an absolute path to an `http` base is refused for another cause.
 #[tactic(auto, using(crate::proofs::JoinLemmas::joined_is))]
 fn joined(base: &Url, path: &str) -> Result<Url, CallError>
     requires http { IsHttp base.now }
@@ -40,8 +40,8 @@ fn joined(base: &Url, path: &str) -> Result<Url, CallError>
     }
 }
 
-/// Where a job is asked for: BadBase exactly where the base's scheme is not `http`; else refused for want of memory
-/// alone.
+/// Where a job is asked for: BadBase exactly where the base's scheme is not `http`; else refused for want of
+/// memory alone.
 #[tactic(auto, using(crate::proofs::CallLemmas::alloc_path))]
 pub fn scheduler_alloc_job(base: &Url) -> Result<Url, CallError>
     ensures http { OnOk result (IsHttp base.now) }
@@ -54,8 +54,8 @@ pub fn scheduler_alloc_job(base: &Url) -> Result<Url, CallError>
     Ok(url)
 }
 
-/// Where a server's heartbeat is told: BadBase exactly where the base's scheme is not `http`; else refused for want of
-/// memory alone.
+/// Where a server's heartbeat is told: BadBase exactly where the base's scheme is not `http`; else refused
+/// for want of memory alone.
 #[tactic(auto, using(crate::proofs::CallLemmas::heartbeat_path))]
 pub fn scheduler_heartbeat_server(base: &Url) -> Result<Url, CallError>
     ensures http { OnOk result (IsHttp base.now) }
@@ -68,8 +68,8 @@ pub fn scheduler_heartbeat_server(base: &Url) -> Result<Url, CallError>
     Ok(url)
 }
 
-/// Where the status is asked for: BadBase exactly where the base's scheme is not `http`; else refused for want of memory
-/// alone.
+/// Where the status is asked for: BadBase exactly where the base's scheme is not `http`; else refused for
+/// want of memory alone.
 #[tactic(auto, using(crate::proofs::CallLemmas::status_path))]
 pub fn scheduler_status(base: &Url) -> Result<Url, CallError>
     ensures http { OnOk result (IsHttp base.now) }
@@ -82,8 +82,8 @@ pub fn scheduler_status(base: &Url) -> Result<Url, CallError>
     Ok(url)
 }
 
-/// Where a job's state is told: BadBase exactly where the base's scheme is not `http`; else refused for want of
-/// memory alone.
+/// Where a job's state is told: BadBase exactly where the base's scheme is not `http`; else refused for want
+/// of memory alone.
 #[tactic(auto, using(crate::proofs::CallLemmas::state_path))]
 pub fn scheduler_job_state(alloc: Global, base: &Url, job: JobId) -> Result<Url, CallError>
     ensures http { OnOk result (IsHttp base.now) }

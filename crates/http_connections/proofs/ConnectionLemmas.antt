@@ -6,55 +6,45 @@ use Rattle.dist_types.specs.Content.{Added, Began}
 use Rattle.http_head.specs.declared.request.Request.{Request}
 use Rattle.http_routes.specs.Reply.{reply_text}
 use Rattle.http_routes.specs.declared.reply.Response.{Response}
-use Rattle.http_connections.specs.Served.{Shown, IsServed, Serves, IsServedBy}
+use Rattle.http_connections.specs.Served.{Shown, Serves, IsServedBy}
 use Rattle.http_connections.specs.Taking.{TakesCut}
 use Rattle.http_connections.specs.declared.served.Served.{Served}
 use Rattle.http_connections.specs.declared.served.Served.TheVariants.{Answered, ReadFault, WriteFault, Memory}
 
 -- what sending a reply does
-pub record Sends (reply : Response) (served : Served) (held now : Option (List ℕ)) (writes risen : ℕ) : Type 0 where
+pub record Sends (reply : Response) (served : Served) (held now : Option (List ℕ))
+    (writes risen : ℕ) : Type 0 where
   pub answered : served ≡ Answered → Added (reply_text reply) held now
   pub failed : served ≡ WriteFault → Rose writes risen × Began (reply_text reply) held now
   pub memory : served ≡ Memory → now ≡ held
   pub no_read : ¬ (served ≡ ReadFault)
 
-sends : {A : Type 0} (replies : Option Request → A → A → Response → Type 0) (old new : Shown) (before after : A) (request : Option Request) (reply : Response) (served : Served)
+sends : {A : Type 0} (replies : Option Request → A → A → Response → Type 0) (old new : Shown)
+    (before after : A) (request : Option Request) (reply : Response) (served : Served)
     → IfSome old.left (λ bytes. TakesCut bytes new.left request) → replies request before after reply
     → Sends reply served old.held new.held old.writes new.writes → Serves replies old new before after served
-sends replies old new before after request reply Answered took did s = (request, reply, took, did, s.answered refl)
-sends replies old new before after request reply WriteFault took did s = ((s.failed refl).0, request, reply, took, did, (s.failed refl).1)
+sends replies old new before after request reply Answered took did s =
+    (request, reply, took, did, s.answered refl)
+sends replies old new before after request reply WriteFault took did s =
+    ((s.failed refl).0, request, reply, took, did, (s.failed refl).1)
 sends replies old new before after request reply ReadFault took did s = absurd (s.no_read refl)
 sends replies old new before after request reply Memory took did s = s.memory refl
 
 -- after the taking, which wrote nothing, and the sending, which read nothing
-pub sent : {A : Type 0} (replies : Option Request → A → A → Response → Type 0) (before after : A) (request : Option Request) (reply : Response) (served : Served)
+pub sent : {A : Type 0} (replies : Option Request → A → A → Response → Type 0) (before after : A)
+    (request : Option Request) (reply : Response) (served : Served)
     (first mid last held wrote now : Option (List ℕ)) (reads risen writes counted after_writes : ℕ)
-    → IfSome first (λ bytes. TakesCut bytes mid request) → mid ≡ last → wrote ≡ held → counted ≡ writes → replies request before after reply
+    → IfSome first (λ bytes. TakesCut bytes mid request) → mid ≡ last → wrote ≡ held → counted ≡ writes
+    → replies request before after reply
     → Sends reply served wrote now counted after_writes
-    → IsServedBy replies (record { left = first; held = held; reads = reads; writes = writes }) (record { left = last; held = now; reads = risen; writes = after_writes }) before after served
-sent replies before after request reply served first mid last held wrote now reads risen writes counted after_writes took same kept steady did s =
+    → IsServedBy replies (record { left = first; held = held; reads = reads; writes = writes })
+    (record { left = last; held = now; reads = risen; writes = after_writes }) before after served
+sent replies before after request reply served first mid last held wrote now reads risen writes counted
+    after_writes took same kept steady did s =
     record {
       serves = sends replies _ _ before after request reply served
           (subst (λ o. IfSome first (λ bytes. TakesCut bytes o request)) same took)
           did
-          (subst (λ n. Sends reply served held now n after_writes) steady (subst (λ o. Sends reply served o now counted after_writes) kept s));
+          (subst (λ n. Sends reply served held now n after_writes) steady
+          (subst (λ o. Sends reply served o now counted after_writes) kept s));
     }
-
--- where the connection tells its bytes
-took_and_replied : (first last held now : Option (List ℕ)) (request : Option Request) (reply : Response)
-    → IfSome first (λ bytes. TakesCut bytes last request) → Added (reply_text reply) held now
-    → IsServed (record { left = first; held = held; reads = 0; writes = 0 }) (record { left = last; held = now; reads = 0; writes = 0 }) Answered
-took_and_replied None last held now request reply took added = tt
-took_and_replied (Some bytes) last held now request reply took added = (took.0, reply, took.1, took.2, added)
-
-tells : {A : Type 0} (replies : Option Request → A → A → Response → Type 0) (old new : Shown) (before after : A) (served : Served)
-    → Serves replies old new before after served → IsServed old new served
-tells replies old new before after Answered (request, reply, took, did, added) = took_and_replied old.left new.left old.held new.held request reply took added
-tells replies old new before after WriteFault s = s.0
-tells replies old new before after ReadFault s = (s.0, s.1)
-tells replies old new before after Memory kept = kept
-
--- what a worker's tasks are told of it
-pub told : {A : Type 0} (replies : Option Request → A → A → Response → Type 0) (old new : Shown) (before after : A) (served : Served)
-    → IsServedBy replies old new before after served → IsServed old new served
-told replies old new before after served s = tells replies old new before after served s.serves

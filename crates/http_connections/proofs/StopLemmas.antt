@@ -1,5 +1,7 @@
 -- Lines, one byte after another, and the stop.
-use Rattle.std.proofs.Common.{◌≡◌, ℕ, ◌+◌, ◌<◌, Bool, true, false, cond, not, ◌&&◌, ◌||◌, ◌==◌, List, [], ◌∷◌, ◌++◌, length, Option, Some, None, refl, sym, ap, ◌∙◌, append_assoc, arith, subst, ◌≢◌}
+use Rattle.std.proofs.Common.{◌≡◌, ℕ, ◌+◌, ◌<◌, Bool, true, false, cond, not, ◌&&◌, ◌||◌, ◌==◌, List, [], ◌∷◌}
+use Rattle.std.proofs.Common.{◌++◌, length, Option, Some, None, refl, sym, ap, ◌∙◌, append_assoc, arith}
+use Rattle.std.proofs.Common.{subst, ◌≢◌}
 use Rattle.std.specs.Prelude.{IfSome}
 use Rattle.std.specs.Option.{option_map}
 use Rattle.std.proofs.lemmas.Grind.{common_steps}
@@ -9,9 +11,11 @@ use Rattle.http_connections.specs.declared.scan.Line.{Line}
 use Rattle.http_connections.specs.declared.scan.Line.TheVariants.{Nothing, Cr, More}
 use Rattle.http_connections.specs.declared.scan.Scan.{Scan}
 use Rattle.http_connections.specs.Scan.{line_of, grown, is_more, Sees}
-use Rattle.http_head.specs.Stop.{Lines, one_more, lines_behind, lines_of, no_lines, is_empty, is_full, empty_after_full, ends_head, is_stop, stop_from, stop_of}
+use Rattle.http_head.specs.Stop.{Lines, one_more, lines_behind, lines_of, no_lines, is_empty, is_full}
+use Rattle.http_head.specs.Stop.{empty_after_full, ends_head, is_stop, stop_from, stop_of}
 
-lines_behind-push : (ls : Lines) (bytes : List ℕ) (b : ℕ) → lines_behind ls (bytes ++ b ∷ []) ≡ one_more (lines_behind ls bytes) b
+lines_behind-push : (ls : Lines) (bytes : List ℕ) (b : ℕ) → lines_behind ls (bytes ++ b ∷ []) ≡ one_more
+    (lines_behind ls bytes) b
 lines_behind-push ls [] b = refl
 lines_behind-push ls (c ∷ bytes) b = lines_behind-push (one_more ls c) bytes b
 
@@ -26,7 +30,8 @@ empty_line (b ∷ c ∷ bytes) = refl
 
 pub line_grows : (line : List ℕ) (b : ℕ) → line_of (line ++ b ∷ []) ≡ grown (line_of line) b
 line_grows [] b = refl
-line_grows (c ∷ []) b = elim (c == 13) as (λ t. More ≡ grown (cond t Cr More) b) [ true ↦ refl | false ↦ refl ]
+line_grows (c ∷ []) b = elim (c == 13) as
+    (λ t. More ≡ grown (cond t Cr More) b) [ true ↦ refl | false ↦ refl ]
 line_grows (c ∷ d ∷ bytes) b = refl
 
 -- the bytes so far are no stop, nor is a front of them
@@ -38,26 +43,32 @@ starts None = tt
 starts (Some rest) = refl
 
 -- one byte more, which is no stop
-pub goes_on : (out : List ℕ) (b : ℕ) (old new : Option (List ℕ)) → Taken (b ∷ []) old new → GoesOn out old → is_stop (out ++ b ∷ []) ≡ false
+pub goes_on : (out : List ℕ) (b : ℕ) (old new : Option (List ℕ)) → Taken (b ∷ []) old new → GoesOn out old
+    → is_stop (out ++ b ∷ []) ≡ false
     → GoesOn (out ++ b ∷ []) new
 goes_on out b old None taken goes fails = tt
 goes_on out b old (Some rest) taken goes fails =
     ap stop_of (append_assoc out (b ∷ []) rest)
-    ∙ (subst (GoesOn out) taken goes ∙ ap (λ t. cond t (out ++ b ∷ []) (stop_from (out ++ b ∷ []) rest)) fails)
+    ∙ (subst (GoesOn out) taken goes ∙ ap (λ t. cond t (out ++ b ∷ []) (stop_from (out ++ b ∷ []) rest))
+    fails)
 
 -- one byte more, which is the stop
-pub stops : (out : List ℕ) (b : ℕ) (first old new : Option (List ℕ)) → Taken out first old → Taken (b ∷ []) old new → GoesOn out old → is_stop (out ++ b ∷ []) ≡ true
+pub stops : (out : List ℕ) (b : ℕ) (first old new : Option (List ℕ)) → Taken out first old
+    → Taken (b ∷ []) old new → GoesOn out old → is_stop (out ++ b ∷ []) ≡ true
     → IfSome first (λ bytes. stop_of bytes ≡ out ++ b ∷ [])
 stops out b None old new before taken goes holds = tt
 stops out b (Some bytes) (Some left) (Some rest) before taken goes holds =
     let all : bytes ≡ out ++ left = cc before in
     let tail : left ≡ b ∷ rest = cc taken in
-    ap stop_of all ∙ (ap (λ l. stop_of (out ++ l)) tail ∙ (subst (GoesOn out) taken goes ∙ ap (λ t. cond t (out ++ b ∷ []) (stop_from (out ++ b ∷ []) rest)) holds))
+    ap stop_of all ∙ (ap (λ l. stop_of (out ++ l)) tail
+    ∙ (subst (GoesOn out) taken goes ∙ ap (λ t. cond t (out ++ b ∷ []) (stop_from (out ++ b ∷ []) rest))
+    holds))
 stops out b (Some bytes) None new before taken goes holds = absurd (cc before)
 stops out b (Some bytes) (Some left) None before taken goes holds = absurd (cc taken)
 
 -- at the end of the bytes, all are the stop
-pub ended : (out : List ℕ) (first old : Option (List ℕ)) → Taken out first old → GoesOn out old → IfSome old (λ rest. rest ≡ [])
+pub ended : (out : List ℕ) (first old : Option (List ℕ)) → Taken out first old → GoesOn out old
+    → IfSome old (λ rest. rest ≡ [])
     → IfSome first (λ bytes. stop_of bytes ≡ out)
 ended out None old before goes end = tt
 ended out (Some bytes) None before goes end = absurd (cc before)
@@ -66,7 +77,8 @@ ended out (Some bytes) (Some left) before goes end =
     ap stop_of all ∙ (goes ∙ ap (stop_from out) end)
 
 -- whether the bytes are a stop, by the last of them
-pub stop_by_end : (out : List ℕ) (b : ℕ) (t : Bool) → t ≡ ends_head (one_more (lines_of out) b) → t ≡ true → is_stop (out ++ b ∷ []) ≡ true
+pub stop_by_end : (out : List ℕ) (b : ℕ) (t : Bool) → t ≡ ends_head (one_more (lines_of out) b) → t ≡ true
+    → is_stop (out ++ b ∷ []) ≡ true
 unfolding is_stop
 stop_by_end out b t is holds = rw (lines-push, ← is, holds) (grind (arith, common_steps))
 
@@ -74,7 +86,8 @@ pub stop_by_length : (out : List ℕ) (b : ℕ) → length (out ++ b ∷ []) ≡
 unfolding is_stop
 stop_by_length out b is = rw is refl
 
-pub no_stop : (out : List ℕ) (b : ℕ) (t : Bool) → t ≡ ends_head (one_more (lines_of out) b) → t ≡ false → length (out ++ b ∷ []) ≢ 65537 → is_stop (out ++ b ∷ []) ≡ false
+pub no_stop : (out : List ℕ) (b : ℕ) (t : Bool) → t ≡ ends_head (one_more (lines_of out) b) → t ≡ false
+    → length (out ++ b ∷ []) ≢ 65537 → is_stop (out ++ b ∷ []) ≡ false
 unfolding is_stop
 no_stop out b t is fails short =
     let a : (length (out ++ b ∷ []) == 65537) ≡ false = grind (arith, nat_tests, short) in

@@ -1,5 +1,6 @@
 -- The cut, put together from the stop, its head and the body.
-use Rattle.std.proofs.Common.{◌≡◌, ◌≢◌, ℕ, ◌+◌, ◌<◌, ◌≤◌, ◌⊎◌, List, [], ◌++◌, length, take, drop, Option, Some, None, refl, sym, ap, ◌∙◌, inl, inr, subst, map, arith}
+use Rattle.std.proofs.Common.{◌≡◌, ◌≢◌, ℕ, ◌+◌, ◌<◌, ◌≤◌, ◌⊎◌, List, [], ◌++◌, length, take, drop, Option}
+use Rattle.std.proofs.Common.{Some, None, refl, sym, ap, ◌∙◌, inl, inr, subst, map, arith}
 use Rattle.std.specs.Prelude.{IfSome}
 use Rattle.std.proofs.lemmas.List.{append-nil, length-drop, take_at, take_all}
 use Rattle.std.proofs.Math.Seq.{take-append-add, drop-length}
@@ -18,19 +19,22 @@ use Rattle.http_head.specs.Stop.{stop_of}
 use Rattle.http_connections.specs.Taking.{IsBodyAt, TakesCut}
 
 -- the cut, which is the head h and the body
-pub record CutAt (bytes : List ℕ) (new : Option (List ℕ)) (h : RequestHead) (body : List ℕ) (n : ℕ) : Type 0 where
+pub record CutAt (bytes : List ℕ) (new : Option (List ℕ)) (h : RequestHead) (body : List ℕ)
+    (n : ℕ) : Type 0 where
   pub cut : List ℕ
   pub is : IsCut bytes cut
   pub taken : Taken cut (Some bytes) new
   pub announces : Announces cut h body n
 
 -- n bytes of those that are left, or all that are
-front_of : (body rest : List ℕ) (n : ℕ) → length body ≤ n → (length body ≡ n) ⊎ (rest ≡ []) → take n (body ++ rest) ≡ body
+front_of : (body rest : List ℕ) (n : ℕ) → length body ≤ n → (length body ≡ n) ⊎ (rest ≡ [])
+    → take n (body ++ rest) ≡ body
 front_of body rest n few (inl is) = take_at body rest n is
 front_of body rest n few (inr is) = rw (is, append-nil) (take_all n body few)
 
 cut_behind : (bytes stop body : List ℕ) (mid new : Option (List ℕ)) (h : RequestHead) (n : ℕ)
-    → stop_of bytes ≡ stop → Taken stop (Some bytes) mid → Announces stop h [] n → Taken body mid new → length body ≤ n → (length body ≡ n) ⊎ IsAtEnd new
+    → stop_of bytes ≡ stop → Taken stop (Some bytes) mid → Announces stop h [] n → Taken body mid new
+    → length body ≤ n → (length body ≡ n) ⊎ IsAtEnd new
     → CutAt bytes new h body n
 cut_behind bytes stop body None new h n is before announces behind few all = absurd (cc before)
 cut_behind bytes stop body (Some left) None h n is before announces behind few all = absurd (cc behind)
@@ -39,20 +43,30 @@ cut_behind bytes stop body (Some left) (Some rest) h n is before announces behin
     let second : left ≡ body ++ rest = cc behind in
     let head : stop ≡ print_request h = announces.opens.reads.1 ∙ append-nil (print_request h) in
     let whole : take (length stop + n) bytes ≡ stop ++ body =
-    rw (first, second) (take-append-add stop (body ++ rest) n ∙ ap (λ l. stop ++ l) (front_of body rest n few all)) in
+    rw (first, second) (take-append-add stop (body ++ rest) n
+    ∙ ap (λ l. stop ++ l) (front_of body rest n few all)) in
     record {
       cut = stop ++ body;
-      is = inl (n, (h, subst (λ s. Opens s h []) (sym is) announces.opens, announces.body), sym whole ∙ ap (λ s. take (length s + n) bytes) (sym is));
+      is = inl (
+        n,
+        (h, subst (λ s. Opens s h []) (sym is) announces.opens, announces.body),
+        sym whole
+            ∙ ap (λ s. take (length s + n) bytes) (sym is),
+      );
       taken = taken_then stop body (Some bytes) (Some left) (Some rest) before behind;
       announces = record {
-        opens = record { reads = (announces.opens.reads.0, ap (λ s. s ++ body) head); within = announces.opens.within };
+        opens = record {
+          reads = (announces.opens.reads.0, ap (λ s. s ++ body) head);
+          within = announces.opens.within;
+        };
         body = announces.body;
       };
     }
 
 -- a head that is not the whole stop
 cut_within : (bytes stop : List ℕ) (mid : Option (List ℕ)) (h : RequestHead) (len n : ℕ)
-    → stop_of bytes ≡ stop → Taken stop (Some bytes) mid → Announces stop h (drop len stop) n → len < length stop
+    → stop_of bytes ≡ stop → Taken stop (Some bytes) mid → Announces stop h (drop len stop) n
+    → len < length stop
     → CutAt bytes mid h (drop len stop) n
 cut_within bytes stop mid h len n is before announces more = record {
   cut = stop;
@@ -69,25 +83,37 @@ cut_within bytes stop mid h len n is before announces more = record {
 
 -- the cut of a stop that begins with a head
 cut_at : (bytes stop body : List ℕ) (mid new : Option (List ℕ)) (head : Head) (h : RequestHead)
-    → stop_of bytes ≡ stop → Taken stop (Some bytes) mid → IsOpening stop head h → IsBodyAt stop head.len head.body_len body mid new
+    → stop_of bytes ≡ stop → Taken stop (Some bytes) mid → IsOpening stop head h
+    → IsBodyAt stop head.len head.body_len body mid new
     → CutAt bytes new h body head.body_len
 cut_at bytes stop body mid new head h is before x (inl (whole, behind, few, all)) =
     let nothing : drop head.len stop ≡ [] = ap (λ k. drop k stop) whole ∙ drop-length stop in
-    cut_behind bytes stop body mid new h head.body_len is before (subst (λ r. Announces stop h r head.body_len) nothing x.announces) behind few all
+    cut_behind bytes stop body mid new h head.body_len is before
+    (subst (λ r. Announces stop h r head.body_len) nothing x.announces) behind few all
 cut_at bytes stop body mid new head h is before x (inr (more, rest, same)) =
     subst (λ r. CutAt bytes new h r head.body_len) (sym rest)
-    (subst (λ o. CutAt bytes o h (drop head.len stop) head.body_len) (sym same) (cut_within bytes stop mid h head.len head.body_len is before x.announces more))
+    (subst (λ o. CutAt bytes o h (drop head.len stop) head.body_len) (sym same)
+    (cut_within bytes stop mid h head.len head.body_len is before x.announces more))
 
 -- the request of a head and a body
 abbrev pub request_of : Head → List ℕ → Request
-request_of head body = record { method = head.method; target = head.target; headers = head.headers; body = body }
+request_of head body = record {
+  method = head.method;
+  target = head.target;
+  headers = head.headers;
+  body = body;
+}
 
-pub has_no_head : (first mid : Option (List ℕ)) (stop : List ℕ) → IfSome first (λ bytes. stop_of bytes ≡ stop) → Taken stop first mid → AnnouncesNone stop
+pub has_no_head : (first mid : Option (List ℕ)) (stop : List ℕ) → IfSome first (λ bytes. stop_of bytes ≡ stop)
+    → Taken stop first mid → AnnouncesNone stop
     → IfSome first (λ bytes. TakesCut bytes mid None)
 has_no_head None mid stop is before none = tt
 has_no_head (Some bytes) mid stop is before none = (
   stop,
-  inr ((λ n (h, y, said). none h [] n (record { opens = subst (λ s. Opens s h []) is y; body = said })), sym is),
+  inr (
+    (λ n (h, y, said). none h [] n (record { opens = subst (λ s. Opens s h []) is y; body = said })),
+    sym is,
+  ),
   before,
   (λ r (h, y). none h r.body (length r.body) (record { opens = y.opens; body = y.body })),
 )
@@ -126,7 +152,8 @@ is_no_request (Some bytes) mid new stop body head is before (h, x) behind other 
       at.taken,
       (λ r (k, y).
           let same = request_unique at.cut h k body r.body at.announces.opens.reads y.opens.reads in
-          let said : Some head.body_len ≡ Some (length r.body) = sym at.announces.body ∙ (ap (λ t. body_length (map name_and_value t.fields)) same.0 ∙ y.body) in
+          let said : Some head.body_len ≡ Some (length r.body) = sym at.announces.body
+          ∙ (ap (λ t. body_length (map name_and_value t.fields)) same.0 ∙ y.body) in
           let count : head.body_len ≡ length r.body = cc said in
           other (ap length same.1 ∙ sym count)),
     )

@@ -1,66 +1,99 @@
 -- What a kit gave and got back, one connection after another.
-use Rattle.std.proofs.Common.{◌≡◌, List, [], ◌∷◌, ◌++◌, Option, Some, None, refl, sym, ap, ◌∙◌, append_assoc, subst}
+use Rattle.std.proofs.Common.{◌≡◌, List, [], ◌∷◌, ◌++◌, Option, Some, None, refl, sym, ap, ◌∙◌, append_assoc}
+use Rattle.std.proofs.Common.{subst}
 use Rattle.std.specs.Prelude.{IfSome}
 use Rattle.std.proofs.lemmas.List.{append-nil}
 use Rattle.dist_types.specs.declared.addr.Addr.{Addr}
-use Rattle.http_connections.specs.Served.{Shown, IsServed}
+use Rattle.http_head.specs.declared.request.Request.{Request}
+use Rattle.http_routes.specs.declared.reply.Response.{Response}
+use Rattle.http_connections.specs.Served.{Shown, IsServedBy}
 use Rattle.http_connections.specs.declared.served.Served.{Served}
 use Rattle.http_connections.specs.Tally.{Tally, Gave, GotBack, AllServed, Worked}
 
 -- so many went and came back, and these are left
-pub record Went {L : Type 0} (shown : L → Shown) (old : Tally L) (new : Option (Tally L)) : Type 0 where
+pub record Went {L A : Type 0} (replies : Addr → Option Request → A → A → Response → Type 0)
+    (shown : L → Shown) (old : Tally L) (new : Option (Tally L)) (before after : A) : Type 0 where
   pub gone : List (L × Addr)
   pub back : List (L × Served)
   pub rest : List (L × Addr)
   pub all : old.coming ≡ gone ++ rest
   pub now : new ≡ Some (record { coming = rest; came = old.came ++ back })
-  pub served : AllServed shown gone back
+  pub served : AllServed replies shown gone back before after
 
-abbrev pub SoFar : {L : Type 0} → (L → Shown) → Option (Tally L) → Option (Tally L) → Type 0
-SoFar shown old new = IfSome old (λ t. Went shown t new)
+abbrev pub SoFar : {L A : Type 0} → (Addr → Option Request → A → A → Response → Type 0) → (L → Shown)
+    → Option (Tally L) → Option (Tally L) → A → A → Type 0
+SoFar replies shown old new before after = IfSome old (λ t. Went replies shown t new before after)
 
-pub none_yet : {L : Type 0} (shown : L → Shown) (old : Option (Tally L)) → SoFar shown old old
-none_yet shown None = tt
-none_yet shown (Some t) = record { gone = []; back = []; rest = t.coming; all = refl; now = ap (λ c. Some (record { coming = t.coming; came = c })) (sym (append-nil t.came)); served = tt }
+pub none_yet : {L A : Type 0} (replies : Addr → Option Request → A → A → Response → Type 0)
+    (shown : L → Shown) (old : Option (Tally L)) (a : A) → SoFar replies shown old old a a
+none_yet replies shown None a = tt
+none_yet replies shown (Some t) a = record {
+  gone = [];
+  back = [];
+  rest = t.coming;
+  all = refl;
+  now = ap (λ c. Some (record { coming = t.coming; came = c })) (sym (append-nil t.came));
+  served = refl;
+}
 
-served-push : {L : Type 0} (shown : L → Shown) (gone : List (L × Addr)) (back : List (L × Served)) (given : L × Addr) (b : L × Served)
-    → AllServed shown gone back → IsServed (shown given.0) (shown b.0) b.1 → AllServed shown (gone ++ given ∷ []) (back ++ b ∷ [])
-served-push shown [] [] given b all one = (one, tt)
-served-push shown [] (c ∷ back) given b all one = absurd all
-served-push shown (l ∷ gone) [] given b all one = absurd all
-served-push shown (l ∷ gone) (c ∷ back) given b all one = (all.0, served-push shown gone back given b all.1 one)
+served-push : {L A : Type 0} (replies : Addr → Option Request → A → A → Response → Type 0) (shown : L → Shown)
+    (gone : List (L × Addr)) (back : List (L × Served)) (given : L × Addr) (b : L × Served)
+    (before between after : A)
+    → AllServed replies shown gone back before between → IsServedBy (replies given.1) (shown given.0)
+    (shown b.0) between after b.1
+    → AllServed replies shown (gone ++ given ∷ []) (back ++ b ∷ []) before after
+served-push replies shown [] [] given b before between after all one =
+    (after, subst (λ a. IsServedBy (replies given.1) (shown given.0) (shown b.0) a after b.1) all one, refl)
+served-push replies shown [] (c ∷ back) given b before between after all one = absurd all
+served-push replies shown (l ∷ gone) [] given b before between after all one = absurd all
+served-push replies shown (l ∷ gone) (c ∷ back) given b before between after all one =
+    (all.0, all.1, served-push replies shown gone back given b all.0 between after all.2 one)
 
 some_is : {L : Type 0} (x y : Tally L) → Some x ≡ Some y → x ≡ y
 some_is x y e = cc e
 
 -- one link more
-pub one_more : {L : Type 0} (shown : L → Shown) (first old mid new : Option (Tally L)) (given : L × Addr) (after : L) (served : Served)
-    → SoFar shown first old → Gave given old mid → GotBack after served mid new → IsServed (shown given.0) (shown after) served → SoFar shown first new
-one_more shown None old mid new given after served so_far gave got is = tt
-one_more shown (Some t) old None new given after served so_far gave got is = absurd (cc (so_far.now, gave))
-one_more {L} shown (Some t) old (Some m) new given after served so_far gave got is =
-    let both = some_is {L = L} (record { coming = so_far.rest; came = t.came ++ so_far.back }) (record { coming = given ∷ m.coming; came = m.came }) (sym so_far.now ∙ gave) in
+pub one_more : {L A : Type 0} (replies : Addr → Option Request → A → A → Response → Type 0)
+    (shown : L → Shown) (first old mid new : Option (Tally L)) (given : L × Addr) (back : L) (served : Served)
+    (before between after : A)
+    → SoFar replies shown first old before between → Gave given old mid → GotBack back served mid new
+    → IsServedBy (replies given.1) (shown given.0) (shown back) between after served
+    → SoFar replies shown first new before after
+one_more replies shown None old mid new given back served before between after so_far gave got is = tt
+one_more replies shown (Some t) old None new given back served before between after so_far gave got is =
+    absurd (cc (so_far.now, gave))
+one_more {L} replies shown (Some t) old (Some m) new given back served before between after so_far gave got is
+    =
+    let both = some_is {L = L} (record { coming = so_far.rest; came = t.came ++ so_far.back })
+    (record { coming = given ∷ m.coming; came = m.came }) (sym so_far.now ∙ gave) in
     let rest : so_far.rest ≡ given ∷ m.coming = ap (λ (x : Tally L). x.coming) both in
     let came : m.came ≡ t.came ++ so_far.back = sym (ap (λ (x : Tally L). x.came) both) in
     record {
       gone = so_far.gone ++ given ∷ [];
-      back = so_far.back ++ (after, served) ∷ [];
+      back = so_far.back ++ (back, served) ∷ [];
       rest = m.coming;
-      all = so_far.all ∙ (ap (λ r. so_far.gone ++ r) rest ∙ sym (append_assoc so_far.gone (given ∷ []) m.coming));
-      now = got ∙ ap (λ c. Some (record { coming = m.coming; came = c })) (ap (λ c. c ++ (after, served) ∷ []) came ∙ append_assoc t.came so_far.back ((after, served) ∷ []));
-      served = served-push shown so_far.gone so_far.back given (after, served) so_far.served is;
+      all = so_far.all ∙ (ap (λ r. so_far.gone ++ r) rest
+          ∙ sym (append_assoc so_far.gone (given ∷ []) m.coming));
+      now = got ∙ ap (λ c. Some (record { coming = m.coming; came = c }))
+          (ap (λ c. c ++ (back, served) ∷ []) came ∙ append_assoc t.came so_far.back ((back, served) ∷ []));
+      served = served-push replies shown so_far.gone so_far.back given (back, served) before between after
+          so_far.served is;
     }
 
 -- and none is left
-pub all_came : {L : Type 0} (shown : L → Shown) (first old new : Option (Tally L)) → SoFar shown first old → new ≡ old → IfSome new (λ t. t.coming ≡ [])
-    → Worked shown first new
-all_came shown None old new so_far same none = tt
-all_came shown (Some t) old None so_far same none = absurd (cc (so_far.now, same))
-all_came {L} shown (Some t) old (Some m) so_far same none =
-    let is = some_is {L = L} m (record { coming = so_far.rest; came = t.came ++ so_far.back }) (same ∙ so_far.now) in
+pub all_came : {L A : Type 0} (replies : Addr → Option Request → A → A → Response → Type 0)
+    (shown : L → Shown) (first old new : Option (Tally L)) (before after : A)
+    → SoFar replies shown first old before after → new ≡ old → IfSome new (λ t. t.coming ≡ [])
+    → Worked replies shown first new before after
+all_came replies shown None old new before after so_far same none = tt
+all_came replies shown (Some t) old None before after so_far same none = absurd (cc (so_far.now, same))
+all_came {L} replies shown (Some t) old (Some m) before after so_far same none =
+    let is = some_is {L = L} m (record { coming = so_far.rest; came = t.came ++ so_far.back })
+    (same ∙ so_far.now) in
     let rest : so_far.rest ≡ [] = sym (ap (λ (x : Tally L). x.coming) is) ∙ none in
-    let gone : t.coming ≡ so_far.gone = so_far.all ∙ (ap (λ r. so_far.gone ++ r) rest ∙ append-nil so_far.gone) in (
+    let gone : t.coming ≡ so_far.gone = so_far.all
+    ∙ (ap (λ r. so_far.gone ++ r) rest ∙ append-nil so_far.gone) in (
       so_far.back,
       ap Some is ∙ ap (λ r. Some (record { coming = r; came = t.came ++ so_far.back })) rest,
-      subst (λ l. AllServed shown l so_far.back) (sym gone) so_far.served,
+      subst (λ l. AllServed replies shown l so_far.back before after) (sym gone) so_far.served,
     )

@@ -14,8 +14,8 @@ Reads cut None = IsNoRequest cut
 abbrev pub TakesCut : List ℕ → Option (List ℕ) → Option Request → Type 0
 TakesCut bytes new request = (cut : List ℕ) × IsCut bytes cut × Taken cut (Some bytes) new × Reads cut request
 
--- the body behind a head of so many bytes: where the head is the whole stop, up to n bytes of the connection, and fewer
--- only at its end; else the rest of the stop
+-- the body behind a head of so many bytes: where the head is the whole stop, up to n bytes of the connection,
+-- and fewer only at its end; else the rest of the stop
 abbrev pub IsBodyAt : List ℕ → ℕ → ℕ → List ℕ → Option (List ℕ) → Option (List ℕ) → Type 0
 IsBodyAt stop len n body old new =
     ((len ≡ length stop) × Taken body old new × (length body ≤ n) × ((length body ≡ n) ⊎ IsAtEnd new))

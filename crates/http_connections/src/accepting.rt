@@ -1,7 +1,7 @@
 //! The connections that a listener of the system accepts, as tasks.
 use crate::served::Served;
 use crate::start::Start;
-use crate::stream::{BufferedStream, accepted_link};
+use crate::stream::{BufferedStream, LimitedNet, accepted_link};
 use crate::tasks::Tasks;
 use dist_types::addr::Addr;
 use dist_types::tcp::TcpLink;
@@ -17,7 +17,8 @@ pub const WORKERS: usize = 8;
 /// How long a worker waits behind a connection that was not accepted, in milliseconds.
 const PAUSE_MS: u64 = 10;
 
-/// Accepts connections of one listener, which all workers share, and at most so many by all workers. It tells nothing.
+/// Accepts connections of one listener, which all workers share, and at most so many by all workers. It tells
+/// nothing.
 #[derive(Drop)]
 pub struct Accepting<'a, R: Clock> {
     rt: &'a R,
@@ -47,8 +48,8 @@ fn addr_of(peer: SocketAddr) -> Addr {
 }
 
 impl<'a, R: Clock> Accepting<'a, R> {
-    /// The tasks of one worker: a ticket is drawn before each accept, none past the limit, and a link fails where it
-    /// waits longer than so many milliseconds for a byte to come or to go. It takes no memory.
+    /// The tasks of one worker: a ticket is drawn before each accept, none past the limit, and a link fails
+    /// where it waits longer than so many milliseconds for a byte to come or to go. It takes no memory.
     pub fn new(
         rt: &'a R,
         alloc: Global,
@@ -132,5 +133,10 @@ impl<'a, R: Clock> Sharing<'a, R> {
             self.start.limit,
             self.start.timeout_ms,
         )
+    }
+
+    /// The network for asking peers that answer at once. It takes no memory.
+    pub fn asking(&self) -> LimitedNet<'a, R> {
+        LimitedNet::new(self.rt, self.start.timeout_ms)
     }
 }

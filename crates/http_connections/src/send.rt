@@ -12,7 +12,8 @@ use std::alloc::Global;
 
 /// Writes the reply, whose bytes are all made before the first is written.
 pub fn send<K: Sink>(alloc: Global, link: &mut K, reply: &Response) -> Served
-    ensures answered { result ≡ served.Answered → Added (reply_text reply.now) (K.held link.old) (K.held link.new) }
+    ensures answered { result ≡ served.Answered → Added (reply_text reply.now) (K.held link.old)
+        (K.held link.new) }
     ensures failed { result ≡ served.WriteFault → Rose (K.faults link.old) (K.faults link.new)
         × Began (reply_text reply.now) (K.held link.old) (K.held link.new) }
     ensures memory { result ≡ served.Memory → K.held link.new ≡ K.held link.old }

@@ -14,7 +14,8 @@ pub struct Start {
     pub cpus: u64,
     /// After how many connections the listener ends, where it does.
     pub limit: Option<u64>,
-    /// How long a link waits for a byte to come or to go before it fails, in milliseconds; at least 1.
+    /// How long a link that was accepted, or what is asked of a peer that answers at once, waits for a byte
+    /// to come or to go before it fails, in milliseconds; at least 1.
     pub timeout_ms: u64,
 }
 

@@ -1,5 +1,6 @@
 //! Reading a connection up to where a request's head may end.
-ghost use Rattle.std.specs.Prelude.{◌≡◌, ◌≤◌, IfOk, IfSome, IfNone, OnOk, OnErr, IfErr, Err, ◌≢◌, vec_len, option_to_list};
+ghost use Rattle.std.specs.Prelude.{◌≡◌, ◌≤◌, IfOk, IfSome, IfNone, OnOk, OnErr, IfErr, Err, ◌≢◌, vec_len};
+ghost use Rattle.std.specs.Prelude.{option_to_list};
 ghost use Rattle.dist_types.specs.Cause.{Rose};
 ghost use Rattle.dist_types.specs.Content.{Taken, TookFront, IsAtEnd};
 ghost use Rattle.http_head.specs.Stop.{stop_of};
@@ -30,7 +31,8 @@ fn read_byte<S: Source>(link: &mut S) -> Result<Option<u8>, Failed>
     Ok(Some(byte[0]))
 }
 
-/// Reads a byte at a time, up to the stop. Failed comes only where the count of faults rose, and TooLong never.
+/// Reads a byte at a time, up to the stop. Failed comes only where the count of faults rose, and TooLong
+/// never.
 pub(crate) fn read_stop<S: Source>(alloc: Global, link: &mut S) -> Result<Vec<u8>, ReadError>
     ensures stop { IfOk result (λ s. IfSome (S.left link.old) (λ bytes. stop_of bytes ≡ s.items)) }
     ensures taken { IfOk result (λ s. Taken s.items (S.left link.old) (S.left link.new)) }

@@ -1,5 +1,6 @@
 //! Taking a request: the stop, one parse, and exactly the body behind it.
-ghost use Rattle.std.specs.Prelude.{◌≡◌, ◌≢◌, ◌≤◌, List, ℕ, length, drop, IfOk, IfErr, IfSome, OnOk, OnErr, Err};
+ghost use Rattle.std.specs.Prelude.{◌≡◌, ◌≢◌, ◌≤◌, List, ℕ, length, drop, IfOk, IfErr, IfSome, OnOk, OnErr};
+ghost use Rattle.std.specs.Prelude.{Err};
 ghost use Rattle.dist_types.specs.Cause.{Rose};
 ghost use Rattle.dist_types.specs.Content.{TookFront};
 ghost use Rattle.http_connections.specs.Taking.{TakesCut, IsBodyAt};
@@ -69,9 +70,9 @@ fn request_of(head: Head, body: Vec<u8>) -> Request
     }
 }
 
-/// Takes the cut of what the link has left: the request that it is, or None where it is no request. Failed comes
-/// only where the link's count of read faults rose, and TooLong never; after an error a front was taken. Nothing
-/// is written.
+/// Takes the cut of what the link has left: the request that it is, or None where it is no request. Failed
+/// comes only where the link's count of read faults rose, and TooLong never; after an error a front was
+/// taken. Nothing is written.
 pub fn take<L: Link>(alloc: Global, link: &mut L) -> Result<Option<Request>, ReadError>
     ensures cut { IfOk result (λ request. IfSome (L.left link.old) (λ bytes.
         TakesCut bytes (L.left link.new) request)) }

@@ -17,3 +17,4 @@ pub mod ServerRoute
 pub mod Asked
 pub mod InOrder
 pub mod Refused
+pub mod Builder

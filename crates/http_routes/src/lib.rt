@@ -15,6 +15,7 @@
 
 pub mod admission;
 pub mod asked;
+pub mod builder;
 pub mod calls;
 pub mod err_json;
 pub mod error;

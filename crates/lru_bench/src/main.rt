@@ -1,7 +1,8 @@
-//! The program `lru_bench CAPACITY CALL COUNT`: it fills a cache with so many numbers, and makes a call so many times.
+//! The program `lru_bench CAPACITY CALL COUNT`: it fills a cache with so many numbers, and makes a call so
+//! many times.
 //!
-//! The calls are `evict` (an insert of a new key), `hit`, `replace` (an insert of a key that is there) and `miss`. It writes the sum of what
-//! the calls answered.
+//! The calls are `evict` (an insert of a new key), `hit`, `replace` (an insert of a key that is there) and
+//! `miss`. It writes the sum of what the calls answered.
 #![tactic(auto)]
 
 use lru_metered::{InsertFault, LruCache};

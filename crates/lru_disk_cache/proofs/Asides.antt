@@ -1,7 +1,9 @@
 -- Calls on files that lie elsewhere, and what stands behind them.
-use Rattle.std.proofs.Common.{◌≡◌, ℕ, false, List, [], ◌∷◌, ◌++◌, take, Option, Some, None, Result, OnErr, inl, inr, refl, sym, ap, subst, ◌∙◌}
+use Rattle.std.proofs.Common.{◌≡◌, ℕ, false, List, [], ◌∷◌, ◌++◌, take, Option, Some, None, Result, OnErr}
+use Rattle.std.proofs.Common.{inl, inr, refl, sym, ap, subst, ◌∙◌}
 use Rattle.std.specs.Str.{bytes_eq}
-use Rattle.lru_disk_cache.specs.Files.{Files, file_at, front, put, put_found, without, moved, PartWritten, DoneOrNot, Same}
+use Rattle.lru_disk_cache.specs.Files.{Files, file_at, front, put, put_found, without, moved, PartWritten}
+use Rattle.lru_disk_cache.specs.Files.{DoneOrNot, Same}
 use Rattle.lru_disk_cache.specs.Held.{Held, Holds, Lacks, Never, Became, Changes}
 use Rattle.lru_disk_cache.specs.declared.fault.FolderFault.{FolderFault}
 use Rattle.lru_disk_cache.specs.Key.{temp_name}
@@ -23,7 +25,8 @@ sure_by : (ps : List Reservation) (f g : Files) → KeepsReserved ps f g → All
 sure_by [] f g keeps h = tt
 sure_by (r ∷ rs) f g keeps h = (λ sure lacks. h.0 sure (sym keeps.0 ∙ lacks), sure_by rs f g keeps.1 h.1)
 
-pub sure_kept : (ps : List Reservation) (old new : Held) → Holds old (λ f. AllSure f ps) → Became (KeepsReserved ps) old.files new.files → Holds new (λ f. AllSure f ps)
+pub sure_kept : (ps : List Reservation) (old new : Held) → Holds old (λ f. AllSure f ps)
+    → Became (KeepsReserved ps) old.files new.files → Holds new (λ f. AllSure f ps)
 sure_kept ps old new h keeps files told =
     let w = became_from (KeepsReserved ps) old.files new.files files keeps told in
     sure_by ps w.0 files w.2 (h w.0 w.1)
@@ -33,7 +36,9 @@ reserved_same [] f g same = tt
 reserved_same (r ∷ rs) f g same = (same r.temp, reserved_same rs f g same)
 
 -- a disk stands behind a step that leaves its files
-pub store_after : (d : Disk) (old new : Held) → IsStore old d → Became (Keeps d.root d.entries) old.files new.files → Became (KeepsReserved d.pending) old.files new.files → IsStore new d
+pub store_after : (d : Disk) (old new : Held) → IsStore old d
+    → Became (Keeps d.root d.entries) old.files new.files
+    → Became (KeepsReserved d.pending) old.files new.files → IsStore new d
 store_after d old new h keeps temps = record {
   stands = stands_kept d.root d.entries old new h.stands keeps;
   root = h.root;
@@ -49,35 +54,54 @@ below_keeps : (root : List ℕ) (es : Entries) (f g : Files) → SameBelow root 
 below_keeps root [] f g same = tt
 below_keeps root (e ∷ es) f g same = (same e.0, below_keeps root es f g same)
 
-below_reserved : (root : List ℕ) (ps : List Reservation) (f g : Files) → AllReserved root ps → SameBelow root f g → KeepsReserved ps f g
+below_reserved : (root : List ℕ) (ps : List Reservation) (f g : Files) → AllReserved root ps
+    → SameBelow root f g → KeepsReserved ps f g
 below_reserved root [] f g all same = tt
 below_reserved root (r ∷ rs) f g all same =
     let P : List ℕ → Type 0 = λ q. file_at g q ≡ file_at f q in
     (subst P (sym all.0.temp) (same (temp_name r.number)), below_reserved root rs f g all.1 same)
 
-pub kept_below : (root : List ℕ) (es : Entries) (old new : Option Files) → Became (SameBelow root) old new → Became (Keeps root es) old new
-kept_below root es old new h = became_map (SameBelow root) (Keeps root es) old new (λ f g same. below_keeps root es f g same) h
+pub kept_below : (root : List ℕ) (es : Entries) (old new : Option Files) → Became (SameBelow root) old new
+    → Became (Keeps root es) old new
+kept_below root es old new h = became_map (SameBelow root) (Keeps root es) old new
+    (λ f g same. below_keeps root es f g same) h
 
-pub below_store : (d : Disk) (old new : Held) → IsStore old d → Became (SameBelow d.root) old.files new.files → IsStore new d
+pub below_store : (d : Disk) (old new : Held) → IsStore old d → Became (SameBelow d.root) old.files new.files
+    → IsStore new d
 below_store d old new h same =
-    store_after d old new h (kept_below d.root d.entries old.files new.files same) (became_map (SameBelow d.root) (KeepsReserved d.pending) old.files new.files (λ f g below. below_reserved d.root d.pending f g h.reserved below) same)
+    store_after d old new h (kept_below d.root d.entries old.files new.files same)
+    (became_map (SameBelow d.root) (KeepsReserved d.pending) old.files new.files
+    (λ f g below. below_reserved d.root d.pending f g h.reserved below) same)
 
-pub below_same : {T : Type 0} (root : List ℕ) (lacking : Files → Type 0) (result : Result T FolderFault) (old new : Held) → Changes lacking (λ files. files) Same result old new → Became (SameBelow root) old.files new.files
+pub below_same : {T : Type 0} (root : List ℕ) (lacking : Files → Type 0) (result : Result T FolderFault)
+    (old new : Held) → Changes lacking (λ files. files) Same result old new
+    → Became (SameBelow root) old.files new.files
 below_same root lacking result old new h =
-    became_of lacking (λ files. files) Same (SameBelow root) result old new (λ f k. refl) (λ f k. refl) (λ f g same k. ap (λ l. file_at l (root ++ k)) same) h
+    became_of lacking (λ files. files) Same (SameBelow root) result old new (λ f k. refl) (λ f k. refl)
+    (λ f g same k. ap (λ l. file_at l (root ++ k)) same) h
 
 -- a path outside a root is none below it
-outside_each : (root path q k : List ℕ) → root ≡ front path → IsOutside path q → bytes_eq q (root ++ k) ≡ false
+outside_each : (root path q k : List ℕ) → root ≡ front path → IsOutside path q
+    → bytes_eq q (root ++ k) ≡ false
 outside_each root path q k is away = apart (root ++ k) q (ap (λ r. bytes_eq (r ++ k) q) is ∙ away k)
 
-pub below_wrote : (root path q bytes : List ℕ) (result : Result (Unit {0}) FolderFault) (old new : Held) → root ≡ front path → IsOutside path q → Changes Never (put q bytes) (PartWritten q bytes) result old new → Became (SameBelow root) old.files new.files
+pub below_wrote : (root path q bytes : List ℕ) (result : Result (Unit {0}) FolderFault) (old new : Held)
+    → root ≡ front path → IsOutside path q → Changes Never (put q bytes) (PartWritten q bytes) result old new
+    → Became (SameBelow root) old.files new.files
 below_wrote root path q bytes result old new is away h =
-    became_of Never (put q bytes) (PartWritten q bytes) (SameBelow root) result old new (λ f k. refl) (λ f k. put_other q (root ++ k) bytes f (outside_each root path q k is away)) (λ f g part k. part_other q (root ++ k) bytes f g part (outside_each root path q k is away)) h
+    became_of Never (put q bytes) (PartWritten q bytes) (SameBelow root) result old new (λ f k. refl)
+    (λ f k. put_other q (root ++ k) bytes f (outside_each root path q k is away))
+    (λ f g part k. part_other q (root ++ k) bytes f g part (outside_each root path q k is away)) h
 
-pub below_renamed : (root path from to : List ℕ) (result : Result (Unit {0}) FolderFault) (old new : Held) → root ≡ front path → IsOutside path from → IsOutside path to → Changes (Lacks from) (moved from to) (DoneOrNot (moved from to)) result old new → Became (SameBelow root) old.files new.files
+pub below_renamed : (root path from to : List ℕ) (result : Result (Unit {0}) FolderFault) (old new : Held)
+    → root ≡ front path → IsOutside path from → IsOutside path to → Changes (Lacks from) (moved from to)
+    (DoneOrNot (moved from to)) result old new → Became (SameBelow root) old.files new.files
 below_renamed root path from to result old new is one two h =
-    let moves : (f : Files) (k : List ℕ) → file_at (moved from to f) (root ++ k) ≡ file_at f (root ++ k) = λ f k. moved_other from to (root ++ k) f (outside_each root path from k is one) (outside_each root path to k is two) in
-    became_of (Lacks from) (moved from to) (DoneOrNot (moved from to)) (SameBelow root) result old new (λ f k. refl) moves (λ f g part k. done_or_not (moved from to) (root ++ k) f g part (moves f k)) h
+    let moves : (f : Files) (k : List ℕ) → file_at (moved from to f) (root ++ k) ≡ file_at f (root ++ k) =
+    λ f k. moved_other from to (root ++ k) f (outside_each root path from k is one)
+    (outside_each root path to k is two) in
+    became_of (Lacks from) (moved from to) (DoneOrNot (moved from to)) (SameBelow root) result old new
+    (λ f k. refl) moves (λ f g part k. done_or_not (moved from to) (root ++ k) f g part (moves f k)) h
 
 -- ---- the archives among the files stay
 
@@ -85,50 +109,70 @@ below_renamed root path from to result old new is one two h =
 abbrev pub SameArchives : List ℕ → Files → Files → Type 0
 SameArchives path old new = archives_in path new ≡ archives_in path old
 
-pub step_kept : (path : List ℕ) (es : Archives) (old new : Held) → Became (SameArchives path) old.files new.files → IsInStep path old es → IsInStep path new es
+pub step_kept : (path : List ℕ) (es : Archives) (old new : Held)
+    → Became (SameArchives path) old.files new.files → IsInStep path old es → IsInStep path new es
 step_kept path es old new same h files told =
     let w = became_from (SameArchives path) old.files new.files files same told in
     w.2 ∙ h w.0 w.1
 
-pub archives_same : {T : Type 0} (path : List ℕ) (lacking : Files → Type 0) (result : Result T FolderFault) (old new : Held) → Changes lacking (λ files. files) Same result old new → Became (SameArchives path) old.files new.files
+pub archives_same : {T : Type 0} (path : List ℕ) (lacking : Files → Type 0) (result : Result T FolderFault)
+    (old new : Held) → Changes lacking (λ files. files) Same result old new
+    → Became (SameArchives path) old.files new.files
 archives_same path lacking result old new h =
-    became_of lacking (λ files. files) Same (SameArchives path) result old new (λ f. refl) (λ f. refl) (λ f g same. ap (archives_in path) same) h
+    became_of lacking (λ files. files) Same (SameArchives path) result old new (λ f. refl) (λ f. refl)
+    (λ f g same. ap (archives_in path) same) h
 
 away_of : (path q : List ℕ) → IsOutside path q → (id : List ℕ) → bytes_eq q (archive_path path id) ≡ false
 away_of path q away id = apart (archive_path path id) q (away (archive_key id))
 
-pub archives_wrote : (path q bytes : List ℕ) (result : Result (Unit {0}) FolderFault) (old new : Held) → IsOutside path q → Changes Never (put q bytes) (PartWritten q bytes) result old new → Became (SameArchives path) old.files new.files
+pub archives_wrote : (path q bytes : List ℕ) (result : Result (Unit {0}) FolderFault) (old new : Held)
+    → IsOutside path q → Changes Never (put q bytes) (PartWritten q bytes) result old new
+    → Became (SameArchives path) old.files new.files
 archives_wrote path q bytes result old new away h =
-    became_of Never (put q bytes) (PartWritten q bytes) (SameArchives path) result old new (λ f. refl) (λ f. in_put_other path q bytes f (away_of path q away)) (λ f g part. elim part [
+    became_of Never (put q bytes) (PartWritten q bytes) (SameArchives path) result old new (λ f. refl)
+    (λ f. in_put_other path q bytes f (away_of path q away)) (λ f g part. elim part [
       | inl same ↦ ap (archives_in path) same
-      | inr some ↦ ap (archives_in path) some.1 ∙ in_put_other path q (take some.0 bytes) f (away_of path q away)
+      | inr some ↦ ap (archives_in path) some.1 ∙ in_put_other path q (take some.0 bytes) f
+          (away_of path q away)
     ]) h
 
-in_moved_by : (o : Option (List ℕ)) (path from to : List ℕ) (f : Files) → IsOutside path from → IsOutside path to → archives_in path (put_found o to f (without from f)) ≡ archives_in path f
+in_moved_by : (o : Option (List ℕ)) (path from to : List ℕ) (f : Files) → IsOutside path from
+    → IsOutside path to → archives_in path (put_found o to f (without from f)) ≡ archives_in path f
 in_moved_by None path from to f one two = refl
 in_moved_by (Some b) path from to f one two =
-    in_put_other path to b (without from f) (away_of path to two) ∙ in_without_other path from f (away_of path from one)
+    in_put_other path to b (without from f) (away_of path to two) ∙ in_without_other path from f
+    (away_of path from one)
 
-pub archives_renamed : (path from to : List ℕ) (result : Result (Unit {0}) FolderFault) (old new : Held) → IsOutside path from → IsOutside path to → Changes (Lacks from) (moved from to) (DoneOrNot (moved from to)) result old new → Became (SameArchives path) old.files new.files
+pub archives_renamed : (path from to : List ℕ) (result : Result (Unit {0}) FolderFault) (old new : Held)
+    → IsOutside path from → IsOutside path to → Changes (Lacks from) (moved from to)
+    (DoneOrNot (moved from to)) result old new → Became (SameArchives path) old.files new.files
 archives_renamed path from to result old new one two h =
-    let moves : (f : Files) → archives_in path (moved from to f) ≡ archives_in path f = λ f. in_moved_by (file_at f from) path from to f one two in
-    became_of (Lacks from) (moved from to) (DoneOrNot (moved from to)) (SameArchives path) result old new (λ f. refl) moves (λ f g part. elim part [
+    let moves : (f : Files) → archives_in path (moved from to f) ≡ archives_in path f = λ f.
+    in_moved_by (file_at f from) path from to f one two in
+    became_of (Lacks from) (moved from to) (DoneOrNot (moved from to)) (SameArchives path) result old new
+    (λ f. refl) moves (λ f g part. elim part [
       | inl same ↦ ap (archives_in path) same
       | inr done ↦ ap (archives_in path) done ∙ moves f
     ]) h
 
 -- ---- the files are those that they were
 
-pub keeps_equal : (root : List ℕ) (es : Entries) (old new : Option Files) → new ≡ old → Became (Keeps root es) old new
-keeps_equal root es old new is = subst (Became (Keeps root es) old) (sym is) (became_same (Keeps root es) old (λ f. kept_none root es f))
+pub keeps_equal : (root : List ℕ) (es : Entries) (old new : Option Files) → new ≡ old
+    → Became (Keeps root es) old new
+keeps_equal root es old new is = subst (Became (Keeps root es) old) (sym is)
+    (became_same (Keeps root es) old (λ f. kept_none root es f))
 
-pub reserved_equal : (ps : List Reservation) (old new : Option Files) → new ≡ old → Became (KeepsReserved ps) old new
-reserved_equal ps old new is = subst (Became (KeepsReserved ps) old) (sym is) (became_same (KeepsReserved ps) old (λ f. reserved_same ps f f (λ q. refl)))
+pub reserved_equal : (ps : List Reservation) (old new : Option Files) → new ≡ old
+    → Became (KeepsReserved ps) old new
+reserved_equal ps old new is = subst (Became (KeepsReserved ps) old) (sym is)
+    (became_same (KeepsReserved ps) old (λ f. reserved_same ps f f (λ q. refl)))
 
 pub store_equal : (d : Disk) (old new : Held) → IsStore old d → new.files ≡ old.files → IsStore new d
 store_equal d old new h is =
-    store_after d old new h (keeps_equal d.root d.entries old.files new.files is) (reserved_equal d.pending old.files new.files is)
+    store_after d old new h (keeps_equal d.root d.entries old.files new.files is)
+    (reserved_equal d.pending old.files new.files is)
 
 -- what that leaves of a disk that is as it was
-pub left_equal : {T E : Type 0} (result : Result T E) (d e : Disk) (old new : Option Files) → e ≡ d → new ≡ old → OnErr result (Became (Keeps d.root e.entries) old new)
+pub left_equal : {T E : Type 0} (result : Result T E) (d e : Disk) (old new : Option Files) → e ≡ d
+    → new ≡ old → OnErr result (Became (Keeps d.root e.entries) old new)
 left_equal result d e old new is files = on_err result (keeps_equal d.root e.entries old new files)

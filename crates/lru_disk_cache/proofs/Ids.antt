@@ -1,5 +1,6 @@
 -- The SHA-256 of anything, in lower-case hex, is an id.
-use Rattle.std.proofs.Common.{◌≡◌, ℕ, zero, suc, ◌*◌, ◌^◌, ◌<◌, ◌/◌, ◌%◌, ◌==◌, ◌&&◌, true, List, [], ◌∷◌, ◌++◌, length, slice_index, refl, ap, ◌∙◌, arith}
+use Rattle.std.proofs.Common.{◌≡◌, ℕ, zero, suc, ◌*◌, ◌^◌, ◌<◌, ◌/◌, ◌%◌, ◌==◌, ◌&&◌, true, List, [], ◌∷◌}
+use Rattle.std.proofs.Common.{◌++◌, length, slice_index, refl, ap, ◌∙◌, arith}
 use Rattle.std.specs.Int.{byte_at, bytes_high_first, to_be_bytes, w32}
 use Rattle.std.specs.List.{list_all, AllByRecursion}
 use Rattle.hex.specs.Hex.{encode_with, lower_digits}
@@ -29,7 +30,8 @@ bytes_both (x ∷ xs) ys h g = (h.0, bytes_both xs ys h.1 g)
 bytes_digest : (h : List ℕ) (n : ℕ) → Bytes (digest_bytes h n)
 unfolding digest_bytes
 bytes_digest h zero = tt
-bytes_digest h (suc n) = bytes_both (digest_bytes h n) (to_be_bytes w32 (slice_index h n)) (bytes_digest h n) (bytes_high 4 (slice_index h n))
+bytes_digest h (suc n) = bytes_both (digest_bytes h n) (to_be_bytes w32 (slice_index h n)) (bytes_digest h n)
+    (bytes_high 4 (slice_index h n))
 
 bytes_sha : (m : List ℕ) → Bytes (sha256 m)
 unfolding sha256
@@ -41,7 +43,25 @@ at_index P (x ∷ xs) zero h below = h.0
 at_index P (x ∷ xs) (suc k) h below = at_index P xs k h.1 (omega (arith, below))
 
 digits_hex : AllByRecursion (λ d. is_lower_hex d ≡ true) lower_digits
-digits_hex = (refl, (refl, (refl, (refl, (refl, (refl, (refl, (refl, (refl, (refl, (refl, (refl, (refl, (refl, (refl, (refl, tt))))))))))))))))
+digits_hex = (
+  refl,
+  (
+    refl,
+    (
+      refl,
+      (
+        refl,
+        (
+          refl,
+          (
+            refl,
+            (refl, (refl, (refl, (refl, (refl, (refl, (refl, (refl, (refl, (refl, tt)))))))))),
+          ),
+        ),
+      ),
+    ),
+  ),
+)
 
 hex_digit : (k : ℕ) → k < 16 → is_lower_hex (slice_index lower_digits k) ≡ true
 hex_digit k below = at_index (λ d. is_lower_hex d ≡ true) lower_digits k digits_hex below
@@ -56,7 +76,8 @@ encoded_hex : (bs : List ℕ) → Bytes bs → list_all is_lower_hex (encode_wit
 unfolding encode_with
 encoded_hex [] h = refl
 encoded_hex (b ∷ bs) h =
-    λ i. hex_digit (b / 16) (high_below b h.0) i && (hex_digit (b % 16) (low_below b) i && encoded_hex bs h.1 i)
+    λ i. hex_digit (b / 16) (high_below b h.0) i
+    && (hex_digit (b % 16) (low_below b) i && encoded_hex bs h.1 i)
 
 encoded_long : (bs : List ℕ) → length (encode_with lower_digits bs) ≡ 2 * length bs
 unfolding encode_with

@@ -1,5 +1,7 @@
 -- The archives among the files, behind each step.
-use Rattle.std.proofs.Common.{◌≡◌, ℕ, Bool, true, false, cond, not, nat_le, List, [], ◌∷◌, ◌++◌, length, drop, get_or, is_some, Option, Some, None, refl, sym, ap, subst, ◌∙◌, true≢false, arith}
+use Rattle.std.proofs.Common.{◌≡◌, ℕ, Bool, true, false, cond, not, nat_le, List, [], ◌∷◌, ◌++◌, length, drop}
+use Rattle.std.proofs.Common.{get_or, is_some, Option, Some, None, refl, sym, ap, subst, ◌∙◌, true≢false}
+use Rattle.std.proofs.Common.{arith}
 use Rattle.std.specs.List.{AllByRecursion, IsDistinct, cons_option}
 use Rattle.std.specs.Map.{keys_of, lookup, lookup_entry, remove_entry}
 use Rattle.std.specs.Option.{option_map, option_map_or}
@@ -10,7 +12,8 @@ use Rattle.lru_disk_cache.specs.Files.{Files, file_at, front, without, put, touc
 use Rattle.lru_disk_cache.specs.Key.{temp_name}
 use Rattle.lru_disk_cache.specs.Entries.{Entries, total, trim, promoted_key}
 use Rattle.lru_disk_cache.specs.Disk.{Avoids, dropped, without_each, files_stored, without_key, stored}
-use Rattle.lru_disk_cache.specs.Archives.{Archives, id_of, archive_of, archive_key, archive_path, archive_in, archives_in}
+use Rattle.lru_disk_cache.specs.Archives.{Archives, id_of, archive_of, archive_key, archive_path, archive_in}
+use Rattle.lru_disk_cache.specs.Archives.{archives_in}
 use Rattle.lru_disk_cache.specs.Keyed.{id_in, unkeyed, AllArchiveKeys}
 use Rattle.lru_disk_cache.proofs.Distinct.{apart}
 use Rattle.lru_disk_cache.proofs.Listings.{but_key, out_kept, out_gone, none_out}
@@ -33,15 +36,18 @@ key_once (w ∷ x ∷ more) (y ∷ []) same = let long = ap length same in absur
 key_once (w ∷ x ∷ more) (y ∷ z ∷ bs) same = ap (drop 4) same
 
 pub path_once : (path a b : List ℕ) → bytes_eq (archive_path path a) (archive_path path b) ≡ bytes_eq a b
-path_once path a b = same_front (front path) (archive_key a) (archive_key b) ∙ by (bytes_eq (archive_key a) (archive_key b)) (bytes_eq a b) refl refl
+path_once path a b = same_front (front path) (archive_key a) (archive_key b)
+    ∙ by (bytes_eq (archive_key a) (archive_key b)) (bytes_eq a b) refl refl
   where
     by : (x y : Bool) → bytes_eq (archive_key a) (archive_key b) ≡ x → bytes_eq a b ≡ y → x ≡ y
     by true true p q = refl
     by false false p q = refl
     by true false p q =
-        absurd (true≢false (sym ((bytes_eq-Decides a b).1 (key_once a b ((bytes_eq-Decides (archive_key a) (archive_key b)).0 p))) ∙ q))
+        absurd (true≢false (sym ((bytes_eq-Decides a b).1
+        (key_once a b ((bytes_eq-Decides (archive_key a) (archive_key b)).0 p))) ∙ q))
     by false true p q =
-        absurd (true≢false (sym ((bytes_eq-Decides (archive_key a) (archive_key b)).1 (ap archive_key ((bytes_eq-Decides a b).0 q))) ∙ p))
+        absurd (true≢false (sym ((bytes_eq-Decides (archive_key a) (archive_key b)).1
+        (ap archive_key ((bytes_eq-Decides a b).0 q))) ∙ p))
 
 slash_differs : (n : ℕ) (key : List ℕ) → get_or key 1 0 ≡ 47 → bytes_eq (temp_name n) key ≡ false
 unfolding temp_name
@@ -66,52 +72,85 @@ temp_no_key n id = slash_differs n (archive_key id) (slash_second id)
 
 -- ---- one file more or less
 
-pub in_more : (path : List ℕ) (f : List ℕ × List ℕ) (fs : Files) (b : Bool) → bytes_eq f.0 (archive_path path (id_of f.1)) ≡ b → archives_in path (f ∷ fs) ≡ cond b (archive_of f.1 ∷ archives_in path fs) (archives_in path fs)
-in_more path f fs true is = ap (λ b. cons_option (cond b (Some (archive_of f.1)) None) (archives_in path fs)) is
-in_more path f fs false is = ap (λ b. cons_option (cond b (Some (archive_of f.1)) None) (archives_in path fs)) is
+pub in_more : (path : List ℕ) (f : List ℕ × List ℕ) (fs : Files) (b : Bool)
+    → bytes_eq f.0 (archive_path path (id_of f.1)) ≡ b → archives_in path (f ∷ fs) ≡ cond b
+    (archive_of f.1 ∷ archives_in path fs) (archives_in path fs)
+in_more path f fs true is = ap (λ b. cons_option (cond b (Some (archive_of f.1)) None) (archives_in path fs))
+    is
+in_more path f fs false is = ap (λ b. cons_option (cond b (Some (archive_of f.1)) None) (archives_in path fs))
+    is
 
-pub in_without : (path id : List ℕ) (fs : Files) → archives_in path (without (archive_path path id) fs) ≡ but_key id (archives_in path fs)
+pub in_without : (path id : List ℕ) (fs : Files)
+    → archives_in path (without (archive_path path id) fs) ≡ but_key id (archives_in path fs)
 in_without path id [] = refl
-in_without path id (f ∷ fs) = by (bytes_eq (archive_path path id) f.0) (bytes_eq f.0 (archive_path path (id_of f.1))) refl refl (in_without path id fs)
+in_without path id (f ∷ fs) = by (bytes_eq (archive_path path id) f.0)
+    (bytes_eq f.0 (archive_path path (id_of f.1))) refl refl (in_without path id fs)
   where
-    by : (s m : Bool) → bytes_eq (archive_path path id) f.0 ≡ s → bytes_eq f.0 (archive_path path (id_of f.1)) ≡ m → archives_in path (without (archive_path path id) fs) ≡ but_key id (archives_in path fs)
-        → archives_in path (cond (not s) (f ∷ without (archive_path path id) fs) (without (archive_path path id) fs)) ≡ but_key id (archives_in path (f ∷ fs))
+    by : (s m : Bool) → bytes_eq (archive_path path id) f.0 ≡ s
+        → bytes_eq f.0 (archive_path path (id_of f.1)) ≡ m
+        → archives_in path (without (archive_path path id) fs) ≡ but_key id (archives_in path fs)
+        → archives_in path (cond (not s) (f ∷ without (archive_path path id) fs)
+        (without (archive_path path id) fs)) ≡ but_key id (archives_in path (f ∷ fs))
     by true true same is rest =
-        let one : bytes_eq id (id_of f.1) ≡ true = sym (path_once path id (id_of f.1)) ∙ (ap (λ p. bytes_eq (archive_path path id) p) (sym ((bytes_eq-Decides f.0 (archive_path path (id_of f.1))).0 is)) ∙ same) in
-        rest ∙ sym (ap (but_key id) (in_more path f fs true is) ∙ out_gone id (archive_of f.1) (archives_in path fs) one)
+        let one : bytes_eq id (id_of f.1) ≡ true = sym (path_once path id (id_of f.1))
+        ∙ (ap (λ p. bytes_eq (archive_path path id) p)
+        (sym ((bytes_eq-Decides f.0 (archive_path path (id_of f.1))).0 is)) ∙ same) in
+        rest ∙ sym (ap (but_key id) (in_more path f fs true is) ∙ out_gone id (archive_of f.1)
+        (archives_in path fs) one)
     by true false same is rest = rest ∙ sym (ap (but_key id) (in_more path f fs false is))
     by false true other is rest =
-        let two : bytes_eq id (id_of f.1) ≡ false = sym (path_once path id (id_of f.1)) ∙ (ap (λ p. bytes_eq (archive_path path id) p) (sym ((bytes_eq-Decides f.0 (archive_path path (id_of f.1))).0 is)) ∙ other) in
+        let two : bytes_eq id (id_of f.1) ≡ false = sym (path_once path id (id_of f.1))
+        ∙ (ap (λ p. bytes_eq (archive_path path id) p)
+        (sym ((bytes_eq-Decides f.0 (archive_path path (id_of f.1))).0 is)) ∙ other) in
         in_more path f (without (archive_path path id) fs) true is
-        ∙ (ap (λ l. archive_of f.1 ∷ l) rest ∙ sym (ap (but_key id) (in_more path f fs true is) ∙ out_kept id (archive_of f.1) (archives_in path fs) two))
+        ∙ (ap (λ l. archive_of f.1 ∷ l) rest
+        ∙ sym (ap (but_key id) (in_more path f fs true is) ∙ out_kept id (archive_of f.1)
+        (archives_in path fs) two))
     by false false other is rest =
-        in_more path f (without (archive_path path id) fs) false is ∙ (rest ∙ sym (ap (but_key id) (in_more path f fs false is)))
+        in_more path f (without (archive_path path id) fs) false is
+        ∙ (rest ∙ sym (ap (but_key id) (in_more path f fs false is)))
 
 -- a file that is no archive's tells nothing
-pub in_without_other : (path other : List ℕ) (fs : Files) → ((id : List ℕ) → bytes_eq other (archive_path path id) ≡ false) → archives_in path (without other fs) ≡ archives_in path fs
+pub in_without_other : (path other : List ℕ) (fs : Files)
+    → ((id : List ℕ) → bytes_eq other (archive_path path id) ≡ false)
+    → archives_in path (without other fs) ≡ archives_in path fs
 in_without_other path other [] away = refl
-in_without_other path other (f ∷ fs) away = by (bytes_eq other f.0) (bytes_eq f.0 (archive_path path (id_of f.1))) refl refl (in_without_other path other fs away)
+in_without_other path other (f ∷ fs) away =
+    by (bytes_eq other f.0) (bytes_eq f.0 (archive_path path (id_of f.1))) refl refl
+    (in_without_other path other fs away)
   where
-    by : (s m : Bool) → bytes_eq other f.0 ≡ s → bytes_eq f.0 (archive_path path (id_of f.1)) ≡ m → archives_in path (without other fs) ≡ archives_in path fs
-        → archives_in path (cond (not s) (f ∷ without other fs) (without other fs)) ≡ archives_in path (f ∷ fs)
+    by : (s m : Bool) → bytes_eq other f.0 ≡ s → bytes_eq f.0 (archive_path path (id_of f.1)) ≡ m
+        → archives_in path (without other fs) ≡ archives_in path fs
+        → archives_in path (cond (not s) (f ∷ without other fs) (without other fs)) ≡ archives_in path
+        (f ∷ fs)
     by true true same is rest =
         let P : List ℕ → Type 0 = λ p. bytes_eq other p ≡ true in
-        absurd (true≢false (sym (subst P ((bytes_eq-Decides f.0 (archive_path path (id_of f.1))).0 is) same) ∙ away (id_of f.1)))
+        absurd (true≢false (sym (subst P ((bytes_eq-Decides f.0 (archive_path path (id_of f.1))).0 is) same)
+        ∙ away (id_of f.1)))
     by true false same is rest = rest ∙ sym (in_more path f fs false is)
-    by false true not is rest = in_more path f (without other fs) true is ∙ (ap (λ l. archive_of f.1 ∷ l) rest ∙ sym (in_more path f fs true is))
-    by false false not is rest = in_more path f (without other fs) false is ∙ (rest ∙ sym (in_more path f fs false is))
+    by false true not is rest = in_more path f (without other fs) true is
+        ∙ (ap (λ l. archive_of f.1 ∷ l) rest ∙ sym (in_more path f fs true is))
+    by false false not is rest = in_more path f (without other fs) false is
+        ∙ (rest ∙ sym (in_more path f fs false is))
 
-pub in_put : (path id bytes : List ℕ) (fs : Files) → id_of bytes ≡ id → archives_in path (put (archive_path path id) bytes fs) ≡ but_key id (archives_in path fs) ++ (id, length bytes) ∷ []
+pub in_put : (path id bytes : List ℕ) (fs : Files) → id_of bytes ≡ id
+    → archives_in path (put (archive_path path id) bytes fs) ≡ but_key id (archives_in path fs) ++
+    (id, length bytes) ∷ []
 in_put path id bytes fs is =
-    let here : bytes_eq (archive_path path id) (archive_path path (id_of bytes)) ≡ true = path_once path id (id_of bytes) ∙ (ap (bytes_eq id) is ∙ itself id) in
-    filter_map-append (archive_in path) (without (archive_path path id) fs) ((archive_path path id, bytes) ∷ [])
+    let here : bytes_eq (archive_path path id) (archive_path path (id_of bytes)) ≡ true =
+    path_once path id (id_of bytes) ∙ (ap (bytes_eq id) is ∙ itself id) in
+    filter_map-append (archive_in path) (without (archive_path path id) fs)
+    ((archive_path path id, bytes) ∷ [])
     ∙ ((λ i. in_without path id fs i ++ in_more path (archive_path path id, bytes) [] true here i)
     ∙ ap (λ k. but_key id (archives_in path fs) ++ (k, length bytes) ∷ []) is)
 
-pub in_put_other : (path other bytes : List ℕ) (fs : Files) → ((id : List ℕ) → bytes_eq other (archive_path path id) ≡ false) → archives_in path (put other bytes fs) ≡ archives_in path fs
+pub in_put_other : (path other bytes : List ℕ) (fs : Files)
+    → ((id : List ℕ) → bytes_eq other (archive_path path id) ≡ false)
+    → archives_in path (put other bytes fs) ≡ archives_in path fs
 in_put_other path other bytes fs away =
     filter_map-append (archive_in path) (without other fs) ((other, bytes) ∷ [])
-    ∙ ((λ i. in_without_other path other fs away i ++ in_more path (other, bytes) [] false (away (id_of bytes)) i)
+    ∙ ((λ i. in_without_other path other fs away i ++ in_more path (other, bytes) [] false
+    (away (id_of bytes)) i)
     ∙ none (archives_in path fs))
   where
     none : (l : Archives) → l ++ [] ≡ l
@@ -124,97 +163,138 @@ abbrev pub but_each : Archives → Archives → Archives
 but_each [] es = es
 but_each (g ∷ gone) es = but_each gone (but_key g.0 es)
 
-pub in_each : (path root : List ℕ) (gone : Entries) (fs : Files) → root ≡ front path → AllArchiveKeys gone → archives_in path (without_each root gone fs) ≡ but_each (unkeyed gone) (archives_in path fs)
+pub in_each : (path root : List ℕ) (gone : Entries) (fs : Files) → root ≡ front path → AllArchiveKeys gone
+    → archives_in path (without_each root gone fs) ≡ but_each (unkeyed gone) (archives_in path fs)
 in_each path root [] fs is keys = refl
 in_each path root (g ∷ gone) fs is keys =
     in_each path root gone (without (root ++ g.0) fs) is keys.1
-    ∙ ap (but_each (unkeyed gone)) (ap (λ p. archives_in path (without p fs)) (λ i. is i ++ keys.0.path i) ∙ in_without path (id_in g.0) fs)
+    ∙ ap (but_each (unkeyed gone)) (ap (λ p. archives_in path (without p fs)) (λ i. is i ++ keys.0.path i)
+    ∙ in_without path (id_in g.0) fs)
 
 but_commute : (a b : List ℕ) (es : Archives) → but_key a (but_key b es) ≡ but_key b (but_key a es)
 but_commute a b [] = refl
 but_commute a b (e ∷ es) = by (bytes_eq a e.0) (bytes_eq b e.0) refl refl (but_commute a b es)
   where
-    by : (x y : Bool) → bytes_eq a e.0 ≡ x → bytes_eq b e.0 ≡ y → but_key a (but_key b es) ≡ but_key b (but_key a es)
-        → but_key a (cond (not y) (e ∷ but_key b es) (but_key b es)) ≡ but_key b (cond (not x) (e ∷ but_key a es) (but_key a es))
+    by : (x y : Bool) → bytes_eq a e.0 ≡ x → bytes_eq b e.0 ≡ y → but_key a (but_key b es) ≡ but_key b
+        (but_key a es)
+        → but_key a (cond (not y) (e ∷ but_key b es) (but_key b es)) ≡ but_key b
+        (cond (not x) (e ∷ but_key a es) (but_key a es))
     by true true p q rest = rest
     by true false p q rest = out_gone a e (but_key b es) p ∙ rest
     by false true p q rest = rest ∙ sym (out_gone b e (but_key a es) q)
     by false false p q rest =
         out_kept a e (but_key b es) p ∙ (ap (λ l. e ∷ l) rest ∙ sym (out_kept b e (but_key a es) q))
 
-pub but_each_later : (a : List ℕ) (gone es : Archives) → but_key a (but_each gone es) ≡ but_each gone (but_key a es)
+pub but_each_later : (a : List ℕ) (gone es : Archives) → but_key a (but_each gone es) ≡ but_each gone
+    (but_key a es)
 but_each_later a [] es = refl
-but_each_later a (g ∷ gone) es = but_each_later a gone (but_key g.0 es) ∙ ap (but_each gone) (but_commute a g.0 es)
+but_each_later a (g ∷ gone) es = but_each_later a gone (but_key g.0 es)
+    ∙ ap (but_each gone) (but_commute a g.0 es)
 
 -- of archives whose ids differ taking out one by its id is taking out all of that id
-pub out_once : (id : List ℕ) (es : Archives) → IsDistinct bytes_eq (keys_of es) → remove_entry (bytes_eq id) es ≡ but_key id es
+pub out_once : (id : List ℕ) (es : Archives) → IsDistinct bytes_eq (keys_of es)
+    → remove_entry (bytes_eq id) es ≡ but_key id es
 unfolding IsDistinct
 out_once id [] h = refl
 out_once id (e ∷ es) h = by (bytes_eq id e.0) refl (out_once id es h.1)
   where
-    by : (b : Bool) → bytes_eq id e.0 ≡ b → remove_entry (bytes_eq id) es ≡ but_key id es → cond b es (e ∷ remove_entry (bytes_eq id) es) ≡ cond (not b) (e ∷ but_key id es) (but_key id es)
+    by : (b : Bool) → bytes_eq id e.0 ≡ b → remove_entry (bytes_eq id) es ≡ but_key id es
+        → cond b es (e ∷ remove_entry (bytes_eq id) es) ≡ cond (not b) (e ∷ but_key id es) (but_key id es)
     by true same rest =
         let P : List ℕ → Type 0 = λ k. AllByRecursion (λ q. bytes_eq k q ≡ false) (keys_of es) in
         sym (none_out id es (subst P (sym ((bytes_eq-Decides id e.0).0 same)) h.0))
     by false other rest = ap (λ l. e ∷ l) rest
 
 -- those of a front that go leave the rest
-pub front_out : (gone rest : Archives) → IsDistinct bytes_eq (keys_of (gone ++ rest)) → but_each gone (gone ++ rest) ≡ rest
+pub front_out : (gone rest : Archives) → IsDistinct bytes_eq (keys_of (gone ++ rest))
+    → but_each gone (gone ++ rest) ≡ rest
 unfolding IsDistinct
 front_out [] rest h = refl
 front_out (g ∷ gone) rest h =
-    ap (but_each gone) (out_gone g.0 g (gone ++ rest) (itself g.0) ∙ none_out g.0 (gone ++ rest) h.0) ∙ front_out gone rest h.1
+    ap (but_each gone) (out_gone g.0 g (gone ++ rest) (itself g.0) ∙ none_out g.0 (gone ++ rest) h.0)
+    ∙ front_out gone rest h.1
 
 pub dropped_and_rest : (limit : ℕ) (es : Archives) → es ≡ dropped limit es ++ trim limit es
 dropped_and_rest limit [] = refl
 dropped_and_rest limit (e ∷ es) = by (nat_le (total (e ∷ es)) limit) (dropped_and_rest limit es)
   where
-    by : (b : Bool) → es ≡ dropped limit es ++ trim limit es → e ∷ es ≡ cond b [] (e ∷ dropped limit es) ++ cond b (e ∷ es) (trim limit es)
+    by : (b : Bool) → es ≡ dropped limit es ++ trim limit es
+        → e ∷ es ≡ cond b [] (e ∷ dropped limit es) ++ cond b (e ∷ es) (trim limit es)
     by true rest = refl
     by false rest = ap (λ l. e ∷ l) rest
 
-distinct_out : (test : List ℕ → Bool) (es : Archives) → IsDistinct bytes_eq (keys_of es) → IsDistinct bytes_eq (keys_of (remove_entry test es))
+distinct_out : (test : List ℕ → Bool) (es : Archives) → IsDistinct bytes_eq (keys_of es)
+    → IsDistinct bytes_eq (keys_of (remove_entry test es))
 unfolding IsDistinct
 distinct_out test [] h = tt
 distinct_out test (e ∷ es) h =
-    elim (test e.0) as (λ b. IsDistinct bytes_eq (keys_of (cond b es (e ∷ remove_entry test es)))) [ true ↦ h.1 | false ↦ (others_out (λ q. bytes_eq e.0 q ≡ false) test es h.0, distinct_out test es h.1) ]
+    elim (test e.0) as (λ b. IsDistinct bytes_eq (keys_of (cond b es (e ∷ remove_entry test es)))) [
+      | true ↦ h.1
+      | false ↦ (
+        others_out (λ q. bytes_eq e.0 q ≡ false) test es h.0,
+        distinct_out test es h.1,
+      )
+    ]
   where
-    others_out : (P : List ℕ → Type 0) (test : List ℕ → Bool) (es : Archives) → AllByRecursion P (keys_of es) → AllByRecursion P (keys_of (remove_entry test es))
+    others_out : (P : List ℕ → Type 0) (test : List ℕ → Bool) (es : Archives) → AllByRecursion P (keys_of es)
+        → AllByRecursion P (keys_of (remove_entry test es))
     others_out P test [] h = tt
     others_out P test (e ∷ es) h =
-        elim (test e.0) as (λ b. AllByRecursion P (keys_of (cond b es (e ∷ remove_entry test es)))) [ true ↦ h.1 | false ↦ (h.0, others_out P test es h.1) ]
+        elim (test e.0) as (λ b. AllByRecursion P (keys_of (cond b es (e ∷ remove_entry test es))))
+        [ true ↦ h.1 | false ↦ (h.0, others_out P test es h.1) ]
 
 -- of what stays where a key is stored nothing goes
-pub rest_out : (id : List ℕ) (limit : ℕ) (es : Archives) → IsDistinct bytes_eq (keys_of es) → but_each (dropped limit (without_key id es)) (but_key id es) ≡ trim limit (without_key id es)
+pub rest_out : (id : List ℕ) (limit : ℕ) (es : Archives) → IsDistinct bytes_eq (keys_of es)
+    → but_each (dropped limit (without_key id es)) (but_key id es) ≡ trim limit (without_key id es)
 rest_out id limit es distinct =
-    ap (but_each (dropped limit (without_key id es))) (sym (out_once id es distinct) ∙ dropped_and_rest limit (without_key id es))
-    ∙ front_out (dropped limit (without_key id es)) (trim limit (without_key id es)) (subst (λ l. IsDistinct bytes_eq (keys_of l)) (dropped_and_rest limit (without_key id es)) (distinct_out (bytes_eq id) es distinct))
+    ap (but_each (dropped limit (without_key id es)))
+    (sym (out_once id es distinct) ∙ dropped_and_rest limit (without_key id es))
+    ∙ front_out (dropped limit (without_key id es)) (trim limit (without_key id es))
+    (subst (λ l. IsDistinct bytes_eq (keys_of l)) (dropped_and_rest limit (without_key id es))
+    (distinct_out (bytes_eq id) es distinct))
 
 -- ---- a store
 
-pub there_still : (root temp bytes : List ℕ) (gone : Entries) (fs : Files) → Avoids root temp gone → file_at fs temp ≡ Some bytes → file_at (without_each root gone fs) temp ≡ Some bytes
+pub there_still : (root temp bytes : List ℕ) (gone : Entries) (fs : Files) → Avoids root temp gone
+    → file_at fs temp ≡ Some bytes → file_at (without_each root gone fs) temp ≡ Some bytes
 there_still root temp bytes [] fs avoids is = is
 there_still root temp bytes (g ∷ gone) fs avoids is =
-    there_still root temp bytes gone (without (root ++ g.0) fs) avoids.1 (without_other (root ++ g.0) temp fs avoids.0 ∙ is)
+    there_still root temp bytes gone (without (root ++ g.0) fs) avoids.1
+    (without_other (root ++ g.0) temp fs avoids.0 ∙ is)
 
-keys_avoid : (path root : List ℕ) (n : ℕ) (es : Entries) → AllArchiveKeys es → Avoids root (root ++ temp_name n) es
+keys_avoid : (path root : List ℕ) (n : ℕ) (es : Entries) → AllArchiveKeys es
+    → Avoids root (root ++ temp_name n) es
 keys_avoid path root n [] keys = tt
-keys_avoid path root n (e ∷ es) keys =
-    (same_front root e.0 (temp_name n) ∙ (ap (λ k. bytes_eq k (temp_name n)) keys.0.path ∙ apart (temp_name n) (archive_key (id_in e.0)) (temp_no_key n (id_in e.0))), keys_avoid path root n es keys.1)
+keys_avoid path root n (e ∷ es) keys = (
+  same_front root e.0 (temp_name n)
+      ∙ (ap (λ k. bytes_eq k (temp_name n)) keys.0.path ∙ apart (temp_name n) (archive_key (id_in e.0))
+      (temp_no_key n (id_in e.0))),
+  keys_avoid path root n es keys.1,
+)
 
 -- the archives among the files once one is stored
-pub in_stored : (path id bytes : List ℕ) (n limit : ℕ) (gone : Entries) (es : Archives) (fs : Files) → id_of bytes ≡ id → AllArchiveKeys gone → unkeyed gone ≡ dropped limit (without_key id es) → IsDistinct bytes_eq (keys_of es)
-    → archives_in path fs ≡ es → archives_in path (files_stored (front path) (front path ++ temp_name n) (archive_path path id) bytes gone fs) ≡ stored id (length bytes) limit es
+pub in_stored : (path id bytes : List ℕ) (n limit : ℕ) (gone : Entries) (es : Archives) (fs : Files)
+    → id_of bytes ≡ id → AllArchiveKeys gone → unkeyed gone ≡ dropped limit (without_key id es)
+    → IsDistinct bytes_eq (keys_of es)
+    → archives_in path fs ≡ es
+    → archives_in path (files_stored (front path) (front path ++ temp_name n)
+    (archive_path path id) bytes gone fs) ≡ stored id (length bytes) limit es
 in_stored path id bytes n limit gone es fs is keys gone_is distinct in_step =
     let temp = front path ++ temp_name n in
-    let away : (k : List ℕ) → bytes_eq temp (archive_path path k) ≡ false = λ k. same_front (front path) (temp_name n) (archive_key k) ∙ temp_no_key n k in
+    let away : (k : List ℕ) → bytes_eq temp (archive_path path k) ≡ false = λ k. same_front (front path)
+    (temp_name n) (archive_key k) ∙ temp_no_key n k in
     let two = without_each (front path) gone (put temp bytes fs) in
-    let found : file_at two temp ≡ Some bytes = there_still (front path) temp bytes gone (put temp bytes fs) (keys_avoid path (front path) n gone keys) (put_same temp bytes fs) in
+    let found : file_at two temp ≡ Some bytes = there_still (front path) temp bytes gone (put temp bytes fs)
+    (keys_avoid path (front path) n gone keys) (put_same temp bytes fs) in
     let here : archives_in path two ≡ but_each (dropped limit (without_key id es)) es =
-    in_each path (front path) gone (put temp bytes fs) refl keys ∙ (λ i. but_each (gone_is i) ((in_put_other path temp bytes fs away ∙ in_step) i)) in
+    in_each path (front path) gone (put temp bytes fs) refl keys
+    ∙ (λ i. but_each (gone_is i) ((in_put_other path temp bytes fs away ∙ in_step) i)) in
     let rest : but_each (dropped limit (without_key id es)) (but_key id es) ≡ trim limit (without_key id es) =
-    ap (but_each (dropped limit (without_key id es))) (sym (out_once id es distinct) ∙ dropped_and_rest limit (without_key id es))
-    ∙ front_out (dropped limit (without_key id es)) (trim limit (without_key id es)) (subst (λ l. IsDistinct bytes_eq (keys_of l)) (dropped_and_rest limit (without_key id es)) (distinct_out (bytes_eq id) es distinct)) in
+    ap (but_each (dropped limit (without_key id es)))
+    (sym (out_once id es distinct) ∙ dropped_and_rest limit (without_key id es))
+    ∙ front_out (dropped limit (without_key id es)) (trim limit (without_key id es))
+    (subst (λ l. IsDistinct bytes_eq (keys_of l)) (dropped_and_rest limit (without_key id es))
+    (distinct_out (bytes_eq id) es distinct)) in
     ap (λ o. archives_in path (put_found o (archive_path path id) two (without temp two))) found
     ∙ (in_put path id bytes (without temp two) is
     ∙ ap (λ l. l ++ (id, length bytes) ∷ [])
@@ -222,34 +302,45 @@ in_stored path id bytes n limit gone es fs is keys gone_is distinct in_step =
     ∙ (but_each_later id (dropped limit (without_key id es)) es ∙ rest)))
 
 -- once one is looked up
-pub found_entry : (id : List ℕ) (n : ℕ) (es : Archives) → lookup (bytes_eq id) es ≡ Some n → lookup_entry (bytes_eq id) es ≡ Some (id, n)
+pub found_entry : (id : List ℕ) (n : ℕ) (es : Archives) → lookup (bytes_eq id) es ≡ Some n
+    → lookup_entry (bytes_eq id) es ≡ Some (id, n)
 found_entry id n [] found = absurd (true≢false (sym (ap is_some found)))
 found_entry id n (e ∷ es) found = by (bytes_eq id e.0) refl found (found_entry id n es)
   where
-    by : (b : Bool) → bytes_eq id e.0 ≡ b → cond b (Some e.1) (lookup (bytes_eq id) es) ≡ Some n → (lookup (bytes_eq id) es ≡ Some n → lookup_entry (bytes_eq id) es ≡ Some (id, n)) → cond b (Some e) (lookup_entry (bytes_eq id) es) ≡ Some (id, n)
+    by : (b : Bool) → bytes_eq id e.0 ≡ b → cond b (Some e.1) (lookup (bytes_eq id) es) ≡ Some n
+        → (lookup (bytes_eq id) es ≡ Some n → lookup_entry (bytes_eq id) es ≡ Some (id, n))
+        → cond b (Some e) (lookup_entry (bytes_eq id) es) ≡ Some (id, n)
     by true same found rest =
         let size : e.1 ≡ n = cc in
         λ i. Some (sym ((bytes_eq-Decides id e.0).0 same) i, size i)
     by false other found rest = rest found
 
-listed_again : (path id bytes : List ℕ) (n : ℕ) (es : Archives) (fs : Files) → archive_of bytes ≡ (id, n) → lookup (bytes_eq id) es ≡ Some n → IsDistinct bytes_eq (keys_of es) → archives_in path fs ≡ es → archives_in path (put (archive_path path id) bytes fs) ≡ promoted_key id es
+listed_again : (path id bytes : List ℕ) (n : ℕ) (es : Archives) (fs : Files) → archive_of bytes ≡ (id, n)
+    → lookup (bytes_eq id) es ≡ Some n → IsDistinct bytes_eq (keys_of es) → archives_in path fs ≡ es
+    → archives_in path (put (archive_path path id) bytes fs) ≡ promoted_key id es
 listed_again path id bytes n es fs is found distinct in_step =
     let size : length bytes ≡ n = ap (λ p. p.1) is in
     in_put path id bytes fs (ap (λ p. p.0) is)
     ∙ ((λ i. but_key id (in_step i) ++ (id, size i) ∷ [])
     ∙ (ap (λ l. l ++ (id, n) ∷ []) (sym (out_once id es distinct))
-    ∙ sym (ap (λ o. option_map_or (λ p. remove_entry (bytes_eq id) es ++ p ∷ []) o es) (found_entry id n es found))))
+    ∙ sym (ap (λ o. option_map_or (λ p. remove_entry (bytes_eq id) es ++ p ∷ []) o es)
+    (found_entry id n es found))))
 
 -- the file of an archive that is listed is the most recent
-pub in_touched : (path id : List ℕ) (n : ℕ) (es : Archives) (fs : Files) → option_map archive_of (file_at fs (archive_path path id)) ≡ Some (id, n) → lookup (bytes_eq id) es ≡ Some n → IsDistinct bytes_eq (keys_of es) → archives_in path fs ≡ es
+pub in_touched : (path id : List ℕ) (n : ℕ) (es : Archives) (fs : Files)
+    → option_map archive_of (file_at fs (archive_path path id)) ≡ Some (id, n)
+    → lookup (bytes_eq id) es ≡ Some n → IsDistinct bytes_eq (keys_of es) → archives_in path fs ≡ es
     → archives_in path (touched (archive_path path id) fs) ≡ promoted_key id es
 in_touched path id n es fs held found distinct in_step = by (file_at fs (archive_path path id)) held
   where
-    by : (o : Option (List ℕ)) → option_map archive_of o ≡ Some (id, n) → archives_in path (put_found o (archive_path path id) fs fs) ≡ promoted_key id es
+    by : (o : Option (List ℕ)) → option_map archive_of o ≡ Some (id, n)
+        → archives_in path (put_found o (archive_path path id) fs fs) ≡ promoted_key id es
     by None none = absurd (true≢false (sym (ap is_some none)))
-    by (Some b) some = let is : archive_of b ≡ (id, n) = cc in listed_again path id b n es fs is found distinct in_step
+    by (Some b) some = let is : archive_of b ≡ (id, n) =
+        cc in listed_again path id b n es fs is found distinct in_step
 
 -- the file of an archive is gone
-pub in_gone : (path id : List ℕ) (es : Archives) (fs : Files) → IsDistinct bytes_eq (keys_of es) → archives_in path fs ≡ es → archives_in path (without (archive_path path id) fs) ≡ without_key id es
+pub in_gone : (path id : List ℕ) (es : Archives) (fs : Files) → IsDistinct bytes_eq (keys_of es)
+    → archives_in path fs ≡ es → archives_in path (without (archive_path path id) fs) ≡ without_key id es
 in_gone path id es fs distinct in_step =
     in_without path id fs ∙ (ap (but_key id) in_step ∙ sym (out_once id es distinct))

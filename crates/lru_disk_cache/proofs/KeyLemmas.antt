@@ -1,5 +1,6 @@
 -- The keys of archives.
-use Rattle.std.proofs.Common.{◌≡◌, ◌==◌, ℕ, List, [], ◌∷◌, true, Some, Result, Ok, Err, is_ok, length, map, refl, sym, ap, ◌∙◌, true≢false, arith}
+use Rattle.std.proofs.Common.{◌≡◌, ◌==◌, ℕ, List, [], ◌∷◌, true, Some, Result, Ok, Err, is_ok, length, map}
+use Rattle.std.proofs.Common.{refl, sym, ap, ◌∙◌, true≢false, arith}
 use Rattle.std.specs.Option.{ok_or}
 use Rattle.std.specs.Char.{is_ascii_hexdigit, to_ascii_lowercase}
 use Rattle.std.specs.List.{list_all}
@@ -44,13 +45,17 @@ pub id_said : (key : List ℕ) → IsArchiveKey key → digest_in (id_in key) �
 id_said key h = digest_of_id (id_in key) h.id
 
 -- it makes a toolchain, whatever its refusal would be
-pub id_made : {E : Type 0} (id text : List ℕ) (bad : E) (result : Result (List ℕ) E) → result ≡ ok_or (digest_in text) bad → text ≡ id → digest_in id ≡ Some id → result ≡ Ok id
-id_made id text bad result is same said = is ∙ (ap (λ t. ok_or (digest_in t) bad) same ∙ ap (λ o. ok_or o bad) said)
+pub id_made : {E : Type 0} (id text : List ℕ) (bad : E) (result : Result (List ℕ) E)
+    → result ≡ ok_or (digest_in text) bad → text ≡ id → digest_in id ≡ Some id → result ≡ Ok id
+id_made id text bad result is same said = is
+    ∙ (ap (λ t. ok_or (digest_in t) bad) same ∙ ap (λ o. ok_or o bad) said)
 
-pub none_refused : {E : Type 0} (id text : List ℕ) (bad e : E) (result : Result (List ℕ) E) → result ≡ ok_or (digest_in text) bad → text ≡ id → digest_in id ≡ Some id → result ≡ Err e → ⊥
+pub none_refused : {E : Type 0} (id text : List ℕ) (bad e : E) (result : Result (List ℕ) E)
+    → result ≡ ok_or (digest_in text) bad → text ≡ id → digest_in id ≡ Some id → result ≡ Err e → ⊥
 none_refused id text bad e result is same said err =
     true≢false (ap is_ok (sym (id_made id text bad result is same said) ∙ err))
 
-pub id_given : {E : Type 0} (id text tc : List ℕ) (bad : E) (result : Result (List ℕ) E) → result ≡ ok_or (digest_in text) bad → text ≡ id → digest_in id ≡ Some id → result ≡ Ok tc → tc ≡ id
+pub id_given : {E : Type 0} (id text tc : List ℕ) (bad : E) (result : Result (List ℕ) E)
+    → result ≡ ok_or (digest_in text) bad → text ≡ id → digest_in id ≡ Some id → result ≡ Ok tc → tc ≡ id
 id_given id text tc bad result is same said ok =
     let both : Ok tc ≡ Ok id = sym ok ∙ id_made id text bad result is same said in cc

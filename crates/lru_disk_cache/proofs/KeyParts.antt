@@ -12,13 +12,16 @@ and_then true b c d is = is
 and_then false b c d is = refl
 
 module _ {A : Type 0} (view : A → List ℕ) where
-  plain_behind : (xs : List A) (x : A) → list_all is_plain (map view (xs ++ x ∷ [])) ≡ (list_all is_plain (map view xs) && is_plain (view x))
+  plain_behind : (xs : List A) (x : A) → list_all is_plain (map view (xs ++ x ∷ [])) ≡
+      (list_all is_plain (map view xs) && is_plain (view x))
   plain_behind [] x = and_true (is_plain (view x))
   plain_behind (y ∷ ys) x =
-      and_then (is_plain (view y)) (list_all is_plain (map view (ys ++ x ∷ []))) (list_all is_plain (map view ys)) (is_plain (view x)) (plain_behind ys x)
+      and_then (is_plain (view y)) (list_all is_plain (map view (ys ++ x ∷ [])))
+      (list_all is_plain (map view ys)) (is_plain (view x)) (plain_behind ys x)
 
   -- whether all are plain, once there is one more
-  pub plain_more : (xs : List A) (x : A) (old one : Bool) → old ≡ list_all is_plain (map view xs) → one ≡ is_plain (view x) → (old && one) ≡ list_all is_plain (map view (xs ++ x ∷ []))
+  pub plain_more : (xs : List A) (x : A) (old one : Bool) → old ≡ list_all is_plain (map view xs)
+      → one ≡ is_plain (view x) → (old && one) ≡ list_all is_plain (map view (xs ++ x ∷ []))
   plain_more xs x old one is one_is = (λ i. is i && one_is i) ∙ sym (plain_behind xs x)
 
   -- and which is the last
@@ -32,5 +35,6 @@ unfolding is_temporary
 none_temporary = refl
 
 -- the parts are a key
-pub whole_key : (plain temporary : Bool) (parts : List (List ℕ)) → plain ≡ list_all is_plain parts → temporary ≡ is_temporary (last_behind [] parts) → (plain && not temporary) ≡ are_key parts
+pub whole_key : (plain temporary : Bool) (parts : List (List ℕ)) → plain ≡ list_all is_plain parts
+    → temporary ≡ is_temporary (last_behind [] parts) → (plain && not temporary) ≡ are_key parts
 whole_key plain temporary parts plain_is is = λ i. plain_is i && not (is i)

@@ -1,9 +1,13 @@
 -- Storing a file of the folder, or what a closure writes.
-use Rattle.std.proofs.Common.{◌≡◌, ◌+◌, ℕ, Bool, true, false, not, nat_lt, if◌then◌else◌, List, length, is_ok, true≢false, ap, Result, Ok, Err, IfErr, OnOk, inl, inr, refl}
+use Rattle.std.proofs.Common.{◌≡◌, ◌+◌, ℕ, Bool, true, false, not, nat_lt, if◌then◌else◌, List, length, is_ok}
+use Rattle.std.proofs.Common.{true≢false, ap, Result, Ok, Err, IfErr, OnOk, inl, inr, refl}
 use Rattle.lru_disk_cache.specs.Held.{Held, Lacks}
 use Rattle.lru_disk_cache.specs.declared.fault.FolderFault.TheVariants.{Missing, Failed, Memory}
 use Rattle.lru_disk_cache.specs.declared.error.Error.{Error}
-use Rattle.lru_disk_cache.specs.declared.error.Error.TheVariants.{FileTooLarge, FileNotInCache, Io, PendingSpace, BadKey, NotPending, WrongDigest, WriterRefused, Memory as NoMemory}
+use Rattle.lru_disk_cache.specs.declared.error.Error.TheVariants.{FileTooLarge, FileNotInCache, Io}
+use Rattle.lru_disk_cache.specs.declared.error.Error.TheVariants.{PendingSpace, BadKey, NotPending}
+use Rattle.lru_disk_cache.specs.declared.error.Error.TheVariants.{WrongDigest, WriterRefused}
+use Rattle.lru_disk_cache.specs.declared.error.Error.TheVariants.{Memory as NoMemory}
 use Rattle.lru_disk_cache.specs.declared.error.WriteFault.{WriteFault}
 use Rattle.lru_disk_cache.specs.Store.{Disk, insert_verdict, InsertFails}
 use Rattle.lru_disk_cache.specs.Key.{is_key}
@@ -14,7 +18,8 @@ use Rattle.lru_disk_cache.specs.Archiving.{StoreFails}
 use Rattle.lru_disk_cache.specs.Moving.{MoveFails, WriterFails, WithFails, StoreWithFails}
 
 -- where the file that is to be moved is not measured
-pub move_failed : (key path : List ℕ) (d e : Disk) (error : Error) (old new : Held) → e ≡ d → CallFails (Lacks path) error old new → MoveFails key path error d e old new
+pub move_failed : (key path : List ℕ) (d e : Disk) (error : Error) (old new : Held) → e ≡ d
+    → CallFails (Lacks path) error old new → MoveFails key path error d e old new
 move_failed key path d e (Io Missing) old new is h = (inl is, inr (is, h.0, h.1))
 move_failed key path d e (Io Failed) old new is h = (inl is, h)
 move_failed key path d e (Io Memory) old new is h = absurd h
@@ -32,20 +37,24 @@ bad_key : (key : List ℕ) (size : ℕ) (d : Disk) → insert_verdict d key size
 bad_key key size d h = by (is_key key) refl h
   where
     rest : Result (Unit {0}) Error
-    rest = if nat_lt d.capacity size then Err FileTooLarge else if nat_lt d.capacity (held_size d.pending + size) then Err PendingSpace else Ok (tt {0})
+    rest = if nat_lt d.capacity size then Err FileTooLarge
+        else if nat_lt d.capacity (held_size d.pending + size) then Err PendingSpace else Ok (tt {0})
 
-    large : (a b : Bool) → (if a then Err FileTooLarge else if b then Err PendingSpace else Ok (tt {0})) ≡ Err BadKey → ⊥
+    large : (a b : Bool) → (if a then Err FileTooLarge else if b then Err PendingSpace else Ok (tt {0}))
+        ≡ Err BadKey → ⊥
     large true b same = let wrong : FileTooLarge ≡ BadKey = cc in cc
     large false true same = let wrong : PendingSpace ≡ BadKey = cc in cc
     large false false same = true≢false (ap is_ok same)
 
     by : (b : Bool) → is_key key ≡ b → (if not b then Err BadKey else rest) ≡ Err BadKey → b ≡ false
     by false is same = refl
-    by true is same = absurd (large (nat_lt d.capacity size) (nat_lt d.capacity (held_size d.pending + size)) same)
+    by true is same = absurd
+        (large (nat_lt d.capacity size) (nat_lt d.capacity (held_size d.pending + size)) same)
 
 module _ (wrote : Result (Unit {0}) WriteFault → List ℕ → Type 0) where
   -- where the closure wrote nothing
-  pub with_failed : (key : List ℕ) (d : Disk) (error : Error) (old : Held) → WriterFails wrote error → WithFails wrote key error d d old old
+  pub with_failed : (key : List ℕ) (d : Disk) (error : Error) (old : Held) → WriterFails wrote error
+      → WithFails wrote key error d d old old
   with_failed key d WriterRefused old h = (refl, refl, h)
   with_failed key d NoMemory old h = inl (refl, refl)
   with_failed key d BadKey old h = absurd h
@@ -57,7 +66,9 @@ module _ (wrote : Result (Unit {0}) WriteFault → List ℕ → Type 0) where
   with_failed key d WrongDigest old h = absurd h
 
   -- and where what it wrote is not stored
-  pub with_fails : (key bytes : List ℕ) (d e : Disk) (result : Result (Unit {0}) Error) (old new : Held) → wrote (Ok (tt {0})) bytes → IfErr result (λ x. InsertFails key (length bytes) x d e old new) → IfErr result (λ x. WithFails wrote key x d e old new)
+  pub with_fails : (key bytes : List ℕ) (d e : Disk) (result : Result (Unit {0}) Error) (old new : Held)
+      → wrote (Ok (tt {0})) bytes → IfErr result (λ x. InsertFails key (length bytes) x d e old new)
+      → IfErr result (λ x. WithFails wrote key x d e old new)
   with_fails key bytes d e (Ok x) old new w h = tt
   with_fails key bytes d e (Err BadKey) old new w h = (h.0, h.1, bad_key key (length bytes) d h.2)
   with_fails key bytes d e (Err FileTooLarge) old new w h = (bytes, w, h)
@@ -70,12 +81,14 @@ module _ (wrote : Result (Unit {0}) WriteFault → List ℕ → Type 0) where
   with_fails key bytes d e (Err WriterRefused) old new w h = absurd h
 
   -- and where it is
-  pub with_ok : {T E : Type 0} (P Q R : List ℕ → Type 0) (bytes : List ℕ) (result : Result T E) → wrote (Ok (tt {0})) bytes → OnOk result (P bytes) → OnOk result (Q bytes) → OnOk result (R bytes)
+  pub with_ok : {T E : Type 0} (P Q R : List ℕ → Type 0) (bytes : List ℕ) (result : Result T E)
+      → wrote (Ok (tt {0})) bytes → OnOk result (P bytes) → OnOk result (Q bytes) → OnOk result (R bytes)
       → OnOk result ((x : List ℕ) × wrote (Ok (tt {0})) x × P x × Q x × R x)
   with_ok P Q R bytes (Ok x) w p q r = (bytes, w, p, q, r)
   with_ok P Q R bytes (Err e) w p q r = tt
 
-  pub store_failed : (capacity : ℕ) (id : List ℕ) (a : Archives) (error : Error) (old : Held) → WriterFails wrote error → StoreWithFails wrote capacity id error a a old old
+  pub store_failed : (capacity : ℕ) (id : List ℕ) (a : Archives) (error : Error) (old : Held)
+      → WriterFails wrote error → StoreWithFails wrote capacity id error a a old old
   store_failed capacity id a WriterRefused old h = (refl, refl, h)
   store_failed capacity id a NoMemory old h = inl (refl, refl)
   store_failed capacity id a BadKey old h = absurd h
@@ -86,7 +99,10 @@ module _ (wrote : Result (Unit {0}) WriteFault → List ℕ → Type 0) where
   store_failed capacity id a NotPending old h = absurd h
   store_failed capacity id a WrongDigest old h = absurd h
 
-  pub store_fails : (capacity : ℕ) (id bytes : List ℕ) (a b : Archives) (result : Result (Unit {0}) Error) (old new : Held) → wrote (Ok (tt {0})) bytes → IfErr result (λ x. StoreFails capacity id bytes x a b old new) → IfErr result (λ x. StoreWithFails wrote capacity id x a b old new)
+  pub store_fails : (capacity : ℕ) (id bytes : List ℕ) (a b : Archives) (result : Result (Unit {0}) Error)
+      (old new : Held) → wrote (Ok (tt {0})) bytes
+      → IfErr result (λ x. StoreFails capacity id bytes x a b old new)
+      → IfErr result (λ x. StoreWithFails wrote capacity id x a b old new)
   store_fails capacity id bytes a b (Ok x) old new w h = tt
   store_fails capacity id bytes a b (Err WrongDigest) old new w h = (bytes, w, h)
   store_fails capacity id bytes a b (Err FileTooLarge) old new w h = (bytes, w, h)

@@ -1,5 +1,6 @@
 -- Paths of keys differ where the keys do.
-use Rattle.std.proofs.Common.{◌≡◌, ℕ, ◌<◌, ◌^◌, ◌==◌, ◌&&◌, not, codes, Bool, true, false, List, [], ◌∷◌, ◌++◌, rules, refl, sym, ap, ◌∙◌, true≢false}
+use Rattle.std.proofs.Common.{◌≡◌, ℕ, ◌<◌, ◌^◌, ◌==◌, ◌&&◌, not, codes, Bool, true, false, List, [], ◌∷◌}
+use Rattle.std.proofs.Common.{◌++◌, rules, refl, sym, ap, ◌∙◌, true≢false}
 use Rattle.std.specs.Str.{bytes_eq}
 use Rattle.std.proofs.lemmas.Slice.Eq.{bytes_eq-Decides}
 use Rattle.std.proofs.lemmas.List.{append_cancel_left}
@@ -19,8 +20,12 @@ same_front root p q = by (bytes_eq (root ++ p) (root ++ q)) (bytes_eq p q) refl 
     by : (a b : Bool) → bytes_eq (root ++ p) (root ++ q) ≡ a → bytes_eq p q ≡ b → a ≡ b
     by true true long short = refl
     by false false long short = refl
-    by true false long short = absurd (true≢false (sym ((bytes_eq-Decides p q).1 (append_cancel_left root p q ((bytes_eq-Decides (root ++ p) (root ++ q)).0 long))) ∙ short))
-    by false true long short = absurd (true≢false (sym ((bytes_eq-Decides (root ++ p) (root ++ q)).1 (ap (λ x. root ++ x) ((bytes_eq-Decides p q).0 short))) ∙ long))
+    by true false long short =
+        absurd (true≢false (sym ((bytes_eq-Decides p q).1
+        (append_cancel_left root p q ((bytes_eq-Decides (root ++ p) (root ++ q)).0 long))) ∙ short))
+    by false true long short =
+        absurd (true≢false (sym ((bytes_eq-Decides (root ++ p) (root ++ q)).1
+        (ap (λ x. root ++ x) ((bytes_eq-Decides p q).0 short))) ∙ long))
 
 and_false : (b : Bool) → (b && false) ≡ false
 and_false true = refl
@@ -36,7 +41,8 @@ digits_split (d ∷ ds) h =
     all_first : (d : ℕ) (ds : List ℕ) → list_all is_ascii_digit (d ∷ ds) ≡ true → is_ascii_digit d ≡ true
     all_first d ds h = search (h, rules)
 
-    all_rest : (d : ℕ) (ds : List ℕ) → list_all is_ascii_digit (d ∷ ds) ≡ true → list_all is_ascii_digit ds ≡ true
+    all_rest : (d : ℕ) (ds : List ℕ) → list_all is_ascii_digit (d ∷ ds) ≡ true
+        → list_all is_ascii_digit ds ≡ true
     all_rest d ds h = search (h, rules)
 
     no_slash : (d : ℕ) → is_ascii_digit d ≡ true → (d == 47) ≡ false
@@ -47,7 +53,11 @@ pub temp_split : (n : ℕ) → n < 2 ^ 64 → slice_split (λ b. b == 47) (temp_
 unfolding temp_name
 temp_split n h =
     let one = digits_split (decimal n) (digits_decimal digits n h) in
-    ap (λ parts. onto_first 46 (onto_first 115 (onto_first 99 (onto_first 99 (onto_first 97 (onto_first 99 (onto_first 104 (onto_first 101 (onto_first 116 (onto_first 109 (onto_first 112 parts))))))))))) one
+    ap (λ parts. onto_first 46
+    (onto_first 115 (onto_first 99
+    (onto_first 99 (onto_first 97
+    (onto_first 99 (onto_first 104
+    (onto_first 101 (onto_first 116 (onto_first 109 (onto_first 112 parts))))))))))) one
 
 pub begins_so : (n : ℕ) → is_temporary (temp_name n) ≡ true
 unfolding is_temporary temp_name
@@ -57,7 +67,8 @@ begins_so n = refl
 pub temp_is_none : (n : ℕ) → n < 2 ^ 64 → is_key (temp_name n) ≡ false
 unfolding is_key
 temp_is_none n h =
-    ap are_key (temp_split n h) ∙ (ap (λ b. list_all is_plain (temp_name n ∷ []) && not b) (begins_so n) ∙ and_false (list_all is_plain (temp_name n ∷ [])))
+    ap are_key (temp_split n h) ∙ (ap (λ b. list_all is_plain (temp_name n ∷ []) && not b) (begins_so n)
+    ∙ and_false (list_all is_plain (temp_name n ∷ [])))
 
 -- and no key has it
 pub temp_differs : (n : ℕ) (k : List ℕ) → n < 2 ^ 64 → is_key k ≡ true → bytes_eq k (temp_name n) ≡ false
@@ -65,18 +76,22 @@ temp_differs n k h is = by (bytes_eq k (temp_name n)) refl
   where
     by : (b : Bool) → bytes_eq k (temp_name n) ≡ b → b ≡ false
     by false other = refl
-    by true same = absurd (true≢false (sym is ∙ (ap is_key ((bytes_eq-Decides k (temp_name n)).0 same) ∙ temp_is_none n h)))
+    by true same = absurd (true≢false
+        (sym is ∙ (ap is_key ((bytes_eq-Decides k (temp_name n)).0 same) ∙ temp_is_none n h)))
 
 number_of : (n m : ℕ) → n < 2 ^ 64 → m < 2 ^ 64 → temp_name n ≡ temp_name m → n ≡ m
 unfolding temp_name
 number_of n m h g same =
-    let ends : decimal n ≡ decimal m = append_cancel_left (codes ".sccachetmp") (decimal n) (decimal m) same in
+    let ends : decimal n ≡ decimal m = append_cancel_left (codes ".sccachetmp") (decimal n) (decimal m) same
+    in
     sym (digits_value-decimal digits n h) ∙ (ap (digits_value 10) ends ∙ digits_value-decimal digits m g)
 
 -- temporary files of different numbers have different paths
-pub temps_differ : (root : List ℕ) (n m : ℕ) → n < 2 ^ 64 → m < 2 ^ 64 → ¬ (n ≡ m) → bytes_eq (root ++ temp_name n) (root ++ temp_name m) ≡ false
+pub temps_differ : (root : List ℕ) (n m : ℕ) → n < 2 ^ 64 → m < 2 ^ 64 → ¬ (n ≡ m)
+    → bytes_eq (root ++ temp_name n) (root ++ temp_name m) ≡ false
 temps_differ root n m h g apart = by (bytes_eq (temp_name n) (temp_name m)) refl
   where
-    by : (b : Bool) → bytes_eq (temp_name n) (temp_name m) ≡ b → bytes_eq (root ++ temp_name n) (root ++ temp_name m) ≡ false
+    by : (b : Bool) → bytes_eq (temp_name n) (temp_name m) ≡ b → bytes_eq (root ++ temp_name n)
+        (root ++ temp_name m) ≡ false
     by false other = same_front root (temp_name n) (temp_name m) ∙ other
     by true same = absurd (apart (number_of n m h g ((bytes_eq-Decides (temp_name n) (temp_name m)).0 same)))

@@ -1,5 +1,6 @@
 -- A file takes the place of a key.
-use Rattle.std.proofs.Common.{◌≡◌, ℕ, ◌≤◌, true, false, List, [], ◌∷◌, ◌++◌, length, Option, Some, None, Result, Ok, Err, OnOk, is_some, refl, sym, ap, subst, ◌∙◌, true≢false, arith}
+use Rattle.std.proofs.Common.{◌≡◌, ℕ, ◌≤◌, true, false, List, [], ◌∷◌, ◌++◌, length, Option, Some, None}
+use Rattle.std.proofs.Common.{Result, Ok, Err, OnOk, is_some, refl, sym, ap, subst, ◌∙◌, true≢false, arith}
 use Rattle.std.specs.List.{AllByRecursion}
 use Rattle.std.specs.Map.{lookup}
 use Rattle.std.specs.Option.{option_map}
@@ -20,21 +21,28 @@ use Rattle.lru_disk_cache.proofs.Standing.{all_both, all_push}
 
 -- the file at each path but these two is as it was
 abbrev pub ButTwo : List ℕ → List ℕ → Files → Files → Type 0
-ButTwo from to old new = (q : List ℕ) → bytes_eq from q ≡ false → bytes_eq to q ≡ false → file_at new q ≡ file_at old q
+ButTwo from to old new = (q : List ℕ) → bytes_eq from q ≡ false → bytes_eq to q ≡ false
+    → file_at new q ≡ file_at old q
 
 -- the file of one path stands at another
 abbrev pub Carried : List ℕ → List ℕ → Files → Files → Type 0
 Carried from to old new = file_at new to ≡ file_at old from
 
-renamed_others : (from to : List ℕ) (result : Result (Unit {0}) FolderFault) (old new : Held) → Changes (Lacks from) (moved from to) (DoneOrNot (moved from to)) result old new → Became (ButTwo from to) old.files new.files
+renamed_others : (from to : List ℕ) (result : Result (Unit {0}) FolderFault) (old new : Held)
+    → Changes (Lacks from) (moved from to) (DoneOrNot (moved from to)) result old new
+    → Became (ButTwo from to) old.files new.files
 renamed_others from to result old new h =
-    became_of (Lacks from) (moved from to) (DoneOrNot (moved from to)) (ButTwo from to) result old new (λ f q a b. refl) (λ f q a b. moved_other from to q f a b) (λ f g part q a b. done_or_not (moved from to) q f g part (moved_other from to q f a b)) h
+    became_of (Lacks from) (moved from to) (DoneOrNot (moved from to)) (ButTwo from to) result old new
+    (λ f q a b. refl) (λ f q a b. moved_other from to q f a b)
+    (λ f g part q a b. done_or_not (moved from to) q f g part (moved_other from to q f a b)) h
 
-carried : (o : Option (List ℕ)) (from to : List ℕ) (files : Files) → file_at files from ≡ o → ¬ (file_at files from ≡ None) → Carried from to files (moved from to files)
+carried : (o : Option (List ℕ)) (from to : List ℕ) (files : Files) → file_at files from ≡ o
+    → ¬ (file_at files from ≡ None) → Carried from to files (moved from to files)
 carried None from to files is some = absurd (some is)
 carried (Some b) from to files is some = moved_there from to b files is ∙ sym is
 
-carried_if : (o new : Option Files) (from to : List ℕ) → new ≡ option_map (moved from to) o → ((f : Files) → o ≡ Some f → ¬ (Lacks from f)) → Became (Carried from to) o new
+carried_if : (o new : Option Files) (from to : List ℕ) → new ≡ option_map (moved from to) o
+    → ((f : Files) → o ≡ Some f → ¬ (Lacks from f)) → Became (Carried from to) o new
 carried_if None new from to is found = is
 carried_if (Some f) new from to is found =
     (moved from to f, is, carried (file_at f from) from to f refl (found f refl))
@@ -47,12 +55,14 @@ sized_some : (files : Files) (path : List ℕ) (n : ℕ) → size_at files path 
 sized_some files path n sized none =
     absurd (true≢false (ap is_some (sym sized ∙ ap (option_map length) none)))
 
-not_told : (o : Option Files) (path : List ℕ) (n : ℕ) → ((f : Files) → o ≡ Some f → size_at f path ≡ Some n) → ((f : Files) → o ≡ Some f → Lacks path f) → o ≡ None
+not_told : (o : Option Files) (path : List ℕ) (n : ℕ) → ((f : Files) → o ≡ Some f → size_at f path ≡ Some n)
+    → ((f : Files) → o ≡ Some f → Lacks path f) → o ≡ None
 not_told None path n sized lacks = refl
 not_told (Some f) path n sized lacks = absurd (sized_some f path n (sized f refl) (lacks f refl))
 
 -- what a rename of a file to the path of a key leaves
-pub record Renamed (root key from : List ℕ) (n : ℕ) (es : Entries) (result : Result (Unit {0}) FolderFault) (old new : Held) : Type 0 where
+pub record Renamed (root key from : List ℕ) (n : ℕ) (es : Entries) (result : Result (Unit {0}) FolderFault)
+    (old new : Held) : Type 0 where
   pub stands : Stands root new es
   pub others : Became (ButUnderAnd root from) old.files new.files
   pub untouched : Became (ButThese root from (root ++ key) es) old.files new.files
@@ -62,16 +72,20 @@ pub record Renamed (root key from : List ℕ) (n : ℕ) (es : Entries) (result :
   pub pushed : OnOk result (Stands root new (es ++ (key, n) ∷ []))
 
 -- no entry has either path
-apart_from : (root key from : List ℕ) (es : Entries) → Avoids root from es → AllByRecursion (λ e. bytes_eq key e.0 ≡ false) es
-    → AllByRecursion (λ e. (bytes_eq from (root ++ e.0) ≡ false) × (bytes_eq (root ++ key) (root ++ e.0) ≡ false)) es
+apart_from : (root key from : List ℕ) (es : Entries) → Avoids root from es
+    → AllByRecursion (λ e. bytes_eq key e.0 ≡ false) es
+    → AllByRecursion (λ e. (bytes_eq from (root ++ e.0) ≡ false)
+    × (bytes_eq (root ++ key) (root ++ e.0) ≡ false)) es
 apart_from root key from es avoids absent =
     all_both es avoids absent (λ e is other. (apart (root ++ e.0) from is, same_front root key e.0 ∙ other))
 
 module _ (root key from : List ℕ) (n : ℕ) (es : Entries) (old new : Held) where
-  keeping : Avoids root from es → lookup (bytes_eq key) es ≡ None → Became (ButTwo from (root ++ key)) old.files new.files → Became (Keeps root es) old.files new.files
+  keeping : Avoids root from es → lookup (bytes_eq key) es ≡ None
+      → Became (ButTwo from (root ++ key)) old.files new.files → Became (Keeps root es) old.files new.files
   keeping avoids absent others =
       let away = apart_from root key from es avoids (none_passes_from_lookup (bytes_eq key) es absent) in
-      became_map (ButTwo from (root ++ key)) (Keeps root es) old.files new.files (λ f g but. all_both es away away (λ e other again. but (root ++ e.0) other.0 other.1)) others
+      became_map (ButTwo from (root ++ key)) (Keeps root es) old.files new.files
+      (λ f g but. all_both es away away (λ e other again. but (root ++ e.0) other.0 other.1)) others
 
   standing : Stands root old es → Became (Keeps root es) old.files new.files → Stands root new es
   standing h keeps = record {
@@ -81,46 +95,91 @@ module _ (root key from : List ℕ) (n : ℕ) (es : Entries) (old new : Held) wh
         all_both es (h.backed w.0 w.1) w.2 (λ e sized same. ap (option_map length) same ∙ sized);
   }
 
-  outside : Became (ButTwo from (root ++ key)) old.files new.files → Became (ButUnderAnd root from) old.files new.files
+  outside : Became (ButTwo from (root ++ key)) old.files new.files
+      → Became (ButUnderAnd root from) old.files new.files
   outside others =
-      became_map (ButTwo from (root ++ key)) (ButUnderAnd root from) old.files new.files (λ f g but q away not_from. but q not_from (away key)) others
+      became_map (ButTwo from (root ++ key)) (ButUnderAnd root from) old.files new.files
+      (λ f g but q away not_from. but q not_from (away key)) others
 
-  these : Became (ButTwo from (root ++ key)) old.files new.files → Became (ButThese root from (root ++ key) es) old.files new.files
+  these : Became (ButTwo from (root ++ key)) old.files new.files
+      → Became (ButThese root from (root ++ key) es) old.files new.files
   these others =
-      became_map (ButTwo from (root ++ key)) (ButThese root from (root ++ key) es) old.files new.files (λ f g but q not_from not_path avoids. but q not_from not_path) others
+      became_map (ButTwo from (root ++ key)) (ButThese root from (root ++ key) es) old.files new.files
+      (λ f g but q not_from not_path avoids. but q not_from not_path) others
 
-  placed : is_key key ≡ true → Stands root new es → Holds old (λ f. size_at f from ≡ Some n) → Became (Carried from (root ++ key)) old.files new.files → Stands root new (es ++ (key, n) ∷ [])
+  placed : is_key key ≡ true → Stands root new es → Holds old (λ f. size_at f from ≡ Some n)
+      → Became (Carried from (root ++ key)) old.files new.files → Stands root new (es ++ (key, n) ∷ [])
   placed fit h sized content = record {
     keys = all_push (λ e. is_key e.0 ≡ true) es (key, n) h.keys fit;
     backed = λ files is.
         let w = became_from (Carried from (root ++ key)) old.files new.files files content is in
-        all_push (λ e. size_at files (root ++ e.0) ≡ Some e.1) es (key, n) (h.backed files is) (ap (option_map length) w.2 ∙ sized w.0 w.1);
+        all_push (λ e. size_at files (root ++ e.0) ≡ Some e.1) es (key, n) (h.backed files is)
+        (ap (option_map length) w.2 ∙ sized w.0 w.1);
   }
 
-  at_paths : (result : Result (Unit {0}) FolderFault) → is_key key ≡ true → Avoids root from es → lookup (bytes_eq key) es ≡ None → Stands root old es → Holds old (λ f. size_at f from ≡ Some n)
-      → Changes (Lacks from) (moved from (root ++ key)) (DoneOrNot (moved from (root ++ key))) result old new → Renamed root key from n es result old new
+  at_paths : (result : Result (Unit {0}) FolderFault) → is_key key ≡ true → Avoids root from es
+      → lookup (bytes_eq key) es ≡ None → Stands root old es → Holds old (λ f. size_at f from ≡ Some n)
+      → Changes (Lacks from) (moved from (root ++ key)) (DoneOrNot (moved from (root ++ key))) result old new
+      → Renamed root key from n es result old new
   at_paths (Ok x) fit avoids absent h sized is =
       let others = renamed_others from (root ++ key) (Ok x) old new is in
       let keeps = keeping avoids absent others in
       let stands = standing h keeps in
       let content = carried_if old.files new.files from (root ++ key) (ap (λ k. k.files) is.0) is.1 in
-      record { stands = stands; others = outside others; untouched = these others; keeps = keeps; counts = ap (λ k. k.faults) is.0; content = content; pushed = placed fit stands sized content }
+      record {
+        stands = stands;
+        others = outside others;
+        untouched = these others;
+        keeps = keeps;
+        counts = ap (λ k. k.faults) is.0;
+        content = content;
+        pushed = placed fit stands sized content;
+      }
   at_paths (Err Missing) fit avoids absent h sized is =
       let others = renamed_others from (root ++ key) (Err Missing) old new is in
       let keeps = keeping avoids absent others in
-      record { stands = standing h keeps; others = outside others; untouched = these others; keeps = keeps; counts = (not_told old.files from n sized is.1, le_same (ap (λ k. k.faults) is.0)); content = tt; pushed = tt }
+      record {
+        stands = standing h keeps;
+        others = outside others;
+        untouched = these others;
+        keeps = keeps;
+        counts = (not_told old.files from n sized is.1, le_same (ap (λ k. k.faults) is.0));
+        content = tt;
+        pushed = tt;
+      }
   at_paths (Err Failed) fit avoids absent h sized is =
       let others = renamed_others from (root ++ key) (Err Failed) old new is in
       let keeps = keeping avoids absent others in
-      record { stands = standing h keeps; others = outside others; untouched = these others; keeps = keeps; counts = (is.1, is.2); content = tt; pushed = tt }
+      record {
+        stands = standing h keeps;
+        others = outside others;
+        untouched = these others;
+        keeps = keeps;
+        counts = (is.1, is.2);
+        content = tt;
+        pushed = tt;
+      }
   at_paths (Err Memory) fit avoids absent h sized is =
       let others = renamed_others from (root ++ key) (Err Memory) old new is in
       let keeps = keeping avoids absent others in
-      record { stands = standing h keeps; others = outside others; untouched = these others; keeps = keeps; counts = is.1; content = tt; pushed = tt }
+      record {
+        stands = standing h keeps;
+        others = outside others;
+        untouched = these others;
+        keeps = keeps;
+        counts = is.1;
+        content = tt;
+        pushed = tt;
+      }
 
   -- a rename of a file to the path of a key that is not listed
-  pub renamed : (source to : List ℕ) (result : Result (Unit {0}) FolderFault) → source ≡ from → to ≡ root ++ key → is_key key ≡ true → Avoids root from es → lookup (bytes_eq key) es ≡ None → Stands root old es
-      → Holds old (λ f. size_at f from ≡ Some n) → Changes (Lacks source) (moved source to) (DoneOrNot (moved source to)) result old new → Renamed root key from n es result old new
+  pub renamed : (source to : List ℕ) (result : Result (Unit {0}) FolderFault) → source ≡ from
+      → to ≡ root ++ key → is_key key ≡ true → Avoids root from es → lookup (bytes_eq key) es ≡ None
+      → Stands root old es
+      → Holds old (λ f. size_at f from ≡ Some n) → Changes (Lacks source) (moved source to)
+      (DoneOrNot (moved source to)) result old new → Renamed root key from n es result old new
   renamed source to result source_is to_is fit avoids absent h sized is =
-      let P : List ℕ → List ℕ → Type 0 = λ a b. Changes (Lacks a) (moved a b) (DoneOrNot (moved a b)) result old new in
-      at_paths result fit avoids absent h sized (subst (λ b. P from b) to_is (subst (λ a. P a to) source_is is))
+      let P : List ℕ → List ℕ → Type 0 = λ a b. Changes (Lacks a) (moved a b)
+      (DoneOrNot (moved a b)) result old new in
+      at_paths result fit avoids absent h sized
+      (subst (λ b. P from b) to_is (subst (λ a. P a to) source_is is))

@@ -1,5 +1,7 @@
 -- Open reservations, and what stands behind each call on them.
-use Rattle.std.proofs.Common.{◌≡◌, ℕ, ◌+◌, ◌<◌, ◌≤◌, ◌^◌, ◌==◌, ◌&&◌, ◌||◌, ◌⊎◌, Bool, true, false, cond, not, is_some, List, [], ◌∷◌, ◌++◌, take, Option, Some, None, Result, Ok, Err, IfErr, OnOk, inl, inr, refl, sym, ap, subst, ◌∙◌, true≢false, append_assoc, arith}
+use Rattle.std.proofs.Common.{◌≡◌, ℕ, ◌+◌, ◌<◌, ◌≤◌, ◌^◌, ◌==◌, ◌&&◌, ◌||◌, ◌⊎◌, Bool, true, false, cond, not}
+use Rattle.std.proofs.Common.{is_some, List, [], ◌∷◌, ◌++◌, take, Option, Some, None, Result, Ok, Err, IfErr}
+use Rattle.std.proofs.Common.{OnOk, inl, inr, refl, sym, ap, subst, ◌∙◌, true≢false, append_assoc, arith}
 use Rattle.std.proofs.lemmas.Bool.{eqb-true, eqb-false}
 use Rattle.std.proofs.lemmas.List.Sums.{sum_by-append, sum_by-cons}
 use Rattle.std.proofs.lemmas.Slice.Eq.{bytes_eq-Decides}
@@ -13,13 +15,19 @@ use Rattle.lru_disk_cache.specs.Held.{Held, Lacks, Became, Changes}
 use Rattle.lru_disk_cache.specs.declared.fault.FolderFault.{FolderFault}
 use Rattle.lru_disk_cache.specs.declared.fault.FolderFault.TheVariants.{Missing, Failed, Memory}
 use Rattle.lru_disk_cache.specs.declared.error.Error.{Error}
-use Rattle.lru_disk_cache.specs.declared.error.Error.TheVariants.{FileTooLarge, FileNotInCache, Io, PendingSpace, BadKey, NotPending, WrongDigest, WriterRefused, Memory as NoMemory}
+use Rattle.lru_disk_cache.specs.declared.error.Error.TheVariants.{FileTooLarge, FileNotInCache, Io}
+use Rattle.lru_disk_cache.specs.declared.error.Error.TheVariants.{PendingSpace, BadKey, NotPending}
+use Rattle.lru_disk_cache.specs.declared.error.Error.TheVariants.{WrongDigest, WriterRefused}
+use Rattle.lru_disk_cache.specs.declared.error.Error.TheVariants.{Memory as NoMemory}
 use Rattle.lru_disk_cache.specs.Key.{is_key, is_temporary, last_behind, names_temporary, temp_name}
 use Rattle.lru_disk_cache.specs.Entries.{Entries}
 use Rattle.lru_disk_cache.specs.Disk.{AllKeys, ButAt, ButThese, Counts}
-use Rattle.lru_disk_cache.specs.Reserved.{Reservation, AddEntry, IsReserved, AllReserved, AllSure, KeepsReserved, NumbersDiffer, has, held_size, is_of, is_pending, is_sure, temp_of, without_number, doubted, unsure}
+use Rattle.lru_disk_cache.specs.Reserved.{Reservation, AddEntry, IsReserved, AllReserved, AllSure}
+use Rattle.lru_disk_cache.specs.Reserved.{KeepsReserved, NumbersDiffer, has, held_size, is_of, is_pending}
+use Rattle.lru_disk_cache.specs.Reserved.{is_sure, temp_of, without_number, doubted, unsure}
 use Rattle.lru_disk_cache.specs.Store.{Disk, IsStore}
-use Rattle.lru_disk_cache.specs.Adding.{entry_path, abandoned, abandon_answer, CallFails, WriteFails, AbandonFails}
+use Rattle.lru_disk_cache.specs.Adding.{entry_path, abandoned, abandon_answer, CallFails, WriteFails}
+use Rattle.lru_disk_cache.specs.Adding.{AbandonFails}
 use Rattle.lru_disk_cache.proofs.Became.{became_map, became_of, became_same}
 use Rattle.lru_disk_cache.proofs.Fills.{temp_avoids, keeps_avoided, stands_kept}
 use Rattle.lru_disk_cache.proofs.Lookups.{put_same, put_other}
@@ -27,16 +35,20 @@ use Rattle.lru_disk_cache.proofs.Paths.{same_front, temp_differs, temps_differ, 
 
 -- ---- the path of a temporary file is none else
 
-pub key_apart : (root key : List ℕ) (r : Reservation) → is_key key ≡ true → IsReserved root r → bytes_eq (root ++ key) r.temp ≡ false
+pub key_apart : (root key : List ℕ) (r : Reservation) → is_key key ≡ true → IsReserved root r
+    → bytes_eq (root ++ key) r.temp ≡ false
 key_apart root key r fit h =
-    ap (bytes_eq (root ++ key)) h.temp ∙ (same_front root key (temp_name r.number) ∙ temp_differs r.number key h.number fit)
+    ap (bytes_eq (root ++ key)) h.temp
+    ∙ (same_front root key (temp_name r.number) ∙ temp_differs r.number key h.number fit)
 
 other_number : (n m : ℕ) → (m == n) ≡ false → ¬ (n ≡ m)
 other_number n m other same = eqb-false m n other (sym same)
 
-number_apart : (root : List ℕ) (n : ℕ) (r : Reservation) → n < 2 ^ 64 → (r.number == n) ≡ false → IsReserved root r → bytes_eq (root ++ temp_name n) r.temp ≡ false
+number_apart : (root : List ℕ) (n : ℕ) (r : Reservation) → n < 2 ^ 64 → (r.number == n) ≡ false
+    → IsReserved root r → bytes_eq (root ++ temp_name n) r.temp ≡ false
 number_apart root n r below other h =
-    ap (bytes_eq (root ++ temp_name n)) h.temp ∙ temps_differ root n r.number below h.number (other_number n r.number other)
+    ap (bytes_eq (root ++ temp_name n)) h.temp ∙ temps_differ root n r.number below h.number
+    (other_number n r.number other)
 
 none_first : (a b : Bool) → (a || b) ≡ false → (a ≡ false) × (b ≡ false)
 none_first false false h = (refl, refl)
@@ -45,52 +57,80 @@ none_first true false h = absurd (true≢false h)
 none_first true true h = absurd (true≢false h)
 
 module _ (root from path key : List ℕ) (es : Entries) (n : ℕ) (f g : Files) where
-  these_each : (ps : List Reservation) → from ≡ root ++ temp_name n → n < 2 ^ 64 → has n ps ≡ false → path ≡ root ++ key → is_key key ≡ true → AllKeys es → AllReserved root ps → ButThese root from path es f g → KeepsReserved ps f g
+  these_each : (ps : List Reservation) → from ≡ root ++ temp_name n → n < 2 ^ 64 → has n ps ≡ false
+      → path ≡ root ++ key → is_key key ≡ true → AllKeys es → AllReserved root ps
+      → ButThese root from path es f g → KeepsReserved ps f g
   these_each [] from_is below free path_is fit keys all but = tt
   these_each (r ∷ rs) from_is below free path_is fit keys all but =
-      let two = none_first (r.number == n) (has n rs) free in
-      (but r.temp (ap (λ p. bytes_eq p r.temp) from_is ∙ number_apart root n r below two.0 all.0) (ap (λ p. bytes_eq p r.temp) path_is ∙ key_apart root key r fit all.0) (temp_avoids root r.temp r.number es all.0.number all.0.temp keys), these_each rs from_is below two.1 path_is fit keys all.1 but)
+      let two = none_first (r.number == n) (has n rs) free in (
+        but r.temp (ap (λ p. bytes_eq p r.temp) from_is ∙ number_apart root n r below two.0 all.0)
+            (ap (λ p. bytes_eq p r.temp) path_is ∙ key_apart root key r fit all.0)
+            (temp_avoids root r.temp r.number es all.0.number all.0.temp keys),
+        these_each rs from_is below two.1 path_is fit keys all.1 but,
+      )
 
-  temp_each : (ps : List Reservation) → from ≡ root ++ temp_name n → n < 2 ^ 64 → has n ps ≡ false → AllKeys es → AllReserved root ps → ButThese root from from es f g → KeepsReserved ps f g
+  temp_each : (ps : List Reservation) → from ≡ root ++ temp_name n → n < 2 ^ 64 → has n ps ≡ false
+      → AllKeys es → AllReserved root ps → ButThese root from from es f g → KeepsReserved ps f g
   temp_each [] from_is below free keys all but = tt
   temp_each (r ∷ rs) from_is below free keys all but =
       let two = none_first (r.number == n) (has n rs) free in
-      let away = ap (λ p. bytes_eq p r.temp) from_is ∙ number_apart root n r below two.0 all.0 in
-      (but r.temp away away (temp_avoids root r.temp r.number es all.0.number all.0.temp keys), temp_each rs from_is below two.1 keys all.1 but)
+      let away = ap (λ p. bytes_eq p r.temp) from_is ∙ number_apart root n r below two.0 all.0 in (
+        but r.temp away away (temp_avoids root r.temp r.number es all.0.number all.0.temp keys),
+        temp_each rs from_is below two.1 keys all.1 but,
+      )
 
-  at_each : (ps : List Reservation) → from ≡ root ++ temp_name n → n < 2 ^ 64 → has n ps ≡ false → AllReserved root ps → ButAt from f g → KeepsReserved ps f g
+  at_each : (ps : List Reservation) → from ≡ root ++ temp_name n → n < 2 ^ 64 → has n ps ≡ false
+      → AllReserved root ps → ButAt from f g → KeepsReserved ps f g
   at_each [] from_is below free all but = tt
   at_each (r ∷ rs) from_is below free all but =
-      let two = none_first (r.number == n) (has n rs) free in
-      (but r.temp (ap (λ p. bytes_eq p r.temp) from_is ∙ number_apart root n r below two.0 all.0), at_each rs from_is below two.1 all.1 but)
+      let two = none_first (r.number == n) (has n rs) free in (
+        but r.temp (ap (λ p. bytes_eq p r.temp) from_is ∙ number_apart root n r below two.0 all.0),
+        at_each rs from_is below two.1 all.1 but,
+      )
 
 -- so a step that takes another path keeps the reservations' files
-pub these_reserved : (root from path key : List ℕ) (es : Entries) (n : ℕ) (ps : List Reservation) (old new : Option Files) → from ≡ root ++ temp_name n → n < 2 ^ 64 → has n ps ≡ false → path ≡ root ++ key → is_key key ≡ true → AllKeys es → AllReserved root ps → Became (ButThese root from path es) old new → Became (KeepsReserved ps) old new
+pub these_reserved : (root from path key : List ℕ) (es : Entries) (n : ℕ) (ps : List Reservation)
+    (old new : Option Files) → from ≡ root ++ temp_name n → n < 2 ^ 64 → has n ps ≡ false → path ≡ root ++ key
+    → is_key key ≡ true → AllKeys es → AllReserved root ps → Became (ButThese root from path es) old new
+    → Became (KeepsReserved ps) old new
 these_reserved root from path key es n ps old new from_is below free path_is fit keys all but =
-    became_map (ButThese root from path es) (KeepsReserved ps) old new (λ f g h. these_each root from path key es n f g ps from_is below free path_is fit keys all h) but
+    became_map (ButThese root from path es) (KeepsReserved ps) old new
+    (λ f g h. these_each root from path key es n f g ps from_is below free path_is fit keys all h) but
 
-pub temp_reserved : (root from : List ℕ) (es : Entries) (n : ℕ) (ps : List Reservation) (old new : Option Files) → from ≡ root ++ temp_name n → n < 2 ^ 64 → has n ps ≡ false → AllKeys es → AllReserved root ps → Became (ButThese root from from es) old new → Became (KeepsReserved ps) old new
+pub temp_reserved : (root from : List ℕ) (es : Entries) (n : ℕ) (ps : List Reservation)
+    (old new : Option Files) → from ≡ root ++ temp_name n → n < 2 ^ 64 → has n ps ≡ false → AllKeys es
+    → AllReserved root ps → Became (ButThese root from from es) old new → Became (KeepsReserved ps) old new
 temp_reserved root from es n ps old new from_is below free keys all but =
-    became_map (ButThese root from from es) (KeepsReserved ps) old new (λ f g h. temp_each root from from [] es n f g ps from_is below free keys all h) but
+    became_map (ButThese root from from es) (KeepsReserved ps) old new
+    (λ f g h. temp_each root from from [] es n f g ps from_is below free keys all h) but
 
-pub at_reserved : (root from : List ℕ) (n : ℕ) (ps : List Reservation) (old new : Option Files) → from ≡ root ++ temp_name n → n < 2 ^ 64 → has n ps ≡ false → AllReserved root ps → Became (ButAt from) old new → Became (KeepsReserved ps) old new
+pub at_reserved : (root from : List ℕ) (n : ℕ) (ps : List Reservation) (old new : Option Files)
+    → from ≡ root ++ temp_name n → n < 2 ^ 64 → has n ps ≡ false → AllReserved root ps
+    → Became (ButAt from) old new → Became (KeepsReserved ps) old new
 at_reserved root from n ps old new from_is below free all but =
-    became_map (ButAt from) (KeepsReserved ps) old new (λ f g h. at_each root from from [] [] n f g ps from_is below free all h) but
+    became_map (ButAt from) (KeepsReserved ps) old new
+    (λ f g h. at_each root from from [] [] n f g ps from_is below free all h) but
 
-key_each : (root key : List ℕ) (ps : List Reservation) (f g : Files) → is_key key ≡ true → AllReserved root ps → ButAt (root ++ key) f g → KeepsReserved ps f g
+key_each : (root key : List ℕ) (ps : List Reservation) (f g : Files) → is_key key ≡ true → AllReserved root ps
+    → ButAt (root ++ key) f g → KeepsReserved ps f g
 key_each root key [] f g fit all but = tt
-key_each root key (r ∷ rs) f g fit all but = (but r.temp (key_apart root key r fit all.0), key_each root key rs f g fit all.1 but)
+key_each root key (r ∷ rs) f g fit all but =
+    (but r.temp (key_apart root key r fit all.0), key_each root key rs f g fit all.1 but)
 
-pub key_reserved : (root key : List ℕ) (ps : List Reservation) (old new : Option Files) → is_key key ≡ true → AllReserved root ps → Became (ButAt (root ++ key)) old new → Became (KeepsReserved ps) old new
+pub key_reserved : (root key : List ℕ) (ps : List Reservation) (old new : Option Files) → is_key key ≡ true
+    → AllReserved root ps → Became (ButAt (root ++ key)) old new → Became (KeepsReserved ps) old new
 key_reserved root key ps old new fit all but =
-    became_map (ButAt (root ++ key)) (KeepsReserved ps) old new (λ f g h. key_each root key ps f g fit all h) but
+    became_map (ButAt (root ++ key)) (KeepsReserved ps) old new (λ f g h. key_each root key ps f g fit all h)
+    but
 
 -- a key that is listed is one
-pub listed_key : (key : List ℕ) (es : Entries) → AllKeys es → is_some (lookup (bytes_eq key) es) ≡ true → is_key key ≡ true
+pub listed_key : (key : List ℕ) (es : Entries) → AllKeys es → is_some (lookup (bytes_eq key) es) ≡ true
+    → is_key key ≡ true
 listed_key key [] keys listed = absurd (true≢false (sym listed))
 listed_key key (e ∷ es) keys listed = by (bytes_eq key e.0) refl listed (listed_key key es keys.1)
   where
-    by : (b : Bool) → bytes_eq key e.0 ≡ b → is_some (cond b (Some e.1) (lookup (bytes_eq key) es)) ≡ true → (is_some (lookup (bytes_eq key) es) ≡ true → is_key key ≡ true) → is_key key ≡ true
+    by : (b : Bool) → bytes_eq key e.0 ≡ b → is_some (cond b (Some e.1) (lookup (bytes_eq key) es)) ≡ true
+        → (is_some (lookup (bytes_eq key) es) ≡ true → is_key key ≡ true) → is_key key ≡ true
     by true same found rest = ap is_key ((bytes_eq-Decides key e.0).0 same) ∙ keys.0
     by false other found rest = rest found
 
@@ -100,40 +140,54 @@ module _ (P : Reservation → Type 0) (n : ℕ) where
   pub all_without : (ps : List Reservation) → AllByRecursion P ps → AllByRecursion P (without_number n ps)
   all_without [] h = tt
   all_without (r ∷ rs) h =
-      elim (r.number == n) as (λ b. AllByRecursion P (cond (not b) (r ∷ without_number n rs) (without_number n rs))) [ true ↦ all_without rs h.1 | false ↦ (h.0, all_without rs h.1) ]
+      elim (r.number == n) as (λ b.
+      AllByRecursion P (cond (not b) (r ∷ without_number n rs) (without_number n rs)))
+      [ true ↦ all_without rs h.1 | false ↦ (h.0, all_without rs h.1) ]
 
 pub none_without : (n : ℕ) (ps : List Reservation) → has n (without_number n ps) ≡ false
 none_without n [] = refl
 none_without n (r ∷ rs) = by (r.number == n) refl (none_without n rs)
   where
-    by : (b : Bool) → (r.number == n) ≡ b → has n (without_number n rs) ≡ false → has n (cond (not b) (r ∷ without_number n rs) (without_number n rs)) ≡ false
+    by : (b : Bool) → (r.number == n) ≡ b → has n (without_number n rs) ≡ false
+        → has n (cond (not b) (r ∷ without_number n rs) (without_number n rs)) ≡ false
     by true is rest = rest
     by false is rest = ap (λ b. b || has n (without_number n rs)) is ∙ rest
 
 fewer_has : (n m : ℕ) (ps : List Reservation) → has m ps ≡ false → has m (without_number n ps) ≡ false
 fewer_has n m [] h = refl
-fewer_has n m (r ∷ rs) h = let two = none_first (r.number == m) (has m rs) h in by (r.number == n) two.0 (fewer_has n m rs two.1)
+fewer_has n m (r ∷ rs) h = let two = none_first (r.number == m) (has m rs) h in by (r.number == n) two.0
+    (fewer_has n m rs two.1)
   where
-    by : (b : Bool) → (r.number == m) ≡ false → has m (without_number n rs) ≡ false → has m (cond (not b) (r ∷ without_number n rs) (without_number n rs)) ≡ false
+    by : (b : Bool) → (r.number == m) ≡ false → has m (without_number n rs) ≡ false
+        → has m (cond (not b) (r ∷ without_number n rs) (without_number n rs)) ≡ false
     by true other rest = rest
     by false other rest = ap (λ b. b || has m (without_number n rs)) other ∙ rest
 
 pub differ_without : (n : ℕ) (ps : List Reservation) → NumbersDiffer ps → NumbersDiffer (without_number n ps)
 differ_without n [] h = tt
 differ_without n (r ∷ rs) h =
-    elim (r.number == n) as (λ b. NumbersDiffer (cond (not b) (r ∷ without_number n rs) (without_number n rs))) [ true ↦ differ_without n rs h.1 | false ↦ (fewer_has n r.number rs h.0, differ_without n rs h.1) ]
+    elim (r.number == n) as (λ b.
+    NumbersDiffer (cond (not b) (r ∷ without_number n rs) (without_number n rs)))
+    [ true ↦ differ_without n rs h.1 | false ↦ (fewer_has n r.number rs h.0, differ_without n rs h.1) ]
 
 pub held_without : (n : ℕ) (ps : List Reservation) → held_size (without_number n ps) ≤ held_size ps
 held_without n [] = omega arith
 held_without n (r ∷ rs) = by (r.number == n) (held_without n rs)
   where
-    by : (b : Bool) → held_size (without_number n rs) ≤ held_size rs → held_size (cond (not b) (r ∷ without_number n rs) (without_number n rs)) ≤ held_size (r ∷ rs)
+    by : (b : Bool) → held_size (without_number n rs) ≤ held_size rs
+        → held_size (cond (not b) (r ∷ without_number n rs) (without_number n rs)) ≤ held_size (r ∷ rs)
     by true rest = omega (arith, rest, sum_by-cons (λ (x : Reservation). x.size) r rs)
-    by false rest = omega (arith, rest, sum_by-cons (λ (x : Reservation). x.size) r rs, sum_by-cons (λ (x : Reservation). x.size) r (without_number n rs))
+    by false rest = omega (
+      arith,
+      rest,
+      sum_by-cons (λ (x : Reservation). x.size) r rs,
+      sum_by-cons (λ (x : Reservation). x.size) r (without_number n rs),
+    )
 
 -- ---- one that is not sure any more
 
-pub unsure_reserved : (root : List ℕ) (n : ℕ) (ps : List Reservation) → AllReserved root ps → AllReserved root (unsure n ps)
+pub unsure_reserved : (root : List ℕ) (n : ℕ) (ps : List Reservation) → AllReserved root ps
+    → AllReserved root (unsure n ps)
 unsure_reserved root n [] h = tt
 unsure_reserved root n (r ∷ rs) h =
     (record { key = h.0.key; number = h.0.number; temp = h.0.temp }, unsure_reserved root n rs h.1)
@@ -149,7 +203,12 @@ unsure_differ n (r ∷ rs) h = (unsure_has n r.number rs ∙ h.0, unsure_differ 
 pub unsure_held : (n : ℕ) (ps : List Reservation) → held_size (unsure n ps) ≡ held_size ps
 unsure_held n [] = refl
 unsure_held n (r ∷ rs) =
-    omega (arith, unsure_held n rs, sum_by-cons (λ (x : Reservation). x.size) r rs, sum_by-cons (λ (x : Reservation). x.size) (doubted n r) (unsure n rs))
+    omega (
+      arith,
+      unsure_held n rs,
+      sum_by-cons (λ (x : Reservation). x.size) r rs,
+      sum_by-cons (λ (x : Reservation). x.size) (doubted n r) (unsure n rs),
+    )
 
 both_true : (a b : Bool) → (a && b) ≡ true → (a ≡ true) × (b ≡ true)
 both_true true true h = (refl, refl)
@@ -158,32 +217,43 @@ both_true false true h = absurd (true≢false (sym h))
 both_true false false h = absurd (true≢false (sym h))
 
 -- where the files of the others are as they were
-pub unsure_sure : (n : ℕ) (ps : List Reservation) (f g : Files) → AllSure f ps → KeepsReserved (without_number n ps) f g → AllSure g (unsure n ps)
+pub unsure_sure : (n : ℕ) (ps : List Reservation) (f g : Files) → AllSure f ps
+    → KeepsReserved (without_number n ps) f g → AllSure g (unsure n ps)
 unsure_sure n [] f g h keeps = tt
 unsure_sure n (r ∷ rs) f g h keeps = by (r.number == n) refl keeps (unsure_sure n rs f g h.1)
   where
-    by : (b : Bool) → (r.number == n) ≡ b → KeepsReserved (cond (not b) (r ∷ without_number n rs) (without_number n rs)) f g → (KeepsReserved (without_number n rs) f g → AllSure g (unsure n rs)) → AllSure g (unsure n (r ∷ rs))
-    by true is k rest =
-        (λ sure lacks. absurd (true≢false (sym (both_true r.sure (not (r.number == n)) sure).1 ∙ ap not is)), rest k)
+    by : (b : Bool) → (r.number == n) ≡ b
+        → KeepsReserved (cond (not b) (r ∷ without_number n rs) (without_number n rs)) f g
+        → (KeepsReserved (without_number n rs) f g → AllSure g (unsure n rs)) → AllSure g (unsure n (r ∷ rs))
+    by true is k rest = (
+      λ sure lacks. absurd (true≢false (sym (both_true r.sure (not (r.number == n)) sure).1 ∙ ap not is)),
+      rest k,
+    )
     by false is k rest =
         (λ sure lacks. h.0 (both_true r.sure (not (r.number == n)) sure).0 (sym k.0 ∙ lacks), rest k.1)
 
 -- ---- one more
 
 module _ (P : Reservation → Type 0) where
-  pub all_more : (ps : List Reservation) (r : Reservation) → AllByRecursion P ps → P r → AllByRecursion P (ps ++ r ∷ [])
+  pub all_more : (ps : List Reservation) (r : Reservation) → AllByRecursion P ps → P r
+      → AllByRecursion P (ps ++ r ∷ [])
   all_more [] r h last = (last, tt)
   all_more (q ∷ qs) r h last = (h.0, all_more qs r h.1 last)
 
 pub held_more : (ps : List Reservation) (r : Reservation) → held_size (ps ++ r ∷ []) ≡ held_size ps + r.size
 held_more ps r =
-    omega (arith, sum_by-append (λ (x : Reservation). x.size) ps (r ∷ []), sum_by-cons (λ (x : Reservation). x.size) r [])
+    omega (
+      arith,
+      sum_by-append (λ (x : Reservation). x.size) ps (r ∷ []),
+      sum_by-cons (λ (x : Reservation). x.size) r [],
+    )
 
 or_false : (b : Bool) → b ≡ false → (b || false) ≡ false
 or_false true h = absurd (true≢false h)
 or_false false h = refl
 
-has_more : (n : ℕ) (ps : List Reservation) (r : Reservation) → has n ps ≡ false → (r.number == n) ≡ false → has n (ps ++ r ∷ []) ≡ false
+has_more : (n : ℕ) (ps : List Reservation) (r : Reservation) → has n ps ≡ false → (r.number == n) ≡ false
+    → has n (ps ++ r ∷ []) ≡ false
 has_more n [] r h other = or_false (r.number == n) other
 has_more n (q ∷ qs) r h other =
     let two = none_first (q.number == n) (has n qs) h in
@@ -196,7 +266,8 @@ turned n m h = by (m == n) refl
     by false is = refl
     by true is = absurd (eqb-false n m h (sym (eqb-true m n is)))
 
-pub differ_more : (ps : List Reservation) (r : Reservation) → NumbersDiffer ps → has r.number ps ≡ false → NumbersDiffer (ps ++ r ∷ [])
+pub differ_more : (ps : List Reservation) (r : Reservation) → NumbersDiffer ps → has r.number ps ≡ false
+    → NumbersDiffer (ps ++ r ∷ [])
 differ_more [] r h free = (refl, tt)
 differ_more (q ∷ qs) r h free =
     let two = none_first (q.number == r.number) (has r.number qs) free in
@@ -207,17 +278,26 @@ differ_more (q ∷ qs) r h free =
 parts_of : (a b c : Bool) → (a && b && c) ≡ true → (a ≡ true) × (c ≡ true)
 parts_of a b c h = let two = both_true (a && b) c h in ((both_true a b two.0).0, two.1)
 
-pub own_path : (root : List ℕ) (e : AddEntry) (r : Reservation) → is_of e r ≡ true → IsReserved root r → (r.temp ≡ root ++ temp_name e.number) × (e.number < 2 ^ 64) × (is_key e.key ≡ true)
+pub own_path : (root : List ℕ) (e : AddEntry) (r : Reservation) → is_of e r ≡ true → IsReserved root r
+    → (r.temp ≡ root ++ temp_name e.number) × (e.number < 2 ^ 64) × (is_key e.key ≡ true)
 own_path root e r own h =
     let two = parts_of (r.number == e.number) (r.size == e.size) (bytes_eq e.key r.key) own in
-    let same : r.number ≡ e.number = eqb-true r.number e.number two.0 in
-    (h.temp ∙ ap (λ n. root ++ temp_name n) same, subst (λ n. n < 2 ^ 64) same h.number, ap is_key ((bytes_eq-Decides e.key r.key).0 two.1) ∙ h.key)
+    let same : r.number ≡ e.number = eqb-true r.number e.number two.0 in (
+      h.temp ∙ ap (λ n. root ++ temp_name n) same,
+      subst (λ n. n < 2 ^ 64) same h.number,
+      ap is_key ((bytes_eq-Decides e.key r.key).0 two.1) ∙ h.key,
+    )
 
-pub temp_found : (root t : List ℕ) (e : AddEntry) (ps : List Reservation) → AllReserved root ps → temp_of e ps ≡ Some t → (t ≡ root ++ temp_name e.number) × (is_pending e ps ≡ true) × (e.number < 2 ^ 64) × (is_key e.key ≡ true)
+pub temp_found : (root t : List ℕ) (e : AddEntry) (ps : List Reservation) → AllReserved root ps
+    → temp_of e ps ≡ Some t → (t ≡ root ++ temp_name e.number) × (is_pending e ps ≡ true)
+    × (e.number < 2 ^ 64) × (is_key e.key ≡ true)
 temp_found root t e [] all found = absurd (true≢false (sym (ap is_some found)))
 temp_found root t e (r ∷ rs) all found = by (is_of e r) refl found (temp_found root t e rs all.1)
   where
-    by : (b : Bool) → is_of e r ≡ b → cond b (Some r.temp) (temp_of e rs) ≡ Some t → (temp_of e rs ≡ Some t → (t ≡ root ++ temp_name e.number) × (is_pending e rs ≡ true) × (e.number < 2 ^ 64) × (is_key e.key ≡ true)) → (t ≡ root ++ temp_name e.number) × ((is_of e r || is_pending e rs) ≡ true) × (e.number < 2 ^ 64) × (is_key e.key ≡ true)
+    by : (b : Bool) → is_of e r ≡ b → cond b (Some r.temp) (temp_of e rs) ≡ Some t
+        → (temp_of e rs ≡ Some t → (t ≡ root ++ temp_name e.number) × (is_pending e rs ≡ true)
+        × (e.number < 2 ^ 64) × (is_key e.key ≡ true)) → (t ≡ root ++ temp_name e.number)
+        × ((is_of e r || is_pending e rs) ≡ true) × (e.number < 2 ^ 64) × (is_key e.key ≡ true)
     by true own some rest =
         let same : r.temp ≡ t = cc in
         let own_is = own_path root e r own all.0 in
@@ -230,15 +310,19 @@ pub temp_none : (e : AddEntry) (ps : List Reservation) → temp_of e ps ≡ None
 temp_none e [] none = refl
 temp_none e (r ∷ rs) none = by (is_of e r) refl none (temp_none e rs)
   where
-    by : (b : Bool) → is_of e r ≡ b → cond b (Some r.temp) (temp_of e rs) ≡ None → (temp_of e rs ≡ None → is_pending e rs ≡ false) → (is_of e r || is_pending e rs) ≡ false
+    by : (b : Bool) → is_of e r ≡ b → cond b (Some r.temp) (temp_of e rs) ≡ None
+        → (temp_of e rs ≡ None → is_pending e rs ≡ false) → (is_of e r || is_pending e rs) ≡ false
     by true own some rest = absurd (true≢false (ap is_some some))
     by false other some rest = ap (λ b. b || is_pending e rs) other ∙ rest some
 
-pub sure_there : (root : List ℕ) (e : AddEntry) (ps : List Reservation) (files : Files) → AllReserved root ps → AllSure files ps → Lacks (root ++ temp_name e.number) files → is_sure e ps ≡ false
+pub sure_there : (root : List ℕ) (e : AddEntry) (ps : List Reservation) (files : Files) → AllReserved root ps
+    → AllSure files ps → Lacks (root ++ temp_name e.number) files → is_sure e ps ≡ false
 sure_there root e [] files all sure lacks = refl
-sure_there root e (r ∷ rs) files all sure lacks = by (is_of e r) r.sure refl refl (sure_there root e rs files all.1 sure.1 lacks)
+sure_there root e (r ∷ rs) files all sure lacks = by (is_of e r) r.sure refl refl
+    (sure_there root e rs files all.1 sure.1 lacks)
   where
-    by : (a b : Bool) → is_of e r ≡ a → r.sure ≡ b → is_sure e rs ≡ false → (is_of e r && r.sure || is_sure e rs) ≡ false
+    by : (a b : Bool) → is_of e r ≡ a → r.sure ≡ b → is_sure e rs ≡ false
+        → (is_of e r && r.sure || is_sure e rs) ≡ false
     by true true own is rest = absurd (sure.0 is (ap (file_at files) (own_path root e r own all.0).0 ∙ lacks))
     by true false own is rest = (λ i. own i && is i || is_sure e rs) ∙ rest
     by false b own is rest = ap (λ a. a && r.sure || is_sure e rs) own ∙ rest
@@ -262,7 +346,8 @@ same_files None n h = h
 same_files (Some f) n h = h.1 ∙ ap Some h.2
 
 -- a call that changes nothing leaves the files
-pub files_left : {T : Type 0} (lacking : Files → Type 0) (result : Result T FolderFault) (old new : Held) → Changes lacking (λ files. files) Same result old new → new.files ≡ old.files
+pub files_left : {T : Type 0} (lacking : Files → Type 0) (result : Result T FolderFault) (old new : Held)
+    → Changes lacking (λ files. files) Same result old new → new.files ≡ old.files
 files_left lacking (Ok x) old new h = ap (λ k. k.files) h.0 ∙ by old.files
   where
     by : (o : Option Files) → option_map (λ files. files) o ≡ o
@@ -273,7 +358,8 @@ files_left lacking (Err Failed) old new h = same_files old.files new.files h.0
 files_left lacking (Err Memory) old new h = same_files old.files new.files h.0
 
 -- and where it succeeds the count
-pub held_left : {T : Type 0} (lacking : Files → Type 0) (x : T) (old new : Held) → (let ok : Result T FolderFault = Ok x in Changes lacking (λ files. files) Same ok old new) → new ≡ old
+pub held_left : {T : Type 0} (lacking : Files → Type 0) (x : T) (old new : Held)
+    → (let ok : Result T FolderFault = Ok x in Changes lacking (λ files. files) Same ok old new) → new ≡ old
 held_left lacking x old new h = h.0 ∙ by old
   where
     by : (k : Held) → record { files = option_map (λ (files : Files). files) k.files; faults = k.faults } ≡ k
@@ -284,56 +370,78 @@ held_left lacking x old new h = h.0 ∙ by old
         each (Some f) = refl
 
 -- what an addition leaves
-added_by : (o : Option (List ℕ)) (p q bytes : List ℕ) (files : Files) → bytes_eq p q ≡ false → file_at (put_found (option_map (λ old. old ++ bytes) o) p files files) q ≡ file_at files q
+added_by : (o : Option (List ℕ)) (p q bytes : List ℕ) (files : Files) → bytes_eq p q ≡ false
+    → file_at (put_found (option_map (λ old. old ++ bytes) o) p files files) q ≡ file_at files q
 added_by None p q bytes files other = refl
 added_by (Some b) p q bytes files other = put_other p q (b ++ bytes) files other
 
-pub added_others : {T : Type 0} (path bytes : List ℕ) (result : Result T FolderFault) (old new : Held) → Changes (Lacks path) (appended path bytes) (PartAppended path bytes) result old new → Became (ButAt path) old.files new.files
+pub added_others : {T : Type 0} (path bytes : List ℕ) (result : Result T FolderFault) (old new : Held)
+    → Changes (Lacks path) (appended path bytes) (PartAppended path bytes) result old new
+    → Became (ButAt path) old.files new.files
 added_others path bytes result old new h =
-    became_of (Lacks path) (appended path bytes) (PartAppended path bytes) (ButAt path) result old new (λ f q other. refl) (λ f q other. added_by (file_at f path) path q bytes f other) (λ f g part q other. elim part [
+    became_of (Lacks path) (appended path bytes) (PartAppended path bytes) (ButAt path) result old new
+    (λ f q other. refl) (λ f q other. added_by (file_at f path) path q bytes f other)
+    (λ f g part q other. elim part [
       | inl same ↦ ap (λ l. file_at l q) same
       | inr some ↦ ap (λ l. file_at l q) some.1 ∙ added_by (file_at f path) path q (take some.0 bytes) f other
     ]) h
 
-there_by : (o : Option (List ℕ)) (p bytes : List ℕ) (files : Files) → file_at files p ≡ o → ¬ (Lacks p files) → ¬ (Lacks p (put_found (option_map (λ old. old ++ bytes) o) p files files))
+there_by : (o : Option (List ℕ)) (p bytes : List ℕ) (files : Files) → file_at files p ≡ o → ¬ (Lacks p files)
+    → ¬ (Lacks p (put_found (option_map (λ old. old ++ bytes) o) p files files))
 there_by None p bytes files is there = there
-there_by (Some b) p bytes files is there = λ lacks. let both : Some (b ++ bytes) ≡ None = sym (put_same p (b ++ bytes) files) ∙ lacks in absurd (true≢false (ap is_some both))
+there_by (Some b) p bytes files is there = λ lacks. let both : Some (b ++ bytes) ≡ None =
+    sym (put_same p (b ++ bytes) files) ∙ lacks in absurd (true≢false (ap is_some both))
 
 -- a file that was there is there still
 abbrev pub StaysThere : List ℕ → Files → Files → Type 0
 StaysThere path old new = ¬ (Lacks path old) → ¬ (Lacks path new)
 
-pub added_there : {T : Type 0} (path bytes : List ℕ) (result : Result T FolderFault) (old new : Held) → Changes (Lacks path) (appended path bytes) (PartAppended path bytes) result old new → Became (StaysThere path) old.files new.files
+pub added_there : {T : Type 0} (path bytes : List ℕ) (result : Result T FolderFault) (old new : Held)
+    → Changes (Lacks path) (appended path bytes) (PartAppended path bytes) result old new
+    → Became (StaysThere path) old.files new.files
 added_there path bytes result old new h =
-    became_of (Lacks path) (appended path bytes) (PartAppended path bytes) (StaysThere path) result old new (λ f there. there) (λ f there. there_by (file_at f path) path bytes f refl there) (λ f g part there lacks. elim part [
+    became_of (Lacks path) (appended path bytes) (PartAppended path bytes) (StaysThere path) result old new
+    (λ f there. there) (λ f there. there_by (file_at f path) path bytes f refl there)
+    (λ f g part there lacks. elim part [
       | inl same ↦ there (ap (λ l. file_at l path) (sym same) ∙ lacks)
-      | inr some ↦ there_by (file_at f path) path (take some.0 bytes) f refl there (ap (λ l. file_at l path) (sym some.1) ∙ lacks)
+      | inr some ↦ there_by (file_at f path) path (take some.0 bytes) f refl there
+          (ap (λ l. file_at l path) (sym some.1) ∙ lacks)
     ]) h
 
 -- ---- the reservations behind an addition
 
-sure_each : (root path : List ℕ) (n : ℕ) (ps : List Reservation) (f g : Files) → path ≡ root ++ temp_name n → n < 2 ^ 64 → AllReserved root ps → ButAt path f g → StaysThere path f g → AllSure f ps → AllSure g ps
+sure_each : (root path : List ℕ) (n : ℕ) (ps : List Reservation) (f g : Files) → path ≡ root ++ temp_name n
+    → n < 2 ^ 64 → AllReserved root ps → ButAt path f g → StaysThere path f g → AllSure f ps → AllSure g ps
 sure_each root path n [] f g is below all but stays h = tt
-sure_each root path n (r ∷ rs) f g is below all but stays h = (by (r.number == n) refl, sure_each root path n rs f g is below all.1 but stays h.1)
+sure_each root path n (r ∷ rs) f g is below all but stays h =
+    (by (r.number == n) refl, sure_each root path n rs f g is below all.1 but stays h.1)
   where
     by : (b : Bool) → (r.number == n) ≡ b → r.sure ≡ true → ¬ (Lacks r.temp g)
     by true same sure =
-        let here : path ≡ r.temp = is ∙ (ap (λ m. root ++ temp_name m) (sym (eqb-true r.number n same)) ∙ sym all.0.temp) in
+        let here : path ≡ r.temp = is ∙ (ap (λ m. root ++ temp_name m) (sym (eqb-true r.number n same))
+        ∙ sym all.0.temp) in
         subst (λ q. ¬ (Lacks q f) → ¬ (Lacks q g)) here stays (h.0 sure)
     by false other sure = λ lacks.
-        h.0 sure (sym (but r.temp (ap (λ p. bytes_eq p r.temp) is ∙ number_apart root n r below other all.0)) ∙ lacks)
+        h.0 sure (sym (but r.temp (ap (λ p. bytes_eq p r.temp) is ∙ number_apart root n r below other all.0))
+        ∙ lacks)
 
-into_both : (P Q : Files → Files → Type 0) (o n : Option Files) (files : Files) → Became P o n → Became Q o n → n ≡ Some files → (before : Files) × (o ≡ Some before) × P before files × Q before files
-into_both P Q None n files p q told = let none : None ≡ Some files = sym p ∙ told in absurd (true≢false (sym (ap is_some none)))
+into_both : (P Q : Files → Files → Type 0) (o n : Option Files) (files : Files) → Became P o n → Became Q o n
+    → n ≡ Some files → (before : Files) × (o ≡ Some before) × P before files × Q before files
+into_both P Q None n files p q told = let none : None ≡ Some files = sym p ∙ told
+    in absurd (true≢false (sym (ap is_some none)))
 into_both P Q (Some f) n files p q told =
     let one : p.0 ≡ files = let both : Some p.0 ≡ Some files = sym p.1 ∙ told in cc in
     let two : q.0 ≡ files = let both : Some q.0 ≡ Some files = sym q.1 ∙ told in cc in
     (f, refl, subst (P f) one p.2, subst (Q f) two q.2)
 
 -- a disk stands behind bytes that were added to the file of a reservation
-pub added_store : (d : Disk) (path : List ℕ) (n : ℕ) (old new : Held) → IsStore old d → path ≡ d.root ++ temp_name n → n < 2 ^ 64 → Became (ButAt path) old.files new.files → Became (StaysThere path) old.files new.files → IsStore new d
+pub added_store : (d : Disk) (path : List ℕ) (n : ℕ) (old new : Held) → IsStore old d
+    → path ≡ d.root ++ temp_name n → n < 2 ^ 64 → Became (ButAt path) old.files new.files
+    → Became (StaysThere path) old.files new.files → IsStore new d
 added_store d path n old new h is below but stays = record {
-  stands = stands_kept d.root d.entries old new h.stands (keeps_avoided d.root path d.entries old.files new.files (temp_avoids d.root path n d.entries below is h.stands.keys) but);
+  stands = stands_kept d.root d.entries old new h.stands
+      (keeps_avoided d.root path d.entries old.files new.files
+      (temp_avoids d.root path n d.entries below is h.stands.keys) but);
   root = h.root;
   fits = h.fits;
   reserved = h.reserved;
@@ -345,14 +453,27 @@ added_store d path n old new h is below but stays = record {
 
 -- ---- a path whose last part is no temporary file's
 
-cut : (xs t : List ℕ) → (first : List ℕ) × (more : List (List ℕ)) × (slice_split (λ b. b == 47) (xs ++ 47 ∷ t) ≡ first ∷ (more ++ slice_split (λ b. b == 47) t))
+cut : (xs t : List ℕ) → (first : List ℕ) × (more : List (List ℕ))
+    × (slice_split (λ b. b == 47) (xs ++ 47 ∷ t) ≡ first ∷ (more ++ slice_split (λ b. b == 47) t))
 cut [] t = ([], [], slice_split-cons_yes (λ b. b == 47) 47 t refl)
 cut (x ∷ xs) t = by (x == 47) refl (cut xs t)
   where
-    by : (b : Bool) → (x == 47) ≡ b → (first : List ℕ) × (more : List (List ℕ)) × (slice_split (λ b. b == 47) (xs ++ 47 ∷ t) ≡ first ∷ (more ++ slice_split (λ b. b == 47) t))
-        → (first : List ℕ) × (more : List (List ℕ)) × (slice_split (λ b. b == 47) (x ∷ xs ++ 47 ∷ t) ≡ first ∷ (more ++ slice_split (λ b. b == 47) t))
-    by true is w = ([], w.0 ∷ w.1, slice_split-cons_yes (λ b. b == 47) x (xs ++ 47 ∷ t) is ∙ ap (λ l. [] ∷ l) w.2)
-    by false is w = (x ∷ w.0, w.1, slice_split-cons_no (λ b. b == 47) x (xs ++ 47 ∷ t) is ∙ ap (onto_first x) w.2)
+    by : (b : Bool) → (x == 47) ≡ b → (first : List ℕ) × (more : List (List ℕ))
+        × (slice_split (λ b. b == 47) (xs ++ 47 ∷ t) ≡ first ∷ (more ++ slice_split (λ b. b == 47) t))
+        → (first : List ℕ) × (more : List (List ℕ))
+        × (slice_split (λ b. b == 47) (x ∷ xs ++ 47 ∷ t) ≡ first ∷ (more ++ slice_split (λ b. b == 47) t))
+    by true is w = (
+      [],
+      w.0 ∷ w.1,
+      slice_split-cons_yes (λ b. b == 47) x (xs ++ 47 ∷ t) is
+          ∙ ap (λ l. [] ∷ l) w.2,
+    )
+    by false is w = (
+      x ∷ w.0,
+      w.1,
+      slice_split-cons_no (λ b. b == 47) x (xs ++ 47 ∷ t) is
+          ∙ ap (onto_first x) w.2,
+    )
 
 last_is : (part : List ℕ) (more : List (List ℕ)) (t : List ℕ) → last_behind part (more ++ t ∷ []) ≡ t
 last_is part [] t = refl
@@ -363,35 +484,52 @@ front_named [] n below = ap (λ parts. is_temporary (last_behind [] parts)) (tem
 front_named (b ∷ bs) n below =
     let w = cut (b ∷ bs) (temp_name n) in
     ap names_temporary (append_assoc (b ∷ bs) (47 ∷ []) (temp_name n))
-    ∙ (ap (λ parts. is_temporary (last_behind [] parts)) (w.2 ∙ ap (λ parts. w.0 ∷ (w.1 ++ parts)) (temp_split n below))
+    ∙ (ap (λ parts. is_temporary (last_behind [] parts))
+    (w.2 ∙ ap (λ parts. w.0 ∷ (w.1 ++ parts)) (temp_split n below))
     ∙ (ap is_temporary (last_is w.0 w.1 (temp_name n)) ∙ begins_so n))
 
-named_apart : (path root from : List ℕ) (r : Reservation) → root ≡ front path → names_temporary from ≡ false → IsReserved root r → bytes_eq from r.temp ≡ false
+named_apart : (path root from : List ℕ) (r : Reservation) → root ≡ front path → names_temporary from ≡ false
+    → IsReserved root r → bytes_eq from r.temp ≡ false
 named_apart path root from r root_is named h = by (bytes_eq from r.temp) refl
   where
     by : (b : Bool) → bytes_eq from r.temp ≡ b → b ≡ false
     by false is = refl
     by true is =
-        let same : from ≡ front path ++ temp_name r.number = (bytes_eq-Decides from r.temp).0 is ∙ (h.temp ∙ ap (λ x. x ++ temp_name r.number) root_is) in
-        absurd (true≢false (sym (front_named path r.number h.number) ∙ (ap names_temporary (sym same) ∙ named)))
+        let same : from ≡ front path ++ temp_name r.number = (bytes_eq-Decides from r.temp).0 is
+        ∙ (h.temp ∙ ap (λ x. x ++ temp_name r.number) root_is) in
+        absurd (true≢false (sym (front_named path r.number h.number)
+        ∙ (ap names_temporary (sym same) ∙ named)))
 
-named_each : (path root from to key : List ℕ) (es : Entries) (ps : List Reservation) (f g : Files) → root ≡ front path → names_temporary from ≡ false → to ≡ root ++ key → is_key key ≡ true → AllKeys es → AllReserved root ps → ButThese root from to es f g → KeepsReserved ps f g
+named_each : (path root from to key : List ℕ) (es : Entries) (ps : List Reservation) (f g : Files)
+    → root ≡ front path → names_temporary from ≡ false → to ≡ root ++ key → is_key key ≡ true → AllKeys es
+    → AllReserved root ps → ButThese root from to es f g → KeepsReserved ps f g
 named_each path root from to key es [] f g root_is named to_is fit keys all but = tt
-named_each path root from to key es (r ∷ rs) f g root_is named to_is fit keys all but =
-    (but r.temp (named_apart path root from r root_is named all.0) (ap (λ p. bytes_eq p r.temp) to_is ∙ key_apart root key r fit all.0) (temp_avoids root r.temp r.number es all.0.number all.0.temp keys), named_each path root from to key es rs f g root_is named to_is fit keys all.1 but)
+named_each path root from to key es (r ∷ rs) f g root_is named to_is fit keys all but = (
+  but r.temp (named_apart path root from r root_is named all.0) (ap (λ p. bytes_eq p r.temp) to_is
+      ∙ key_apart root key r fit all.0) (temp_avoids root r.temp r.number es all.0.number all.0.temp keys),
+  named_each path root from to key es rs f g root_is named to_is fit keys all.1 but,
+)
 
 -- so moving its file keeps those of the reservations
-pub named_reserved : (path root from to key : List ℕ) (es : Entries) (ps : List Reservation) (old new : Option Files) → root ≡ front path → names_temporary from ≡ false → to ≡ root ++ key → is_key key ≡ true → AllKeys es → AllReserved root ps → Became (ButThese root from to es) old new → Became (KeepsReserved ps) old new
+pub named_reserved : (path root from to key : List ℕ) (es : Entries) (ps : List Reservation)
+    (old new : Option Files) → root ≡ front path → names_temporary from ≡ false → to ≡ root ++ key
+    → is_key key ≡ true → AllKeys es → AllReserved root ps → Became (ButThese root from to es) old new
+    → Became (KeepsReserved ps) old new
 named_reserved path root from to key es ps old new root_is named to_is fit keys all but =
-    became_map (ButThese root from to es) (KeepsReserved ps) old new (λ f g h. named_each path root from to key es ps f g root_is named to_is fit keys all h) but
+    became_map (ButThese root from to es) (KeepsReserved ps) old new
+    (λ f g h. named_each path root from to key es ps f g root_is named to_is fit keys all h) but
 
 -- ---- the answers of the calls
 
 -- why a call on the temporary file of an entry failed
-pub write_fails : {T : Type 0} (e : AddEntry) (d now : Disk) (path : List ℕ) (result : Result T Error) (old new : Held) → IsStore old d → path ≡ entry_path d e → IfErr result (λ x. CallFails (Lacks path) x old new) → IfErr result (λ x. WriteFails e x d now old new)
+pub write_fails : {T : Type 0} (e : AddEntry) (d now : Disk) (path : List ℕ) (result : Result T Error)
+    (old new : Held) → IsStore old d → path ≡ entry_path d e
+    → IfErr result (λ x. CallFails (Lacks path) x old new) → IfErr result (λ x. WriteFails e x d now old new)
 write_fails e d now path (Ok x) old new h is fails = tt
 write_fails e d now path (Err (Io Missing)) old new h is fails =
-    not_told old.files (is_sure e d.pending) (λ f told. sure_there d.root e d.pending f h.reserved (h.sure f told) (ap (file_at f) (sym is) ∙ fails.1 f told))
+    not_told old.files (is_sure e d.pending)
+    (λ f told. sure_there d.root e d.pending f h.reserved (h.sure f told)
+    (ap (file_at f) (sym is) ∙ fails.1 f told))
 write_fails e d now path (Err (Io Failed)) old new h is fails = fails
 write_fails e d now path (Err (Io Memory)) old new h is fails = fails
 write_fails e d now path (Err NoMemory) old new h is fails = tt
@@ -403,15 +541,22 @@ write_fails e d now path (Err NotPending) old new h is fails = absurd fails
 write_fails e d now path (Err WrongDigest) old new h is fails = absurd fails
 write_fails e d now path (Err WriterRefused) old new h is fails = absurd fails
 
-pub closed_ok : (P : Type 0) (answer : Result (Unit {0}) FolderFault) (result : Result (Unit {0}) (Error × Option AddEntry)) → result ≡ abandon_answer answer → OnOk answer P → OnOk result P
+pub closed_ok : (P : Type 0) (answer : Result (Unit {0}) FolderFault)
+    (result : Result (Unit {0}) (Error × Option AddEntry)) → result ≡ abandon_answer answer → OnOk answer P
+    → OnOk result P
 closed_ok P (Ok x) result is h = subst (λ r. OnOk r P) (sym is) h
 closed_ok P (Err fault) result is h = subst (λ r. OnOk r P) (sym is) tt
 
-pub closed_fails : (entry : AddEntry) (d e : Disk) (answer : Result (Unit {0}) FolderFault) (result : Result (Unit {0}) (Error × Option AddEntry)) (old new : Held) → result ≡ abandon_answer answer → ¬ (answer ≡ Err Missing) → Counts answer old new → e ≡ abandoned d entry → is_pending entry d.pending ≡ true → IfErr result (λ x. AbandonFails entry x.0 x.1 d e old new)
-closed_fails entry d e (Ok x) result old new is found counts disk pending = subst (λ r. IfErr r (λ x. AbandonFails entry x.0 x.1 d e old new)) (sym is) tt
+pub closed_fails : (entry : AddEntry) (d e : Disk) (answer : Result (Unit {0}) FolderFault)
+    (result : Result (Unit {0}) (Error × Option AddEntry)) (old new : Held) → result ≡ abandon_answer answer
+    → ¬ (answer ≡ Err Missing) → Counts answer old new → e ≡ abandoned d entry
+    → is_pending entry d.pending ≡ true → IfErr result (λ x. AbandonFails entry x.0 x.1 d e old new)
+closed_fails entry d e (Ok x) result old new is found counts disk pending =
+    subst (λ r. IfErr r (λ x. AbandonFails entry x.0 x.1 d e old new)) (sym is) tt
 closed_fails entry d e (Err Missing) result old new is found counts disk pending = absurd (found refl)
 closed_fails entry d e (Err Failed) result old new is found counts disk pending =
-    subst (λ r. IfErr r (λ x. AbandonFails entry x.0 x.1 d e old new)) (sym is) (refl, disk, pending, counts.0)
+    subst (λ r. IfErr r (λ x. AbandonFails entry x.0 x.1 d e old new)) (sym is)
+    (refl, disk, pending, counts.0)
 closed_fails entry d e (Err Memory) result old new is found counts disk pending =
     subst (λ r. IfErr r (λ x. AbandonFails entry x.0 x.1 d e old new)) (sym is) (refl, disk, pending)
 
@@ -421,7 +566,8 @@ none_taken : (n : ℕ) (ps : List Reservation) → has n ps ≡ false → withou
 none_taken n [] h = refl
 none_taken n (r ∷ rs) h =
     let two = none_first (r.number == n) (has n rs) h in
-    ap (λ b. cond (not b) (r ∷ without_number n rs) (without_number n rs)) two.0 ∙ ap (λ l. r ∷ l) (none_taken n rs two.1)
+    ap (λ b. cond (not b) (r ∷ without_number n rs) (without_number n rs)) two.0
+    ∙ ap (λ l. r ∷ l) (none_taken n rs two.1)
 
 own_size : (e : AddEntry) (r : Reservation) → is_of e r ≡ true → (r.number ≡ e.number) × (r.size ≡ e.size)
 own_size e r own =
@@ -433,7 +579,9 @@ pending_has : (e : AddEntry) (ps : List Reservation) → is_pending e ps ≡ tru
 pending_has e [] h = absurd (true≢false (sym h))
 pending_has e (r ∷ rs) h = by (is_of e r) refl h (pending_has e rs)
   where
-    by : (b : Bool) → is_of e r ≡ b → (b || is_pending e rs) ≡ true → (is_pending e rs ≡ true → has e.number rs ≡ true) → ((r.number == e.number) || has e.number rs) ≡ true
+    by : (b : Bool) → is_of e r ≡ b → (b || is_pending e rs) ≡ true
+        → (is_pending e rs ≡ true → has e.number rs ≡ true)
+        → ((r.number == e.number) || has e.number rs) ≡ true
     by true own some rest =
         let two = both_true (r.number == e.number && r.size == e.size) (bytes_eq e.key r.key) own in
         ap (λ b. b || has e.number rs) (both_true (r.number == e.number) (r.size == e.size) two.0).0
@@ -443,12 +591,15 @@ pending_has e (r ∷ rs) h = by (is_of e r) refl h (pending_has e rs)
         either true later = refl
         either false later = later
 
-pub gives_back : (e : AddEntry) (ps : List Reservation) → NumbersDiffer ps → is_pending e ps ≡ true → held_size (without_number e.number ps) + e.size ≡ held_size ps
+pub gives_back : (e : AddEntry) (ps : List Reservation) → NumbersDiffer ps → is_pending e ps ≡ true
+    → held_size (without_number e.number ps) + e.size ≡ held_size ps
 gives_back e [] differ h = absurd (true≢false (sym h))
 gives_back e (r ∷ rs) differ h = by (is_of e r) refl (r.number == e.number) refl h (gives_back e rs differ.1)
   where
-    by : (b : Bool) → is_of e r ≡ b → (c : Bool) → (r.number == e.number) ≡ c → (b || is_pending e rs) ≡ true → (is_pending e rs ≡ true → held_size (without_number e.number rs) + e.size ≡ held_size rs)
-        → held_size (cond (not c) (r ∷ without_number e.number rs) (without_number e.number rs)) + e.size ≡ held_size (r ∷ rs)
+    by : (b : Bool) → is_of e r ≡ b → (c : Bool) → (r.number == e.number) ≡ c → (b || is_pending e rs) ≡ true
+        → (is_pending e rs ≡ true → held_size (without_number e.number rs) + e.size ≡ held_size rs)
+        → held_size (cond (not c) (r ∷ without_number e.number rs) (without_number e.number rs)) + e.size
+        ≡ held_size (r ∷ rs)
     by true own true same some rest =
         let two = own_size e r own in
         let out = none_taken e.number rs (subst (λ n. has n rs ≡ false) two.0 differ.0) in
@@ -456,6 +607,12 @@ gives_back e (r ∷ rs) differ h = by (is_of e r) refl (r.number == e.number) re
     by true own false other some rest =
         absurd (eqb-false r.number e.number other (own_size e r own).0)
     by false not_own true same some rest =
-        absurd (true≢false (sym (pending_has e rs some) ∙ subst (λ n. has n rs ≡ false) (eqb-true r.number e.number same) differ.0))
+        absurd (true≢false (sym (pending_has e rs some) ∙ subst (λ n. has n rs ≡ false)
+        (eqb-true r.number e.number same) differ.0))
     by false not_own false other some rest =
-        omega (arith, rest some, sum_by-cons (λ (x : Reservation). x.size) r rs, sum_by-cons (λ (x : Reservation). x.size) r (without_number e.number rs))
+        omega (
+          arith,
+          rest some,
+          sum_by-cons (λ (x : Reservation). x.size) r rs,
+          sum_by-cons (λ (x : Reservation). x.size) r (without_number e.number rs),
+        )

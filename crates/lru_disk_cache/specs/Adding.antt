@@ -1,16 +1,21 @@
 -- What the calls on reservations answer and leave.
-use Rattle.std.specs.Prelude.{◌≡◌, ℕ, ◌+◌, ◌-◌, ◌⊎◌, true, false, nat_lt, if◌then◌else◌, List, [], ◌∷◌, ◌++◌, None, Option, Some, Result, Ok, Err}
+use Rattle.std.specs.Prelude.{◌≡◌, ℕ, ◌+◌, ◌-◌, ◌⊎◌, true, false, nat_lt, if◌then◌else◌, List, [], ◌∷◌, ◌++◌}
+use Rattle.std.specs.Prelude.{None, Option, Some, Result, Ok, Err}
 use Rattle.dist_types.specs.Cause.{Rose}
 use Rattle.lru_disk_cache.specs.Files.{Files, size_at, put}
 use Rattle.lru_disk_cache.specs.Held.{Held, Holds}
 use Rattle.lru_disk_cache.specs.declared.fault.FolderFault.{FolderFault}
 use Rattle.lru_disk_cache.specs.declared.fault.FolderFault.TheVariants.{Missing, Failed, Memory}
 use Rattle.lru_disk_cache.specs.declared.error.Error.{Error}
-use Rattle.lru_disk_cache.specs.declared.error.Error.TheVariants.{FileTooLarge, FileNotInCache, Io, PendingSpace, BadKey, NotPending, WrongDigest, WriterRefused, Memory as NoMemory}
+use Rattle.lru_disk_cache.specs.declared.error.Error.TheVariants.{FileTooLarge, FileNotInCache, Io}
+use Rattle.lru_disk_cache.specs.declared.error.Error.TheVariants.{PendingSpace, BadKey, NotPending}
+use Rattle.lru_disk_cache.specs.declared.error.Error.TheVariants.{WrongDigest, WriterRefused}
+use Rattle.lru_disk_cache.specs.declared.error.Error.TheVariants.{Memory as NoMemory}
 use Rattle.lru_disk_cache.specs.Key.{temp_name}
 use Rattle.lru_disk_cache.specs.Entries.{Entries, trim, IsEnd}
 use Rattle.lru_disk_cache.specs.Disk.{Left, stored, without_each}
-use Rattle.lru_disk_cache.specs.Reserved.{Reservation, AddEntry, held_size, is_pending, is_sure, without_number, unsure}
+use Rattle.lru_disk_cache.specs.Reserved.{Reservation, AddEntry, held_size, is_pending, is_sure}
+use Rattle.lru_disk_cache.specs.Reserved.{without_number, unsure}
 use Rattle.lru_disk_cache.specs.Store.{Disk, room_beside, error_of, Refuses, IoCause}
 
 -- ---- a reservation is made
@@ -25,7 +30,10 @@ reservation d e = record { number = e.number; key = e.key; size = e.size; temp =
 
 -- The disk once an entry is announced: entries went from the front until list, reservations and its size fit.
 abbrev pub prepared : Disk → AddEntry → Disk
-prepared d e = record d { entries = trim (room_beside d e.size) d.entries; pending = d.pending ++ reservation d e ∷ [] }
+prepared d e = record d {
+  entries = trim (room_beside d e.size) d.entries;
+  pending = d.pending ++ reservation d e ∷ [];
+}
 
 -- the files once it is: that file is there with no byte, and those of these entries are gone
 abbrev pub files_prepared : List ℕ → List ℕ → Entries → Files → Files
@@ -110,13 +118,17 @@ commit_verdict d e size =
 
 -- the disk once it is: its reservation is closed, and its key is stored with that size
 abbrev pub committed : Disk → AddEntry → ℕ → Disk
-committed d e size = record d { entries = stored e.key size (room_for d e size) d.entries; pending = without_number e.number d.pending }
+committed d e size = record d {
+  entries = stored e.key size (room_for d e size) d.entries;
+  pending = without_number e.number d.pending;
+}
 
 -- the file of an entry has this size, where files are told
 abbrev pub HasSize : Disk → AddEntry → Held → ℕ → Type 0
 HasSize d e held n = Holds held (λ files. size_at files (entry_path d e) ≡ Some n)
 
--- what a failed commit leaves: the reservation, whose file is not sure to be there any more, and of the list what a failed insert leaves
+-- what a failed commit leaves: the reservation, whose file is not sure to be there any more, and of the list
+-- what a failed insert leaves
 pub record CommitLeft (entry : AddEntry) (limit : ℕ) (old new : Disk) : Type 0 where
   pub disk : new ≡ record old { entries = new.entries; pending = unsure entry.number old.pending }
   pub entries : Left entry.key limit old.entries new.entries
@@ -124,7 +136,8 @@ pub record CommitLeft (entry : AddEntry) (limit : ℕ) (old new : Disk) : Type 0
 -- what it leaves where the folder or memory failed: all as it was, or that
 abbrev pub CommitBroke : AddEntry → Disk → Disk → Held → Type 0
 CommitBroke entry d e old =
-    (e ≡ d) ⊎ ((n : ℕ) × HasSize d entry old n × (commit_verdict d entry n ≡ Ok (tt {0})) × CommitLeft entry (room_for d entry n) d e)
+    (e ≡ d) ⊎ ((n : ℕ) × HasSize d entry old n × (commit_verdict d entry n ≡ Ok (tt {0}))
+    × CommitLeft entry (room_for d entry n) d e)
 
 -- a refusal by the verdict leaves all as it was
 abbrev pub RefusesCommit : AddEntry → Error → Disk → Disk → Held → Held → Type 0
@@ -157,8 +170,10 @@ abandon_answer (Err fault) = Err (error_of fault, None)
 -- Why that failed. The entry comes back where it was not pending, and else its reservation is closed.
 abbrev pub AbandonFails : AddEntry → Error → Option AddEntry → Disk → Disk → Held → Held → Type 0
 AbandonFails entry NotPending back d e old new = (back ≡ Some entry) × RefusesEntry entry d e old new
-AbandonFails entry (Io fault) back d e old new = (back ≡ None) × (e ≡ abandoned d entry) × (is_pending entry d.pending ≡ true) × IoCause fault old new
-AbandonFails entry NoMemory back d e old new = (back ≡ None) × (e ≡ abandoned d entry) × (is_pending entry d.pending ≡ true)
+AbandonFails entry (Io fault) back d e old new = (back ≡ None) × (e ≡ abandoned d entry)
+    × (is_pending entry d.pending ≡ true) × IoCause fault old new
+AbandonFails entry NoMemory back d e old new = (back ≡ None) × (e ≡ abandoned d entry)
+    × (is_pending entry d.pending ≡ true)
 AbandonFails entry BadKey back d e old new = ⊥
 AbandonFails entry FileTooLarge back d e old new = ⊥
 AbandonFails entry PendingSpace back d e old new = ⊥

@@ -1,5 +1,6 @@
 -- Archives by the SHA-256 of their content: which file is one, and what a cache of them shows.
-use Rattle.std.specs.Prelude.{◌≡◌, ℕ, ◌≤◌, Bool, true, ◌==◌, ◌&&◌, nat_le, List, ◌∷◌, ◌++◌, length, take, drop, map, filter, filter_map, Option, Some, None, if◌then◌else◌}
+use Rattle.std.specs.Prelude.{◌≡◌, ℕ, ◌≤◌, Bool, true, ◌==◌, ◌&&◌, nat_le, List, ◌∷◌, ◌++◌, length, take}
+use Rattle.std.specs.Prelude.{drop, map, filter, filter_map, Option, Some, None, if◌then◌else◌}
 use Rattle.std.specs.List.{list_all, AllByRecursion, IsDistinct}
 use Rattle.std.specs.Map.{keys_of}
 use Rattle.std.specs.Option.{option_map}
@@ -55,7 +56,8 @@ archives_in path files = filter_map (archive_in path) files
 abbrev pub sound_archives : List ℕ → ℕ → Files → Archives
 sound_archives path capacity files = filter (λ a. nat_le a.1 capacity) (archives_in path files)
 
--- The archives that an opening lists of the files: those within the capacity, and of these the longest end that fits.
+-- The archives that an opening lists of the files: those within the capacity, and of these the longest end
+-- that fits.
 abbrev pub opened_archives : List ℕ → ℕ → Files → Archives
 opened_archives path capacity files = trim capacity (sound_archives path capacity files)
 
@@ -74,8 +76,9 @@ pub record ArchiveStore (F : Type 0) : Type 0 where
   pub archives : Archives
   pub folder : F
 
--- What holds of a cache of archives over a folder, whatever failed so far: the ids are ids and differ, the sizes fit the capacity, and each
--- archive has a file of its size whose SHA-256 is its id, where files are told.
+-- What holds of a cache of archives over a folder, whatever failed so far: the ids are ids and differ, the
+-- sizes fit the capacity, and each archive has a file of its size whose SHA-256 is its id, where files are
+-- told.
 pub record IsArchiveStore (path : List ℕ) (capacity : ℕ) (archives : Archives) (held : Held) : Type 0 where
   pub ids : AllByRecursion (λ a. is_id a.0 ≡ true) archives
   pub distinct : IsDistinct bytes_eq (keys_of archives)

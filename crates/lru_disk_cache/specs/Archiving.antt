@@ -1,16 +1,21 @@
 -- What each call of a cache of archives answers and leaves.
-use Rattle.std.specs.Prelude.{◌≡◌, ℕ, ◌-◌, ◌≤◌, ◌⊎◌, not, nat_lt, if◌then◌else◌, List, None, Some, Result, Ok, Err, length}
+use Rattle.std.specs.Prelude.{◌≡◌, ℕ, ◌-◌, ◌≤◌, ◌⊎◌, not, nat_lt, if◌then◌else◌, List, None, Some, Result, Ok}
+use Rattle.std.specs.Prelude.{Err, length}
 use Rattle.std.specs.List.{AllByRecursion}
 use Rattle.std.specs.Map.{lookup}
 use Rattle.std.specs.Str.{bytes_eq}
 use Rattle.lru_disk_cache.specs.Files.{Files}
 use Rattle.lru_disk_cache.specs.Held.{Held}
 use Rattle.lru_disk_cache.specs.declared.error.Error.{Error}
-use Rattle.lru_disk_cache.specs.declared.error.Error.TheVariants.{FileTooLarge, FileNotInCache, Io, PendingSpace, BadKey, NotPending, WrongDigest, WriterRefused, Memory as NoMemory}
+use Rattle.lru_disk_cache.specs.declared.error.Error.TheVariants.{FileTooLarge, FileNotInCache, Io}
+use Rattle.lru_disk_cache.specs.declared.error.Error.TheVariants.{PendingSpace, BadKey, NotPending}
+use Rattle.lru_disk_cache.specs.declared.error.Error.TheVariants.{WrongDigest, WriterRefused}
+use Rattle.lru_disk_cache.specs.declared.error.Error.TheVariants.{Memory as NoMemory}
 use Rattle.lru_disk_cache.specs.Entries.{total, promoted_key}
 use Rattle.lru_disk_cache.specs.Disk.{Left, stored, dropped, without_key}
 use Rattle.lru_disk_cache.specs.Store.{IoCause}
-use Rattle.lru_disk_cache.specs.Archives.{Archives, id_of, AllVerified, archives_in, sound_archives, opened_archives}
+use Rattle.lru_disk_cache.specs.Archives.{Archives, id_of, AllVerified, archives_in, sound_archives}
+use Rattle.lru_disk_cache.specs.Archives.{opened_archives}
 
 -- whether bytes may be stored as an archive of this id
 abbrev pub archive_verdict : ℕ → List ℕ → List ℕ → Result (Unit {0}) Error
@@ -19,7 +24,8 @@ archive_verdict capacity id bytes =
     else if nat_lt capacity (length bytes) then Err FileTooLarge
     else Ok (tt {0})
 
--- the archives once one is stored, of this size and within a capacity: the others that still fit, and it as the most recent
+-- the archives once one is stored, of this size and within a capacity: the others that still fit, and it as
+-- the most recent
 abbrev pub with_archive : ℕ → List ℕ → ℕ → Archives → Archives
 with_archive capacity id size archives = stored id size (capacity - size) archives
 
@@ -29,15 +35,19 @@ dropped_for capacity id size archives = dropped (capacity - size) (without_key i
 
 -- a refusal by the verdict leaves all as it was
 abbrev pub RefusesArchive : ℕ → List ℕ → List ℕ → Error → Archives → Archives → Held → Held → Type 0
-RefusesArchive capacity id bytes error a b old new = (b ≡ a) × (new ≡ old) × (archive_verdict capacity id bytes ≡ Err error)
+RefusesArchive capacity id bytes error a b old new = (b ≡ a) × (new ≡ old)
+    × (archive_verdict capacity id bytes ≡ Err error)
 
--- Why storing an archive failed, and what it leaves: the list as it was, or that id unlisted and then some of the least recent gone, none
--- more than had to go.
+-- Why storing an archive failed, and what it leaves: the list as it was, or that id unlisted and then some of
+-- the least recent gone, none more than had to go.
 abbrev pub StoreFails : ℕ → List ℕ → List ℕ → Error → Archives → Archives → Held → Held → Type 0
-StoreFails capacity id bytes WrongDigest a b old new = RefusesArchive capacity id bytes WrongDigest a b old new
-StoreFails capacity id bytes FileTooLarge a b old new = RefusesArchive capacity id bytes FileTooLarge a b old new
+StoreFails capacity id bytes WrongDigest a b old new =
+    RefusesArchive capacity id bytes WrongDigest a b old new
+StoreFails capacity id bytes FileTooLarge a b old new =
+    RefusesArchive capacity id bytes FileTooLarge a b old new
 StoreFails capacity id bytes (Io fault) a b old new =
-    Left id (capacity - length bytes) a b × IoCause fault old new × (archive_verdict capacity id bytes ≡ Ok (tt {0}))
+    Left id (capacity - length bytes) a b × IoCause fault old new
+    × (archive_verdict capacity id bytes ≡ Ok (tt {0}))
 StoreFails capacity id bytes NoMemory a b old new = Left id (capacity - length bytes) a b
 StoreFails capacity id bytes BadKey a b old new = ⊥
 StoreFails capacity id bytes PendingSpace a b old new = ⊥
@@ -73,13 +83,16 @@ DropFails id WriterRefused a b old new = ⊥
 abbrev pub IsListed : List ℕ × ℕ → Archives → Type 0
 IsListed a archives = lookup (bytes_eq a.0) archives ≡ Some a.1
 
--- Of the files that an opening finds, each archive that had been listed, whose file still stands and is within the capacity, is listed
--- again or is dropped as one of the least recent, to fit.
+-- Of the files that an opening finds, each archive that had been listed, whose file still stands and is
+-- within the capacity, is listed again or is dropped as one of the least recent, to fit.
 abbrev pub Relists : List ℕ → ℕ → Files → Archives → Type 0
 Relists path capacity files new =
     (old : Archives) → AllVerified path files old → total old ≤ capacity
-    → AllByRecursion (λ a. IsListed a new ⊎ IsListed a (dropped capacity (sound_archives path capacity files))) old
+    → AllByRecursion (λ a. IsListed a new
+    ⊎ IsListed a (dropped capacity (sound_archives path capacity files))) old
 
 -- archives that are in step with the files and fit are what an opening lists
 abbrev pub ArchivesReopen : Type 0
-ArchivesReopen = (path : List ℕ) (capacity : ℕ) (files : Files) (archives : Archives) → archives_in path files ≡ archives → total archives ≤ capacity → opened_archives path capacity files ≡ archives
+ArchivesReopen = (path : List ℕ) (capacity : ℕ) (files : Files) (archives : Archives)
+    → archives_in path files ≡ archives → total archives ≤ capacity
+    → opened_archives path capacity files ≡ archives

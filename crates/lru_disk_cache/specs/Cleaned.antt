@@ -22,10 +22,12 @@ under root files = filter (λ f. is_behind root f.0) files
 abbrev pub is_sound : List ℕ → ℕ → List ℕ × List ℕ → Bool
 is_sound root capacity f = nat_le (length f.1) capacity && bytes_eq f.0 (root ++ archive_key (id_of f.1))
 
--- of the files under a root those are left that are sound, in their order, all others stay, and all paths differ
+-- of the files under a root those are left that are sound, in their order, all others stay, and all paths
+-- differ
 abbrev pub Cleaned : List ℕ → ℕ → Files → Files → Type 0
 Cleaned root capacity old new =
-    IsDistinct bytes_eq (keys_of new) × (under root new ≡ filter (is_sound root capacity) (under root old)) × ButUnder root old new
+    IsDistinct bytes_eq (keys_of new) × (under root new ≡ filter (is_sound root capacity) (under root old))
+    × ButUnder root old new
 
 -- whether a key is one of an archive
 abbrev pub is_archive_key : List ℕ → Bool

@@ -1,5 +1,6 @@
 -- What stands on a disk behind its list, and what each step leaves.
-use Rattle.std.specs.Prelude.{◌≡◌, ℕ, ◌<◌, ◌≤◌, ◌^◌, nat_le, if◌then◌else◌, false, true, List, [], ◌∷◌, ◌++◌, ◌⊎◌, Some, None, Result, Ok, Err}
+use Rattle.std.specs.Prelude.{◌≡◌, ℕ, ◌<◌, ◌≤◌, ◌^◌, nat_le, if◌then◌else◌, false, true, List, [], ◌∷◌, ◌++◌}
+use Rattle.std.specs.Prelude.{◌⊎◌, Some, None, Result, Ok, Err}
 use Rattle.std.specs.List.{AllByRecursion}
 use Rattle.std.specs.Map.{remove_entry}
 use Rattle.std.specs.Str.{bytes_eq}
@@ -54,15 +55,18 @@ SameBelow root old new = (k : List ℕ) → file_at new (root ++ k) ≡ file_at 
 
 -- the file at each path outside the root is as it was
 abbrev pub ButUnder : List ℕ → Files → Files → Type 0
-ButUnder root old new = (q : List ℕ) → ((k : List ℕ) → bytes_eq (root ++ k) q ≡ false) → file_at new q ≡ file_at old q
+ButUnder root old new = (q : List ℕ) → ((k : List ℕ) → bytes_eq (root ++ k) q ≡ false)
+    → file_at new q ≡ file_at old q
 
 -- the file at each path outside the root but one is as it was
 abbrev pub ButUnderAnd : List ℕ → List ℕ → Files → Files → Type 0
-ButUnderAnd root from old new = (q : List ℕ) → ((k : List ℕ) → bytes_eq (root ++ k) q ≡ false) → bytes_eq from q ≡ false → file_at new q ≡ file_at old q
+ButUnderAnd root from old new = (q : List ℕ) → ((k : List ℕ) → bytes_eq (root ++ k) q ≡ false)
+    → bytes_eq from q ≡ false → file_at new q ≡ file_at old q
 
 -- the file at each path but these two, and that is no entry's, is as it was
 abbrev pub ButThese : List ℕ → List ℕ → List ℕ → Entries → Files → Files → Type 0
-ButThese root from path entries old new = (q : List ℕ) → bytes_eq from q ≡ false → bytes_eq path q ≡ false → Avoids root q entries → file_at new q ≡ file_at old q
+ButThese root from path entries old new = (q : List ℕ) → bytes_eq from q ≡ false → bytes_eq path q ≡ false
+    → Avoids root q entries → file_at new q ≡ file_at old q
 
 -- it is the path of a temporary file under a root
 abbrev pub IsTemp : List ℕ → List ℕ → Type 0
@@ -70,9 +74,11 @@ IsTemp root path = (n : ℕ) × (n < 2 ^ 64) × (path ≡ root ++ temp_name n)
 
 -- the file of each of these entries is as it was
 abbrev pub Keeps : List ℕ → Entries → Files → Files → Type 0
-Keeps root entries old new = AllByRecursion (λ e. file_at new (root ++ e.0) ≡ file_at old (root ++ e.0)) entries
+Keeps root entries old new = AllByRecursion (λ e. file_at new (root ++ e.0) ≡ file_at old (root ++ e.0))
+    entries
 
--- Why a step failed: Failed only where the count rose, and Missing only where files are not told. The count never falls.
+-- Why a step failed: Failed only where the count rose, and Missing only where files are not told. The count
+-- never falls.
 abbrev pub Caused : FolderFault → Held → Held → Type 0
 Caused Failed old new = Rose old.faults new.faults × (old.faults ≤ new.faults)
 Caused Missing old new = (old.files ≡ None) × (old.faults ≤ new.faults)
@@ -83,7 +89,8 @@ abbrev pub Counts : {T : Type 0} → Result T FolderFault → Held → Held → 
 Counts (Ok x) old new = new.faults ≡ old.faults
 Counts (Err e) old new = Caused e old new
 
--- Entries went from the front, and only where those left were past the limit. What is left stands, and no other file changed.
+-- Entries went from the front, and only where those left were past the limit. What is left stands, and no
+-- other file changed.
 pub record Drops (root : List ℕ) (limit : ℕ) (old new : Listed) (before after : Held) : Type 0 where
   pub capacity : new.capacity ≡ old.capacity
   pub rest : IsEnd new.entries old.entries
@@ -104,9 +111,11 @@ staying key limit entries = trim limit (without_key key entries)
 abbrev pub stored : List ℕ → ℕ → ℕ → Entries → Entries
 stored key size limit entries = staying key limit entries ++ (key, size) ∷ []
 
--- What a failed insert leaves: the list as it was, or the key out and then some of the least recent, none more than had to go.
+-- What a failed insert leaves: the list as it was, or the key out and then some of the least recent, none
+-- more than had to go.
 abbrev pub Left : List ℕ → ℕ → Entries → Entries → Type 0
-Left key limit old new = (new ≡ old) ⊎ (IsEnd new (without_key key old) × (trim limit new ≡ trim limit (without_key key old)))
+Left key limit old new = (new ≡ old)
+    ⊎ (IsEnd new (without_key key old) × (trim limit new ≡ trim limit (without_key key old)))
 
 -- the entries that go from the front so that the others fit a limit
 abbrev pub dropped : ℕ → Entries → Entries

@@ -1,5 +1,6 @@
 -- The files of a folder, least recent first, and what calls make of them.
-use Rattle.std.specs.Prelude.{◌≡◌, ℕ, Bool, not, ◌⊎◌, List, [], ◌∷◌, ◌++◌, length, take, map, filter, nat_eq, Option, Some, None}
+use Rattle.std.specs.Prelude.{◌≡◌, ℕ, Bool, not, ◌⊎◌, List, [], ◌∷◌, ◌++◌, length, take, map, filter, nat_eq}
+use Rattle.std.specs.Prelude.{Option, Some, None}
 use Rattle.std.specs.List.{starts_with}
 use Rattle.std.specs.Map.{lookup}
 use Rattle.std.specs.Option.{option_map}
@@ -54,7 +55,8 @@ is_behind begun path = starts_with nat_eq path begun
 
 -- the paths that begin so, each with its file's size
 abbrev pub found_behind : List ℕ → Files → List Found
-found_behind begun files = map (λ f. record { path = f.0; size = length f.1 }) (filter (λ f. is_behind begun f.0) files)
+found_behind begun files = map (λ f. record { path = f.0; size = length f.1 })
+    (filter (λ f. is_behind begun f.0) files)
 
 -- the files below a directory, each with its size
 abbrev pub found_under : List ℕ → Files → List Found

@@ -28,11 +28,13 @@ abbrev pub Became : (Files → Files → Type 0) → Option Files → Option Fil
 Became part None new = new ≡ None
 Became part (Some old) new = (files : Files) × (new ≡ Some files) × part old files
 
--- A call does this where it succeeds, and its files were not lacking. Missing says that they were, and leaves all. Failed and Memory leave
--- a part of what the call does, and Failed only where the count rose.
-abbrev pub Changes : {T : Type 0} → (Files → Type 0) → (Files → Files) → (Files → Files → Type 0) → Result T FolderFault → Held → Held → Type 0
+-- A call does this where it succeeds, and its files were not lacking. Missing says that they were, and leaves
+-- all. Failed and Memory leave a part of what the call does, and Failed only where the count rose.
+abbrev pub Changes : {T : Type 0} → (Files → Type 0) → (Files → Files) → (Files → Files → Type 0)
+    → Result T FolderFault → Held → Held → Type 0
 Changes lacking done part (Ok x) old new =
-    (new ≡ record { files = option_map done old.files; faults = old.faults }) × Holds old (λ files. ¬ (lacking files))
+    (new ≡ record { files = option_map done old.files; faults = old.faults })
+    × Holds old (λ files. ¬ (lacking files))
 Changes lacking done part (Err Missing) old new = (new ≡ old) × Holds old lacking
 Changes lacking done part (Err Failed) old new =
     Became part old.files new.files × Rose old.faults new.faults × (old.faults ≤ new.faults)

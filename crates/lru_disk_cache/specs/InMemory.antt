@@ -39,8 +39,10 @@ verdict c found = if fails_before c then Err Failed else end_verdict (fails_afte
 abbrev pub left : {T : Type 0} → Calls → Option T → Files → Files → Files
 left c found old done = if fails_before c then old else if is_none found then old else done
 
--- The answer, seen through a view, is the verdict, and the files are what is left, unless memory ran out, which leaves all.
-abbrev pub Acts : {T U : Type 0} → (T → U) → Result T FolderFault → Result U FolderFault → Files → Files → Files → Type 0
+-- The answer, seen through a view, is the verdict, and the files are what is left, unless memory ran out,
+-- which leaves all.
+abbrev pub Acts : {T U : Type 0} → (T → U) → Result T FolderFault → Result U FolderFault → Files → Files
+    → Files → Type 0
 Acts seen (Ok x) verdict left old new = (verdict ≡ Ok (seen x)) × (new ≡ left)
 Acts seen (Err Missing) verdict left old new = (verdict ≡ Err Missing) × (new ≡ left)
 Acts seen (Err Failed) verdict left old new = (verdict ≡ Err Failed) × (new ≡ left)

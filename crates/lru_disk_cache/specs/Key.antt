@@ -6,7 +6,8 @@ use Rattle.std.specs.Str.{bytes_eq}
 
 -- a part of a key: not empty, not `.` or `..`, and without a NUL byte
 unfoldable pub is_plain : List ℕ → Bool
-is_plain part = not (bytes_eq part []) && not (bytes_eq part (codes ".")) && not (bytes_eq part (codes "..")) && not (list_any (λ b. b == 0) part)
+is_plain part = not (bytes_eq part []) && not (bytes_eq part (codes ".")) && not (bytes_eq part (codes ".."))
+    && not (list_any (λ b. b == 0) part)
 
 -- the last of some parts, which stand behind another
 abbrev pub last_behind : List ℕ → List (List ℕ) → List ℕ

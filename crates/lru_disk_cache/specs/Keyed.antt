@@ -31,9 +31,11 @@ AllArchiveKeys entries = AllByRecursion (λ e. IsArchiveKey e.0) entries
 
 -- each key has a file of its size, whose SHA-256 is its id
 abbrev pub AllHold : List ℕ → Files → Entries → Type 0
-AllHold root files entries = AllByRecursion (λ e. option_map archive_of (file_at files (root ++ e.0)) ≡ Some (id_in e.0, e.1)) entries
+AllHold root files entries =
+    AllByRecursion (λ e. option_map archive_of (file_at files (root ++ e.0)) ≡ Some (id_in e.0, e.1)) entries
 
--- A disk whose keys are those of archives, each with a file whose SHA-256 is its id where files are told, and with no reservation.
+-- A disk whose keys are those of archives, each with a file whose SHA-256 is its id where files are told, and
+-- with no reservation.
 pub record IsKeyed (held : Held) (d : Disk) : Type 0 where
   pub keys : AllArchiveKeys d.entries
   pub root : d.root ≡ front d.path

@@ -8,7 +8,10 @@ use Rattle.lru_disk_cache.specs.Held.{Held, Holds, Lacks}
 use Rattle.lru_disk_cache.specs.declared.fault.FolderFault.{FolderFault}
 use Rattle.lru_disk_cache.specs.declared.fault.FolderFault.TheVariants.{Missing, Failed, Memory}
 use Rattle.lru_disk_cache.specs.declared.error.Error.{Error}
-use Rattle.lru_disk_cache.specs.declared.error.Error.TheVariants.{FileTooLarge, FileNotInCache, Io, PendingSpace, BadKey, NotPending, WrongDigest, WriterRefused, Memory as NoMemory}
+use Rattle.lru_disk_cache.specs.declared.error.Error.TheVariants.{FileTooLarge, FileNotInCache, Io}
+use Rattle.lru_disk_cache.specs.declared.error.Error.TheVariants.{PendingSpace, BadKey, NotPending}
+use Rattle.lru_disk_cache.specs.declared.error.Error.TheVariants.{WrongDigest, WriterRefused}
+use Rattle.lru_disk_cache.specs.declared.error.Error.TheVariants.{Memory as NoMemory}
 use Rattle.lru_disk_cache.specs.declared.error.WriteFault.{WriteFault}
 use Rattle.lru_disk_cache.specs.declared.error.WriteFault.TheVariants.{Refused}
 use Rattle.lru_disk_cache.specs.Key.{is_key}
@@ -22,7 +25,8 @@ use Rattle.lru_disk_cache.specs.Archiving.{StoreFails}
 abbrev pub IsSized : List ℕ → Held → ℕ → Type 0
 IsSized path held n = Holds held (λ files. size_at files path ≡ Some n)
 
--- Why the folder failed: the count rose, or files are not told, or there is no file to be moved, which leaves all.
+-- Why the folder failed: the count rose, or files are not told, or there is no file to be moved, which leaves
+-- all.
 abbrev pub MoveCause : List ℕ → FolderFault → Disk → Disk → Held → Held → Type 0
 MoveCause path Failed d e old new = Rose old.faults new.faults
 MoveCause path Missing d e old new = (old.files ≡ None) ⊎ ((e ≡ d) × (new ≡ old) × Holds old (Lacks path))
@@ -31,7 +35,8 @@ MoveCause path Memory d e old new = ⊥
 -- what it leaves where the folder or memory failed: all as it was, or what a failed insert leaves
 abbrev pub MoveBroke : List ℕ → List ℕ → Disk → Disk → Held → Type 0
 MoveBroke key path d e old =
-    (e ≡ d) ⊎ ((n : ℕ) × IsSized path old n × (insert_verdict d key n ≡ Ok (tt {0})) × LeftBy key (room_beside d n) d e)
+    (e ≡ d) ⊎ ((n : ℕ) × IsSized path old n × (insert_verdict d key n ≡ Ok (tt {0}))
+    × LeftBy key (room_beside d n) d e)
 
 -- a refusal by the verdict leaves all as it was
 abbrev pub RefusesMove : List ℕ → List ℕ → Error → Disk → Disk → Held → Held → Type 0
@@ -53,9 +58,11 @@ MoveFails key path WriterRefused d e old new = ⊥
 -- ---- what a closure writes
 
 -- A call of the closure at an empty vector may give this answer, and leave these bytes.
-abbrev pub Wrote : {W V : Type 0} → Once W (MutBor V × Unit {0}) (Result (Unit {0}) WriteFault × (MutBor V × Unit {0})) → (V → List ℕ) → W → Result (Unit {0}) WriteFault → List ℕ → Type 0
+abbrev pub Wrote : {W V : Type 0} → Once W (MutBor V × Unit {0}) (Result (Unit {0}) WriteFault
+    × (MutBor V × Unit {0})) → (V → List ℕ) → W → Result (Unit {0}) WriteFault → List ℕ → Type 0
 Wrote {W} {V} call seen closure answer bytes =
-    (empty filled : V) × FnOnceReturnsAtMut call closure empty answer filled × (seen empty ≡ []) × (seen filled ≡ bytes)
+    (empty filled : V) × FnOnceReturnsAtMut call closure empty answer filled × (seen empty ≡ [])
+    × (seen filled ≡ bytes)
 
 -- why a closure wrote nothing that is to be stored
 abbrev pub WriterFails : (Result (Unit {0}) WriteFault → List ℕ → Type 0) → Error → Type 0
@@ -74,12 +81,17 @@ abbrev pub OfBytes : (Result (Unit {0}) WriteFault → List ℕ → Type 0) → 
 OfBytes wrote fails = (bytes : List ℕ) × wrote (Ok (tt {0})) bytes × fails bytes
 
 -- why storing what a closure writes failed, and what it leaves
-abbrev pub WithFails : (Result (Unit {0}) WriteFault → List ℕ → Type 0) → List ℕ → Error → Disk → Disk → Held → Held → Type 0
+abbrev pub WithFails : (Result (Unit {0}) WriteFault → List ℕ → Type 0) → List ℕ → Error → Disk → Disk → Held
+    → Held → Type 0
 WithFails wrote key BadKey d e old new = (e ≡ d) × (new ≡ old) × (is_key key ≡ false)
-WithFails wrote key WriterRefused d e old new = (e ≡ d) × (new ≡ old) × ((bytes : List ℕ) × wrote (Err Refused) bytes)
-WithFails wrote key FileTooLarge d e old new = OfBytes wrote (λ bytes. InsertFails key (length bytes) FileTooLarge d e old new)
-WithFails wrote key PendingSpace d e old new = OfBytes wrote (λ bytes. InsertFails key (length bytes) PendingSpace d e old new)
-WithFails wrote key (Io fault) d e old new = OfBytes wrote (λ bytes. InsertFails key (length bytes) (Io fault) d e old new)
+WithFails wrote key WriterRefused d e old new = (e ≡ d) × (new ≡ old)
+    × ((bytes : List ℕ) × wrote (Err Refused) bytes)
+WithFails wrote key FileTooLarge d e old new =
+    OfBytes wrote (λ bytes. InsertFails key (length bytes) FileTooLarge d e old new)
+WithFails wrote key PendingSpace d e old new =
+    OfBytes wrote (λ bytes. InsertFails key (length bytes) PendingSpace d e old new)
+WithFails wrote key (Io fault) d e old new =
+    OfBytes wrote (λ bytes. InsertFails key (length bytes) (Io fault) d e old new)
 WithFails wrote key NoMemory d e old new =
     ((e ≡ d) × (new ≡ old)) ⊎ OfBytes wrote (λ bytes. InsertFails key (length bytes) NoMemory d e old new)
 WithFails wrote key FileNotInCache d e old new = ⊥
@@ -87,11 +99,16 @@ WithFails wrote key NotPending d e old new = ⊥
 WithFails wrote key WrongDigest d e old new = ⊥
 
 -- the same of an archive
-abbrev pub StoreWithFails : (Result (Unit {0}) WriteFault → List ℕ → Type 0) → ℕ → List ℕ → Error → Archives → Archives → Held → Held → Type 0
-StoreWithFails wrote capacity id WriterRefused a b old new = (b ≡ a) × (new ≡ old) × ((bytes : List ℕ) × wrote (Err Refused) bytes)
-StoreWithFails wrote capacity id WrongDigest a b old new = OfBytes wrote (λ bytes. StoreFails capacity id bytes WrongDigest a b old new)
-StoreWithFails wrote capacity id FileTooLarge a b old new = OfBytes wrote (λ bytes. StoreFails capacity id bytes FileTooLarge a b old new)
-StoreWithFails wrote capacity id (Io fault) a b old new = OfBytes wrote (λ bytes. StoreFails capacity id bytes (Io fault) a b old new)
+abbrev pub StoreWithFails : (Result (Unit {0}) WriteFault → List ℕ → Type 0) → ℕ → List ℕ → Error → Archives
+    → Archives → Held → Held → Type 0
+StoreWithFails wrote capacity id WriterRefused a b old new = (b ≡ a) × (new ≡ old)
+    × ((bytes : List ℕ) × wrote (Err Refused) bytes)
+StoreWithFails wrote capacity id WrongDigest a b old new =
+    OfBytes wrote (λ bytes. StoreFails capacity id bytes WrongDigest a b old new)
+StoreWithFails wrote capacity id FileTooLarge a b old new =
+    OfBytes wrote (λ bytes. StoreFails capacity id bytes FileTooLarge a b old new)
+StoreWithFails wrote capacity id (Io fault) a b old new =
+    OfBytes wrote (λ bytes. StoreFails capacity id bytes (Io fault) a b old new)
 StoreWithFails wrote capacity id NoMemory a b old new =
     ((b ≡ a) × (new ≡ old)) ⊎ OfBytes wrote (λ bytes. StoreFails capacity id bytes NoMemory a b old new)
 StoreWithFails wrote capacity id BadKey a b old new = ⊥

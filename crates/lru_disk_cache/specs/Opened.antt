@@ -1,5 +1,6 @@
 -- What an opening lists.
-use Rattle.std.specs.Prelude.{◌≡◌, ℕ, ◌≤◌, Bool, ◌&&◌, nat_le, nat_eq, List, [], ◌∷◌, filter, drop, length, Option, Some, None, if◌then◌else◌}
+use Rattle.std.specs.Prelude.{◌≡◌, ℕ, ◌≤◌, Bool, ◌&&◌, nat_le, nat_eq, List, [], ◌∷◌, filter, drop, length}
+use Rattle.std.specs.Prelude.{Option, Some, None, if◌then◌else◌}
 use Rattle.std.specs.List.{IsDistinct, starts_with}
 use Rattle.std.specs.Map.{keys_of}
 use Rattle.std.specs.Str.{bytes_eq}
@@ -28,7 +29,8 @@ listing root files = keyed root (found_behind root files)
 
 -- where files are told their paths differ, and under the root they are those of the list, in its order
 abbrev pub Shows : List ℕ → Held → Entries → Type 0
-Shows root held entries = Holds held (λ files. IsDistinct bytes_eq (keys_of files) × (listing root files ≡ entries))
+Shows root held entries = Holds held (λ files. IsDistinct bytes_eq (keys_of files)
+    × (listing root files ≡ entries))
 
 -- it is a key, and its file is within the capacity
 abbrev pub is_kept : ℕ → List ℕ × ℕ → Bool
@@ -38,7 +40,8 @@ is_kept capacity e = is_key e.0 && nat_le e.1 capacity
 abbrev pub kept : List ℕ → ℕ → List Found → Entries
 kept root capacity found = filter (is_kept capacity) (keyed root found)
 
--- The list that an opening makes of the files: those under the root that are kept, and of these the longest end that fits.
+-- The list that an opening makes of the files: those under the root that are kept, and of these the longest
+-- end that fits.
 abbrev pub opened : List ℕ → ℕ → Files → Entries
 opened root capacity files = trim capacity (kept root capacity (found_behind root files))
 
@@ -48,4 +51,5 @@ InStep root files entries = filter (λ e. is_key e.0) (listing root files) ≡ e
 
 -- a list that is in step with the files and fits is what an opening lists
 abbrev pub Reopens : Type 0
-Reopens = (root : List ℕ) (capacity : ℕ) (files : Files) (entries : Entries) → InStep root files entries → total entries ≤ capacity → opened root capacity files ≡ entries
+Reopens = (root : List ℕ) (capacity : ℕ) (files : Files) (entries : Entries) → InStep root files entries
+    → total entries ≤ capacity → opened root capacity files ≡ entries

@@ -6,4 +6,5 @@ use Rattle.lru_disk_cache.specs.declared.reliable_folder.ReliableFolder.{Reliabl
 
 -- no fault of a call has a cause over such a folder
 abbrev pub NeverFails : Type 0
-NeverFails = (fault : FolderFault) (old new : ReliableFolder) → ¬ (IoCause fault (reliable_held old) (reliable_held new))
+NeverFails = (fault : FolderFault) (old new : ReliableFolder)
+    → ¬ (IoCause fault (reliable_held old) (reliable_held new))

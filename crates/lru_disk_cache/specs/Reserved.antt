@@ -1,13 +1,15 @@
 -- The open reservations of a cache.
-use Rattle.std.specs.Prelude.{◌≡◌, ℕ, ◌+◌, ◌<◌, ◌^◌, Bool, true, false, ◌==◌, ◌&&◌, not, if◌then◌else◌, List, [], ◌∷◌, ◌++◌, Option, Some, None, filter, map, sum_by}
+use Rattle.std.specs.Prelude.{◌≡◌, ℕ, ◌+◌, ◌<◌, ◌^◌, Bool, true, false, ◌==◌, ◌&&◌, not, if◌then◌else◌, List}
+use Rattle.std.specs.Prelude.{[], ◌∷◌, ◌++◌, Option, Some, None, filter, map, sum_by}
 use Rattle.std.specs.List.{list_any, AllByRecursion}
 use Rattle.std.specs.Str.{bytes_eq}
 use Rattle.lru_disk_cache.specs.Files.{Files, file_at}
 use Rattle.lru_disk_cache.specs.Held.{Lacks}
 use Rattle.lru_disk_cache.specs.Key.{is_key, temp_name}
 
--- What a cache keeps of an entry that is being added: a number, a key, the size announced, the path of its temporary file, and whether that
--- is sure to be there: no commit of it failed in a call of the folder or for want of memory.
+-- What a cache keeps of an entry that is being added: a number, a key, the size announced, the path of its
+-- temporary file, and whether that is sure to be there: no commit of it failed in a call of the folder or for
+-- want of memory.
 pub record Reservation : Type 0 where
   pub number : ℕ
   pub key : List ℕ
@@ -79,7 +81,8 @@ NumbersDiffer (r ∷ rs) = (has r.number rs ≡ false) × NumbersDiffer rs
 
 -- closing the reservation of a pending entry gives its size back
 abbrev pub GivesBack : Type 0
-GivesBack = (e : AddEntry) (pending : List Reservation) → NumbersDiffer pending → is_pending e pending ≡ true → held_size (without_number e.number pending) + e.size ≡ held_size pending
+GivesBack = (e : AddEntry) (pending : List Reservation) → NumbersDiffer pending → is_pending e pending ≡ true
+    → held_size (without_number e.number pending) + e.size ≡ held_size pending
 
 -- the temporary files that are sure to be there are
 abbrev pub AllSure : Files → List Reservation → Type 0

@@ -1,5 +1,6 @@
 -- A disk cache: its disk and its folder, and what each call leaves.
-use Rattle.std.specs.Prelude.{◌≡◌, ℕ, ◌+◌, ◌-◌, ◌≤◌, [], ◌⊎◌, not, nat_lt, if◌then◌else◌, List, None, Result, Ok, Err}
+use Rattle.std.specs.Prelude.{◌≡◌, ℕ, ◌+◌, ◌-◌, ◌≤◌, [], ◌⊎◌, not, nat_lt, if◌then◌else◌, List, None, Result}
+use Rattle.std.specs.Prelude.{Ok, Err}
 use Rattle.std.specs.Map.{lookup}
 use Rattle.std.specs.Str.{bytes_eq}
 use Rattle.dist_types.specs.Cause.{Rose}
@@ -8,15 +9,18 @@ use Rattle.lru_disk_cache.specs.Held.{Held, Holds}
 use Rattle.lru_disk_cache.specs.declared.fault.FolderFault.{FolderFault}
 use Rattle.lru_disk_cache.specs.declared.fault.FolderFault.TheVariants.{Missing, Failed, Memory}
 use Rattle.lru_disk_cache.specs.declared.error.Error.{Error}
-use Rattle.lru_disk_cache.specs.declared.error.Error.TheVariants.{FileTooLarge, FileNotInCache, Io, PendingSpace, BadKey, NotPending, WrongDigest, WriterRefused, Memory as NoMemory}
+use Rattle.lru_disk_cache.specs.declared.error.Error.TheVariants.{FileTooLarge, FileNotInCache, Io}
+use Rattle.lru_disk_cache.specs.declared.error.Error.TheVariants.{PendingSpace, BadKey, NotPending}
+use Rattle.lru_disk_cache.specs.declared.error.Error.TheVariants.{WrongDigest, WriterRefused}
+use Rattle.lru_disk_cache.specs.declared.error.Error.TheVariants.{Memory as NoMemory}
 use Rattle.lru_disk_cache.specs.Key.{is_key}
 use Rattle.lru_disk_cache.specs.Entries.{Entries, total, promoted_key}
 use Rattle.lru_disk_cache.specs.Opened.{opened, InStep}
 use Rattle.lru_disk_cache.specs.Disk.{Stands, stored, Left, without_key}
 use Rattle.lru_disk_cache.specs.Reserved.{Reservation, held_size, AllReserved, NumbersDiffer, AllSure}
 
--- The path of a cache and what the path of each of its files begins with, its capacity, its keys with sizes, least recent first, and its
--- open reservations.
+-- The path of a cache and what the path of each of its files begins with, its capacity, its keys with sizes,
+-- least recent first, and its open reservations.
 pub record Disk : Type 0 where
   pub path : List ℕ
   pub root : List ℕ
@@ -29,8 +33,8 @@ pub record Store (F : Type 0) : Type 0 where
   pub disk : Disk
   pub folder : F
 
--- A cache whose files stand, whose entries and reservations fit its capacity, and whose reservations' numbers differ. The temporary files
--- that are sure to be there are, where files are told.
+-- A cache whose files stand, whose entries and reservations fit its capacity, and whose reservations' numbers
+-- differ. The temporary files that are sure to be there are, where files are told.
 pub record IsStore (held : Held) (d : Disk) : Type 0 where
   pub stands : Stands d.root held d.entries
   pub root : d.root ≡ front d.path
@@ -81,7 +85,13 @@ removed d key = record d { entries = without_key key d.entries }
 
 -- the disk that an opening makes of the files
 abbrev pub opened_disk : List ℕ → ℕ → Files → Disk
-opened_disk path capacity files = record { path = path; root = front path; capacity = capacity; entries = opened (front path) capacity files; pending = [] }
+opened_disk path capacity files = record {
+  path = path;
+  root = front path;
+  capacity = capacity;
+  entries = opened (front path) capacity files;
+  pending = [];
+}
 
 -- why an opening failed
 abbrev pub OpenFails : Error → Held → Held → Type 0
@@ -95,7 +105,8 @@ OpenFails NotPending old new = ⊥
 OpenFails WrongDigest old new = ⊥
 OpenFails WriterRefused old new = ⊥
 
--- what a failed insert leaves: the list as it was, or the key out and some of the least recent gone, none more than had to go
+-- what a failed insert leaves: the list as it was, or the key out and some of the least recent gone, none
+-- more than had to go
 pub record LeftBy (key : List ℕ) (limit : ℕ) (old new : Disk) : Type 0 where
   pub path : new.path ≡ old.path
   pub root : new.root ≡ old.root

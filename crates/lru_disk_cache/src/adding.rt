@@ -1,11 +1,15 @@
 //! Reservations: entries that are announced, written and then committed or abandoned.
-ghost use Rattle.std.specs.Prelude.{◌≡◌, ◌+◌, ◌++◌, ◌≤◌, ◌⊎◌, [], true, Some, Ok, Err, IfOk, IfErr, OnOk, OnErr};
+ghost use Rattle.std.specs.Prelude.{◌≡◌, ◌+◌, ◌++◌, ◌≤◌, ◌⊎◌, [], true, Some, Ok, Err, IfOk, IfErr, OnOk};
+ghost use Rattle.std.specs.Prelude.{OnErr};
 ghost use Rattle.lru_disk_cache.specs.Files.{file_at, without, appended, PartAppended};
 ghost use Rattle.lru_disk_cache.specs.Held.{Holds, Became, Made, Lacks};
 ghost use Rattle.lru_disk_cache.specs.Key.{is_key};
 ghost use Rattle.lru_disk_cache.specs.Disk.{ButAt, ButUnder, Keeps, dropped, files_placed, without_key};
-ghost use Rattle.lru_disk_cache.specs.Reserved.{held_size, is_pending, without_number, IsLeastFree, KeepsReserved};
-ghost use Rattle.lru_disk_cache.specs.Adding.{entry_path, prepared, files_prepared, held_beside, room_for, commit_verdict, committed, abandoned, abandon_answer, HasSize, PrepareFails, WriteFails, CommitFails, AbandonFails};
+ghost use Rattle.lru_disk_cache.specs.Reserved.{held_size, is_pending, without_number, IsLeastFree};
+ghost use Rattle.lru_disk_cache.specs.Reserved.{KeepsReserved};
+ghost use Rattle.lru_disk_cache.specs.Adding.{entry_path, prepared, files_prepared, held_beside, room_for};
+ghost use Rattle.lru_disk_cache.specs.Adding.{commit_verdict, committed, abandoned, abandon_answer, HasSize};
+ghost use Rattle.lru_disk_cache.specs.Adding.{PrepareFails, WriteFails, CommitFails, AbandonFails};
 
 use crate::cache::{LruDiskCache, arrival_of};
 use crate::entry::LruDiskCacheAddEntry;
@@ -26,17 +30,29 @@ impl<F: Folder> LruDiskCache<F> {
     /// some of the least recent gone, none more than had to go.
     pub fn prepare_add(&mut self, key: &str, size: u64) -> Result<LruDiskCacheAddEntry>
         ensures ok { IfOk result (λ e. self.new.disk ≡ prepared self.old.disk e) }
-        ensures entry { IfOk result (λ e. (e.key ≡ key.now) × (e.size ≡ size) × IsLeastFree e.number self.old.disk.pending) }
+        ensures entry { IfOk result (λ e. (e.key ≡ key.now) × (e.size ≡ size)
+            × IsLeastFree e.number self.old.disk.pending) }
         ensures admits { OnOk result (insert_verdict self.old.disk key.now size ≡ Ok tt) }
-        ensures empty { IfOk result (λ e. Holds (F.held self.new.folder) (λ files. file_at files (entry_path self.old.disk e) ≡ Some [])) }
-        ensures fails { IfErr result (λ e. PrepareFails key.now size e self.old.disk self.new.disk (F.held self.old.folder) (F.held self.new.folder)) }
-        ensures kept { Became (Keeps self.old.disk.root self.new.disk.entries) (F.held self.old.folder).files (F.held self.new.folder).files }
-        ensures reserved { Became (KeepsReserved self.old.disk.pending) (F.held self.old.folder).files (F.held self.new.folder).files }
-        ensures others { Became (ButUnder self.old.disk.root) (F.held self.old.folder).files (F.held self.new.folder).files }
-        ensures exact { IfOk result (λ e. Made (files_prepared self.old.disk.root (entry_path self.old.disk e) (dropped (room_beside self.old.disk size) self.old.disk.entries)) (F.held self.old.folder).files (F.held self.new.folder).files) }
+        ensures empty { IfOk result
+            (λ e. Holds (F.held self.new.folder)
+            (λ files. file_at files (entry_path self.old.disk e) ≡ Some [])) }
+        ensures fails { IfErr result
+            (λ e. PrepareFails key.now size e self.old.disk self.new.disk (F.held self.old.folder)
+            (F.held self.new.folder)) }
+        ensures kept { Became (Keeps self.old.disk.root self.new.disk.entries) (F.held self.old.folder).files
+            (F.held self.new.folder).files }
+        ensures reserved { Became (KeepsReserved self.old.disk.pending) (F.held self.old.folder).files
+            (F.held self.new.folder).files }
+        ensures others { Became (ButUnder self.old.disk.root) (F.held self.old.folder).files
+            (F.held self.new.folder).files }
+        ensures exact { IfOk result
+            (λ e. Made (files_prepared self.old.disk.root (entry_path self.old.disk e)
+            (dropped (room_beside self.old.disk size) self.old.disk.entries)) (F.held self.old.folder).files
+            (F.held self.new.folder).files) }
         ensures steady { OnOk result ((F.held self.new.folder).faults ≡ (F.held self.old.folder).faults) }
         ensures later { (F.held self.old.folder).faults ≤ (F.held self.new.folder).faults }
-        ensures in_step { DiskInStep (F.held self.old.folder) self.old.disk → OnOk result (DiskInStep (F.held self.new.folder) self.new.disk) }
+        ensures in_step { DiskInStep (F.held self.old.folder) self.old.disk
+            → OnOk result (DiskInStep (F.held self.new.folder) self.new.disk) }
         ensures stands { IsStore (F.held self.new.folder) self.new.disk }
     {
         self.shown();
@@ -68,17 +84,25 @@ impl<F: Folder> LruDiskCache<F> {
     /// number, key and size, which leaves all as it was; then as `Error::Io` or for want of memory, which
     /// leave a front of the bytes added.
     pub fn write_entry(&mut self, entry: &LruDiskCacheAddEntry, bytes: &[u8]) -> Result<()>
-        ensures ok { OnOk result (Made (appended (entry_path self.old.disk entry.now) bytes.now) (F.held self.old.folder).files (F.held self.new.folder).files) }
+        ensures ok { OnOk result (Made (appended (entry_path self.old.disk entry.now) bytes.now)
+            (F.held self.old.folder).files (F.held self.new.folder).files) }
         ensures pending { OnOk result (is_pending entry.now self.old.disk.pending ≡ true) }
-        ensures part { OnErr result (Became (PartAppended (entry_path self.old.disk entry.now) bytes.now) (F.held self.old.folder).files (F.held self.new.folder).files) }
-        ensures fails { IfErr result (λ e. WriteFails entry.now e self.old.disk self.new.disk (F.held self.old.folder) (F.held self.new.folder)) }
+        ensures part { OnErr result (Became (PartAppended (entry_path self.old.disk entry.now) bytes.now)
+            (F.held self.old.folder).files (F.held self.new.folder).files) }
+        ensures fails { IfErr result
+            (λ e. WriteFails entry.now e self.old.disk self.new.disk (F.held self.old.folder)
+            (F.held self.new.folder)) }
         ensures disk { self.new.disk ≡ self.old.disk }
-        ensures others { Became (ButAt (entry_path self.old.disk entry.now)) (F.held self.old.folder).files (F.held self.new.folder).files }
-        ensures kept { Became (Keeps self.old.disk.root self.old.disk.entries) (F.held self.old.folder).files (F.held self.new.folder).files }
-        ensures reserved { Became (KeepsReserved (without_number entry.now.number self.old.disk.pending)) (F.held self.old.folder).files (F.held self.new.folder).files }
+        ensures others { Became (ButAt (entry_path self.old.disk entry.now)) (F.held self.old.folder).files
+            (F.held self.new.folder).files }
+        ensures kept { Became (Keeps self.old.disk.root self.old.disk.entries) (F.held self.old.folder).files
+            (F.held self.new.folder).files }
+        ensures reserved { Became (KeepsReserved (without_number entry.now.number self.old.disk.pending))
+            (F.held self.old.folder).files (F.held self.new.folder).files }
         ensures steady { OnOk result ((F.held self.new.folder).faults ≡ (F.held self.old.folder).faults) }
         ensures later { (F.held self.old.folder).faults ≤ (F.held self.new.folder).faults }
-        ensures in_step { DiskInStep (F.held self.old.folder) self.old.disk → OnOk result (DiskInStep (F.held self.new.folder) self.new.disk) }
+        ensures in_step { DiskInStep (F.held self.old.folder) self.old.disk
+            → OnOk result (DiskInStep (F.held self.new.folder) self.new.disk) }
         ensures stands { IsStore (F.held self.new.folder) self.new.disk }
     {
         let Some(temp) = self.pending.temp_of(entry) else {
@@ -99,17 +123,32 @@ impl<F: Folder> LruDiskCache<F> {
         &mut self,
         entry: LruDiskCacheAddEntry,
     ) -> std::result::Result<(), (Error, LruDiskCacheAddEntry)>
-        ensures ok { OnOk result ((n : _) × HasSize self.old.disk entry (F.held self.old.folder) n × (commit_verdict self.old.disk entry n ≡ Ok tt) × (self.new.disk ≡ committed self.old.disk entry n) × Made (files_placed self.old.disk.root (entry_path self.old.disk entry) (self.old.disk.root ++ entry.key) (dropped (room_for self.old.disk entry n) (without_key entry.key self.old.disk.entries))) (F.held self.old.folder).files (F.held self.new.folder).files) }
+        ensures ok { OnOk result ((n : _) × HasSize self.old.disk entry (F.held self.old.folder) n
+            × (commit_verdict self.old.disk entry n ≡ Ok tt)
+            × (self.new.disk ≡ committed self.old.disk entry n)
+            × Made (files_placed self.old.disk.root (entry_path self.old.disk entry)
+            (self.old.disk.root ++ entry.key)
+            (dropped (room_for self.old.disk entry n) (without_key entry.key self.old.disk.entries)))
+            (F.held self.old.folder).files (F.held self.new.folder).files) }
         ensures pending { OnOk result (is_pending entry self.old.disk.pending ≡ true) }
-        ensures content { OnOk result (Became (λ old new. file_at new (self.old.disk.root ++ entry.key) ≡ file_at old (entry_path self.old.disk entry)) (F.held self.old.folder).files (F.held self.new.folder).files) }
+        ensures content { OnOk result
+            (Became (λ old new. file_at new (self.old.disk.root ++ entry.key) ≡ file_at old
+            (entry_path self.old.disk entry)) (F.held self.old.folder).files (F.held self.new.folder).files) }
         ensures back { IfErr result (λ e. e.1 ≡ entry) }
-        ensures fails { IfErr result (λ e. CommitFails entry e.0 self.old.disk self.new.disk (F.held self.old.folder) (F.held self.new.folder)) }
-        ensures kept { OnErr result (Became (Keeps self.old.disk.root self.new.disk.entries) (F.held self.old.folder).files (F.held self.new.folder).files) }
-        ensures reserved { Became (KeepsReserved (without_number entry.number self.old.disk.pending)) (F.held self.old.folder).files (F.held self.new.folder).files }
-        ensures others { Became (ButUnder self.old.disk.root) (F.held self.old.folder).files (F.held self.new.folder).files }
+        ensures fails { IfErr result
+            (λ e. CommitFails entry e.0 self.old.disk self.new.disk (F.held self.old.folder)
+            (F.held self.new.folder)) }
+        ensures kept { OnErr result
+            (Became (Keeps self.old.disk.root self.new.disk.entries) (F.held self.old.folder).files
+            (F.held self.new.folder).files) }
+        ensures reserved { Became (KeepsReserved (without_number entry.number self.old.disk.pending))
+            (F.held self.old.folder).files (F.held self.new.folder).files }
+        ensures others { Became (ButUnder self.old.disk.root) (F.held self.old.folder).files
+            (F.held self.new.folder).files }
         ensures steady { OnOk result ((F.held self.new.folder).faults ≡ (F.held self.old.folder).faults) }
         ensures later { (F.held self.old.folder).faults ≤ (F.held self.new.folder).faults }
-        ensures in_step { DiskInStep (F.held self.old.folder) self.old.disk → OnOk result (DiskInStep (F.held self.new.folder) self.new.disk) }
+        ensures in_step { DiskInStep (F.held self.old.folder) self.old.disk
+            → OnOk result (DiskInStep (F.held self.new.folder) self.new.disk) }
         ensures stands { IsStore (F.held self.new.folder) self.new.disk }
     {
         match self.commit_entry(&entry) {
@@ -134,14 +173,21 @@ impl<F: Folder> LruDiskCache<F> {
         ensures ok { OnOk result (self.new.disk ≡ abandoned self.old.disk entry) }
         ensures pending { OnOk result (is_pending entry self.old.disk.pending ≡ true) }
         ensures gone { OnOk result (Holds (F.held self.new.folder) (Lacks (entry_path self.old.disk entry))) }
-        ensures exact { OnOk result (Became (λ old new. new ≡ without (entry_path self.old.disk entry) old) (F.held self.old.folder).files (F.held self.new.folder).files) }
-        ensures fails { IfErr result (λ e. AbandonFails entry e.0 e.1 self.old.disk self.new.disk (F.held self.old.folder) (F.held self.new.folder)) }
-        ensures others { Became (ButAt (entry_path self.old.disk entry)) (F.held self.old.folder).files (F.held self.new.folder).files }
-        ensures kept { Became (Keeps self.old.disk.root self.old.disk.entries) (F.held self.old.folder).files (F.held self.new.folder).files }
-        ensures reserved { Became (KeepsReserved (without_number entry.number self.old.disk.pending)) (F.held self.old.folder).files (F.held self.new.folder).files }
+        ensures exact { OnOk result (Became (λ old new. new ≡ without (entry_path self.old.disk entry) old)
+            (F.held self.old.folder).files (F.held self.new.folder).files) }
+        ensures fails { IfErr result
+            (λ e. AbandonFails entry e.0 e.1 self.old.disk self.new.disk (F.held self.old.folder)
+            (F.held self.new.folder)) }
+        ensures others { Became (ButAt (entry_path self.old.disk entry)) (F.held self.old.folder).files
+            (F.held self.new.folder).files }
+        ensures kept { Became (Keeps self.old.disk.root self.old.disk.entries) (F.held self.old.folder).files
+            (F.held self.new.folder).files }
+        ensures reserved { Became (KeepsReserved (without_number entry.number self.old.disk.pending))
+            (F.held self.old.folder).files (F.held self.new.folder).files }
         ensures steady { OnOk result ((F.held self.new.folder).faults ≡ (F.held self.old.folder).faults) }
         ensures later { (F.held self.old.folder).faults ≤ (F.held self.new.folder).faults }
-        ensures in_step { DiskInStep (F.held self.old.folder) self.old.disk → OnOk result (DiskInStep (F.held self.new.folder) self.new.disk) }
+        ensures in_step { DiskInStep (F.held self.old.folder) self.old.disk
+            → OnOk result (DiskInStep (F.held self.new.folder) self.new.disk) }
         ensures stands { IsStore (F.held self.new.folder) self.new.disk }
     {
         let Some(temp) = self.pending.temp_of(&entry) else {
@@ -160,7 +206,9 @@ impl<F: Folder> LruDiskCache<F> {
         ensures size { IfOk result (λ n. HasSize self.old.disk entry.now (F.held self.old.folder) n) }
         ensures pending { OnOk result (is_pending entry.now self.old.disk.pending ≡ true) }
         ensures same { OnOk result (F.held self.new.folder ≡ F.held self.old.folder) }
-        ensures fails { IfErr result (λ e. WriteFails entry.now e self.old.disk self.new.disk (F.held self.old.folder) (F.held self.new.folder)) }
+        ensures fails { IfErr result
+            (λ e. WriteFails entry.now e self.old.disk self.new.disk (F.held self.old.folder)
+            (F.held self.new.folder)) }
         ensures disk { self.new.disk ≡ self.old.disk }
         ensures files { (F.held self.new.folder).files ≡ (F.held self.old.folder).files }
         ensures later { (F.held self.old.folder).faults ≤ (F.held self.new.folder).faults }
@@ -175,7 +223,8 @@ impl<F: Folder> LruDiskCache<F> {
     fn admit_entry(&self, entry: &LruDiskCacheAddEntry, size: u64) -> Result<u64>
         ensures verdict { OnOk result (commit_verdict self.now.disk entry.now size ≡ Ok tt) }
         ensures room { IfOk result (λ n. n ≡ room_for self.now.disk entry.now size) }
-        ensures fits { IfOk result (λ n. n + size + held_beside self.now.disk entry.now ≡ self.now.disk.capacity) }
+        ensures fits { IfOk result
+            (λ n. n + size + held_beside self.now.disk entry.now ≡ self.now.disk.capacity) }
         ensures fails { IfErr result (λ e. commit_verdict self.now.disk entry.now size ≡ Err e) }
         ensures which { IfErr result (λ e. (e ≡ Error.FileTooLarge) ⊎ (e ≡ Error.PendingSpace)) }
     {
@@ -202,16 +251,32 @@ impl<F: Folder> LruDiskCache<F> {
 
     // What a commit does, but for spending the entry.
     fn commit_entry(&mut self, entry: &LruDiskCacheAddEntry) -> Result<()>
-        ensures ok { OnOk result ((n : _) × HasSize self.old.disk entry.now (F.held self.old.folder) n × (commit_verdict self.old.disk entry.now n ≡ Ok tt) × (self.new.disk ≡ committed self.old.disk entry.now n) × Made (files_placed self.old.disk.root (entry_path self.old.disk entry.now) (self.old.disk.root ++ entry.now.key) (dropped (room_for self.old.disk entry.now n) (without_key entry.now.key self.old.disk.entries))) (F.held self.old.folder).files (F.held self.new.folder).files) }
+        ensures ok { OnOk result ((n : _) × HasSize self.old.disk entry.now (F.held self.old.folder) n
+            × (commit_verdict self.old.disk entry.now n ≡ Ok tt)
+            × (self.new.disk ≡ committed self.old.disk entry.now n)
+            × Made (files_placed self.old.disk.root (entry_path self.old.disk entry.now)
+            (self.old.disk.root ++ entry.now.key)
+            (dropped (room_for self.old.disk entry.now n) (without_key entry.now.key self.old.disk.entries)))
+            (F.held self.old.folder).files (F.held self.new.folder).files) }
         ensures pending { OnOk result (is_pending entry.now self.old.disk.pending ≡ true) }
-        ensures content { OnOk result (Became (λ old new. file_at new (self.old.disk.root ++ entry.now.key) ≡ file_at old (entry_path self.old.disk entry.now)) (F.held self.old.folder).files (F.held self.new.folder).files) }
-        ensures fails { IfErr result (λ e. CommitFails entry.now e self.old.disk self.new.disk (F.held self.old.folder) (F.held self.new.folder)) }
-        ensures kept { OnErr result (Became (Keeps self.old.disk.root self.new.disk.entries) (F.held self.old.folder).files (F.held self.new.folder).files) }
-        ensures reserved { Became (KeepsReserved (without_number entry.now.number self.old.disk.pending)) (F.held self.old.folder).files (F.held self.new.folder).files }
-        ensures others { Became (ButUnder self.old.disk.root) (F.held self.old.folder).files (F.held self.new.folder).files }
+        ensures content { OnOk result
+            (Became (λ old new. file_at new (self.old.disk.root ++ entry.now.key) ≡ file_at old
+            (entry_path self.old.disk entry.now)) (F.held self.old.folder).files
+            (F.held self.new.folder).files) }
+        ensures fails { IfErr result
+            (λ e. CommitFails entry.now e self.old.disk self.new.disk (F.held self.old.folder)
+            (F.held self.new.folder)) }
+        ensures kept { OnErr result
+            (Became (Keeps self.old.disk.root self.new.disk.entries) (F.held self.old.folder).files
+            (F.held self.new.folder).files) }
+        ensures reserved { Became (KeepsReserved (without_number entry.now.number self.old.disk.pending))
+            (F.held self.old.folder).files (F.held self.new.folder).files }
+        ensures others { Became (ButUnder self.old.disk.root) (F.held self.old.folder).files
+            (F.held self.new.folder).files }
         ensures steady { OnOk result ((F.held self.new.folder).faults ≡ (F.held self.old.folder).faults) }
         ensures later { (F.held self.old.folder).faults ≤ (F.held self.new.folder).faults }
-        ensures in_step { DiskInStep (F.held self.old.folder) self.old.disk → OnOk result (DiskInStep (F.held self.new.folder) self.new.disk) }
+        ensures in_step { DiskInStep (F.held self.old.folder) self.old.disk
+            → OnOk result (DiskInStep (F.held self.new.folder) self.new.disk) }
         ensures stands { IsStore (F.held self.new.folder) self.new.disk }
     {
         self.shown();

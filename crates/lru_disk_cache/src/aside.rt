@@ -16,8 +16,10 @@ impl<F: Folder> LruDiskCache<F> {
 
     /// The content of a file of the folder. The cache stays as it is.
     pub(crate) fn read_aside(&mut self, path: &str) -> Result<Vec<u8>, FolderFault>
-        ensures content { IfOk result (λ v. Holds (F.held self.old.folder) (λ files. file_at files path.now ≡ Some v.items)) }
-        ensures leaves { Changes (Lacks path.now) (λ files. files) Same result (F.held self.old.folder) (F.held self.new.folder) }
+        ensures content { IfOk result
+            (λ v. Holds (F.held self.old.folder) (λ files. file_at files path.now ≡ Some v.items)) }
+        ensures leaves { Changes (Lacks path.now) (λ files. files) Same result (F.held self.old.folder)
+            (F.held self.new.folder) }
         ensures disk { self.new.disk ≡ self.old.disk }
         ensures stands { IsStore (F.held self.new.folder) self.new.disk }
     {
@@ -26,10 +28,12 @@ impl<F: Folder> LruDiskCache<F> {
 
     /// How many bytes a file of the folder has. The cache stays as it is.
     pub(crate) fn path_size(&mut self, path: &str) -> error::Result<u64>
-        ensures size { IfOk result (λ n. Holds (F.held self.old.folder) (λ files. size_at files path.now ≡ Some n)) }
+        ensures size { IfOk result
+            (λ n. Holds (F.held self.old.folder) (λ files. size_at files path.now ≡ Some n)) }
         ensures same { OnOk result (F.held self.new.folder ≡ F.held self.old.folder) }
         ensures files { (F.held self.new.folder).files ≡ (F.held self.old.folder).files }
-        ensures fails { IfErr result (λ e. CallFails (Lacks path.now) e (F.held self.old.folder) (F.held self.new.folder)) }
+        ensures fails { IfErr result
+            (λ e. CallFails (Lacks path.now) e (F.held self.old.folder) (F.held self.new.folder)) }
         ensures later { (F.held self.old.folder).faults ≤ (F.held self.new.folder).faults }
         ensures disk { self.new.disk ≡ self.old.disk }
         ensures stands { IsStore (F.held self.new.folder) self.new.disk }
@@ -40,18 +44,21 @@ impl<F: Folder> LruDiskCache<F> {
     /// Writes a file of the folder that does not lie below the path of the cache, which stays as it is.
     pub(crate) fn write_aside(&mut self, path: &str, bytes: &[u8]) -> Result<(), FolderFault>
         requires { IsOutside self.old.disk.path path.now }
-        ensures writes { Changes Never (put path.now bytes.now) (PartWritten path.now bytes.now) result (F.held self.old.folder) (F.held self.new.folder) }
+        ensures writes { Changes Never (put path.now bytes.now) (PartWritten path.now bytes.now) result
+            (F.held self.old.folder) (F.held self.new.folder) }
         ensures disk { self.new.disk ≡ self.old.disk }
         ensures stands { IsStore (F.held self.new.folder) self.new.disk }
     {
         self.folder.write(path, bytes)
     }
 
-    /// Renames a file of the folder, from and to paths that do not lie below that of the cache, which stays as it is.
+    /// Renames a file of the folder, from and to paths that do not lie below that of the cache, which stays
+    /// as it is.
     pub(crate) fn rename_aside(&mut self, from: &str, to: &str) -> Result<(), FolderFault>
         requires from { IsOutside self.old.disk.path from.now }
         requires to { IsOutside self.old.disk.path to.now }
-        ensures renames { Changes (Lacks from.now) (moved from.now to.now) (DoneOrNot (moved from.now to.now)) result (F.held self.old.folder) (F.held self.new.folder) }
+        ensures renames { Changes (Lacks from.now) (moved from.now to.now) (DoneOrNot (moved from.now to.now))
+            result (F.held self.old.folder) (F.held self.new.folder) }
         ensures disk { self.new.disk ≡ self.old.disk }
         ensures stands { IsStore (F.held self.new.folder) self.new.disk }
     {

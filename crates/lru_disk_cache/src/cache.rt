@@ -1,5 +1,6 @@
 //! `LruDiskCache` and its calls.
-ghost use Rattle.std.specs.Prelude.{◌≡◌, ℕ, List, ◌+◌, ◌++◌, ◌^◌, ◌<◌, ◌≤◌, length, nat_le, is_some, true, Some, None, Ok, [], IsSome, IfOk, IfErr, OnOk, OnErr, OnSome};
+ghost use Rattle.std.specs.Prelude.{◌≡◌, ℕ, List, ◌+◌, ◌++◌, ◌^◌, ◌<◌, ◌≤◌, length, nat_le, is_some, true};
+ghost use Rattle.std.specs.Prelude.{Some, None, Ok, [], IsSome, IfOk, IfErr, OnOk, OnErr, OnSome};
 ghost use Rattle.std.specs.Map.Iter.{ShowsInOrder, deref_pair};
 ghost use Rattle.std.specs.List.{IsDistinct};
 ghost use Rattle.std.specs.Map.{keys_of, lookup};
@@ -9,7 +10,8 @@ ghost use Rattle.lru_disk_cache.specs.Held.{Holds, Became, Made, Lacks};
 ghost use Rattle.lru_disk_cache.specs.Key.{is_key, temp_name};
 ghost use Rattle.lru_disk_cache.specs.Entries.{total, IsTable};
 ghost use Rattle.lru_disk_cache.specs.Opened.{InStep, Shows};
-ghost use Rattle.lru_disk_cache.specs.Disk.{Stands, ButAt, ButUnder, IsTemp, Keeps, SameAt, staying, dropped, files_stored, without_key, OnlyRemoved};
+ghost use Rattle.lru_disk_cache.specs.Disk.{Stands, ButAt, ButUnder, IsTemp, Keeps, SameAt, staying, dropped};
+ghost use Rattle.lru_disk_cache.specs.Disk.{files_stored, without_key, OnlyRemoved};
 ghost use Rattle.lru_disk_cache.specs.Reserved.{held_size, KeepsReserved};
 
 use crate::error::{Error, Result, io};
@@ -43,13 +45,31 @@ impl<F: Folder> Model for LruDiskCache<F> {
 
     ghost Value = { Store F };
 
-    ghost view = { λ c. record { disk = record { path = c.path; root = c.root; capacity = c.table.capacity; entries = c.table.entries; pending = c.pending }; folder = c.folder } };
+    ghost view = { λ c. record {
+      disk = record {
+        path = c.path;
+        root = c.root;
+        capacity = c.table.capacity;
+        entries = c.table.entries;
+        pending = c.pending;
+      };
+      folder = c.folder;
+    } };
 
-    ghost invariant = { λ c. IsStore (F.held c.folder) (record { path = c.path; root = c.root; capacity = c.table.capacity; entries = c.table.entries; pending = c.pending }) };
+    ghost invariant = { λ c. IsStore (F.held c.folder)
+        (record {
+          path = c.path;
+          root = c.root;
+          capacity = c.table.capacity;
+          entries = c.table.entries;
+          pending = c.pending;
+        }) };
 }
 
 impl<F: Folder> LruDiskCache<F> {
-    ghost use Rattle.lru_disk_cache.specs.Store.{IsStore, DiskInStep, inserted, looked_up, removed, opened_disk, insert_verdict, room_beside, OpenFails, InsertFails, LookUpFails, RemoveFails};
+    ghost use Rattle.lru_disk_cache.specs.Store.{IsStore, DiskInStep, inserted, looked_up, removed};
+    ghost use Rattle.lru_disk_cache.specs.Store.{opened_disk, insert_verdict, room_beside, OpenFails};
+    ghost use Rattle.lru_disk_cache.specs.Store.{InsertFails, LookUpFails, RemoveFails};
 
     /// Opens a cache of `size` bytes of the files below a path. Those are removed that are no key's or larger
     /// than that, and the least recent where the others exceed it. Where that fails, as `Error::Io` or for
@@ -60,13 +80,18 @@ impl<F: Folder> LruDiskCache<F> {
         path: &str,
         size: u64,
     ) -> std::result::Result<Self, (Error, F)>
-        ensures opened { IfOk result (λ c. Holds (F.held folder) (λ files. c.disk ≡ opened_disk path.now size files)) }
-        ensures empty { IfOk result (λ c. (c.disk.path ≡ path.now) × (c.disk.capacity ≡ size) × (c.disk.pending ≡ [])) }
-        ensures in_step { IfOk result (λ c. Holds (F.held c.folder) (λ files. InStep c.disk.root files c.disk.entries)) }
+        ensures opened { IfOk result
+            (λ c. Holds (F.held folder) (λ files. c.disk ≡ opened_disk path.now size files)) }
+        ensures empty { IfOk result (λ c. (c.disk.path ≡ path.now) × (c.disk.capacity ≡ size)
+            × (c.disk.pending ≡ [])) }
+        ensures in_step { IfOk result
+            (λ c. Holds (F.held c.folder) (λ files. InStep c.disk.root files c.disk.entries)) }
         ensures stands { IfOk result (λ c. IsStore (F.held c.folder) c.disk) }
         ensures cleared { IfOk result (λ c. Shows c.disk.root (F.held c.folder) c.disk.entries) }
-        ensures removed { IfOk result (λ c. Became OnlyRemoved (F.held folder).files (F.held c.folder).files) }
-        ensures others { IfOk result (λ c. Became (ButUnder c.disk.root) (F.held folder).files (F.held c.folder).files) }
+        ensures removed { IfOk result
+            (λ c. Became OnlyRemoved (F.held folder).files (F.held c.folder).files) }
+        ensures others { IfOk result
+            (λ c. Became (ButUnder c.disk.root) (F.held folder).files (F.held c.folder).files) }
         ensures steady { IfOk result (λ c. (F.held c.folder).faults ≡ (F.held folder).faults) }
         ensures later { IfErr result (λ e. (F.held folder).faults ≤ (F.held e.1).faults) }
         ensures fails { IfErr result (λ e. OpenFails e.0 (F.held folder) (F.held e.1)) }
@@ -75,17 +100,14 @@ impl<F: Folder> LruDiskCache<F> {
             return Err((Error::Memory, folder));
         };
         match open(&mut folder, &path, &root, size) {
-            Ok(table) => {
-                let _size = table.size();
-                Ok(LruDiskCache {
-                    alloc,
-                    folder,
-                    path,
-                    root,
-                    table,
-                    pending: Reservations::new(alloc),
-                })
-            }
+            Ok(table) => Ok(LruDiskCache {
+                alloc,
+                folder,
+                path,
+                root,
+                table,
+                pending: Reservations::new(alloc),
+            }),
             Err(fault) => Err((io(fault), folder)),
         }
     }
@@ -176,16 +198,32 @@ impl<F: Folder> LruDiskCache<F> {
     pub fn insert_bytes(&mut self, key: &str, bytes: &[u8]) -> Result<()>
         ensures ok { OnOk result (self.new.disk ≡ inserted self.old.disk key.now (length bytes.now)) }
         ensures admits { OnOk result (insert_verdict self.old.disk key.now (length bytes.now) ≡ Ok tt) }
-        ensures content { OnOk result (Holds (F.held self.new.folder) (λ files. file_at files (self.old.disk.root ++ key.now) ≡ Some bytes.now)) }
-        ensures fails { IfErr result (λ e. InsertFails key.now (length bytes.now) e self.old.disk self.new.disk (F.held self.old.folder) (F.held self.new.folder)) }
-        ensures kept { OnOk result (Became (Keeps self.old.disk.root (staying key.now (room_beside self.old.disk (length bytes.now)) self.old.disk.entries)) (F.held self.old.folder).files (F.held self.new.folder).files) }
-        ensures left { OnErr result (Became (Keeps self.old.disk.root self.new.disk.entries) (F.held self.old.folder).files (F.held self.new.folder).files) }
-        ensures others { Became (ButUnder self.old.disk.root) (F.held self.old.folder).files (F.held self.new.folder).files }
-        ensures reserved { Became (KeepsReserved self.old.disk.pending) (F.held self.old.folder).files (F.held self.new.folder).files }
-        ensures exact { OnOk result ((temp : List ℕ) × IsTemp self.old.disk.root temp × Made (files_stored self.old.disk.root temp (self.old.disk.root ++ key.now) bytes.now (dropped (room_beside self.old.disk (length bytes.now)) (without_key key.now self.old.disk.entries))) (F.held self.old.folder).files (F.held self.new.folder).files) }
+        ensures content { OnOk result
+            (Holds (F.held self.new.folder)
+            (λ files. file_at files (self.old.disk.root ++ key.now) ≡ Some bytes.now)) }
+        ensures fails { IfErr result
+            (λ e. InsertFails key.now (length bytes.now) e self.old.disk self.new.disk
+            (F.held self.old.folder) (F.held self.new.folder)) }
+        ensures kept { OnOk result
+            (Became (Keeps self.old.disk.root
+            (staying key.now (room_beside self.old.disk (length bytes.now)) self.old.disk.entries))
+            (F.held self.old.folder).files (F.held self.new.folder).files) }
+        ensures left { OnErr result
+            (Became (Keeps self.old.disk.root self.new.disk.entries) (F.held self.old.folder).files
+            (F.held self.new.folder).files) }
+        ensures others { Became (ButUnder self.old.disk.root) (F.held self.old.folder).files
+            (F.held self.new.folder).files }
+        ensures reserved { Became (KeepsReserved self.old.disk.pending) (F.held self.old.folder).files
+            (F.held self.new.folder).files }
+        ensures exact { OnOk result ((temp : List ℕ) × IsTemp self.old.disk.root temp
+            × Made (files_stored self.old.disk.root temp (self.old.disk.root ++ key.now) bytes.now
+            (dropped (room_beside self.old.disk (length bytes.now))
+            (without_key key.now self.old.disk.entries))) (F.held self.old.folder).files
+            (F.held self.new.folder).files) }
         ensures steady { OnOk result ((F.held self.new.folder).faults ≡ (F.held self.old.folder).faults) }
         ensures later { (F.held self.old.folder).faults ≤ (F.held self.new.folder).faults }
-        ensures in_step { DiskInStep (F.held self.old.folder) self.old.disk → OnOk result (DiskInStep (F.held self.new.folder) self.new.disk) }
+        ensures in_step { DiskInStep (F.held self.old.folder) self.old.disk
+            → OnOk result (DiskInStep (F.held self.new.folder) self.new.disk) }
         ensures stands { IsStore (F.held self.new.folder) self.new.disk }
     {
         self.shown();
@@ -218,13 +256,20 @@ impl<F: Folder> LruDiskCache<F> {
     pub fn get_file(&mut self, key: &str) -> Result<Vec<u8>>
         ensures ok { OnOk result (self.new.disk ≡ looked_up self.old.disk key.now) }
         ensures found { OnOk result (IsSome (lookup (bytes_eq key.now) self.old.disk.entries)) }
-        ensures content { IfOk result (λ v. Holds (F.held self.old.folder) (λ files. file_at files (self.old.disk.root ++ key.now) ≡ Some v.items)) }
-        ensures fails { IfErr result (λ e. LookUpFails key.now e self.old.disk self.new.disk (F.held self.old.folder) (F.held self.new.folder)) }
+        ensures content { IfOk result
+            (λ v. Holds (F.held self.old.folder)
+            (λ files. file_at files (self.old.disk.root ++ key.now) ≡ Some v.items)) }
+        ensures fails { IfErr result
+            (λ e. LookUpFails key.now e self.old.disk self.new.disk (F.held self.old.folder)
+            (F.held self.new.folder)) }
         ensures others { Became SameAt (F.held self.old.folder).files (F.held self.new.folder).files }
-        ensures exact { OnOk result (Made (touched (self.old.disk.root ++ key.now)) (F.held self.old.folder).files (F.held self.new.folder).files) }
+        ensures exact { OnOk result
+            (Made (touched (self.old.disk.root ++ key.now)) (F.held self.old.folder).files
+            (F.held self.new.folder).files) }
         ensures steady { OnOk result ((F.held self.new.folder).faults ≡ (F.held self.old.folder).faults) }
         ensures later { (F.held self.old.folder).faults ≤ (F.held self.new.folder).faults }
-        ensures in_step { DiskInStep (F.held self.old.folder) self.old.disk → OnOk result (DiskInStep (F.held self.new.folder) self.new.disk) }
+        ensures in_step { DiskInStep (F.held self.old.folder) self.old.disk
+            → OnOk result (DiskInStep (F.held self.new.folder) self.new.disk) }
         ensures stands { IsStore (F.held self.new.folder) self.new.disk }
     {
         self.shown();
@@ -250,16 +295,26 @@ impl<F: Folder> LruDiskCache<F> {
     /// out.
     pub fn remove(&mut self, key: &str) -> Result<()>
         ensures ok { OnOk result (self.new.disk ≡ removed self.old.disk key.now) }
-        ensures gone { OnOk result (IsSome (lookup (bytes_eq key.now) self.old.disk.entries) → Holds (F.held self.new.folder) (Lacks (self.old.disk.root ++ key.now))) }
-        ensures fails { IfErr result (λ e. RemoveFails key.now e self.old.disk self.new.disk (F.held self.old.folder) (F.held self.new.folder)) }
-        ensures others { Became (ButAt (self.old.disk.root ++ key.now)) (F.held self.old.folder).files (F.held self.new.folder).files }
-        ensures kept { Became (Keeps self.old.disk.root self.new.disk.entries) (F.held self.old.folder).files (F.held self.new.folder).files }
-        ensures reserved { Became (KeepsReserved self.old.disk.pending) (F.held self.old.folder).files (F.held self.new.folder).files }
-        ensures exact { OnOk result (IsSome (lookup (bytes_eq key.now) self.old.disk.entries) → Made (without (self.old.disk.root ++ key.now)) (F.held self.old.folder).files (F.held self.new.folder).files) }
-        ensures same { OnOk result (lookup (bytes_eq key.now) self.old.disk.entries ≡ None → F.held self.new.folder ≡ F.held self.old.folder) }
+        ensures gone { OnOk result (IsSome (lookup (bytes_eq key.now) self.old.disk.entries)
+            → Holds (F.held self.new.folder) (Lacks (self.old.disk.root ++ key.now))) }
+        ensures fails { IfErr result
+            (λ e. RemoveFails key.now e self.old.disk self.new.disk (F.held self.old.folder)
+            (F.held self.new.folder)) }
+        ensures others { Became (ButAt (self.old.disk.root ++ key.now)) (F.held self.old.folder).files
+            (F.held self.new.folder).files }
+        ensures kept { Became (Keeps self.old.disk.root self.new.disk.entries) (F.held self.old.folder).files
+            (F.held self.new.folder).files }
+        ensures reserved { Became (KeepsReserved self.old.disk.pending) (F.held self.old.folder).files
+            (F.held self.new.folder).files }
+        ensures exact { OnOk result (IsSome (lookup (bytes_eq key.now) self.old.disk.entries)
+            → Made (without (self.old.disk.root ++ key.now)) (F.held self.old.folder).files
+            (F.held self.new.folder).files) }
+        ensures same { OnOk result (lookup (bytes_eq key.now) self.old.disk.entries ≡ None
+            → F.held self.new.folder ≡ F.held self.old.folder) }
         ensures steady { OnOk result ((F.held self.new.folder).faults ≡ (F.held self.old.folder).faults) }
         ensures later { (F.held self.old.folder).faults ≤ (F.held self.new.folder).faults }
-        ensures in_step { DiskInStep (F.held self.old.folder) self.old.disk → OnOk result (DiskInStep (F.held self.new.folder) self.new.disk) }
+        ensures in_step { DiskInStep (F.held self.old.folder) self.old.disk
+            → OnOk result (DiskInStep (F.held self.new.folder) self.new.disk) }
         ensures stands { IsStore (F.held self.new.folder) self.new.disk }
     {
         self.shown();

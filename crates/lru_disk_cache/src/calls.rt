@@ -16,7 +16,8 @@ pub struct Calls {
 }
 
 impl Calls {
-    /// No call so far. The calls of the numbers `before`, from 0 on, fail before they do anything, and those of `after` behind it.
+    /// No call so far. The calls of the numbers `before`, from 0 on, fail before they do anything, and those
+    /// of `after` behind it.
     pub fn new(before: Vec<u64>, after: Vec<u64>) -> Self
         ensures { result ≡ record { before = before; after = after; count = 0; faults = 0 } }
     {
@@ -30,8 +31,12 @@ impl Calls {
 
     /// One more call. Gives whether it fails behind what it does.
     pub(crate) fn begin(&mut self) -> Result<bool, FolderFault>
-        ensures answer { result ≡ (if fails_before self.old then Err FolderFault.Failed else Ok (fails_after self.old)) }
-        ensures calls { self.new ≡ record self.old { count = counted self.old.count; faults = (if fails_before self.old then counted self.old.faults else self.old.faults) } }
+        ensures answer { result ≡ (if fails_before self.old then Err FolderFault.Failed
+            else Ok (fails_after self.old)) }
+        ensures calls { self.new ≡ record self.old {
+          count = counted self.old.count;
+          faults = (if fails_before self.old then counted self.old.faults else self.old.faults);
+        } }
         ensures steady { OnOk result (self.new.faults ≡ self.old.faults) }
         ensures later { self.old.faults ≤ self.new.faults }
     {
@@ -48,7 +53,8 @@ impl Calls {
     /// The end of a call that did what it does.
     pub(crate) fn end(&mut self, breaks: bool) -> Result<(), FolderFault>
         ensures answer { result ≡ (if breaks then Err FolderFault.Failed else Ok tt) }
-        ensures calls { self.new ≡ record self.old { faults = (if breaks then counted self.old.faults else self.old.faults) } }
+        ensures calls { self.new ≡ record self.old
+            { faults = (if breaks then counted self.old.faults else self.old.faults) } }
         ensures later { self.old.faults ≤ self.new.faults }
     {
         if breaks {

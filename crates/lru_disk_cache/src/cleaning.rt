@@ -1,5 +1,6 @@
 //! What comes before the opening of a cache of archives: files that are none are removed.
-ghost use Rattle.std.specs.Prelude.{◌≡◌, ◌≤◌, ℕ, List, if◌then◌else◌, ◌++◌, ◌∷◌, [], length, map, filter, Some, Err, IfOk, OnOk};
+ghost use Rattle.std.specs.Prelude.{◌≡◌, ◌≤◌, ℕ, List, if◌then◌else◌, ◌++◌, ◌∷◌, [], length, map, filter};
+ghost use Rattle.std.specs.Prelude.{Some, Err, IfOk, OnOk};
 ghost use Rattle.std.specs.List.{IsDistinct, list_all};
 ghost use Rattle.std.specs.Map.{keys_of};
 ghost use Rattle.std.specs.Str.{bytes_eq};
@@ -8,7 +9,8 @@ ghost use Rattle.lru_disk_cache.specs.Files.{file_at, front, without};
 ghost use Rattle.lru_disk_cache.specs.Held.{Holds, Became, Made, Lacks};
 ghost use Rattle.lru_disk_cache.specs.Disk.{Counts};
 ghost use Rattle.lru_disk_cache.specs.Archives.{is_id, archive_key};
-ghost use Rattle.lru_disk_cache.specs.Cleaned.{found_of, under, is_sound, Cleaned, is_archive_key, are_archive_keys};
+ghost use Rattle.lru_disk_cache.specs.Cleaned.{found_of, under, is_sound, Cleaned, is_archive_key};
+ghost use Rattle.lru_disk_cache.specs.Cleaned.{are_archive_keys};
 
 use crate::digest::id_of;
 use crate::fault::FolderFault;
@@ -53,7 +55,9 @@ fn is_sound<F: Folder>(
     file: &Found,
 ) -> Result<bool, FolderFault>
     requires { Holds (F.held folder.old) (λ files. ¬ (Lacks file.now.path files)) }
-    ensures sound { IfOk result (λ b. Holds (F.held folder.old) (λ files. (bytes : List ℕ) → file_at files file.now.path ≡ Some bytes → file.now.size ≡ length bytes → b ≡ is_sound root.now capacity (file.now.path, bytes))) }
+    ensures sound { IfOk result
+        (λ b. Holds (F.held folder.old) (λ files. (bytes : List ℕ) → file_at files file.now.path ≡ Some bytes
+        → file.now.size ≡ length bytes → b ≡ is_sound root.now capacity (file.now.path, bytes))) }
     ensures same { OnOk result ((F.held folder.new).files ≡ (F.held folder.old).files) }
     ensures counts { Counts result (F.held folder.old) (F.held folder.new) }
 {
@@ -71,7 +75,8 @@ fn is_sound<F: Folder>(
 // Removes a file. One that is missing already is no fault.
 fn discard<F: Folder>(folder: &mut F, path: &Text) -> Result<(), FolderFault>
     ensures found { ¬ (result ≡ Err FolderFault.Missing) }
-    ensures exact { OnOk result (Became (λ old new. new ≡ without path.now old) (F.held folder.old).files (F.held folder.new).files) }
+    ensures exact { OnOk result (Became (λ old new. new ≡ without path.now old) (F.held folder.old).files
+        (F.held folder.new).files) }
     ensures counts { Counts result (F.held folder.old) (F.held folder.new) }
 {
     match folder.remove(path.get()) {
@@ -90,7 +95,10 @@ fn clean_one<F: Folder>(
     file: &Found,
 ) -> Result<(), FolderFault>
     requires { Holds (F.held folder.old) (λ files. ¬ (Lacks file.now.path files)) }
-    ensures cleaned { OnOk result (Became (λ old new. (bytes : List ℕ) → file_at old file.now.path ≡ Some bytes → file.now.size ≡ length bytes → new ≡ (if is_sound root.now capacity (file.now.path, bytes) then old else without file.now.path old)) (F.held folder.old).files (F.held folder.new).files) }
+    ensures cleaned { OnOk result
+        (Became (λ old new. (bytes : List ℕ) → file_at old file.now.path ≡ Some bytes
+        → file.now.size ≡ length bytes → new ≡ (if is_sound root.now capacity (file.now.path, bytes) then old
+        else without file.now.path old)) (F.held folder.old).files (F.held folder.new).files) }
     ensures counts { Counts result (F.held folder.old) (F.held folder.new) }
 {
     if is_sound(folder, root, capacity, file)? {
@@ -108,7 +116,8 @@ fn clean_all<F: Folder>(
 ) -> Result<(), FolderFault>
     requires found { Holds (F.held folder.old) (λ files. found.now ≡ map found_of (under root.now files)) }
     requires distinct { Holds (F.held folder.old) (λ files. IsDistinct bytes_eq (keys_of files)) }
-    ensures cleaned { OnOk result (Became (Cleaned root.now capacity) (F.held folder.old).files (F.held folder.new).files) }
+    ensures cleaned { OnOk result (Became (Cleaned root.now capacity) (F.held folder.old).files
+        (F.held folder.new).files) }
     ensures counts { Counts result (F.held folder.old) (F.held folder.new) }
 {
     for file in found {
@@ -125,7 +134,8 @@ pub(crate) fn clean<F: Folder>(
     capacity: u64,
 ) -> Result<(), FolderFault>
     requires { root.now ≡ front path.now }
-    ensures cleaned { OnOk result (Became (Cleaned root.now capacity) (F.held folder.old).files (F.held folder.new).files) }
+    ensures cleaned { OnOk result (Became (Cleaned root.now capacity) (F.held folder.old).files
+        (F.held folder.new).files) }
     ensures counts { Counts result (F.held folder.old) (F.held folder.new) }
 {
     let found = folder.list(path.get())?;

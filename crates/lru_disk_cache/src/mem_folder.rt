@@ -4,7 +4,8 @@ ghost use Rattle.std.specs.List.{IsDistinct};
 ghost use Rattle.std.specs.Map.{keys_of};
 ghost use Rattle.std.specs.Str.{bytes_eq};
 ghost use Rattle.std.proofs.Props.{props};
-ghost use Rattle.lru_disk_cache.specs.Files.{Files, file_at, size_at, put, without, moved, touched, appended, found_under, PartWritten, PartAppended, DoneOrNot, Same};
+ghost use Rattle.lru_disk_cache.specs.Files.{Files, file_at, size_at, put, without, moved, touched, appended};
+ghost use Rattle.lru_disk_cache.specs.Files.{found_under, PartWritten, PartAppended, DoneOrNot, Same};
 ghost use Rattle.lru_disk_cache.specs.Held.{Held, Lacks, Never, Changes};
 
 use crate::calls::Calls;
@@ -48,16 +49,20 @@ impl MemFolder {
 }
 
 impl Folder for MemFolder {
-    ghost use Rattle.lru_disk_cache.specs.InMemory.{folder_held, folder_files, folder_calls, verdict, left, there, Acts};
+    ghost use Rattle.lru_disk_cache.specs.InMemory.{folder_held, folder_files, folder_calls, verdict, left};
+    ghost use Rattle.lru_disk_cache.specs.InMemory.{there, Acts};
 
     ghost held = { folder_held };
 
     fn list(&mut self, under: &str) -> Result<Vec<Found>, FolderFault>
         ensures found { IfOk result (λ v. v.items ≡ found_under under.now (folder_files self.old)) }
         ensures distinct { IfOk result (λ v. IsDistinct bytes_eq (keys_of (folder_files self.old))) }
-        ensures leaves { Changes Never (λ files. files) Same result (folder_held self.old) (folder_held self.new) }
+        ensures leaves { Changes Never (λ files. files) Same result (folder_held self.old)
+            (folder_held self.new) }
 
-        ensures exact { Acts (λ v. v.items) result (verdict (folder_calls self.old) (Some (found_under under.now (folder_files self.old)))) (folder_files self.old) (folder_files self.old) (folder_files self.new) }
+        ensures exact { Acts (λ v. v.items) result
+            (verdict (folder_calls self.old) (Some (found_under under.now (folder_files self.old))))
+            (folder_files self.old) (folder_files self.old) (folder_files self.new) }
     {
         let breaks = self.calls.begin()?;
         let begun = front_of(self.alloc, under)?;
@@ -68,9 +73,12 @@ impl Folder for MemFolder {
 
     fn read(&mut self, path: &str) -> Result<Vec<u8>, FolderFault>
         ensures content { IfOk result (λ v. file_at (folder_files self.old) path.now ≡ Some v.items) }
-        ensures leaves { Changes (Lacks path.now) (λ files. files) Same result (folder_held self.old) (folder_held self.new) }
+        ensures leaves { Changes (Lacks path.now) (λ files. files) Same result (folder_held self.old)
+            (folder_held self.new) }
 
-        ensures exact { Acts (λ v. v.items) result (verdict (folder_calls self.old) (file_at (folder_files self.old) path.now)) (folder_files self.old) (folder_files self.old) (folder_files self.new) }
+        ensures exact { Acts (λ v. v.items) result
+            (verdict (folder_calls self.old) (file_at (folder_files self.old) path.now))
+            (folder_files self.old) (folder_files self.old) (folder_files self.new) }
     {
         let breaks = self.calls.begin()?;
         let Some(bytes) = content(&self.files, path) else {
@@ -82,9 +90,11 @@ impl Folder for MemFolder {
     }
 
     fn make_parents(&mut self, path: &str) -> Result<(), FolderFault>
-        ensures leaves { Changes Never (λ files. files) Same result (folder_held self.old) (folder_held self.new) }
+        ensures leaves { Changes Never (λ files. files) Same result (folder_held self.old)
+            (folder_held self.new) }
 
-        ensures exact { Acts (λ v. v) result (verdict (folder_calls self.old) (Some (tt {0}))) (folder_files self.old) (folder_files self.old) (folder_files self.new) }
+        ensures exact { Acts (λ v. v) result (verdict (folder_calls self.old) (Some (tt {0})))
+            (folder_files self.old) (folder_files self.old) (folder_files self.new) }
     {
         let _path = path;
         let breaks = self.calls.begin()?;
@@ -93,9 +103,12 @@ impl Folder for MemFolder {
 
     fn size(&mut self, path: &str) -> Result<u64, FolderFault>
         ensures size { IfOk result (λ n. size_at (folder_files self.old) path.now ≡ Some n) }
-        ensures leaves { Changes (Lacks path.now) (λ files. files) Same result (folder_held self.old) (folder_held self.new) }
+        ensures leaves { Changes (Lacks path.now) (λ files. files) Same result (folder_held self.old)
+            (folder_held self.new) }
 
-        ensures exact { Acts (λ v. v) result (verdict (folder_calls self.old) (size_at (folder_files self.old) path.now)) (folder_files self.old) (folder_files self.old) (folder_files self.new) }
+        ensures exact { Acts (λ v. v) result
+            (verdict (folder_calls self.old) (size_at (folder_files self.old) path.now))
+            (folder_files self.old) (folder_files self.old) (folder_files self.new) }
     {
         let breaks = self.calls.begin()?;
         let Some(bytes) = content(&self.files, path) else {
@@ -107,9 +120,14 @@ impl Folder for MemFolder {
     }
 
     fn append(&mut self, path: &str, bytes: &[u8]) -> Result<(), FolderFault>
-        ensures appends { Changes (Lacks path.now) (appended path.now bytes.now) (PartAppended path.now bytes.now) result (folder_held self.old) (folder_held self.new) }
+        ensures appends { Changes (Lacks path.now) (appended path.now bytes.now)
+            (PartAppended path.now bytes.now) result (folder_held self.old) (folder_held self.new) }
 
-        ensures exact { Acts (λ v. v) result (verdict (folder_calls self.old) (there (folder_files self.old) path.now)) (left (folder_calls self.old) (there (folder_files self.old) path.now) (folder_files self.old) (appended path.now bytes.now (folder_files self.old))) (folder_files self.old) (folder_files self.new) }
+        ensures exact { Acts (λ v. v) result
+            (verdict (folder_calls self.old) (there (folder_files self.old) path.now))
+            (left (folder_calls self.old) (there (folder_files self.old) path.now) (folder_files self.old)
+            (appended path.now bytes.now (folder_files self.old))) (folder_files self.old)
+            (folder_files self.new) }
     {
         let breaks = self.calls.begin()?;
         let Some(there) = content(&self.files, path) else {
@@ -121,9 +139,13 @@ impl Folder for MemFolder {
     }
 
     fn write(&mut self, path: &str, bytes: &[u8]) -> Result<(), FolderFault>
-        ensures writes { Changes Never (put path.now bytes.now) (PartWritten path.now bytes.now) result (folder_held self.old) (folder_held self.new) }
+        ensures writes { Changes Never (put path.now bytes.now) (PartWritten path.now bytes.now) result
+            (folder_held self.old) (folder_held self.new) }
 
-        ensures exact { Acts (λ v. v) result (verdict (folder_calls self.old) (Some (tt {0}))) (left (folder_calls self.old) (Some (tt {0})) (folder_files self.old) (put path.now bytes.now (folder_files self.old))) (folder_files self.old) (folder_files self.new) }
+        ensures exact { Acts (λ v. v) result (verdict (folder_calls self.old) (Some (tt {0})))
+            (left (folder_calls self.old) (Some (tt {0})) (folder_files self.old)
+            (put path.now bytes.now (folder_files self.old))) (folder_files self.old)
+            (folder_files self.new) }
     {
         let breaks = self.calls.begin()?;
         put(self.alloc, &mut self.files, path, bytes)?;
@@ -131,9 +153,13 @@ impl Folder for MemFolder {
     }
 
     fn remove(&mut self, path: &str) -> Result<(), FolderFault>
-        ensures removes { Changes (Lacks path.now) (without path.now) (DoneOrNot (without path.now)) result (folder_held self.old) (folder_held self.new) }
+        ensures removes { Changes (Lacks path.now) (without path.now) (DoneOrNot (without path.now)) result
+            (folder_held self.old) (folder_held self.new) }
 
-        ensures exact { Acts (λ v. v) result (verdict (folder_calls self.old) (there (folder_files self.old) path.now)) (left (folder_calls self.old) (there (folder_files self.old) path.now) (folder_files self.old) (without path.now (folder_files self.old))) (folder_files self.old) (folder_files self.new) }
+        ensures exact { Acts (λ v. v) result
+            (verdict (folder_calls self.old) (there (folder_files self.old) path.now))
+            (left (folder_calls self.old) (there (folder_files self.old) path.now) (folder_files self.old)
+            (without path.now (folder_files self.old))) (folder_files self.old) (folder_files self.new) }
     {
         let breaks = self.calls.begin()?;
         if content(&self.files, path).is_none() {
@@ -144,9 +170,13 @@ impl Folder for MemFolder {
     }
 
     fn touch(&mut self, path: &str) -> Result<(), FolderFault>
-        ensures touches { Changes (Lacks path.now) (touched path.now) (DoneOrNot (touched path.now)) result (folder_held self.old) (folder_held self.new) }
+        ensures touches { Changes (Lacks path.now) (touched path.now) (DoneOrNot (touched path.now)) result
+            (folder_held self.old) (folder_held self.new) }
 
-        ensures exact { Acts (λ v. v) result (verdict (folder_calls self.old) (there (folder_files self.old) path.now)) (left (folder_calls self.old) (there (folder_files self.old) path.now) (folder_files self.old) (touched path.now (folder_files self.old))) (folder_files self.old) (folder_files self.new) }
+        ensures exact { Acts (λ v. v) result
+            (verdict (folder_calls self.old) (there (folder_files self.old) path.now))
+            (left (folder_calls self.old) (there (folder_files self.old) path.now) (folder_files self.old)
+            (touched path.now (folder_files self.old))) (folder_files self.old) (folder_files self.new) }
     {
         let breaks = self.calls.begin()?;
         let Some(bytes) = content(&self.files, path) else {
@@ -158,9 +188,13 @@ impl Folder for MemFolder {
     }
 
     fn rename(&mut self, from: &str, to: &str) -> Result<(), FolderFault>
-        ensures renames { Changes (Lacks from.now) (moved from.now to.now) (DoneOrNot (moved from.now to.now)) result (folder_held self.old) (folder_held self.new) }
+        ensures renames { Changes (Lacks from.now) (moved from.now to.now) (DoneOrNot (moved from.now to.now))
+            result (folder_held self.old) (folder_held self.new) }
 
-        ensures exact { Acts (λ v. v) result (verdict (folder_calls self.old) (there (folder_files self.old) from.now)) (left (folder_calls self.old) (there (folder_files self.old) from.now) (folder_files self.old) (moved from.now to.now (folder_files self.old))) (folder_files self.old) (folder_files self.new) }
+        ensures exact { Acts (λ v. v) result
+            (verdict (folder_calls self.old) (there (folder_files self.old) from.now))
+            (left (folder_calls self.old) (there (folder_files self.old) from.now) (folder_files self.old)
+            (moved from.now to.now (folder_files self.old))) (folder_files self.old) (folder_files self.new) }
     {
         let breaks = self.calls.begin()?;
         let Some(bytes) = content(&self.files, from) else {

@@ -1,5 +1,6 @@
 //! Storing a file of the folder, and what a closure writes.
-ghost use Rattle.std.specs.Prelude.{◌≡◌, ◌++◌, ◌≤◌, length, false, is_some, if◌then◌else◌, string_bytes, Some, None, Ok, IsSome, IfOk, IfErr, OnOk, OnErr};
+ghost use Rattle.std.specs.Prelude.{◌≡◌, ◌++◌, ◌≤◌, length, false, is_some, if◌then◌else◌, string_bytes};
+ghost use Rattle.std.specs.Prelude.{Some, None, Ok, IsSome, IfOk, IfErr, OnOk, OnErr};
 ghost use Rattle.std.specs.Fn.{FnOnceReturnsAtMut};
 ghost use Rattle.std.specs.Map.{lookup};
 ghost use Rattle.std.specs.Option.{option_map};
@@ -7,7 +8,8 @@ ghost use Rattle.std.specs.Str.{bytes_eq};
 ghost use Rattle.lru_disk_cache.specs.Files.{file_at, touched};
 ghost use Rattle.lru_disk_cache.specs.Held.{Holds, Became, Made};
 ghost use Rattle.lru_disk_cache.specs.Key.{names_temporary};
-ghost use Rattle.lru_disk_cache.specs.Disk.{Avoids, ButUnderAnd, ButUnder, Keeps, SameAt, dropped, files_placed, without_key};
+ghost use Rattle.lru_disk_cache.specs.Disk.{Avoids, ButUnderAnd, ButUnder, Keeps, SameAt, dropped};
+ghost use Rattle.lru_disk_cache.specs.Disk.{files_placed, without_key};
 ghost use Rattle.lru_disk_cache.specs.Reserved.{KeepsReserved};
 ghost use Rattle.lru_disk_cache.specs.Moving.{IsSized, MoveFails, Wrote, WriterFails, WithFails};
 
@@ -21,7 +23,8 @@ use dist_types::text::Text;
 use std::alloc::Global;
 
 impl<F: Folder> LruDiskCache<F> {
-    ghost use Rattle.lru_disk_cache.specs.Store.{IsStore, DiskInStep, inserted, looked_up, room_beside, insert_verdict, LookUpFails};
+    ghost use Rattle.lru_disk_cache.specs.Store.{IsStore, DiskInStep, inserted, looked_up, room_beside};
+    ghost use Rattle.lru_disk_cache.specs.Store.{insert_verdict, LookUpFails};
 
     /// Stores a file of the folder under a key, as the most recent, by renaming it. The least recent go where
     /// they have to, and their files. Its path is neither that of the key's file nor of a listed key's, and
@@ -35,15 +38,28 @@ impl<F: Folder> LruDiskCache<F> {
         requires apart { bytes_eq (self.old.disk.root ++ key.now) path.now ≡ false }
         requires avoids { Avoids self.old.disk.root path.now self.old.disk.entries }
         requires named { names_temporary path.now ≡ false }
-        ensures ok { OnOk result ((n : _) × IsSized path.now (F.held self.old.folder) n × (insert_verdict self.old.disk key.now n ≡ Ok tt) × (self.new.disk ≡ inserted self.old.disk key.now n) × Made (files_placed self.old.disk.root path.now (self.old.disk.root ++ key.now) (dropped (room_beside self.old.disk n) (without_key key.now self.old.disk.entries))) (F.held self.old.folder).files (F.held self.new.folder).files) }
-        ensures content { OnOk result (Became (λ old new. file_at new (self.old.disk.root ++ key.now) ≡ file_at old path.now) (F.held self.old.folder).files (F.held self.new.folder).files) }
-        ensures fails { IfErr result (λ e. MoveFails key.now path.now e self.old.disk self.new.disk (F.held self.old.folder) (F.held self.new.folder)) }
-        ensures left { OnErr result (Became (Keeps self.old.disk.root self.new.disk.entries) (F.held self.old.folder).files (F.held self.new.folder).files) }
-        ensures reserved { Became (KeepsReserved self.old.disk.pending) (F.held self.old.folder).files (F.held self.new.folder).files }
-        ensures others { Became (ButUnderAnd self.old.disk.root path.now) (F.held self.old.folder).files (F.held self.new.folder).files }
+        ensures ok { OnOk result ((n : _) × IsSized path.now (F.held self.old.folder) n
+            × (insert_verdict self.old.disk key.now n ≡ Ok tt)
+            × (self.new.disk ≡ inserted self.old.disk key.now n)
+            × Made (files_placed self.old.disk.root path.now (self.old.disk.root ++ key.now)
+            (dropped (room_beside self.old.disk n) (without_key key.now self.old.disk.entries)))
+            (F.held self.old.folder).files (F.held self.new.folder).files) }
+        ensures content { OnOk result
+            (Became (λ old new. file_at new (self.old.disk.root ++ key.now) ≡ file_at old path.now)
+            (F.held self.old.folder).files (F.held self.new.folder).files) }
+        ensures fails { IfErr result (λ e. MoveFails key.now path.now e self.old.disk self.new.disk
+            (F.held self.old.folder) (F.held self.new.folder)) }
+        ensures left { OnErr result
+            (Became (Keeps self.old.disk.root self.new.disk.entries) (F.held self.old.folder).files
+            (F.held self.new.folder).files) }
+        ensures reserved { Became (KeepsReserved self.old.disk.pending) (F.held self.old.folder).files
+            (F.held self.new.folder).files }
+        ensures others { Became (ButUnderAnd self.old.disk.root path.now) (F.held self.old.folder).files
+            (F.held self.new.folder).files }
         ensures steady { OnOk result ((F.held self.new.folder).faults ≡ (F.held self.old.folder).faults) }
         ensures later { (F.held self.old.folder).faults ≤ (F.held self.new.folder).faults }
-        ensures in_step { DiskInStep (F.held self.old.folder) self.old.disk → OnOk result (DiskInStep (F.held self.new.folder) self.new.disk) }
+        ensures in_step { DiskInStep (F.held self.old.folder) self.old.disk
+            → OnOk result (DiskInStep (F.held self.new.folder) self.new.disk) }
         ensures stands { IsStore (F.held self.new.folder) self.new.disk }
     {
         self.shown();
@@ -82,14 +98,24 @@ impl<F: Folder> LruDiskCache<F> {
         with: W,
     ) -> Result<()>
         requires { W.IsAlwaysCallable with }
-        ensures ok { OnOk result ((bytes : _) × Wrote W.FnOnce (λ v. v.items) with (Ok tt) bytes × (insert_verdict self.old.disk key.now (length bytes) ≡ Ok tt) × (self.new.disk ≡ inserted self.old.disk key.now (length bytes)) × Holds (F.held self.new.folder) (λ files. file_at files (self.old.disk.root ++ key.now) ≡ Some bytes)) }
-        ensures fails { IfErr result (λ e. WithFails (Wrote W.FnOnce (λ v. v.items) with) key.now e self.old.disk self.new.disk (F.held self.old.folder) (F.held self.new.folder)) }
-        ensures left { OnErr result (Became (Keeps self.old.disk.root self.new.disk.entries) (F.held self.old.folder).files (F.held self.new.folder).files) }
-        ensures reserved { Became (KeepsReserved self.old.disk.pending) (F.held self.old.folder).files (F.held self.new.folder).files }
-        ensures others { Became (ButUnder self.old.disk.root) (F.held self.old.folder).files (F.held self.new.folder).files }
+        ensures ok { OnOk result ((bytes : _) × Wrote W.FnOnce (λ v. v.items) with (Ok tt) bytes
+            × (insert_verdict self.old.disk key.now (length bytes) ≡ Ok tt)
+            × (self.new.disk ≡ inserted self.old.disk key.now (length bytes)) × Holds (F.held self.new.folder)
+            (λ files. file_at files (self.old.disk.root ++ key.now) ≡ Some bytes)) }
+        ensures fails { IfErr result
+            (λ e. WithFails (Wrote W.FnOnce (λ v. v.items) with) key.now e self.old.disk self.new.disk
+            (F.held self.old.folder) (F.held self.new.folder)) }
+        ensures left { OnErr result
+            (Became (Keeps self.old.disk.root self.new.disk.entries) (F.held self.old.folder).files
+            (F.held self.new.folder).files) }
+        ensures reserved { Became (KeepsReserved self.old.disk.pending) (F.held self.old.folder).files
+            (F.held self.new.folder).files }
+        ensures others { Became (ButUnder self.old.disk.root) (F.held self.old.folder).files
+            (F.held self.new.folder).files }
         ensures steady { OnOk result ((F.held self.new.folder).faults ≡ (F.held self.old.folder).faults) }
         ensures later { (F.held self.old.folder).faults ≤ (F.held self.new.folder).faults }
-        ensures in_step { DiskInStep (F.held self.old.folder) self.old.disk → OnOk result (DiskInStep (F.held self.new.folder) self.new.disk) }
+        ensures in_step { DiskInStep (F.held self.old.folder) self.old.disk
+            → OnOk result (DiskInStep (F.held self.new.folder) self.new.disk) }
         ensures stands { IsStore (F.held self.new.folder) self.new.disk }
     {
         self.shown();
@@ -108,14 +134,21 @@ impl<F: Folder> LruDiskCache<F> {
     pub fn get(&mut self, key: &str) -> Result<Opened>
         ensures ok { OnOk result (self.new.disk ≡ looked_up self.old.disk key.now) }
         ensures found { OnOk result (IsSome (lookup (bytes_eq key.now) self.old.disk.entries)) }
-        ensures content { IfOk result (λ o. Holds (F.held self.old.folder) (λ files. file_at files (self.old.disk.root ++ key.now) ≡ Some o.content)) }
+        ensures content { IfOk result
+            (λ o. Holds (F.held self.old.folder)
+            (λ files. file_at files (self.old.disk.root ++ key.now) ≡ Some o.content)) }
         ensures place { IfOk result (λ o. o.place ≡ 0) }
-        ensures fails { IfErr result (λ e. LookUpFails key.now e self.old.disk self.new.disk (F.held self.old.folder) (F.held self.new.folder)) }
+        ensures fails { IfErr result
+            (λ e. LookUpFails key.now e self.old.disk self.new.disk (F.held self.old.folder)
+            (F.held self.new.folder)) }
         ensures others { Became SameAt (F.held self.old.folder).files (F.held self.new.folder).files }
-        ensures exact { OnOk result (Made (touched (self.old.disk.root ++ key.now)) (F.held self.old.folder).files (F.held self.new.folder).files) }
+        ensures exact { OnOk result
+            (Made (touched (self.old.disk.root ++ key.now)) (F.held self.old.folder).files
+            (F.held self.new.folder).files) }
         ensures steady { OnOk result ((F.held self.new.folder).faults ≡ (F.held self.old.folder).faults) }
         ensures later { (F.held self.old.folder).faults ≤ (F.held self.new.folder).faults }
-        ensures in_step { DiskInStep (F.held self.old.folder) self.old.disk → OnOk result (DiskInStep (F.held self.new.folder) self.new.disk) }
+        ensures in_step { DiskInStep (F.held self.old.folder) self.old.disk
+            → OnOk result (DiskInStep (F.held self.new.folder) self.new.disk) }
         ensures stands { IsStore (F.held self.new.folder) self.new.disk }
     {
         match self.get_file(key) {
@@ -129,7 +162,9 @@ impl<F: Folder> LruDiskCache<F> {
     ///
     /// Refused for want of memory alone, which leaves all as it was.
     pub fn get_abs_path(&mut self, key: &str) -> Result<Option<String>>
-        ensures found { IfOk result (λ o. option_map string_bytes o ≡ (if is_some (lookup (bytes_eq key.now) self.old.disk.entries) then Some (self.old.disk.root ++ key.now) else None)) }
+        ensures found { IfOk result
+            (λ o. option_map string_bytes o ≡ (if is_some (lookup (bytes_eq key.now) self.old.disk.entries)
+            then Some (self.old.disk.root ++ key.now) else None)) }
         ensures ok { OnOk result (self.new.disk ≡ looked_up self.old.disk key.now) }
         ensures fails { IfErr result (λ e. (e ≡ Error.Memory) × (self.new.disk ≡ self.old.disk)) }
         ensures folder { F.held self.new.folder ≡ F.held self.old.folder }

@@ -1,4 +1,5 @@
-//! The opening of a disk cache: what is found is sorted out, the least recent go until the rest fits, and the rest is listed.
+//! The opening of a disk cache: what is found is sorted out, the least recent go until the rest fits, and the
+//! rest is listed.
 ghost use Rattle.std.specs.Prelude.{◌≡◌, ◌+◌, ◌≤◌, ◌++◌, ◌∷◌, [], nat_le, Err, IfOk, OnOk};
 ghost use Rattle.std.specs.List.{IsDistinct};
 ghost use Rattle.std.specs.Map.{keys_of, remove_entry};
@@ -26,7 +27,8 @@ fn stripped<'a>(root: &str, path: &'a str) -> Option<&'a str>
     path.strip_prefix(root)
 }
 
-/// Keeps a file that was found, where its key is one and its size is within the capacity, and else removes it.
+/// Keeps a file that was found, where its key is one and its size is within the capacity, and else removes
+/// it.
 fn sort_one<F: Folder>(
     folder: &mut F,
     root: &Text,
@@ -35,10 +37,13 @@ fn sort_one<F: Folder>(
     good: &mut Vec<(Text, u64)>,
 ) -> Result<(), FolderFault>
     ensures list { OnOk result (good.new.items ≡ good.old.items ++ kept root.now capacity (file.now ∷ [])) }
-    ensures shows { (rest : Entries) → Shows root.now (F.held folder.old) (good.old.items ++ (keyed root.now (file.now ∷ []) ++ rest)) → OnOk result (Shows root.now (F.held folder.new) (good.new.items ++ rest)) }
+    ensures shows { (rest : Entries) → Shows root.now (F.held folder.old)
+        (good.old.items ++ (keyed root.now (file.now ∷ []) ++ rest))
+        → OnOk result (Shows root.now (F.held folder.new) (good.new.items ++ rest)) }
     ensures found { ¬ (result ≡ Err FolderFault.Missing) }
     ensures removed { OnOk result (Became OnlyRemoved (F.held folder.old).files (F.held folder.new).files) }
-    ensures others { OnOk result (Became (ButUnder root.now) (F.held folder.old).files (F.held folder.new).files) }
+    ensures others { OnOk result
+        (Became (ButUnder root.now) (F.held folder.old).files (F.held folder.new).files) }
     ensures counts { Counts result (F.held folder.old) (F.held folder.new) }
 {
     let Some(key) = stripped(root.get(), file.path.get()) else {
@@ -70,7 +75,8 @@ fn sort_out<F: Folder>(
     ensures shows { OnOk result (Shows root.now (F.held folder.new) good.new.items) }
     ensures found { ¬ (result ≡ Err FolderFault.Missing) }
     ensures removed { OnOk result (Became OnlyRemoved (F.held folder.old).files (F.held folder.new).files) }
-    ensures others { OnOk result (Became (ButUnder root.now) (F.held folder.old).files (F.held folder.new).files) }
+    ensures others { OnOk result
+        (Became (ButUnder root.now) (F.held folder.old).files (F.held folder.new).files) }
     ensures counts { Counts result (F.held folder.old) (F.held folder.new) }
 {
     match found {
@@ -109,7 +115,8 @@ fn drop_old<'a, F: Folder>(
     ensures shows { IfOk result (λ r. Shows root.now (F.held folder.new) r.now) }
     ensures found { ¬ (result ≡ Err FolderFault.Missing) }
     ensures removed { OnOk result (Became OnlyRemoved (F.held folder.old).files (F.held folder.new).files) }
-    ensures others { OnOk result (Became (ButUnder root.now) (F.held folder.old).files (F.held folder.new).files) }
+    ensures others { OnOk result
+        (Became (ButUnder root.now) (F.held folder.old).files (F.held folder.new).files) }
     ensures counts { Counts result (F.held folder.old) (F.held folder.new) }
 {
     match good {
@@ -127,7 +134,10 @@ fn drop_old<'a, F: Folder>(
 /// Lists a key as the most recent. It fits.
 fn list_one(alloc: Global, table: &mut Table, key: &Text, size: u64) -> Result<(), FolderFault>
     requires { total table.old.entries + size ≤ table.old.capacity }
-    ensures { OnOk result (table.new ≡ record table.old { entries = remove_entry (bytes_eq key.now) table.old.entries ++ (key.now, size) ∷ [] }) }
+    ensures { OnOk result (table.new ≡ record table.old {
+      entries = remove_entry
+          (bytes_eq key.now) table.old.entries ++ (key.now, size) ∷ [];
+    }) }
 {
     let listed = Text::of(alloc, key.get())?;
     table.unlist(key);
@@ -141,7 +151,8 @@ fn list_one(alloc: Global, table: &mut Table, key: &Text, size: u64) -> Result<(
 fn list_all(alloc: Global, table: &mut Table, good: &[(Text, u64)]) -> Result<(), FolderFault>
     requires { total table.old.entries + total good.now ≤ table.old.capacity }
     ensures capacity { OnOk result (table.new.capacity ≡ table.old.capacity) }
-    ensures list { OnOk result (IsDistinct bytes_eq (keys_of (table.old.entries ++ good.now)) → table.new.entries ≡ table.old.entries ++ good.now) }
+    ensures list { OnOk result (IsDistinct bytes_eq (keys_of (table.old.entries ++ good.now))
+        → table.new.entries ≡ table.old.entries ++ good.now) }
     ensures keys { OnOk result (AllKeys table.old.entries → AllKeys good.now → AllKeys table.new.entries) }
 {
     match good {
@@ -153,8 +164,8 @@ fn list_all(alloc: Global, table: &mut Table, good: &[(Text, u64)]) -> Result<()
     }
 }
 
-/// Opens a cache: lists the files under a root, removes those that are no key's or too large, and the least recent where the others exceed
-/// the capacity.
+/// Opens a cache: lists the files under a root, removes those that are no key's or too large, and the least
+/// recent where the others exceed the capacity.
 pub(crate) fn open<F: Folder>(
     folder: &mut F,
     path: &Text,
@@ -163,12 +174,15 @@ pub(crate) fn open<F: Folder>(
 ) -> Result<Table, FolderFault>
     requires { root.now ≡ front path.now }
     ensures capacity { IfOk result (λ t. t.capacity ≡ capacity) }
-    ensures opened { IfOk result (λ t. Holds (F.held folder.old) (λ files. t.entries ≡ opened root.now capacity files)) }
-    ensures in_step { IfOk result (λ t. Holds (F.held folder.new) (λ files. InStep root.now files t.entries)) }
+    ensures opened { IfOk result
+        (λ t. Holds (F.held folder.old) (λ files. t.entries ≡ opened root.now capacity files)) }
+    ensures in_step { IfOk result
+        (λ t. Holds (F.held folder.new) (λ files. InStep root.now files t.entries)) }
     ensures stands { IfOk result (λ t. Stands root.now (F.held folder.new) t.entries) }
     ensures cleared { IfOk result (λ t. Shows root.now (F.held folder.new) t.entries) }
     ensures removed { OnOk result (Became OnlyRemoved (F.held folder.old).files (F.held folder.new).files) }
-    ensures others { OnOk result (Became (ButUnder root.now) (F.held folder.old).files (F.held folder.new).files) }
+    ensures others { OnOk result
+        (Became (ButUnder root.now) (F.held folder.old).files (F.held folder.new).files) }
     ensures counts { Counts result (F.held folder.old) (F.held folder.new) }
 {
     let alloc = root.alloc();

@@ -14,7 +14,8 @@ pub trait ReadSeek {
     fn read(&mut self, buf: &mut [u8]) -> usize
         ensures amount { result ≡ read_length (reading self.old) (length buf.old) }
         ensures taken { buf.new ≡ take result (to_read (reading self.old)) ++ drop result buf.old }
-        ensures moves { reading self.new ≡ record (reading self.old) { place = (reading self.old).place + result } };
+        ensures moves { reading self.new ≡ record
+            (reading self.old) { place = (reading self.old).place + result } };
 
     /// The next byte is read at this place, counted from 0.
     fn seek(&mut self, place: u64)

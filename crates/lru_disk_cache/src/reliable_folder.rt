@@ -4,7 +4,8 @@ ghost use Rattle.std.specs.List.{IsDistinct};
 ghost use Rattle.std.specs.Map.{keys_of};
 ghost use Rattle.std.specs.Str.{bytes_eq};
 ghost use Rattle.std.proofs.Props.{props};
-ghost use Rattle.lru_disk_cache.specs.Files.{Files, file_at, size_at, put, without, moved, touched, appended, found_under, PartWritten, PartAppended, DoneOrNot, Same};
+ghost use Rattle.lru_disk_cache.specs.Files.{Files, file_at, size_at, put, without, moved, touched, appended};
+ghost use Rattle.lru_disk_cache.specs.Files.{found_under, PartWritten, PartAppended, DoneOrNot, Same};
 ghost use Rattle.lru_disk_cache.specs.Held.{Held, Lacks, Never, Changes};
 
 use crate::fault::FolderFault;

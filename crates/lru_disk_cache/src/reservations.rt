@@ -84,7 +84,14 @@ impl Reservations {
 
     /// One more reservation, of this number, whose temporary file is there.
     pub fn push(&mut self, number: u64, arrival: Arrival) -> Result<(), Memory>
-        ensures ok { OnOk result (self.new ≡ self.old ++ (record { number = number; key = arrival.key; size = arrival.size; temp = arrival.from; sure = true }) ∷ []) }
+        ensures ok { OnOk result
+            (self.new ≡ self.old ++ (record {
+              number = number;
+              key = arrival.key;
+              size = arrival.size;
+              temp = arrival.from;
+              sure = true;
+            }) ∷ []) }
         ensures err { OnErr result (self.new ≡ self.old) }
     {
         let Arrival {

@@ -87,7 +87,8 @@ fn push_found(
     path: &str,
     bytes: &[u8],
 ) -> Result<(), AllocError>
-    ensures { OnOk result (found.new.items ≡ found.old.items ++ found_behind begun.now ((path.now, bytes.now) ∷ [])) }
+    ensures { OnOk result (found.new.items ≡ found.old.items ++ found_behind begun.now
+        ((path.now, bytes.now) ∷ [])) }
 {
     if path.as_bytes().starts_with(begun.as_bytes()) {
         let path = Text::of(alloc, path)?;

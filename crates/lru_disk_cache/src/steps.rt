@@ -1,13 +1,19 @@
-//! The steps of a disk cache: writing the temporary file, dropping what is least recent, and putting the file in its place.
-ghost use Rattle.std.specs.Prelude.{◌≡◌, ◌+◌, ◌-◌, ◌≤◌, ◌<◌, ◌++◌, ◌∷◌, [], length, take, drop, true, false, Some, None, Err, IfOk, IfErr, OnOk, OnErr};
+//! The steps of a disk cache: writing the temporary file, dropping what is least recent, and putting the file
+//! in its place.
+ghost use Rattle.std.specs.Prelude.{◌≡◌, ◌+◌, ◌-◌, ◌≤◌, ◌<◌, ◌++◌, ◌∷◌, [], length, take, drop, true, false};
+ghost use Rattle.std.specs.Prelude.{Some, None, Err, IfOk, IfErr, OnOk, OnErr};
 ghost use Rattle.std.specs.Map.{lookup};
 ghost use Rattle.std.specs.Str.{bytes_eq};
-ghost use Rattle.lru_disk_cache.specs.Files.{file_at, size_at, put, without, moved, touched, appended, PartAppended};
+ghost use Rattle.lru_disk_cache.specs.Files.{file_at, size_at, put, without, moved, touched, appended};
+ghost use Rattle.lru_disk_cache.specs.Files.{PartAppended};
 ghost use Rattle.lru_disk_cache.specs.Held.{Holds, Became, Made, Lacks};
 ghost use Rattle.lru_disk_cache.specs.Key.{is_key};
 ghost use Rattle.lru_disk_cache.specs.Entries.{total, trim, IsEnd, IsTable};
 ghost use Rattle.lru_disk_cache.specs.Adding.{files_prepared, CallFails};
-ghost use Rattle.lru_disk_cache.specs.Disk.{Stands, Avoids, ButAt, ButListed, ButUnder, ButUnderAnd, ButThese, IsTemp, Keeps, Counts, Drops, stored, staying, dropped, without_each, files_placed, files_stored, without_key, Left, OnlyRemoved, SameAt};
+ghost use Rattle.lru_disk_cache.specs.Disk.{Stands, Avoids, ButAt, ButListed, ButUnder, ButUnderAnd};
+ghost use Rattle.lru_disk_cache.specs.Disk.{ButThese, IsTemp, Keeps, Counts, Drops, stored, staying, dropped};
+ghost use Rattle.lru_disk_cache.specs.Disk.{without_each, files_placed, files_stored, without_key, Left};
+ghost use Rattle.lru_disk_cache.specs.Disk.{OnlyRemoved, SameAt};
 
 use crate::error::{self, io};
 use crate::fault::FolderFault;
@@ -38,10 +44,12 @@ pub(crate) fn remove_file<F: Folder>(
     key: &Text,
 ) -> Result<(), FolderFault>
     ensures found { ¬ (result ≡ Err FolderFault.Missing) }
-    ensures exact { OnOk result (Became (λ old new. new ≡ without (root.now ++ key.now) old) (F.held folder.old).files (F.held folder.new).files) }
+    ensures exact { OnOk result (Became (λ old new. new ≡ without (root.now ++ key.now) old)
+        (F.held folder.old).files (F.held folder.new).files) }
     ensures gone { OnOk result (Holds (F.held folder.new) (Lacks (root.now ++ key.now))) }
     ensures removed { OnOk result (Became OnlyRemoved (F.held folder.old).files (F.held folder.new).files) }
-    ensures others { Became (ButAt (root.now ++ key.now)) (F.held folder.old).files (F.held folder.new).files }
+    ensures others { Became (ButAt (root.now ++ key.now)) (F.held folder.old).files
+        (F.held folder.new).files }
     ensures counts { Counts result (F.held folder.old) (F.held folder.new) }
 {
     let path = path_of(root, key)?;
@@ -69,10 +77,13 @@ pub(crate) fn measure<F: Folder>(folder: &mut F, path: &str) -> error::Result<u6
 
 /// Adds bytes at the end of a file.
 pub(crate) fn add_to<F: Folder>(folder: &mut F, path: &str, bytes: &[u8]) -> error::Result<()>
-    ensures ok { OnOk result (Made (appended path.now bytes.now) (F.held folder.old).files (F.held folder.new).files) }
-    ensures part { OnErr result (Became (PartAppended path.now bytes.now) (F.held folder.old).files (F.held folder.new).files) }
+    ensures ok { OnOk result (Made (appended path.now bytes.now) (F.held folder.old).files
+        (F.held folder.new).files) }
+    ensures part { OnErr result (Became (PartAppended path.now bytes.now) (F.held folder.old).files
+        (F.held folder.new).files) }
     ensures others { Became (ButAt path.now) (F.held folder.old).files (F.held folder.new).files }
-    ensures there { Became (λ old new. ¬ (Lacks path.now old) → ¬ (Lacks path.now new)) (F.held folder.old).files (F.held folder.new).files }
+    ensures there { Became (λ old new. ¬ (Lacks path.now old) → ¬ (Lacks path.now new))
+        (F.held folder.old).files (F.held folder.new).files }
     ensures fails { IfErr result (λ e. CallFails (Lacks path.now) e (F.held folder.old) (F.held folder.new)) }
     ensures steady { OnOk result ((F.held folder.new).faults ≡ (F.held folder.old).faults) }
     ensures later { (F.held folder.old).faults ≤ (F.held folder.new).faults }
@@ -86,7 +97,8 @@ pub(crate) fn add_to<F: Folder>(folder: &mut F, path: &str, bytes: &[u8]) -> err
 /// Removes the file at a path. One that is missing already is no fault.
 pub(crate) fn remove_at<F: Folder>(folder: &mut F, path: &str) -> Result<(), FolderFault>
     ensures found { ¬ (result ≡ Err FolderFault.Missing) }
-    ensures exact { OnOk result (Became (λ old new. new ≡ without path.now old) (F.held folder.old).files (F.held folder.new).files) }
+    ensures exact { OnOk result (Became (λ old new. new ≡ without path.now old) (F.held folder.old).files
+        (F.held folder.new).files) }
     ensures gone { OnOk result (Holds (F.held folder.new) (Lacks path.now)) }
     ensures others { Became (ButAt path.now) (F.held folder.old).files (F.held folder.new).files }
     ensures counts { Counts result (F.held folder.old) (F.held folder.new) }
@@ -105,9 +117,13 @@ fn drop_first<F: Folder>(folder: &mut F, table: &mut Table, root: &Text) -> Resu
     requires stands { Stands root.now (F.held folder.old) table.old.entries }
     ensures rest { table.new ≡ record table.old { entries = drop 1 table.old.entries } }
     ensures stands { Stands root.now (F.held folder.new) table.new.entries }
-    ensures others { Became (ButListed root.now table.old.entries) (F.held folder.old).files (F.held folder.new).files }
-    ensures kept { Became (Keeps root.now table.new.entries) (F.held folder.old).files (F.held folder.new).files }
-    ensures exact { OnOk result (Made (without_each root.now (take 1 table.old.entries)) (F.held folder.old).files (F.held folder.new).files) }
+    ensures others { Became (ButListed root.now table.old.entries) (F.held folder.old).files
+        (F.held folder.new).files }
+    ensures kept { Became (Keeps root.now table.new.entries) (F.held folder.old).files
+        (F.held folder.new).files }
+    ensures exact { OnOk result
+        (Made (without_each root.now (take 1 table.old.entries)) (F.held folder.old).files
+        (F.held folder.new).files) }
     ensures counts { Counts result (F.held folder.old) (F.held folder.new) }
 {
     let Some((key, _)) = table.take_first() else {
@@ -127,7 +143,8 @@ pub(crate) fn make_room<F: Folder>(
     ensures ok { OnOk result (table.new.entries ≡ trim limit table.old.entries) }
     ensures fits { OnOk result (total table.new.entries ≤ limit) }
     ensures drops { Drops root.now limit table.old table.new (F.held folder.old) (F.held folder.new) }
-    ensures exact { OnOk result (Made (without_each root.now (dropped limit table.old.entries)) (F.held folder.old).files (F.held folder.new).files) }
+    ensures exact { OnOk result (Made (without_each root.now (dropped limit table.old.entries))
+        (F.held folder.old).files (F.held folder.new).files) }
     ensures counts { Counts result (F.held folder.old) (F.held folder.new) }
 {
     while table.size() > limit {
@@ -152,15 +169,26 @@ pub(crate) fn place<F: Folder>(
     requires absent { lookup (bytes_eq arrival.now.key) table.old.entries ≡ None }
     requires room { total table.old.entries + arrival.now.size ≤ table.old.capacity }
     requires stands { Stands root.now (F.held folder.old) table.old.entries }
-    requires written { Holds (F.held folder.old) (λ files. size_at files arrival.now.from ≡ Some arrival.now.size) }
-    ensures ok { OnOk result (table.new ≡ record table.old { entries = table.old.entries ++ (arrival.now.key, arrival.now.size) ∷ [] }) }
+    requires written { Holds (F.held folder.old)
+        (λ files. size_at files arrival.now.from ≡ Some arrival.now.size) }
+    ensures ok { OnOk result
+        (table.new ≡ record table.old {
+          entries = table.old.entries ++ (arrival.now.key, arrival.now.size)
+              ∷ [];
+        }) }
     ensures err { OnErr result (table.new ≡ table.old) }
     ensures stands { Stands root.now (F.held folder.new) table.new.entries }
-    ensures content { OnOk result (Became (λ old new. file_at new arrival.now.path ≡ file_at old arrival.now.from) (F.held folder.old).files (F.held folder.new).files) }
-    ensures others { Became (ButUnderAnd root.now arrival.now.from) (F.held folder.old).files (F.held folder.new).files }
-    ensures untouched { Became (ButThese root.now arrival.now.from arrival.now.path table.old.entries) (F.held folder.old).files (F.held folder.new).files }
-    ensures kept { Became (Keeps root.now table.old.entries) (F.held folder.old).files (F.held folder.new).files }
-    ensures exact { OnOk result (Made (moved arrival.now.from arrival.now.path) (F.held folder.old).files (F.held folder.new).files) }
+    ensures content { OnOk result
+        (Became (λ old new. file_at new arrival.now.path ≡ file_at old arrival.now.from)
+        (F.held folder.old).files (F.held folder.new).files) }
+    ensures others { Became (ButUnderAnd root.now arrival.now.from) (F.held folder.old).files
+        (F.held folder.new).files }
+    ensures untouched { Became (ButThese root.now arrival.now.from arrival.now.path table.old.entries)
+        (F.held folder.old).files (F.held folder.new).files }
+    ensures kept { Became (Keeps root.now table.old.entries) (F.held folder.old).files
+        (F.held folder.new).files }
+    ensures exact { OnOk result (Made (moved arrival.now.from arrival.now.path) (F.held folder.old).files
+        (F.held folder.new).files) }
     ensures counts { Counts result (F.held folder.old) (F.held folder.new) }
 {
     let Ok(()) = table.push(listed, arrival.size) else {
@@ -182,9 +210,11 @@ pub(crate) fn write_temp<F: Folder>(
     temp: &Text,
     bytes: &[u8],
 ) -> Result<(), FolderFault>
-    ensures written { OnOk result (Holds (F.held folder.new) (λ files. file_at files temp.now ≡ Some bytes.now)) }
+    ensures written { OnOk result
+        (Holds (F.held folder.new) (λ files. file_at files temp.now ≡ Some bytes.now)) }
     ensures others { Became (ButAt temp.now) (F.held folder.old).files (F.held folder.new).files }
-    ensures exact { OnOk result (Made (put temp.now bytes.now) (F.held folder.old).files (F.held folder.new).files) }
+    ensures exact { OnOk result
+        (Made (put temp.now bytes.now) (F.held folder.old).files (F.held folder.new).files) }
     ensures counts { Counts result (F.held folder.old) (F.held folder.new) }
 {
     folder.make_parents(path.get())?;
@@ -204,16 +234,32 @@ pub(crate) fn fill<F: Folder>(
     requires avoids { Avoids root.now arrival.now.from table.old.entries }
     requires fits { arrival.now.limit + arrival.now.size ≤ table.old.capacity }
     requires stands { Stands root.now (F.held folder.old) table.old.entries }
-    requires written { Holds (F.held folder.old) (λ files. size_at files arrival.now.from ≡ Some arrival.now.size) }
-    ensures ok { OnOk result (table.new ≡ record table.old { entries = stored arrival.now.key arrival.now.size arrival.now.limit table.old.entries }) }
-    ensures err { OnErr result ((table.new.capacity ≡ table.old.capacity) × Left arrival.now.key arrival.now.limit table.old.entries table.new.entries) }
+    requires written { Holds (F.held folder.old)
+        (λ files. size_at files arrival.now.from ≡ Some arrival.now.size) }
+    ensures ok { OnOk result
+        (table.new ≡ record table.old {
+          entries = stored arrival.now.key arrival.now.size arrival.now.limit
+              table.old.entries;
+        }) }
+    ensures err { OnErr result ((table.new.capacity ≡ table.old.capacity)
+        × Left arrival.now.key arrival.now.limit table.old.entries table.new.entries) }
     ensures stands { Stands root.now (F.held folder.new) table.new.entries }
-    ensures content { OnOk result (Became (λ old new. file_at new arrival.now.path ≡ file_at old arrival.now.from) (F.held folder.old).files (F.held folder.new).files) }
-    ensures others { Became (ButUnderAnd root.now arrival.now.from) (F.held folder.old).files (F.held folder.new).files }
-    ensures untouched { Became (ButThese root.now arrival.now.from arrival.now.path table.old.entries) (F.held folder.old).files (F.held folder.new).files }
-    ensures kept { OnOk result (Became (Keeps root.now (staying arrival.now.key arrival.now.limit table.old.entries)) (F.held folder.old).files (F.held folder.new).files) }
-    ensures left { OnErr result (Became (Keeps root.now table.new.entries) (F.held folder.old).files (F.held folder.new).files) }
-    ensures exact { OnOk result (Made (files_placed root.now arrival.now.from arrival.now.path (dropped arrival.now.limit (without_key arrival.now.key table.old.entries))) (F.held folder.old).files (F.held folder.new).files) }
+    ensures content { OnOk result
+        (Became (λ old new. file_at new arrival.now.path ≡ file_at old arrival.now.from)
+        (F.held folder.old).files (F.held folder.new).files) }
+    ensures others { Became (ButUnderAnd root.now arrival.now.from) (F.held folder.old).files
+        (F.held folder.new).files }
+    ensures untouched { Became (ButThese root.now arrival.now.from arrival.now.path table.old.entries)
+        (F.held folder.old).files (F.held folder.new).files }
+    ensures kept { OnOk result
+        (Became (Keeps root.now (staying arrival.now.key arrival.now.limit table.old.entries))
+        (F.held folder.old).files (F.held folder.new).files) }
+    ensures left { OnErr result (Became (Keeps root.now table.new.entries) (F.held folder.old).files
+        (F.held folder.new).files) }
+    ensures exact { OnOk result
+        (Made (files_placed root.now arrival.now.from arrival.now.path
+        (dropped arrival.now.limit (without_key arrival.now.key table.old.entries))) (F.held folder.old).files
+        (F.held folder.new).files) }
     ensures counts { Counts result (F.held folder.old) (F.held folder.new) }
 {
     let listed = arrival.key.copy(root.alloc())?;
@@ -237,15 +283,28 @@ pub(crate) fn store<F: Folder>(
     requires size { arrival.now.size ≡ length bytes.now }
     requires fits { arrival.now.limit + arrival.now.size ≤ table.old.capacity }
     requires stands { Stands root.now (F.held folder.old) table.old.entries }
-    ensures ok { OnOk result (table.new ≡ record table.old { entries = stored arrival.now.key arrival.now.size arrival.now.limit table.old.entries }) }
-    ensures err { OnErr result ((table.new.capacity ≡ table.old.capacity) × Left arrival.now.key arrival.now.limit table.old.entries table.new.entries) }
+    ensures ok { OnOk result
+        (table.new ≡ record table.old {
+          entries = stored arrival.now.key arrival.now.size arrival.now.limit
+              table.old.entries;
+        }) }
+    ensures err { OnErr result ((table.new.capacity ≡ table.old.capacity)
+        × Left arrival.now.key arrival.now.limit table.old.entries table.new.entries) }
     ensures stands { Stands root.now (F.held folder.new) table.new.entries }
-    ensures content { OnOk result (Holds (F.held folder.new) (λ files. file_at files arrival.now.path ≡ Some bytes.now)) }
+    ensures content { OnOk result
+        (Holds (F.held folder.new) (λ files. file_at files arrival.now.path ≡ Some bytes.now)) }
     ensures others { Became (ButUnder root.now) (F.held folder.old).files (F.held folder.new).files }
-    ensures untouched { Became (ButThese root.now arrival.now.from arrival.now.path table.old.entries) (F.held folder.old).files (F.held folder.new).files }
-    ensures kept { OnOk result (Became (Keeps root.now (staying arrival.now.key arrival.now.limit table.old.entries)) (F.held folder.old).files (F.held folder.new).files) }
-    ensures left { OnErr result (Became (Keeps root.now table.new.entries) (F.held folder.old).files (F.held folder.new).files) }
-    ensures exact { OnOk result (Made (files_stored root.now arrival.now.from arrival.now.path bytes.now (dropped arrival.now.limit (without_key arrival.now.key table.old.entries))) (F.held folder.old).files (F.held folder.new).files) }
+    ensures untouched { Became (ButThese root.now arrival.now.from arrival.now.path table.old.entries)
+        (F.held folder.old).files (F.held folder.new).files }
+    ensures kept { OnOk result
+        (Became (Keeps root.now (staying arrival.now.key arrival.now.limit table.old.entries))
+        (F.held folder.old).files (F.held folder.new).files) }
+    ensures left { OnErr result (Became (Keeps root.now table.new.entries) (F.held folder.old).files
+        (F.held folder.new).files) }
+    ensures exact { OnOk result
+        (Made (files_stored root.now arrival.now.from arrival.now.path bytes.now
+        (dropped arrival.now.limit (without_key arrival.now.key table.old.entries))) (F.held folder.old).files
+        (F.held folder.new).files) }
     ensures counts { Counts result (F.held folder.old) (F.held folder.new) }
 {
     write_temp(folder, &arrival.path, &arrival.from, bytes)?;
@@ -264,13 +323,19 @@ pub(crate) fn announce<F: Folder>(
     ensures ok { OnOk result (table.new.entries ≡ trim arrival.now.limit table.old.entries) }
     ensures fits { OnOk result (total table.new.entries ≤ arrival.now.limit) }
     ensures capacity { table.new.capacity ≡ table.old.capacity }
-    ensures room { IsEnd table.new.entries table.old.entries × (trim arrival.now.limit table.new.entries ≡ trim arrival.now.limit table.old.entries) }
+    ensures room { IsEnd table.new.entries table.old.entries
+        × (trim arrival.now.limit table.new.entries ≡ trim arrival.now.limit table.old.entries) }
     ensures stands { Stands root.now (F.held folder.new) table.new.entries }
-    ensures there { OnOk result (Holds (F.held folder.new) (λ files. file_at files arrival.now.from ≡ Some [])) }
+    ensures there { OnOk result
+        (Holds (F.held folder.new) (λ files. file_at files arrival.now.from ≡ Some [])) }
     ensures others { Became (ButUnder root.now) (F.held folder.old).files (F.held folder.new).files }
-    ensures untouched { Became (ButThese root.now arrival.now.from arrival.now.from table.old.entries) (F.held folder.old).files (F.held folder.new).files }
-    ensures kept { Became (Keeps root.now table.new.entries) (F.held folder.old).files (F.held folder.new).files }
-    ensures exact { OnOk result (Made (files_prepared root.now arrival.now.from (dropped arrival.now.limit table.old.entries)) (F.held folder.old).files (F.held folder.new).files) }
+    ensures untouched { Became (ButThese root.now arrival.now.from arrival.now.from table.old.entries)
+        (F.held folder.old).files (F.held folder.new).files }
+    ensures kept { Became (Keeps root.now table.new.entries) (F.held folder.old).files
+        (F.held folder.new).files }
+    ensures exact { OnOk result
+        (Made (files_prepared root.now arrival.now.from (dropped arrival.now.limit table.old.entries))
+        (F.held folder.old).files (F.held folder.new).files) }
     ensures counts { Counts result (F.held folder.old) (F.held folder.new) }
 {
     write_temp(folder, &arrival.path, &arrival.from, &[])?;
@@ -290,16 +355,32 @@ pub(crate) fn move_in<F: Folder>(
     requires avoids { Avoids root.now arrival.now.from table.old.entries }
     requires fits { arrival.now.limit + arrival.now.size ≤ table.old.capacity }
     requires stands { Stands root.now (F.held folder.old) table.old.entries }
-    requires written { Holds (F.held folder.old) (λ files. size_at files arrival.now.from ≡ Some arrival.now.size) }
-    ensures ok { OnOk result (table.new ≡ record table.old { entries = stored arrival.now.key arrival.now.size arrival.now.limit table.old.entries }) }
-    ensures err { OnErr result ((table.new.capacity ≡ table.old.capacity) × Left arrival.now.key arrival.now.limit table.old.entries table.new.entries) }
+    requires written { Holds (F.held folder.old)
+        (λ files. size_at files arrival.now.from ≡ Some arrival.now.size) }
+    ensures ok { OnOk result
+        (table.new ≡ record table.old {
+          entries = stored arrival.now.key arrival.now.size arrival.now.limit
+              table.old.entries;
+        }) }
+    ensures err { OnErr result ((table.new.capacity ≡ table.old.capacity)
+        × Left arrival.now.key arrival.now.limit table.old.entries table.new.entries) }
     ensures stands { Stands root.now (F.held folder.new) table.new.entries }
-    ensures content { OnOk result (Became (λ old new. file_at new arrival.now.path ≡ file_at old arrival.now.from) (F.held folder.old).files (F.held folder.new).files) }
-    ensures others { Became (ButUnderAnd root.now arrival.now.from) (F.held folder.old).files (F.held folder.new).files }
-    ensures untouched { Became (ButThese root.now arrival.now.from arrival.now.path table.old.entries) (F.held folder.old).files (F.held folder.new).files }
-    ensures kept { OnOk result (Became (Keeps root.now (staying arrival.now.key arrival.now.limit table.old.entries)) (F.held folder.old).files (F.held folder.new).files) }
-    ensures left { OnErr result (Became (Keeps root.now table.new.entries) (F.held folder.old).files (F.held folder.new).files) }
-    ensures exact { OnOk result (Made (files_placed root.now arrival.now.from arrival.now.path (dropped arrival.now.limit (without_key arrival.now.key table.old.entries))) (F.held folder.old).files (F.held folder.new).files) }
+    ensures content { OnOk result
+        (Became (λ old new. file_at new arrival.now.path ≡ file_at old arrival.now.from)
+        (F.held folder.old).files (F.held folder.new).files) }
+    ensures others { Became (ButUnderAnd root.now arrival.now.from) (F.held folder.old).files
+        (F.held folder.new).files }
+    ensures untouched { Became (ButThese root.now arrival.now.from arrival.now.path table.old.entries)
+        (F.held folder.old).files (F.held folder.new).files }
+    ensures kept { OnOk result
+        (Became (Keeps root.now (staying arrival.now.key arrival.now.limit table.old.entries))
+        (F.held folder.old).files (F.held folder.new).files) }
+    ensures left { OnErr result (Became (Keeps root.now table.new.entries) (F.held folder.old).files
+        (F.held folder.new).files) }
+    ensures exact { OnOk result
+        (Made (files_placed root.now arrival.now.from arrival.now.path
+        (dropped arrival.now.limit (without_key arrival.now.key table.old.entries))) (F.held folder.old).files
+        (F.held folder.new).files) }
     ensures counts { Counts result (F.held folder.old) (F.held folder.new) }
 {
     folder.make_parents(arrival.path.get())?;
@@ -309,9 +390,11 @@ pub(crate) fn move_in<F: Folder>(
 /// Makes a file the most recent and reads it. It is there.
 pub(crate) fn fetch<F: Folder>(folder: &mut F, path: &Text) -> Result<Vec<u8>, FolderFault>
     requires { Holds (F.held folder.old) (λ files. ¬ (Lacks path.now files)) }
-    ensures content { IfOk result (λ v. Holds (F.held folder.old) (λ files. file_at files path.now ≡ Some v.items)) }
+    ensures content { IfOk result
+        (λ v. Holds (F.held folder.old) (λ files. file_at files path.now ≡ Some v.items)) }
     ensures others { Became SameAt (F.held folder.old).files (F.held folder.new).files }
-    ensures exact { OnOk result (Made (touched path.now) (F.held folder.old).files (F.held folder.new).files) }
+    ensures exact { OnOk result
+        (Made (touched path.now) (F.held folder.old).files (F.held folder.new).files) }
     ensures counts { Counts result (F.held folder.old) (F.held folder.new) }
 {
     folder.touch(path.get())?;

@@ -1,5 +1,6 @@
 //! The list of a disk cache: a cache of sizes, measured by these.
-ghost use Rattle.std.specs.Prelude.{◌≡◌, ℕ, List, ◌+◌, ◌≤◌, [], ◌∷◌, ◌++◌, drop, length, slice_get, is_some, IfOk, IfSome, OnOk, OnErr, OnSome, IsSome, Some, None};
+ghost use Rattle.std.specs.Prelude.{◌≡◌, ℕ, List, ◌+◌, ◌≤◌, [], ◌∷◌, ◌++◌, drop, length, slice_get, is_some};
+ghost use Rattle.std.specs.Prelude.{IfOk, IfSome, OnOk, OnErr, OnSome, IsSome, Some, None};
 ghost use Rattle.std.specs.Map.Iter.{ShowsInOrder, deref_pair};
 ghost use Rattle.std.specs.List.{IsDistinct};
 ghost use Rattle.std.specs.Map.{keys_of, lookup, remove_entry};
@@ -140,7 +141,10 @@ impl Table {
 
     /// The key is not listed.
     pub fn unlist(&mut self, key: &Text)
-        ensures entries { self.new ≡ record self.old { entries = remove_entry (bytes_eq key.now) self.old.entries } }
+        ensures entries { self.new ≡ record self.old {
+          entries = remove_entry
+              (bytes_eq key.now) self.old.entries;
+        } }
         ensures absent { lookup (bytes_eq key.now) self.new.entries ≡ None }
     {
         let _len = self.list.len();
@@ -159,7 +163,8 @@ impl Table {
     pub fn push(&mut self, key: Text, size: u64) -> Result<(), Memory>
         requires absent { lookup (bytes_eq key) self.old.entries ≡ None }
         requires room { total self.old.entries + size ≤ self.old.capacity }
-        ensures ok { OnOk result (self.new ≡ record self.old { entries = self.old.entries ++ (key, size) ∷ [] }) }
+        ensures ok { OnOk result
+            (self.new ≡ record self.old { entries = self.old.entries ++ (key, size) ∷ [] }) }
         ensures err { OnErr result (self.new ≡ self.old) }
     {
         let Ok(_) = self.list.insert(key, size) else {

@@ -1,15 +1,18 @@
 //! `TcCache`: archives of toolchains, known by the SHA-256 of their content.
-ghost use Rattle.std.specs.Prelude.{◌≡◌, ◌≤◌, ◌⊎◌, [], true, false, length, map, nat_le, is_some, Some, None, Ok, IsSome, IfOk, IfErr, OnOk, OnErr};
+ghost use Rattle.std.specs.Prelude.{◌≡◌, ◌≤◌, ◌⊎◌, [], true, false, length, map, nat_le, is_some, Some, None};
+ghost use Rattle.std.specs.Prelude.{Ok, IsSome, IfOk, IfErr, OnOk, OnErr};
 ghost use Rattle.std.specs.Map.{lookup};
 ghost use Rattle.std.specs.Str.{bytes_eq};
 ghost use Rattle.lru_disk_cache.specs.Files.{file_at, front, put, moved, PartWritten, DoneOrNot, Same};
 ghost use Rattle.lru_disk_cache.specs.Held.{Holds, Became, Lacks, Never, Changes};
 ghost use Rattle.lru_disk_cache.specs.Entries.{total, promoted_key};
 ghost use Rattle.lru_disk_cache.specs.Disk.{ButUnder, IsOutside, without_key};
-ghost use Rattle.lru_disk_cache.specs.Archives.{id_of, archive_path, opened_archives, paths_under, IsInStep, IsArchiveStore};
+ghost use Rattle.lru_disk_cache.specs.Archives.{id_of, archive_path, opened_archives, paths_under, IsInStep};
+ghost use Rattle.lru_disk_cache.specs.Archives.{IsArchiveStore};
 ghost use Rattle.lru_disk_cache.specs.Cleaned.{are_archive_keys};
 ghost use Rattle.lru_disk_cache.specs.Keyed.{unkeyed, AllHold};
-ghost use Rattle.lru_disk_cache.specs.Archiving.{archive_verdict, with_archive, StoreFails, FindFails, DropFails, Relists};
+ghost use Rattle.lru_disk_cache.specs.Archiving.{archive_verdict, with_archive, StoreFails, FindFails};
+ghost use Rattle.lru_disk_cache.specs.Archiving.{DropFails, Relists};
 ghost use Rattle.lru_disk_cache.specs.Moving.{Wrote, StoreWithFails};
 
 use crate::archives::Archives;
@@ -39,7 +42,12 @@ impl<F: Folder> Model for TcCache<F> {
 
     ghost Value = { ArchiveStore F };
 
-    ghost view = { λ t. record { path = t.cache.disk.path; capacity = t.cache.disk.capacity; archives = unkeyed t.cache.disk.entries; folder = t.cache.folder } };
+    ghost view = { λ t. record {
+      path = t.cache.disk.path;
+      capacity = t.cache.disk.capacity;
+      archives = unkeyed t.cache.disk.entries;
+      folder = t.cache.folder;
+    } };
 
     ghost invariant = { λ t. IsKeyed (F.held t.cache.folder) t.cache.disk };
 }
@@ -57,12 +65,19 @@ impl<F: Folder> TcCache<F> {
         cache_dir: &str,
         cache_size: u64,
     ) -> std::result::Result<Self, (Error, F)>
-        ensures opened { IfOk result (λ t. Holds (F.held folder) (λ files. t.archives ≡ opened_archives cache_dir.now cache_size files)) }
+        ensures opened { IfOk result
+            (λ t. Holds (F.held folder)
+            (λ files. t.archives ≡ opened_archives cache_dir.now cache_size files)) }
         ensures at { IfOk result (λ t. (t.path ≡ cache_dir.now) × (t.capacity ≡ cache_size)) }
-        ensures relists { IfOk result (λ t. Holds (F.held folder) (λ files. Relists cache_dir.now cache_size files t.archives)) }
+        ensures relists { IfOk result
+            (λ t. Holds (F.held folder) (λ files. Relists cache_dir.now cache_size files t.archives)) }
         ensures in_step { IfOk result (λ t. IsInStep cache_dir.now (F.held t.folder) t.archives) }
-        ensures cleared { IfOk result (λ t. Holds (F.held t.folder) (λ files. paths_under cache_dir.now files ≡ map (λ a. archive_path cache_dir.now a.0) t.archives)) }
-        ensures others { IfOk result (λ t. Became (ButUnder (front cache_dir.now)) (F.held folder).files (F.held t.folder).files) }
+        ensures cleared { IfOk result
+            (λ t. Holds (F.held t.folder)
+            (λ files. paths_under cache_dir.now files ≡ map
+            (λ a. archive_path cache_dir.now a.0) t.archives)) }
+        ensures others { IfOk result (λ t. Became (ButUnder (front cache_dir.now)) (F.held folder).files
+            (F.held t.folder).files) }
         ensures stands { IfOk result (λ t. IsArchiveStore t.path t.capacity t.archives (F.held t.folder)) }
         ensures steady { IfOk result (λ t. (F.held t.folder).faults ≡ (F.held folder).faults) }
         ensures later { IfErr result (λ e. (F.held folder).faults ≤ (F.held e.1).faults) }
@@ -85,7 +100,8 @@ impl<F: Folder> TcCache<F> {
     /// so far, each listed archive has a file of its size whose SHA-256 is its id, where files are told.
     pub fn contains_toolchain(&self, tc: &Toolchain) -> bool
         ensures listed { result ≡ is_some (lookup (bytes_eq tc.now) self.now.archives) }
-        ensures stands { IsArchiveStore self.now.path self.now.capacity self.now.archives (F.held self.now.folder) }
+        ensures stands { IsArchiveStore self.now.path self.now.capacity self.now.archives
+            (F.held self.now.folder) }
     {
         self.shown();
         for (id, _size) in self.archives() {
@@ -143,16 +159,24 @@ impl<F: Folder> TcCache<F> {
     /// memory, which leave the list as it was, or the archive unlisted and some of the least recent gone,
     /// none more than had to go.
     pub fn insert_bytes(&mut self, tc: &Toolchain, bytes: &[u8]) -> Result<()>
-        ensures ok { OnOk result (self.new.archives ≡ with_archive self.old.capacity tc.now (length bytes.now) self.old.archives) }
+        ensures ok { OnOk result (self.new.archives ≡ with_archive self.old.capacity tc.now
+            (length bytes.now) self.old.archives) }
         ensures admits { OnOk result (archive_verdict self.old.capacity tc.now bytes.now ≡ Ok tt) }
-        ensures content { OnOk result (Holds (F.held self.new.folder) (λ files. file_at files (archive_path self.old.path tc.now) ≡ Some bytes.now)) }
-        ensures fails { IfErr result (λ e. StoreFails self.old.capacity tc.now bytes.now e self.old.archives self.new.archives (F.held self.old.folder) (F.held self.new.folder)) }
-        ensures in_step { IsInStep self.old.path (F.held self.old.folder) self.old.archives → OnOk result (IsInStep self.new.path (F.held self.new.folder) self.new.archives) }
+        ensures content { OnOk result
+            (Holds (F.held self.new.folder)
+            (λ files. file_at files (archive_path self.old.path tc.now) ≡ Some bytes.now)) }
+        ensures fails { IfErr result
+            (λ e. StoreFails self.old.capacity tc.now bytes.now e self.old.archives self.new.archives
+            (F.held self.old.folder) (F.held self.new.folder)) }
+        ensures in_step { IsInStep self.old.path (F.held self.old.folder) self.old.archives
+            → OnOk result (IsInStep self.new.path (F.held self.new.folder) self.new.archives) }
         ensures at { (self.new.path ≡ self.old.path) × (self.new.capacity ≡ self.old.capacity) }
-        ensures others { Became (ButUnder (front self.old.path)) (F.held self.old.folder).files (F.held self.new.folder).files }
+        ensures others { Became (ButUnder (front self.old.path)) (F.held self.old.folder).files
+            (F.held self.new.folder).files }
         ensures steady { OnOk result ((F.held self.new.folder).faults ≡ (F.held self.old.folder).faults) }
         ensures later { (F.held self.old.folder).faults ≤ (F.held self.new.folder).faults }
-        ensures stands { IsArchiveStore self.new.path self.new.capacity self.new.archives (F.held self.new.folder) }
+        ensures stands { IsArchiveStore self.new.path self.new.capacity self.new.archives
+            (F.held self.new.folder) }
     {
         self.shown();
         if !is_archive(tc, bytes) {
@@ -170,15 +194,22 @@ impl<F: Folder> TcCache<F> {
     pub fn get_file(&mut self, tc: &Toolchain) -> Result<Vec<u8>>
         ensures ok { OnOk result (self.new.archives ≡ promoted_key tc.now self.old.archives) }
         ensures found { OnOk result (IsSome (lookup (bytes_eq tc.now) self.old.archives)) }
-        ensures content { IfOk result (λ v. Holds (F.held self.old.folder) (λ files. file_at files (archive_path self.old.path tc.now) ≡ Some v.items)) }
+        ensures content { IfOk result
+            (λ v. Holds (F.held self.old.folder)
+            (λ files. file_at files (archive_path self.old.path tc.now) ≡ Some v.items)) }
         ensures digest { IfOk result (λ v. Holds (F.held self.old.folder) (λ files. id_of v.items ≡ tc.now)) }
-        ensures fails { IfErr result (λ e. FindFails tc.now e self.old.archives self.new.archives (F.held self.old.folder) (F.held self.new.folder)) }
-        ensures in_step { IsInStep self.old.path (F.held self.old.folder) self.old.archives → OnOk result (IsInStep self.new.path (F.held self.new.folder) self.new.archives) }
+        ensures fails { IfErr result
+            (λ e. FindFails tc.now e self.old.archives self.new.archives (F.held self.old.folder)
+            (F.held self.new.folder)) }
+        ensures in_step { IsInStep self.old.path (F.held self.old.folder) self.old.archives
+            → OnOk result (IsInStep self.new.path (F.held self.new.folder) self.new.archives) }
         ensures at { (self.new.path ≡ self.old.path) × (self.new.capacity ≡ self.old.capacity) }
-        ensures others { Became (ButUnder (front self.old.path)) (F.held self.old.folder).files (F.held self.new.folder).files }
+        ensures others { Became (ButUnder (front self.old.path)) (F.held self.old.folder).files
+            (F.held self.new.folder).files }
         ensures steady { OnOk result ((F.held self.new.folder).faults ≡ (F.held self.old.folder).faults) }
         ensures later { (F.held self.old.folder).faults ≤ (F.held self.new.folder).faults }
-        ensures stands { IsArchiveStore self.new.path self.new.capacity self.new.archives (F.held self.new.folder) }
+        ensures stands { IsArchiveStore self.new.path self.new.capacity self.new.archives
+            (F.held self.new.folder) }
     {
         self.shown();
         let Ok(key) = key_of(self.alloc, tc) else {
@@ -195,16 +226,24 @@ impl<F: Folder> TcCache<F> {
     pub fn get(&mut self, tc: &Toolchain) -> Result<Opened>
         ensures ok { OnOk result (self.new.archives ≡ promoted_key tc.now self.old.archives) }
         ensures found { OnOk result (IsSome (lookup (bytes_eq tc.now) self.old.archives)) }
-        ensures content { IfOk result (λ o. Holds (F.held self.old.folder) (λ files. file_at files (archive_path self.old.path tc.now) ≡ Some o.content)) }
-        ensures digest { IfOk result (λ o. Holds (F.held self.old.folder) (λ files. id_of o.content ≡ tc.now)) }
+        ensures content { IfOk result
+            (λ o. Holds (F.held self.old.folder)
+            (λ files. file_at files (archive_path self.old.path tc.now) ≡ Some o.content)) }
+        ensures digest { IfOk result
+            (λ o. Holds (F.held self.old.folder) (λ files. id_of o.content ≡ tc.now)) }
         ensures place { IfOk result (λ o. o.place ≡ 0) }
-        ensures fails { IfErr result (λ e. FindFails tc.now e self.old.archives self.new.archives (F.held self.old.folder) (F.held self.new.folder)) }
-        ensures in_step { IsInStep self.old.path (F.held self.old.folder) self.old.archives → OnOk result (IsInStep self.new.path (F.held self.new.folder) self.new.archives) }
+        ensures fails { IfErr result
+            (λ e. FindFails tc.now e self.old.archives self.new.archives (F.held self.old.folder)
+            (F.held self.new.folder)) }
+        ensures in_step { IsInStep self.old.path (F.held self.old.folder) self.old.archives
+            → OnOk result (IsInStep self.new.path (F.held self.new.folder) self.new.archives) }
         ensures at { (self.new.path ≡ self.old.path) × (self.new.capacity ≡ self.old.capacity) }
-        ensures others { Became (ButUnder (front self.old.path)) (F.held self.old.folder).files (F.held self.new.folder).files }
+        ensures others { Became (ButUnder (front self.old.path)) (F.held self.old.folder).files
+            (F.held self.new.folder).files }
         ensures steady { OnOk result ((F.held self.new.folder).faults ≡ (F.held self.old.folder).faults) }
         ensures later { (F.held self.old.folder).faults ≤ (F.held self.new.folder).faults }
-        ensures stands { IsArchiveStore self.new.path self.new.capacity self.new.archives (F.held self.new.folder) }
+        ensures stands { IsArchiveStore self.new.path self.new.capacity self.new.archives
+            (F.held self.new.folder) }
     {
         match self.get_file(tc) {
             Ok(bytes) => Ok(Opened::new(bytes)),
@@ -218,14 +257,20 @@ impl<F: Folder> TcCache<F> {
     /// not.
     pub fn remove(&mut self, tc: &Toolchain) -> Result<()>
         ensures ok { OnOk result (self.new.archives ≡ without_key tc.now self.old.archives) }
-        ensures gone { OnOk result (IsSome (lookup (bytes_eq tc.now) self.old.archives) → Holds (F.held self.new.folder) (Lacks (archive_path self.old.path tc.now))) }
-        ensures fails { IfErr result (λ e. DropFails tc.now e self.old.archives self.new.archives (F.held self.old.folder) (F.held self.new.folder)) }
-        ensures in_step { IsInStep self.old.path (F.held self.old.folder) self.old.archives → OnOk result (IsInStep self.new.path (F.held self.new.folder) self.new.archives) }
+        ensures gone { OnOk result (IsSome (lookup (bytes_eq tc.now) self.old.archives)
+            → Holds (F.held self.new.folder) (Lacks (archive_path self.old.path tc.now))) }
+        ensures fails { IfErr result
+            (λ e. DropFails tc.now e self.old.archives self.new.archives (F.held self.old.folder)
+            (F.held self.new.folder)) }
+        ensures in_step { IsInStep self.old.path (F.held self.old.folder) self.old.archives
+            → OnOk result (IsInStep self.new.path (F.held self.new.folder) self.new.archives) }
         ensures at { (self.new.path ≡ self.old.path) × (self.new.capacity ≡ self.old.capacity) }
-        ensures others { Became (ButUnder (front self.old.path)) (F.held self.old.folder).files (F.held self.new.folder).files }
+        ensures others { Became (ButUnder (front self.old.path)) (F.held self.old.folder).files
+            (F.held self.new.folder).files }
         ensures steady { OnOk result ((F.held self.new.folder).faults ≡ (F.held self.old.folder).faults) }
         ensures later { (F.held self.old.folder).faults ≤ (F.held self.new.folder).faults }
-        ensures stands { IsArchiveStore self.new.path self.new.capacity self.new.archives (F.held self.new.folder) }
+        ensures stands { IsArchiveStore self.new.path self.new.capacity self.new.archives
+            (F.held self.new.folder) }
     {
         self.shown();
         let Ok(key) = key_of(self.alloc, tc) else {
@@ -236,8 +281,8 @@ impl<F: Folder> TcCache<F> {
         answer
     }
 
-    /// Stores what a closure writes as the archive of a toolchain, as `insert_bytes` stores bytes. The closure
-    /// is called once, with an empty vector.
+    /// Stores what a closure writes as the archive of a toolchain, as `insert_bytes` stores bytes. The
+    /// closure is called once, with an empty vector.
     ///
     /// Refused as `Error::WriterRefused` exactly where the closure refuses, which leaves all as it was; then
     /// as `insert_bytes` is.
@@ -247,14 +292,23 @@ impl<F: Folder> TcCache<F> {
         with: W,
     ) -> Result<()>
         requires { W.IsAlwaysCallable with }
-        ensures ok { OnOk result ((bytes : _) × Wrote W.FnOnce (λ v. v.items) with (Ok tt) bytes × (archive_verdict self.old.capacity tc.now bytes ≡ Ok tt) × (self.new.archives ≡ with_archive self.old.capacity tc.now (length bytes) self.old.archives) × Holds (F.held self.new.folder) (λ files. file_at files (archive_path self.old.path tc.now) ≡ Some bytes)) }
-        ensures fails { IfErr result (λ e. StoreWithFails (Wrote W.FnOnce (λ v. v.items) with) self.old.capacity tc.now e self.old.archives self.new.archives (F.held self.old.folder) (F.held self.new.folder)) }
-        ensures in_step { IsInStep self.old.path (F.held self.old.folder) self.old.archives → OnOk result (IsInStep self.new.path (F.held self.new.folder) self.new.archives) }
+        ensures ok { OnOk result ((bytes : _) × Wrote W.FnOnce (λ v. v.items) with (Ok tt) bytes
+            × (archive_verdict self.old.capacity tc.now bytes ≡ Ok tt)
+            × (self.new.archives ≡ with_archive self.old.capacity tc.now (length bytes) self.old.archives)
+            × Holds (F.held self.new.folder)
+            (λ files. file_at files (archive_path self.old.path tc.now) ≡ Some bytes)) }
+        ensures fails { IfErr result
+            (λ e. StoreWithFails (Wrote W.FnOnce (λ v. v.items) with) self.old.capacity tc.now e
+            self.old.archives self.new.archives (F.held self.old.folder) (F.held self.new.folder)) }
+        ensures in_step { IsInStep self.old.path (F.held self.old.folder) self.old.archives
+            → OnOk result (IsInStep self.new.path (F.held self.new.folder) self.new.archives) }
         ensures at { (self.new.path ≡ self.old.path) × (self.new.capacity ≡ self.old.capacity) }
-        ensures others { Became (ButUnder (front self.old.path)) (F.held self.old.folder).files (F.held self.new.folder).files }
+        ensures others { Became (ButUnder (front self.old.path)) (F.held self.old.folder).files
+            (F.held self.new.folder).files }
         ensures steady { OnOk result ((F.held self.new.folder).faults ≡ (F.held self.old.folder).faults) }
         ensures later { (F.held self.old.folder).faults ≤ (F.held self.new.folder).faults }
-        ensures stands { IsArchiveStore self.new.path self.new.capacity self.new.archives (F.held self.new.folder) }
+        ensures stands { IsArchiveStore self.new.path self.new.capacity self.new.archives
+            (F.held self.new.folder) }
     {
         self.shown();
         match written(self.alloc, with) {
@@ -269,16 +323,24 @@ impl<F: Folder> TcCache<F> {
     /// Refused as `Error::FileTooLarge`, which leaves all as it was, and else as `insert_bytes` is.
     pub fn insert_package(&mut self, bytes: &[u8]) -> Result<Toolchain>
         ensures id { IfOk result (λ tc. tc ≡ id_of bytes.now) }
-        ensures ok { OnOk result (self.new.archives ≡ with_archive self.old.capacity (id_of bytes.now) (length bytes.now) self.old.archives) }
+        ensures ok { OnOk result (self.new.archives ≡ with_archive self.old.capacity (id_of bytes.now)
+            (length bytes.now) self.old.archives) }
         ensures admits { OnOk result (archive_verdict self.old.capacity (id_of bytes.now) bytes.now ≡ Ok tt) }
-        ensures content { OnOk result (Holds (F.held self.new.folder) (λ files. file_at files (archive_path self.old.path (id_of bytes.now)) ≡ Some bytes.now)) }
-        ensures fails { IfErr result (λ e. StoreFails self.old.capacity (id_of bytes.now) bytes.now e self.old.archives self.new.archives (F.held self.old.folder) (F.held self.new.folder)) }
-        ensures in_step { IsInStep self.old.path (F.held self.old.folder) self.old.archives → OnOk result (IsInStep self.new.path (F.held self.new.folder) self.new.archives) }
+        ensures content { OnOk result
+            (Holds (F.held self.new.folder)
+            (λ files. file_at files (archive_path self.old.path (id_of bytes.now)) ≡ Some bytes.now)) }
+        ensures fails { IfErr result
+            (λ e. StoreFails self.old.capacity (id_of bytes.now) bytes.now e self.old.archives
+            self.new.archives (F.held self.old.folder) (F.held self.new.folder)) }
+        ensures in_step { IsInStep self.old.path (F.held self.old.folder) self.old.archives
+            → OnOk result (IsInStep self.new.path (F.held self.new.folder) self.new.archives) }
         ensures at { (self.new.path ≡ self.old.path) × (self.new.capacity ≡ self.old.capacity) }
-        ensures others { Became (ButUnder (front self.old.path)) (F.held self.old.folder).files (F.held self.new.folder).files }
+        ensures others { Became (ButUnder (front self.old.path)) (F.held self.old.folder).files
+            (F.held self.new.folder).files }
         ensures steady { OnOk result ((F.held self.new.folder).faults ≡ (F.held self.old.folder).faults) }
         ensures later { (F.held self.old.folder).faults ≤ (F.held self.new.folder).faults }
-        ensures stands { IsArchiveStore self.new.path self.new.capacity self.new.archives (F.held self.new.folder) }
+        ensures stands { IsArchiveStore self.new.path self.new.capacity self.new.archives
+            (F.held self.new.folder) }
     {
         let tc = toolchain_of(bytes);
         match self.insert_verified(&tc, bytes) {
@@ -289,11 +351,16 @@ impl<F: Folder> TcCache<F> {
 
     /// The content of a file of the folder, which may lie beside the cache. The archives stay as they are.
     pub fn read_aside(&mut self, path: &str) -> std::result::Result<Vec<u8>, FolderFault>
-        ensures content { IfOk result (λ v. Holds (F.held self.old.folder) (λ files. file_at files path.now ≡ Some v.items)) }
-        ensures leaves { Changes (Lacks path.now) (λ files. files) Same result (F.held self.old.folder) (F.held self.new.folder) }
-        ensures at { (self.new.path ≡ self.old.path) × (self.new.capacity ≡ self.old.capacity) × (self.new.archives ≡ self.old.archives) }
-        ensures in_step { IsInStep self.old.path (F.held self.old.folder) self.old.archives → IsInStep self.new.path (F.held self.new.folder) self.new.archives }
-        ensures stands { IsArchiveStore self.new.path self.new.capacity self.new.archives (F.held self.new.folder) }
+        ensures content { IfOk result
+            (λ v. Holds (F.held self.old.folder) (λ files. file_at files path.now ≡ Some v.items)) }
+        ensures leaves { Changes (Lacks path.now) (λ files. files) Same result (F.held self.old.folder)
+            (F.held self.new.folder) }
+        ensures at { (self.new.path ≡ self.old.path) × (self.new.capacity ≡ self.old.capacity)
+            × (self.new.archives ≡ self.old.archives) }
+        ensures in_step { IsInStep self.old.path (F.held self.old.folder) self.old.archives
+            → IsInStep self.new.path (F.held self.new.folder) self.new.archives }
+        ensures stands { IsArchiveStore self.new.path self.new.capacity self.new.archives
+            (F.held self.new.folder) }
     {
         self.shown();
         let answer = self.cache.read_aside(path);
@@ -305,10 +372,14 @@ impl<F: Folder> TcCache<F> {
     /// files stay as they are.
     pub fn write_aside(&mut self, path: &str, bytes: &[u8]) -> std::result::Result<(), FolderFault>
         requires { IsOutside self.old.path path.now }
-        ensures writes { Changes Never (put path.now bytes.now) (PartWritten path.now bytes.now) result (F.held self.old.folder) (F.held self.new.folder) }
-        ensures at { (self.new.path ≡ self.old.path) × (self.new.capacity ≡ self.old.capacity) × (self.new.archives ≡ self.old.archives) }
-        ensures in_step { IsInStep self.old.path (F.held self.old.folder) self.old.archives → IsInStep self.new.path (F.held self.new.folder) self.new.archives }
-        ensures stands { IsArchiveStore self.new.path self.new.capacity self.new.archives (F.held self.new.folder) }
+        ensures writes { Changes Never (put path.now bytes.now) (PartWritten path.now bytes.now) result
+            (F.held self.old.folder) (F.held self.new.folder) }
+        ensures at { (self.new.path ≡ self.old.path) × (self.new.capacity ≡ self.old.capacity)
+            × (self.new.archives ≡ self.old.archives) }
+        ensures in_step { IsInStep self.old.path (F.held self.old.folder) self.old.archives
+            → IsInStep self.new.path (F.held self.new.folder) self.new.archives }
+        ensures stands { IsArchiveStore self.new.path self.new.capacity self.new.archives
+            (F.held self.new.folder) }
     {
         self.shown();
         let answer = self.cache.write_aside(path, bytes);
@@ -321,10 +392,14 @@ impl<F: Folder> TcCache<F> {
     pub fn rename_aside(&mut self, from: &str, to: &str) -> std::result::Result<(), FolderFault>
         requires from { IsOutside self.old.path from.now }
         requires to { IsOutside self.old.path to.now }
-        ensures renames { Changes (Lacks from.now) (moved from.now to.now) (DoneOrNot (moved from.now to.now)) result (F.held self.old.folder) (F.held self.new.folder) }
-        ensures at { (self.new.path ≡ self.old.path) × (self.new.capacity ≡ self.old.capacity) × (self.new.archives ≡ self.old.archives) }
-        ensures in_step { IsInStep self.old.path (F.held self.old.folder) self.old.archives → IsInStep self.new.path (F.held self.new.folder) self.new.archives }
-        ensures stands { IsArchiveStore self.new.path self.new.capacity self.new.archives (F.held self.new.folder) }
+        ensures renames { Changes (Lacks from.now) (moved from.now to.now) (DoneOrNot (moved from.now to.now))
+            result (F.held self.old.folder) (F.held self.new.folder) }
+        ensures at { (self.new.path ≡ self.old.path) × (self.new.capacity ≡ self.old.capacity)
+            × (self.new.archives ≡ self.old.archives) }
+        ensures in_step { IsInStep self.old.path (F.held self.old.folder) self.old.archives
+            → IsInStep self.new.path (F.held self.new.folder) self.new.archives }
+        ensures stands { IsArchiveStore self.new.path self.new.capacity self.new.archives
+            (F.held self.new.folder) }
     {
         self.shown();
         let answer = self.cache.rename_aside(from, to);
@@ -335,16 +410,24 @@ impl<F: Folder> TcCache<F> {
     // Stores bytes whose SHA-256 is the id of the toolchain.
     fn insert_verified(&mut self, tc: &Toolchain, bytes: &[u8]) -> Result<()>
         requires { id_of bytes.now ≡ tc.now }
-        ensures ok { OnOk result (self.new.archives ≡ with_archive self.old.capacity tc.now (length bytes.now) self.old.archives) }
+        ensures ok { OnOk result (self.new.archives ≡ with_archive self.old.capacity tc.now
+            (length bytes.now) self.old.archives) }
         ensures admits { OnOk result (archive_verdict self.old.capacity tc.now bytes.now ≡ Ok tt) }
-        ensures content { OnOk result (Holds (F.held self.new.folder) (λ files. file_at files (archive_path self.old.path tc.now) ≡ Some bytes.now)) }
-        ensures fails { IfErr result (λ e. StoreFails self.old.capacity tc.now bytes.now e self.old.archives self.new.archives (F.held self.old.folder) (F.held self.new.folder)) }
-        ensures in_step { IsInStep self.old.path (F.held self.old.folder) self.old.archives → OnOk result (IsInStep self.new.path (F.held self.new.folder) self.new.archives) }
+        ensures content { OnOk result
+            (Holds (F.held self.new.folder)
+            (λ files. file_at files (archive_path self.old.path tc.now) ≡ Some bytes.now)) }
+        ensures fails { IfErr result
+            (λ e. StoreFails self.old.capacity tc.now bytes.now e self.old.archives self.new.archives
+            (F.held self.old.folder) (F.held self.new.folder)) }
+        ensures in_step { IsInStep self.old.path (F.held self.old.folder) self.old.archives
+            → OnOk result (IsInStep self.new.path (F.held self.new.folder) self.new.archives) }
         ensures at { (self.new.path ≡ self.old.path) × (self.new.capacity ≡ self.old.capacity) }
-        ensures others { Became (ButUnder (front self.old.path)) (F.held self.old.folder).files (F.held self.new.folder).files }
+        ensures others { Became (ButUnder (front self.old.path)) (F.held self.old.folder).files
+            (F.held self.new.folder).files }
         ensures steady { OnOk result ((F.held self.new.folder).faults ≡ (F.held self.old.folder).faults) }
         ensures later { (F.held self.old.folder).faults ≤ (F.held self.new.folder).faults }
-        ensures stands { IsArchiveStore self.new.path self.new.capacity self.new.archives (F.held self.new.folder) }
+        ensures stands { IsArchiveStore self.new.path self.new.capacity self.new.archives
+            (F.held self.new.folder) }
     {
         self.shown();
         if !self.cache.can_store(bytes.len() as u64) {
@@ -360,7 +443,8 @@ impl<F: Folder> TcCache<F> {
 
     // What holds of the cache, whatever failed so far.
     fn shown(&self)
-        ensures stands { IsArchiveStore self.now.path self.now.capacity self.now.archives (F.held self.now.folder) }
+        ensures stands { IsArchiveStore self.now.path self.now.capacity self.now.archives
+            (F.held self.now.folder) }
     {
         let _len = self.cache.len();
         let _sum = self.cache.size();
@@ -368,14 +452,23 @@ impl<F: Folder> TcCache<F> {
 
     // A cache of archives over one whose keys are all theirs, as they are where files are told.
     fn over(alloc: Global, cache: LruDiskCache<F>) -> std::result::Result<Self, (Error, F)>
-        requires hold { Holds (F.held cache.folder) (λ files. AllHold cache.disk.root files cache.disk.entries) }
+        requires hold { Holds (F.held cache.folder)
+            (λ files. AllHold cache.disk.root files cache.disk.entries) }
         requires none { cache.disk.pending ≡ [] }
         requires root { cache.disk.root ≡ front cache.disk.path }
-        ensures ok { IfOk result (λ t. t ≡ record { path = cache.disk.path; capacity = cache.disk.capacity; archives = unkeyed cache.disk.entries; folder = cache.folder }) }
+        ensures ok { IfOk result
+            (λ t. t ≡ record {
+              path = cache.disk.path;
+              capacity = cache.disk.capacity;
+              archives = unkeyed cache.disk.entries;
+              folder = cache.folder;
+            }) }
         ensures keys { OnOk result (are_archive_keys cache.disk.entries ≡ true) }
         ensures stands { IfOk result (λ t. IsArchiveStore t.path t.capacity t.archives (F.held t.folder)) }
         ensures folder { IfErr result (λ e. e.1 ≡ cache.folder) }
-        ensures why { IfErr result (λ e. (e.0 ≡ Error.Memory) ⊎ ((e.0 ≡ Error.Io FolderFault.Missing) × (are_archive_keys cache.disk.entries ≡ false))) }
+        ensures why { IfErr result
+            (λ e. (e.0 ≡ Error.Memory)
+            ⊎ ((e.0 ≡ Error.Io FolderFault.Missing) × (are_archive_keys cache.disk.entries ≡ false))) }
     {
         let Ok(all) = are_archive_keys(alloc, cache.entries()) else {
             return Err((Error::Memory, cache.into_folder()));

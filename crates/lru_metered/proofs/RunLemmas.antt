@@ -1,7 +1,8 @@
 -- What runs of an iterator give that is seen as the list of what it has left.
 use Rattle.std.proofs.Common.{List, [], ◌∷◌, length, Option, Some, None, ap, arith, length-append}
 use Rattle.std.specs.Iterator.{MakesProgress, at_most}
-use Rattle.std.specs.Map.Iter.{TakesFirst, TakesLast, ShowsInOrder, ShowsInReverse, GivesInOrder, GivesInReverse}
+use Rattle.std.specs.Map.Iter.{TakesFirst, TakesLast, ShowsInOrder, ShowsInReverse, GivesInOrder}
+use Rattle.std.specs.Map.Iter.{GivesInReverse}
 use Rattle.std.proofs.iter.runs.Sources.{from_front, from_back, as_is, as_is_back}
 
 module _ {A X : Type 0} (shows : A → X) where
@@ -20,10 +21,21 @@ module _ {X : Type 0} where
 
 -- each call leaves fewer
 module _ {A X : Type 0} (shows : A → X) (s t : List X) where
-  pub first_progress : (r : Option A) → TakesFirst shows s r t → MakesProgress (λ _. Unit {0}) (λ l. at_most (length l)) s r t
+  pub first_progress : (r : Option A) → TakesFirst shows s r t → MakesProgress (λ _. Unit {0})
+      (λ l. at_most (length l)) s r t
   first_progress None h = record { on = λ _. tt; keeps = tt; rests = λ _. tt }
-  first_progress (Some x) h = record { on = λ _. (tt, tt, omega (arith, ap length h)); keeps = tt; rests = λ _. tt }
+  first_progress (Some x) h = record {
+    on = λ _. (tt, tt, omega (arith, ap length h));
+    keeps = tt;
+    rests = λ _. tt;
+  }
 
-  pub last_progress : (r : Option A) → TakesLast shows s r t → MakesProgress (λ _. Unit {0}) (λ l. at_most (length l)) s r t
+  pub last_progress : (r : Option A) → TakesLast shows s r t → MakesProgress (λ _. Unit {0})
+      (λ l. at_most (length l)) s r t
   last_progress None h = record { on = λ _. tt; keeps = tt; rests = λ _. tt }
-  last_progress (Some x) h = record { on = λ _. (tt, tt, omega (arith, ap length h, length-append t (shows x ∷ []))); keeps = tt; rests = λ _. tt }
+  last_progress (Some x) h =
+      record {
+        on = λ _. (tt, tt, omega (arith, ap length h, length-append t (shows x ∷ [])));
+        keeps = tt;
+        rests = λ _. tt;
+      }

@@ -1,5 +1,6 @@
 -- What a contract sees of a chain, and how its nodes are linked.
-use Rattle.std.specs.Prelude.{◌≡◌, ◌≢◌, ℕ, zero, suc, List, [], ◌∷◌, map, Option, Some, None, if◌then◌else◌, nat_eq}
+use Rattle.std.specs.Prelude.{◌≡◌, ◌≢◌, ℕ, zero, suc, List, [], ◌∷◌, map, Option, Some, None, if◌then◌else◌}
+use Rattle.std.specs.Prelude.{nat_eq}
 use Rattle.std.specs.Option.{option_map, option_map_or}
 use Rattle.slab.specs.Slab.{Slab, get}
 use Rattle.lru_metered.specs.declared.chain.Node.{Node}
@@ -76,7 +77,8 @@ pub record IsChain (at : ℕ → Option Ends) (first last : Option ℕ) (order :
   pub starts : first ≡ first_or order None
   pub ends : last ≡ last_or None order
 
--- the neighbours of the node at the key, if there is one, became what the function makes of them, and no other's changed
+-- the neighbours of the node at the key, if there is one, became what the function makes of them, and no
+-- other's changed
 pub record Changes (old new : ℕ → Option Ends) (key : Option ℕ) (change : Ends → Ends) : Type 0 where
   pub there : (x : ℕ) → key ≡ Some x → new x ≡ option_map change (old x)
   pub others : (x : ℕ) → key ≢ Some x → new x ≡ old x
@@ -94,4 +96,5 @@ with_next next e = (e.0, next)
 -- the neighbours of a node that is out, where there are such, name each other
 abbrev pub Joins : (ℕ → Option Ends) → (ℕ → Option Ends) → Ends → Type 0
 Joins old new ends =
-    (mid : ℕ → Option Ends) × Changes old mid ends.0 (with_next ends.1) × Changes mid new ends.1 (with_previous ends.0)
+    (mid : ℕ → Option Ends) × Changes old mid ends.0 (with_next ends.1)
+    × Changes mid new ends.1 (with_previous ends.0)

@@ -1,5 +1,7 @@
 -- The buckets by which a table finds a key: which entries each lists, and in which order.
-use Rattle.std.specs.Prelude.{◌≡◌, ℕ, ◌-◌, ◌↔◌, Bool, true, List, [], ◌∷◌, length, Option, Some, None, slice_index_or, bit_and, fold, MatchOption, IsSomeAnd, Contains, if◌then◌else◌, nat_eq, nat_lt}
+use Rattle.std.specs.Prelude.{◌≡◌, ℕ, ◌-◌, ◌↔◌, Bool, true, List, [], ◌∷◌, length, Option, Some, None}
+use Rattle.std.specs.Prelude.{slice_index_or, bit_and, fold, MatchOption, IsSomeAnd, Contains, if◌then◌else◌}
+use Rattle.std.specs.Prelude.{nat_eq, nat_lt}
 use Rattle.std.specs.Hash.{HashWrites}
 use Rattle.std.specs.Option.{option_map}
 use Rattle.std.specs.declared.hash.Hasher as hasher
@@ -54,7 +56,8 @@ pub record Lists (next : ℕ → Option (Option ℕ)) (head : Option ℕ) (list 
   pub apart : Apart list
 
 -- each bucket lists exactly the entries that belong there
-pub record IsBucketed (next : ℕ → Option (Option ℕ)) (home : ℕ → Option ℕ) (heads : List (Option ℕ)) : Type 0 where
+pub record IsBucketed (next : ℕ → Option (Option ℕ)) (home : ℕ → Option ℕ)
+    (heads : List (Option ℕ)) : Type 0 where
   pub lists : ℕ → List ℕ
   pub runs : (b : ℕ) → Lists next (slice_index_or heads b None) (lists b)
   pub members : (b x : ℕ) → Contains (lists b) x ↔ (home x ≡ Some b)
@@ -75,4 +78,5 @@ below bound home x = if nat_lt x bound then home x else None
 -- in the bucket that begins at the head the previous entry names this one, or with none the head does
 abbrev pub Leads : (ℕ → Option (Option ℕ)) → Option ℕ → Option ℕ → Option ℕ → Type 0
 Leads next head previous at =
-    (list : List ℕ) → Lists next head list → MatchOption previous (head ≡ at) (λ p. Contains list p × (next p ≡ Some at))
+    (list : List ℕ) → Lists next head list → MatchOption previous (head ≡ at)
+    (λ p. Contains list p × (next p ≡ Some at))

@@ -1,5 +1,6 @@
 -- The pairs of a table in their order, and what holds of every table.
-use Rattle.std.specs.Prelude.{◌≡◌, ◌≢◌, ℕ, ◌-◌, ◌<◌, ◌≤◌, ◌↔◌, Bool, true, List, [], ◌∷◌, ◌++◌, length, take, drop, Option, Some, None, IsSome, slice_get, filter_map, Contains}
+use Rattle.std.specs.Prelude.{◌≡◌, ◌≢◌, ℕ, ◌-◌, ◌<◌, ◌≤◌, ◌↔◌, Bool, true, List, [], ◌∷◌, ◌++◌, length, take}
+use Rattle.std.specs.Prelude.{drop, Option, Some, None, IsSome, slice_get, filter_map, Contains}
 use Rattle.slab.specs.Slab.{slab_len}
 use Rattle.lru_metered.specs.declared.index.Entry.{Entry}
 use Rattle.lru_metered.specs.Chain.{Chained, Apart, without}
@@ -30,7 +31,8 @@ module _ {K V : Type 0} where
     pub nexts_kept : (x : ℕ) → nexts new.items x ≡ nexts old.items x
 
   -- there is one entry more, with this pair: the last, and the first of its bucket
-  pub record Pushed (old new : Chained (Entry K V)) (heads heads' : List (Option ℕ)) (bucket : ℕ) (pair : K × V) : Type 0 where
+  pub record Pushed (old new : Chained (Entry K V)) (heads heads' : List (Option ℕ)) (bucket : ℕ)
+      (pair : K × V) : Type 0 where
     pub at : ℕ
     pub full : IsFull new
     pub order : new.order ≡ old.order ++ at ∷ []
@@ -45,7 +47,8 @@ module _ {K V : Type 0} where
   Differ eq pairs = (x y : ℕ) (p q : K × V) → pairs x ≡ Some p → pairs y ≡ Some q → eq p.0 q.0 ≡ true → x ≡ y
 
   -- what holds of every table: of its entries, by the hash of each key, and of the heads of its buckets
-  pub record IsTable (eq : K → K → Bool) (hash : K → ℕ) (c : Chained (Entry K V)) (heads : List (Option ℕ)) : Type 0 where
+  pub record IsTable (eq : K → K → Bool) (hash : K → ℕ) (c : Chained (Entry K V))
+      (heads : List (Option ℕ)) : Type 0 where
     pub full : IsFull c
     pub differ : Differ eq (pairs_at c.items)
     pub indexed : IsIndexed hash c.items heads

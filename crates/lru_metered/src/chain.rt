@@ -1,8 +1,11 @@
 //! `Chain`: items in a slab, some of them in a list that is linked through their keys.
-ghost use Rattle.std.specs.Prelude.{◌≡◌, ◌+◌, ◌≤◌, [], ◌∷◌, ◌++◌, Some, None, drop, slice_get, IfErr, IfOk, IfSome, IsSome, IsOk, List, ℕ, OnErr, OnOk, option_copied, is_some, true, false, ◌≢◌, if◌then◌else◌, Contains};
+ghost use Rattle.std.specs.Prelude.{◌≡◌, ◌+◌, ◌≤◌, [], ◌∷◌, ◌++◌, Some, None, drop, slice_get, IfErr, IfOk};
+ghost use Rattle.std.specs.Prelude.{IfSome, IsSome, IsOk, List, ℕ, OnErr, OnOk, option_copied, is_some, true};
+ghost use Rattle.std.specs.Prelude.{false, ◌≢◌, if◌then◌else◌, Contains};
 ghost use Rattle.std.specs.Borrow.{sem};
 ghost use Rattle.slab.specs.Slab.{get, ContainsKey, HasRoomFor, Updates, slab_len};
-ghost use Rattle.lru_metered.specs.Chain.{Changes, links, items_of, with_ends, with_previous, with_next, without, Joins, first_or, last_or};
+ghost use Rattle.lru_metered.specs.Chain.{Changes, links, items_of, with_ends, with_previous, with_next};
+ghost use Rattle.lru_metered.specs.Chain.{without, Joins, first_or, last_or};
 
 use crate::steps::Steps;
 use slab::Slab;
@@ -121,9 +124,14 @@ impl<T> Model for Chain<T> {
 
     ghost Value = { Chained T };
 
-    ghost view = { λ c. record { items = items_of c.nodes; order = walk (links c.nodes) (length c.nodes.slots) c.first } };
+    ghost view = { λ c. record {
+      items = items_of c.nodes;
+      order = walk (links c.nodes)
+          (length c.nodes.slots) c.first;
+    } };
 
-    ghost invariant = { λ c. IsChain (links c.nodes) c.first c.last (walk (links c.nodes) (length c.nodes.slots) c.first) };
+    ghost invariant = { λ c. IsChain (links c.nodes) c.first c.last
+        (walk (links c.nodes) (length c.nodes.slots) c.first) };
 }
 
 impl<T> Chain<T> {
@@ -353,7 +361,8 @@ impl<T> Chain<T> {
     }
 }
 
-// The key at an end of the list, once a node whose neighbours these are is out: the one within, where it had none without.
+// The key at an end of the list, once a node whose neighbours these are is out: the one within, where it had
+// none without.
 fn outer(end: Option<usize>, without: Option<usize>, within: Option<usize>) -> Option<usize>
     ensures { result ≡ (if is_some without then end else within) }
 {

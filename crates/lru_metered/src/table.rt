@@ -1,6 +1,6 @@
 //! `Table`: the pairs of a cache, each found by its key, least recent first.
 ghost use Rattle.std.specs.Prelude.{◌≡◌, ◌-◌, ◌<◌, [], ◌∷◌, ◌++◌, None, length, drop, slice_get, is_some};
-ghost use Rattle.std.specs.Prelude.{IfNone, IfOk, IfErr, OnOk, OnErr};
+ghost use Rattle.std.specs.Prelude.{IfNone, IfSome, IfOk, IfErr, OnOk, OnErr};
 ghost use Rattle.std.specs.Borrow.{sem};
 ghost use Rattle.std.specs.List.{IsDistinct};
 ghost use Rattle.std.specs.Map.{lookup, lookup_key, remove_entry, keys_of, values_of};
@@ -64,7 +64,9 @@ impl<K: Eq + Hash, V, S: BuildHasher> Model for Table<K, V, S> {
 
     ghost view = { λ t. pairs_of t.nodes };
 
-    ghost invariant = { λ t. IsTable K.eq (λ k. hash_of S.BuildHasher S.Hasher.Hasher t.hasher (K.hash_input k)) t.nodes t.heads.items };
+    ghost invariant = { λ t.
+        IsTable K.eq (λ k. hash_of S.BuildHasher S.Hasher.Hasher t.hasher (K.hash_input k)) t.nodes
+        t.heads.items };
 }
 
 impl<K: Eq + Hash, V, S: BuildHasher> Table<K, V, S> {
@@ -212,6 +214,25 @@ impl<K: Eq + Hash, V, S: BuildHasher> Table<K, V, S> {
         let found = find(&self.nodes, self.heads.as_slice(), &self.hasher, key).unwrap();
         unhook(&mut self.nodes, self.heads.as_mut_slice(), found);
         Some(take_out(&mut self.nodes, found.at))
+    }
+
+    /// The first pair.
+    pub(crate) fn first_pair(&self) -> Option<(&K, &V)>
+        ensures none { IfNone result (self.now ≡ []) }
+        ensures some { IfSome result (λ p. self.now ≡ (p.0.now, p.1.now) ∷ drop 1 self.now) }
+    {
+        let mut pairs = self.iter();
+        pairs.next()
+    }
+
+    /// Drops the first pair.
+    pub(crate) fn drop_first(&mut self)
+    where
+        K: Drop,
+        V: Drop,
+        ensures { self.new ≡ drop 1 self.old }
+    {
+        let _pair = self.pop_first();
     }
 
     /// Takes out all pairs.

@@ -1,4 +1,5 @@
-//! Tests of the metered cache: worked orders, meters of one's own, and each call beside a plain table of pairs.
+//! Tests of the metered cache: worked orders, meters of one's own, and each call beside a plain table of
+//! pairs.
 #![tactic(auto)]
 
 #[cfg(test)]

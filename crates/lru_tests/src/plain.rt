@@ -42,7 +42,8 @@ enum Answer {
     Overflow(u64, u64),
 }
 
-// The step that a word of the generator stands for. One value in sixteen is so large that two of them and one more overflow.
+// The step that a word of the generator stands for. One value in sixteen is so large that two of them and one
+// more overflow.
 fn step_of(word: u64) -> Step {
     let key = word >> 8 & 7;
     let value = if word >> 16 & 15 == 0 {
@@ -154,7 +155,8 @@ impl Plain {
         }
     }
 
-    /// The sum of the measures of the pairs whose key is another, and a start, where it is no more than 2^64-1.
+    /// The sum of the measures of the pairs whose key is another, and a start, where it is no more than
+    /// 2^64-1.
     fn sum_of_others(&self, key: Option<u64>, start: u64) -> Option<u64> {
         let mut sum = start;
         for place in 0..self.table.len() {

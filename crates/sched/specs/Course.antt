@@ -52,17 +52,20 @@ entries_of (asked r heard spending) = 1 + spending_entries spending
 abbrev pub FailsWith : List ℕ → Result AllocJobResult SchedFault → Type 0
 FailsWith text answer = (answer ≡ Ok (Fail text)) ⊎ (answer ≡ Err Memory)
 
--- the fault of a job that its server did not take: the requester's own, but that want of memory is told as such
+-- the fault of a job that its server did not take: the requester's own, but that want of memory is told as
+-- such
 abbrev pub fault_after : Undone → CallFault → SchedFault
 fault_after u call.Memory = Memory
 fault_after u cause = AssignFailed u cause
 
 -- what the reservation's spending answers, by what its server answered
-abbrev pub Settles : Ticket → Result AssignJobResult CallFault → Spending → Result AllocJobResult SchedFault → Type 0
+abbrev pub Settles : Ticket → Result AssignJobResult CallFault → Spending → Result AllocJobResult SchedFault
+    → Type 0
 Settles r (Ok x) kept answer = (begins x.state ≡ true) × (answer ≡ Ok (Success (alloc_of r) x.need_toolchain))
 Settles r (Ok x) dropped answer = (begins x.state ≡ true) × FailsWith (dropped_text r.job) answer
 Settles r (Ok x) foreign answer = (begins x.state ≡ true) × FailsWith (dropped_text r.job) answer
-Settles r (Ok x) (undone u) answer = (begins x.state ≡ false) × (answer ≡ Err (AssignFailed u (call.BadState x.state)))
+Settles r (Ok x) (undone u) answer = (begins x.state ≡ false)
+    × (answer ≡ Err (AssignFailed u (call.BadState x.state)))
 Settles r (Err fault) (undone u) answer = answer ≡ Err (fault_after u fault)
 Settles r (Err fault) kept answer = ⊥
 Settles r (Err fault) dropped answer = ⊥
@@ -90,15 +93,18 @@ Reads (full standing) old new = IsRead old new
 Reads (asked r heard spending) old new = IsReadTwice old new
 
 -- an allocation: its course, and what the pass, the clock, the requester and the caller are told of it
-pub record IsAllocation (says : Assigned → Asked → Type 0) (tc : List ℕ) (old new : Told) (clock ticked : Moments) (before after : Requests) (answer : Result AllocJobResult SchedFault) : Type 0 where
-  pub course : Course
-  pub counted : Counted (entries_of course) old new
-  pub read : Reads course clock ticked
-  pub asks : Asks says course tc before after
-  pub told : Tells course answer
+pub record IsAllocation (says : Assigned → Asked → Type 0) (tc : List ℕ) (old new : Told)
+    (clock ticked : Moments) (before after : Requests) (answer : Result AllocJobResult SchedFault) : Type 0
+  where
+    pub course : Course
+    pub counted : Counted (entries_of course) old new
+    pub read : Reads course clock ticked
+    pub asks : Asks says course tc before after
+    pub told : Tells course answer
 
 -- its second half: the reservation was spent
-pub record IsSettled (r : Ticket) (heard : Result AssignJobResult CallFault) (old new : Told) (clock ticked : Moments) (answer : Result AllocJobResult SchedFault) : Type 0 where
+pub record IsSettled (r : Ticket) (heard : Result AssignJobResult CallFault) (old new : Told)
+    (clock ticked : Moments) (answer : Result AllocJobResult SchedFault) : Type 0 where
   pub spending : Spending
   pub counted : Counted (spending_entries spending) old new
   pub read : IsRead clock ticked

@@ -31,14 +31,17 @@ abbrev pub one_entry : {X : Type 0} → Result X SchedFault → ℕ
 one_entry (Ok x) = 1
 one_entry (Err fault) = fault_entries fault
 
--- a heartbeat is refused for its number of processors, exactly where that is 0 or over 4294967295, or for want of memory
-pub record IsHeard (server : Addr) (nonce cpus : ℕ) (key : List ℕ) (old new : Told) (clock ticked : Moments) (answer : Result HeartbeatServerResult SchedFault) : Type 0 where
+-- a heartbeat is refused for its number of processors, exactly where that is 0 or over 4294967295, or for
+-- want of memory
+pub record IsHeard (server : Addr) (nonce cpus : ℕ) (key : List ℕ) (old new : Told) (clock ticked : Moments)
+    (answer : Result HeartbeatServerResult SchedFault) : Type 0 where
   pub counted : Counted (one_entry answer) old new
   pub read : IsRead clock ticked
   pub bad_cpus : (answer ≡ Err (Core (error.BadCpus cpus))) ↔ ((cpus ≡ 0) ⊎ (4294967295 < cpus))
   pub refused : IfErr answer (λ e. (e ≡ Core (error.BadCpus cpus)) ⊎ (e ≡ Memory))
 
--- how an update to a state may be refused: a bad transition is to the given state, which does not follow the other
+-- how an update to a state may be refused: a bad transition is to the given state, which does not follow the
+-- other
 abbrev pub RefusesUpdate : JobState → SchedFault → Type 0
 RefusesUpdate state (Core error.UnknownJob) = Unit {0}
 RefusesUpdate state (Core error.WrongServer) = Unit {0}
@@ -56,13 +59,15 @@ abbrev pub AnswersUpdate : JobState → Result UpdateJobStateResult SchedError �
 AnswersUpdate state (Ok x) = x ≡ Success
 AnswersUpdate state (Err e) = RefusesUpdate state (fault_of e)
 
-pub record IsUpdated (job : JobId) (server : Addr) (state : JobState) (old new : Told) (clock ticked : Moments) (answer : Result UpdateJobStateResult SchedFault) : Type 0 where
+pub record IsUpdated (job : JobId) (server : Addr) (state : JobState) (old new : Told)
+    (clock ticked : Moments) (answer : Result UpdateJobStateResult SchedFault) : Type 0 where
   pub counted : Counted (one_entry answer) old new
   pub read : IsRead clock ticked
   pub told : TellsUpdate state answer
 
 -- a status is refused for want of memory alone
-pub record IsCounted (old new : Told) (clock ticked : Moments) (answer : Result SchedulerStatusResult SchedFault) : Type 0 where
+pub record IsCounted (old new : Told) (clock ticked : Moments)
+    (answer : Result SchedulerStatusResult SchedFault) : Type 0 where
   pub counted : Counted (one_entry answer) old new
   pub read : IsRead clock ticked
   pub refused : IfErr answer (λ e. e ≡ Memory)

@@ -2,7 +2,8 @@
 use Rattle.std.specs.Prelude.{◌≡◌, ◌<◌, ℕ, ◌+◌, min, Result, IfOk}
 use Rattle.dist_types.specs.declared.fault.Memory as fault
 
--- how many core entries the calls made to which it was given, and how many passes it holds, each of at most 2^64 - 1
+-- how many core entries the calls made to which it was given, and how many passes it holds, each of at most
+-- 2^64 - 1
 pub record Told : Type 0 where
   pub count : ℕ
   pub held : ℕ

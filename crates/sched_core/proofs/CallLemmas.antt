@@ -14,26 +14,41 @@ use Rattle.sched_core.specs.Rule.{rule, IsCall, is_among}
 use Rattle.sched_core.specs.Calls.{number_of, call_of}
 use Rattle.sched_core.specs.Laws.{IsLegal}
 use Rattle.sched_core.proofs.LegalLemmas.{core_of}
-use Rattle.sched_core.proofs.AllLemmas.{same_job-sym, same_job-trans, all-weaker, any-weaker, found, distinct-filter, own_only}
+use Rattle.sched_core.proofs.AllLemmas.{same_job-sym, same_job-trans, all-weaker, any-weaker, found}
+use Rattle.sched_core.proofs.AllLemmas.{distinct-filter, own_only}
 use Rattle.sched_core.proofs.SortLemmas.{found_first}
 use Rattle.sched_core.proofs.SoundLemmas.{legal_distinct}
 
 -- the unspent reservation of a job has the number that is known of one
-number_is : (base count : ℕ) (log : List CoreEntry) (number : ℕ) (job : JobId) → count < 2 ^ 64 → IsLegal base count log → is_among (unspent log) number job ≡ true → number_of log job ≡ Some number
+number_is : (base count : ℕ) (log : List CoreEntry) (number : ℕ) (job : JobId) → count < 2 ^ 64
+    → IsLegal base count log → is_among (unspent log) number job ≡ true → number_of log job ≡ Some number
 number_is base count log number job fits legal among =
     let it : Booking → Bool = λ b. (b.number == number) && same_job b.job job in
-    let one = found (λ x. AllByRecursion (λ y. same_job y.job x.job ≡ true → y ≡ x) (unspent log)) it (unspent log) (own_only (λ b. b.job) (unspent log) (distinct-filter (λ b. b.job) is_unspent (bookings log) (legal_distinct base count log fits legal))) among in
+    let one = found (λ x. AllByRecursion (λ y. same_job y.job x.job ≡ true → y ≡ x) (unspent log)) it
+    (unspent log) (own_only (λ b. b.job) (unspent log)
+    (distinct-filter (λ b. b.job) is_unspent (bookings log) (legal_distinct base count log fits legal)))
+    among in
     let parts = and_parts (one.0.number == number) (same_job one.0.job job) one.2 in
-    let all : AllByRecursion (λ b. same_job b.job job ≡ true → b.number ≡ number) (unspent log) = all-weaker (λ y. same_job y.job one.0.job ≡ true → y ≡ one.0) (λ b. same_job b.job job ≡ true → b.number ≡ number)
-    (λ y only same. ap (λ (z : Booking). z.number) (only (same_job-trans y.job job one.0.job same (same_job-sym one.0.job job parts.1))) ∙ eqb-true one.0.number number parts.0) (unspent log) one.1 in
-    let some : list_any (λ b. same_job b.job job) (unspent log) ≡ true = any-weaker it (λ b. same_job b.job job) (λ b t. (and_parts (b.number == number) (same_job b.job job) t).1) (unspent log) among in
-    let first = found_first (λ b. same_job b.job job ≡ true → b.number ≡ number) (λ b. same_job b.job job) (unspent log) all some in
+    let all : AllByRecursion (λ b. same_job b.job job ≡ true → b.number ≡ number) (unspent log) =
+    all-weaker (λ y. same_job y.job one.0.job ≡ true → y ≡ one.0) (λ b. same_job b.job job ≡ true
+    → b.number ≡ number)
+    (λ y only same. ap (λ (z : Booking). z.number)
+    (only (same_job-trans y.job job one.0.job same (same_job-sym one.0.job job parts.1)))
+    ∙ eqb-true one.0.number number parts.0) (unspent log) one.1 in
+    let some : list_any (λ b. same_job b.job job) (unspent log) ≡ true =
+    any-weaker it (λ b. same_job b.job job)
+    (λ b t. (and_parts (b.number == number) (same_job b.job job) t).1) (unspent log) among in
+    let first = found_first (λ b. same_job b.job job ≡ true → b.number ≡ number) (λ b. same_job b.job job)
+    (unspent log) all some in
     ap (option_map (λ (b : Booking). b.number)) first.1 ∙ ap (λ n. Some n) (first.2 first.3)
 
-pub call_told : (base count : ℕ) (log : List CoreEntry) (c : Call) → count < 2 ^ 64 → IsLegal base count log → IsCall (core_of base count log) c → call_of log (rule (core_of base count log) c) ≡ Some c
+pub call_told : (base count : ℕ) (log : List CoreEntry) (c : Call) → count < 2 ^ 64 → IsLegal base count log
+    → IsCall (core_of base count log) c → call_of log (rule (core_of base count log) c) ≡ Some c
 call_told base count log (call.Reserve now) fits legal is = refl
-call_told base count log (call.Commit now number job state) fits legal is = ap (option_map (λ n. call.Commit now n job state)) (number_is base count log number job fits legal is.0)
-call_told base count log (call.Undo now number job) fits legal is = ap (option_map (λ n. call.Undo now n job)) (number_is base count log number job fits legal is)
+call_told base count log (call.Commit now number job state) fits legal is =
+    ap (option_map (λ n. call.Commit now n job state)) (number_is base count log number job fits legal is.0)
+call_told base count log (call.Undo now number job) fits legal is = ap (option_map (λ n. call.Undo now n job))
+    (number_is base count log number job fits legal is)
 call_told base count log (call.Beat now server nonce cpus key) fits legal is = refl
 call_told base count log (call.Update now server job state) fits legal is = refl
 call_told base count log (call.Status now) fits legal is = refl

@@ -1,5 +1,6 @@
 -- What one more entry does to the rows of reservations and open jobs.
-use Rattle.std.proofs.Common.{◌≡◌, ℕ, List, [], ◌∷◌, ◌++◌, Bool, true, false, not, ◌&&◌, map, filter, length, Option, Some, None, refl, ap, ◌∙◌, sym, subst, append-nil, eqb-true}
+use Rattle.std.proofs.Common.{◌≡◌, ℕ, List, [], ◌∷◌, ◌++◌, Bool, true, false, not, ◌&&◌, map, filter, length}
+use Rattle.std.proofs.Common.{Option, Some, None, refl, ap, ◌∙◌, sym, subst, append-nil, eqb-true}
 use Rattle.std.specs.Prelude.{◌==◌, option_to_list, option_and_then, unwrap_or}
 use Rattle.std.specs.List.{AllByRecursion, list_any, find}
 use Rattle.std.specs.Option.{option_map}
@@ -10,7 +11,8 @@ use Rattle.dist_types.specs.declared.addr.Addr.{Addr}
 use Rattle.dist_types.specs.declared.ids.JobId.{JobId}
 use Rattle.dist_types.specs.declared.results.JobState.{JobState}
 use Rattle.dist_types.specs.declared.results.JobState.TheVariants.{Pending, Ready, Started, Complete}
-use Rattle.sched_core.proofs.Lists.{map-map, filter-map, filter-filter, list_any-push, cons_nil, map-option, Grows, lasting-push}
+use Rattle.sched_core.proofs.Lists.{map-map, filter-map, filter-filter, list_any-push, cons_nil, map-option}
+use Rattle.sched_core.proofs.Lists.{Grows, lasting-push}
 use Rattle.sched_core.specs.declared.entry.CoreEntry.{CoreEntry}
 use Rattle.sched_core.specs.declared.entry.CoreKind.{CoreKind}
 use Rattle.sched_core.specs.declared.entry.CoreKind.TheVariants.{Beat, Reserve, Commit, Undo, Update, Status}
@@ -22,30 +24,41 @@ use Rattle.sched_core.specs.declared.rows.OpenRow.{OpenRow}
 use Rattle.sched_core.specs.declared.vectors.UnspentRow.{UnspentRow}
 use Rattle.sched_core.specs.Log.{same_job, is_this, names, newer, latest}
 use Rattle.sched_core.specs.Standing.{standing, address_of, key_at}
-use Rattle.sched_core.specs.Reservation.{Booking, booked_by, booked_at, is_unended, unended, unspent, claims_by, is_claimed, spends_by, frees_by}
-use Rattle.sched_core.specs.Job.{Committed, committed_by, committed_at, commits, moves_by, moves_of, state_now, state_of, is_open, open_jobs, place_of}
-use Rattle.sched_core.specs.Rows.{row_of, servers_of, held_of, held_rows, placed, sorted_into, held_by_id, held_part, open_of, open_rows}
+use Rattle.sched_core.specs.Reservation.{Booking, booked_by, booked_at, is_unended, unended, unspent}
+use Rattle.sched_core.specs.Reservation.{claims_by, is_claimed, spends_by, frees_by}
+use Rattle.sched_core.specs.Job.{Committed, committed_by, committed_at, commits, moves_by, moves_of}
+use Rattle.sched_core.specs.Job.{state_now, state_of, is_open, open_jobs, place_of}
+use Rattle.sched_core.specs.Rows.{row_of, servers_of, held_of, held_rows, placed, sorted_into, held_by_id}
+use Rattle.sched_core.specs.Rows.{held_part, open_of, open_rows}
 use Rattle.sched_core.specs.Cuts.{seen}
 use Rattle.sched_core.specs.Rule.{begins, place_at}
-use Rattle.sched_core.specs.Books.{begins_by, state_after, held_stays, held_after, held_by, job_stays, job_after, job_over, job_by, job_placed, open_stays, open_after, open_over, open_by, unspent_stays, unspent_by, place_of_unspent, place_of_booking, IsAtRow}
+use Rattle.sched_core.specs.Books.{begins_by, state_after, held_stays, held_after, held_by, job_stays}
+use Rattle.sched_core.specs.Books.{job_after, job_over, job_by, job_placed, open_stays, open_after, open_over}
+use Rattle.sched_core.specs.Books.{open_by, unspent_stays, unspent_by, place_of_unspent, place_of_booking}
+use Rattle.sched_core.specs.Books.{IsAtRow}
 use Rattle.sched_core.proofs.StandingLemmas.{none-push}
 use Rattle.sched_core.proofs.Lists.{list_any-map, latest-push}
-use Rattle.sched_core.proofs.AllLemmas.{same_job-eq, all-weaker, all-both, all-append, all-filter, all-map, all-unmap, and_right, any-weaker, found}
+use Rattle.sched_core.proofs.AllLemmas.{same_job-eq, all-weaker, all-both, all-append, all-filter, all-map}
+use Rattle.sched_core.proofs.AllLemmas.{all-unmap, and_right, any-weaker, found}
 use Rattle.sched_core.proofs.StepLemmas as step
 use Rattle.sched_core.proofs.FactLemmas.{Facts}
 use Rattle.sched_core.proofs.HeldLemmas.{Sound, IsHeldAt, is_this-eq}
 use Rattle.sched_core.proofs.LegalLemmas.{core_of}
 use Rattle.sched_core.proofs.GrowLemmas.{newest-grown, and_true, map-agree, map-all_agree}
-use Rattle.sched_core.proofs.SortLemmas.{sorted-push, map-placed, sorted-map, sorted-filter, all-placed, sorted-all, sorted-any, found_first}
+use Rattle.sched_core.proofs.SortLemmas.{sorted-push, map-placed, sorted-map, sorted-filter, all-placed}
+use Rattle.sched_core.proofs.SortLemmas.{sorted-all, sorted-any, found_first}
 use Rattle.sched_core.proofs.PlaceLemmas.{address-stays, place-stays, place-new, cards_are}
 
 -- the state of a commit, with one more entry
-state_now-grown : (e : CoreEntry) (c : Committed) → state_now (step.grown_commit e c) ≡ unwrap_or (moves_by e.kind c.job) (state_now c)
+state_now-grown : (e : CoreEntry) (c : Committed) → state_now (step.grown_commit e c) ≡ unwrap_or
+    (moves_by e.kind c.job) (state_now c)
 state_now-grown e c =
-    ap (latest c.state) (filter_map-append (λ d. moves_by d.kind c.job) c.later (e ∷ []) ∙ ap (λ ss. moves_of c ++ ss) (cons_nil (moves_by e.kind c.job)))
+    ap (latest c.state) (filter_map-append (λ d. moves_by d.kind c.job) c.later (e ∷ [])
+    ∙ ap (λ ss. moves_of c ++ ss) (cons_nil (moves_by e.kind c.job)))
     ∙ latest-push c.state (moves_of c) (moves_by e.kind c.job)
 
-begun_by : (k : CoreKind) (job : JobId) (later : List CoreEntry) → option_and_then (seen (λ c. same_job c.job job) state_now) (committed_by k later []) ≡ begins_by k job
+begun_by : (k : CoreKind) (job : JobId) (later : List CoreEntry)
+    → option_and_then (seen (λ c. same_job c.job job) state_now) (committed_by k later []) ≡ begins_by k job
 begun_by (Beat server nonce cpus key pruned reaped replaced is_new) job later = refl
 begun_by (Reserve r) job later = refl
 begun_by (Commit j state true) job later = refl
@@ -55,19 +68,38 @@ begun_by (Update server j state answer) job later = refl
 begun_by (Status pruned servers cpus jobs) job later = refl
 
 -- the state of a job, with one more entry
-pub state_of-push : (job : JobId) (later : List CoreEntry) (e : CoreEntry) → state_of job (later ++ e ∷ []) ≡ state_after e.kind job (state_of job later)
+pub state_of-push : (job : JobId) (later : List CoreEntry) (e : CoreEntry)
+    → state_of job (later ++ e ∷ []) ≡ state_after e.kind job (state_of job later)
 state_of-push job later e =
-    newest-grown committed_at step.grown_commit (λ c. same_job c.job job) state_now true (λ s. unwrap_or (moves_by e.kind job) s) later e
+    newest-grown committed_at step.grown_commit (λ c. same_job c.job job) state_now true
+    (λ s. unwrap_or (moves_by e.kind job) s) later e
     (λ c. step.committed-grown c.at.kind c.before c.after e) (λ c. and_true (same_job c.job job))
-    (λ c h. state_now-grown e c ∙ ap (λ j. unwrap_or (moves_by e.kind j) (state_now c)) (same_job-eq c.job job h))
-    ∙ ap (λ o. newer o (option_map (λ s. unwrap_or (moves_by e.kind job) s) (state_of job later))) (begun_by e.kind job later)
+    (λ c h. state_now-grown e c ∙ ap (λ j. unwrap_or (moves_by e.kind j) (state_now c))
+    (same_job-eq c.job job h))
+    ∙ ap (λ o. newer o (option_map (λ s. unwrap_or (moves_by e.kind job) s) (state_of job later)))
+    (begun_by e.kind job later)
 
 -- the unended reservations, in the order of their reserving
 
 held_of-grown : (e : CoreEntry) (b : Booking) → held_of (step.grown e b) ≡ held_after e.kind (held_of b)
 held_of-grown e b =
-    ap (λ s. record { number = b.number; job = b.job; reg = b.reg; reserved_at = b.now; state = s; claimed = is_claimed (step.grown e b) }) (state_of-push b.job b.later e)
-    ∙ ap (λ c. record { number = b.number; job = b.job; reg = b.reg; reserved_at = b.now; state = state_after e.kind b.job (state_of b.job b.later); claimed = c }) (list_any-push (λ d. claims_by d.kind b.job) b.later e)
+    ap (λ s. record {
+      number = b.number;
+      job = b.job;
+      reg = b.reg;
+      reserved_at = b.now;
+      state = s;
+      claimed = is_claimed (step.grown e b);
+    }) (state_of-push b.job b.later e)
+    ∙ ap (λ c. record {
+      number = b.number;
+      job = b.job;
+      reg = b.reg;
+      reserved_at = b.now;
+      state = state_after e.kind b.job (state_of b.job b.later);
+      claimed = c;
+    })
+    (list_any-push (λ d. claims_by d.kind b.job) b.later e)
 
 held_rows_grow : Grows booked_at is_unended held_of (λ e h. held_after e.kind h) (λ e h. held_stays e.kind h)
 held_rows_grow = record {
@@ -75,10 +107,13 @@ held_rows_grow = record {
   made = λ e c. step.booked-grown c.at.kind (length c.before) c.at.now c.after e;
   lasts_on = λ e b. none-push (λ d. frees_by d.kind b.job b.reg) b.later e;
   changed = λ e b up. held_of-grown e b;
-  fresh = λ c none. step.booked_fresh is_unended (λ b empty. ap (λ l. not (list_any (λ e. frees_by e.kind b.job b.reg) l)) empty) c.at.kind (length c.before) c.at.now c.after none;
+  fresh = λ c none. step.booked_fresh is_unended
+      (λ b empty. ap (λ l. not (list_any (λ e. frees_by e.kind b.job b.reg) l)) empty) c.at.kind
+      (length c.before) c.at.now c.after none;
 }
 
-held_made : (k : CoreKind) (number now : ℕ) → option_map held_of (booked_by k number now []) ≡ held_by k number now
+held_made : (k : CoreKind) (number now : ℕ)
+    → option_map held_of (booked_by k number now []) ≡ held_by k number now
 held_made (Beat server nonce cpus key pruned reaped replaced is_new) number now = refl
 held_made (Reserve (Job job reg forgiven)) number now = refl
 held_made (Reserve (NoRoom n)) number now = refl
@@ -88,10 +123,14 @@ held_made (Undo job noted was_ended) number now = refl
 held_made (Update server job state answer) number now = refl
 held_made (Status pruned servers cpus jobs) number now = refl
 
-pub held_rows-push : (log : List CoreEntry) (e : CoreEntry) → held_rows (log ++ e ∷ []) ≡ map (held_after e.kind) (filter (held_stays e.kind) (held_rows log)) ++ option_to_list (held_by e.kind (length log) e.now)
+pub held_rows-push : (log : List CoreEntry) (e : CoreEntry) → held_rows (log ++ e ∷ []) ≡ map
+    (held_after e.kind) (filter (held_stays e.kind) (held_rows log)) ++ option_to_list
+    (held_by e.kind (length log) e.now)
 held_rows-push log e =
-    lasting-push booked_at is_unended held_of (λ d h. held_after d.kind h) (λ d h. held_stays d.kind h) held_rows_grow log e
-    ∙ ap (λ o. map (held_after e.kind) (filter (held_stays e.kind) (held_rows log)) ++ option_to_list o) (held_made e.kind (length log) e.now)
+    lasting-push booked_at is_unended held_of (λ d h. held_after d.kind h)
+    (λ d h. held_stays d.kind h) held_rows_grow log e
+    ∙ ap (λ o. map (held_after e.kind) (filter (held_stays e.kind) (held_rows log)) ++ option_to_list o)
+    (held_made e.kind (length log) e.now)
 
 -- by rising job id
 
@@ -102,17 +141,24 @@ abbrev held_placed : Option HeldRow → List HeldRow → List HeldRow
 held_placed None hs = hs
 held_placed (Some h) hs = placed job_id h hs
 
-sorted-end : (o : Option HeldRow) (hs : List HeldRow) → sorted_into job_id [] (hs ++ option_to_list o) ≡ held_placed o (sorted_into job_id [] hs)
+sorted-end : (o : Option HeldRow) (hs : List HeldRow)
+    → sorted_into job_id [] (hs ++ option_to_list o) ≡ held_placed o (sorted_into job_id [] hs)
 sorted-end None hs = ap (sorted_into job_id []) (append-nil hs)
 sorted-end (Some h) hs = sorted-push job_id [] hs h
 
-held_by_id-push : (log : List CoreEntry) (e : CoreEntry) → held_by_id (log ++ e ∷ []) ≡ held_placed (held_by e.kind (length log) e.now) (map (held_after e.kind) (filter (held_stays e.kind) (held_by_id log)))
+held_by_id-push : (log : List CoreEntry) (e : CoreEntry) → held_by_id (log ++ e ∷ []) ≡ held_placed
+    (held_by e.kind (length log) e.now)
+    (map (held_after e.kind) (filter (held_stays e.kind) (held_by_id log)))
 held_by_id-push log e =
     ap (sorted_into job_id []) (held_rows-push log e)
-    ∙ sorted-end (held_by e.kind (length log) e.now) (map (held_after e.kind) (filter (held_stays e.kind) (held_rows log)))
-    ∙ ap (held_placed (held_by e.kind (length log) e.now)) (sorted-map job_id job_id (held_after e.kind) (λ h. refl) (filter (held_stays e.kind) (held_rows log)) ∙ ap (map (held_after e.kind)) (sym (sorted-filter (held_stays e.kind) job_id (held_rows log))))
+    ∙ sorted-end (held_by e.kind (length log) e.now)
+    (map (held_after e.kind) (filter (held_stays e.kind) (held_rows log)))
+    ∙ ap (held_placed (held_by e.kind (length log) e.now))
+    (sorted-map job_id job_id (held_after e.kind) (λ h. refl) (filter (held_stays e.kind) (held_rows log))
+    ∙ ap (map (held_after e.kind)) (sym (sorted-filter (held_stays e.kind) job_id (held_rows log))))
 
-part-placed : (o : Option JobRow) (js : List JobRow) → map held_part (job_placed o js) ≡ held_placed (option_map held_part o) (map held_part js)
+part-placed : (o : Option JobRow) (js : List JobRow) → map held_part (job_placed o js) ≡ held_placed
+    (option_map held_part o) (map held_part js)
 part-placed None js = refl
 part-placed (Some j) js = map-placed (λ x. x.job.0) job_id held_part (λ x. refl) j js
 
@@ -122,26 +168,54 @@ IsAtRowBy (Reserve r) rows = IsAtRow r rows
 IsAtRowBy other rows = Unit {0}
 
 -- the row of the new job, at the address of its registration
-record NewJob (log : List CoreEntry) (number now : ℕ) (job : JobId) (reg : ℕ) (rows : List ServerRow) : Type 0 where
+record NewJob (log : List CoreEntry) (number now : ℕ) (job : JobId) (reg : ℕ)
+    (rows : List ServerRow) : Type 0 where
   server : Addr
-  is : job_over (find (λ r. r.reg == reg) rows) number job now ≡ Some (record { number = number; job = job; reg = reg; server = server; reserved_at = now; state = None; claimed = false })
+  is : job_over (find (λ r. r.reg == reg) rows) number job now ≡ Some
+      (record {
+        number = number;
+        job = job;
+        reg = reg;
+        server = server;
+        reserved_at = now;
+        state = None;
+        claimed = false;
+      })
   there : address_of log reg ≡ Some server
 
-new_job : (log : List CoreEntry) (number now : ℕ) (job : JobId) (reg : ℕ) (rows : List ServerRow) → AllByRecursion (λ r. address_of log r.reg ≡ Some r.server) rows → list_any (λ r. r.reg == reg) rows ≡ true → NewJob log number now job reg rows
+new_job : (log : List CoreEntry) (number now : ℕ) (job : JobId) (reg : ℕ) (rows : List ServerRow)
+    → AllByRecursion (λ r. address_of log r.reg ≡ Some r.server) rows
+    → list_any (λ r. r.reg == reg) rows ≡ true → NewJob log number now job reg rows
 new_job log number now job reg rows all some =
-    let at : (r : ServerRow) × (find (λ r. r.reg == reg) rows ≡ Some r) × (address_of log r.reg ≡ Some r.server) × ((r.reg == reg) ≡ true) = found_first (λ r. address_of log r.reg ≡ Some r.server) (λ r. r.reg == reg) rows all some in
+    let at : (r : ServerRow) × (find (λ r. r.reg == reg) rows ≡ Some r)
+    × (address_of log r.reg ≡ Some r.server) × ((r.reg == reg) ≡ true) =
+    found_first (λ r. address_of log r.reg ≡ Some r.server) (λ r. r.reg == reg) rows all some in
     let same : at.0.reg ≡ reg = eqb-true at.0.reg reg at.3 in
     record {
       server = at.0.server;
-      is = ap (λ o. job_over o number job now) at.1 ∙ ap (λ n. Some (record { number = number; job = job; reg = n; server = at.0.server; reserved_at = now; state = None; claimed = false })) same;
+      is = ap (λ o. job_over o number job now) at.1
+          ∙ ap (λ n. Some (record {
+            number = number;
+            job = job;
+            reg = n;
+            server = at.0.server;
+            reserved_at = now;
+            state = None;
+            claimed = false;
+          })) same;
       there = ap (address_of log) (sym same) ∙ at.2;
     }
 
-pub rows_addressed : (log : List CoreEntry) → AllByRecursion (λ r. address_of log r.reg ≡ Some r.server) (servers_of log)
-rows_addressed log = all-map (λ r. address_of log r.reg ≡ Some r.server) (row_of log) (standing log) (all-weaker (λ g. (address_of log g.reg ≡ Some g.server) × (key_at log g.reg ≡ Some g.key)) (λ g. address_of log g.reg ≡ Some g.server) (λ g h. h.0) (standing log) (cards_are log))
+pub rows_addressed : (log : List CoreEntry) → AllByRecursion (λ r. address_of log r.reg ≡ Some r.server)
+    (servers_of log)
+rows_addressed log = all-map (λ r. address_of log r.reg ≡ Some r.server) (row_of log) (standing log)
+    (all-weaker (λ g. (address_of log g.reg ≡ Some g.server) × (key_at log g.reg ≡ Some g.key))
+    (λ g. address_of log g.reg ≡ Some g.server) (λ g h. h.0) (standing log) (cards_are log))
 
-job_part : (log : List CoreEntry) (k : CoreKind) (number now : ℕ) → IsAtRowBy k (servers_of log) → option_map held_part (job_by k (servers_of log) number now) ≡ held_by k number now
-job_part log (Reserve (Job job reg forgiven)) number now at = ap (option_map held_part) (new_job log number now job reg (servers_of log) (rows_addressed log) at).is
+job_part : (log : List CoreEntry) (k : CoreKind) (number now : ℕ) → IsAtRowBy k (servers_of log)
+    → option_map held_part (job_by k (servers_of log) number now) ≡ held_by k number now
+job_part log (Reserve (Job job reg forgiven)) number now at = ap (option_map held_part)
+    (new_job log number now job reg (servers_of log) (rows_addressed log) at).is
 job_part log (Reserve (NoRoom n)) number now at = refl
 job_part log (Reserve Spent) number now at = refl
 job_part log (Beat server nonce cpus key pruned reaped replaced is_new) number now at = refl
@@ -150,12 +224,17 @@ job_part log (Undo job noted was_ended) number now at = refl
 job_part log (Update server job state answer) number now at = refl
 job_part log (Status pruned servers cpus jobs) number now at = refl
 
-pub jobs-absorb : (jobs : List JobRow) (log : List CoreEntry) (e : CoreEntry) → IsAtRowBy e.kind (servers_of log) → map held_part jobs ≡ held_by_id log →
-    map held_part (job_placed (job_by e.kind (servers_of log) (length log) e.now) (map (job_after e.kind) (filter (job_stays e.kind) jobs))) ≡ held_by_id (log ++ e ∷ [])
+pub jobs-absorb : (jobs : List JobRow) (log : List CoreEntry) (e : CoreEntry)
+    → IsAtRowBy e.kind (servers_of log) → map held_part jobs ≡ held_by_id log →
+    map held_part (job_placed (job_by e.kind (servers_of log) (length log) e.now)
+    (map (job_after e.kind) (filter (job_stays e.kind) jobs))) ≡ held_by_id (log ++ e ∷ [])
 jobs-absorb jobs log e at same =
-    part-placed (job_by e.kind (servers_of log) (length log) e.now) (map (job_after e.kind) (filter (job_stays e.kind) jobs))
-    ∙ ap (λ o. held_placed o (map held_part (map (job_after e.kind) (filter (job_stays e.kind) jobs)))) (job_part log e.kind (length log) e.now at)
-    ∙ ap (held_placed (held_by e.kind (length log) e.now)) (map-map held_part (job_after e.kind) (filter (job_stays e.kind) jobs)
+    part-placed (job_by e.kind (servers_of log) (length log) e.now)
+    (map (job_after e.kind) (filter (job_stays e.kind) jobs))
+    ∙ ap (λ o. held_placed o (map held_part (map (job_after e.kind) (filter (job_stays e.kind) jobs))))
+    (job_part log e.kind (length log) e.now at)
+    ∙ ap (held_placed (held_by e.kind (length log) e.now))
+    (map-map held_part (job_after e.kind) (filter (job_stays e.kind) jobs)
     ∙ sym (map-map (held_after e.kind) held_part (filter (job_stays e.kind) jobs))
     ∙ ap (map (held_after e.kind)) (sym (filter-map (held_stays e.kind) held_part jobs))
     ∙ ap (λ hs. map (held_after e.kind) (filter (held_stays e.kind) hs)) same)
@@ -164,9 +243,11 @@ jobs-absorb jobs log e at same =
 abbrev IsJobAt : List CoreEntry → JobRow → Type 0
 IsJobAt log j = address_of log j.reg ≡ Some j.server
 
-placed_new : (log : List CoreEntry) (k : CoreKind) (number now : ℕ) → IsAtRowBy k (servers_of log) → AllByRecursion (IsJobAt log) (option_to_list (job_by k (servers_of log) number now))
+placed_new : (log : List CoreEntry) (k : CoreKind) (number now : ℕ) → IsAtRowBy k (servers_of log)
+    → AllByRecursion (IsJobAt log) (option_to_list (job_by k (servers_of log) number now))
 placed_new log (Reserve (Job job reg forgiven)) number now at =
-    let new : NewJob log number now job reg (servers_of log) = new_job log number now job reg (servers_of log) (rows_addressed log) at in
+    let new : NewJob log number now job reg (servers_of log) = new_job log number now job reg (servers_of log)
+    (rows_addressed log) at in
     subst (λ o. AllByRecursion (IsJobAt log) (option_to_list o)) (sym new.is) (new.there, tt)
 placed_new log (Reserve (NoRoom n)) number now at = tt
 placed_new log (Reserve Spent) number now at = tt
@@ -176,23 +257,37 @@ placed_new log (Undo job noted was_ended) number now at = tt
 placed_new log (Update server job state answer) number now at = tt
 placed_new log (Status pruned servers cpus jobs) number now at = tt
 
-placed_with : (P : JobRow → Type 0) (o : Option JobRow) (js : List JobRow) → AllByRecursion P (option_to_list o) → AllByRecursion P js → AllByRecursion P (job_placed o js)
+placed_with : (P : JobRow → Type 0) (o : Option JobRow) (js : List JobRow)
+    → AllByRecursion P (option_to_list o) → AllByRecursion P js → AllByRecursion P (job_placed o js)
 placed_with P None js new all = all
 placed_with P (Some j) js new all = all-placed P (λ x. x.job.0) j js new.0 all
 
-pub jobs_placed-absorb : (jobs : List JobRow) (log : List CoreEntry) (e : CoreEntry) → IsAtRowBy e.kind (servers_of log) → AllByRecursion (λ j. address_of log j.reg ≡ Some j.server) jobs →
-    AllByRecursion (λ j. address_of (log ++ e ∷ []) j.reg ≡ Some j.server) (job_placed (job_by e.kind (servers_of log) (length log) e.now) (map (job_after e.kind) (filter (job_stays e.kind) jobs)))
-jobs_placed-absorb jobs log e at all = all-weaker (IsJobAt log) (IsJobAt (log ++ e ∷ [])) (λ j h. address-stays log e j.reg j.server h) (job_placed (job_by e.kind (servers_of log) (length log) e.now) (map (job_after e.kind) (filter (job_stays e.kind) jobs)))
-    (placed_with (IsJobAt log) (job_by e.kind (servers_of log) (length log) e.now) (map (job_after e.kind) (filter (job_stays e.kind) jobs)) (placed_new log e.kind (length log) e.now at)
-    (all-map (IsJobAt log) (job_after e.kind) (filter (job_stays e.kind) jobs) (all-filter (IsJobAt log) (IsJobAt log) (job_stays e.kind) (λ j h t. h) jobs all)))
+pub jobs_placed-absorb : (jobs : List JobRow) (log : List CoreEntry) (e : CoreEntry)
+    → IsAtRowBy e.kind (servers_of log) → AllByRecursion (λ j. address_of log j.reg ≡ Some j.server) jobs →
+    AllByRecursion (λ j. address_of (log ++ e ∷ []) j.reg ≡ Some j.server)
+    (job_placed (job_by e.kind (servers_of log) (length log) e.now)
+    (map (job_after e.kind) (filter (job_stays e.kind) jobs)))
+jobs_placed-absorb jobs log e at all = all-weaker (IsJobAt log) (IsJobAt (log ++ e ∷ []))
+    (λ j h. address-stays log e j.reg j.server h)
+    (job_placed (job_by e.kind (servers_of log) (length log) e.now)
+    (map (job_after e.kind) (filter (job_stays e.kind) jobs)))
+    (placed_with (IsJobAt log) (job_by e.kind (servers_of log) (length log) e.now)
+    (map (job_after e.kind) (filter (job_stays e.kind) jobs))
+    (placed_new log e.kind (length log) e.now at)
+    (all-map (IsJobAt log) (job_after e.kind) (filter (job_stays e.kind) jobs)
+    (all-filter (IsJobAt log) (IsJobAt log) (job_stays e.kind) (λ j h t. h) jobs all)))
 
 -- the unspent reservations
 
 abbrev place_unspent : CoreKind → (ℕ × JobId) × ℕ → Bool
 place_unspent k p = not (spends_by k p.0.1)
 
-unspent_part : (log : List CoreEntry) (k : CoreKind) (number now : ℕ) → IsAtRowBy k (servers_of log) → option_map place_of_unspent (unspent_by (job_by k (servers_of log) number now)) ≡ option_map place_of_booking (booked_by k number now [])
-unspent_part log (Reserve (Job job reg forgiven)) number now at = ap (λ o. option_map place_of_unspent (unspent_by o)) (new_job log number now job reg (servers_of log) (rows_addressed log) at).is
+unspent_part : (log : List CoreEntry) (k : CoreKind) (number now : ℕ) → IsAtRowBy k (servers_of log)
+    → option_map place_of_unspent (unspent_by (job_by k (servers_of log) number now)) ≡ option_map
+    place_of_booking (booked_by k number now [])
+unspent_part log (Reserve (Job job reg forgiven)) number now at =
+    ap (λ o. option_map place_of_unspent (unspent_by o))
+    (new_job log number now job reg (servers_of log) (rows_addressed log) at).is
 unspent_part log (Reserve (NoRoom n)) number now at = refl
 unspent_part log (Reserve Spent) number now at = refl
 unspent_part log (Beat server nonce cpus key pruned reaped replaced is_new) number now at = refl
@@ -201,28 +296,48 @@ unspent_part log (Undo job noted was_ended) number now at = refl
 unspent_part log (Update server job state answer) number now at = refl
 unspent_part log (Status pruned servers cpus jobs) number now at = refl
 
-free_places : (log : List CoreEntry) → map place_of_booking (step.free log) ≡ map place_of_booking (unspent log)
+free_places : (log : List CoreEntry) → map place_of_booking (step.free log) ≡ map place_of_booking
+    (unspent log)
 free_places log = map-map place_of_booking step.bare (unspent log)
 
-pub unspent-absorb : (us : List UnspentRow) (log : List CoreEntry) (e : CoreEntry) → IsAtRowBy e.kind (servers_of log) → map place_of_unspent us ≡ map place_of_booking (unspent log) →
-    map place_of_unspent (filter (unspent_stays e.kind) us ++ option_to_list (unspent_by (job_by e.kind (servers_of log) (length log) e.now))) ≡ map place_of_booking (unspent (log ++ e ∷ []))
+pub unspent-absorb : (us : List UnspentRow) (log : List CoreEntry) (e : CoreEntry)
+    → IsAtRowBy e.kind (servers_of log) → map place_of_unspent us ≡ map place_of_booking (unspent log) →
+    map place_of_unspent (filter (unspent_stays e.kind) us ++ option_to_list
+    (unspent_by (job_by e.kind (servers_of log) (length log) e.now))) ≡ map place_of_booking
+    (unspent (log ++ e ∷ []))
 unspent-absorb us log e at same =
-    map-append place_of_unspent (filter (unspent_stays e.kind) us) (option_to_list (unspent_by (job_by e.kind (servers_of log) (length log) e.now)))
-    ∙ ap (λ ps. ps ++ map place_of_unspent (option_to_list (unspent_by (job_by e.kind (servers_of log) (length log) e.now))))
-    (sym (filter-map (place_unspent e.kind) place_of_unspent us) ∙ ap (filter (place_unspent e.kind)) (same ∙ sym (free_places log)) ∙ filter-map (place_unspent e.kind) place_of_booking (step.free log))
-    ∙ ap (λ ps. map place_of_booking (filter (step.free_stays e) (step.free log)) ++ ps) (map-option place_of_unspent (unspent_by (job_by e.kind (servers_of log) (length log) e.now)) ∙ ap option_to_list (unspent_part log e.kind (length log) e.now at) ∙ sym (map-option place_of_booking (step.booked log e)))
-    ∙ sym (map-append place_of_booking (filter (step.free_stays e) (step.free log)) (option_to_list (step.booked log e)))
+    map-append place_of_unspent (filter (unspent_stays e.kind) us)
+    (option_to_list (unspent_by (job_by e.kind (servers_of log) (length log) e.now)))
+    ∙ ap (λ ps. ps ++ map place_of_unspent
+    (option_to_list (unspent_by (job_by e.kind (servers_of log) (length log) e.now))))
+    (sym (filter-map (place_unspent e.kind) place_of_unspent us) ∙ ap (filter (place_unspent e.kind))
+    (same ∙ sym (free_places log)) ∙ filter-map (place_unspent e.kind) place_of_booking (step.free log))
+    ∙ ap (λ ps. map place_of_booking (filter (step.free_stays e) (step.free log)) ++ ps)
+    (map-option place_of_unspent (unspent_by (job_by e.kind (servers_of log) (length log) e.now))
+    ∙ ap option_to_list (unspent_part log e.kind (length log) e.now at)
+    ∙ sym (map-option place_of_booking (step.booked log e)))
+    ∙ sym (map-append place_of_booking (filter (step.free_stays e) (step.free log))
+    (option_to_list (step.booked log e)))
     ∙ ap (map place_of_booking) (sym (step.free-push log e))
     ∙ free_places (log ++ e ∷ [])
 
 abbrev IsUnspentAt : List CoreEntry → UnspentRow → Type 0
 IsUnspentAt log u = (place_at log u.number ≡ Some u.reg) × (address_of log u.reg ≡ Some u.server)
 
-unspent_new : (log : List CoreEntry) (now : ℕ) (k : CoreKind) → IsAtRowBy k (servers_of log) → AllByRecursion (IsUnspentAt (log ++ record { now = now; kind = k } ∷ [])) (option_to_list (unspent_by (job_by k (servers_of log) (length log) now)))
+unspent_new : (log : List CoreEntry) (now : ℕ) (k : CoreKind) → IsAtRowBy k (servers_of log)
+    → AllByRecursion (IsUnspentAt (log ++ record { now = now; kind = k } ∷ []))
+    (option_to_list (unspent_by (job_by k (servers_of log) (length log) now)))
 unspent_new log now (Reserve (Job job reg forgiven)) at =
     let e : CoreEntry = record { now = now; kind = Reserve (Job job reg forgiven) } in
-    let new : NewJob log (length log) now job reg (servers_of log) = new_job log (length log) now job reg (servers_of log) (rows_addressed log) at in
-    subst (λ o. AllByRecursion (IsUnspentAt (log ++ e ∷ [])) (option_to_list (unspent_by o))) (sym new.is) ((place-new log e (record { number = length log; now = now; job = job; reg = reg; later = [] }) refl, address-stays log e reg new.server new.there), tt)
+    let new : NewJob log (length log) now job reg (servers_of log) = new_job log (length log) now job reg
+    (servers_of log) (rows_addressed log) at in
+    subst (λ o. AllByRecursion (IsUnspentAt (log ++ e ∷ [])) (option_to_list (unspent_by o))) (sym new.is) (
+      (
+        place-new log e (record { number = length log; now = now; job = job; reg = reg; later = [] }) refl,
+        address-stays log e reg new.server new.there,
+      ),
+      tt,
+    )
 unspent_new log now (Reserve (NoRoom n)) at = tt
 unspent_new log now (Reserve Spent) at = tt
 unspent_new log now (Beat server nonce cpus key pruned reaped replaced is_new) at = tt
@@ -231,35 +346,60 @@ unspent_new log now (Undo job noted was_ended) at = tt
 unspent_new log now (Update server job state answer) at = tt
 unspent_new log now (Status pruned servers cpus jobs) at = tt
 
-pub unspent_placed-absorb : (us : List UnspentRow) (log : List CoreEntry) (e : CoreEntry) → IsAtRowBy e.kind (servers_of log) → AllByRecursion (λ u. (place_at log u.number ≡ Some u.reg) × (address_of log u.reg ≡ Some u.server)) us →
-    AllByRecursion (λ u. (place_at (log ++ e ∷ []) u.number ≡ Some u.reg) × (address_of (log ++ e ∷ []) u.reg ≡ Some u.server)) (filter (unspent_stays e.kind) us ++ option_to_list (unspent_by (job_by e.kind (servers_of log) (length log) e.now)))
+pub unspent_placed-absorb : (us : List UnspentRow) (log : List CoreEntry) (e : CoreEntry)
+    → IsAtRowBy e.kind (servers_of log) → AllByRecursion (λ u. (place_at log u.number ≡ Some u.reg)
+    × (address_of log u.reg ≡ Some u.server)) us →
+    AllByRecursion (λ u. (place_at (log ++ e ∷ []) u.number ≡ Some u.reg)
+    × (address_of (log ++ e ∷ []) u.reg ≡ Some u.server))
+    (filter (unspent_stays e.kind) us ++ option_to_list
+    (unspent_by (job_by e.kind (servers_of log) (length log) e.now)))
 unspent_placed-absorb us log e at all =
-    all-append (IsUnspentAt (log ++ e ∷ [])) (filter (unspent_stays e.kind) us) (option_to_list (unspent_by (job_by e.kind (servers_of log) (length log) e.now)))
-    (all-filter (IsUnspentAt log) (IsUnspentAt (log ++ e ∷ [])) (unspent_stays e.kind) (λ u h t. (place-stays log e u.number u.reg h.0, address-stays log e u.reg u.server h.1)) us all)
+    all-append (IsUnspentAt (log ++ e ∷ [])) (filter (unspent_stays e.kind) us)
+    (option_to_list (unspent_by (job_by e.kind (servers_of log) (length log) e.now)))
+    (all-filter (IsUnspentAt log) (IsUnspentAt (log ++ e ∷ [])) (unspent_stays e.kind)
+    (λ u h t. (place-stays log e u.number u.reg h.0, address-stays log e u.reg u.server h.1)) us all)
     (unspent_new log e.now e.kind at)
 
 -- the open jobs
 
 -- any view of the open jobs, which one more entry changes as it is told
-open_view-push : {B : Type 0} (view : Committed → B) (after : CoreEntry → B → B) (stays : CoreEntry → B → Bool) →
-    ((e : CoreEntry) (c : Committed) → view (step.grown_commit e c) ≡ after e (view c)) → ((e : CoreEntry) (c : Committed) → step.begun_stays e (step.bare_commit c) ≡ stays e (view c)) → (log : List CoreEntry) (e : CoreEntry) →
-    map view (open_jobs (log ++ e ∷ [])) ≡ map (after e) (filter (stays e) (map view (open_jobs log))) ++ map view (filter is_open (option_to_list (step.committed log e)))
+open_view-push : {B : Type 0} (view : Committed → B) (after : CoreEntry → B → B)
+    (stays : CoreEntry → B → Bool) →
+    ((e : CoreEntry) (c : Committed) → view (step.grown_commit e c) ≡ after e (view c))
+    → ((e : CoreEntry) (c : Committed) → step.begun_stays e (step.bare_commit c) ≡ stays e (view c))
+    → (log : List CoreEntry) (e : CoreEntry) →
+    map view (open_jobs (log ++ e ∷ [])) ≡ map (after e) (filter (stays e) (map view (open_jobs log)))
+    ++ map view (filter is_open (option_to_list (step.committed log e)))
 open_view-push {B} view after stays changed same log e =
     ap (λ cs. map view (filter is_open cs)) (step.commits-push log e)
-    ∙ ap (map view) (filter-append is_open (map (step.grown_commit e) (commits log)) (option_to_list (step.committed log e)))
-    ∙ map-append view (filter is_open (map (step.grown_commit e) (commits log))) (filter is_open (option_to_list (step.committed log e)))
+    ∙ ap (map view) (filter-append is_open (map (step.grown_commit e) (commits log))
+    (option_to_list (step.committed log e)))
+    ∙ map-append view (filter is_open (map (step.grown_commit e) (commits log)))
+    (filter is_open (option_to_list (step.committed log e)))
     ∙ ap (λ bs. bs ++ map view (filter is_open (option_to_list (step.committed log e)))) old
   where
-    old : map view (filter is_open (map (step.grown_commit e) (commits log))) ≡ map (after e) (filter (stays e) (map view (open_jobs log)))
+    old : map view (filter is_open (map (step.grown_commit e) (commits log))) ≡ map (after e)
+        (filter (stays e) (map view (open_jobs log)))
     old = ap (map view) (filter-map is_open (step.grown_commit e) (commits log))
         ∙ map-map view (step.grown_commit e) (filter (λ c. is_open (step.grown_commit e c)) (commits log))
-        ∙ map-agree (λ c. view (step.grown_commit e c)) (λ c. after e (view c)) (changed e) (filter (λ c. is_open (step.grown_commit e c)) (commits log))
-        ∙ ap (map (λ c. after e (view c))) (filter_agree (λ c. is_open (step.grown_commit e c)) (λ c. is_open c && stays e (view c)) (λ c. step.open-grown e c ∙ ap (λ b. is_open c && b) (same e c)) (commits log) ∙ filter-filter (λ c. stays e (view c)) is_open (commits log))
+        ∙ map-agree (λ c. view (step.grown_commit e c)) (λ c. after e (view c)) (changed e)
+        (filter (λ c. is_open (step.grown_commit e c)) (commits log))
+        ∙ ap (map (λ c. after e (view c)))
+        (filter_agree (λ c. is_open (step.grown_commit e c)) (λ c. is_open c && stays e (view c))
+        (λ c. step.open-grown e c ∙ ap (λ b. is_open c && b) (same e c)) (commits log)
+        ∙ filter-filter (λ c. stays e (view c)) is_open (commits log))
         ∙ sym (map-map (after e) view (filter (λ c. stays e (view c)) (open_jobs log)))
         ∙ ap (map (after e)) (sym (filter-map (stays e) view (open_jobs log)))
 
-open_of-grown : (whole : List CoreEntry) (e : CoreEntry) (c : Committed) → open_of whole (step.grown_commit e c) ≡ open_after e.kind (open_of whole c)
-open_of-grown whole e c = ap (λ s. record { job = c.job; reg = c.reg; server = option_and_then (address_of whole) c.reg; state = s }) (state_now-grown e c)
+open_of-grown : (whole : List CoreEntry) (e : CoreEntry) (c : Committed)
+    → open_of whole (step.grown_commit e c) ≡ open_after e.kind (open_of whole c)
+open_of-grown whole e c =
+    ap (λ s. record {
+      job = c.job;
+      reg = c.reg;
+      server = option_and_then (address_of whole) c.reg;
+      state = s;
+    }) (state_now-grown e c)
 
 -- an open job is at a registration that has an address
 pub record IsOpenAt (log : List CoreEntry) (c : Committed) : Type 0 where
@@ -269,59 +409,92 @@ pub record IsOpenAt (log : List CoreEntry) (c : Committed) : Type 0 where
   pub there : address_of log reg ≡ Some server
   pub held : list_any (λ b. same_job b.job c.job && (reg == b.reg)) (step.held log) ≡ true
 
-held_addressed : (base count : ℕ) (log : List CoreEntry) → Sound base count log → AllByRecursion (λ b. (server : Addr) × (address_of log b.reg ≡ Some server)) (step.held log)
-held_addressed base count log sound = all-weaker (λ b. names (step.regs log) b.reg ≡ true) (λ b. (server : Addr) × (address_of log b.reg ≡ Some server)) (λ b h. at b.reg h) (step.held log) sound.held_stands
+held_addressed : (base count : ℕ) (log : List CoreEntry) → Sound base count log
+    → AllByRecursion (λ b. (server : Addr) × (address_of log b.reg ≡ Some server)) (step.held log)
+held_addressed base count log sound = all-weaker (λ b. names (step.regs log) b.reg ≡ true)
+    (λ b. (server : Addr) × (address_of log b.reg ≡ Some server)) (λ b h. at b.reg h)
+    (step.held log) sound.held_stands
   where
     at : (reg : ℕ) → names (step.regs log) reg ≡ true → (server : Addr) × (address_of log reg ≡ Some server)
     at reg h =
-        let g : (g : _) × ((address_of log g.reg ≡ Some g.server) × (key_at log g.reg ≡ Some g.key)) × ((g.reg == reg) ≡ true) = found (λ g. (address_of log g.reg ≡ Some g.server) × (key_at log g.reg ≡ Some g.key)) (λ g. g.reg == reg) (standing log) (cards_are log) (sym (list_any-map (λ n. n == reg) (λ g. g.reg) (standing log)) ∙ h) in
+        let g : (g : _) × ((address_of log g.reg ≡ Some g.server) × (key_at log g.reg ≡ Some g.key))
+        × ((g.reg == reg) ≡ true) =
+        found (λ g. (address_of log g.reg ≡ Some g.server) × (key_at log g.reg ≡ Some g.key))
+        (λ g. g.reg == reg) (standing log) (cards_are log)
+        (sym (list_any-map (λ n. n == reg) (λ g. g.reg) (standing log)) ∙ h) in
         (g.0.server, ap (address_of log) (sym (eqb-true g.0.reg reg g.2)) ∙ g.1.0)
 
-pub open_at : (base count : ℕ) (log : List CoreEntry) → Sound base count log → AllByRecursion (IsOpenAt log) (open_jobs log)
-open_at base count log sound = all-weaker (λ c. IsOpenAt log (step.bare_commit c)) (IsOpenAt log) (λ c h. record { reg = h.reg; server = h.server; at = h.at; there = h.there; held = h.held }) (open_jobs log)
-    (all-unmap (IsOpenAt log) step.bare_commit (open_jobs log) (all-weaker (IsHeldAt log) (IsOpenAt log) at (step.begun log) sound.begun_held))
+pub open_at : (base count : ℕ) (log : List CoreEntry) → Sound base count log → AllByRecursion (IsOpenAt log)
+    (open_jobs log)
+open_at base count log sound = all-weaker (λ c. IsOpenAt log (step.bare_commit c)) (IsOpenAt log)
+    (λ c h. record { reg = h.reg; server = h.server; at = h.at; there = h.there; held = h.held })
+    (open_jobs log)
+    (all-unmap (IsOpenAt log) step.bare_commit (open_jobs log)
+    (all-weaker (IsHeldAt log) (IsOpenAt log) at (step.begun log) sound.begun_held))
   where
     at : (c : Committed) → IsHeldAt log c → IsOpenAt log c
     at c h =
-        let b : (b : Booking) × ((server : Addr) × (address_of log b.reg ≡ Some server)) × ((same_job b.job c.job && is_this c.reg b.reg) ≡ true) = found (λ b. (server : Addr) × (address_of log b.reg ≡ Some server)) (λ b. same_job b.job c.job && is_this c.reg b.reg) (step.held log) (held_addressed base count log sound) h in
-        let place : c.reg ≡ Some b.0.reg = is_this-eq c.reg b.0.reg (and_right (same_job b.0.job c.job) (is_this c.reg b.0.reg) b.2) in
+        let b : (b : Booking) × ((server : Addr) × (address_of log b.reg ≡ Some server))
+        × ((same_job b.job c.job && is_this c.reg b.reg) ≡ true) =
+        found (λ b. (server : Addr) × (address_of log b.reg ≡ Some server))
+        (λ b. same_job b.job c.job && is_this c.reg b.reg) (step.held log)
+        (held_addressed base count log sound) h in
+        let place : c.reg ≡ Some b.0.reg = is_this-eq c.reg b.0.reg
+        (and_right (same_job b.0.job c.job) (is_this c.reg b.0.reg) b.2) in
         record {
           reg = b.0.reg;
           server = b.1.0;
           at = place;
           there = b.1.1;
-          held = ap (λ o. list_any (λ d. same_job d.job c.job && is_this o d.reg) (step.held log)) (sym place) ∙ h;
+          held = ap (λ o. list_any (λ d. same_job d.job c.job && is_this o d.reg) (step.held log)) (sym place)
+              ∙ h;
         }
 
 -- the open job that a commit makes, at the place of its reservation
 
 -- a job that a commit keeps is among those that are reserved
 abbrev IsKeptOf : List CoreEntry → CoreKind → List JobRow → Type 0
-IsKeptOf log (Commit job state true) jobs = (list_any (λ j. same_job j.job job) jobs ≡ true) × (begins state ≡ true)
+IsKeptOf log (Commit job state true) jobs = (list_any (λ j. same_job j.job job) jobs ≡ true)
+    × (begins state ≡ true)
 IsKeptOf log other jobs = Unit {0}
 
 abbrev IsJobPlaced : List CoreEntry → JobRow → Type 0
 IsJobPlaced log j = (place_of j.job log ≡ Some j.reg) × (address_of log j.reg ≡ Some j.server)
 
-new_open : (log : List CoreEntry) (now : ℕ) (k : CoreKind) (jobs : List JobRow) → AllByRecursion (IsJobPlaced log) jobs → IsKeptOf log k jobs →
-    map (open_of (log ++ record { now = now; kind = k } ∷ [])) (filter is_open (option_to_list (committed_by k log []))) ≡ option_to_list (open_by k jobs)
+new_open : (log : List CoreEntry) (now : ℕ) (k : CoreKind) (jobs : List JobRow)
+    → AllByRecursion (IsJobPlaced log) jobs → IsKeptOf log k jobs →
+    map (open_of (log ++ record { now = now; kind = k } ∷ []))
+    (filter is_open (option_to_list (committed_by k log []))) ≡ option_to_list (open_by k jobs)
 new_open log now (Commit job state false) jobs all kept = refl
 new_open log now (Commit job state true) jobs all kept = by_state state kept.1
   where
     e : JobState → CoreEntry
     e s = record { now = now; kind = Commit job s true }
 
-    row : (s : JobState) → open_of (log ++ e s ∷ []) (record { job = job; reg = place_of job log; state = s; later = [] }) ∷ [] ≡ option_to_list (open_over (find (λ j. same_job j.job job) jobs) s)
+    row : (s : JobState) → open_of (log ++ e s ∷ [])
+        (record { job = job; reg = place_of job log; state = s; later = [] }) ∷ [] ≡ option_to_list
+        (open_over (find (λ j. same_job j.job job) jobs) s)
     row s =
-        let at : (j : JobRow) × (find (λ j. same_job j.job job) jobs ≡ Some j) × IsJobPlaced log j × (same_job j.job job ≡ true) = found_first (IsJobPlaced log) (λ j. same_job j.job job) jobs all kept.0 in
+        let at : (j : JobRow) × (find (λ j. same_job j.job job) jobs ≡ Some j) × IsJobPlaced log j
+        × (same_job j.job job ≡ true) = found_first (IsJobPlaced log)
+        (λ j. same_job j.job job) jobs all kept.0 in
         let same : at.0.job ≡ job = same_job-eq at.0.job job at.3 in
         let place : place_of job log ≡ Some at.0.reg = ap (λ x. place_of x log) (sym same) ∙ at.2.0 in
-        ap (λ o. record { job = job; reg = o; server = option_and_then (address_of (log ++ e s ∷ [])) o; state = s } ∷ []) place
-        ∙ ap (λ o. record { job = job; reg = Some at.0.reg; server = o; state = s } ∷ []) (address-stays log (e s) at.0.reg at.0.server at.2.1)
-        ∙ ap (λ x. record { job = x; reg = Some at.0.reg; server = Some at.0.server; state = s } ∷ []) (sym same)
+        ap (λ o. record {
+          job = job;
+          reg = o;
+          server = option_and_then (address_of (log ++ e s ∷ [])) o;
+          state = s;
+        } ∷ []) place
+        ∙ ap (λ o. record { job = job; reg = Some at.0.reg; server = o; state = s } ∷ [])
+        (address-stays log (e s) at.0.reg at.0.server at.2.1)
+        ∙ ap (λ x. record { job = x; reg = Some at.0.reg; server = Some at.0.server; state = s } ∷ [])
+        (sym same)
         ∙ ap (λ o. option_to_list (open_over o s)) (sym at.1)
 
-    by_state : (s : JobState) → begins s ≡ true → map (open_of (log ++ e s ∷ [])) (filter is_open (option_to_list (committed_by (Commit job s true) log []))) ≡ option_to_list (open_by (Commit job s true) jobs)
+    by_state : (s : JobState) → begins s ≡ true → map (open_of (log ++ e s ∷ []))
+        (filter is_open (option_to_list (committed_by (Commit job s true) log []))) ≡ option_to_list
+        (open_by (Commit job s true) jobs)
     by_state Pending h = row Pending
     by_state Ready h = row Ready
     by_state Started h = absurd (false≢true h)
@@ -332,10 +505,15 @@ new_open log now (Undo job noted was_ended) jobs all kept = refl
 new_open log now (Update server job state answer) jobs all kept = refl
 new_open log now (Status pruned servers cpus n) jobs all kept = refl
 
-kept_job : (base count : ℕ) (log : List CoreEntry) (k : CoreKind) (jobs : List JobRow) → map held_part jobs ≡ held_by_id log → Facts (core_of base count log) k → IsKeptOf log k jobs
+kept_job : (base count : ℕ) (log : List CoreEntry) (k : CoreKind) (jobs : List JobRow)
+    → map held_part jobs ≡ held_by_id log → Facts (core_of base count log) k → IsKeptOf log k jobs
 kept_job base count log (Commit job state true) jobs same is = (
   sym (list_any-map (λ h. same_job h.job job) held_part jobs) ∙ ap (list_any (λ h. same_job h.job job)) same
-      ∙ sorted-any (λ h. same_job h.job job) job_id [] (held_rows log) (list_any-map (λ h. same_job h.job job) held_of (unended log) ∙ any-weaker (λ b. (b.number == is.0.number) && same_job b.job job) (λ b. same_job b.job job) (λ b h. and_right (b.number == is.0.number) (same_job b.job job) h) (unended log) (sym is.0.says_held)),
+      ∙ sorted-any (λ h. same_job h.job job) job_id [] (held_rows log)
+      (list_any-map (λ h. same_job h.job job) held_of (unended log)
+      ∙ any-weaker (λ b. (b.number == is.0.number) && same_job b.job job) (λ b. same_job b.job job)
+      (λ b h. and_right (b.number == is.0.number) (same_job b.job job) h) (unended log)
+      (sym is.0.says_held)),
   is.1,
 )
 kept_job base count log (Commit job state false) jobs same is = tt
@@ -345,17 +523,32 @@ kept_job base count log (Undo job noted was_ended) jobs same is = tt
 kept_job base count log (Update server job state answer) jobs same is = tt
 kept_job base count log (Status pruned servers cpus n) jobs same is = tt
 
-jobs_at_place : (base count : ℕ) (log : List CoreEntry) (jobs : List JobRow) → Sound base count log → map held_part jobs ≡ held_by_id log → AllByRecursion (λ j. place_of j.job log ≡ Some j.reg) jobs
+jobs_at_place : (base count : ℕ) (log : List CoreEntry) (jobs : List JobRow) → Sound base count log
+    → map held_part jobs ≡ held_by_id log → AllByRecursion (λ j. place_of j.job log ≡ Some j.reg) jobs
 jobs_at_place base count log jobs sound same = all-unmap (λ h. place_of h.job log ≡ Some h.reg) held_part jobs
-    (subst (AllByRecursion (λ h. place_of h.job log ≡ Some h.reg)) (sym same) (sorted-all (λ h. place_of h.job log ≡ Some h.reg) job_id [] (held_rows log) tt
-    (all-map (λ h. place_of h.job log ≡ Some h.reg) held_of (unended log) (all-unmap (λ b. place_of b.job log ≡ Some b.reg) step.bare (unended log) sound.held_placed))))
+    (subst (AllByRecursion (λ h. place_of h.job log ≡ Some h.reg)) (sym same)
+    (sorted-all (λ h. place_of h.job log ≡ Some h.reg) job_id [] (held_rows log) tt
+    (all-map (λ h. place_of h.job log ≡ Some h.reg) held_of (unended log)
+    (all-unmap (λ b. place_of b.job log ≡ Some b.reg) step.bare (unended log) sound.held_placed))))
 
-pub open-absorb : (base count : ℕ) (open_ones : List OpenRow) (jobs : List JobRow) (log : List CoreEntry) (e : CoreEntry) → Sound base count log → Facts (core_of base count log) e.kind → map held_part jobs ≡ held_by_id log → AllByRecursion (λ j. address_of log j.reg ≡ Some j.server) jobs → open_ones ≡ open_rows log →
-    map (open_after e.kind) (filter (open_stays e.kind) open_ones) ++ option_to_list (open_by e.kind jobs) ≡ open_rows (log ++ e ∷ [])
+pub open-absorb : (base count : ℕ) (open_ones : List OpenRow) (jobs : List JobRow) (log : List CoreEntry)
+    (e : CoreEntry) → Sound base count log → Facts (core_of base count log) e.kind
+    → map held_part jobs ≡ held_by_id log → AllByRecursion (λ j. address_of log j.reg ≡ Some j.server) jobs
+    → open_ones ≡ open_rows log →
+    map (open_after e.kind) (filter (open_stays e.kind) open_ones) ++ option_to_list
+    (open_by e.kind jobs) ≡ open_rows (log ++ e ∷ [])
 open-absorb base count open_ones jobs log e sound is same placed_are same_open =
-    ap (λ os. map (open_after e.kind) (filter (open_stays e.kind) os) ++ option_to_list (open_by e.kind jobs)) (same_open ∙ map-all_agree (open_of log) (open_of next) (open_jobs log) (all-weaker (IsOpenAt log) (λ c. open_of log c ≡ open_of next c) unchanged (open_jobs log) (open_at base count log sound)))
-    ∙ ap (λ bs. map (open_after e.kind) (filter (open_stays e.kind) (map (open_of next) (open_jobs log))) ++ bs) (sym (new_open log e.now e.kind jobs (all-both (λ j. place_of j.job log ≡ Some j.reg) (λ j. address_of log j.reg ≡ Some j.server) (IsJobPlaced log) (λ j p q. (p, q)) jobs (jobs_at_place base count log jobs sound same) placed_are) (kept_job base count log e.kind jobs same is)))
-    ∙ sym (open_view-push (open_of next) (λ d o. open_after d.kind o) (λ d o. open_stays d.kind o) (open_of-grown next) (λ d c. refl) log e)
+    ap (λ os. map (open_after e.kind) (filter (open_stays e.kind) os) ++ option_to_list (open_by e.kind jobs))
+    (same_open ∙ map-all_agree (open_of log) (open_of next) (open_jobs log)
+    (all-weaker (IsOpenAt log) (λ c. open_of log c ≡ open_of next c) unchanged (open_jobs log)
+    (open_at base count log sound)))
+    ∙ ap (λ bs. map (open_after e.kind) (filter (open_stays e.kind) (map (open_of next) (open_jobs log)))
+    ++ bs) (sym (new_open log e.now e.kind jobs
+    (all-both (λ j. place_of j.job log ≡ Some j.reg) (λ j. address_of log j.reg ≡ Some j.server)
+    (IsJobPlaced log) (λ j p q. (p, q)) jobs (jobs_at_place base count log jobs sound same) placed_are)
+    (kept_job base count log e.kind jobs same is)))
+    ∙ sym (open_view-push (open_of next) (λ d o. open_after d.kind o) (λ d o. open_stays d.kind o)
+    (open_of-grown next) (λ d c. refl) log e)
   where
     next : List CoreEntry
     next = log ++ e ∷ []
@@ -363,4 +556,6 @@ open-absorb base count open_ones jobs log e sound is same placed_are same_open =
     unchanged : (c : Committed) → IsOpenAt log c → open_of log c ≡ open_of (log ++ e ∷ []) c
     unchanged c at =
         ap (λ o. record { job = c.job; reg = c.reg; server = o; state = state_now c })
-        (ap (option_and_then (address_of log)) at.at ∙ at.there ∙ sym (ap (option_and_then (address_of (log ++ e ∷ []))) at.at ∙ address-stays log e at.reg at.server at.there))
+        (ap (option_and_then (address_of log)) at.at ∙ at.there
+        ∙ sym (ap (option_and_then (address_of (log ++ e ∷ []))) at.at
+        ∙ address-stays log e at.reg at.server at.there))

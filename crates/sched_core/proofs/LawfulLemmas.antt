@@ -11,7 +11,8 @@ use Rattle.sched_core.proofs.RoomLemmas.{legal_bounded}
 use Rattle.sched_core.proofs.PickLemmas.{legal_fair}
 use Rattle.sched_core.proofs.JobLemmas.{legal_jobs}
 
-pub legal_lawful : (base count : ℕ) (log : List CoreEntry) → count < 2 ^ 64 → IsLegal base count log → IsLawful log
+pub legal_lawful : (base count : ℕ) (log : List CoreEntry) → count < 2 ^ 64 → IsLegal base count log
+    → IsLawful log
 legal_lawful base count log fits legal =
     let once = legal_all base count log fits legal in
     record {

@@ -1,5 +1,6 @@
 -- What holds of the reservations, the commits and the open jobs of each legal log.
-use Rattle.std.proofs.Common.{◌≡◌, ℕ, ◌+◌, ◌-◌, ◌^◌, ◌%◌, ◌<◌, List, [], ◌∷◌, ◌++◌, false, map, length, refl, ap, ◌∙◌, sym, subst, arith, eq-eqb, eqb-true, append-nil, length-append}
+use Rattle.std.proofs.Common.{◌≡◌, ℕ, ◌+◌, ◌-◌, ◌^◌, ◌%◌, ◌<◌, List, [], ◌∷◌, ◌++◌, false, map, length, refl}
+use Rattle.std.proofs.Common.{ap, ◌∙◌, sym, subst, arith, eq-eqb, eqb-true, append-nil, length-append}
 use Rattle.std.specs.Prelude.{◌==◌, option_to_list}
 use Rattle.std.specs.List.{AllByRecursion}
 use Rattle.std.specs.Option.{option_map}
@@ -36,20 +37,29 @@ mod_apart : (a b : ℕ) → a < b → b < a + 2 ^ 64 → a % 2 ^ 64 ≡ b % 2 ^ 
 mod_apart a b less near same = omega (arith, less, near, same)
 
 -- an id is none of those before it
-fresh_id : (base count : ℕ) (n : ℕ) (j : JobId) → IsId base count n j → count + n < 2 ^ 64 → (jobs : List JobId) → AllByRecursion (IsGiven base count n) jobs → AllByRecursion (λ k. same_job k j ≡ false) jobs
+fresh_id : (base count : ℕ) (n : ℕ) (j : JobId) → IsId base count n j → count + n < 2 ^ 64
+    → (jobs : List JobId) → AllByRecursion (IsGiven base count n) jobs
+    → AllByRecursion (λ k. same_job k j ≡ false) jobs
 fresh_id base count n j id fits [] all = tt
 fresh_id base count n j id fits (k ∷ jobs) all = (
-  is_false (same_job k j) (λ t. mod_apart (base + (count + all.0.0)) (base + (count + n)) (let lt = all.0.1 in omega (arith, lt)) (let lt = all.0.1 in omega (arith, lt, fits)) (sym all.0.2 ∙ eqb-true k.0 j.0 t ∙ id)),
+  is_false (same_job k j) (λ t. mod_apart (base + (count + all.0.0)) (base + (count + n))
+      (let lt = all.0.1 in omega (arith, lt)) (let lt = all.0.1 in omega (arith, lt, fits))
+      (sym all.0.2 ∙ eqb-true k.0 j.0 t ∙ id)),
   fresh_id base count n j id fits jobs all.1,
 )
 
-ids-push : (base count : ℕ) (jobs : List JobId) (j : JobId) → HasIds base count jobs → IsId base count (length jobs) j → count + length jobs + 1 < 2 ^ 64 → HasIds base count (jobs ++ j ∷ [])
+ids-push : (base count : ℕ) (jobs : List JobId) (j : JobId) → HasIds base count jobs
+    → IsId base count (length jobs) j → count + length jobs + 1 < 2 ^ 64 → HasIds base count (jobs ++ j ∷ [])
 ids-push base count jobs j ids id fits =
     let longer : length (jobs ++ j ∷ []) ≡ length jobs + 1 = length-append jobs (j ∷ []) in
     let here : length jobs < length (jobs ++ j ∷ []) = omega (arith, longer) in
     record {
-      given = all-append (IsGiven base count (length (jobs ++ j ∷ []))) jobs (j ∷ []) (all-weaker (IsGiven base count (length jobs)) (IsGiven base count (length (jobs ++ j ∷ []))) (λ k g. (g.0, (let lt = g.1 in omega (arith, lt, here)), g.2)) jobs ids.given) ((length jobs, here, id), tt);
-      distinct = distinct-push jobs j ids.distinct (fresh_id base count (length jobs) j id (omega (arith, fits)) jobs ids.given);
+      given = all-append (IsGiven base count (length (jobs ++ j ∷ []))) jobs (j ∷ [])
+          (all-weaker (IsGiven base count (length jobs)) (IsGiven base count (length (jobs ++ j ∷ [])))
+          (λ k g. (g.0, (let lt = g.1 in omega (arith, lt, here)), g.2)) jobs ids.given)
+          ((length jobs, here, id), tt);
+      distinct = distinct-push jobs j ids.distinct
+          (fresh_id base count (length jobs) j id (omega (arith, fits)) jobs ids.given);
       fits = omega (arith, longer, fits);
     }
 
@@ -60,7 +70,8 @@ jobs log = map (λ b. b.job) (bookings log)
 taken_jobs : (log : List CoreEntry) → map (λ b. b.job) (taken log) ≡ jobs log
 taken_jobs log = map-map (λ b. b.job) bare (bookings log)
 
-job_made : (k : CoreKind) (number now : ℕ) → map (λ b. b.job) (option_to_list (booked_by k number now [])) ≡ option_to_list (option_map (λ b. b.job) (booked_by k number now []))
+job_made : (k : CoreKind) (number now : ℕ) → map (λ b. b.job) (option_to_list (booked_by k number now []))
+    ≡ option_to_list (option_map (λ b. b.job) (booked_by k number now []))
 job_made (Beat server nonce cpus key pruned reaped replaced is_new) number now = refl
 job_made (Reserve (Job job reg forgiven)) number now = refl
 job_made (Reserve (NoRoom n)) number now = refl
@@ -70,42 +81,63 @@ job_made (Undo job noted was_ended) number now = refl
 job_made (Update server job state answer) number now = refl
 job_made (Status pruned servers cpus n) number now = refl
 
-pub jobs-push : (log : List CoreEntry) (e : CoreEntry) → jobs (log ++ e ∷ []) ≡ jobs log ++ option_to_list (option_map (λ b. b.job) (booked log e))
+pub jobs-push : (log : List CoreEntry) (e : CoreEntry) → jobs (log ++ e ∷ []) ≡ jobs log ++ option_to_list
+    (option_map (λ b. b.job) (booked log e))
 jobs-push log e =
-    sym (taken_jobs (log ++ e ∷ [])) ∙ ap (map (λ b. b.job)) (taken-push log e) ∙ map-append (λ b. b.job) (taken log) (option_to_list (booked log e))
-    ∙ ap (λ js. js ++ map (λ b. b.job) (option_to_list (booked log e))) (taken_jobs log) ∙ ap (λ js. jobs log ++ js) (job_made e.kind (length log) e.now)
+    sym (taken_jobs (log ++ e ∷ [])) ∙ ap (map (λ b. b.job)) (taken-push log e) ∙ map-append (λ b. b.job)
+    (taken log) (option_to_list (booked log e))
+    ∙ ap (λ js. js ++ map (λ b. b.job) (option_to_list (booked log e))) (taken_jobs log)
+    ∙ ap (λ js. jobs log ++ js) (job_made e.kind (length log) e.now)
 
 id_fits : (n : ℕ) → n < 2 ^ 64 → (n == 2 ^ 64 - 1) ≡ false → n + 1 < 2 ^ 64
-id_fits n lt other = let ne : n ≡ 2 ^ 64 - 1 → ⊥ = λ e. true_false (n == 2 ^ 64 - 1) (eq-eqb n (2 ^ 64 - 1) e) other in omega (arith, lt, ne)
+id_fits n lt other = let ne : n ≡ 2 ^ 64 - 1 → ⊥ = λ e. true_false (n == 2 ^ 64 - 1)
+    (eq-eqb n (2 ^ 64 - 1) e) other in omega (arith, lt, ne)
 
 jobs_length : (log : List CoreEntry) → length (jobs log) ≡ length (bookings log)
 jobs_length log = length-map (bookings log) (λ b. b.job)
 
-ids_made : (base count : ℕ) (log : List CoreEntry) (k : CoreKind) (number now : ℕ) → HasIds base count (jobs log) → Facts (core_of base count log) k → HasIds base count (jobs log ++ option_to_list (option_map (λ b. b.job) (booked_by k number now [])))
+ids_made : (base count : ℕ) (log : List CoreEntry) (k : CoreKind) (number now : ℕ)
+    → HasIds base count (jobs log) → Facts (core_of base count log) k
+    → HasIds base count (jobs log ++ option_to_list (option_map (λ b. b.job) (booked_by k number now [])))
 ids_made base count log (Reserve (Job job reg forgiven)) number now ids is =
     let same = jobs_length log in
     ids-push base count (jobs log) job ids (is.id ∙ ap (λ n. (base + (count + n)) % 2 ^ 64) (sym same))
-    (let fits = ids.fits in let room = id_fits (count + length (bookings log)) (omega (arith, fits, same)) is.left in omega (arith, room, same))
-ids_made base count log (Reserve (NoRoom n)) number now ids is = subst (HasIds base count) (sym (append-nil (jobs log))) ids
-ids_made base count log (Reserve Spent) number now ids is = subst (HasIds base count) (sym (append-nil (jobs log))) ids
-ids_made base count log (Beat server nonce cpus key pruned reaped replaced is_new) number now ids is = subst (HasIds base count) (sym (append-nil (jobs log))) ids
-ids_made base count log (Commit job state is_kept) number now ids is = subst (HasIds base count) (sym (append-nil (jobs log))) ids
-ids_made base count log (Undo job noted was_ended) number now ids is = subst (HasIds base count) (sym (append-nil (jobs log))) ids
-ids_made base count log (Update server job state answer) number now ids is = subst (HasIds base count) (sym (append-nil (jobs log))) ids
-ids_made base count log (Status pruned servers cpus n) number now ids is = subst (HasIds base count) (sym (append-nil (jobs log))) ids
+    (let fits = ids.fits in let room = id_fits (count + length (bookings log))
+    (omega (arith, fits, same)) is.left in omega (arith, room, same))
+ids_made base count log (Reserve (NoRoom n)) number now ids is = subst (HasIds base count)
+    (sym (append-nil (jobs log))) ids
+ids_made base count log (Reserve Spent) number now ids is = subst (HasIds base count)
+    (sym (append-nil (jobs log))) ids
+ids_made base count log (Beat server nonce cpus key pruned reaped replaced is_new) number now ids is =
+    subst (HasIds base count) (sym (append-nil (jobs log))) ids
+ids_made base count log (Commit job state is_kept) number now ids is = subst (HasIds base count)
+    (sym (append-nil (jobs log))) ids
+ids_made base count log (Undo job noted was_ended) number now ids is = subst (HasIds base count)
+    (sym (append-nil (jobs log))) ids
+ids_made base count log (Update server job state answer) number now ids is = subst (HasIds base count)
+    (sym (append-nil (jobs log))) ids
+ids_made base count log (Status pruned servers cpus n) number now ids is = subst (HasIds base count)
+    (sym (append-nil (jobs log))) ids
 
-pub ids-step : (base count : ℕ) (log : List CoreEntry) (e : CoreEntry) → HasIds base count (jobs log) → IsRule (core_of base count log) e → HasIds base count (jobs (log ++ e ∷ []))
-ids-step base count log e ids is = subst (HasIds base count) (sym (jobs-push log e)) (ids_made base count log e.kind (length log) e.now ids (facts (core_of base count log) e is))
+pub ids-step : (base count : ℕ) (log : List CoreEntry) (e : CoreEntry) → HasIds base count (jobs log)
+    → IsRule (core_of base count log) e → HasIds base count (jobs (log ++ e ∷ []))
+ids-step base count log e ids is = subst (HasIds base count) (sym (jobs-push log e))
+    (ids_made base count log e.kind (length log) e.now ids (facts (core_of base count log) e is))
 
 -- the job of a reserve is none of those before it
-pub fresh_job : (base count : ℕ) (log : List CoreEntry) (job : JobId) (reg : ℕ) → HasIds base count (jobs log) → JobFacts (core_of base count log) job reg → AllByRecursion (λ k. same_job k job ≡ false) (jobs log)
-fresh_job base count log job reg ids is = fresh_id base count (length (jobs log)) job (is.id ∙ ap (λ n. (base + (count + n)) % 2 ^ 64) (sym (jobs_length log))) ids.fits (jobs log) ids.given
+pub fresh_job : (base count : ℕ) (log : List CoreEntry) (job : JobId) (reg : ℕ) → HasIds base count (jobs log)
+    → JobFacts (core_of base count log) job reg → AllByRecursion (λ k. same_job k job ≡ false) (jobs log)
+fresh_job base count log job reg ids is = fresh_id base count (length (jobs log)) job
+    (is.id ∙ ap (λ n. (base + (count + n)) % 2 ^ 64) (sym (jobs_length log))) ids.fits (jobs log) ids.given
 
 pub no_ids : (base count : ℕ) → count < 2 ^ 64 → HasIds base count []
 no_ids base count fits = record { given = tt; distinct = tt; fits = omega (arith, fits) }
 
-pub legal_ids : (base count : ℕ) (log : List CoreEntry) → count < 2 ^ 64 → IsLegal base count log → HasIds base count (jobs log)
-legal_ids base count log fits legal = legal_has base count (λ l. HasIds base count (jobs l)) (no_ids base count fits) (λ l e ids is. ids-step base count l e ids is) log legal
+pub legal_ids : (base count : ℕ) (log : List CoreEntry) → count < 2 ^ 64 → IsLegal base count log
+    → HasIds base count (jobs log)
+legal_ids base count log fits legal = legal_has base count (λ l. HasIds base count (jobs l))
+    (no_ids base count fits) (λ l e ids is. ids-step base count l e ids is) log legal
 
-pub legal_distinct : (base count : ℕ) (log : List CoreEntry) → count < 2 ^ 64 → IsLegal base count log → AreDistinct (jobs log)
+pub legal_distinct : (base count : ℕ) (log : List CoreEntry) → count < 2 ^ 64 → IsLegal base count log
+    → AreDistinct (jobs log)
 legal_distinct base count log fits legal = (legal_ids base count log fits legal).distinct

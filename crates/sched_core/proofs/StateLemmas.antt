@@ -1,6 +1,8 @@
 -- What is decided over the books is what the rule gives over their log.
-use Rattle.std.proofs.Common.{◌≡◌, ℕ, ◌-◌, List, [], ◌∷◌, true, false, ◌&&◌, map, Option, Some, None, refl, ap, ◌∙◌, sym, subst, eqb-true}
-use Rattle.std.specs.Prelude.{◌==◌, ◌+◌, ◌^◌, ◌%◌, option_and_then, if◌then◌else◌, Result, Ok, Err, OnOk, IfErr}
+use Rattle.std.proofs.Common.{◌≡◌, ℕ, ◌-◌, List, [], ◌∷◌, true, false, ◌&&◌, map, Option, Some, None, refl}
+use Rattle.std.proofs.Common.{ap, ◌∙◌, sym, subst, eqb-true}
+use Rattle.std.specs.Prelude.{◌==◌, ◌+◌, ◌^◌, ◌%◌, option_and_then, if◌then◌else◌, Result, Ok, Err, OnOk}
+use Rattle.std.specs.Prelude.{IfErr}
 use Rattle.std.specs.List.{AllByRecursion, list_any, filter_map, cons_option, find}
 use Rattle.std.specs.Option.{option_map}
 use Rattle.dist_types.specs.declared.ids.JobId.{JobId}
@@ -16,7 +18,8 @@ use Rattle.sched_core.specs.declared.entry.UpdateAnswer.TheVariants.{Accepted, U
 use Rattle.sched_core.specs.Log.{Core, logged, same_job}
 use Rattle.sched_core.specs.Standing.{standing, address_of, key_at}
 use Rattle.sched_core.specs.Reservation.{unspent, unended}
-use Rattle.sched_core.specs.Rows.{row_of, servers_of, held_of, held_rows, held_by_id, held_part, job_at, jobs_of}
+use Rattle.sched_core.specs.Rows.{row_of, servers_of, held_of, held_rows, held_by_id, held_part, job_at}
+use Rattle.sched_core.specs.Rows.{jobs_of}
 use Rattle.sched_core.specs.Pick.{pick, forgiven}
 use Rattle.sched_core.specs.Answers.{Leaves, verdict}
 use Rattle.sched_core.specs.Rule.{is_among, place_at, reserved_at}
@@ -31,25 +34,37 @@ use Rattle.sched_core.proofs.RowLemmas.{at_there}
 
 -- the jobs that are shown
 
-full_part : (log : List CoreEntry) (js : List JobRow) → AllByRecursion (λ j. address_of log j.reg ≡ Some j.server) js → filter_map (λ h. option_map (λ server. job_at server h) (address_of log h.reg)) (map held_part js) ≡ js
+full_part : (log : List CoreEntry) (js : List JobRow)
+    → AllByRecursion (λ j. address_of log j.reg ≡ Some j.server) js
+    → filter_map (λ h. option_map (λ server. job_at server h) (address_of log h.reg)) (map held_part js) ≡ js
 full_part log [] all = refl
 full_part log (j ∷ js) all =
-    ap (λ o. cons_option (option_map (λ server. job_at server (held_part j)) o) (filter_map (λ h. option_map (λ server. job_at server h) (address_of log h.reg)) (map held_part js))) all.0
+    ap (λ o. cons_option (option_map (λ server. job_at server (held_part j)) o)
+    (filter_map (λ h. option_map (λ server. job_at server h) (address_of log h.reg)) (map held_part js)))
+    all.0
     ∙ ap (λ rest. j ∷ rest) (full_part log js all.1)
 
-pub jobs_are : (log : List CoreEntry) (js : List JobRow) → map held_part js ≡ held_by_id log → AllByRecursion (λ j. address_of log j.reg ≡ Some j.server) js → js ≡ jobs_of log
-jobs_are log js same all = sym (full_part log js all) ∙ ap (filter_map (λ h. option_map (λ server. job_at server h) (address_of log h.reg))) same
+pub jobs_are : (log : List CoreEntry) (js : List JobRow) → map held_part js ≡ held_by_id log
+    → AllByRecursion (λ j. address_of log j.reg ≡ Some j.server) js → js ≡ jobs_of log
+jobs_are log js same all = sym (full_part log js all)
+    ∙ ap (filter_map (λ h. option_map (λ server. job_at server h) (address_of log h.reg))) same
 
 -- a registration that stands, by its number
 
-pub row_address : (log : List CoreEntry) (rows : List ServerRow) (reg : ℕ) (row : ServerRow) → rows ≡ servers_of log → find (λ r. r.reg == reg) rows ≡ Some row → address_of log reg ≡ Some row.server
+pub row_address : (log : List CoreEntry) (rows : List ServerRow) (reg : ℕ) (row : ServerRow)
+    → rows ≡ servers_of log → find (λ r. r.reg == reg) rows ≡ Some row → address_of log reg ≡ Some row.server
 row_address log rows reg row same there =
-    let at : (address_of log row.reg ≡ Some row.server) × ((row.reg == reg) ≡ true) = at_there (λ r. r.reg == reg) rows row there (λ r. address_of log r.reg ≡ Some r.server) (subst (AllByRecursion (λ r. address_of log r.reg ≡ Some r.server)) (sym same) (rows_addressed log)) in
+    let at : (address_of log row.reg ≡ Some row.server) × ((row.reg == reg) ≡ true) =
+    at_there (λ r. r.reg == reg) rows row there (λ r. address_of log r.reg ≡ Some r.server)
+    (subst (AllByRecursion (λ r. address_of log r.reg ≡ Some r.server)) (sym same) (rows_addressed log))
+    in
     ap (address_of log) (sym (eqb-true row.reg reg at.1)) ∙ at.0
 
-pub row_found : (rows : List ServerRow) (reg : ℕ) → list_any (λ r. r.reg == reg) rows ≡ true → find (λ r. r.reg == reg) rows ≡ None → ⊥
+pub row_found : (rows : List ServerRow) (reg : ℕ) → list_any (λ r. r.reg == reg) rows ≡ true
+    → find (λ r. r.reg == reg) rows ≡ None → ⊥
 row_found rows reg some none =
-    let at : (r : ServerRow) × (find (λ r. r.reg == reg) rows ≡ Some r) × Unit {0} × ((r.reg == reg) ≡ true) = found_first (λ r. Unit {0}) (λ r. r.reg == reg) rows (all_unit rows) some in
+    let at : (r : ServerRow) × (find (λ r. r.reg == reg) rows ≡ Some r) × Unit {0} × ((r.reg == reg) ≡ true) =
+    found_first (λ r. Unit {0}) (λ r. r.reg == reg) rows (all_unit rows) some in
     let no : None ≡ Some at.0 = sym none ∙ at.1 in absurd cc
   where
     all_unit : (rs : List ServerRow) → AllByRecursion (λ r. Unit {0}) rs
@@ -57,53 +72,77 @@ row_found rows reg some none =
     all_unit (r ∷ rs) = (tt, all_unit rs)
 
 pub keys_known : (log : List CoreEntry) → AllByRecursion (λ k. key_at log k.0 ≡ Some k.1) (keys_of log)
-keys_known log = all-map (λ k. key_at log k.0 ≡ Some k.1) key_of (standing log) (all-weaker (λ g. (address_of log g.reg ≡ Some g.server) × (key_at log g.reg ≡ Some g.key)) (λ g. key_at log g.reg ≡ Some g.key) (λ g h. h.1) (standing log) (cards_are log))
+keys_known log = all-map (λ k. key_at log k.0 ≡ Some k.1) key_of (standing log)
+    (all-weaker (λ g. (address_of log g.reg ≡ Some g.server) × (key_at log g.reg ≡ Some g.key))
+    (λ g. key_at log g.reg ≡ Some g.key) (λ g h. h.1) (standing log) (cards_are log))
 
-pub key_stands : (log : List CoreEntry) (reg : ℕ) → list_any (λ r. r.reg == reg) (servers_of log) ≡ true → list_any (λ k. k.0 == reg) (keys_of log) ≡ true
-key_stands log reg some = list_any-map (λ k. k.0 == reg) key_of (standing log) ∙ sym (list_any-map (λ r. r.reg == reg) (row_of log) (standing log)) ∙ some
+pub key_stands : (log : List CoreEntry) (reg : ℕ) → list_any (λ r. r.reg == reg) (servers_of log) ≡ true
+    → list_any (λ k. k.0 == reg) (keys_of log) ≡ true
+key_stands log reg some = list_any-map (λ k. k.0 == reg) key_of (standing log)
+    ∙ sym (list_any-map (λ r. r.reg == reg) (row_of log) (standing log)) ∙ some
 
 -- what is reserved is at a row
-pub reserved_row : (rows : List ServerRow) (now base given : ℕ) → IsAtRow (reserved_at (pick rows) rows now base given) rows
+pub reserved_row : (rows : List ServerRow) (now base given : ℕ)
+    → IsAtRow (reserved_at (pick rows) rows now base given) rows
 reserved_row rows now base given = split (pick rows) refl
   where
     split : (o : Option ServerRow) → pick rows ≡ o → IsAtRow (reserved_at o rows now base given) rows
     split None is = tt
-    split (Some row) is = elim (given == 2 ^ 64 - 1) as (λ b. IsAtRow (if b then Spent else Job (record { 0 = (base + given) % 2 ^ 64 }) row.reg (forgiven now rows)) rows) [ true ↦ tt | false ↦ (pick_there rows row is).0 ]
+    split (Some row) is = elim (given == 2 ^ 64 - 1) as
+        (λ b. IsAtRow (if b then Spent else Job (record { 0 = (base + given) % 2 ^ 64 }) row.reg
+        (forgiven now rows)) rows) [ true ↦ tt | false ↦ (pick_there rows row is).0 ]
 
 -- spending
 
-pub spent_among : (us : List UnspentRow) (log : List CoreEntry) (number : ℕ) (job : JobId) → map place_of_unspent us ≡ map place_of_booking (unspent log) → list_any (λ u. (u.number == number) && same_job u.job job) us ≡ is_among (unspent log) number job
+pub spent_among : (us : List UnspentRow) (log : List CoreEntry) (number : ℕ) (job : JobId)
+    → map place_of_unspent us ≡ map place_of_booking (unspent log)
+    → list_any (λ u. (u.number == number) && same_job u.job job) us ≡ is_among (unspent log) number job
 spent_among us log number job same =
     sym (list_any-map (λ (p : (ℕ × JobId) × ℕ). (p.0.0 == number) && same_job p.0.1 job) place_of_unspent us)
     ∙ ap (list_any (λ (p : (ℕ × JobId) × ℕ). (p.0.0 == number) && same_job p.0.1 job)) same
-    ∙ list_any-map (λ (p : (ℕ × JobId) × ℕ). (p.0.0 == number) && same_job p.0.1 job) place_of_booking (unspent log)
+    ∙ list_any-map (λ (p : (ℕ × JobId) × ℕ). (p.0.0 == number) && same_job p.0.1 job) place_of_booking
+    (unspent log)
 
-pub held_among : (held : List HeldRow) (log : List CoreEntry) (number : ℕ) (job : JobId) → held ≡ held_rows log → list_any (λ h. (h.number == number) && same_job h.job job) held ≡ is_among (unended log) number job
-held_among held log number job same = ap (list_any (λ h. (h.number == number) && same_job h.job job)) same ∙ list_any-map (λ h. (h.number == number) && same_job h.job job) held_of (unended log)
+pub held_among : (held : List HeldRow) (log : List CoreEntry) (number : ℕ) (job : JobId)
+    → held ≡ held_rows log → list_any (λ h. (h.number == number) && same_job h.job job) held ≡ is_among
+    (unended log) number job
+held_among held log number job same = ap (list_any (λ h. (h.number == number) && same_job h.job job)) same
+    ∙ list_any-map (λ h. (h.number == number) && same_job h.job job) held_of (unended log)
 
 abbrev IsPlaced : List CoreEntry → UnspentRow → Type 0
 IsPlaced log u = (place_at log u.number ≡ Some u.reg) × (address_of log u.reg ≡ Some u.server)
 
 -- the address of the unspent reservation is that of its place
-pub spent_address : (us : List UnspentRow) (log : List CoreEntry) (number : ℕ) (job : JobId) → AllByRecursion (λ u. (place_at log u.number ≡ Some u.reg) × (address_of log u.reg ≡ Some u.server)) us → list_any (λ u. (u.number == number) && same_job u.job job) us ≡ true →
-    option_map (λ u. u.server) (find (λ u. (u.number == number) && same_job u.job job) us) ≡ option_and_then (address_of log) (place_at log number)
+pub spent_address : (us : List UnspentRow) (log : List CoreEntry) (number : ℕ) (job : JobId)
+    → AllByRecursion (λ u. (place_at log u.number ≡ Some u.reg) × (address_of log u.reg ≡ Some u.server)) us
+    → list_any (λ u. (u.number == number) && same_job u.job job) us ≡ true →
+    option_map (λ u. u.server) (find (λ u. (u.number == number) && same_job u.job job) us) ≡ option_and_then
+    (address_of log) (place_at log number)
 spent_address us log number job all some =
-    let at : (u : UnspentRow) × (find (λ u. (u.number == number) && same_job u.job job) us ≡ Some u) × IsPlaced log u × (((u.number == number) && same_job u.job job) ≡ true) = found_first (IsPlaced log) (λ u. (u.number == number) && same_job u.job job) us all some in
+    let at : (u : UnspentRow) × (find (λ u. (u.number == number) && same_job u.job job) us ≡ Some u)
+    × IsPlaced log u × (((u.number == number) && same_job u.job job) ≡ true) = found_first (IsPlaced log)
+    (λ u. (u.number == number) && same_job u.job job) us all some in
     ap (option_map (λ u. u.server)) at.1
     ∙ sym at.2.1
     ∙ ap (option_and_then (address_of log)) (sym at.2.0)
-    ∙ ap (λ n. option_and_then (address_of log) (place_at log n)) (eqb-true at.0.number number (and_left (at.0.number == number) (same_job at.0.job job) at.3))
+    ∙ ap (λ n. option_and_then (address_of log) (place_at log n))
+    (eqb-true at.0.number number (and_left (at.0.number == number) (same_job at.0.job job) at.3))
 
 -- the test of the number and the job finds one that the entry spends
-pub spends_one : (us : List UnspentRow) (number : ℕ) (job : JobId) → list_any (λ u. (u.number == number) && same_job u.job job) us ≡ true → list_any (λ u. same_job job u.job) us ≡ true
-spends_one us number job some = any-weaker (λ u. (u.number == number) && same_job u.job job) (λ u. same_job job u.job) (λ u t. same_job-sym u.job job (and_right (u.number == number) (same_job u.job job) t)) us some
+pub spends_one : (us : List UnspentRow) (number : ℕ) (job : JobId)
+    → list_any (λ u. (u.number == number) && same_job u.job job) us ≡ true
+    → list_any (λ u. same_job job u.job) us ≡ true
+spends_one us number job some = any-weaker (λ u. (u.number == number) && same_job u.job job)
+    (λ u. same_job job u.job)
+    (λ u t. same_job-sym u.job job (and_right (u.number == number) (same_job u.job job) t)) us some
 
 -- what an update answers is no want of memory
 pub on_ok : {T E : Type 0} (r : Result T E) (P : Type 0) → P → OnOk r P
 on_ok (Ok x) P p = p
 on_ok (Err e) P p = tt
 
-pub verdict_leaves : (answer : UpdateAnswer) (state : JobState) (old new : Core) (made : CoreEntry) → new ≡ logged old made → IfErr (verdict answer state) (λ e. Leaves e old new made)
+pub verdict_leaves : (answer : UpdateAnswer) (state : JobState) (old new : Core) (made : CoreEntry)
+    → new ≡ logged old made → IfErr (verdict answer state) (λ e. Leaves e old new made)
 verdict_leaves Accepted state old new made is = tt
 verdict_leaves Unknown state old new made is = is
 verdict_leaves Wrong state old new made is = is

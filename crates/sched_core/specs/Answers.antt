@@ -1,5 +1,6 @@
 -- What the calls answer that make and spend reservations, and the updates, read off their entries.
-use Rattle.std.specs.Prelude.{◌≡◌, ℕ, List, length, Bool, false, Option, Some, None, Result, Ok, Err, if◌then◌else◌}
+use Rattle.std.specs.Prelude.{◌≡◌, ℕ, List, length, Bool, false, Option, Some, None, Result, Ok, Err}
+use Rattle.std.specs.Prelude.{if◌then◌else◌}
 use Rattle.dist_types.specs.declared.ids.JobId.{JobId}
 use Rattle.sched_core.specs.declared.entry.CoreEntry.{CoreEntry}
 use Rattle.sched_core.specs.declared.entry.CoreKind.{CoreKind}
@@ -31,20 +32,27 @@ Leaves other old new made = new ≡ logged old made
 -- reserve
 
 -- the text is a job's token of an authorizer under the key of the registration's own heartbeat
-abbrev pub IsTokenAt : {A : Type 0} → (A → List ℕ) → (A → ℕ → List ℕ) → List CoreEntry → ℕ → JobId → List ℕ → Type 0
-IsTokenAt {A} key_of token_for log reg job text = (authorizer : A) × (key_at log reg ≡ Some (key_of authorizer)) × (text ≡ token_for authorizer job.0)
+abbrev pub IsTokenAt : {A : Type 0} → (A → List ℕ) → (A → ℕ → List ℕ) → List CoreEntry → ℕ → JobId → List ℕ
+    → Type 0
+IsTokenAt {A} key_of token_for log reg job text = (authorizer : A)
+    × (key_at log reg ≡ Some (key_of authorizer)) × (text ≡ token_for authorizer job.0)
 
--- A reservation of the job at the registration, made by the next entry of the log: it has that entry's number, the registration's address and the job's token.
-pub record IsTicket {A : Type 0} (key_of : A → List ℕ) (token_for : A → ℕ → List ℕ) (log : List CoreEntry) (asked : JobId) (at : ℕ) (r : Ticket) : Type 0 where
+-- A reservation of the job at the registration, made by the next entry of the log: it has that entry's
+-- number, the registration's address and the job's token.
+pub record IsTicket {A : Type 0} (key_of : A → List ℕ) (token_for : A → ℕ → List ℕ) (log : List CoreEntry)
+    (asked : JobId) (at : ℕ) (r : Ticket) : Type 0 where
   pub number : r.number ≡ length log
   pub job : r.job ≡ asked
   pub reg : r.reg ≡ at
   pub server : address_of log at ≡ Some r.server
   pub token : IsTokenAt key_of token_for log at asked r.auth
 
--- what a reserve makes: the reservation, or as many registrations without room, or nothing where the ids are spent
-abbrev pub IsMade : {A : Type 0} → (A → List ℕ) → (A → ℕ → List ℕ) → List CoreEntry → Reserved → Option Picked → Type 0
-IsMade key_of token_for log (Job job reg forgiven) (Some (picked.Reserved r)) = IsTicket key_of token_for log job reg r
+-- what a reserve makes: the reservation, or as many registrations without room, or nothing where the ids are
+-- spent
+abbrev pub IsMade : {A : Type 0} → (A → List ℕ) → (A → ℕ → List ℕ) → List CoreEntry → Reserved → Option Picked
+    → Type 0
+IsMade key_of token_for log (Job job reg forgiven) (Some (picked.Reserved r)) =
+    IsTicket key_of token_for log job reg r
 IsMade key_of token_for log (NoRoom standing) (Some (picked.NoRoom n)) = n ≡ standing
 IsMade key_of token_for log Spent None = Unit {0}
 IsMade key_of token_for log reserved other = ⊥
@@ -55,7 +63,8 @@ picked_or_spent None = Err error.IdsSpent
 picked_or_spent (Some p) = Ok p
 
 -- what a reserve picks, by its entry
-abbrev pub IsPicked : {A : Type 0} → (A → List ℕ) → (A → ℕ → List ℕ) → List CoreEntry → CoreKind → Picked → Type 0
+abbrev pub IsPicked : {A : Type 0} → (A → List ℕ) → (A → ℕ → List ℕ) → List CoreEntry → CoreKind → Picked
+    → Type 0
 IsPicked key_of token_for log (Reserve reserved) p = IsMade key_of token_for log reserved (Some p)
 IsPicked key_of token_for log other p = ⊥
 
@@ -74,7 +83,10 @@ keeps_by other = false
 
 -- what a commit answers: foreign where the reservation is none of the unspent ones, else by its entry
 abbrev pub committed_by : Bool → CoreKind → Ticket → Committed
-committed_by own kind r = if own then (if keeps_by kind then committed.Kept (record { auth = r.auth; job_id = r.job; server_id = r.server }) else committed.Dropped r.job) else committed.Foreign r.job
+committed_by own kind r = if own
+    then (if keeps_by kind then committed.Kept
+    (record { auth = r.auth; job_id = r.job; server_id = r.server }) else committed.Dropped r.job)
+    else committed.Foreign r.job
 
 -- where an undo ended no reservation: whether it noted a registration
 abbrev pub unended_by : Option ℕ → Undone

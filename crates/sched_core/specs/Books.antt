@@ -1,5 +1,7 @@
 -- What the scheduler keeps beside its log, and what one entry does to it.
-use Rattle.std.specs.Prelude.{◌≡◌, ◌≤◌, ◌<◌, ℕ, ◌+◌, ◌-◌, ◌^◌, List, [], ◌++◌, length, map, filter, Bool, true, false, not, ◌&&◌, ◌||◌, ◌==◌, nat_lt, Option, Some, None, if◌then◌else◌, count_by, unwrap_or, option_to_list, min, vec_len, vec_capacity}
+use Rattle.std.specs.Prelude.{◌≡◌, ◌≤◌, ◌<◌, ℕ, ◌+◌, ◌-◌, ◌^◌, List, [], ◌++◌, length, map, filter, Bool}
+use Rattle.std.specs.Prelude.{true, false, not, ◌&&◌, ◌||◌, ◌==◌, nat_lt, Option, Some, None, if◌then◌else◌}
+use Rattle.std.specs.Prelude.{count_by, unwrap_or, option_to_list, min, vec_len, vec_capacity}
 use Rattle.std.specs.List.{AllByRecursion, find, list_any}
 use Rattle.std.specs.Option.{option_map}
 use Rattle.dist_types.specs.declared.ids.JobId.{JobId}
@@ -17,7 +19,8 @@ use Rattle.sched_core.specs.declared.vectors.UnspentRow.{UnspentRow}
 use Rattle.sched_core.specs.declared.vectors.Vectors.{Vectors}
 use Rattle.sched_core.specs.Log.{same_job, is_this, newer}
 use Rattle.sched_core.specs.Standing.{Registered, standing, ends_by, renews_by, is_heard, address_of}
-use Rattle.sched_core.specs.Reservation.{Booking, bookings, unspent, spends_by, frees_by, claims_by, is_complete}
+use Rattle.sched_core.specs.Reservation.{Booking, bookings, unspent, spends_by, frees_by, claims_by}
+use Rattle.sched_core.specs.Reservation.{is_complete}
 use Rattle.sched_core.specs.Fault.{notes_by, forgives_by}
 use Rattle.sched_core.specs.Job.{moves_by, closes_by}
 use Rattle.sched_core.specs.Rows.{servers_of, held_rows, open_rows, placed, held_part, held_by_id}
@@ -38,7 +41,8 @@ place_if (Some o) = o.reg
 
 -- the registration whose open job an update names that counts as a sign
 abbrev pub served_by : CoreKind → List OpenRow → Option ℕ
-served_by (Update server job state answer) open_ones = if is_heard answer then place_if (find (λ o. same_job o.job job) open_ones) else None
+served_by (Update server job state answer) open_ones = if is_heard answer
+    then place_if (find (λ o. same_job o.job job) open_ones) else None
 served_by other open_ones = None
 
 -- how many of the reservations at a registration an entry ends
@@ -60,7 +64,8 @@ takes_by other r = false
 
 -- the remembered error after an entry
 abbrev pub error_after : CoreEntry → ℕ → Option ℕ → Option ℕ
-error_after e reg before = if notes_by e.kind reg then Some e.now else (if forgives_by e.kind reg then None else before)
+error_after e reg before = if notes_by e.kind reg then Some e.now
+    else (if forgives_by e.kind reg then None else before)
 
 -- one more, at most 2^64 - 1
 abbrev pub one_more_if : Bool → ℕ → ℕ
@@ -77,7 +82,15 @@ row_after e served row = record row {
 -- the row of the registration that an entry of this number makes
 abbrev pub row_by : CoreKind → ℕ → ℕ → Option ServerRow
 row_by (Beat server nonce cpus key pruned reaped replaced is_new) number now =
-    if is_new then Some (record { reg = number; server = server; cpus = cpus; nonce = nonce; seen = now; load = 0; error = None }) else None
+    if is_new then Some (record {
+      reg = number;
+      server = server;
+      cpus = cpus;
+      nonce = nonce;
+      seen = now;
+      load = 0;
+      error = None;
+    }) else None
 row_by other number now = None
 
 -- the keys of the registrations that stand
@@ -92,7 +105,8 @@ keys_of log = map key_of (standing log)
 
 -- the key that an entry of this number brings
 abbrev pub key_by : CoreKind → ℕ → Option (ℕ × List ℕ)
-key_by (Beat server nonce cpus key pruned reaped replaced is_new) number = if is_new then Some (number, key) else None
+key_by (Beat server nonce cpus key pruned reaped replaced is_new) number = if is_new then Some (number, key)
+    else None
 key_by other number = None
 
 -- whether an entry leaves the key's registration standing
@@ -108,7 +122,8 @@ begins_by other j = None
 
 -- the state of the job after an entry: that of a commit, or where it is committed that of an accepted update
 abbrev pub state_after : CoreKind → JobId → Option JobState → Option JobState
-state_after kind job before = newer (begins_by kind job) (option_map (λ s. unwrap_or (moves_by kind job) s) before)
+state_after kind job before = newer (begins_by kind job)
+    (option_map (λ s. unwrap_or (moves_by kind job) s) before)
 
 -- whether an entry leaves the reservation unended
 abbrev pub held_stays : CoreKind → HeldRow → Bool
@@ -116,11 +131,16 @@ held_stays kind h = not (frees_by kind h.job h.reg)
 
 -- the row of a reservation after an entry
 abbrev pub held_after : CoreKind → HeldRow → HeldRow
-held_after kind h = record h { state = state_after kind h.job h.state; claimed = h.claimed || claims_by kind h.job }
+held_after kind h = record h {
+  state = state_after kind h.job h.state;
+  claimed = h.claimed
+      || claims_by kind h.job;
+}
 
 -- the reservation that an entry of this number makes
 abbrev pub held_by : CoreKind → ℕ → ℕ → Option HeldRow
-held_by (Reserve (Job job reg forgiven)) number now = Some (record { number = number; job = job; reg = reg; reserved_at = now; state = None; claimed = false })
+held_by (Reserve (Job job reg forgiven)) number now =
+    Some (record { number = number; job = job; reg = reg; reserved_at = now; state = None; claimed = false })
 held_by other number now = None
 
 -- the unended reservations with the addresses of their registrations
@@ -131,12 +151,25 @@ job_stays kind j = not (frees_by kind j.job j.reg)
 
 -- the row of a reservation after an entry
 abbrev pub job_after : CoreKind → JobRow → JobRow
-job_after kind j = record j { state = state_after kind j.job j.state; claimed = j.claimed || claims_by kind j.job }
+job_after kind j = record j {
+  state = state_after kind j.job j.state;
+  claimed = j.claimed
+      || claims_by kind j.job;
+}
 
 -- the reservation that is made at the row of its registration, if that stands
 abbrev pub job_over : Option ServerRow → ℕ → JobId → ℕ → Option JobRow
 job_over None number job now = None
-job_over (Some row) number job now = Some (record { number = number; job = job; reg = row.reg; server = row.server; reserved_at = now; state = None; claimed = false })
+job_over (Some row) number job now =
+    Some (record {
+      number = number;
+      job = job;
+      reg = row.reg;
+      server = row.server;
+      reserved_at = now;
+      state = None;
+      claimed = false;
+    })
 
 -- the reservation that a reserve of this number makes, where its registration is one of the rows
 abbrev pub job_in : Reserved → List ServerRow → ℕ → ℕ → Option JobRow
@@ -166,11 +199,13 @@ open_after kind o = record o { state = unwrap_or (moves_by kind o.job) o.state }
 -- the open job that a commit keeps, at the place of its reservation
 abbrev pub open_over : Option JobRow → JobState → Option OpenRow
 open_over None state = None
-open_over (Some j) state = Some (record { job = j.job; reg = Some j.reg; server = Some j.server; state = state })
+open_over (Some j) state =
+    Some (record { job = j.job; reg = Some j.reg; server = Some j.server; state = state })
 
 -- the open job that an entry makes: a commit that keeps a job and does not end it
 abbrev pub open_by : CoreKind → List JobRow → Option OpenRow
-open_by (Commit job state kept) jobs = if kept && not (is_complete state) then open_over (find (λ j. same_job j.job job) jobs) state else None
+open_by (Commit job state kept) jobs = if kept && not (is_complete state)
+    then open_over (find (λ j. same_job j.job job) jobs) state else None
 open_by other jobs = None
 
 -- the unspent reservations
@@ -194,7 +229,9 @@ place_of_booking b = ((b.number, b.job), b.reg)
 
 -- what is kept, as lists
 
--- The registrations that stand, by rising number; the unended reservations, in the order of their reserving and, with addresses, by rising job id; the open jobs, in the order of their commits; the unspent reservations, in the order of their reserving; and how many reservations were made.
+-- The registrations that stand, by rising number; the unended reservations, in the order of their reserving
+-- and, with addresses, by rising job id; the open jobs, in the order of their commits; the unspent
+-- reservations, in the order of their reserving; and how many reservations were made.
 pub record Lists : Type 0 where
   pub rows : List ServerRow
   pub held : List HeldRow
@@ -207,7 +244,8 @@ pub record Lists : Type 0 where
 abbrev pub no_lists : Lists
 no_lists = record { rows = []; held = []; jobs = []; open_ones = []; unspent = []; made = 0 }
 
--- What contracts see of the books: the lists, and whether there is room for one registration more, and for one reservation more.
+-- What contracts see of the books: the lists, and whether there is room for one registration more, and for
+-- one reservation more.
 pub record Kept : Type 0 where
   pub lists : Lists
   pub has_row_room : Bool
@@ -217,23 +255,29 @@ pub record Kept : Type 0 where
 
 -- the rows: those that stay, with their loads, last signs and errors, and the one that is made
 abbrev pub rows_next : Lists → CoreEntry → ℕ → List ServerRow
-rows_next lists e number = map (row_after e (served_by e.kind lists.open_ones)) (map (row_freed e.kind lists.held) (filter (row_stays e.kind) lists.rows)) ++ option_to_list (row_by e.kind number e.now)
+rows_next lists e number = map (row_after e (served_by e.kind lists.open_ones))
+    (map (row_freed e.kind lists.held) (filter (row_stays e.kind) lists.rows)) ++ option_to_list
+    (row_by e.kind number e.now)
 
 -- the unended reservations: those that stay, with the states of their jobs, and the one that is made
 abbrev pub held_next : Lists → CoreEntry → ℕ → List HeldRow
-held_next lists e number = map (held_after e.kind) (filter (held_stays e.kind) lists.held) ++ option_to_list (held_by e.kind number e.now)
+held_next lists e number = map (held_after e.kind) (filter (held_stays e.kind) lists.held) ++ option_to_list
+    (held_by e.kind number e.now)
 
 -- the same with their addresses, the new one in its place by the job id
 abbrev pub jobs_next : Lists → CoreEntry → ℕ → List JobRow
-jobs_next lists e number = job_placed (job_by e.kind lists.rows number e.now) (map (job_after e.kind) (filter (job_stays e.kind) lists.jobs))
+jobs_next lists e number = job_placed (job_by e.kind lists.rows number e.now)
+    (map (job_after e.kind) (filter (job_stays e.kind) lists.jobs))
 
 -- the open jobs: those that stay open, with their states, and the one that is committed
 abbrev pub open_next : Lists → CoreEntry → List OpenRow
-open_next lists e = map (open_after e.kind) (filter (open_stays e.kind) lists.open_ones) ++ option_to_list (open_by e.kind lists.jobs)
+open_next lists e = map (open_after e.kind) (filter (open_stays e.kind) lists.open_ones) ++ option_to_list
+    (open_by e.kind lists.jobs)
 
 -- the unspent reservations: those that stay so, and the one that is made
 abbrev pub unspent_next : Lists → CoreEntry → ℕ → List UnspentRow
-unspent_next lists e number = filter (unspent_stays e.kind) lists.unspent ++ option_to_list (unspent_by (job_by e.kind lists.rows number e.now))
+unspent_next lists e number = filter (unspent_stays e.kind) lists.unspent ++ option_to_list
+    (unspent_by (job_by e.kind lists.rows number e.now))
 
 -- how many reservations were made
 abbrev pub made_next : Lists → CoreEntry → ℕ
@@ -246,7 +290,14 @@ IsAtRow other rows = Unit {0}
 
 -- all of them
 abbrev pub lists_next : Lists → CoreEntry → ℕ → Lists
-lists_next lists e number = record { rows = rows_next lists e number; held = held_next lists e number; jobs = jobs_next lists e number; open_ones = open_next lists e; unspent = unspent_next lists e number; made = made_next lists e }
+lists_next lists e number = record {
+  rows = rows_next lists e number;
+  held = held_next lists e number;
+  jobs = jobs_next lists e number;
+  open_ones = open_next lists e;
+  unspent = unspent_next lists e number;
+  made = made_next lists e;
+}
 
 -- room
 
@@ -274,7 +325,14 @@ IsOfUnspent other unspent = Unit {0}
 
 -- the plain vectors as lists
 abbrev pub lists_of : Vectors → Lists
-lists_of books = record { rows = books.rows.items; held = books.held.items; jobs = books.jobs.items; open_ones = books.open_ones.items; unspent = books.unspent.items; made = books.made }
+lists_of books = record {
+  rows = books.rows.items;
+  held = books.held.items;
+  jobs = books.jobs.items;
+  open_ones = books.open_ones.items;
+  unspent = books.unspent.items;
+  made = books.made;
+}
 
 -- there is room for one more reservation in each vector that lists it
 pub record HasJobRoom (books : Vectors) : Type 0 where
@@ -288,7 +346,9 @@ has_row_room books = nat_lt (vec_len books.rows) (vec_capacity books.rows)
 
 -- whether there is room for one more reservation, and for its job among the open ones
 abbrev pub has_job_room : Vectors → Bool
-has_job_room books = nat_lt (vec_len books.held) (vec_capacity books.held) && nat_lt (vec_len books.jobs) (vec_capacity books.jobs) && nat_lt (vec_len books.unspent) (vec_capacity books.unspent) && nat_lt (vec_len books.open_ones + length books.unspent.items) (vec_capacity books.open_ones)
+has_job_room books = nat_lt (vec_len books.held) (vec_capacity books.held) && nat_lt (vec_len books.jobs)
+    (vec_capacity books.jobs) && nat_lt (vec_len books.unspent) (vec_capacity books.unspent)
+    && nat_lt (vec_len books.open_ones + length books.unspent.items) (vec_capacity books.open_ones)
 
 -- the open jobs have room for the job of each unspent reservation
 abbrev pub HasOpenRoom : Vectors → Type 0
@@ -305,11 +365,14 @@ pub record AreBooks (books : Lists) (kept_keys : List (ℕ × List ℕ)) (log : 
   pub jobs_placed : AllByRecursion (λ j. address_of log j.reg ≡ Some j.server) books.jobs
   pub open_ones : books.open_ones ≡ open_rows log
   pub unspent : map place_of_unspent books.unspent ≡ map place_of_booking (unspent log)
-  pub unspent_placed : AllByRecursion (λ u. (place_at log u.number ≡ Some u.reg) × (address_of log u.reg ≡ Some u.server)) books.unspent
+  pub unspent_placed : AllByRecursion (λ u. (place_at log u.number ≡ Some u.reg)
+      × (address_of log u.reg ≡ Some u.server)) books.unspent
   pub made : books.made ≡ length (bookings log)
 
--- The books are the log's, and each entry of the log is the core rule's. The log has room for each unspent reservation to be spent.
-pub record IsState (base count : ℕ) (lists : Lists) (kept_keys : List (ℕ × List ℕ)) (log : List CoreEntry) (log_len log_capacity : ℕ) : Type 0 where
+-- The books are the log's, and each entry of the log is the core rule's. The log has room for each unspent
+-- reservation to be spent.
+pub record IsState (base count : ℕ) (lists : Lists) (kept_keys : List (ℕ × List ℕ)) (log : List CoreEntry)
+    (log_len log_capacity : ℕ) : Type 0 where
   pub books : AreBooks lists kept_keys log
   pub legal : IsLegal base count log
   pub log_room : log_len + length lists.unspent ≤ log_capacity

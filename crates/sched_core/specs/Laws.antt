@@ -1,5 +1,6 @@
 -- Logs whose entries are each the core rule's over those before them, and what every such log has.
-use Rattle.std.specs.Prelude.{◌≡◌, ◌≢◌, ◌≤◌, ◌<◌, ℕ, ◌+◌, ◌/◌, ◌^◌, List, [], ◌∷◌, length, map, filter, Bool, true, false, ◌==◌, count_by}
+use Rattle.std.specs.Prelude.{◌≡◌, ◌≢◌, ◌≤◌, ◌<◌, ℕ, ◌+◌, ◌/◌, ◌^◌, List, [], ◌∷◌, length, map, filter, Bool}
+use Rattle.std.specs.Prelude.{true, false, ◌==◌, count_by}
 use Rattle.std.specs.List.{AllByRecursion, list_any, filter_map}
 use Rattle.std.specs.List.Sorted.{IsPermutation}
 use Rattle.sched_core.specs.Cuts.{cuts, cuts_behind}
@@ -14,7 +15,8 @@ use Rattle.sched_core.specs.declared.rows.JobRow.{JobRow}
 use Rattle.sched_core.specs.declared.call.Call.{Call}
 use Rattle.sched_core.specs.Log.{Core, same_job}
 use Rattle.sched_core.specs.Standing.{Registered, registrations, standing, ended, ends_by}
-use Rattle.sched_core.specs.Reservation.{Booking, bookings, spends_by, ends_job_by, frees_by, unended, load_of}
+use Rattle.sched_core.specs.Reservation.{Booking, bookings, spends_by, ends_job_by, frees_by, unended}
+use Rattle.sched_core.specs.Reservation.{load_of}
 use Rattle.sched_core.specs.Job.{Committed, commits, open_jobs, moves_of}
 use Rattle.sched_core.specs.Pick.{has_room, is_faultless, is_lighter, is_older}
 use Rattle.sched_core.specs.Rows.{servers_of, job_row, jobs_of}
@@ -27,7 +29,9 @@ IsRule s e = (call : Call) × IsCall s call × (e ≡ rule s call)
 
 -- the same, behind a front of entries
 abbrev pub IsLegalBehind : ℕ → ℕ → List CoreEntry → List CoreEntry → Type 0
-IsLegalBehind base count front log = AllByRecursion (λ c. IsRule (record { base = base; count = count; log = c.before }) c.at) (cuts_behind front log)
+IsLegalBehind base count front log =
+    AllByRecursion (λ c. IsRule (record { base = base; count = count; log = c.before }) c.at)
+    (cuts_behind front log)
 
 -- each entry is the rule's over the entries before it
 abbrev pub IsLegal : ℕ → ℕ → List CoreEntry → Type 0
@@ -35,7 +39,8 @@ IsLegal base count log = IsLegalBehind base count [] log
 
 -- it holds of each legal log, whatever the first id is, and how many ids were given before
 abbrev pub InEachLegalLog : (List CoreEntry → Type 0) → Type 0
-InEachLegalLog Holds = (base count : ℕ) (log : List CoreEntry) → count < 2 ^ 64 → IsLegal base count log → Holds log
+InEachLegalLog Holds = (base count : ℕ) (log : List CoreEntry) → count < 2 ^ 64 → IsLegal base count log
+    → Holds log
 
 -- no job stands twice among those
 abbrev pub AreDistinct : List JobId → Type 0
@@ -58,11 +63,13 @@ IsSpentOnce b = count_by (λ e. spends_by e.kind b.job) b.later ≤ 1
 
 -- the reservation ended at most once: no entry ends it by its job after one that ended it
 abbrev pub IsEndedOnce : Booking → Type 0
-IsEndedOnce b = AllByRecursion (λ c. list_any (λ e. frees_by e.kind b.job b.reg) c.before ≡ true → ends_job_by c.at.kind b.job ≡ false) (cuts b.later)
+IsEndedOnce b = AllByRecursion (λ c. list_any (λ e. frees_by e.kind b.job b.reg) c.before ≡ true
+    → ends_job_by c.at.kind b.job ≡ false) (cuts b.later)
 
 -- the registration ended at most once: no entry names it as pruned or replaced after one that did
 abbrev pub EndsOnce : Registered → Type 0
-EndsOnce g = AllByRecursion (λ c. ended c.before g.reg ≡ true → ends_by c.at.kind g.reg ≡ false) (cuts g.later)
+EndsOnce g = AllByRecursion (λ c. ended c.before g.reg ≡ true → ends_by c.at.kind g.reg ≡ false)
+    (cuts g.later)
 
 -- the reservation's registration stands
 abbrev pub HasStanding : List CoreEntry → Booking → Type 0
@@ -79,32 +86,42 @@ HasOrder c = (begins c.state ≡ true) × IsChain c.state (moves_of c)
 
 -- the job has exactly one unended reservation, and its registration stands
 abbrev pub IsHeldOnce : List CoreEntry → JobId → Type 0
-IsHeldOnce log job = (b : Booking) × (filter (λ d. same_job d.job job) (unended log) ≡ b ∷ []) × (list_any (λ g. g.reg == b.reg) (standing log) ≡ true)
+IsHeldOnce log job = (b : Booking) × (filter (λ d. same_job d.job job) (unended log) ≡ b ∷ [])
+    × (list_any (λ g. g.reg == b.reg) (standing log) ≡ true)
 
 -- the load is at most c + 1 + c/8
 abbrev pub IsBounded : List CoreEntry → Registered → Type 0
 IsBounded log g = load_of log g.reg ≤ g.cpus + 1 + g.cpus / 8
 
--- the other does not go before it; and where it does not go before the other either, its number is not the greater one
+-- the other does not go before it; and where it does not go before the other either, its number is not the
+-- greater one
 abbrev pub IsFirst : (ServerRow → ServerRow → Bool) → ServerRow → ServerRow → Type 0
-IsFirst goes_before row other = (goes_before other row ≡ false) × (goes_before row other ≡ false → row.reg ≤ other.reg)
+IsFirst goes_before row other = (goes_before other row ≡ false)
+    × (goes_before row other ≡ false → row.reg ≤ other.reg)
 
--- Of a pick against a registration with room. Where the other has no remembered error, the pick has none and is the lighter, and of equals the one with the less number. Where the pick has an error, its error is the older, and of equals its number the less one.
+-- Of a pick against a registration with room. Where the other has no remembered error, the pick has none and
+-- is the lighter, and of equals the one with the less number. Where the pick has an error, its error is the
+-- older, and of equals its number the less one.
 pub record IsFair (row other : ServerRow) : Type 0 where
   pub lightest : is_faultless other ≡ true → (is_faultless row ≡ true) × IsFirst is_lighter row other
   pub oldest : is_faultless row ≡ false → IsFirst is_older row other
 
 -- a registration of that number stands; it has room, and is fair against each with room that stands
 abbrev pub IsFairly : List ServerRow → ℕ → Type 0
-IsFairly rows reg = (list_any (λ r. r.reg == reg) rows ≡ true) × AllByRecursion (λ row. (row.reg == reg) ≡ true → (has_room row ≡ true) × AllByRecursion (λ other. has_room other ≡ true → IsFair row other) rows) rows
+IsFairly rows reg = (list_any (λ r. r.reg == reg) rows ≡ true)
+    × AllByRecursion (λ row. (row.reg == reg) ≡ true → (has_room row ≡ true)
+    × AllByRecursion (λ other. has_room other ≡ true → IsFair row other) rows) rows
 
--- where the entry is a reserve that names a job, its registration is a fair pick; where it says that none has room, none has, of so many that stand
+-- where the entry is a reserve that names a job, its registration is a fair pick; where it says that none has
+-- room, none has, of so many that stand
 abbrev pub IsFairEntry : List CoreEntry → CoreKind → Type 0
 IsFairEntry before (Reserve (Job job reg forgiven)) = IsFairly (servers_of before) reg
-IsFairEntry before (Reserve (NoRoom n)) = (n ≡ length (servers_of before)) × AllByRecursion (λ row. has_room row ≡ false) (servers_of before)
+IsFairEntry before (Reserve (NoRoom n)) = (n ≡ length (servers_of before))
+    × AllByRecursion (λ row. has_room row ≡ false) (servers_of before)
 IsFairEntry before other = Unit {0}
 
--- The rows have rising job ids, and are exactly the unended reservations: each once, with the address of its registration, and none is left out.
+-- The rows have rising job ids, and are exactly the unended reservations: each once, with the address of its
+-- registration, and none is left out.
 pub record AreJobRows (log : List CoreEntry) (rows : List JobRow) : Type 0 where
   pub rising : AreRising (map (λ j. j.job.0) rows)
   pub exact : IsPermutation (filter_map (job_row log) (unended log)) rows
@@ -119,7 +136,8 @@ pub record IsLawful (log : List CoreEntry) : Type 0 where
   pub ended_once : AllByRecursion IsEndedOnce (bookings log)
   -- an unended reservation is at a registration that stands
   pub at_standing : AllByRecursion (HasStanding log) (unended log)
-  -- no job is committed twice, its states follow one another, and while it is open it has exactly one unended reservation
+  -- no job is committed twice, its states follow one another, and while it is open it has exactly one unended
+  -- reservation
   pub committed_once : AreDistinct (map (λ c. c.job) (commits log))
   pub in_order : AllByRecursion HasOrder (commits log)
   pub open_held : AllByRecursion (λ c. IsHeldOnce log c.job) (open_jobs log)

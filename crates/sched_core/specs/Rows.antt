@@ -15,7 +15,15 @@ use Rattle.sched_core.specs.Job.{Committed, open_jobs, state_now, state_of}
 
 -- a registration as a row: its last sign, its load and its remembered error over the log
 abbrev pub row_of : List CoreEntry → Registered → ServerRow
-row_of log g = record { reg = g.reg; server = g.server; cpus = g.cpus; nonce = g.nonce; seen = last_sign g; load = load_of log g.reg; error = error_of log g.reg }
+row_of log g = record {
+  reg = g.reg;
+  server = g.server;
+  cpus = g.cpus;
+  nonce = g.nonce;
+  seen = last_sign g;
+  load = load_of log g.reg;
+  error = error_of log g.reg;
+}
 
 -- the registrations that stand, by rising number, with their last sign, load and remembered error
 abbrev pub servers_of : List CoreEntry → List ServerRow
@@ -23,7 +31,14 @@ servers_of log = map (row_of log) (standing log)
 
 -- a reservation as a row: the state of its job and whether the build has begun
 abbrev pub held_of : Booking → HeldRow
-held_of b = record { number = b.number; job = b.job; reg = b.reg; reserved_at = b.now; state = state_of b.job b.later; claimed = is_claimed b }
+held_of b = record {
+  number = b.number;
+  job = b.job;
+  reg = b.reg;
+  reserved_at = b.now;
+  state = state_of b.job b.later;
+  claimed = is_claimed b;
+}
 
 -- the unended reservations, in the order of their reserving
 abbrev pub held_rows : List CoreEntry → List HeldRow
@@ -31,7 +46,12 @@ held_rows log = map held_of (unended log)
 
 -- an open job as a row: the registration that it is at, that address, and its state
 abbrev pub open_of : List CoreEntry → Committed → OpenRow
-open_of log c = record { job = c.job; reg = c.reg; server = option_and_then (address_of log) c.reg; state = state_now c }
+open_of log c = record {
+  job = c.job;
+  reg = c.reg;
+  server = option_and_then (address_of log) c.reg;
+  state = state_now c;
+}
 
 -- the open jobs, in the order of their commits
 abbrev pub open_rows : List CoreEntry → List OpenRow
@@ -53,15 +73,39 @@ held_by_id log = sorted_into (λ h. h.job.0) [] (held_rows log)
 
 -- a reservation with the address of its registration
 abbrev pub job_at : Addr → HeldRow → JobRow
-job_at server h = record { number = h.number; job = h.job; reg = h.reg; server = server; reserved_at = h.reserved_at; state = h.state; claimed = h.claimed }
+job_at server h = record {
+  number = h.number;
+  job = h.job;
+  reg = h.reg;
+  server = server;
+  reserved_at = h.reserved_at;
+  state = h.state;
+  claimed = h.claimed;
+}
 
 -- and without it
 abbrev pub held_part : JobRow → HeldRow
-held_part j = record { number = j.number; job = j.job; reg = j.reg; reserved_at = j.reserved_at; state = j.state; claimed = j.claimed }
+held_part j = record {
+  number = j.number;
+  job = j.job;
+  reg = j.reg;
+  reserved_at = j.reserved_at;
+  state = j.state;
+  claimed = j.claimed;
+}
 
 -- an unended reservation as a row, if its registration has an address
 abbrev pub job_row : List CoreEntry → Booking → Option JobRow
-job_row log b = option_map (λ server. record { number = b.number; job = b.job; reg = b.reg; server = server; reserved_at = b.now; state = state_of b.job b.later; claimed = is_claimed b }) (address_of log b.reg)
+job_row log b = option_map
+    (λ server. record {
+      number = b.number;
+      job = b.job;
+      reg = b.reg;
+      server = server;
+      reserved_at = b.now;
+      state = state_of b.job b.later;
+      claimed = is_claimed b;
+    }) (address_of log b.reg)
 
 -- the unended reservations, by rising job id, each with the address of its registration
 abbrev pub jobs_of : List CoreEntry → List JobRow

@@ -1,5 +1,7 @@
 -- The core rule: the one entry that a call makes over the log before it, and what the call answers.
-use Rattle.std.specs.Prelude.{◌≡◌, ℕ, ◌+◌, ◌-◌, ◌%◌, ◌^◌, ◌≤◌, List, [], length, map, filter, sum_by, min, Bool, true, false, not, ◌==◌, ◌&&◌, Option, Some, None, if◌then◌else◌, option_and_then}
+use Rattle.std.specs.Prelude.{◌≡◌, ℕ, ◌+◌, ◌-◌, ◌%◌, ◌^◌, ◌≤◌, List, [], length, map, filter, sum_by, min}
+use Rattle.std.specs.Prelude.{Bool, true, false, not, ◌==◌, ◌&&◌, Option, Some, None, if◌then◌else◌}
+use Rattle.std.specs.Prelude.{option_and_then}
 use Rattle.std.specs.List.{list_any}
 use Rattle.std.specs.Option.{option_map}
 use Rattle.sched_core.specs.Cuts.{lasting}
@@ -32,11 +34,13 @@ use Rattle.sched_core.specs.Advance.{advance}
 -- what becomes of a reserve, by its pick
 abbrev pub reserved_at : Option ServerRow → List ServerRow → ℕ → ℕ → ℕ → Reserved
 reserved_at None rows now base given = NoRoom (length rows)
-reserved_at (Some row) rows now base given = if given == 2 ^ 64 - 1 then Spent else Job (record { 0 = (base + given) % 2 ^ 64 }) row.reg (forgiven now rows)
+reserved_at (Some row) rows now base given = if given == 2 ^ 64 - 1 then Spent
+    else Job (record { 0 = (base + given) % 2 ^ 64 }) row.reg (forgiven now rows)
 
 -- the entry of a reserve, by its pick
 abbrev pub reserve_at : Option ServerRow → List ServerRow → ℕ → ℕ → ℕ → CoreEntry
-reserve_at picked rows now base given = record { now = now; kind = Reserve (reserved_at picked rows now base given) }
+reserve_at picked rows now base given =
+    record { now = now; kind = Reserve (reserved_at picked rows now base given) }
 
 -- over the rows of the registrations that stand, where so many ids were given before
 abbrev pub reserve_over : List ServerRow → ℕ → ℕ → ℕ → CoreEntry
@@ -52,7 +56,8 @@ is_among list number job = list_any (λ b. (b.number == number) && same_job b.jo
 abbrev pub commit_by : Bool → ℕ → JobId → JobState → CoreEntry
 commit_by kept now job state = record { now = now; kind = Commit job state kept }
 
--- undo: notes the registration that stands at the reservation's address, and ends the reservation where it is unended
+-- undo: notes the registration that stands at the reservation's address, and ends the reservation where it is
+-- unended
 
 -- the registration of the reservation of that number
 abbrev pub place_at : List CoreEntry → ℕ → Option ℕ
@@ -67,7 +72,8 @@ noted_over rows (Some server) = option_map (λ r. r.reg) (at_address server rows
 abbrev pub undo_by : Option ℕ → Bool → ℕ → JobId → CoreEntry
 undo_by noted ended now job = record { now = now; kind = Undo job noted ended }
 
--- beat: prunes; then, by the registration at the address that still stands, makes a new one, renews and reaps it, or replaces it
+-- beat: prunes; then, by the registration at the address that still stands, makes a new one, renews and reaps
+-- it, or replaces it
 
 -- the registration that another nonce replaces
 abbrev pub replaced_by : ℕ → Option ServerRow → Option ℕ
@@ -88,15 +94,21 @@ reaped_by now nonce held (Some row) = if row.nonce == nonce then reap now row.re
 abbrev pub beat_over : List ServerRow → List HeldRow → ℕ → Addr → ℕ → ℕ → List ℕ → CoreEntry
 beat_over rows held now server nonce cpus key =
     let there = at_address server (left now rows) in
-    record { now = now; kind = Beat server nonce cpus key (prune now rows) (reaped_by now nonce held there) (replaced_by nonce there) (says_new nonce there) }
+    record {
+      now = now;
+      kind = Beat server nonce cpus key (prune now rows) (reaped_by now nonce held there)
+          (replaced_by nonce there) (says_new nonce there);
+    }
 
 -- update: what the open jobs answer
 
 -- over the rows of the open jobs
 abbrev pub update_over : List OpenRow → ℕ → Addr → JobId → JobState → CoreEntry
-update_over rows now server job state = record { now = now; kind = Update server job state (advance rows server job state) }
+update_over rows now server job state =
+    record { now = now; kind = Update server job state (advance rows server job state) }
 
--- status: prunes; then counts the registrations that still stand, their processors up to 2^64 - 1, and the open jobs at none of the pruned
+-- status: prunes; then counts the registrations that still stand, their processors up to 2^64 - 1, and the
+-- open jobs at none of the pruned
 
 -- whether the registration, if there is one, is none of the pruned
 abbrev pub is_left : List ℕ → Option ℕ → Bool
@@ -106,11 +118,18 @@ is_left pruned (Some reg) = not (names pruned reg)
 -- over the rows of the registrations that stand and of the open jobs
 abbrev pub counts_over : List ServerRow → List OpenRow → ℕ → SchedulerStatusResult
 counts_over rows jobs now =
-    record { num_servers = length (left now rows); num_cpus = min (2 ^ 64 - 1) (sum_by (λ r. r.cpus) (left now rows)); in_progress = length (filter (λ o. is_left (prune now rows) o.reg) jobs) }
+    record {
+      num_servers = length (left now rows);
+      num_cpus = min (2 ^ 64 - 1)
+          (sum_by (λ r. r.cpus) (left now rows));
+      in_progress =
+          length (filter (λ o. is_left (prune now rows) o.reg) jobs);
+    }
 
 -- the entry of a status, by its numbers
 abbrev pub status_by : ℕ → List ℕ → SchedulerStatusResult → CoreEntry
-status_by now pruned counts = record { now = now; kind = Status pruned counts.num_servers counts.num_cpus counts.in_progress }
+status_by now pruned counts =
+    record { now = now; kind = Status pruned counts.num_servers counts.num_cpus counts.in_progress }
 
 -- over the same rows
 abbrev pub status_over : List ServerRow → List OpenRow → ℕ → CoreEntry
@@ -120,8 +139,11 @@ status_over rows jobs now = status_by now (prune now rows) (counts_over rows job
 abbrev pub rule : Core → Call → CoreEntry
 rule s (call.Reserve now) = reserve_over (servers_of s.log) now s.base (s.count + length (bookings s.log))
 rule s (call.Commit now number job state) = commit_by (is_among (unended s.log) number job) now job state
-rule s (call.Undo now number job) = undo_by (noted_over (servers_of s.log) (option_and_then (address_of s.log) (place_at s.log number))) (is_among (unended s.log) number job) now job
-rule s (call.Beat now server nonce cpus key) = beat_over (servers_of s.log) (held_rows s.log) now server nonce cpus key
+rule s (call.Undo now number job) =
+    undo_by (noted_over (servers_of s.log) (option_and_then (address_of s.log) (place_at s.log number)))
+    (is_among (unended s.log) number job) now job
+rule s (call.Beat now server nonce cpus key) = beat_over (servers_of s.log)
+    (held_rows s.log) now server nonce cpus key
 rule s (call.Update now server job state) = update_over (open_rows s.log) now server job state
 rule s (call.Status now) = status_over (servers_of s.log) (open_rows s.log) now
 
@@ -131,9 +153,11 @@ begins Pending = true
 begins Ready = true
 begins other = false
 
--- the calls that make an entry: a commit or an undo of an unspent reservation, a commit to pending or ready, a heartbeat with 1 to 4294967295 processors
+-- the calls that make an entry: a commit or an undo of an unspent reservation, a commit to pending or ready,
+-- a heartbeat with 1 to 4294967295 processors
 abbrev pub IsCall : Core → Call → Type 0
-IsCall s (call.Commit now number job state) = (is_among (unspent s.log) number job ≡ true) × (begins state ≡ true)
+IsCall s (call.Commit now number job state) = (is_among (unspent s.log) number job ≡ true)
+    × (begins state ≡ true)
 IsCall s (call.Undo now number job) = is_among (unspent s.log) number job ≡ true
 IsCall s (call.Beat now server nonce cpus key) = (1 ≤ cpus) × (cpus ≤ 4294967295)
 IsCall s other = Unit {0}
@@ -151,7 +175,8 @@ says_new_entry e = says_new_by e.kind
 
 -- the numbers that an entry of this kind says
 abbrev pub counts_by : CoreKind → SchedulerStatusResult
-counts_by (Status pruned servers cpus jobs) = record { num_servers = servers; num_cpus = cpus; in_progress = jobs }
+counts_by (Status pruned servers cpus jobs) =
+    record { num_servers = servers; num_cpus = cpus; in_progress = jobs }
 counts_by other = record { num_servers = 0; num_cpus = 0; in_progress = 0 }
 
 -- the numbers that the entry of a status says

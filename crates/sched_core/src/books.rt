@@ -130,7 +130,8 @@ impl Books {
         given: u128,
     ) -> Result<Reserved, AllocError>
         requires fits { given < 2 ^ 66 }
-        ensures { IfOk result (λ r. r ≡ reserved_at (pick self.now.lists.rows) self.now.lists.rows now base given) }
+        ensures { IfOk result (λ r. r ≡ reserved_at (pick self.now.lists.rows) self.now.lists.rows now base
+            given) }
     {
         rules::reserve_over_rows(alloc, &self.vectors.rows, now, base, given)
     }

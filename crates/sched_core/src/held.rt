@@ -1,10 +1,13 @@
 //! The rows of reservations and jobs, and what one entry does to them.
-ghost use Rattle.std.specs.Prelude.{◌≡◌, ◌<◌, ◌≤◌, ◌+◌, ◌++◌, ◌==◌, ◌&&◌, IsSome, Some, map, filter, find, length, option_to_list, vec_len, vec_capacity, unwrap_or, insert};
+ghost use Rattle.std.specs.Prelude.{◌≡◌, ◌<◌, ◌≤◌, ◌+◌, ◌++◌, ◌==◌, ◌&&◌, IsSome, Some, map, filter, find};
+ghost use Rattle.std.specs.Prelude.{length, option_to_list, vec_len, vec_capacity, unwrap_or, insert};
 ghost use Rattle.std.specs.List.{list_any};
 ghost use Rattle.std.specs.Option.{option_map};
 ghost use Rattle.sched_core.specs.Log.{same_job};
 ghost use Rattle.sched_core.specs.Rows.{placed};
-ghost use Rattle.sched_core.specs.Books.{state_after, held_stays, held_after, held_by, job_stays, job_after, job_over, job_in, job_by, job_placed, open_stays, open_after, open_over, open_by, unspent_stays, unspent_by};
+ghost use Rattle.sched_core.specs.Books.{state_after, held_stays, held_after, held_by, job_stays, job_after};
+ghost use Rattle.sched_core.specs.Books.{job_over, job_in, job_by, job_placed, open_stays, open_after};
+ghost use Rattle.sched_core.specs.Books.{open_over, open_by, unspent_stays, unspent_by};
 
 use crate::entry::{CoreKind, Reserved};
 use crate::kind::{begins, claims, closes, complete, frees, moves, spends};

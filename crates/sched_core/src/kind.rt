@@ -2,7 +2,9 @@
 ghost use Rattle.std.specs.Prelude.{◌≡◌};
 ghost use Rattle.sched_core.specs.Log.{is_this, names_job};
 ghost use Rattle.sched_core.specs.Standing.{ends_by, renews_by, is_heard};
-ghost use Rattle.sched_core.specs.Reservation.{is_booked, spends_by, is_accepted, is_started, is_complete, completes_by, reaps_by, undoes_by, ends_job_by, frees_by, claims_by};
+ghost use Rattle.sched_core.specs.Reservation.{is_booked, spends_by, is_accepted, is_started, is_complete};
+ghost use Rattle.sched_core.specs.Reservation.{completes_by, reaps_by, undoes_by, ends_job_by, frees_by};
+ghost use Rattle.sched_core.specs.Reservation.{claims_by};
 ghost use Rattle.sched_core.specs.Fault.{notes_by, forgives_by};
 ghost use Rattle.sched_core.specs.Job.{moves_by, ends_place_by, closes_by};
 ghost use Rattle.sched_core.specs.Books.{takes_by, begins_by};

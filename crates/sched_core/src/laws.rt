@@ -12,7 +12,9 @@ ghost use Rattle.sched_core.specs.Reservation.{bookings, spends_by, unended, uns
 ghost use Rattle.sched_core.specs.Rule.{rule, IsCall, is_among};
 ghost use Rattle.sched_core.specs.Calls.{call_of};
 ghost use Rattle.sched_core.specs.Job.{commits, open_jobs};
-ghost use Rattle.sched_core.specs.Laws.{IsLegal, InEachLegalLog, IsLawful, AreDistinct, AreDifferent, AreJobRows, IsHeldOnce, IsSpentOnce, IsEndedOnce, HasOrder, IsBounded, IsFairEntry, EndsOnce, HasStanding};
+ghost use Rattle.sched_core.specs.Laws.{IsLegal, InEachLegalLog, IsLawful, AreDistinct, AreDifferent};
+ghost use Rattle.sched_core.specs.Laws.{AreJobRows, IsHeldOnce, IsSpentOnce, IsEndedOnce, HasOrder};
+ghost use Rattle.sched_core.specs.Laws.{IsBounded, IsFairEntry, EndsOnce, HasStanding};
 ghost use Rattle.sched_core.specs.Rows.{jobs_of};
 ghost use Rattle.sched_core.specs.Standing.{registrations, standing};
 ghost use Rattle.sched_core.specs.Cuts.{cuts};
@@ -104,7 +106,8 @@ pub fn reservations_begin_unspent()
 
 /// Unspent reservations of one job have one number.
 pub fn reservations_have_one_number()
-    ensures { (base count : ℕ) (log : List CoreEntry) (a b : ℕ) (j k : JobId) → count < 2 ^ 64 → IsLegal base count log →
+    ensures { (base count : ℕ) (log : List CoreEntry) (a b : ℕ) (j k : JobId) → count < 2 ^ 64
+        → IsLegal base count log →
         is_among (unspent log) a j ≡ true → is_among (unspent log) b k ≡ true → same_job k j ≡ true → a ≡ b }
 {}
 

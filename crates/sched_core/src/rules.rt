@@ -1,8 +1,11 @@
 //! The rules: what a call decides over the rows of what stands, is unended and is open.
-ghost use Rattle.std.specs.Prelude.{◌≡◌, ◌==◌, ◌&&◌, ◌+◌, ◌<◌, ◌^◌, ◌*◌, ◌/◌, ◌++◌, ◌∷◌, [], IfOk, OnOk, Some, None, if◌then◌else◌, length, map, filter, nat_lt, is_none, unwrap_or, find, option_and_then};
+ghost use Rattle.std.specs.Prelude.{◌≡◌, ◌==◌, ◌&&◌, ◌+◌, ◌<◌, ◌^◌, ◌*◌, ◌/◌, ◌++◌, ◌∷◌, [], IfOk, OnOk};
+ghost use Rattle.std.specs.Prelude.{Some, None, if◌then◌else◌, length, map, filter, nat_lt, is_none};
+ghost use Rattle.std.specs.Prelude.{unwrap_or, find, option_and_then};
 ghost use Rattle.std.specs.List.{list_any};
 ghost use Rattle.sched_core.specs.Log.{names, same_job};
-ghost use Rattle.sched_core.specs.Pick.{has_room, roomy, is_faultless, is_lighter, is_older, first_best, or_else, pick, is_stale, forgiven};
+ghost use Rattle.sched_core.specs.Pick.{has_room, roomy, is_faultless, is_lighter, is_older, first_best};
+ghost use Rattle.sched_core.specs.Pick.{or_else, pick, is_stale, forgiven};
 ghost use Rattle.sched_core.specs.Prune.{prune};
 ghost use Rattle.sched_core.specs.Reap.{is_overdue, is_reaped, reap};
 ghost use Rattle.sched_core.specs.Advance.{follows, is_at, advance_by, advance};

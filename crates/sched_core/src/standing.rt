@@ -1,10 +1,13 @@
 //! The rows of the registrations that stand, and what one entry does to them.
-ghost use Rattle.std.specs.Prelude.{◌≡◌, ◌<◌, ◌≤◌, ◌+◌, ◌++◌, ◌∷◌, ◌||◌, ◌==◌, [], ◌-◌, ◌^◌, IfOk, IsSome, None, true, false, map, filter, find, length, min, sum_by, option_to_list, vec_len, vec_capacity, if◌then◌else◌};
+ghost use Rattle.std.specs.Prelude.{◌≡◌, ◌<◌, ◌≤◌, ◌+◌, ◌++◌, ◌∷◌, ◌||◌, ◌==◌, [], ◌-◌, ◌^◌, IfOk, IsSome};
+ghost use Rattle.std.specs.Prelude.{None, true, false, map, filter, find, length, min, sum_by};
+ghost use Rattle.std.specs.Prelude.{option_to_list, vec_len, vec_capacity, if◌then◌else◌};
 ghost use Rattle.sched_core.specs.Log.{is_this, same_job};
 ghost use Rattle.sched_core.specs.Standing.{renews_by};
 ghost use Rattle.sched_core.specs.Prune.{is_expired, prune, left, at_address};
 ghost use Rattle.sched_core.specs.Rule.{replaced_by, says_new, counts_over, status_by};
-ghost use Rattle.sched_core.specs.Books.{row_by, row_after, row_stays, row_lowered, row_freed, place_if, served_by, takes_by, one_more_if, error_after};
+ghost use Rattle.sched_core.specs.Books.{row_by, row_after, row_stays, row_lowered, row_freed, place_if};
+ghost use Rattle.sched_core.specs.Books.{served_by, takes_by, one_more_if, error_after};
 
 use crate::entry::{CoreEntry, CoreKind};
 use crate::kind::{ends, forgives, frees, heard, is_number, notes, renews, takes};

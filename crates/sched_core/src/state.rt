@@ -1,5 +1,7 @@
 //! The scheduler's state: its log, and what is kept of it.
-ghost use Rattle.std.specs.Prelude.{◌≡◌, ◌↔◌, ◌⊎◌, ◌<◌, ◌≤◌, ◌+◌, ◌^◌, ◌++◌, ◌∷◌, [], Err, Some, IfOk, IfErr, OnOk, OnErr, IsErrOf, length, map, true, if◌then◌else◌, option_to_list, vec_len, vec_capacity};
+ghost use Rattle.std.specs.Prelude.{◌≡◌, ◌↔◌, ◌⊎◌, ◌<◌, ◌≤◌, ◌+◌, ◌^◌, ◌++◌, ◌∷◌, [], Err, Some, IfOk, IfErr};
+ghost use Rattle.std.specs.Prelude.{OnOk, OnErr, IsErrOf, length, map, true, if◌then◌else◌, option_to_list};
+ghost use Rattle.std.specs.Prelude.{vec_len, vec_capacity};
 ghost use Rattle.std.specs.List.{AllByRecursion};
 ghost use Rattle.sched_core.specs.Log.{Core, logged};
 ghost use Rattle.sched_core.specs.Standing.{address_of};
@@ -7,9 +9,11 @@ ghost use Rattle.sched_core.specs.Reservation.{bookings, unspent};
 ghost use Rattle.sched_core.specs.Job.{open_jobs};
 ghost use Rattle.sched_core.specs.Rule.{rule, says_new_entry, counts_of, is_among, begins};
 ghost use Rattle.sched_core.specs.Rows.{servers_of, jobs_of, held_by_id, held_part};
-ghost use Rattle.sched_core.specs.Answers.{Leaves, IsPicked, RefusesReserve, committed_by, undo_answer, updated_by};
+ghost use Rattle.sched_core.specs.Answers.{Leaves, IsPicked, RefusesReserve, committed_by, undo_answer};
+ghost use Rattle.sched_core.specs.Answers.{updated_by};
 ghost use Rattle.sched_core.specs.Laws.{IsLegal, IsLawful, IsRule};
-ghost use Rattle.sched_core.specs.Books.{IsState, MayRegister, MayReserve, IsOfUnspent, Kept, key_by, unspent_next};
+ghost use Rattle.sched_core.specs.Books.{IsState, MayRegister, MayReserve, IsOfUnspent, Kept, key_by};
+ghost use Rattle.sched_core.specs.Books.{unspent_next};
 ghost use Rattle.sched_core.specs.declared.call.Call.TheVariants as call;
 
 use crate::answers::{Committed, Picked, Undone};
@@ -53,7 +57,8 @@ impl<A: JobAuthorizer> Model for SchedState<A> {
 
     ghost view = { λ s. record { base = s.base; count = s.count; log = s.log.items } };
 
-    ghost invariant = { λ s. IsState s.base s.count s.books.lists s.keys.items s.log.items (vec_len s.log) (vec_capacity s.log) };
+    ghost invariant = { λ s. IsState s.base s.count s.books.lists s.keys.items s.log.items (vec_len s.log)
+        (vec_capacity s.log) };
 }
 
 impl<A: JobAuthorizer> SchedState<A> {
@@ -354,7 +359,8 @@ fn make_log_room(books: &Books, log: &mut Vec<CoreEntry>) -> Result<(), AllocErr
     ensures log { log.new.items ≡ log.old.items }
     ensures log_room { vec_len log.old + length books.now.lists.unspent ≤ vec_capacity log.old →
         vec_len log.new + length books.now.lists.unspent ≤ vec_capacity log.new }
-    ensures spare { OnOk result (vec_len log.new + length books.now.lists.unspent + 2 ≤ vec_capacity log.new) }
+    ensures spare { OnOk result
+        (vec_len log.new + length books.now.lists.unspent + 2 ≤ vec_capacity log.new) }
 {
     log.reserve(books.unspent_count() + 2)
 }
@@ -366,7 +372,8 @@ fn make_job_room(books: &mut Books, log: &mut Vec<CoreEntry>) -> Result<(), Allo
     ensures log_room { vec_len log.old + length books.old.lists.unspent ≤ vec_capacity log.old →
         vec_len log.new + length books.old.lists.unspent ≤ vec_capacity log.new }
     ensures room { OnOk result (books.new.has_job_room ≡ true) }
-    ensures spare { OnOk result (vec_len log.new + length books.old.lists.unspent + 2 ≤ vec_capacity log.new) }
+    ensures spare { OnOk result
+        (vec_len log.new + length books.old.lists.unspent + 2 ≤ vec_capacity log.new) }
 {
     books.make_job_room()?;
     make_log_room(books, log)
@@ -385,7 +392,8 @@ fn make_row_room<A: JobAuthorizer>(
         vec_len log.new + length books.old.lists.unspent ≤ vec_capacity log.new }
     ensures room { OnOk result (books.new.has_row_room ≡ true) }
     ensures keys_room { OnOk result (vec_len keys.new < vec_capacity keys.new) }
-    ensures spare { OnOk result (vec_len log.new + length books.old.lists.unspent + 2 ≤ vec_capacity log.new) }
+    ensures spare { OnOk result
+        (vec_len log.new + length books.old.lists.unspent + 2 ≤ vec_capacity log.new) }
 {
     books.make_row_room()?;
     keys.reserve(1)?;

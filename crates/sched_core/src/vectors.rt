@@ -1,6 +1,8 @@
 //! The books as plain vectors, and what one entry does to them: one pass over each.
-ghost use Rattle.std.specs.Prelude.{◌≡◌, ◌<◌, ◌≤◌, ◌+◌, IsSome, length, option_to_list, vec_len, vec_capacity};
-ghost use Rattle.sched_core.specs.Books.{MayRegister, MayReserve, HasJobRoom, lists_of, rows_next, held_next, jobs_next, open_next, unspent_next, made_next, open_by};
+ghost use Rattle.std.specs.Prelude.{◌≡◌, ◌<◌, ◌≤◌, ◌+◌, IsSome, length, option_to_list, vec_len};
+ghost use Rattle.std.specs.Prelude.{vec_capacity};
+ghost use Rattle.sched_core.specs.Books.{MayRegister, MayReserve, HasJobRoom, lists_of, rows_next, held_next};
+ghost use Rattle.sched_core.specs.Books.{jobs_next, open_next, unspent_next, made_next, open_by};
 
 use crate::entry::CoreEntry;
 use crate::held;

@@ -1,5 +1,5 @@
-//! The running scheduler at work: what its calls answer, what its passes count, and that no lock is held while a
-//! server is asked. Tests alone; nothing above uses this crate.
+//! The running scheduler at work: what its calls answer, what its passes count, and that no lock is held
+//! while a server is asked. Tests alone; nothing above uses this crate.
 #![tactic(auto)]
 
 #[cfg(test)]

@@ -10,8 +10,8 @@ use sched_core::answers::Undone;
 use sched_core::error::SchedError;
 use std::test::Fail;
 
-/// Two passes make a heartbeat and a status; `close` refuses while one of them is out, and gives a log as long as
-/// they count once they are joined.
+/// Two passes make a heartbeat and a status; `close` refuses while one of them is out, and gives a log as
+/// long as they count once they are joined.
 #[test]
 fn passes(rt: HostRuntime) -> Result<(), Fail> {
     let alloc = rt.alloc();

@@ -1,5 +1,6 @@
 -- Which refusals are told, and what is done behind a route.
-use Rattle.std.proofs.Common.{◌≡◌, ◌⊎◌, ℕ, List, Bool, Option, Result, Ok, Err, refl, sym, ◌∙◌, inl, inr, subst}
+use Rattle.std.proofs.Common.{◌≡◌, ◌⊎◌, ℕ, List, Bool, Option, Result, Ok, Err, refl, sym, ◌∙◌, inl, inr}
+use Rattle.std.proofs.Common.{subst}
 use Rattle.std.specs.Prelude.{IfOk}
 use Rattle.dist_types.specs.declared.fault.Memory as want
 use Rattle.dist_types.specs.declared.outgoing.CallFault.{CallFault}
@@ -21,7 +22,8 @@ use Rattle.http_connections.specs.Form.{form_of}
 use Rattle.scheduler_service.specs.Connection.{Around, Asks, IsReplied}
 use Rattle.scheduler_service.specs.Replied.{Means, IsDone, IsTellable, IsReportable}
 
-pub heard_tellable : (e : SchedFault) (cpus : ℕ) → (e ≡ Core (error.BadCpus cpus)) ⊎ (e ≡ Memory) → IsTellable e
+pub heard_tellable : (e : SchedFault) (cpus : ℕ) → (e ≡ Core (error.BadCpus cpus)) ⊎ (e ≡ Memory)
+    → IsTellable e
 heard_tellable e cpus (inl is) = subst IsTellable (sym is) (tt {0})
 heard_tellable e cpus (inr is) = subst IsTellable (sym is) (tt {0})
 
@@ -33,13 +35,16 @@ updated_reportable state (Core e) refused = tt {0}
 updated_reportable state (AssignFailed undone cause) refused = refused
 updated_reportable state Memory refused = tt {0}
 
-same_fault : (e d : SchedFault) → ◌≡◌ {A = Result AllocJobResult SchedFault} (Err e) (Err d) → IsTellable d → IsTellable e
+same_fault : (e d : SchedFault) → ◌≡◌ {A = Result AllocJobResult SchedFault} (Err e) (Err d) → IsTellable d
+    → IsTellable e
 same_fault e d is told = let same : e ≡ d = cc in subst IsTellable (sym same) told
 
-no_fault : (answer : Result AllocJobResult SchedFault) (r : AllocJobResult) (e : SchedFault) → answer ≡ Err e → answer ≡ Ok r → IsTellable e
+no_fault : (answer : Result AllocJobResult SchedFault) (r : AllocJobResult) (e : SchedFault) → answer ≡ Err e
+    → answer ≡ Ok r → IsTellable e
 no_fault answer r e is ok = absurd (cc (is, ok))
 
-fails : (text : List ℕ) (answer : Result AllocJobResult SchedFault) (e : SchedFault) → answer ≡ Err e → FailsWith text answer → IsTellable e
+fails : (text : List ℕ) (answer : Result AllocJobResult SchedFault) (e : SchedFault) → answer ≡ Err e
+    → FailsWith text answer → IsTellable e
 fails text answer e is (inl ok) = no_fault answer _ e is ok
 fails text answer e is (inr err) = same_fault e Memory (sym is ∙ err) (tt {0})
 
@@ -50,24 +55,30 @@ after undone call.Unreadable = tt {0}
 after undone (call.BadState state) = tt {0}
 after undone call.Memory = tt {0}
 
-pub allocated_tellable : (c : Course) (answer : Result AllocJobResult SchedFault) (e : SchedFault) → answer ≡ Err e → Tells c answer → IsTellable e
+pub allocated_tellable : (c : Course) (answer : Result AllocJobResult SchedFault) (e : SchedFault)
+    → answer ≡ Err e → Tells c answer → IsTellable e
 allocated_tellable course.unmade answer e is told = same_fault e Memory (sym is ∙ told) (tt {0})
 allocated_tellable course.spent answer e is told = same_fault e (Core error.IdsSpent) (sym is ∙ told) (tt {0})
 allocated_tellable (course.full standing) answer e is told = fails _ answer e is told
 allocated_tellable (course.asked r (Ok x) course.kept) answer e is told = no_fault answer _ e is told.1
 allocated_tellable (course.asked r (Ok x) course.dropped) answer e is told = fails _ answer e is told.1
 allocated_tellable (course.asked r (Ok x) course.foreign) answer e is told = fails _ answer e is told.1
-allocated_tellable (course.asked r (Ok x) (course.undone u)) answer e is told = same_fault e (AssignFailed u (call.BadState x.state)) (sym is ∙ told.1) (tt {0})
+allocated_tellable (course.asked r (Ok x) (course.undone u)) answer e is told =
+    same_fault e (AssignFailed u (call.BadState x.state)) (sym is ∙ told.1) (tt {0})
 allocated_tellable (course.asked r (Err f) course.kept) answer e is told = absurd told
 allocated_tellable (course.asked r (Err f) course.dropped) answer e is told = absurd told
 allocated_tellable (course.asked r (Err f) course.foreign) answer e is told = absurd told
-allocated_tellable (course.asked r (Err f) (course.undone u)) answer e is told = same_fault e (fault_after u f) (sym is ∙ told) (after u f)
+allocated_tellable (course.asked r (Err f) (course.undone u)) answer e is told =
+    same_fault e (fault_after u f) (sym is ∙ told) (after u f)
 
 -- what is asked at a moment, and done, is the reply to what was taken
-pub replied : {K : Type 0} (routes : Request → ℕ → K → SchedRouted → K → Type 0) (request : Option Request) (old : Means) (client checked : K) (between : Moments) (routed : SchedRouted) (new : Means)
+pub replied : {K : Type 0} (routes : Request → ℕ → K → SchedRouted → K → Type 0) (request : Option Request)
+    (old : Means) (client checked : K) (between : Moments) (routed : SchedRouted) (new : Means)
     (answer : Result Response want.Memory)
     → IsRead old.clock between → Asks routes request between.last client routed checked
     → IfOk answer (IsDone (form_of request) routed (record old { clock = between }) new)
-    → IfOk answer (IsReplied routes request (record { means = old; client = client }) (record { means = new; client = checked }))
-replied routes request old client checked between routed new (Ok reply) read asks done = record { between = between; read = read; routed = routed; asks = asks; done = done }
+    → IfOk answer (IsReplied routes request (record { means = old; client = client })
+    (record { means = new; client = checked }))
+replied routes request old client checked between routed new (Ok reply) read asks done =
+    record { between = between; read = read; routed = routed; asks = asks; done = done }
 replied routes request old client checked between routed new (Err e) read asks done = tt

@@ -19,11 +19,14 @@ server_of (Plain shared) token = plain_server shared token
 server_of (Signed key) token = result_ok (server_verdict key token)
 
 -- which answer the check of a client's token may give; the check stays of its kind
-abbrev pub may_answer : {D : Type 0} → (D → Option (List Asked)) → (D → ℕ) → ClientCheck D → ℕ → List ℕ → Result ⊤ TokenError → ClientCheck D → Type 0
-may_answer asked faults (Fixed old) now token answer (Fixed new) = (new ≡ old) × (answer ≡ equal_verdict old token)
+abbrev pub may_answer : {D : Type 0} → (D → Option (List Asked)) → (D → ℕ) → ClientCheck D → ℕ → List ℕ
+    → Result ⊤ TokenError → ClientCheck D → Type 0
+may_answer asked faults (Fixed old) now token answer (Fixed new) = (new ≡ old)
+    × (answer ≡ equal_verdict old token)
 may_answer asked faults (Fixed old) now token answer (Forwarded new) = ⊥
 may_answer asked faults (Forwarded old) now token answer (Fixed new) = ⊥
-may_answer asked faults (Forwarded old) now token answer (Forwarded new) = MayAnswer (seen asked faults old) now token answer (seen asked faults new)
+may_answer asked faults (Forwarded old) now token answer (Forwarded new) =
+    MayAnswer (seen asked faults old) now token answer (seen asked faults new)
 
 -- the text that a refused client is shown
 abbrev pub shown : {D : Type 0} → ClientCheck D → TokenError → List ℕ

@@ -15,13 +15,16 @@ pub record Around (K : Type 0) : Type 0 where
   pub means : Means
   pub client : K
 
--- What was taken asks that at a moment, by a relation that routes requests; what is no request gets the reply to a bad head.
-abbrev pub Asks : {K : Type 0} → (Request → ℕ → K → SchedRouted → K → Type 0) → Option Request → ℕ → K → SchedRouted → K → Type 0
+-- What was taken asks that at a moment, by a relation that routes requests; what is no request gets the reply
+-- to a bad head.
+abbrev pub Asks : {K : Type 0} → (Request → ℕ → K → SchedRouted → K → Type 0) → Option Request → ℕ → K
+    → SchedRouted → K → Type 0
 Asks routes None now old routed new = (routed ≡ Done (refusal_response BadHead)) × (new ≡ old)
 Asks routes (Some request) now old routed new = routes request now old routed new
 
 -- The reply to what was taken: the clock is read once for its route, and what it asks is then done.
-pub record IsReplied {K : Type 0} (routes : Request → ℕ → K → SchedRouted → K → Type 0) (request : Option Request) (old new : Around K) (reply : Response) : Type 0 where
+pub record IsReplied {K : Type 0} (routes : Request → ℕ → K → SchedRouted → K → Type 0)
+    (request : Option Request) (old new : Around K) (reply : Response) : Type 0 where
   pub between : Moments
   pub read : IsRead old.means.clock between
   pub routed : SchedRouted

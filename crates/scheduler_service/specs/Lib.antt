@@ -2,3 +2,4 @@ pub mod Checks
 pub mod Connection
 pub mod Replied
 pub mod Requested
+pub mod Workers

@@ -17,7 +17,8 @@ use Rattle.sched.specs.Pass.{Told}
 use Rattle.sched.specs.declared.fault.SchedFault.{SchedFault}
 use Rattle.sched.specs.declared.fault.SchedFault.TheVariants.{Core, AssignFailed, Memory}
 use Rattle.http_routes.specs.Fault.{fault_response_of}
-use Rattle.http_routes.specs.Replies.{heard_response, status_response, alloc_response, update_response, core_fault}
+use Rattle.http_routes.specs.Replies.{heard_response, status_response, alloc_response, update_response}
+use Rattle.http_routes.specs.Replies.{core_fault}
 use Rattle.http_routes.specs.declared.fault.RouteFault.{RouteFault}
 use Rattle.http_routes.specs.declared.fault.RouteFault.TheVariants as fault
 use Rattle.http_routes.specs.declared.reply.Response.{Response}
@@ -58,7 +59,8 @@ IsTold None reply = ⊥
 IsTold (Some f) reply = reply ≡ fault_response_of f
 
 -- the reply to an answer: its message, or its fault
-abbrev pub Replies : {X : Type 0} → (X → Response) → (SchedFault → Option RouteFault) → Result X SchedFault → Response → Type 0
+abbrev pub Replies : {X : Type 0} → (X → Response) → (SchedFault → Option RouteFault) → Result X SchedFault
+    → Response → Type 0
 Replies message fault (Ok x) reply = reply ≡ message x
 Replies message fault (Err e) reply = IsTold (fault e) reply
 
@@ -82,17 +84,20 @@ asking name m = record { rows = None; faults = m.faults; lent = lent_of name m.a
 
 -- ---- the four calls, each with the answer that its reply tells
 
-pub record IsHeardAndTold (json : Bool) (server : Addr) (beat : HeartbeatServerHttpRequest) (old new : Told) (clock ticked : Moments) (reply : Response) : Type 0 where
+pub record IsHeardAndTold (json : Bool) (server : Addr) (beat : HeartbeatServerHttpRequest) (old new : Told)
+    (clock ticked : Moments) (reply : Response) : Type 0 where
   pub answer : Result HeartbeatServerResult SchedFault
   pub heard : IsHeard server beat.server_nonce beat.num_cpus beat.jwt_key old new clock ticked answer
   pub told : Replies (heard_response json) fault_of answer reply
 
-pub record IsUpdatedAndTold (json : Bool) (server : Addr) (job : JobId) (state : JobState) (old new : Told) (clock ticked : Moments) (reply : Response) : Type 0 where
+pub record IsUpdatedAndTold (json : Bool) (server : Addr) (job : JobId) (state : JobState) (old new : Told)
+    (clock ticked : Moments) (reply : Response) : Type 0 where
   pub answer : Result UpdateJobStateResult SchedFault
   pub updated : IsUpdated job server state old new clock ticked answer
   pub told : Replies (update_response json) (report_fault server job) answer reply
 
-pub record IsCountedAndTold (json : Bool) (old new : Told) (clock ticked : Moments) (reply : Response) : Type 0 where
+pub record IsCountedAndTold (json : Bool) (old new : Told) (clock ticked : Moments)
+    (reply : Response) : Type 0 where
   pub answer : Result SchedulerStatusResult SchedFault
   pub counted : IsCounted old new clock ticked answer
   pub told : Replies (status_response json) fault_of answer reply
@@ -101,13 +106,18 @@ pub record IsCountedAndTold (json : Bool) (old new : Told) (clock ticked : Momen
 pub record IsAllocatedAndTold (json : Bool) (tc : List ℕ) (old new : Means) (reply : Response) : Type 0 where
   pub name : ℕ
   pub answer : Result AllocJobResult SchedFault
-  pub allocated : IsAllocation IsAskedFor tc old.pass new.pass old.clock new.clock (asking name old) (asking name new) answer
+  pub allocated : IsAllocation IsAskedFor tc old.pass new.pass old.clock new.clock (asking name old)
+      (asking name new) answer
   pub told : Replies (alloc_response json) fault_of answer reply
 
--- What is asked of the scheduler is done, and the reply tells its answer; what its route answered changes nothing.
+-- What is asked of the scheduler is done, and the reply tells its answer; what its route answered changes
+-- nothing.
 abbrev pub IsDone : Bool → SchedRouted → Means → Means → Response → Type 0
 IsDone json (Alloc tc) old new reply = IsAllocatedAndTold json tc old new reply
-IsDone json (Beat server beat) old new reply = IsHeardAndTold json server beat old.pass new.pass old.clock new.clock reply × AsksNobody old new
-IsDone json (Update server job state) old new reply = IsUpdatedAndTold json server job state old.pass new.pass old.clock new.clock reply × AsksNobody old new
-IsDone json Status old new reply = IsCountedAndTold json old.pass new.pass old.clock new.clock reply × AsksNobody old new
+IsDone json (Beat server beat) old new reply =
+    IsHeardAndTold json server beat old.pass new.pass old.clock new.clock reply × AsksNobody old new
+IsDone json (Update server job state) old new reply =
+    IsUpdatedAndTold json server job state old.pass new.pass old.clock new.clock reply × AsksNobody old new
+IsDone json Status old new reply = IsCountedAndTold json old.pass new.pass old.clock new.clock reply
+    × AsksNobody old new
 IsDone json (Done response) old new reply = (reply ≡ response) × (new ≡ old)

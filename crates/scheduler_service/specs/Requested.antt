@@ -23,7 +23,8 @@ port_of (V6 groups port) = port
 abbrev pub lent_of : ℕ → Option (List Asked) → Lent
 lent_of name asked = record { name = name; peer = record { host = []; port = 0; token = [] }; asked = asked }
 
--- The dialer's row is the call of that row: its written request at its server, and its answer is what is heard.
+-- The dialer's row is the call of that row: its written request at its server, and its answer is what is
+-- heard.
 pub record IsAskedFor (row : Assigned) (a : Asked) : Type 0 where
   pub host : a.host ≡ host_text row.server
   pub port : a.port ≡ port_of row.server

@@ -3,7 +3,9 @@ ghost use Rattle.std.specs.Prelude.{◌≡◌, IfOk, Some, None, Ok, Err};
 ghost use Rattle.sched.specs.Outside.{moments};
 ghost use Rattle.sched.specs.Pass.{held_of};
 ghost use Rattle.http_routes.specs.Fault.{fault_response_of};
-ghost use Rattle.scheduler_service.specs.Replied.{fault_of, report_fault, IsTold, IsTellable, IsReportable, IsHeardAndTold, IsUpdatedAndTold, IsCountedAndTold, IsAllocatedAndTold, IsDone};
+ghost use Rattle.scheduler_service.specs.Replied.{fault_of, report_fault, IsTold, IsTellable, IsReportable};
+ghost use Rattle.scheduler_service.specs.Replied.{IsHeardAndTold, IsUpdatedAndTold, IsCountedAndTold};
+ghost use Rattle.scheduler_service.specs.Replied.{IsAllocatedAndTold, IsDone};
 
 use crate::asking::Asking;
 use dist_token::job_token::JWTJobAuthorizer;

@@ -40,7 +40,8 @@ fn reply_to<R: Wait, D: Dialer, C: Clock, K: ClientAuthCheck, V: ServerAuthCheck
     server: &V,
     request: &Option<Request>,
 ) -> Result<Response, Memory>
-    ensures replied { IfOk result (IsReplied (λ r. IsRouted K.may_answer K.shown (V.server_of server.now) r peer) request.now
+    ensures replied { IfOk result
+        (IsReplied (λ r. IsRouted K.may_answer K.shown (V.server_of server.now) r peer) request.now
         (record {
           means = record { pass = pass.old; clock = moments C.moments C.last clock.old; asked = D.asked dialer.old; faults = D.faults dialer.old };
           client = client.old;
@@ -65,9 +66,9 @@ fn reply_to<R: Wait, D: Dialer, C: Clock, K: ClientAuthCheck, V: ServerAuthCheck
     )
 }
 
-/// Takes one request, answers it, and sends the reply. ReadFault and WriteFault come only where that half's count
-/// rose; ReadFault and Memory write nothing. An end of input inside a request gets the reply to a bad head.
-/// Whatever it answers, the pass holds what it held.
+/// Takes one request, answers it, and sends the reply. ReadFault and WriteFault come only where that half's
+/// count rose; ReadFault and Memory write nothing. An end of input inside a request gets the reply to a bad
+/// head. Whatever it answers, the pass holds what it held.
 pub fn serve_scheduler_connection<
     R: Wait,
     L: Link,
@@ -87,7 +88,8 @@ pub fn serve_scheduler_connection<
     client: &mut K,
     server: &V,
 ) -> Served
-    ensures served { IsServedBy (IsReplied (λ r. IsRouted K.may_answer K.shown (V.server_of server.now) r peer))
+    ensures served { IsServedBy
+        (IsReplied (λ r. IsRouted K.may_answer K.shown (V.server_of server.now) r peer))
         (record { left = L.left link.old; held = L.held link.old; reads = L.Source.faults link.old; writes = L.Sink.faults link.old })
         (record { left = L.left link.new; held = L.held link.new; reads = L.Source.faults link.new; writes = L.Sink.faults link.new })
         (record {

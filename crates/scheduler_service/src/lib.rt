@@ -1,12 +1,13 @@
 //! A scheduler over HTTP/1.1 (RFC 9112): its connections, its workers and its listener.
 //!
-//! A connection is taken, answered and sent, each by a function: `route` and `answer` do what is asked by one call of
-//! the scheduler, over a requester on a lent dialer; `connection` puts the three together, and its one clause says what
-//! becomes of the link, the pass, the clock, the dialer and the check of clients. `workers` runs one worker for each
-//! kit in a thread of its own. `checks` and `run_scheduler` are the system's side.
+//! A connection is taken, answered and sent, each by a function: `route` and `answer` do what is asked by one
+//! call of the scheduler, over a requester on a lent dialer; `connection` puts the three together, and its
+//! one clause says what becomes of the link, the pass, the clock, the dialer and the check of clients.
+//! `workers` runs one worker for each kit in a thread of its own. `checks` and `run_scheduler` are the
+//! system's side.
 //!
-//! The layers above use `serve_scheduler_connection`, `serve_scheduler_workers`, `Kit` and `serve_scheduler`, and of
-//! the definitions `IsReplied` and `IsDone`.
+//! The layers above use `serve_scheduler_connection`, `serve_scheduler_workers`, `Kit` and `serve_scheduler`,
+//! and of the definitions `IsReplied` and `IsDone`.
 #![tactic(auto)]
 
 pub mod answer;

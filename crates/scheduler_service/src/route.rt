@@ -11,7 +11,8 @@ use http_routes::refusal::{Refusal, refusal_response};
 use http_routes::route::{SchedRouted, scheduler_route};
 use std::alloc::Global;
 
-/// What is asked at a moment, or the reply where there is nothing more to do. Refused for want of memory alone.
+/// What is asked at a moment, or the reply where there is nothing more to do. Refused for want of memory
+/// alone.
 pub fn route<K: ClientAuthCheck, V: ServerAuthCheck>(
     alloc: Global,
     request: &Option<Request>,

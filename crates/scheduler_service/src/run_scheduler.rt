@@ -11,6 +11,7 @@ use dist_types::clock::RealClock;
 use dist_types::tcp::TcpDialer;
 use http_connections::accepting::{Accepting, Sharing, WORKERS, socket_addr};
 use http_connections::start::{Start, StartFault};
+use http_connections::stream::LimitedNet;
 use sched::scheduler::Scheduler;
 use std::alloc::Global;
 use std::net::{Net, TcpListener, TcpStream};
@@ -45,20 +46,22 @@ fn server_check(alloc: Global, auth: &ServerAuth) -> Result<ServerCheck, StartFa
     }
 }
 
-/// The check of clients' tokens that a configuration chooses. Refused where memory ran out, or where the URL of a peer is
-/// not of http.
-fn client_check<'a, R: Net>(
-    alloc: Global,
-    rt: &'a R,
+/// How a scheduler asks build servers and the peer of its clients' tokens, all of which answer at once.
+type SchedulerDialer<'a, R> = TcpDialer<LimitedNet<'a, R>>;
+
+/// The check of clients' tokens that a configuration chooses. Refused where memory ran out, or where the URL
+/// of a peer is not of http.
+fn client_check<'a, R: Net + Clock>(
+    sharing: &Sharing<'a, R>,
     auth: &ClientAuth,
-) -> Result<ClientCheck<TcpDialer<&'a R>>, StartFault> {
+) -> Result<ClientCheck<SchedulerDialer<'a, R>>, StartFault> {
     match auth {
         ClientAuth::Insecure => {
-            let token = String::from_str(alloc, INSECURE_DIST_CLIENT_TOKEN)?;
+            let token = String::from_str(sharing.alloc, INSECURE_DIST_CLIENT_TOKEN)?;
             Ok(ClientCheck::Fixed(EqCheck::new(token)))
         }
         ClientAuth::Token { token } => {
-            let token = String::from_str(alloc, token.get())?;
+            let token = String::from_str(sharing.alloc, token.get())?;
             Ok(ClientCheck::Fixed(EqCheck::new(token)))
         }
         ClientAuth::ProxyToken { url, cache_secs } => {
@@ -68,8 +71,8 @@ fn client_check<'a, R: Net>(
             if url.scheme() != "http" {
                 return Err(StartFault);
             }
-            let dialer = TcpDialer::new(alloc, rt);
-            let check = ProxyTokenCheck::new(alloc, dialer, url, *cache_secs);
+            let dialer = TcpDialer::new(sharing.alloc, sharing.asking());
+            let check = ProxyTokenCheck::new(sharing.alloc, dialer, url, *cache_secs);
             Ok(ClientCheck::Forwarded(check))
         }
     }
@@ -78,9 +81,9 @@ fn client_check<'a, R: Net>(
 /// What a worker of a scheduler has for its own.
 type SchedulerKit<'a, R> = Kit<
     Accepting<'a, R>,
-    TcpDialer<&'a R>,
+    SchedulerDialer<'a, R>,
     RealClock<&'a R>,
-    ClientCheck<TcpDialer<&'a R>>,
+    ClientCheck<SchedulerDialer<'a, R>>,
 >;
 
 /// What one worker has for its own.
@@ -88,10 +91,10 @@ fn scheduler_kit<'a, R: Net + Clock>(
     sharing: &Sharing<'a, R>,
     auth: &ClientAuth,
 ) -> Result<SchedulerKit<'a, R>, StartFault> {
-    let client = client_check(sharing.alloc, sharing.rt, auth)?;
+    let client = client_check(sharing, auth)?;
     Ok(Kit {
         tasks: sharing.tasks(),
-        dialer: TcpDialer::new(sharing.alloc, sharing.rt),
+        dialer: TcpDialer::new(sharing.alloc, sharing.asking()),
         clock: RealClock::new(sharing.rt),
         client,
     })
@@ -110,8 +113,8 @@ fn scheduler_kits<'a, R: Net + Clock>(
     Ok(kits)
 }
 
-/// Serves as a scheduler until the listener ends. Refused where the address is taken, a check cannot be made as the
-/// configuration says, or memory ran out.
+/// Serves as a scheduler until the listener ends. Refused where the address is taken, a check cannot be made
+/// as the configuration says, or memory ran out.
 pub fn serve_scheduler<
     R: Threads + Wait + Sync + Clock + Net<Listener = TcpListener, Stream = TcpStream>,
 >(rt: &R, alloc: Global, config: &SchedulerConfig, start: Start) -> Result<(), StartFault> {

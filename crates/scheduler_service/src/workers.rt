@@ -1,8 +1,13 @@
 //! Workers: each serves the connections of its kit in a thread of its own, and all come back.
-ghost use Rattle.std.specs.Prelude.{◌≡◌, ◌+◌, ◌<◌, ◌≤◌, [], ℕ, length, map, IfOk, OnOk, OnErr, slice_index_or, vec_len, vec_capacity};
+ghost use Rattle.std.specs.Prelude.{◌≡◌, ◌+◌, ◌<◌, ◌≤◌, [], List, ℕ, length, map, IfOk, OnOk, OnErr};
+ghost use Rattle.std.specs.Prelude.{slice_index_or, vec_len, vec_capacity};
 ghost use Rattle.std.specs.List.{sum_by};
-ghost use Rattle.sched.specs.Pass.{held_of, Rises};
+ghost use Rattle.sched.specs.Outside.{moments};
+ghost use Rattle.sched.specs.Pass.{Told, fresh, count_of, held_of, Rises};
 ghost use Rattle.http_connections.specs.Tally.{Worked};
+ghost use Rattle.http_routes.specs.Route.{IsRouted};
+ghost use Rattle.scheduler_service.specs.Connection.{IsReplied};
+ghost use Rattle.scheduler_service.specs.Workers.{AreJoined, around};
 
 use crate::connection::serve_scheduler_connection;
 use dist_token::checks::{ClientAuthCheck, ServerAuthCheck};
@@ -53,8 +58,17 @@ fn work<
     server: &V,
     worker: &mut Worker<T, D, C, K>,
 )
-    ensures worked { Worked (λ l. record { left = T.L.left l; held = T.L.held l; reads = T.L.Source.faults l; writes = T.L.Sink.faults l })
-        (T.told worker.old.kit.tasks) (T.told worker.new.kit.tasks) }
+    ensures worked { Worked (λ peer.
+        IsReplied (λ r. IsRouted K.may_answer K.shown (V.server_of server.now) r peer))
+        (λ l. record {
+          left = T.L.left l;
+          held = T.L.held l;
+          reads = T.L.Source.faults l;
+          writes = T.L.Sink.faults l;
+        })
+        (T.told worker.old.kit.tasks) (T.told worker.new.kit.tasks)
+        (around (moments C.moments C.last) D.asked D.faults worker.old.pass worker.old.kit)
+        (around (moments C.moments C.last) D.asked D.faults worker.new.pass worker.new.kit) }
     ensures holds { held_of worker.new.pass ≡ held_of worker.old.pass }
 {
     for _ in rt.forever() {
@@ -94,8 +108,16 @@ fn work_all<
     workers: &mut [Worker<T, D, C, K>],
 )
     ensures worked { (i : ℕ) (d : _) → i < length workers.old
-        → Worked (λ l. record { left = T.L.left l; held = T.L.held l; reads = T.L.Source.faults l; writes = T.L.Sink.faults l })
-        (T.told (slice_index_or workers.old i d).kit.tasks) (T.told (slice_index_or workers.new i d).kit.tasks) }
+        → Worked (λ peer. IsReplied (λ r. IsRouted K.may_answer K.shown (V.server_of server.now) r peer))
+        (λ l. record {
+          left = T.L.left l;
+          held = T.L.held l;
+          reads = T.L.Source.faults l;
+          writes = T.L.Sink.faults l;
+        })
+        (T.told (slice_index_or workers.old i d).kit.tasks) (T.told (slice_index_or workers.new i d).kit.tasks)
+        (around (moments C.moments C.last) D.asked D.faults (slice_index_or workers.old i d).pass (slice_index_or workers.old i d).kit)
+        (around (moments C.moments C.last) D.asked D.faults (slice_index_or workers.new i d).pass (slice_index_or workers.new i d).kit) }
     ensures holds { (i : ℕ) (d : _) → i < length workers.old
         → held_of (slice_index_or workers.new i d).pass ≡ held_of (slice_index_or workers.old i d).pass }
 {
@@ -108,8 +130,17 @@ fn work_all<
         workers,
         threads,
         &|_, w: &mut Worker<T, D, C, K>| -> ()
-            ensures worked { Worked (λ l. record { left = T.L.left l; held = T.L.held l; reads = T.L.Source.faults l; writes = T.L.Sink.faults l })
-                (T.told w.entry.now.kit.tasks) (T.told w.exit.now.kit.tasks) }
+            ensures worked { Worked (λ peer.
+                IsReplied (λ r. IsRouted K.may_answer K.shown (V.server_of server.entry.now) r peer))
+                (λ l. record {
+                  left = T.L.left l;
+                  held = T.L.held l;
+                  reads = T.L.Source.faults l;
+                  writes = T.L.Sink.faults l;
+                })
+                (T.told w.entry.now.kit.tasks) (T.told w.exit.now.kit.tasks)
+                (around (moments C.moments C.last) D.asked D.faults w.entry.now.pass w.entry.now.kit)
+                (around (moments C.moments C.last) D.asked D.faults w.exit.now.pass w.exit.now.kit) }
             ensures holds { held_of w.exit.now.pass ≡ held_of w.entry.now.pass }
         {
             work(rt, alloc, scheduler, server, w);
@@ -117,8 +148,8 @@ fn work_all<
     );
 }
 
-/// A worker for each kit, each with a fresh pass of its own. Where memory ran out, the passes that were made are
-/// joined.
+/// A worker for each kit, each with a fresh pass of its own. Where memory ran out, the passes that were made
+/// are joined.
 fn hire<R: Wait, T: Tasks, D: Dialer + Drop, C: Clock + Drop, K: ClientAuthCheck + Drop>(
     rt: &R,
     scheduler: &Scheduler<JWTJobAuthorizer>,
@@ -129,6 +160,7 @@ fn hire<R: Wait, T: Tasks, D: Dialer + Drop, C: Clock + Drop, K: ClientAuthCheck
     requires room { vec_len workers + vec_len kits ≤ vec_capacity workers }
     requires fresh { workers.items ≡ [] }
     ensures kits { IfOk result (λ ws. map (λ w. w.kit) ws.items ≡ kits.items) }
+    ensures began { IfOk result (λ ws. map (λ w. w.pass) ws.items ≡ map (λ _. fresh) kits.items) }
     ensures hold { IfOk result (λ ws. sum_by (λ w. held_of w.pass) ws.items ≡ length kits.items) }
     ensures same { OnOk result (pass.new ≡ pass.old) }
     ensures joined { OnErr result ((n : ℕ) × Rises n (held_of pass.old) (held_of pass.new)) }
@@ -151,7 +183,8 @@ fn dismiss<T: Tasks, D: Dialer + Drop, C: Clock + Drop, K: ClientAuthCheck + Dro
     pass: &mut Pass,
     workers: Vec<Worker<T, D, C, K>>,
 )
-    ensures joined { Rises (sum_by (λ w. held_of w.pass) workers.items) (held_of pass.old) (held_of pass.new) }
+    ensures joined { Rises (sum_by (λ w. held_of w.pass) workers.items) (held_of pass.old)
+        (held_of pass.new) }
 {
     let _held = pass.held();
     for worker in workers {
@@ -173,9 +206,13 @@ fn gather<T: Tasks, D: Dialer + Drop, C: Clock + Drop, K: ClientAuthCheck + Drop
     requires room { vec_len kits + vec_len workers ≤ vec_capacity kits }
     requires fresh { kits.items ≡ [] }
     ensures kits { result.items ≡ map (λ w. w.kit) workers.items }
-    ensures joined { Rises (sum_by (λ w. held_of w.pass) workers.items) (held_of pass.old) (held_of pass.new) }
+    ensures joined { Rises (sum_by (λ w. held_of w.pass) workers.items) (held_of pass.old)
+        (held_of pass.new) }
+    ensures counted { Rises (sum_by (λ w. count_of w.pass) workers.items) (count_of pass.old)
+        (count_of pass.new) }
 {
     let _held = pass.held();
+    let _count = pass.count();
     for worker in workers {
         let Worker { kit, pass: theirs } = worker;
         scheduler.join(pass, theirs);
@@ -184,10 +221,12 @@ fn gather<T: Tasks, D: Dialer + Drop, C: Clock + Drop, K: ClientAuthCheck + Drop
     kits
 }
 
-/// Runs a worker for each kit, and gives the kits back once all their connections were served; the workers' passes
-/// are joined, so that the pass then holds one more for each kit. Each link that a kit gave came back once, in order, with what its connection answered, and none is
-/// left. A worker that gets no thread is run by the caller. Refused for want of memory alone, before any connection
-/// was taken: the passes that were made are then joined, and the kits dropped.
+/// Runs a worker for each kit, and gives the kits back once all their connections were served. Each link that
+/// a kit gave came back once, in order, with what serving it did to the kit and to a pass of the worker's
+/// own, which counted nothing before the first; and none is left. These passes are joined: the pass then
+/// counts what they counted, and holds one more for each kit. A worker that gets no thread is run by the
+/// caller. Refused for want of memory alone, before any connection was taken: the passes that were made are
+/// then joined, and the kits dropped.
 pub fn serve_scheduler_workers<
     R: Threads + Wait + Sync,
     T: Tasks,
@@ -204,9 +243,19 @@ pub fn serve_scheduler_workers<
     server: &V,
 ) -> Result<Vec<Kit<T, D, C, K>>, Memory>
     ensures len { IfOk result (λ back. length back.items ≡ length kits.items) }
-    ensures worked { IfOk result (λ back. (i : ℕ) (d : _) → i < length kits.items
-        → Worked (λ l. record { left = T.L.left l; held = T.L.held l; reads = T.L.Source.faults l; writes = T.L.Sink.faults l })
-        (T.told (slice_index_or kits.items i d).tasks) (T.told (slice_index_or back.items i d).tasks)) }
+    ensures worked { IfOk result (λ back. (passes : List Told) × (length passes ≡ length kits.items)
+        × AreJoined passes pass.old pass.new
+        × ((i : ℕ) (d : _) (p : Told) → i < length kits.items
+        → Worked (λ peer. IsReplied (λ r. IsRouted K.may_answer K.shown (V.server_of server.now) r peer))
+        (λ l. record {
+          left = T.L.left l;
+          held = T.L.held l;
+          reads = T.L.Source.faults l;
+          writes = T.L.Sink.faults l;
+        })
+        (T.told (slice_index_or kits.items i d).tasks) (T.told (slice_index_or back.items i d).tasks)
+        (around (moments C.moments C.last) D.asked D.faults fresh (slice_index_or kits.items i d))
+        (around (moments C.moments C.last) D.asked D.faults (slice_index_or passes i p) (slice_index_or back.items i d)))) }
     ensures holds { OnOk result (Rises (length kits.items) (held_of pass.old) (held_of pass.new)) }
 {
     let back = Vec::with_capacity(alloc, kits.len())?;

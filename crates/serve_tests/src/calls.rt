@@ -69,7 +69,8 @@ pub fn dialer(alloc: Global, reply: &[u8]) -> Result<MemDialer, AllocError> {
     Ok(MemDialer::new(alloc, replies, Vec::new(alloc)))
 }
 
-/// A heartbeat of 127.0.0.1:10501 with one processor, the key 1, 2, 2 and the nonce 7, and an allocation of `abc`.
+/// A heartbeat of 127.0.0.1:10501 with one processor, the key 1, 2, 2 and the nonce 7, and an allocation of
+/// `abc`.
 const BEAT: &[u8] =
     b"POST /api/v1/scheduler/heartbeat_server HTTP/1.1\r\nAuthorization: Bearer 127.0.0.1:10501 s1\r\nContent-Type: application/octet-stream\r\nContent-Length: 27\r\n\r\n\x03\0\0\0\0\0\0\0\x01\x02\x02\x01\0\0\0\0\0\0\0\x07\0\0\0\0\0\0\0";
 

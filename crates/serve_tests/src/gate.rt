@@ -33,7 +33,8 @@ fn is_set(flag: &AtomicBool) -> bool {
     false
 }
 
-/// Whether the first link was asked for its bytes, whether the second was answered, and the tickets that are drawn.
+/// Whether the first link was asked for its bytes, whether the second was answered, and the tickets that are
+/// drawn.
 #[derive(Drop)]
 struct Gate {
     begun: AtomicBool,
@@ -41,8 +42,8 @@ struct Gate {
     tickets: AtomicU64,
 }
 
-/// A status request whose first read waits: that of the first ticket until the other link was answered, and that of the
-/// other until the first has begun. A read that gives up fails.
+/// A status request whose first read waits: that of the first ticket until the other link was answered, and
+/// that of the other until the first has begun. A read that gives up fails.
 #[derive(Drop)]
 struct GateLink<'a> {
     gate: &'a Gate,

@@ -1,5 +1,5 @@
-//! The running scheduler and build server over connections: which bytes are taken and what is replied, over links in
-//! memory, lying links and loopback. Tests alone; nothing above uses this crate.
+//! The running scheduler and build server over connections: which bytes are taken and what is replied, over
+//! links in memory, lying links and loopback. Tests alone; nothing above uses this crate.
 #![tactic(auto)]
 
 #[cfg(test)]
@@ -10,5 +10,7 @@ mod cuts;
 mod gate;
 #[cfg(test)]
 mod loopback;
+#[cfg(test)]
+mod server_loopback;
 #[cfg(test)]
 mod slow;

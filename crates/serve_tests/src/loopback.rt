@@ -9,6 +9,7 @@ use dist_types::dialer::Dialer;
 use dist_types::fault::Failed;
 use dist_types::results::SchedulerStatusResult;
 use dist_types::tcp::TcpDialer;
+use http_connections::stream::LimitedNet;
 use http_routes::calls::answer;
 use rand_core::SeedableRng;
 use rand_xoshiro::SplitMix64;
@@ -93,6 +94,16 @@ fn taken_address(rt: HostRuntime) -> Result<(), Fail> {
         1,
     );
     assert_eq!(&rt; serve.scheduler(&config), Err(Failed));
+    Ok(())
+}
+
+/// A peer that takes the connection and brings nothing is a fault, once the limit of the asking is over.
+#[test]
+fn silent_peer(rt: HostRuntime) -> Result<(), Fail> {
+    let listener = TcpListener::bind(&rt, "127.0.0.1:0")?;
+    let port = listener.local_addr()?.port();
+    let mut dialer = TcpDialer::new(rt.alloc(), LimitedNet::new(&rt, 100));
+    assert!(&rt; dialer.ask("127.0.0.1", port, STATUS).is_err());
     Ok(())
 }
 

@@ -8,7 +8,8 @@ use Rattle.url.specs.declared.host.Host.{Host}
 use Rattle.url.specs.declared.host.Host.TheVariants.{Domain, Ipv4, Ipv6}
 
 by_host : (host : Option (Host (List ℕ)))
-    → unwrap_or (option_map host_text (if not (is_empty_host (unwrap_or host (Domain []))) then host else None)) [] ≡ host_text (unwrap_or host (Domain []))
+    → unwrap_or (option_map host_text (if not (is_empty_host (unwrap_or host (Domain []))) then host
+    else None)) [] ≡ host_text (unwrap_or host (Domain []))
 by_host None = refl
 by_host (Some (Domain [])) = refl
 by_host (Some (Domain (b ∷ bytes))) =
@@ -17,5 +18,6 @@ by_host (Some (Domain (b ∷ bytes))) =
 by_host (Some (Ipv4 address)) = refl
 by_host (Some (Ipv6 address)) = refl
 
-pub dialed_host : (base : Parts) → unwrap_or (option_map host_text (nonempty_host base)) [] ≡ host_text (host_or_empty base)
+pub dialed_host : (base : Parts) → unwrap_or (option_map host_text (nonempty_host base)) [] ≡ host_text
+    (host_or_empty base)
 dialed_host base = by_host base.host

@@ -19,16 +19,19 @@ abbrev pub Heard : Type 0
 Heard = Result HeartbeatServerResult CallFault
 
 -- The dialer's row is that heartbeat, written to the peer under its token, and its answer is what is heard.
-pub record IsBeatOf (peer : Peer) (beat : HeartbeatServerHttpRequest) (heard : Heard) (a : Asked) : Type 0 where
+pub record IsBeatOf (peer : Peer) (beat : HeartbeatServerHttpRequest) (heard : Heard)
+    (a : Asked) : Type 0 where
   pub host : a.host ≡ peer.host
   pub port : a.port ≡ peer.port
   pub request : a.request ≡ request_text (heartbeat_with (host_at peer) peer.token beat)
   pub answer : Hears heard_at a.answer heard
 
--- The scheduler was told once: one row more of the dialer's, or where memory ran out none or one; the call was lost only
--- where the dialer's count rose.
-pub record IsBeaten (peer : Peer) (beat : HeartbeatServerHttpRequest) (heard : Heard) (old new : Dialing) : Type 0 where
-  pub calls : Calls (IsBeatOf peer beat) (λ (h : Heard). h) heard (lent_of 0 peer old.asked) (lent_of 0 peer new.asked)
+-- The scheduler was told once: one row more of the dialer's, or where memory ran out none or one; the call
+-- was lost only where the dialer's count rose.
+pub record IsBeaten (peer : Peer) (beat : HeartbeatServerHttpRequest) (heard : Heard)
+    (old new : Dialing) : Type 0 where
+  pub calls : Calls (IsBeatOf peer beat) (λ (h : Heard). h) heard (lent_of 0 peer old.asked)
+      (lent_of 0 peer new.asked)
   pub steady : OnOk heard (new.faults ≡ old.faults)
   pub uncounted : heard ≡ Err Memory → new.faults ≡ old.faults
   pub later : old.faults ≤ new.faults

@@ -15,7 +15,8 @@ use Rattle.build_server.specs.Rules.{Assigns, TellsAssign, Turns}
 use Rattle.build_server.specs.declared.fault.BuildCause.{BuildCause}
 use Rattle.build_server.specs.declared.fault.BuildCause.TheVariants as cause
 use Rattle.build_server.specs.declared.fault.ServerFault.{ServerFault}
-use Rattle.build_server.specs.declared.fault.ServerFault.TheVariants.{AlreadyAssigned, UpdateFailed, BuildFailed, Memory}
+use Rattle.build_server.specs.declared.fault.ServerFault.TheVariants.{AlreadyAssigned, UpdateFailed}
+use Rattle.build_server.specs.declared.fault.ServerFault.TheVariants.{BuildFailed, Memory}
 use Rattle.http_head.specs.declared.request.Request.{Request}
 use Rattle.http_routes.specs.Fault.{fault_response_of}
 use Rattle.http_routes.specs.Replies.{assign_response, submit_response, run_response}
@@ -75,14 +76,16 @@ telling name peer d = record { rows = None; faults = d.faults; lent = lent_of na
 -- ---- the three calls, each with the answer that its reply tells
 
 -- the job is assigned by the keeper
-pub record IsAssignedAndTold (json : Bool) (job : JobId) (tc : List ℕ) (kept turned : Option Books) (reply : Response) : Type 0 where
+pub record IsAssignedAndTold (json : Bool) (job : JobId) (tc : List ℕ) (kept turned : Option Books)
+    (reply : Response) : Type 0 where
   pub answer : Result AssignJobResult ServerFault
   pub turns : Turns (λ old new. Assigns job tc old new answer) kept turned
   pub tells : TellsAssign job answer
   pub told : Replies (assign_response json) answer reply
 
 -- the body is submitted as the job's archive, from a reader that never fails
-pub record IsSubmittedAndTold (peer : Peer) (json : Bool) (job : JobId) (body : List ℕ) (kept turned : Option Books) (old new : Dialing) (reply : Response) : Type 0 where
+pub record IsSubmittedAndTold (peer : Peer) (json : Bool) (job : JobId) (body : List ℕ)
+    (kept turned : Option Books) (old new : Dialing) (reply : Response) : Type 0 where
   pub name : ℕ
   pub left : Option (List ℕ)
   pub answer : Result SubmitToolchainResult ServerFault
@@ -95,22 +98,28 @@ abbrev pub order_of : RunJobHttpRequest → List ℕ → ℕ → Order
 order_of run body at = record { command = run.command; outputs = run.outputs; inputs = drop at body }
 
 -- the job is run
-pub record IsRunAndTold (peer : Peer) (json : Bool) (job : JobId) (order : Order) (old new : Means) (reply : Response) : Type 0 where
+pub record IsRunAndTold (peer : Peer) (json : Bool) (job : JobId) (order : Order) (old new : Means)
+    (reply : Response) : Type 0 where
   pub name : ℕ
   pub answer : Result RunJobResult ServerFault
-  pub ran : IsRunOn IsToldOf job order old.kept new.kept (telling name peer old.dialing) (telling name peer new.dialing)
+  pub ran : IsRunOn IsToldOf job order old.kept new.kept (telling name peer old.dialing)
+      (telling name peer new.dialing)
       old.builder new.builder answer
   pub told : Replies (run_response json) answer reply
 
 -- What is asked of a server is done, and the reply tells its answer; what its route answered changes nothing.
 abbrev pub IsDone : Peer → Bool → List ℕ → ServerRouted → Means → Means → Response → Type 0
 IsDone peer json body (Assign job tc) old new reply =
-    IsAssignedAndTold json job tc old.kept new.kept reply × (new.dialing ≡ old.dialing) × (new.builder ≡ old.builder)
+    IsAssignedAndTold json job tc old.kept new.kept reply × (new.dialing ≡ old.dialing)
+    × (new.builder ≡ old.builder)
 IsDone peer json body (Submit job) old new reply =
-    IsSubmittedAndTold peer json job body old.kept new.kept old.dialing new.dialing reply × (new.builder ≡ old.builder)
-IsDone peer json body (Run job run at) old new reply = IsRunAndTold peer json job (order_of run body at) old new reply
+    IsSubmittedAndTold peer json job body old.kept new.kept old.dialing new.dialing reply
+    × (new.builder ≡ old.builder)
+IsDone peer json body (Run job run at) old new reply = IsRunAndTold peer json job
+    (order_of run body at) old new reply
 IsDone peer json body (Done response) old new reply = (reply ≡ response) × (new ≡ old)
 
 -- The reply to what was taken: what it asks by its route is done, under the tokens that the verdict accepts.
-pub record IsReplied (verdict : ℕ → List ℕ → Result ⊤ TokenError) (peer : Peer) (request : Option Request) (old new : Means) (reply : Response) : Type 0 where
+pub record IsReplied (verdict : ℕ → List ℕ → Result ⊤ TokenError) (peer : Peer) (request : Option Request)
+    (old new : Means) (reply : Response) : Type 0 where
   pub done : IsDone peer (form_of request) (body_of request) (routed_of verdict request) old new reply

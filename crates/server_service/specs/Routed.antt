@@ -8,7 +8,8 @@ use Rattle.http_routes.specs.declared.refusal.Refusal.TheVariants.{BadHead}
 use Rattle.http_routes.specs.declared.server_route.ServerRouted.{ServerRouted}
 use Rattle.http_routes.specs.declared.server_route.ServerRouted.TheVariants.{Done}
 
--- what a request asks by its route, or the reply to its refusal; what is no request gets the reply to a bad head
+-- what a request asks by its route, or the reply to its refusal; what is no request gets the reply to a bad
+-- head
 abbrev pub routed_of : (ℕ → List ℕ → Result ⊤ TokenError) → Option Request → ServerRouted
 routed_of verdict None = Done (refusal_response BadHead)
 routed_of verdict (Some request) = server_answered (server_asked_of verdict request)

@@ -12,7 +12,11 @@ use Rattle.http_connections.specs.Hearing.{Hears}
 
 -- the scheduler at a base, under a server's token
 abbrev pub peer_of : Parts → List ℕ → Peer
-peer_of base token = record { host = host_text (host_or_empty base); port = unwrap_or base.port 80; token = token }
+peer_of base token = record {
+  host = host_text (host_or_empty base);
+  port = unwrap_or base.port 80;
+  token = token;
+}
 
 -- the host and the port, as a request names them
 abbrev pub host_at : Peer → List ℕ
@@ -22,9 +26,11 @@ host_at peer = peer.host ++ (58 ∷ decimal peer.port)
 abbrev pub lent_of : ℕ → Peer → Option (List Asked) → Lent
 lent_of name peer asked = record { name = name; peer = peer; asked = asked }
 
--- The dialer's row is that report: the job's state, written to the peer under its token, and its answer is what is heard.
+-- The dialer's row is that report: the job's state, written to the peer under its token, and its answer is
+-- what is heard.
 pub record IsToldOf (peer : Peer) (row : Updated) (a : Asked) : Type 0 where
   pub host : a.host ≡ peer.host
   pub port : a.port ≡ peer.port
-  pub request : a.request ≡ request_text (state_with (host_at peer) peer.token (record { 0 = row.job }) row.state)
+  pub request : a.request ≡ request_text
+      (state_with (host_at peer) peer.token (record { 0 = row.job }) row.state)
   pub answer : Hears update_at a.answer row.answer

@@ -4,7 +4,8 @@ ghost use Rattle.build_server.specs.Builds.{builder_of};
 ghost use Rattle.http_calls.specs.Urls.{IsHttp};
 ghost use Rattle.http_routes.specs.Fault.{fault_response_of};
 ghost use Rattle.http_routes.specs.Replies.{run_response};
-ghost use Rattle.server_service.specs.Replied.{failure_of, fault_of, IsTold, IsAssignedAndTold, IsSubmittedAndTold, IsRunAndTold, IsDone, order_of};
+ghost use Rattle.server_service.specs.Replied.{failure_of, fault_of, IsTold, IsAssignedAndTold};
+ghost use Rattle.server_service.specs.Replied.{IsSubmittedAndTold, IsRunAndTold, IsDone, order_of};
 ghost use Rattle.server_service.specs.Told.{peer_of};
 
 use crate::body::BodySource;
@@ -90,7 +91,8 @@ fn submit<K: Keeping, D: Dialer>(
     body: &[u8],
 ) -> Result<Response, Memory>
     requires http { IsHttp scheduler.now }
-    ensures told { IfOk result (IsSubmittedAndTold (peer_of scheduler.now scheduler_auth.now) json job body.now
+    ensures told { IfOk result
+        (IsSubmittedAndTold (peer_of scheduler.now scheduler_auth.now) json job body.now
         (K.kept keeper.old) (K.kept keeper.new)
         (record { asked = D.asked dialer.old; faults = D.faults dialer.old })
         (record { asked = D.asked dialer.new; faults = D.faults dialer.new })) }

@@ -37,7 +37,8 @@ fn reply_to<K: Keeping, D: Dialer, B: BuilderIncoming>(
     request: &Option<Request>,
 ) -> Result<Response, Memory>
     requires http { IsHttp scheduler.now }
-    ensures replied { IfOk result (IsReplied (job_verdict key.now) (peer_of scheduler.now scheduler_auth.now) request.now
+    ensures replied { IfOk result
+        (IsReplied (job_verdict key.now) (peer_of scheduler.now scheduler_auth.now) request.now
         (record {
           kept = K.kept keeper.old;
           dialing = record { asked = D.asked dialer.old; faults = D.faults dialer.old };
@@ -63,10 +64,10 @@ fn reply_to<K: Keeping, D: Dialer, B: BuilderIncoming>(
     )
 }
 
-/// Takes one request, answers it, and sends the reply. The scheduler stands at a base of scheme `http`, and is told
-/// under the token `scheduler_auth`; the tokens of jobs are those of the key. ReadFault and WriteFault come only where
-/// that half's count rose; ReadFault and Memory write nothing. An end of input inside a request gets the reply to a
-/// bad head.
+/// Takes one request, answers it, and sends the reply. The scheduler stands at a base of scheme `http`, and
+/// is told under the token `scheduler_auth`; the tokens of jobs are those of the key. ReadFault and
+/// WriteFault come only where that half's count rose; ReadFault and Memory write nothing. An end of input
+/// inside a request gets the reply to a bad head.
 pub fn serve_server_connection<L: Link, D: Dialer, K: Keeping, B: BuilderIncoming>(
     alloc: Global,
     keeper: &mut K,

@@ -33,7 +33,8 @@ fn beat_of(
     beat: &HeartbeatServerHttpRequest,
 ) -> Result<Bytes, Memory>
     requires { IsHttp scheduler.now }
-    ensures { IfOk result (λ bytes. bytes ≡ request_text (heartbeat_request scheduler.now token.now beat.now)) }
+    ensures { IfOk result (λ bytes.
+        bytes ≡ request_text (heartbeat_request scheduler.now token.now beat.now)) }
 {
     match heartbeat(alloc, scheduler, token, beat) {
         Ok(bytes) => Ok(bytes),
@@ -49,9 +50,9 @@ fn beat_of(
     }
 }
 
-/// Tells the scheduler at a base of scheme `http` once that the server stands, under its token, and gives what it
-/// answers: one request more of the dialer's. Lost where the dialer failed, whose count then rose; Status and
-/// Unreadable by the reply; Memory where memory ran out, before or behind the asking.
+/// Tells the scheduler at a base of scheme `http` once that the server stands, under its token, and gives
+/// what it answers: one request more of the dialer's. Lost where the dialer failed, whose count then rose;
+/// Status and Unreadable by the reply; Memory where memory ran out, before or behind the asking.
 pub fn beat_once<D: Dialer>(
     alloc: Global,
     dialer: &mut D,

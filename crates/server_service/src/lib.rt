@@ -1,13 +1,13 @@
 //! A build server over HTTP/1.1 (RFC 9112): its connections, its workers, its heartbeat and its listener.
 //!
-//! A connection is taken, answered and sent, each by a function: `route` says what is asked, `answer` does it by one
-//! call over a keeper, a builder and a requester on a lent dialer (`telling`), and `connection` puts the three together:
-//! its one clause says what becomes of the link, the keeper, the dialer and the builder. `workers` runs one worker for
-//! each kit in a thread of its own, over a server that is shared. `heartbeat` is one heartbeat, and how long to wait
-//! behind it; `run_server` is the system's side.
+//! A connection is taken, answered and sent, each by a function: `route` says what is asked, `answer` does it
+//! by one call over a keeper, a builder and a requester on a lent dialer (`telling`), and `connection` puts
+//! the three together: its one clause says what becomes of the link, the keeper, the dialer and the builder.
+//! `workers` runs one worker for each kit in a thread of its own, over a server that is shared. `heartbeat`
+//! is one heartbeat, and how long to wait behind it; `run_server` is the system's side.
 //!
-//! The layers above use `serve_server_connection`, `serve_server_workers`, `BuildKit`, `beat_once`, `wait_after` and
-//! `serve_server`, and of the definitions `IsReplied`, `IsDone` and `IsToldOf`.
+//! The layers above use `serve_server_connection`, `serve_server_workers`, `BuildKit`, `beat_once`,
+//! `wait_after` and `serve_server`, and of the definitions `IsReplied`, `IsDone` and `IsToldOf`.
 #![tactic(auto)]
 
 pub mod answer;

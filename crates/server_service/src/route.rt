@@ -9,8 +9,8 @@ use http_routes::refusal::{Refusal, refusal_response};
 use http_routes::server_route::{ServerRouted, server_route};
 use std::alloc::Global;
 
-/// What is asked under the tokens of an authorizer, or the reply where there is nothing more to do. Refused for want
-/// of memory alone.
+/// What is asked under the tokens of an authorizer, or the reply where there is nothing more to do. Refused
+/// for want of memory alone.
 pub fn route<A: JobAuthorizer>(
     alloc: Global,
     request: &Option<Request>,

@@ -64,26 +64,26 @@ impl Ending {
     }
 }
 
-/// Tells the scheduler again and again that the server stands, until the listener ended.
+/// Tells the scheduler again and again that the server stands, until the listener ended. What waits longer
+/// than the limit for an answer is not told.
 fn beat_until_ended<R: Wait + Clock + Net<Stream = TcpStream>>(
-    rt: &R,
-    alloc: Global,
+    sharing: &Sharing<'_, R>,
     ending: &Ending,
     config: &ServerConfig,
     beat: &HeartbeatServerHttpRequest,
 )
     requires http { IsHttp config.now.scheduler_url }
 {
-    let mut dialer = TcpDialer::new(alloc, rt);
-    for _ in rt.forever() {
+    let mut dialer = TcpDialer::new(sharing.alloc, sharing.asking());
+    for _ in sharing.rt.forever() {
         let told = beat_once(
-            alloc,
+            sharing.alloc,
             &mut dialer,
             &config.scheduler_url,
             config.scheduler_auth.get(),
             beat,
         );
-        if ending.wait(rt, wait_after(told.is_ok())) {
+        if ending.wait(sharing.rt, wait_after(told.is_ok())) {
             return;
         }
     }
@@ -100,8 +100,8 @@ fn tested(base: &Url) -> Result<(), StartFault>
     }
 }
 
-/// The server of a configuration, which holds nothing, over the archives that stand in its folder. The folder is made
-/// where there is none.
+/// The server of a configuration, which holds nothing, over the archives that stand in its folder. The folder
+/// is made where there is none.
 fn server_of<'a, R: Files + AllocGlobal>(
     rt: &'a R,
     alloc: Global,
@@ -181,8 +181,7 @@ fn serve_and_beat<
     R: Threads + Wait + Sync + Clock + Net<Listener = TcpListener, Stream = TcpStream>,
     F: Folder + Send,
 >(
-    rt: &R,
-    alloc: Global,
+    sharing: &Sharing<'a, R>,
     server: &Server<F>,
     key: &JWTJobAuthorizer,
     kits: Vec<ServerKit<'a, R>>,
@@ -191,13 +190,15 @@ fn serve_and_beat<
 ) -> Result<(), StartFault>
     requires http { IsHttp config.now.scheduler_url }
 {
+    let rt = sharing.rt;
+    let alloc = sharing.alloc;
     let ending = Ending::new();
     let (_, served) = thread::join(
         rt,
         || -> ()
             requires { IsHttp config.now.scheduler_url }
         {
-            beat_until_ended(rt, alloc, &ending, config, beat);
+            beat_until_ended(sharing, &ending, config, beat);
         },
         || -> Result<(), StartFault>
             requires { IsHttp config.now.scheduler_url }
@@ -217,8 +218,8 @@ fn has_thread<R: Threads>(rt: &R) -> bool {
     }
 }
 
-/// Serves as a build server until the listener ends. Refused at once where the address is taken, the folder cannot be
-/// opened, the scheduler's URL is not of http, no thread can be started, or memory ran out.
+/// Serves as a build server until the listener ends. Refused at once where the address is taken, the folder
+/// cannot be opened, the scheduler's URL is not of http, no thread can be started, or memory ran out.
 pub fn serve_server<
     R: Threads
         + Wait
@@ -249,5 +250,5 @@ where
         return Err(StartFault);
     }
     let kits = server_kits(&sharing)?;
-    serve_and_beat(rt, alloc, &server, &key, kits, config, &beat)
+    serve_and_beat(&sharing, &server, &key, kits, config, &beat)
 }

@@ -42,8 +42,8 @@ fn report_of(
     }
 }
 
-/// Tells the scheduler at a base, under a server's token, through a dialer. It tells no record of its own: the dialer's
-/// is the record.
+/// Tells the scheduler at a base, under a server's token, through a dialer. It tells no record of its own:
+/// the dialer's is the record.
 #[derive(Drop)]
 pub struct Telling<'d, D: Dialer> {
     alloc: Global,
@@ -79,7 +79,8 @@ impl<'d, D: Dialer> ServerOutgoing for Telling<'d, D> {
 
     ghost faults = { λ s. D.faults s.dialer.now };
 
-    ghost lent = { λ s. lent_of s.dialer.ghost_name (peer_of s.scheduler.now s.token.now) (D.asked s.dialer.now) };
+    ghost lent = { λ s. lent_of s.dialer.ghost_name (peer_of s.scheduler.now s.token.now)
+        (D.asked s.dialer.now) };
 
     ghost says = { IsToldOf };
 

@@ -1,5 +1,5 @@
-//! The generated orders of calls over folders of which each call fails in turn, before it does anything or behind
-//! that.
+//! The generated orders of calls over folders of which each call fails in turn, before it does anything or
+//! behind that.
 use crate::orders::{
     CAPACITY, Numbers, ORDERS, STEPS, Step, are_at, assert_ended, assert_kept, assign, run, submit,
 };
@@ -90,8 +90,8 @@ fn take(
     }
 }
 
-/// An order over a folder of which one call fails: how often a call of the state told so, and the folder; None
-/// where the opening failed.
+/// An order over a folder of which one call fails: how often a call of the state told so, and the folder;
+/// None where the opening failed.
 fn over(
     rt: &impl Abort,
     alloc: Global,
@@ -118,7 +118,8 @@ fn over(
     Some((failed, state.into_cache().into_folder()))
 }
 
-/// How many calls of the folder an order makes: the call of the number `MANY` fails, which is sought behind them.
+/// How many calls of the folder an order makes: the call of the number `MANY` fails, which is sought behind
+/// them.
 fn calls_of(rt: &impl Abort, alloc: Global, seed: u64) -> u64 {
     let (failed, mut folder) = over(rt, alloc, seed, MANY, false).expect(rt, "a cache");
     assert_eq!(rt; failed, 0);

@@ -6,4 +6,5 @@ use Rattle.build_server.proofs.store.to_drop.Given as goal
 
 abbrev pub invariant-loop-tc : goal.invariant-loop-tc
 invariant-loop-tc g l =
-    (l.left ≡ total l.tc-iterator) × (l.gone.items ++ ids (dropped l.limit l.tc-iterator) ≡ ids (dropped l.limit l.cache.archives))
+    (l.left ≡ total l.tc-iterator)
+    × (l.gone.items ++ ids (dropped l.limit l.tc-iterator) ≡ ids (dropped l.limit l.cache.archives))

@@ -10,5 +10,6 @@ pub returns : goal.returns
 returns c =
     let a = c.args in
     c.is_held.ensures
-    ∙ ap (list_any (λ h. (h.number == a.number) && same_job h.job a.job)) (c.deref.ensures.value ∙ c.in_ok-held.ensures.rows)
+    ∙ ap (list_any (λ h. (h.number == a.number) && same_job h.job a.job))
+    (c.deref.ensures.value ∙ c.in_ok-held.ensures.rows)
     ∙ list_any-map (λ h. (h.number == a.number) && same_job h.job a.job) held_of (unended a.log.now)

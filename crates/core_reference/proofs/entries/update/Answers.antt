@@ -2,4 +2,9 @@ use Rattle.std.proofs.Common.{refl}
 use Rattle.core_reference.proofs.entries.update.Goals as goal
 
 pub returns : goal.returns
-returns c = rw (c.answer_by-answer.ensures, c.open_job-found.ensures, c.deref.ensures.value, c.in_ok-rows.ensures.rows) refl
+returns c = rw (
+  c.answer_by-answer.ensures,
+  c.open_job-found.ensures,
+  c.deref.ensures.value,
+  c.in_ok-rows.ensures.rows,
+) refl

@@ -11,9 +11,13 @@ loop-i-preserved c =
     let lt : c.loop-i.i < length c.args.log.now = omega arith in
     c.newer_of-found.ensures
     ∙ ap (λ o. newer o c.loop-i.found) (c.address_at.ensures (drop (c.loop-i.i + 1) c.args.log.now))
-    ∙ newest-more (seen_at registered_at (λ g. g.reg == c.args.reg) (λ g. g.server)) c.args.log.now c.loop-i.i c.index-log-i.result c.loop-i.found lt c.index-log-i.is c.loop-i.invariant
+    ∙ newest-more (seen_at registered_at (λ g. g.reg == c.args.reg) (λ g. g.server)) c.args.log.now c.loop-i.i
+    c.index-log-i.result c.loop-i.found lt c.index-log-i.is c.loop-i.invariant
 
 pub returns : goal.returns
 returns c =
     let all : length c.args.log.now ≤ c.loop-i.i = omega arith in
-    record { address = newest-whole registered_at (λ g. g.reg == c.args.reg) (λ g. g.server) c.args.log.now c.loop-i.i c.loop-i.found all c.loop-i.invariant }
+    record {
+      address = newest-whole registered_at (λ g. g.reg == c.args.reg)
+          (λ g. g.server) c.args.log.now c.loop-i.i c.loop-i.found all c.loop-i.invariant;
+    }

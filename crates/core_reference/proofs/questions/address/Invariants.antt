@@ -7,4 +7,5 @@ use Rattle.sched_core.specs.Standing.{registered_at}
 use Rattle.core_reference.proofs.questions.address.Given as goal
 
 abbrev pub invariant-loop-i : goal.invariant-loop-i
-invariant-loop-i l = l.found ≡ newest None (filter_map (seen_at registered_at (λ g. g.reg == l.reg) (λ g. g.server)) (take l.i (cuts l.log)))
+invariant-loop-i l = l.found ≡ newest None
+    (filter_map (seen_at registered_at (λ g. g.reg == l.reg) (λ g. g.server)) (take l.i (cuts l.log)))

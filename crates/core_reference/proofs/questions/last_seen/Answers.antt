@@ -11,10 +11,13 @@ loop-k-preserved c =
     let lt : c.loop-k.k < length a.later.now = omega arith in
     c.moment_if-moment.ensures
     ∙ ap (λ b. if b then c.index-later-k.result.now else c.loop-k.moment) c.is_heard-counts.ensures
-    ∙ latest_passed-more (is_sign a.server a.reg (a.before.now ++ a.at.now ∷ [])) (λ k. k.at.now) a.at.now.now a.later.now c.loop-k.k c.index-later-k.result c.loop-k.moment lt c.index-later-k.is c.loop-k.invariant
+    ∙ latest_passed-more (is_sign a.server a.reg (a.before.now ++ a.at.now ∷ []))
+    (λ k. k.at.now) a.at.now.now a.later.now c.loop-k.k c.index-later-k.result c.loop-k.moment lt
+    c.index-later-k.is c.loop-k.invariant
 
 pub returns : goal.returns
 returns c =
     let a = c.args in
     let all : length a.later.now ≤ c.loop-k.k = omega arith in
-    latest_passed-whole (is_sign a.server a.reg (a.before.now ++ a.at.now ∷ [])) (λ k. k.at.now) a.at.now.now a.later.now c.loop-k.k c.loop-k.moment all c.loop-k.invariant
+    latest_passed-whole (is_sign a.server a.reg (a.before.now ++ a.at.now ∷ []))
+    (λ k. k.at.now) a.at.now.now a.later.now c.loop-k.k c.loop-k.moment all c.loop-k.invariant

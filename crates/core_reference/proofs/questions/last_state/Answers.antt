@@ -9,4 +9,5 @@ loop-e-preserved c =
     let lt : c.loop-e.e-index < length c.args.later.now = omega arith in
     c.state_after-state.ensures
     ∙ ap (λ o. unwrap_or o c.loop-e.state) c.moves.ensures
-    ∙ latest_given-more (λ e. moves_by e.kind c.args.job) c.args.first c.args.later.now c.loop-e.e-index c.e-item.result c.loop-e.state lt c.e-item.is c.loop-e.invariant
+    ∙ latest_given-more (λ e. moves_by e.kind c.args.job) c.args.first c.args.later.now c.loop-e.e-index
+    c.e-item.result c.loop-e.state lt c.e-item.is c.loop-e.invariant

@@ -5,4 +5,5 @@ use Rattle.sched_core.specs.Job.{moves_by}
 use Rattle.core_reference.proofs.questions.last_state.Given as goal
 
 abbrev pub invariant-loop-e : goal.invariant-loop-e
-invariant-loop-e l = l.state ≡ latest l.fn.first (filter_map (λ e. moves_by e.kind l.job) (take l.e-index l.later))
+invariant-loop-e l = l.state ≡ latest l.fn.first
+    (filter_map (λ e. moves_by e.kind l.job) (take l.e-index l.later))

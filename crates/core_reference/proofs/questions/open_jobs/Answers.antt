@@ -11,9 +11,13 @@ loop-i-preserved c =
     let lt : c.loop-i.i < length c.args.log.now = omega arith in
     c.in_ok-push_if.ensures
     ∙ ap (λ o. c.loop-i.rows.items ++ option_to_list o) (rw c.rest_after.ensures at c.open_at.ensures)
-    ∙ collect-more (seen_at committed_at is_open (open_of c.args.log.now)) c.args.log.now c.loop-i.i c.index-log-i.result c.loop-i.rows.items lt c.index-log-i.is c.loop-i.invariant
+    ∙ collect-more (seen_at committed_at is_open (open_of c.args.log.now)) c.args.log.now c.loop-i.i
+    c.index-log-i.result c.loop-i.rows.items lt c.index-log-i.is c.loop-i.invariant
 
 pub returns : goal.returns
 returns c =
     let all : length c.args.log.now ≤ c.loop-i.i = omega arith in
-    record { rows = collect-whole committed_at is_open (open_of c.args.log.now) c.args.log.now c.loop-i.i c.loop-i.rows.items all c.loop-i.invariant }
+    record {
+      rows = collect-whole committed_at is_open (open_of c.args.log.now) c.args.log.now c.loop-i.i
+          c.loop-i.rows.items all c.loop-i.invariant;
+    }

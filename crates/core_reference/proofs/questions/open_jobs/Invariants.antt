@@ -7,4 +7,5 @@ use Rattle.sched_core.specs.Rows.{open_of}
 use Rattle.core_reference.proofs.questions.open_jobs.Given as goal
 
 abbrev pub invariant-loop-i : goal.invariant-loop-i
-invariant-loop-i l = l.rows.items ≡ filter_map (seen_at committed_at is_open (open_of l.log)) (take l.i (cuts l.log))
+invariant-loop-i l = l.rows.items ≡ filter_map (seen_at committed_at is_open (open_of l.log))
+    (take l.i (cuts l.log))

@@ -9,4 +9,5 @@ loop-e-preserved c =
     let lt : c.loop-e.e-index < length c.args.entries.now = omega arith in
     c.newer_of-found.ensures
     ∙ ap (λ o. newer o c.loop-e.found) c.places.ensures
-    ∙ newest_given-more (λ e. places_by e.kind c.args.job) c.args.entries.now c.loop-e.e-index c.e-item.result c.loop-e.found lt c.e-item.is c.loop-e.invariant
+    ∙ newest_given-more (λ e. places_by e.kind c.args.job) c.args.entries.now c.loop-e.e-index c.e-item.result
+    c.loop-e.found lt c.e-item.is c.loop-e.invariant

@@ -11,9 +11,11 @@ loop-i-preserved c =
     let lt : c.loop-i.i < length c.args.log.now = omega arith in
     c.newer_of-found.ensures
     ∙ ap (λ o. newer o c.loop-i.found) (c.place_in.ensures (drop (c.loop-i.i + 1) c.args.log.now))
-    ∙ newest-more (seen_at booked_at (λ b. b.number == c.args.number) (λ b. b.reg)) c.args.log.now c.loop-i.i c.index-log-i.result c.loop-i.found lt c.index-log-i.is c.loop-i.invariant
+    ∙ newest-more (seen_at booked_at (λ b. b.number == c.args.number) (λ b. b.reg)) c.args.log.now c.loop-i.i
+    c.index-log-i.result c.loop-i.found lt c.index-log-i.is c.loop-i.invariant
 
 pub returns : goal.returns
 returns c =
     let all : length c.args.log.now ≤ c.loop-i.i = omega arith in
-    newest-whole booked_at (λ b. b.number == c.args.number) (λ b. b.reg) c.args.log.now c.loop-i.i c.loop-i.found all c.loop-i.invariant
+    newest-whole booked_at (λ b. b.number == c.args.number)
+    (λ b. b.reg) c.args.log.now c.loop-i.i c.loop-i.found all c.loop-i.invariant

@@ -7,4 +7,5 @@ use Rattle.sched_core.specs.Reservation.{booked_at}
 use Rattle.core_reference.proofs.questions.reservation_place.Given as goal
 
 abbrev pub invariant-loop-i : goal.invariant-loop-i
-invariant-loop-i l = l.found ≡ newest None (filter_map (seen_at booked_at (λ b. b.number == l.number) (λ b. b.reg)) (take l.i (cuts l.log)))
+invariant-loop-i l = l.found ≡ newest None
+    (filter_map (seen_at booked_at (λ b. b.number == l.number) (λ b. b.reg)) (take l.i (cuts l.log)))

@@ -7,4 +7,5 @@ use Rattle.sched_core.specs.Job.{committed_at, state_now}
 use Rattle.core_reference.proofs.questions.state.Given as goal
 
 abbrev pub invariant-loop-i : goal.invariant-loop-i
-invariant-loop-i l = l.found ≡ newest None (filter_map (seen_at committed_at (λ c. same_job c.job l.job) state_now) (take l.i (cuts l.entries)))
+invariant-loop-i l = l.found ≡ newest None
+    (filter_map (seen_at committed_at (λ c. same_job c.job l.job) state_now) (take l.i (cuts l.entries)))

@@ -4,4 +4,6 @@ use Rattle.disk_cache.proofs.emptied.discard.Goals as goal
 
 pub returns-in-Err-Missing-clause-exact : goal.returns-in-Err-Missing-clause-exact
 returns-in-Err-Missing-clause-exact g c =
-    taken_missing c.get.result.now c.args.path.now c.remove.result (g.F.Folder.held c.args.folder.now) (g.F.Folder.held c.remove.new.self) (c.in-Err-Missing.is ∙ ap Err c.in-Err-Missing.field-0-is) c.get.ensures.text c.remove.ensures.removes
+    taken_missing c.get.result.now c.args.path.now c.remove.result (g.F.Folder.held c.args.folder.now)
+    (g.F.Folder.held c.remove.new.self) (c.in-Err-Missing.is ∙ ap Err c.in-Err-Missing.field-0-is)
+    c.get.ensures.text c.remove.ensures.removes

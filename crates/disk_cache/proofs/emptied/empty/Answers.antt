@@ -9,31 +9,46 @@ use Rattle.disk_cache.proofs.emptied.empty.Goals as goal
 
 pub loop-file-init : goal.loop-file-init
 loop-file-init g c = (
-  listed_first c.args.under.now c.deref-file-items.result.now (g.F.Folder.held c.args.folder.now) (g.F.Folder.held c.list.new.self)
-      (λ files told. c.deref-file-items.ensures.value ∙ (c.in-Ok.ensures.found files told ∙ ap (λ u. found_under u files) c.get.ensures.text))
+  listed_first c.args.under.now c.deref-file-items.result.now (g.F.Folder.held c.args.folder.now)
+      (g.F.Folder.held c.list.new.self)
+      (λ files told. c.deref-file-items.ensures.value
+      ∙ (c.in-Ok.ensures.found files told ∙ ap (λ u. found_under u files) c.get.ensures.text))
       (ap (λ k. k.files) c.in-Ok.ensures.leaves.0),
   ap (λ k. k.faults) c.in-Ok.ensures.leaves.0,
 )
 
 pub loop-file-preserved : goal.loop-file-preserved
 loop-file-preserved g c = (
-  listed_more c.args.under.now c.deref-file-items.result.now c.loop-file.file-index c.file-item.result (g.F.Folder.held c.args.folder.now).files (g.F.Folder.held c.loop-file.folder).files (g.F.Folder.held c.discard.new.folder).files
-      (omega (arith, c.loop-file-test.true)) c.file-item.is c.loop-file.invariant.0 c.in-Ok-discard.ensures.exact,
+  listed_more c.args.under.now c.deref-file-items.result.now c.loop-file.file-index c.file-item.result
+      (g.F.Folder.held c.args.folder.now).files (g.F.Folder.held c.loop-file.folder).files
+      (g.F.Folder.held c.discard.new.folder).files
+      (omega (arith, c.loop-file-test.true)) c.file-item.is c.loop-file.invariant.0
+      c.in-Ok-discard.ensures.exact,
   c.in-Ok-discard.ensures.counts ∙ c.loop-file.invariant.1,
 )
 
 pub returns-in-Err-discard-clause-counts : goal.returns-in-Err-discard-clause-counts
 returns-in-Err-discard-clause-counts g c =
-    counts_after {T = Unit {0}} (Emptying c.args.under.now c.deref-file-items.result.now c.loop-file.file-index) (Err c.in-Err-discard.fault) (g.F.Folder.held c.args.folder.now) (g.F.Folder.held c.loop-file.folder) (g.F.Folder.held c.discard.new.folder) c.loop-file.invariant.0 c.loop-file.invariant.1 c.in-Err-discard.ensures.counts
+    counts_after {T = Unit {0}}
+    (Emptying c.args.under.now c.deref-file-items.result.now c.loop-file.file-index)
+    (Err c.in-Err-discard.fault) (g.F.Folder.held c.args.folder.now) (g.F.Folder.held c.loop-file.folder)
+    (g.F.Folder.held c.discard.new.folder) c.loop-file.invariant.0 c.loop-file.invariant.1
+    c.in-Err-discard.ensures.counts
 
 pub returns-clause-emptied : goal.returns-clause-emptied
 returns-clause-emptied g c =
-    listed_last c.args.under.now c.deref-file-items.result.now c.loop-file.file-index (g.F.Folder.held c.args.folder.now) (g.F.Folder.held c.loop-file.folder) (omega (arith, c.loop-file-test.false)) c.loop-file.invariant.0
+    listed_last c.args.under.now c.deref-file-items.result.now c.loop-file.file-index
+    (g.F.Folder.held c.args.folder.now) (g.F.Folder.held c.loop-file.folder)
+    (omega (arith, c.loop-file-test.false)) c.loop-file.invariant.0
 
 pub returns-clause-others : goal.returns-clause-others
 returns-clause-others g c =
-    became_map (Emptying c.args.under.now c.deref-file-items.result.now c.loop-file.file-index) (ButUnder (front c.args.under.now)) (g.F.Folder.held c.args.folder.now).files (g.F.Folder.held c.loop-file.folder).files (λ x y h. h.others) c.loop-file.invariant.0
+    became_map (Emptying c.args.under.now c.deref-file-items.result.now c.loop-file.file-index)
+    (ButUnder (front c.args.under.now)) (g.F.Folder.held c.args.folder.now).files
+    (g.F.Folder.held c.loop-file.folder).files (λ x y h. h.others) c.loop-file.invariant.0
 
 pub returns-clause-archives : goal.returns-clause-archives
 returns-clause-archives g c = λ path beside.
-    became_map (Emptying c.args.under.now c.deref-file-items.result.now c.loop-file.file-index) (SameArchives path) (g.F.Folder.held c.args.folder.now).files (g.F.Folder.held c.loop-file.folder).files (λ x y h. h.archives path beside) c.loop-file.invariant.0
+    became_map (Emptying c.args.under.now c.deref-file-items.result.now c.loop-file.file-index)
+    (SameArchives path) (g.F.Folder.held c.args.folder.now).files
+    (g.F.Folder.held c.loop-file.folder).files (λ x y h. h.archives path beside) c.loop-file.invariant.0

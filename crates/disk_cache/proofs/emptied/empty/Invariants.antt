@@ -6,5 +6,6 @@ use Rattle.disk_cache.proofs.emptied.empty.Given as goal
 
 abbrev pub invariant-loop-file : goal.invariant-loop-file
 invariant-loop-file g l =
-    Became (Emptying l.under l.file-items l.file-index) (g.F.Folder.held l.fn.folder).files (g.F.Folder.held l.folder).files
+    Became (Emptying l.under l.file-items l.file-index) (g.F.Folder.held l.fn.folder).files
+    (g.F.Folder.held l.folder).files
     × ((g.F.Folder.held l.folder).faults ≡ (g.F.Folder.held l.fn.folder).faults)

@@ -5,4 +5,5 @@ use Rattle.disk_cache.specs.WeakMaps.{texts_in}
 use Rattle.disk_cache.proofs.weak_map.are_texts.Given as goal
 
 abbrev pub invariant-loop-member : goal.invariant-loop-member
-invariant-loop-member l = is_some (texts_in (members_view l.member-iterator)) ≡ is_some (texts_in (members_view l.members.entries))
+invariant-loop-member l = is_some (texts_in (members_view l.member-iterator)) ≡ is_some
+    (texts_in (members_view l.members.entries))

@@ -8,4 +8,5 @@ returns-in_default c = sym (json_of_none c.args.bytes.now c.in_default.ensures.c
 
 pub returns-in-Ok-from_str : goal.returns-in-Ok-from_str
 returns-in-Ok-from_str c =
-    sym (json_of-utf8 c.args.bytes.now c.in-Ok.ensures.cases.1 ∙ ap read (sym c.in-Ok.ensures.cases.0) ∙ c.in-Ok-from_str.ensures.ok)
+    sym (json_of-utf8 c.args.bytes.now c.in-Ok.ensures.cases.1 ∙ ap read (sym c.in-Ok.ensures.cases.0)
+    ∙ c.in-Ok-from_str.ensures.ok)

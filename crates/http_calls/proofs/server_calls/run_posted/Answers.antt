@@ -5,4 +5,6 @@ use Rattle.http_calls.proofs.server_calls.run_posted.Goals as goal
 
 pub returns-clause-text : goal.returns-clause-text
 returns-clause-text c =
-    c.in_ok-bytes.ensures.text ∙ (λ i. request_text (post_with (c.in_ok-target.ensures.ok i) (c.in_ok-host.ensures.ok i) c.args.token.now c.args.body))
+    c.in_ok-bytes.ensures.text
+    ∙ (λ i. request_text (post_with (c.in_ok-target.ensures.ok i)
+    (c.in_ok-host.ensures.ok i) c.args.token.now c.args.body))

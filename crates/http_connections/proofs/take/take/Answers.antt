@@ -5,7 +5,8 @@ use Rattle.http_connections.proofs.take.take.Goals as goal
 
 pub returns-in_default-clause-cut : goal.returns-in_default-clause-cut
 returns-in_default-clause-cut g c =
-    has_no_head _ _ _ c.in_ok-stop.ensures.stop c.in_ok-stop.ensures.taken (rw (c.in_default.is, c.deref.ensures.value) at c.in_ok-head.ensures)
+    has_no_head _ _ _ c.in_ok-stop.ensures.stop c.in_ok-stop.ensures.taken
+    (rw (c.in_default.is, c.deref.ensures.value) at c.in_ok-head.ensures)
 
 pub returns-in-Err-clause-front : goal.returns-in-Err-clause-front
 returns-in-Err-clause-front g c =
@@ -17,7 +18,8 @@ returns-then-len-head-clause-cut g c =
     let stop = c.in_ok-stop.ensures in
     let found = rw (c.in-Some.is, c.deref.ensures.value) at c.in_ok-head.ensures in
     let body = rw c.deref-2.ensures.value at c.in-Ok.ensures.body in
-    is_no_request _ _ _ c.in_ok-stop.stop.items c.in-Ok.body.items c.in-Some.head stop.stop stop.taken found body
+    is_no_request _ _ _ c.in_ok-stop.stop.items c.in-Ok.body.items c.in-Some.head stop.stop stop.taken found
+    body
     (λ e. absurd (omega (arith, c.in-Ok.body.ok.0, c.len.ensures)))
 
 pub returns-clause-cut : goal.returns-clause-cut
@@ -26,5 +28,6 @@ returns-clause-cut g c =
     let found = rw (c.in-Some.is, c.deref.ensures.value) at c.in_ok-head.ensures in
     let body = rw c.deref-2.ensures.value at c.in-Ok.ensures.body in
     rw c.request_of.ensures
-    (is_request _ _ _ c.in_ok-stop.stop.items c.in-Ok.body.items c.in-Some.head stop.stop stop.taken found body
+    (is_request _ _ _ c.in_ok-stop.stop.items c.in-Ok.body.items c.in-Some.head stop.stop stop.taken found
+    body
     (omega (arith, c.in-Ok.body.ok.0, c.len.ensures)))

@@ -4,8 +4,15 @@ use Rattle.lru_disk_cache.proofs.cleaning.clean_all.Goals as goal
 
 pub clean_one-requires : goal.clean_one-requires
 clean_one-requires g c =
-    still_there c.args.root.now c.args.capacity c.loop-file.file-index c.args.found.now c.file-item.result (g.F.Folder.held c.args.folder.now) (g.F.Folder.held c.loop-file.folder) c.requires.found (omega (arith, c.loop-file-test.true)) c.file-item.is c.loop-file.invariant.0
+    still_there c.args.root.now c.args.capacity c.loop-file.file-index c.args.found.now c.file-item.result
+    (g.F.Folder.held c.args.folder.now) (g.F.Folder.held c.loop-file.folder) c.requires.found
+    (omega (arith, c.loop-file-test.true)) c.file-item.is c.loop-file.invariant.0
 
 pub loop-file-preserved : goal.loop-file-preserved
-loop-file-preserved g c =
-    (cleaned_more c.args.root.now c.args.capacity c.loop-file.file-index c.args.found.now c.file-item.result (g.F.Folder.held c.args.folder.now).files (g.F.Folder.held c.loop-file.folder).files (g.F.Folder.held c.clean_one.new.folder).files c.requires.found (omega (arith, c.loop-file-test.true)) c.file-item.is c.loop-file.invariant.0 c.in_ok-clean_one.ensures.cleaned, c.in_ok-clean_one.ensures.counts ∙ c.loop-file.invariant.1)
+loop-file-preserved g c = (
+  cleaned_more c.args.root.now c.args.capacity c.loop-file.file-index c.args.found.now c.file-item.result
+      (g.F.Folder.held c.args.folder.now).files (g.F.Folder.held c.loop-file.folder).files
+      (g.F.Folder.held c.clean_one.new.folder).files c.requires.found (omega (arith, c.loop-file-test.true))
+      c.file-item.is c.loop-file.invariant.0 c.in_ok-clean_one.ensures.cleaned,
+  c.in_ok-clean_one.ensures.counts ∙ c.loop-file.invariant.1,
+)

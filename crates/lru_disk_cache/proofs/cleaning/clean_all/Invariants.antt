@@ -6,5 +6,6 @@ use Rattle.lru_disk_cache.proofs.cleaning.clean_all.Given as goal
 
 abbrev pub invariant-loop-file : goal.invariant-loop-file
 invariant-loop-file g l =
-    Became (SoFar l.root l.capacity l.file-index) (g.F.Folder.held l.fn.folder).files (g.F.Folder.held l.folder).files
+    Became (SoFar l.root l.capacity l.file-index) (g.F.Folder.held l.fn.folder).files
+    (g.F.Folder.held l.folder).files
     × ((g.F.Folder.held l.folder).faults ≡ (g.F.Folder.held l.fn.folder).faults)

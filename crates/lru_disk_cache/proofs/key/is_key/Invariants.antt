@@ -6,4 +6,5 @@ use Rattle.lru_disk_cache.proofs.key.is_key.Given as goal
 
 abbrev pub invariant-loop-part : goal.invariant-loop-part
 invariant-loop-part l =
-    (l.plain ≡ list_all is_plain (map (λ p. p.now) l.yielded)) × (l.temporary ≡ is_temporary (last_behind [] (map (λ p. p.now) l.yielded)))
+    (l.plain ≡ list_all is_plain (map (λ p. p.now) l.yielded))
+    × (l.temporary ≡ is_temporary (last_behind [] (map (λ p. p.now) l.yielded)))

@@ -1,7 +1,8 @@
 use Rattle.std.proofs.Common.{ap, sym, ◌∙◌}
 use Rattle.lru_disk_cache.specs.Files.{front}
 use Rattle.lru_disk_cache.specs.Entries.{Listed, trim}
-use Rattle.lru_disk_cache.proofs.Opens.{opens, opens_stands, opens_in_step, opens_cleared, from_empty, keys_from_empty, kept_from_empty, room_in_empty}
+use Rattle.lru_disk_cache.proofs.Opens.{opens, opens_stands, opens_in_step, opens_cleared, from_empty}
+use Rattle.lru_disk_cache.proofs.Opens.{keys_from_empty, kept_from_empty, room_in_empty}
 use Rattle.lru_disk_cache.specs.Held.{Never}
 use Rattle.lru_disk_cache.proofs.CallLemmas.{left_same}
 use Rattle.lru_disk_cache.proofs.Exactly.{removed_twice, outside_twice}
@@ -9,43 +10,74 @@ use Rattle.lru_disk_cache.proofs.opening.open.Goals as goal
 
 pub list_all-requires : goal.list_all-requires
 list_all-requires g c =
-    room_in_empty c.in-Ok.table.entries c.in_ok-rest.rest.now c.sort_out.new.good.items c.args.capacity c.in-Ok.table.capacity (ap (λ (t : Listed). t.entries) c.in-Ok.ensures) (ap (λ (t : Listed). t.capacity) c.in-Ok.ensures) (c.in_ok-rest.ensures.list ∙ ap (trim c.args.capacity) c.deref-2.ensures.value)
+    room_in_empty c.in-Ok.table.entries c.in_ok-rest.rest.now c.sort_out.new.good.items c.args.capacity
+    c.in-Ok.table.capacity (ap (λ (t : Listed). t.entries) c.in-Ok.ensures)
+    (ap (λ (t : Listed). t.capacity) c.in-Ok.ensures)
+    (c.in_ok-rest.ensures.list ∙ ap (trim c.args.capacity) c.deref-2.ensures.value)
 
 pub returns-clause-opened : goal.returns-clause-opened
 returns-clause-opened g c =
     let empty = ap (λ (t : Listed). t.entries) c.in-Ok.ensures in
-    let good_is = kept_from_empty c.args.root.now c.args.capacity c.in_ok-found.found.items c.deref.result.now c.new-good.result.items c.sort_out.new.good.items c.new-good.ensures.items c.deref.ensures.value c.in_ok-sort_out.ensures.list in
+    let good_is = kept_from_empty c.args.root.now c.args.capacity c.in_ok-found.found.items c.deref.result.now
+    c.new-good.result.items c.sort_out.new.good.items c.new-good.ensures.items c.deref.ensures.value
+    c.in_ok-sort_out.ensures.list in
     let rest_is = c.in_ok-rest.ensures.list ∙ ap (trim c.args.capacity) c.deref-2.ensures.value in
-    let list = from_empty c.in-Ok.table.entries c.in_ok-rest.rest.now c.list_all.new.table.entries empty c.in-Ok-list_all.ensures.list in
-    opens c.args.root.now (front c.get.result.now) c.args.capacity c.in_ok-found.found.items c.sort_out.new.good.items c.in_ok-rest.rest.now c.list_all.new.table.entries (g.F.Folder.held c.args.folder.now) (ap front c.get.ensures.text ∙ sym c.requires) good_is rest_is list c.in_ok-found.ensures.found c.in_ok-found.ensures.distinct
+    let list = from_empty c.in-Ok.table.entries c.in_ok-rest.rest.now c.list_all.new.table.entries empty
+    c.in-Ok-list_all.ensures.list in
+    opens c.args.root.now (front c.get.result.now) c.args.capacity c.in_ok-found.found.items
+    c.sort_out.new.good.items c.in_ok-rest.rest.now c.list_all.new.table.entries
+    (g.F.Folder.held c.args.folder.now) (ap front c.get.ensures.text ∙ sym c.requires) good_is rest_is
+    list c.in_ok-found.ensures.found c.in_ok-found.ensures.distinct
 
 pub returns-clause-in_step : goal.returns-clause-in_step
 returns-clause-in_step g c =
     let empty = ap (λ (t : Listed). t.entries) c.in-Ok.ensures in
-    let good_is = kept_from_empty c.args.root.now c.args.capacity c.in_ok-found.found.items c.deref.result.now c.new-good.result.items c.sort_out.new.good.items c.new-good.ensures.items c.deref.ensures.value c.in_ok-sort_out.ensures.list in
+    let good_is = kept_from_empty c.args.root.now c.args.capacity c.in_ok-found.found.items c.deref.result.now
+    c.new-good.result.items c.sort_out.new.good.items c.new-good.ensures.items c.deref.ensures.value
+    c.in_ok-sort_out.ensures.list in
     let rest_is = c.in_ok-rest.ensures.list ∙ ap (trim c.args.capacity) c.deref-2.ensures.value in
-    let list = from_empty c.in-Ok.table.entries c.in_ok-rest.rest.now c.list_all.new.table.entries empty c.in-Ok-list_all.ensures.list in
-    opens_in_step c.args.root.now c.args.capacity c.in_ok-found.found.items c.sort_out.new.good.items c.in_ok-rest.rest.now c.list_all.new.table.entries (g.F.Folder.held c.drop_old.new.folder) good_is rest_is list c.in_ok-rest.ensures.shows
+    let list = from_empty c.in-Ok.table.entries c.in_ok-rest.rest.now c.list_all.new.table.entries empty
+    c.in-Ok-list_all.ensures.list in
+    opens_in_step c.args.root.now c.args.capacity c.in_ok-found.found.items c.sort_out.new.good.items
+    c.in_ok-rest.rest.now c.list_all.new.table.entries (g.F.Folder.held c.drop_old.new.folder) good_is
+    rest_is list c.in_ok-rest.ensures.shows
 
 pub returns-clause-stands : goal.returns-clause-stands
 returns-clause-stands g c =
     let empty = ap (λ (t : Listed). t.entries) c.in-Ok.ensures in
-    let good_is = kept_from_empty c.args.root.now c.args.capacity c.in_ok-found.found.items c.deref.result.now c.new-good.result.items c.sort_out.new.good.items c.new-good.ensures.items c.deref.ensures.value c.in_ok-sort_out.ensures.list in
+    let good_is = kept_from_empty c.args.root.now c.args.capacity c.in_ok-found.found.items c.deref.result.now
+    c.new-good.result.items c.sort_out.new.good.items c.new-good.ensures.items c.deref.ensures.value
+    c.in_ok-sort_out.ensures.list in
     let rest_is = c.in_ok-rest.ensures.list ∙ ap (trim c.args.capacity) c.deref-2.ensures.value in
-    let list = from_empty c.in-Ok.table.entries c.in_ok-rest.rest.now c.list_all.new.table.entries empty c.in-Ok-list_all.ensures.list in
-    let keys = keys_from_empty c.in-Ok.table.entries c.in_ok-rest.rest.now c.list_all.new.table.entries empty c.in-Ok-list_all.ensures.keys in
-    opens_stands c.args.root.now c.args.capacity c.in_ok-found.found.items c.sort_out.new.good.items c.in_ok-rest.rest.now c.list_all.new.table.entries (g.F.Folder.held c.drop_old.new.folder) good_is rest_is list keys c.in_ok-rest.ensures.shows
+    let list = from_empty c.in-Ok.table.entries c.in_ok-rest.rest.now c.list_all.new.table.entries empty
+    c.in-Ok-list_all.ensures.list in
+    let keys = keys_from_empty c.in-Ok.table.entries c.in_ok-rest.rest.now c.list_all.new.table.entries empty
+    c.in-Ok-list_all.ensures.keys in
+    opens_stands c.args.root.now c.args.capacity c.in_ok-found.found.items c.sort_out.new.good.items
+    c.in_ok-rest.rest.now c.list_all.new.table.entries (g.F.Folder.held c.drop_old.new.folder) good_is
+    rest_is list keys c.in_ok-rest.ensures.shows
 
 pub returns-clause-cleared : goal.returns-clause-cleared
 returns-clause-cleared g c =
     let empty = ap (λ (t : Listed). t.entries) c.in-Ok.ensures in
-    let list = from_empty c.in-Ok.table.entries c.in_ok-rest.rest.now c.list_all.new.table.entries empty c.in-Ok-list_all.ensures.list in
-    opens_cleared c.args.root.now c.in_ok-rest.rest.now c.list_all.new.table.entries (g.F.Folder.held c.drop_old.new.folder) list c.in_ok-rest.ensures.shows
+    let list = from_empty c.in-Ok.table.entries c.in_ok-rest.rest.now c.list_all.new.table.entries empty
+    c.in-Ok-list_all.ensures.list in
+    opens_cleared c.args.root.now c.in_ok-rest.rest.now c.list_all.new.table.entries
+    (g.F.Folder.held c.drop_old.new.folder) list c.in_ok-rest.ensures.shows
 
 pub returns-clause-removed : goal.returns-clause-removed
 returns-clause-removed g c =
-    removed_twice (g.F.Folder.held c.args.folder.now).files (g.F.Folder.held c.list.new.self).files (g.F.Folder.held c.sort_out.new.folder).files (g.F.Folder.held c.drop_old.new.folder).files (left_same Never c.list.result (g.F.Folder.held c.args.folder.now) (g.F.Folder.held c.list.new.self) c.list.ensures.leaves) c.in_ok-sort_out.ensures.removed c.in_ok-rest.ensures.removed
+    removed_twice (g.F.Folder.held c.args.folder.now).files (g.F.Folder.held c.list.new.self).files
+    (g.F.Folder.held c.sort_out.new.folder).files (g.F.Folder.held c.drop_old.new.folder).files
+    (left_same Never c.list.result (g.F.Folder.held c.args.folder.now)
+    (g.F.Folder.held c.list.new.self) c.list.ensures.leaves) c.in_ok-sort_out.ensures.removed
+    c.in_ok-rest.ensures.removed
 
 pub returns-clause-others : goal.returns-clause-others
 returns-clause-others g c =
-    outside_twice c.args.root.now (g.F.Folder.held c.args.folder.now).files (g.F.Folder.held c.list.new.self).files (g.F.Folder.held c.sort_out.new.folder).files (g.F.Folder.held c.drop_old.new.folder).files (left_same Never c.list.result (g.F.Folder.held c.args.folder.now) (g.F.Folder.held c.list.new.self) c.list.ensures.leaves) c.in_ok-sort_out.ensures.others c.in_ok-rest.ensures.others
+    outside_twice c.args.root.now (g.F.Folder.held c.args.folder.now).files
+    (g.F.Folder.held c.list.new.self).files (g.F.Folder.held c.sort_out.new.folder).files
+    (g.F.Folder.held c.drop_old.new.folder).files
+    (left_same Never c.list.result (g.F.Folder.held c.args.folder.now)
+    (g.F.Folder.held c.list.new.self) c.list.ensures.leaves) c.in_ok-sort_out.ensures.others
+    c.in_ok-rest.ensures.others

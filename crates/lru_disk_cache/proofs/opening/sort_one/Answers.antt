@@ -6,23 +6,36 @@ use Rattle.lru_disk_cache.proofs.opening.sort_one.Goals as goal
 
 pub returns-then-not-is_key-clause-shows : goal.returns-then-not-is_key-clause-shows
 returns-then-not-is_key-clause-shows g c = λ rest shows.
-    let is = sym (c.in-Some.ensures ∙ (λ i. stripped (c.get.ensures.text i) (c.get-2.ensures.text i))) ∙ ap Some (sym c.in_ok-key.ensures.text) in
-    one_dropped c.args.root.now c.args.file.now.path c.in_ok-key.key c.args.file.now.size c.args.good.now.items rest c.remove_file.result (g.F.Folder.held c.args.folder.now) (g.F.Folder.held c.remove_file.new.folder) is c.remove_file.ensures.exact shows
+    let is = sym (c.in-Some.ensures ∙ (λ i. stripped (c.get.ensures.text i) (c.get-2.ensures.text i)))
+    ∙ ap Some (sym c.in_ok-key.ensures.text) in
+    one_dropped c.args.root.now c.args.file.now.path c.in_ok-key.key c.args.file.now.size
+    c.args.good.now.items rest c.remove_file.result (g.F.Folder.held c.args.folder.now)
+    (g.F.Folder.held c.remove_file.new.folder) is c.remove_file.ensures.exact shows
 
 pub returns-then-file-capacity-clause-shows : goal.returns-then-file-capacity-clause-shows
 returns-then-file-capacity-clause-shows g c = λ rest shows.
-    let is = sym (c.in-Some.ensures ∙ (λ i. stripped (c.get.ensures.text i) (c.get-2.ensures.text i))) ∙ ap Some (sym c.in_ok-key.ensures.text) in
-    one_dropped c.args.root.now c.args.file.now.path c.in_ok-key.key c.args.file.now.size c.args.good.now.items rest c.remove_file-then-file-capacity.result (g.F.Folder.held c.args.folder.now) (g.F.Folder.held c.remove_file-then-file-capacity.new.folder) is c.remove_file-then-file-capacity.ensures.exact shows
+    let is = sym (c.in-Some.ensures ∙ (λ i. stripped (c.get.ensures.text i) (c.get-2.ensures.text i)))
+    ∙ ap Some (sym c.in_ok-key.ensures.text) in
+    one_dropped c.args.root.now c.args.file.now.path c.in_ok-key.key c.args.file.now.size
+    c.args.good.now.items rest c.remove_file-then-file-capacity.result (g.F.Folder.held c.args.folder.now)
+    (g.F.Folder.held c.remove_file-then-file-capacity.new.folder) is
+    c.remove_file-then-file-capacity.ensures.exact shows
 
 pub returns-clause-shows : goal.returns-clause-shows
 returns-clause-shows g c = λ rest shows.
-    let is = sym (c.in-Some.ensures ∙ (λ i. stripped (c.get.ensures.text i) (c.get-2.ensures.text i))) ∙ ap Some (sym c.in_ok-key.ensures.text) in
-    one_kept c.args.root.now c.args.file.now.path c.in_ok-key.key c.args.file.now.size c.args.good.now.items rest c.push.new.self.items (g.F.Folder.held c.args.folder.now) is c.in-Ok.ensures.items shows
+    let is = sym (c.in-Some.ensures ∙ (λ i. stripped (c.get.ensures.text i) (c.get-2.ensures.text i)))
+    ∙ ap Some (sym c.in_ok-key.ensures.text) in
+    one_kept c.args.root.now c.args.file.now.path c.in_ok-key.key c.args.file.now.size c.args.good.now.items
+    rest c.push.new.self.items (g.F.Folder.held c.args.folder.now) is c.in-Ok.ensures.items shows
 
 pub returns-then-not-is_key-clause-others : goal.returns-then-not-is_key-clause-others
 returns-then-not-is_key-clause-others g c =
-    outside_ok c.args.root.now c.in_ok-key.key c.remove_file.result (g.F.Folder.held c.args.folder.now).files (g.F.Folder.held c.remove_file.new.folder).files c.remove_file.ensures.others
+    outside_ok c.args.root.now c.in_ok-key.key c.remove_file.result (g.F.Folder.held c.args.folder.now).files
+    (g.F.Folder.held c.remove_file.new.folder).files c.remove_file.ensures.others
 
 pub returns-then-file-capacity-clause-others : goal.returns-then-file-capacity-clause-others
 returns-then-file-capacity-clause-others g c =
-    outside_ok c.args.root.now c.in_ok-key.key c.remove_file-then-file-capacity.result (g.F.Folder.held c.args.folder.now).files (g.F.Folder.held c.remove_file-then-file-capacity.new.folder).files c.remove_file-then-file-capacity.ensures.others
+    outside_ok c.args.root.now c.in_ok-key.key c.remove_file-then-file-capacity.result
+    (g.F.Folder.held c.args.folder.now).files
+    (g.F.Folder.held c.remove_file-then-file-capacity.new.folder).files
+    c.remove_file-then-file-capacity.ensures.others

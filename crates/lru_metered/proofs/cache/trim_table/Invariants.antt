@@ -5,7 +5,11 @@ use Rattle.lru_metered.proofs.cache.trim_table.Given as goal
 
 abbrev pub invariant-loop-table : goal.invariant-loop-table
 invariant-loop-table g l =
-    let scale = gauge (record { measured = g.M.Meter.measured; number = g.M.CountableMeter.number; gives_size = g.M.CountableMeter.gives_size }) l.meter in
+    let scale = gauge (record {
+      measured = g.M.Meter.measured;
+      number = g.M.CountableMeter.number;
+      gives_size = g.M.CountableMeter.gives_size;
+    }) l.meter in
     (trim scale l.capacity l.table ≡ trim scale l.capacity l.fn.table)
     × (g.M.CountableMeter.number l.meter l.current ≡ total scale l.table)
 

@@ -7,7 +7,8 @@ use Rattle.lru_metered.proofs.index.search.Given as goal
 
 abbrev pub invariant-loop-current : goal.invariant-loop-current
 invariant-loop-current g l =
-    Searched (g.K.PartialEq.eq l.key) l.nodes.items (slice_index_or l.heads l.bucket None) l.previous l.current
+    Searched (g.K.PartialEq.eq l.key) l.nodes.items (slice_index_or l.heads l.bucket None) l.previous
+    l.current
 
 abbrev pub decreases-loop-current : goal.decreases-loop-current
 decreases-loop-current g l = length (trail (nexts l.nodes.items) (length l.nodes.items.slots) l.current)

@@ -1,4 +1,5 @@
-use Rattle.std.proofs.Common.{true≢false, sym, ◌<◌, ◌++◌, ◌∷◌, [], ◌∙◌, ap, arith, Result, Ok, Err, OnOk, IsOk}
+use Rattle.std.proofs.Common.{true≢false, sym, ◌<◌, ◌++◌, ◌∷◌, [], ◌∙◌, ap, arith, Result, Ok, Err, OnOk}
+use Rattle.std.proofs.Common.{IsOk}
 use Rattle.indexmap.specs.IndexMap.{spare}
 use Rattle.indexmap.proofs.CallerLemmas.{insert_entry-new}
 use Rattle.lru_tests.proofs.plain_table.put_last.Goals as goal

@@ -6,5 +6,7 @@ use Rattle.sched_core.proofs.held.move_jobs.Goals as goal
 
 pub loop-j-preserved : goal.loop-j-preserved
 loop-j-preserved c =
-    let within : c.loop-j.j-index < length c.args.jobs.now.items = omega (arith, ap length c.deref_mut-j-items.ensures.value) in
-    rw c.job_now.ensures (map_over_more (job_after c.args.kind.now) _ _ _ _ within c.loop-j.invariant (grind (arith, common_steps)))
+    let within : c.loop-j.j-index < length c.args.jobs.now.items =
+    omega (arith, ap length c.deref_mut-j-items.ensures.value) in
+    rw c.job_now.ensures (map_over_more (job_after c.args.kind.now) _ _ _ _ within c.loop-j.invariant
+    (grind (arith, common_steps)))

@@ -6,5 +6,7 @@ use Rattle.sched_core.proofs.held.move_open.Goals as goal
 
 pub loop-o-preserved : goal.loop-o-preserved
 loop-o-preserved c =
-    let within : c.loop-o.o-index < length c.args.open_ones.now.items = omega (arith, ap length c.deref_mut-o-items.ensures.value) in
-    rw c.open_now.ensures (map_over_more (open_after c.args.kind.now) _ _ _ _ within c.loop-o.invariant (grind (arith, common_steps)))
+    let within : c.loop-o.o-index < length c.args.open_ones.now.items =
+    omega (arith, ap length c.deref_mut-o-items.ensures.value) in
+    rw c.open_now.ensures (map_over_more (open_after c.args.kind.now) _ _ _ _ within c.loop-o.invariant
+    (grind (arith, common_steps)))

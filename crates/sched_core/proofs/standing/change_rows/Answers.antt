@@ -6,5 +6,7 @@ use Rattle.sched_core.proofs.standing.change_rows.Goals as goal
 
 pub loop-row-preserved : goal.loop-row-preserved
 loop-row-preserved c =
-    let within : c.loop-row.row-index < length c.args.rows.now.items = omega (arith, ap length c.deref_mut-row-items.ensures.value) in
-    rw c.changed.ensures (map_over_more (row_after c.args.step.now c.args.served) _ _ _ _ within c.loop-row.invariant (grind (arith, common_steps)))
+    let within : c.loop-row.row-index < length c.args.rows.now.items =
+    omega (arith, ap length c.deref_mut-row-items.ensures.value) in
+    rw c.changed.ensures (map_over_more (row_after c.args.step.now c.args.served) _ _ _ _ within
+    c.loop-row.invariant (grind (arith, common_steps)))

@@ -6,5 +6,7 @@ use Rattle.sched_core.proofs.standing.lower.Goals as goal
 
 pub loop-row-preserved : goal.loop-row-preserved
 loop-row-preserved c =
-    let within : c.loop-row.row-index < length c.args.rows.now.items = omega (arith, ap length c.deref_mut-row-items.ensures.value) in
-    rw c.lowered.ensures (map_over_more (row_lowered c.args.reg) _ _ _ _ within c.loop-row.invariant (grind (arith, common_steps)))
+    let within : c.loop-row.row-index < length c.args.rows.now.items =
+    omega (arith, ap length c.deref_mut-row-items.ensures.value) in
+    rw c.lowered.ensures (map_over_more (row_lowered c.args.reg) _ _ _ _ within c.loop-row.invariant
+    (grind (arith, common_steps)))

@@ -5,7 +5,8 @@ use Rattle.scheduler_service.proofs.connection.serve_scheduler_connection.Goals 
 pub returns-in-Ok-replied-clause-served : goal.returns-in-Ok-replied-clause-served
 returns-in-Ok-replied-clause-served g c =
     let alone = g.met.L.Link.writes_alone in
-    let same = ap (λ p. p.0) (sym (alone c.take.new.link) ∙ (sym c.send.ensures.apart ∙ alone c.send.new.link)) in
+    let same = ap (λ p. p.0)
+    (sym (alone c.take.new.link) ∙ (sym c.send.ensures.apart ∙ alone c.send.new.link)) in
     sent _ _ _ c.in-Ok.request c.in-Ok-replied.reply c.send.result _ _ _ _ _ _ _ _ _ _ _
     c.in-Ok.ensures.cut same c.in-Ok.ensures.writes.0 c.in-Ok.ensures.writes.1 c.in-Ok-replied.ensures.replied
     (record {

@@ -5,10 +5,12 @@ use Rattle.server_service.proofs.connection.serve_server_connection.Goals as goa
 pub returns-in-Ok-replied : goal.returns-in-Ok-replied
 returns-in-Ok-replied g c =
     let alone = g.met.L.Link.writes_alone in
-    let same = ap (λ p. p.0) (sym (alone c.take.new.link) ∙ (sym c.send.ensures.apart ∙ alone c.send.new.link)) in
+    let same = ap (λ p. p.0)
+    (sym (alone c.take.new.link) ∙ (sym c.send.ensures.apart ∙ alone c.send.new.link)) in
     record {
       served = sent _ _ _ c.in-Ok.request c.in-Ok-replied.reply c.send.result _ _ _ _ _ _ _ _ _ _ _
-          c.in-Ok.ensures.cut same c.in-Ok.ensures.writes.0 c.in-Ok.ensures.writes.1 c.in-Ok-replied.ensures.replied
+          c.in-Ok.ensures.cut same c.in-Ok.ensures.writes.0 c.in-Ok.ensures.writes.1
+          c.in-Ok-replied.ensures.replied
           (record {
             answered = c.send.ensures.answered;
             failed = c.send.ensures.failed;

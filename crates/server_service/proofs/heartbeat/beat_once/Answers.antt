@@ -9,7 +9,8 @@ returns-in-Ok-ask g c =
     let old = g.D.Dialer.asked c.args.dialer.now in
     let new = g.D.Dialer.asked c.ask.new.self in
     let calls =
-    beaten peer c.args.beat.now old new c.host_of.result.now c.get.result.now c.in-Ok-ask.reply.items c.port_of.result c.heard.result
+    beaten peer c.args.beat.now old new c.host_of.result.now c.get.result.now c.in-Ok-ask.reply.items
+    c.port_of.result c.heard.result
     c.in-Ok-ask.ensures.ok
     c.host_of.ensures
     c.port_of.ensures

@@ -5,5 +5,6 @@ use Rattle.build_server.proofs.table.HeldTable.remove.Goals as goal
 
 pub returns : goal.returns
 returns c = record {
-  removed = c.remove.ensures.entries ∙ removed _ (λ a b. refl) _ c.args.job c.len-count.ensures.ordered ∙ ap (without_job c.args.job) c.self.view_is;
+  removed = c.remove.ensures.entries ∙ removed _ (λ a b. refl) _ c.args.job c.len-count.ensures.ordered
+      ∙ ap (without_job c.args.job) c.self.view_is;
 }

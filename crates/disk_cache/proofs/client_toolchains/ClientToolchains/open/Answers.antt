@@ -8,55 +8,83 @@ use Rattle.disk_cache.specs.Names.{cache_path, temp_dir}
 use Rattle.disk_cache.specs.Opening.{IsEmpty, ButOwn, OpeningFails}
 use Rattle.disk_cache.specs.WeakMaps.{weak_map_at}
 use Rattle.disk_cache.proofs.NameLemmas.{cache_apart_temp}
-use Rattle.disk_cache.proofs.OpenLemmas.{open_archives, open_weak, open_temp, open_others, open_empty, load_fails, judge_fails, some_of}
+use Rattle.disk_cache.proofs.OpenLemmas.{open_archives, open_weak, open_temp, open_others, open_empty}
+use Rattle.disk_cache.proofs.OpenLemmas.{load_fails, judge_fails, some_of}
 use Rattle.disk_cache.proofs.client_toolchains.ClientToolchains.open.Goals as goal
 
 pub returns-in-Err-load-clause-fails : goal.returns-in-Err-load-clause-fails
 returns-in-Err-load-clause-fails g c =
     let held = g.F.Folder.held in
     let path_is = c.get.ensures.text in
-    subst (λ d. OpeningFails c.in-Err-load.refusal d c.args.configs.now (held c.args.folder) (held c.into_folder.result)) c.in-Ok.ensures.dir
-    (subst (λ f. OpeningFails c.in-Err-load.refusal c.in-Ok.names.dir c.args.configs.now (held c.args.folder) (held f)) (sym c.into_folder.ensures)
-    (load_fails c.in-Err-load.refusal c.in-Ok.names.dir c.args.configs.now (held c.args.folder) (held c.prepare.new.folder) (held c.in-Ok-new.cache.folder) (held c.load.new.cache.folder)
+    subst (λ d. OpeningFails c.in-Err-load.refusal d c.args.configs.now (held c.args.folder)
+    (held c.into_folder.result)) c.in-Ok.ensures.dir
+    (subst (λ f. OpeningFails c.in-Err-load.refusal c.in-Ok.names.dir c.args.configs.now (held c.args.folder)
+    (held f)) (sym c.into_folder.ensures)
+    (load_fails c.in-Err-load.refusal c.in-Ok.names.dir c.args.configs.now (held c.args.folder)
+    (held c.prepare.new.folder) (held c.in-Ok-new.cache.folder) (held c.load.new.cache.folder)
     c.in-Ok-prepare.ensures.counts c.in-Ok-new.ensures.steady
-    (λ none. untold (ButUnder (front (temp_dir c.in-Ok.names.dir))) (held c.args.folder).files (held c.prepare.new.folder).files c.in-Ok-prepare.ensures.others
-    (untold (ButUnder (front c.get.result.now)) (held c.prepare.new.folder).files (held c.in-Ok-new.cache.folder).files c.in-Ok-new.ensures.others none))
-    (open_weak c.in-Ok.names c.get.result.now (held c.args.folder) (held c.prepare.new.folder) (held c.in-Ok-new.cache.folder) c.in-Ok.ensures.names path_is c.in-Ok-prepare.ensures.others c.in-Ok-new.ensures.others (λ o. o ≡ None))
+    (λ none. untold (ButUnder (front (temp_dir c.in-Ok.names.dir))) (held c.args.folder).files
+    (held c.prepare.new.folder).files c.in-Ok-prepare.ensures.others
+    (untold (ButUnder (front c.get.result.now)) (held c.prepare.new.folder).files
+    (held c.in-Ok-new.cache.folder).files c.in-Ok-new.ensures.others none))
+    (open_weak c.in-Ok.names c.get.result.now (held c.args.folder) (held c.prepare.new.folder)
+    (held c.in-Ok-new.cache.folder) c.in-Ok.ensures.names path_is c.in-Ok-prepare.ensures.others
+    c.in-Ok-new.ensures.others (λ o. o ≡ None))
     c.in-Err-load.ensures.fails))
 
 pub returns-in-Err-judge-clause-fails : goal.returns-in-Err-judge-clause-fails
 returns-in-Err-judge-clause-fails g c =
     let held = g.F.Folder.held in
-    subst (λ d. OpeningFails c.in-Err-judge.refusal d c.args.configs.now (held c.args.folder) (held c.into_folder-in-Err-judge.result)) c.in-Ok.ensures.dir
-    (judge_fails c.in-Err-judge.refusal c.in-Ok.names.dir c.args.configs.now (held c.args.folder) (held c.into_folder-in-Err-judge.result) (sym c.judge.ensures ∙ c.in-Err-judge.is)
-    (open_weak c.in-Ok.names c.get.result.now (held c.args.folder) (held c.prepare.new.folder) (held c.in-Ok-new.cache.folder) c.in-Ok.ensures.names c.get.ensures.text c.in-Ok-prepare.ensures.others c.in-Ok-new.ensures.others IsSome
+    subst (λ d. OpeningFails c.in-Err-judge.refusal d c.args.configs.now (held c.args.folder)
+    (held c.into_folder-in-Err-judge.result)) c.in-Ok.ensures.dir
+    (judge_fails c.in-Err-judge.refusal c.in-Ok.names.dir c.args.configs.now (held c.args.folder)
+    (held c.into_folder-in-Err-judge.result) (sym c.judge.ensures ∙ c.in-Err-judge.is)
+    (open_weak c.in-Ok.names c.get.result.now (held c.args.folder) (held c.prepare.new.folder)
+    (held c.in-Ok-new.cache.folder) c.in-Ok.ensures.names c.get.ensures.text
+    c.in-Ok-prepare.ensures.others c.in-Ok-new.ensures.others IsSome
     (λ files told. some_of _ c.in-Ok-load.weak (c.in-Ok-load.ensures.found files told))))
 
 pub returns-clause-archives : goal.returns-clause-archives
 returns-clause-archives g c = λ files told.
     let held = g.F.Folder.held in
     c.load.ensures.at.2
-    ∙ subst (λ d. c.in-Ok-new.cache.archives ≡ opened_archives (cache_path d) c.args.cache_size files) c.in-Ok.ensures.dir
-    (open_archives c.in-Ok.names.dir c.get.result.now c.args.cache_size c.in-Ok-new.cache.archives (held c.args.folder) (held c.prepare.new.folder) (c.get.ensures.text ∙ c.in-Ok.ensures.names.cache_is) c.in-Ok-new.ensures.opened
-    (c.in-Ok-prepare.ensures.archives (cache_path c.in-Ok.names.dir) (cache_apart_temp c.in-Ok.names.dir)) files told)
+    ∙ subst (λ d. c.in-Ok-new.cache.archives ≡ opened_archives (cache_path d) c.args.cache_size files)
+    c.in-Ok.ensures.dir
+    (open_archives c.in-Ok.names.dir c.get.result.now c.args.cache_size c.in-Ok-new.cache.archives
+    (held c.args.folder) (held c.prepare.new.folder) (c.get.ensures.text ∙ c.in-Ok.ensures.names.cache_is)
+    c.in-Ok-new.ensures.opened
+    (c.in-Ok-prepare.ensures.archives (cache_path c.in-Ok.names.dir) (cache_apart_temp c.in-Ok.names.dir))
+    files told)
 
 pub returns-clause-weak : goal.returns-clause-weak
 returns-clause-weak g c =
     let held = g.F.Folder.held in
-    subst (λ d. Holds (held c.args.folder) (λ files. weak_map_at d files ≡ Some c.in-Ok-load.weak)) c.in-Ok.ensures.dir
-    (open_weak c.in-Ok.names c.get.result.now (held c.args.folder) (held c.prepare.new.folder) (held c.in-Ok-new.cache.folder) c.in-Ok.ensures.names c.get.ensures.text c.in-Ok-prepare.ensures.others c.in-Ok-new.ensures.others (λ o. o ≡ Some c.in-Ok-load.weak)
+    subst (λ d. Holds (held c.args.folder) (λ files. weak_map_at d files ≡ Some c.in-Ok-load.weak))
+    c.in-Ok.ensures.dir
+    (open_weak c.in-Ok.names c.get.result.now (held c.args.folder) (held c.prepare.new.folder)
+    (held c.in-Ok-new.cache.folder) c.in-Ok.ensures.names c.get.ensures.text
+    c.in-Ok-prepare.ensures.others c.in-Ok-new.ensures.others (λ o. o ≡ Some c.in-Ok-load.weak)
     c.in-Ok-load.ensures.found)
 
 pub returns-clause-emptied : goal.returns-clause-emptied
 returns-clause-emptied g c =
     let held = g.F.Folder.held in
     subst (λ d. Holds (held c.load.new.cache.folder) (IsEmpty (temp_dir d))) c.in-Ok.ensures.dir
-    (open_empty c.in-Ok.names c.get.result.now (held c.args.folder) (held c.prepare.new.folder) (held c.in-Ok-new.cache.folder) c.in-Ok.ensures.names c.get.ensures.text c.in-Ok-prepare.ensures.others c.in-Ok-new.ensures.others (held c.load.new.cache.folder) c.in-Ok-load.ensures.others
+    (open_empty c.in-Ok.names c.get.result.now (held c.args.folder) (held c.prepare.new.folder)
+    (held c.in-Ok-new.cache.folder) c.in-Ok.ensures.names c.get.ensures.text
+    c.in-Ok-prepare.ensures.others c.in-Ok-new.ensures.others
+    (held c.load.new.cache.folder) c.in-Ok-load.ensures.others
     c.in-Ok-prepare.ensures.emptied
-    (c.in-Ok-load.ensures.clean (open_temp c.in-Ok.names c.get.result.now (held c.args.folder) (held c.prepare.new.folder) (held c.in-Ok-new.cache.folder) c.in-Ok.ensures.names c.get.ensures.text c.in-Ok-prepare.ensures.others c.in-Ok-new.ensures.others c.in-Ok-prepare.ensures.emptied)))
+    (c.in-Ok-load.ensures.clean (open_temp c.in-Ok.names c.get.result.now (held c.args.folder)
+    (held c.prepare.new.folder) (held c.in-Ok-new.cache.folder) c.in-Ok.ensures.names c.get.ensures.text
+    c.in-Ok-prepare.ensures.others c.in-Ok-new.ensures.others c.in-Ok-prepare.ensures.emptied)))
 
 pub returns-clause-others : goal.returns-clause-others
 returns-clause-others g c =
     let held = g.F.Folder.held in
-    subst (λ d. Became (ButOwn d) (held c.args.folder).files (held c.load.new.cache.folder).files) c.in-Ok.ensures.dir
-    (open_others c.in-Ok.names c.get.result.now (held c.args.folder) (held c.prepare.new.folder) (held c.in-Ok-new.cache.folder) c.in-Ok.ensures.names c.get.ensures.text c.in-Ok-prepare.ensures.others c.in-Ok-new.ensures.others (held c.load.new.cache.folder) c.in-Ok-load.ensures.others)
+    subst (λ d. Became (ButOwn d) (held c.args.folder).files (held c.load.new.cache.folder).files)
+    c.in-Ok.ensures.dir
+    (open_others c.in-Ok.names c.get.result.now (held c.args.folder) (held c.prepare.new.folder)
+    (held c.in-Ok-new.cache.folder) c.in-Ok.ensures.names c.get.ensures.text
+    c.in-Ok-prepare.ensures.others c.in-Ok-new.ensures.others
+    (held c.load.new.cache.folder) c.in-Ok-load.ensures.others)

@@ -6,6 +6,7 @@ use Rattle.disk_cache.proofs.client_toolchains.ClientToolchains.shown.Goals as g
 pub returns : goal.returns
 returns g c =
     subst IsClient c.self.view_is (record {
-      stands = shelf_stands c.self.inside.names c.self.inside.cache.path c.self.inside.cache.capacity c.self.inside.cache.archives (g.F.Folder.held c.self.inside.cache.folder) c.self.invariant;
+      stands = shelf_stands c.self.inside.names c.self.inside.cache.path c.self.inside.cache.capacity
+          c.self.inside.cache.archives (g.F.Folder.held c.self.inside.cache.folder) c.self.invariant;
       reads = c.self.invariant.reads;
     })

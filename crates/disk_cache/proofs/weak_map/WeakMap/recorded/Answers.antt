@@ -7,4 +7,5 @@ use Rattle.disk_cache.proofs.weak_map.WeakMap.recorded.Goals as goal
 pub returns : goal.returns
 returns c =
     c.text_at.ensures
-    ∙ (sym (recorded_in c.args.key.now (view c.self.inside.value) _ (has_texts _ c.self.invariant)) ∙ ap (recorded c.args.key.now) c.self.view_is)
+    ∙ (sym (recorded_in c.args.key.now (view c.self.inside.value) _ (has_texts _ c.self.invariant))
+    ∙ ap (recorded c.args.key.now) c.self.view_is)

@@ -6,5 +6,7 @@ use Rattle.disk_cache.proofs.weak_map.WeakMap.text.Goals as goal
 pub returns : goal.returns
 returns c =
     written_reads c.in_ok-text.text.items (view c.self.inside.value) _ c.in_ok-text.ensures.utf8
-    (c.in_ok-text.ensures.reads_back (object_depth (view c.self.inside.value) _ (has_texts _ c.self.invariant))) (has_texts _ c.self.invariant)
+    (c.in_ok-text.ensures.reads_back
+    (object_depth (view c.self.inside.value) _ (has_texts _ c.self.invariant)))
+    (has_texts _ c.self.invariant)
     ∙ ap Some c.self.view_is

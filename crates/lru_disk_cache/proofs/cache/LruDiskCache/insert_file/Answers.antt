@@ -11,40 +11,97 @@ use Rattle.lru_disk_cache.proofs.DiskSteps.{step_moved}
 use Rattle.lru_disk_cache.proofs.cache.LruDiskCache.insert_file.Goals as goal
 
 pub returns-in-Err-clause-left : goal.returns-in-Err-clause-left
-returns-in-Err-clause-left g c = keeps_equal c.args.self.now.disk.root c.path_size.new.self.disk.entries (g.F.Folder.held c.args.self.now.folder).files (g.F.Folder.held c.path_size.new.self.folder).files c.path_size.ensures.files
+returns-in-Err-clause-left g c = keeps_equal c.args.self.now.disk.root c.path_size.new.self.disk.entries
+    (g.F.Folder.held c.args.self.now.folder).files (g.F.Folder.held c.path_size.new.self.folder).files
+    c.path_size.ensures.files
 
 pub returns-in-Err-clause-reserved : goal.returns-in-Err-clause-reserved
-returns-in-Err-clause-reserved g c = reserved_equal c.args.self.now.disk.pending (g.F.Folder.held c.args.self.now.folder).files (g.F.Folder.held c.path_size.new.self.folder).files c.path_size.ensures.files
+returns-in-Err-clause-reserved g c = reserved_equal c.args.self.now.disk.pending
+    (g.F.Folder.held c.args.self.now.folder).files (g.F.Folder.held c.path_size.new.self.folder).files
+    c.path_size.ensures.files
 
 pub returns-in-Err-admit-clause-left : goal.returns-in-Err-admit-clause-left
-returns-in-Err-admit-clause-left g c = keeps_equal c.args.self.now.disk.root c.path_size.new.self.disk.entries (g.F.Folder.held c.args.self.now.folder).files (g.F.Folder.held c.path_size.new.self.folder).files c.path_size.ensures.files
+returns-in-Err-admit-clause-left g c = keeps_equal c.args.self.now.disk.root c.path_size.new.self.disk.entries
+    (g.F.Folder.held c.args.self.now.folder).files (g.F.Folder.held c.path_size.new.self.folder).files
+    c.path_size.ensures.files
 
 pub returns-in-Err-admit-clause-reserved : goal.returns-in-Err-admit-clause-reserved
-returns-in-Err-admit-clause-reserved g c = reserved_equal c.args.self.now.disk.pending (g.F.Folder.held c.args.self.now.folder).files (g.F.Folder.held c.path_size.new.self.folder).files c.path_size.ensures.files
+returns-in-Err-admit-clause-reserved g c = reserved_equal c.args.self.now.disk.pending
+    (g.F.Folder.held c.args.self.now.folder).files (g.F.Folder.held c.path_size.new.self.folder).files
+    c.path_size.ensures.files
 
 pub returns-in_default-clause-left : goal.returns-in_default-clause-left
-returns-in_default-clause-left g c = keeps_equal c.args.self.now.disk.root c.path_size.new.self.disk.entries (g.F.Folder.held c.args.self.now.folder).files (g.F.Folder.held c.path_size.new.self.folder).files c.path_size.ensures.files
+returns-in_default-clause-left g c = keeps_equal c.args.self.now.disk.root c.path_size.new.self.disk.entries
+    (g.F.Folder.held c.args.self.now.folder).files (g.F.Folder.held c.path_size.new.self.folder).files
+    c.path_size.ensures.files
 
 pub returns-in_default-clause-reserved : goal.returns-in_default-clause-reserved
-returns-in_default-clause-reserved g c = reserved_equal c.args.self.now.disk.pending (g.F.Folder.held c.args.self.now.folder).files (g.F.Folder.held c.path_size.new.self.folder).files c.path_size.ensures.files
+returns-in_default-clause-reserved g c = reserved_equal c.args.self.now.disk.pending
+    (g.F.Folder.held c.args.self.now.folder).files (g.F.Folder.held c.path_size.new.self.folder).files
+    c.path_size.ensures.files
 
 pub returns-in_default-arrival_from-clause-left : goal.returns-in_default-arrival_from-clause-left
-returns-in_default-arrival_from-clause-left g c = keeps_equal c.args.self.now.disk.root c.path_size.new.self.disk.entries (g.F.Folder.held c.args.self.now.folder).files (g.F.Folder.held c.path_size.new.self.folder).files c.path_size.ensures.files
+returns-in_default-arrival_from-clause-left g c =
+    keeps_equal c.args.self.now.disk.root c.path_size.new.self.disk.entries
+    (g.F.Folder.held c.args.self.now.folder).files (g.F.Folder.held c.path_size.new.self.folder).files
+    c.path_size.ensures.files
 
 pub returns-in_default-arrival_from-clause-reserved : goal.returns-in_default-arrival_from-clause-reserved
-returns-in_default-arrival_from-clause-reserved g c = reserved_equal c.args.self.now.disk.pending (g.F.Folder.held c.args.self.now.folder).files (g.F.Folder.held c.path_size.new.self.folder).files c.path_size.ensures.files
+returns-in_default-arrival_from-clause-reserved g c = reserved_equal c.args.self.now.disk.pending
+    (g.F.Folder.held c.args.self.now.folder).files (g.F.Folder.held c.path_size.new.self.folder).files
+    c.path_size.ensures.files
 
 pub invariant_of-self : goal.invariant_of-self
 invariant_of-self g c =
-    let room : c.in-Ok-arrival_from.arrival.limit + c.in-Ok-arrival_from.arrival.size + held_size c.self.inside.pending ≤ c.self.inside.table.capacity =
-    omega (arith, c.in-Ok-arrival_from.ensures.key.1, c.in-Ok-arrival_from.ensures.key.2, c.room_beside-limit.ensures, c.in-Ok-admit.ensures.room, ap (λ s. held_size s.disk.pending) c.self.view_is, ap (λ s. s.disk.capacity) c.self.view_is) in
-    insert_store c.self.inside.path c.self.inside.root c.self.inside.pending (g.F.Folder.held c.move_in.new.folder) (g.F.Folder.held c.self.inside.folder) c.in-Ok-arrival_from.arrival.key c.in-Ok-arrival_from.arrival.size c.in-Ok-arrival_from.arrival.limit c.self.inside.table c.move_in.new.table c.move_in.result c.self.invariant room c.move_in.ensures.ok c.move_in.ensures.err c.move_in.ensures.stands (named_reserved c.self.inside.path c.self.inside.root c.in-Ok-arrival_from.arrival.from c.in-Ok-arrival_from.arrival.path c.args.key.now c.self.inside.table.entries c.self.inside.pending (g.F.Folder.held c.self.inside.folder).files (g.F.Folder.held c.move_in.new.folder).files c.self.invariant.root (ap names_temporary (c.in-Ok-arrival_from.ensures.from ∙ c.in-Ok-of.ensures.text) ∙ c.requires.named) c.in-Ok-arrival_from.ensures.path c.in-Ok-admit.ensures.key c.self.invariant.stands.keys c.self.invariant.reserved c.move_in.ensures.untouched)
+    let room : c.in-Ok-arrival_from.arrival.limit + c.in-Ok-arrival_from.arrival.size + held_size
+    c.self.inside.pending ≤ c.self.inside.table.capacity =
+    omega (
+      arith,
+      c.in-Ok-arrival_from.ensures.key.1,
+      c.in-Ok-arrival_from.ensures.key.2,
+      c.room_beside-limit.ensures,
+      c.in-Ok-admit.ensures.room,
+      ap (λ s. held_size s.disk.pending) c.self.view_is,
+      ap (λ s. s.disk.capacity) c.self.view_is,
+    ) in
+    insert_store c.self.inside.path c.self.inside.root c.self.inside.pending
+    (g.F.Folder.held c.move_in.new.folder) (g.F.Folder.held c.self.inside.folder)
+    c.in-Ok-arrival_from.arrival.key c.in-Ok-arrival_from.arrival.size c.in-Ok-arrival_from.arrival.limit
+    c.self.inside.table c.move_in.new.table c.move_in.result c.self.invariant room c.move_in.ensures.ok
+    c.move_in.ensures.err c.move_in.ensures.stands
+    (named_reserved c.self.inside.path c.self.inside.root c.in-Ok-arrival_from.arrival.from
+    c.in-Ok-arrival_from.arrival.path c.args.key.now c.self.inside.table.entries c.self.inside.pending
+    (g.F.Folder.held c.self.inside.folder).files (g.F.Folder.held c.move_in.new.folder).files
+    c.self.invariant.root (ap names_temporary (c.in-Ok-arrival_from.ensures.from
+    ∙ c.in-Ok-of.ensures.text) ∙ c.requires.named) c.in-Ok-arrival_from.ensures.path
+    c.in-Ok-admit.ensures.key c.self.invariant.stands.keys c.self.invariant.reserved
+    c.move_in.ensures.untouched)
 
 pub invariant_of-self-2 : goal.invariant_of-self-2
 invariant_of-self-2 g c =
-    let room : c.in-Ok-arrival_from.arrival.limit + c.in-Ok-arrival_from.arrival.size + held_size c.self.inside.pending ≤ c.self.inside.table.capacity =
-    omega (arith, c.in-Ok-arrival_from.ensures.key.1, c.in-Ok-arrival_from.ensures.key.2, c.room_beside-limit.ensures, c.in-Ok-admit.ensures.room, ap (λ s. held_size s.disk.pending) c.self.view_is, ap (λ s. s.disk.capacity) c.self.view_is) in
-    insert_store c.self.inside.path c.self.inside.root c.self.inside.pending (g.F.Folder.held c.move_in.new.folder) (g.F.Folder.held c.self.inside.folder) c.in-Ok-arrival_from.arrival.key c.in-Ok-arrival_from.arrival.size c.in-Ok-arrival_from.arrival.limit c.self.inside.table c.move_in.new.table c.move_in.result c.self.invariant room c.move_in.ensures.ok c.move_in.ensures.err c.move_in.ensures.stands (named_reserved c.self.inside.path c.self.inside.root c.in-Ok-arrival_from.arrival.from c.in-Ok-arrival_from.arrival.path c.args.key.now c.self.inside.table.entries c.self.inside.pending (g.F.Folder.held c.self.inside.folder).files (g.F.Folder.held c.move_in.new.folder).files c.self.invariant.root (ap names_temporary (c.in-Ok-arrival_from.ensures.from ∙ c.in-Ok-of.ensures.text) ∙ c.requires.named) c.in-Ok-arrival_from.ensures.path c.in-Ok-admit.ensures.key c.self.invariant.stands.keys c.self.invariant.reserved c.move_in.ensures.untouched)
+    let room : c.in-Ok-arrival_from.arrival.limit + c.in-Ok-arrival_from.arrival.size + held_size
+    c.self.inside.pending ≤ c.self.inside.table.capacity =
+    omega (
+      arith,
+      c.in-Ok-arrival_from.ensures.key.1,
+      c.in-Ok-arrival_from.ensures.key.2,
+      c.room_beside-limit.ensures,
+      c.in-Ok-admit.ensures.room,
+      ap (λ s. held_size s.disk.pending) c.self.view_is,
+      ap (λ s. s.disk.capacity) c.self.view_is,
+    ) in
+    insert_store c.self.inside.path c.self.inside.root c.self.inside.pending
+    (g.F.Folder.held c.move_in.new.folder) (g.F.Folder.held c.self.inside.folder)
+    c.in-Ok-arrival_from.arrival.key c.in-Ok-arrival_from.arrival.size c.in-Ok-arrival_from.arrival.limit
+    c.self.inside.table c.move_in.new.table c.move_in.result c.self.invariant room c.move_in.ensures.ok
+    c.move_in.ensures.err c.move_in.ensures.stands
+    (named_reserved c.self.inside.path c.self.inside.root c.in-Ok-arrival_from.arrival.from
+    c.in-Ok-arrival_from.arrival.path c.args.key.now c.self.inside.table.entries c.self.inside.pending
+    (g.F.Folder.held c.self.inside.folder).files (g.F.Folder.held c.move_in.new.folder).files
+    c.self.invariant.root (ap names_temporary (c.in-Ok-arrival_from.ensures.from
+    ∙ c.in-Ok-of.ensures.text) ∙ c.requires.named) c.in-Ok-arrival_from.ensures.path
+    c.in-Ok-admit.ensures.key c.self.invariant.stands.keys c.self.invariant.reserved
+    c.move_in.ensures.untouched)
 
 pub returns-in-Ok-move_in-clause-stands : goal.returns-in-Ok-move_in-clause-stands
 returns-in-Ok-move_in-clause-stands g c = invariant_of-self g c
@@ -54,23 +111,47 @@ returns-clause-stands g c = invariant_of-self-2 g c
 
 pub returns-in-Ok-move_in-clause-reserved : goal.returns-in-Ok-move_in-clause-reserved
 returns-in-Ok-move_in-clause-reserved g c =
-    subst (λ o. Became (KeepsReserved c.args.self.now.disk.pending) o (g.F.Folder.held c.move_in.new.folder).files) c.path_size.ensures.files
-    (subst (λ (d : Disk). Became (KeepsReserved d.pending) (g.F.Folder.held c.path_size.new.self.folder).files (g.F.Folder.held c.move_in.new.folder).files) c.path_size.ensures.disk
-    (subst (λ s. Became (KeepsReserved s.disk.pending) (g.F.Folder.held s.folder).files (g.F.Folder.held c.move_in.new.folder).files) c.self.view_is (named_reserved c.self.inside.path c.self.inside.root c.in-Ok-arrival_from.arrival.from c.in-Ok-arrival_from.arrival.path c.args.key.now c.self.inside.table.entries c.self.inside.pending (g.F.Folder.held c.self.inside.folder).files (g.F.Folder.held c.move_in.new.folder).files c.self.invariant.root (ap names_temporary (c.in-Ok-arrival_from.ensures.from ∙ c.in-Ok-of.ensures.text) ∙ c.requires.named) c.in-Ok-arrival_from.ensures.path c.in-Ok-admit.ensures.key c.self.invariant.stands.keys c.self.invariant.reserved c.move_in.ensures.untouched)))
+    subst (λ o. Became (KeepsReserved c.args.self.now.disk.pending) o
+    (g.F.Folder.held c.move_in.new.folder).files) c.path_size.ensures.files
+    (subst (λ (d : Disk). Became (KeepsReserved d.pending) (g.F.Folder.held c.path_size.new.self.folder).files
+    (g.F.Folder.held c.move_in.new.folder).files) c.path_size.ensures.disk
+    (subst (λ s. Became (KeepsReserved s.disk.pending) (g.F.Folder.held s.folder).files
+    (g.F.Folder.held c.move_in.new.folder).files) c.self.view_is
+    (named_reserved c.self.inside.path c.self.inside.root c.in-Ok-arrival_from.arrival.from
+    c.in-Ok-arrival_from.arrival.path c.args.key.now c.self.inside.table.entries c.self.inside.pending
+    (g.F.Folder.held c.self.inside.folder).files (g.F.Folder.held c.move_in.new.folder).files
+    c.self.invariant.root (ap names_temporary (c.in-Ok-arrival_from.ensures.from
+    ∙ c.in-Ok-of.ensures.text) ∙ c.requires.named) c.in-Ok-arrival_from.ensures.path
+    c.in-Ok-admit.ensures.key c.self.invariant.stands.keys c.self.invariant.reserved
+    c.move_in.ensures.untouched)))
 
 pub returns-clause-reserved : goal.returns-clause-reserved
 returns-clause-reserved g c =
-    subst (λ o. Became (KeepsReserved c.args.self.now.disk.pending) o (g.F.Folder.held c.move_in.new.folder).files) c.path_size.ensures.files
-    (subst (λ (d : Disk). Became (KeepsReserved d.pending) (g.F.Folder.held c.path_size.new.self.folder).files (g.F.Folder.held c.move_in.new.folder).files) c.path_size.ensures.disk
-    (subst (λ s. Became (KeepsReserved s.disk.pending) (g.F.Folder.held s.folder).files (g.F.Folder.held c.move_in.new.folder).files) c.self.view_is (named_reserved c.self.inside.path c.self.inside.root c.in-Ok-arrival_from.arrival.from c.in-Ok-arrival_from.arrival.path c.args.key.now c.self.inside.table.entries c.self.inside.pending (g.F.Folder.held c.self.inside.folder).files (g.F.Folder.held c.move_in.new.folder).files c.self.invariant.root (ap names_temporary (c.in-Ok-arrival_from.ensures.from ∙ c.in-Ok-of.ensures.text) ∙ c.requires.named) c.in-Ok-arrival_from.ensures.path c.in-Ok-admit.ensures.key c.self.invariant.stands.keys c.self.invariant.reserved c.move_in.ensures.untouched)))
+    subst (λ o. Became (KeepsReserved c.args.self.now.disk.pending) o
+    (g.F.Folder.held c.move_in.new.folder).files) c.path_size.ensures.files
+    (subst (λ (d : Disk). Became (KeepsReserved d.pending) (g.F.Folder.held c.path_size.new.self.folder).files
+    (g.F.Folder.held c.move_in.new.folder).files) c.path_size.ensures.disk
+    (subst (λ s. Became (KeepsReserved s.disk.pending) (g.F.Folder.held s.folder).files
+    (g.F.Folder.held c.move_in.new.folder).files) c.self.view_is
+    (named_reserved c.self.inside.path c.self.inside.root c.in-Ok-arrival_from.arrival.from
+    c.in-Ok-arrival_from.arrival.path c.args.key.now c.self.inside.table.entries c.self.inside.pending
+    (g.F.Folder.held c.self.inside.folder).files (g.F.Folder.held c.move_in.new.folder).files
+    c.self.invariant.root (ap names_temporary (c.in-Ok-arrival_from.ensures.from
+    ∙ c.in-Ok-of.ensures.text) ∙ c.requires.named) c.in-Ok-arrival_from.ensures.path
+    c.in-Ok-admit.ensures.key c.self.invariant.stands.keys c.self.invariant.reserved
+    c.move_in.ensures.untouched)))
 
 pub returns-in-Err-clause-fails : goal.returns-in-Err-clause-fails
 returns-in-Err-clause-fails g c =
-    move_failed c.args.key.now c.args.path.now c.args.self.now.disk c.path_size.new.self.disk c.in-Err.error (g.F.Folder.held c.args.self.now.folder) (g.F.Folder.held c.path_size.new.self.folder) c.path_size.ensures.disk c.in-Err.ensures.fails
+    move_failed c.args.key.now c.args.path.now c.args.self.now.disk c.path_size.new.self.disk c.in-Err.error
+    (g.F.Folder.held c.args.self.now.folder) (g.F.Folder.held c.path_size.new.self.folder)
+    c.path_size.ensures.disk c.in-Err.ensures.fails
 
 pub returns-in-Ok-move_in-clause-ok : goal.returns-in-Ok-move_in-clause-ok
 returns-in-Ok-move_in-clause-ok g c = search rules
 
 pub returns-in-Ok-move_in-clause-in_step : goal.returns-in-Ok-move_in-clause-in_step
 returns-in-Ok-move_in-clause-in_step g c =
-    step_moved c.args.self.now.disk _ (g.F.Folder.held c.args.self.now.folder) (g.F.Folder.held c.move_in.new.folder) c.args.key.now c.args.path.now c.in-Ok-admit.ensures.key c.requires.avoids c.shown.ensures.distinct (returns-in-Ok-move_in-clause-ok g c)
+    step_moved c.args.self.now.disk _ (g.F.Folder.held c.args.self.now.folder)
+    (g.F.Folder.held c.move_in.new.folder) c.args.key.now c.args.path.now c.in-Ok-admit.ensures.key
+    c.requires.avoids c.shown.ensures.distinct (returns-in-Ok-move_in-clause-ok g c)

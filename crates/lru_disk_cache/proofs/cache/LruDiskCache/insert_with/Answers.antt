@@ -10,21 +10,34 @@ use Rattle.lru_disk_cache.proofs.cache.LruDiskCache.insert_with.Goals as goal
 
 pub returns-in-Ok-clause-ok : goal.returns-in-Ok-clause-ok
 returns-in-Ok-clause-ok g c =
-    let wrote = subst (Wrote g.W.FnOnce (λ v. v.items) c.args.with (Ok (tt {0}))) (sym c.deref.ensures.value) c.in-Ok.ensures.ok in
-    with_ok (Wrote g.W.FnOnce (λ v. v.items) c.args.with) (λ b. insert_verdict c.args.self.now.disk c.args.key.now (length b) ≡ Ok (tt {0})) (λ b. c.insert_bytes.new.self.disk ≡ inserted c.args.self.now.disk c.args.key.now (length b)) (λ b. Holds (g.F.Folder.held c.insert_bytes.new.self.folder) (λ files. file_at files (c.args.self.now.disk.root ++ c.args.key.now) ≡ Some b)) c.deref.result.now c.insert_bytes.result wrote c.insert_bytes.ensures.admits c.insert_bytes.ensures.ok c.insert_bytes.ensures.content
+    let wrote = subst (Wrote g.W.FnOnce (λ v. v.items) c.args.with (Ok (tt {0})))
+    (sym c.deref.ensures.value) c.in-Ok.ensures.ok in
+    with_ok (Wrote g.W.FnOnce (λ v. v.items) c.args.with)
+    (λ b. insert_verdict c.args.self.now.disk c.args.key.now (length b) ≡ Ok (tt {0}))
+    (λ b. c.insert_bytes.new.self.disk ≡ inserted c.args.self.now.disk c.args.key.now (length b))
+    (λ b. Holds (g.F.Folder.held c.insert_bytes.new.self.folder)
+    (λ files. file_at files (c.args.self.now.disk.root ++ c.args.key.now) ≡ Some b)) c.deref.result.now
+    c.insert_bytes.result wrote c.insert_bytes.ensures.admits c.insert_bytes.ensures.ok
+    c.insert_bytes.ensures.content
 
 pub returns-in-Ok-clause-fails : goal.returns-in-Ok-clause-fails
 returns-in-Ok-clause-fails g c =
-    let wrote = subst (Wrote g.W.FnOnce (λ v. v.items) c.args.with (Ok (tt {0}))) (sym c.deref.ensures.value) c.in-Ok.ensures.ok in
-    with_fails (Wrote g.W.FnOnce (λ v. v.items) c.args.with) c.args.key.now c.deref.result.now c.args.self.now.disk c.insert_bytes.new.self.disk c.insert_bytes.result (g.F.Folder.held c.args.self.now.folder) (g.F.Folder.held c.insert_bytes.new.self.folder) wrote c.insert_bytes.ensures.fails
+    let wrote = subst (Wrote g.W.FnOnce (λ v. v.items) c.args.with (Ok (tt {0})))
+    (sym c.deref.ensures.value) c.in-Ok.ensures.ok in
+    with_fails (Wrote g.W.FnOnce (λ v. v.items) c.args.with) c.args.key.now c.deref.result.now
+    c.args.self.now.disk c.insert_bytes.new.self.disk c.insert_bytes.result
+    (g.F.Folder.held c.args.self.now.folder) (g.F.Folder.held c.insert_bytes.new.self.folder) wrote
+    c.insert_bytes.ensures.fails
 
 pub returns-in-Err-clause-fails : goal.returns-in-Err-clause-fails
 returns-in-Err-clause-fails g c =
-    with_failed (Wrote g.W.FnOnce (λ v. v.items) c.args.with) c.args.key.now c.args.self.now.disk c.in-Err.error (g.F.Folder.held c.args.self.now.folder) c.in-Err.ensures.fails
+    with_failed (Wrote g.W.FnOnce (λ v. v.items) c.args.with) c.args.key.now c.args.self.now.disk
+    c.in-Err.error (g.F.Folder.held c.args.self.now.folder) c.in-Err.ensures.fails
 
 pub returns-in-Err-clause-left : goal.returns-in-Err-clause-left
 returns-in-Err-clause-left g c =
     none_lost c.args.self.now.disk.root c.args.self.now.disk.entries (g.F.Folder.held c.args.self.now.folder)
 
 pub returns-in-Err-clause-reserved : goal.returns-in-Err-clause-reserved
-returns-in-Err-clause-reserved g c = none_reserved c.args.self.now.disk.pending (g.F.Folder.held c.args.self.now.folder).files
+returns-in-Err-clause-reserved g c = none_reserved c.args.self.now.disk.pending
+    (g.F.Folder.held c.args.self.now.folder).files

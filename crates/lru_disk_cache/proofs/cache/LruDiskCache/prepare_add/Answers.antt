@@ -10,35 +10,105 @@ use Rattle.lru_disk_cache.proofs.DiskSteps.{step_prepared}
 use Rattle.lru_disk_cache.proofs.cache.LruDiskCache.prepare_add.Goals as goal
 
 pub invariant_of-self : goal.invariant_of-self
-invariant_of-self g c = (announced_store c.self.inside.path c.self.inside.root c.self.inside.pending (g.F.Folder.held c.announce.new.folder) (g.F.Folder.held c.self.inside.folder) c.self.inside.table c.announce.new.table c.self.invariant c.announce.ensures.capacity c.announce.ensures.room.0 c.announce.ensures.stands (temp_reserved c.self.inside.root c.in-Ok-arrival_of.arrival.from c.self.inside.table.entries c.least_free-number.result c.self.inside.pending (g.F.Folder.held c.self.inside.folder).files (g.F.Folder.held c.announce.new.folder).files c.in-Ok-arrival_of.ensures.from c.in-Ok-arrival_of.ensures.number c.least_free-number.ensures.free c.self.invariant.stands.keys c.self.invariant.reserved c.announce.ensures.untouched))
+invariant_of-self g c = (announced_store c.self.inside.path c.self.inside.root c.self.inside.pending
+    (g.F.Folder.held c.announce.new.folder) (g.F.Folder.held c.self.inside.folder) c.self.inside.table
+    c.announce.new.table c.self.invariant c.announce.ensures.capacity c.announce.ensures.room.0
+    c.announce.ensures.stands
+    (temp_reserved c.self.inside.root c.in-Ok-arrival_of.arrival.from c.self.inside.table.entries
+    c.least_free-number.result c.self.inside.pending (g.F.Folder.held c.self.inside.folder).files
+    (g.F.Folder.held c.announce.new.folder).files c.in-Ok-arrival_of.ensures.from
+    c.in-Ok-arrival_of.ensures.number c.least_free-number.ensures.free c.self.invariant.stands.keys
+    c.self.invariant.reserved c.announce.ensures.untouched))
 
 pub returns-in-Err-announce-clause-stands : goal.returns-in-Err-announce-clause-stands
 returns-in-Err-announce-clause-stands g c = invariant_of-self g c
 
 pub returns-in-Err-announce-clause-reserved : goal.returns-in-Err-announce-clause-reserved
-returns-in-Err-announce-clause-reserved g c = subst (λ s. Became (KeepsReserved s.disk.pending) (g.F.Folder.held s.folder).files (g.F.Folder.held c.announce.new.folder).files) c.self.view_is (temp_reserved c.self.inside.root c.in-Ok-arrival_of.arrival.from c.self.inside.table.entries c.least_free-number.result c.self.inside.pending (g.F.Folder.held c.self.inside.folder).files (g.F.Folder.held c.announce.new.folder).files c.in-Ok-arrival_of.ensures.from c.in-Ok-arrival_of.ensures.number c.least_free-number.ensures.free c.self.invariant.stands.keys c.self.invariant.reserved c.announce.ensures.untouched)
+returns-in-Err-announce-clause-reserved g c =
+    subst (λ s. Became (KeepsReserved s.disk.pending) (g.F.Folder.held s.folder).files
+    (g.F.Folder.held c.announce.new.folder).files) c.self.view_is
+    (temp_reserved c.self.inside.root c.in-Ok-arrival_of.arrival.from c.self.inside.table.entries
+    c.least_free-number.result c.self.inside.pending (g.F.Folder.held c.self.inside.folder).files
+    (g.F.Folder.held c.announce.new.folder).files c.in-Ok-arrival_of.ensures.from
+    c.in-Ok-arrival_of.ensures.number c.least_free-number.ensures.free c.self.invariant.stands.keys
+    c.self.invariant.reserved c.announce.ensures.untouched)
 
 pub invariant_of-self-in_default-push : goal.invariant_of-self-in_default-push
 invariant_of-self-in_default-push g c =
-    subst (λ ps. IsStore (g.F.Folder.held c.announce.new.folder) (disk_of c.self.inside.path c.self.inside.root ps c.announce.new.table)) (sym c.in_default-push.ensures.err) (announced_store c.self.inside.path c.self.inside.root c.self.inside.pending (g.F.Folder.held c.announce.new.folder) (g.F.Folder.held c.self.inside.folder) c.self.inside.table c.announce.new.table c.self.invariant c.announce.ensures.capacity c.announce.ensures.room.0 c.announce.ensures.stands (temp_reserved c.self.inside.root c.in-Ok-arrival_of.arrival.from c.self.inside.table.entries c.least_free-number.result c.self.inside.pending (g.F.Folder.held c.self.inside.folder).files (g.F.Folder.held c.announce.new.folder).files c.in-Ok-arrival_of.ensures.from c.in-Ok-arrival_of.ensures.number c.least_free-number.ensures.free c.self.invariant.stands.keys c.self.invariant.reserved c.announce.ensures.untouched))
+    subst (λ ps. IsStore (g.F.Folder.held c.announce.new.folder)
+    (disk_of c.self.inside.path c.self.inside.root ps c.announce.new.table))
+    (sym c.in_default-push.ensures.err)
+    (announced_store c.self.inside.path c.self.inside.root c.self.inside.pending
+    (g.F.Folder.held c.announce.new.folder) (g.F.Folder.held c.self.inside.folder) c.self.inside.table
+    c.announce.new.table c.self.invariant c.announce.ensures.capacity c.announce.ensures.room.0
+    c.announce.ensures.stands
+    (temp_reserved c.self.inside.root c.in-Ok-arrival_of.arrival.from c.self.inside.table.entries
+    c.least_free-number.result c.self.inside.pending (g.F.Folder.held c.self.inside.folder).files
+    (g.F.Folder.held c.announce.new.folder).files c.in-Ok-arrival_of.ensures.from
+    c.in-Ok-arrival_of.ensures.number c.least_free-number.ensures.free c.self.invariant.stands.keys
+    c.self.invariant.reserved c.announce.ensures.untouched))
 
 pub returns-in_default-push-clause-stands : goal.returns-in_default-push-clause-stands
 returns-in_default-push-clause-stands g c = invariant_of-self-in_default-push g c
 
 pub returns-in_default-push-clause-reserved : goal.returns-in_default-push-clause-reserved
-returns-in_default-push-clause-reserved g c = subst (λ s. Became (KeepsReserved s.disk.pending) (g.F.Folder.held s.folder).files (g.F.Folder.held c.announce.new.folder).files) c.self.view_is (temp_reserved c.self.inside.root c.in-Ok-arrival_of.arrival.from c.self.inside.table.entries c.least_free-number.result c.self.inside.pending (g.F.Folder.held c.self.inside.folder).files (g.F.Folder.held c.announce.new.folder).files c.in-Ok-arrival_of.ensures.from c.in-Ok-arrival_of.ensures.number c.least_free-number.ensures.free c.self.invariant.stands.keys c.self.invariant.reserved c.announce.ensures.untouched)
+returns-in_default-push-clause-reserved g c =
+    subst (λ s. Became (KeepsReserved s.disk.pending) (g.F.Folder.held s.folder).files
+    (g.F.Folder.held c.announce.new.folder).files) c.self.view_is
+    (temp_reserved c.self.inside.root c.in-Ok-arrival_of.arrival.from c.self.inside.table.entries
+    c.least_free-number.result c.self.inside.pending (g.F.Folder.held c.self.inside.folder).files
+    (g.F.Folder.held c.announce.new.folder).files c.in-Ok-arrival_of.ensures.from
+    c.in-Ok-arrival_of.ensures.number c.least_free-number.ensures.free c.self.invariant.stands.keys
+    c.self.invariant.reserved c.announce.ensures.untouched)
 
 pub invariant_of-self-2 : goal.invariant_of-self-2
 invariant_of-self-2 g c =
-    let room : total c.announce.new.table.entries + held_size c.self.inside.pending + c.in-Ok-arrival_of.arrival.size ≤ c.announce.new.table.capacity =
-    omega (arith, c.in-Ok-announce.ensures.fits, c.in-Ok-arrival_of.ensures.key.1, c.in-Ok-arrival_of.ensures.key.2, c.room_beside-limit.ensures, c.in-Ok.ensures.room, ap (λ s. held_size s.disk.pending) c.self.view_is, ap (λ s. s.disk.capacity) c.self.view_is, c.announce.ensures.capacity) in
-    prepared_store c.self.inside.path c.self.inside.root c.self.inside.pending c.push.new.self (record { number = c.least_free-number.result; key = c.in-Ok-arrival_of.arrival.key; size = c.in-Ok-arrival_of.arrival.size; temp = c.in-Ok-arrival_of.arrival.from; sure = true }) (g.F.Folder.held c.announce.new.folder) c.announce.new.table (announced_store c.self.inside.path c.self.inside.root c.self.inside.pending (g.F.Folder.held c.announce.new.folder) (g.F.Folder.held c.self.inside.folder) c.self.inside.table c.announce.new.table c.self.invariant c.announce.ensures.capacity c.announce.ensures.room.0 c.announce.ensures.stands (temp_reserved c.self.inside.root c.in-Ok-arrival_of.arrival.from c.self.inside.table.entries c.least_free-number.result c.self.inside.pending (g.F.Folder.held c.self.inside.folder).files (g.F.Folder.held c.announce.new.folder).files c.in-Ok-arrival_of.ensures.from c.in-Ok-arrival_of.ensures.number c.least_free-number.ensures.free c.self.invariant.stands.keys c.self.invariant.reserved c.announce.ensures.untouched)) c.in-Ok-push.ensures.ok room (ap is_key c.in-Ok-arrival_of.ensures.key.0 ∙ c.in-Ok.ensures.key) c.in-Ok-arrival_of.ensures.number c.in-Ok-arrival_of.ensures.from c.least_free-number.ensures.free c.in-Ok-announce.ensures.there
+    let room : total c.announce.new.table.entries + held_size c.self.inside.pending +
+    c.in-Ok-arrival_of.arrival.size ≤ c.announce.new.table.capacity =
+    omega (
+      arith,
+      c.in-Ok-announce.ensures.fits,
+      c.in-Ok-arrival_of.ensures.key.1,
+      c.in-Ok-arrival_of.ensures.key.2,
+      c.room_beside-limit.ensures,
+      c.in-Ok.ensures.room,
+      ap (λ s. held_size s.disk.pending) c.self.view_is,
+      ap (λ s. s.disk.capacity) c.self.view_is,
+      c.announce.ensures.capacity,
+    ) in
+    prepared_store c.self.inside.path c.self.inside.root c.self.inside.pending c.push.new.self
+    (record {
+      number = c.least_free-number.result;
+      key = c.in-Ok-arrival_of.arrival.key;
+      size = c.in-Ok-arrival_of.arrival.size;
+      temp = c.in-Ok-arrival_of.arrival.from;
+      sure = true;
+    })
+    (g.F.Folder.held c.announce.new.folder) c.announce.new.table
+    (announced_store c.self.inside.path c.self.inside.root c.self.inside.pending
+    (g.F.Folder.held c.announce.new.folder) (g.F.Folder.held c.self.inside.folder) c.self.inside.table
+    c.announce.new.table c.self.invariant c.announce.ensures.capacity c.announce.ensures.room.0
+    c.announce.ensures.stands
+    (temp_reserved c.self.inside.root c.in-Ok-arrival_of.arrival.from c.self.inside.table.entries
+    c.least_free-number.result c.self.inside.pending (g.F.Folder.held c.self.inside.folder).files
+    (g.F.Folder.held c.announce.new.folder).files c.in-Ok-arrival_of.ensures.from
+    c.in-Ok-arrival_of.ensures.number c.least_free-number.ensures.free c.self.invariant.stands.keys
+    c.self.invariant.reserved c.announce.ensures.untouched)) c.in-Ok-push.ensures.ok room
+    (ap is_key c.in-Ok-arrival_of.ensures.key.0 ∙ c.in-Ok.ensures.key) c.in-Ok-arrival_of.ensures.number
+    c.in-Ok-arrival_of.ensures.from c.least_free-number.ensures.free c.in-Ok-announce.ensures.there
 
 pub returns-clause-stands : goal.returns-clause-stands
 returns-clause-stands g c = invariant_of-self-2 g c
 
 pub returns-clause-reserved : goal.returns-clause-reserved
-returns-clause-reserved g c = subst (λ s. Became (KeepsReserved s.disk.pending) (g.F.Folder.held s.folder).files (g.F.Folder.held c.announce.new.folder).files) c.self.view_is (temp_reserved c.self.inside.root c.in-Ok-arrival_of.arrival.from c.self.inside.table.entries c.least_free-number.result c.self.inside.pending (g.F.Folder.held c.self.inside.folder).files (g.F.Folder.held c.announce.new.folder).files c.in-Ok-arrival_of.ensures.from c.in-Ok-arrival_of.ensures.number c.least_free-number.ensures.free c.self.invariant.stands.keys c.self.invariant.reserved c.announce.ensures.untouched)
+returns-clause-reserved g c =
+    subst (λ s. Became (KeepsReserved s.disk.pending) (g.F.Folder.held s.folder).files
+    (g.F.Folder.held c.announce.new.folder).files) c.self.view_is
+    (temp_reserved c.self.inside.root c.in-Ok-arrival_of.arrival.from c.self.inside.table.entries
+    c.least_free-number.result c.self.inside.pending (g.F.Folder.held c.self.inside.folder).files
+    (g.F.Folder.held c.announce.new.folder).files c.in-Ok-arrival_of.ensures.from
+    c.in-Ok-arrival_of.ensures.number c.least_free-number.ensures.free c.self.invariant.stands.keys
+    c.self.invariant.reserved c.announce.ensures.untouched)
 
 pub returns-clause-ok : goal.returns-clause-ok
 returns-clause-ok g c = search rules
@@ -51,4 +121,8 @@ returns-clause-exact g c = search rules
 
 pub returns-clause-in_step : goal.returns-clause-in_step
 returns-clause-in_step g c =
-    step_prepared c.args.self.now.disk _ (g.F.Folder.held c.args.self.now.folder) (g.F.Folder.held c.announce.new.folder) _ c.least_free-number.result c.args.size c.in-Ok-arrival_of.ensures.number (ap (λ e. e.number) c.new.ensures) (returns-clause-entry g c).1 c.shown.ensures.distinct (returns-clause-ok g c) (returns-clause-exact g c)
+    step_prepared c.args.self.now.disk _ (g.F.Folder.held c.args.self.now.folder)
+    (g.F.Folder.held c.announce.new.folder) _ c.least_free-number.result c.args.size
+    c.in-Ok-arrival_of.ensures.number (ap (λ e. e.number) c.new.ensures)
+    (returns-clause-entry g c).1 c.shown.ensures.distinct (returns-clause-ok g c)
+    (returns-clause-exact g c)

@@ -4,7 +4,17 @@ use Rattle.lru_disk_cache.proofs.cache.LruDiskCache.read_aside.Goals as goal
 
 pub invariant_of-self : goal.invariant_of-self
 invariant_of-self g c =
-    below_store (record { path = c.self.inside.path; root = c.self.inside.root; capacity = c.self.inside.table.capacity; entries = c.self.inside.table.entries; pending = c.self.inside.pending }) (g.F.Folder.held c.self.inside.folder) (g.F.Folder.held c.read.new.self) c.self.invariant (below_same c.self.inside.root (Lacks c.args.path.now) c.read.result (g.F.Folder.held c.self.inside.folder) (g.F.Folder.held c.read.new.self) c.read.ensures.leaves)
+    below_store (record {
+      path = c.self.inside.path;
+      root = c.self.inside.root;
+      capacity = c.self.inside.table.capacity;
+      entries = c.self.inside.table.entries;
+      pending =
+          c.self.inside.pending;
+    }) (g.F.Folder.held c.self.inside.folder)
+    (g.F.Folder.held c.read.new.self) c.self.invariant
+    (below_same c.self.inside.root (Lacks c.args.path.now) c.read.result
+    (g.F.Folder.held c.self.inside.folder) (g.F.Folder.held c.read.new.self) c.read.ensures.leaves)
 
 pub returns-clause-stands : goal.returns-clause-stands
 returns-clause-stands g c = invariant_of-self g c

@@ -13,39 +13,68 @@ use Rattle.lru_disk_cache.proofs.cache.LruDiskCache.remove.Goals as goal
 
 pub returns-then-not-contains-clause-ok : goal.returns-then-not-contains-clause-ok
 returns-then-not-contains-clause-ok g c =
-    sym (ap (λ es. record c.args.self.now.disk { entries = es }) (none_out c.in-Ok.key c.args.key.now c.self.inside.table.entries c.args.self.now.disk.entries c.contains.result c.in-Ok.ensures.text (ap (λ s. s.disk.entries) c.self.view_is) c.contains.ensures c.if-not-contains.true))
+    sym (ap (λ es. record c.args.self.now.disk { entries = es })
+    (none_out c.in-Ok.key c.args.key.now c.self.inside.table.entries c.args.self.now.disk.entries
+    c.contains.result c.in-Ok.ensures.text (ap (λ s. s.disk.entries) c.self.view_is) c.contains.ensures
+    c.if-not-contains.true))
 
 pub invariant_of-self : goal.invariant_of-self
 invariant_of-self g c =
-    removed_store c.self.inside.path c.self.inside.root c.self.inside.pending (g.F.Folder.held c.self.inside.folder) (g.F.Folder.held c.remove_file.new.folder) c.in-Ok.key c.self.inside.table c.unlist.new.self c.self.invariant (sym c.contains.ensures ∙ c.if-not-contains.false) c.unlist.ensures.entries c.unlist.ensures.absent c.remove_file.ensures.others
+    removed_store c.self.inside.path c.self.inside.root c.self.inside.pending
+    (g.F.Folder.held c.self.inside.folder) (g.F.Folder.held c.remove_file.new.folder) c.in-Ok.key
+    c.self.inside.table c.unlist.new.self c.self.invariant
+    (sym c.contains.ensures ∙ c.if-not-contains.false) c.unlist.ensures.entries c.unlist.ensures.absent
+    c.remove_file.ensures.others
 
 pub returns-in-Ok-remove_file-clause-stands : goal.returns-in-Ok-remove_file-clause-stands
 returns-in-Ok-remove_file-clause-stands g c = invariant_of-self g c
 
 pub invariant_of-self-2 : goal.invariant_of-self-2
 invariant_of-self-2 g c =
-    removed_store c.self.inside.path c.self.inside.root c.self.inside.pending (g.F.Folder.held c.self.inside.folder) (g.F.Folder.held c.remove_file.new.folder) c.in-Ok.key c.self.inside.table c.unlist.new.self c.self.invariant (sym c.contains.ensures ∙ c.if-not-contains.false) c.unlist.ensures.entries c.unlist.ensures.absent c.remove_file.ensures.others
+    removed_store c.self.inside.path c.self.inside.root c.self.inside.pending
+    (g.F.Folder.held c.self.inside.folder) (g.F.Folder.held c.remove_file.new.folder) c.in-Ok.key
+    c.self.inside.table c.unlist.new.self c.self.invariant
+    (sym c.contains.ensures ∙ c.if-not-contains.false) c.unlist.ensures.entries c.unlist.ensures.absent
+    c.remove_file.ensures.others
 
 pub returns-clause-stands : goal.returns-clause-stands
 returns-clause-stands g c = invariant_of-self-2 g c
 
 pub returns-in-Ok-remove_file-clause-kept : goal.returns-in-Ok-remove_file-clause-kept
 returns-in-Ok-remove_file-clause-kept g c =
-    subst (λ s. Became (Keeps s.disk.root c.unlist.new.self.entries) (g.F.Folder.held s.folder).files (g.F.Folder.held c.remove_file.new.folder).files) c.self.view_is (keeps_absent c.self.inside.root c.in-Ok.key c.unlist.new.self.entries (g.F.Folder.held c.self.inside.folder).files (g.F.Folder.held c.remove_file.new.folder).files c.unlist.ensures.absent c.remove_file.ensures.others)
+    subst (λ s. Became (Keeps s.disk.root c.unlist.new.self.entries) (g.F.Folder.held s.folder).files
+    (g.F.Folder.held c.remove_file.new.folder).files) c.self.view_is
+    (keeps_absent c.self.inside.root c.in-Ok.key c.unlist.new.self.entries
+    (g.F.Folder.held c.self.inside.folder).files (g.F.Folder.held c.remove_file.new.folder).files
+    c.unlist.ensures.absent c.remove_file.ensures.others)
 
 pub returns-clause-kept : goal.returns-clause-kept
 returns-clause-kept g c =
-    subst (λ s. Became (Keeps s.disk.root c.unlist.new.self.entries) (g.F.Folder.held s.folder).files (g.F.Folder.held c.remove_file.new.folder).files) c.self.view_is (keeps_absent c.self.inside.root c.in-Ok.key c.unlist.new.self.entries (g.F.Folder.held c.self.inside.folder).files (g.F.Folder.held c.remove_file.new.folder).files c.unlist.ensures.absent c.remove_file.ensures.others)
+    subst (λ s. Became (Keeps s.disk.root c.unlist.new.self.entries) (g.F.Folder.held s.folder).files
+    (g.F.Folder.held c.remove_file.new.folder).files) c.self.view_is
+    (keeps_absent c.self.inside.root c.in-Ok.key c.unlist.new.self.entries
+    (g.F.Folder.held c.self.inside.folder).files (g.F.Folder.held c.remove_file.new.folder).files
+    c.unlist.ensures.absent c.remove_file.ensures.others)
 
 pub returns-in-Ok-remove_file-clause-reserved : goal.returns-in-Ok-remove_file-clause-reserved
 returns-in-Ok-remove_file-clause-reserved g c =
-    subst (λ s. Became (KeepsReserved s.disk.pending) (g.F.Folder.held s.folder).files (g.F.Folder.held c.remove_file.new.folder).files) c.self.view_is
-    (key_reserved c.self.inside.root c.in-Ok.key c.self.inside.pending (g.F.Folder.held c.self.inside.folder).files (g.F.Folder.held c.remove_file.new.folder).files (listed_key c.in-Ok.key c.self.inside.table.entries c.self.invariant.stands.keys (sym c.contains.ensures ∙ c.if-not-contains.false)) c.self.invariant.reserved c.remove_file.ensures.others)
+    subst (λ s. Became (KeepsReserved s.disk.pending) (g.F.Folder.held s.folder).files
+    (g.F.Folder.held c.remove_file.new.folder).files) c.self.view_is
+    (key_reserved c.self.inside.root c.in-Ok.key c.self.inside.pending
+    (g.F.Folder.held c.self.inside.folder).files (g.F.Folder.held c.remove_file.new.folder).files
+    (listed_key c.in-Ok.key c.self.inside.table.entries c.self.invariant.stands.keys
+    (sym c.contains.ensures ∙ c.if-not-contains.false)) c.self.invariant.reserved
+    c.remove_file.ensures.others)
 
 pub returns-clause-reserved : goal.returns-clause-reserved
 returns-clause-reserved g c =
-    subst (λ s. Became (KeepsReserved s.disk.pending) (g.F.Folder.held s.folder).files (g.F.Folder.held c.remove_file.new.folder).files) c.self.view_is
-    (key_reserved c.self.inside.root c.in-Ok.key c.self.inside.pending (g.F.Folder.held c.self.inside.folder).files (g.F.Folder.held c.remove_file.new.folder).files (listed_key c.in-Ok.key c.self.inside.table.entries c.self.invariant.stands.keys (sym c.contains.ensures ∙ c.if-not-contains.false)) c.self.invariant.reserved c.remove_file.ensures.others)
+    subst (λ s. Became (KeepsReserved s.disk.pending) (g.F.Folder.held s.folder).files
+    (g.F.Folder.held c.remove_file.new.folder).files) c.self.view_is
+    (key_reserved c.self.inside.root c.in-Ok.key c.self.inside.pending
+    (g.F.Folder.held c.self.inside.folder).files (g.F.Folder.held c.remove_file.new.folder).files
+    (listed_key c.in-Ok.key c.self.inside.table.entries c.self.invariant.stands.keys
+    (sym c.contains.ensures ∙ c.if-not-contains.false)) c.self.invariant.reserved
+    c.remove_file.ensures.others)
 
 pub returns-in-Ok-remove_file-clause-ok : goal.returns-in-Ok-remove_file-clause-ok
 returns-in-Ok-remove_file-clause-ok g c = search rules
@@ -55,5 +84,9 @@ returns-in-Ok-remove_file-clause-exact g c = search rules
 
 pub returns-in-Ok-remove_file-clause-in_step : goal.returns-in-Ok-remove_file-clause-in_step
 returns-in-Ok-remove_file-clause-in_step g c =
-    let listed = subst (λ s. IsSome (lookup (bytes_eq c.args.key.now) s.disk.entries)) c.self.view_is (subst (λ k. IsSome (lookup (bytes_eq k) c.self.inside.table.entries)) c.in-Ok.ensures.text (sym c.contains.ensures ∙ c.if-not-contains.false)) in
-    step_removed c.args.self.now.disk _ (g.F.Folder.held c.args.self.now.folder) (g.F.Folder.held c.remove_file.new.folder) c.args.key.now c.shown.ensures.distinct (returns-in-Ok-remove_file-clause-ok g c) (returns-in-Ok-remove_file-clause-exact g c listed)
+    let listed = subst (λ s. IsSome (lookup (bytes_eq c.args.key.now) s.disk.entries)) c.self.view_is
+    (subst (λ k. IsSome (lookup (bytes_eq k) c.self.inside.table.entries)) c.in-Ok.ensures.text
+    (sym c.contains.ensures ∙ c.if-not-contains.false)) in
+    step_removed c.args.self.now.disk _ (g.F.Folder.held c.args.self.now.folder)
+    (g.F.Folder.held c.remove_file.new.folder) c.args.key.now c.shown.ensures.distinct
+    (returns-in-Ok-remove_file-clause-ok g c) (returns-in-Ok-remove_file-clause-exact g c listed)

@@ -6,13 +6,19 @@ use Rattle.lru_disk_cache.specs.Reserved.{IsReserved, KeepsReserved, is_pending,
 use Rattle.lru_disk_cache.specs.Adding.{entry_path, WriteFails}
 use Rattle.lru_disk_cache.proofs.Fills.{on_ok, keeps_avoided, temp_avoids}
 use Rattle.lru_disk_cache.proofs.Standing.{none_lost}
-use Rattle.lru_disk_cache.proofs.Reserving.{temp_found, temp_none, write_fails, none_reserved, added_store, at_reserved, none_without, all_without}
+use Rattle.lru_disk_cache.proofs.Reserving.{temp_found, temp_none, write_fails, none_reserved, added_store}
+use Rattle.lru_disk_cache.proofs.Reserving.{at_reserved, none_without, all_without}
 use Rattle.lru_disk_cache.specs.Store.{DiskInStep}
 use Rattle.lru_disk_cache.proofs.DiskSteps.{step_appended}
 use Rattle.lru_disk_cache.proofs.cache.LruDiskCache.write_entry.Goals as goal
 
 pub returns-in_default-clause-fails : goal.returns-in_default-clause-fails
-returns-in_default-clause-fails g c = (refl, refl, subst (λ s. is_pending c.args.entry.now s.disk.pending ≡ false) c.self.view_is (temp_none c.args.entry.now c.self.inside.pending (sym c.in_default.ensures.temp)))
+returns-in_default-clause-fails g c = (
+  refl,
+  refl,
+  subst (λ s. is_pending c.args.entry.now s.disk.pending ≡ false) c.self.view_is
+      (temp_none c.args.entry.now c.self.inside.pending (sym c.in_default.ensures.temp)),
+)
 
 pub returns-in_default-clause-kept : goal.returns-in_default-clause-kept
 returns-in_default-clause-kept g c =
@@ -20,52 +26,142 @@ returns-in_default-clause-kept g c =
 
 pub returns-in_default-clause-reserved : goal.returns-in_default-clause-reserved
 returns-in_default-clause-reserved g c =
-    none_reserved (without_number c.args.entry.now.number c.args.self.now.disk.pending) (g.F.Folder.held c.args.self.now.folder).files
+    none_reserved (without_number c.args.entry.now.number c.args.self.now.disk.pending)
+    (g.F.Folder.held c.args.self.now.folder).files
 
 pub invariant_of-self : goal.invariant_of-self
 invariant_of-self g c =
-    let t = temp_found c.self.inside.root c.in-Some.temp.now c.args.entry.now c.self.inside.pending c.self.invariant.reserved (sym c.in-Some.ensures.temp) in
-    added_store (record { path = c.self.inside.path; root = c.self.inside.root; capacity = c.self.inside.table.capacity; entries = c.self.inside.table.entries; pending = c.self.inside.pending }) c.in-Some.temp.now c.args.entry.now.number (g.F.Folder.held c.self.inside.folder) (g.F.Folder.held c.add_to.new.folder) c.self.invariant t.0 t.2 c.add_to.ensures.others c.add_to.ensures.there
+    let t = temp_found c.self.inside.root c.in-Some.temp.now c.args.entry.now c.self.inside.pending
+    c.self.invariant.reserved (sym c.in-Some.ensures.temp) in
+    added_store (record {
+      path = c.self.inside.path;
+      root = c.self.inside.root;
+      capacity = c.self.inside.table.capacity;
+      entries = c.self.inside.table.entries;
+      pending =
+          c.self.inside.pending;
+    }) c.in-Some.temp.now c.args.entry.now.number
+    (g.F.Folder.held c.self.inside.folder) (g.F.Folder.held c.add_to.new.folder) c.self.invariant t.0 t.2
+    c.add_to.ensures.others c.add_to.ensures.there
 
 pub returns-clause-stands : goal.returns-clause-stands
 returns-clause-stands g c = invariant_of-self g c
 
 pub returns-clause-ok : goal.returns-clause-ok
 returns-clause-ok g c =
-    let t = temp_found c.self.inside.root c.in-Some.temp.now c.args.entry.now c.self.inside.pending c.self.invariant.reserved (sym c.in-Some.ensures.temp) in
-    subst (λ s. OnOk c.add_to.result (Made (appended (entry_path s.disk c.args.entry.now) c.args.bytes.now) (g.F.Folder.held s.folder).files (g.F.Folder.held c.add_to.new.folder).files)) c.self.view_is (subst (λ p. OnOk c.add_to.result (Made (appended p c.args.bytes.now) (g.F.Folder.held c.self.inside.folder).files (g.F.Folder.held c.add_to.new.folder).files)) t.0 c.add_to.ensures.ok)
+    let t = temp_found c.self.inside.root c.in-Some.temp.now c.args.entry.now c.self.inside.pending
+    c.self.invariant.reserved (sym c.in-Some.ensures.temp) in
+    subst (λ s. OnOk c.add_to.result (Made (appended (entry_path s.disk c.args.entry.now) c.args.bytes.now)
+    (g.F.Folder.held s.folder).files (g.F.Folder.held c.add_to.new.folder).files)) c.self.view_is
+    (subst (λ p. OnOk c.add_to.result
+    (Made (appended p c.args.bytes.now) (g.F.Folder.held c.self.inside.folder).files
+    (g.F.Folder.held c.add_to.new.folder).files)) t.0 c.add_to.ensures.ok)
 
 pub returns-clause-pending : goal.returns-clause-pending
 returns-clause-pending g c =
-    let t = temp_found c.self.inside.root c.in-Some.temp.now c.args.entry.now c.self.inside.pending c.self.invariant.reserved (sym c.in-Some.ensures.temp) in
-    subst (λ s. OnOk c.add_to.result (is_pending c.args.entry.now s.disk.pending ≡ true)) c.self.view_is (on_ok c.add_to.result t.1)
+    let t = temp_found c.self.inside.root c.in-Some.temp.now c.args.entry.now c.self.inside.pending
+    c.self.invariant.reserved (sym c.in-Some.ensures.temp) in
+    subst (λ s. OnOk c.add_to.result (is_pending c.args.entry.now s.disk.pending ≡ true)) c.self.view_is
+    (on_ok c.add_to.result t.1)
 
 pub returns-clause-part : goal.returns-clause-part
 returns-clause-part g c =
-    let t = temp_found c.self.inside.root c.in-Some.temp.now c.args.entry.now c.self.inside.pending c.self.invariant.reserved (sym c.in-Some.ensures.temp) in
-    subst (λ s. OnErr c.add_to.result (Became (PartAppended (entry_path s.disk c.args.entry.now) c.args.bytes.now) (g.F.Folder.held s.folder).files (g.F.Folder.held c.add_to.new.folder).files)) c.self.view_is (subst (λ p. OnErr c.add_to.result (Became (PartAppended p c.args.bytes.now) (g.F.Folder.held c.self.inside.folder).files (g.F.Folder.held c.add_to.new.folder).files)) t.0 c.add_to.ensures.part)
+    let t = temp_found c.self.inside.root c.in-Some.temp.now c.args.entry.now c.self.inside.pending
+    c.self.invariant.reserved (sym c.in-Some.ensures.temp) in
+    subst (λ s. OnErr c.add_to.result
+    (Became (PartAppended (entry_path s.disk c.args.entry.now) c.args.bytes.now)
+    (g.F.Folder.held s.folder).files (g.F.Folder.held c.add_to.new.folder).files)) c.self.view_is
+    (subst (λ p. OnErr c.add_to.result
+    (Became (PartAppended p c.args.bytes.now) (g.F.Folder.held c.self.inside.folder).files
+    (g.F.Folder.held c.add_to.new.folder).files)) t.0 c.add_to.ensures.part)
 
 pub returns-clause-fails : goal.returns-clause-fails
 returns-clause-fails g c =
-    let t = temp_found c.self.inside.root c.in-Some.temp.now c.args.entry.now c.self.inside.pending c.self.invariant.reserved (sym c.in-Some.ensures.temp) in
-    subst (λ s. IfErr c.add_to.result (λ x. WriteFails c.args.entry.now x s.disk (record { path = c.self.inside.path; root = c.self.inside.root; capacity = c.self.inside.table.capacity; entries = c.self.inside.table.entries; pending = c.self.inside.pending }) (g.F.Folder.held s.folder) (g.F.Folder.held c.add_to.new.folder))) c.self.view_is (write_fails c.args.entry.now (record { path = c.self.inside.path; root = c.self.inside.root; capacity = c.self.inside.table.capacity; entries = c.self.inside.table.entries; pending = c.self.inside.pending }) (record { path = c.self.inside.path; root = c.self.inside.root; capacity = c.self.inside.table.capacity; entries = c.self.inside.table.entries; pending = c.self.inside.pending }) c.in-Some.temp.now c.add_to.result (g.F.Folder.held c.self.inside.folder) (g.F.Folder.held c.add_to.new.folder) c.self.invariant t.0 c.add_to.ensures.fails)
+    let t = temp_found c.self.inside.root c.in-Some.temp.now c.args.entry.now c.self.inside.pending
+    c.self.invariant.reserved (sym c.in-Some.ensures.temp) in
+    subst (λ s. IfErr c.add_to.result
+    (λ x. WriteFails c.args.entry.now x s.disk
+    (record {
+      path = c.self.inside.path;
+      root = c.self.inside.root;
+      capacity = c.self.inside.table.capacity;
+      entries = c.self.inside.table.entries;
+      pending =
+          c.self.inside.pending;
+    }) (g.F.Folder.held s.folder) (g.F.Folder.held c.add_to.new.folder)))
+    c.self.view_is (write_fails c.args.entry.now
+    (record {
+      path = c.self.inside.path;
+      root = c.self.inside.root;
+      capacity = c.self.inside.table.capacity;
+      entries = c.self.inside.table.entries;
+      pending =
+          c.self.inside.pending;
+    })
+    (record {
+      path = c.self.inside.path;
+      root = c.self.inside.root;
+      capacity = c.self.inside.table.capacity;
+      entries = c.self.inside.table.entries;
+      pending =
+          c.self.inside.pending;
+    }) c.in-Some.temp.now c.add_to.result (g.F.Folder.held c.self.inside.folder)
+    (g.F.Folder.held c.add_to.new.folder) c.self.invariant t.0 c.add_to.ensures.fails)
 
 pub returns-clause-others : goal.returns-clause-others
 returns-clause-others g c =
-    let t = temp_found c.self.inside.root c.in-Some.temp.now c.args.entry.now c.self.inside.pending c.self.invariant.reserved (sym c.in-Some.ensures.temp) in
-    subst (λ s. Became (ButAt (entry_path s.disk c.args.entry.now)) (g.F.Folder.held s.folder).files (g.F.Folder.held c.add_to.new.folder).files) c.self.view_is (subst (λ p. Became (ButAt p) (g.F.Folder.held c.self.inside.folder).files (g.F.Folder.held c.add_to.new.folder).files) t.0 c.add_to.ensures.others)
+    let t = temp_found c.self.inside.root c.in-Some.temp.now c.args.entry.now c.self.inside.pending
+    c.self.invariant.reserved (sym c.in-Some.ensures.temp) in
+    subst (λ s. Became (ButAt (entry_path s.disk c.args.entry.now)) (g.F.Folder.held s.folder).files
+    (g.F.Folder.held c.add_to.new.folder).files) c.self.view_is
+    (subst (λ p. Became (ButAt p) (g.F.Folder.held c.self.inside.folder).files
+    (g.F.Folder.held c.add_to.new.folder).files) t.0 c.add_to.ensures.others)
 
 pub returns-clause-kept : goal.returns-clause-kept
 returns-clause-kept g c =
-    let t = temp_found c.self.inside.root c.in-Some.temp.now c.args.entry.now c.self.inside.pending c.self.invariant.reserved (sym c.in-Some.ensures.temp) in
-    subst (λ s. Became (Keeps s.disk.root s.disk.entries) (g.F.Folder.held s.folder).files (g.F.Folder.held c.add_to.new.folder).files) c.self.view_is (keeps_avoided c.self.inside.root c.in-Some.temp.now c.self.inside.table.entries (g.F.Folder.held c.self.inside.folder).files (g.F.Folder.held c.add_to.new.folder).files (temp_avoids c.self.inside.root c.in-Some.temp.now c.args.entry.now.number c.self.inside.table.entries t.2 t.0 c.self.invariant.stands.keys) c.add_to.ensures.others)
+    let t = temp_found c.self.inside.root c.in-Some.temp.now c.args.entry.now c.self.inside.pending
+    c.self.invariant.reserved (sym c.in-Some.ensures.temp) in
+    subst (λ s. Became (Keeps s.disk.root s.disk.entries) (g.F.Folder.held s.folder).files
+    (g.F.Folder.held c.add_to.new.folder).files) c.self.view_is
+    (keeps_avoided c.self.inside.root c.in-Some.temp.now c.self.inside.table.entries
+    (g.F.Folder.held c.self.inside.folder).files (g.F.Folder.held c.add_to.new.folder).files
+    (temp_avoids c.self.inside.root c.in-Some.temp.now c.args.entry.now.number c.self.inside.table.entries
+    t.2 t.0 c.self.invariant.stands.keys) c.add_to.ensures.others)
 
 pub returns-clause-reserved : goal.returns-clause-reserved
 returns-clause-reserved g c =
-    let t = temp_found c.self.inside.root c.in-Some.temp.now c.args.entry.now c.self.inside.pending c.self.invariant.reserved (sym c.in-Some.ensures.temp) in
-    subst (λ s. Became (KeepsReserved (without_number c.args.entry.now.number s.disk.pending)) (g.F.Folder.held s.folder).files (g.F.Folder.held c.add_to.new.folder).files) c.self.view_is (at_reserved c.self.inside.root c.in-Some.temp.now c.args.entry.now.number (without_number c.args.entry.now.number c.self.inside.pending) (g.F.Folder.held c.self.inside.folder).files (g.F.Folder.held c.add_to.new.folder).files t.0 t.2 (none_without c.args.entry.now.number c.self.inside.pending) (all_without (IsReserved c.self.inside.root) c.args.entry.now.number c.self.inside.pending c.self.invariant.reserved) c.add_to.ensures.others)
+    let t = temp_found c.self.inside.root c.in-Some.temp.now c.args.entry.now c.self.inside.pending
+    c.self.invariant.reserved (sym c.in-Some.ensures.temp) in
+    subst (λ s. Became (KeepsReserved (without_number c.args.entry.now.number s.disk.pending))
+    (g.F.Folder.held s.folder).files (g.F.Folder.held c.add_to.new.folder).files) c.self.view_is
+    (at_reserved c.self.inside.root c.in-Some.temp.now c.args.entry.now.number
+    (without_number c.args.entry.now.number c.self.inside.pending)
+    (g.F.Folder.held c.self.inside.folder).files (g.F.Folder.held c.add_to.new.folder).files t.0 t.2
+    (none_without c.args.entry.now.number c.self.inside.pending)
+    (all_without (IsReserved c.self.inside.root) c.args.entry.now.number c.self.inside.pending
+    c.self.invariant.reserved) c.add_to.ensures.others)
 
 pub returns-clause-in_step : goal.returns-clause-in_step
 returns-clause-in_step g c =
-    let t = temp_found c.self.inside.root c.in-Some.temp.now c.args.entry.now c.self.inside.pending c.self.invariant.reserved (sym c.in-Some.ensures.temp) in
-    subst (λ s. DiskInStep (g.F.Folder.held s.folder) s.disk → OnOk c.add_to.result (DiskInStep (g.F.Folder.held c.add_to.new.folder) (record { path = c.self.inside.path; root = c.self.inside.root; capacity = c.self.inside.table.capacity; entries = c.self.inside.table.entries; pending = c.self.inside.pending }))) c.self.view_is (step_appended c.add_to.result (record { path = c.self.inside.path; root = c.self.inside.root; capacity = c.self.inside.table.capacity; entries = c.self.inside.table.entries; pending = c.self.inside.pending }) (g.F.Folder.held c.self.inside.folder) (g.F.Folder.held c.add_to.new.folder) c.in-Some.temp.now c.args.bytes.now c.args.entry.now.number t.0 t.2 c.add_to.ensures.ok)
+    let t = temp_found c.self.inside.root c.in-Some.temp.now c.args.entry.now c.self.inside.pending
+    c.self.invariant.reserved (sym c.in-Some.ensures.temp) in
+    subst (λ s. DiskInStep (g.F.Folder.held s.folder) s.disk
+    → OnOk c.add_to.result (DiskInStep (g.F.Folder.held c.add_to.new.folder)
+    (record {
+      path = c.self.inside.path;
+      root = c.self.inside.root;
+      capacity = c.self.inside.table.capacity;
+      entries = c.self.inside.table.entries;
+      pending =
+          c.self.inside.pending;
+    }))) c.self.view_is
+    (step_appended c.add_to.result
+    (record {
+      path = c.self.inside.path;
+      root = c.self.inside.root;
+      capacity = c.self.inside.table.capacity;
+      entries = c.self.inside.table.entries;
+      pending =
+          c.self.inside.pending;
+    }) (g.F.Folder.held c.self.inside.folder) (g.F.Folder.held c.add_to.new.folder)
+    c.in-Some.temp.now c.args.bytes.now c.args.entry.now.number t.0 t.2 c.add_to.ensures.ok)

@@ -5,10 +5,16 @@ use Rattle.lru_disk_cache.proofs.Parts.{written}
 use Rattle.lru_disk_cache.proofs.mem_folder.MemFolderFolder.write.Goals as goal
 
 pub invariant_of-self-2 : goal.invariant_of-self-2
-invariant_of-self-2 c = record { distinct = put_distinct c.args.path.now _ c.args.self.now.files.items c.put.new.files.items c.in_ok-put.ensures.ok c.args.self.now.distinct }
+invariant_of-self-2 c = record {
+  distinct = put_distinct c.args.path.now _ c.args.self.now.files.items
+      c.put.new.files.items c.in_ok-put.ensures.ok c.args.self.now.distinct;
+}
 
 pub returns-clause-writes : goal.returns-clause-writes
 returns-clause-writes c =
-    written c.args.path.now c.args.bytes.now c.args.self.now.files.items c.put.new.files.items c.end.result c.in_ok-breaks.breaks c.args.self.now.calls.faults c.end.new.self.faults c.in_ok-put.ensures.ok c.end.ensures.answer
-    (ap (λ k. k.faults) c.end.ensures.calls ∙ ap (λ n. if c.in_ok-breaks.breaks then counted n else n) c.in_ok-breaks.ensures.steady)
+    written c.args.path.now c.args.bytes.now c.args.self.now.files.items c.put.new.files.items c.end.result
+    c.in_ok-breaks.breaks c.args.self.now.calls.faults c.end.new.self.faults c.in_ok-put.ensures.ok
+    c.end.ensures.answer
+    (ap (λ k. k.faults) c.end.ensures.calls
+    ∙ ap (λ n. if c.in_ok-breaks.breaks then counted n else n) c.in_ok-breaks.ensures.steady)
     (omega (arith, c.end.ensures.later, c.in_ok-breaks.ensures.steady))

@@ -6,4 +6,5 @@ use Rattle.lru_disk_cache.proofs.table.Table.unlist.Goals as goal
 
 pub returns-clause-absent : goal.returns-clause-absent
 returns-clause-absent c =
-    ap (λ m. lookup (bytes_eq c.args.key.now) m.pairs) c.remove-size.ensures.others ∙ unlisted c.args.key.now c.self.inside.list.pairs c.len-len.ensures.valid.distinct
+    ap (λ m. lookup (bytes_eq c.args.key.now) m.pairs) c.remove-size.ensures.others
+    ∙ unlisted c.args.key.now c.self.inside.list.pairs c.len-len.ensures.valid.distinct

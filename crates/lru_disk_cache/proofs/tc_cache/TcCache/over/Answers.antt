@@ -5,7 +5,8 @@ use Rattle.lru_disk_cache.proofs.tc_cache.TcCache.over.Goals as goal
 
 pub invariant_of-opened : goal.invariant_of-opened
 invariant_of-opened g c = record {
-  keys = are_keys c.args.cache.disk.entries (ap are_archive_keys (sym c.entries.ensures.rest) ∙ (sym c.in-Ok.ensures ∙ c.if-not-all.false));
+  keys = are_keys c.args.cache.disk.entries (ap are_archive_keys (sym c.entries.ensures.rest)
+      ∙ (sym c.in-Ok.ensures ∙ c.if-not-all.false));
   root = c.requires.root;
   none = c.requires.none;
   hold = c.requires.hold;

@@ -6,6 +6,9 @@ use Rattle.lru_disk_cache.proofs.tc_cache.TcCache.shown.Goals as goal
 
 pub returns : goal.returns
 returns g c =
-    let fits : total c.self.inside.cache.disk.entries ≤ c.self.inside.cache.disk.capacity = omega (arith, c.size-sum.ensures.stands.fits) in
-    let stands = subst (λ s. IsArchiveStore s.path s.capacity s.archives (g.F.Folder.held s.folder)) c.self.view_is (keyed_store (g.F.Folder.held c.self.inside.cache.folder) c.self.inside.cache.disk c.self.invariant c.len-len.ensures.distinct fits) in
+    let fits : total c.self.inside.cache.disk.entries ≤ c.self.inside.cache.disk.capacity =
+    omega (arith, c.size-sum.ensures.stands.fits) in
+    let stands = subst (λ s. IsArchiveStore s.path s.capacity s.archives (g.F.Folder.held s.folder))
+    c.self.view_is (keyed_store (g.F.Folder.held c.self.inside.cache.folder) c.self.inside.cache.disk
+    c.self.invariant c.len-len.ensures.distinct fits) in
     record { stands = stands }

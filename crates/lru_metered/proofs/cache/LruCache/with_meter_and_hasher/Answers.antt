@@ -5,5 +5,6 @@ pub invariant_of-result : goal.invariant_of-result
 invariant_of-result g c =
     rw c.new.ensures (
       g.met.M.CountableMeter.default_is_zero c.args.meter c.default.result c.default.ensures,
-      elim (g.M.CountableMeter.gives_size c.args.meter) as (λ b. cond b 0 0 ≤ c.args.capacity) [ true ↦ omega arith | false ↦ omega arith ],
+      elim (g.M.CountableMeter.gives_size c.args.meter) as
+          (λ b. cond b 0 0 ≤ c.args.capacity) [ true ↦ omega arith | false ↦ omega arith ],
     )

@@ -9,12 +9,15 @@ pub index-requires : goal.index-requires
 index-requires g c =
     let s = c.self.inside.nodes in let key = c.args.key in
     let order = walk (links s) (length s.slots) c.self.inside.first in
-    let cut = cut-at (links s) c.self.inside.first c.self.inside.last order key c.self.invariant (subst (λ o. Contains o key) (sym (ap (λ v. v.order) c.self.view_is)) c.requires) in
+    let cut = cut-at (links s) c.self.inside.first c.self.inside.last order key c.self.invariant
+    (subst (λ o. Contains o key) (sym (ap (λ v. v.order) c.self.view_is)) c.requires) in
     sym (links-some (get s key)) ∙ ap is_some cut.ends
 
 pub returns : goal.returns
 returns g c = λ front back is.
     let s = c.self.inside.nodes in let key = c.args.key in let node = c.index.result.now in
     let order = walk (links s) (length s.slots) c.self.inside.first in
-    let there = links-cut (links s) c.self.inside.first c.self.inside.last order key front back c.self.invariant (ap (λ v. v.order) c.self.view_is ∙ is) in
-    ap (λ (e : Ends). e.1) (ap (λ o. unwrap_or o (ends_of node)) (sym (ap (option_map ends_of) c.index.ensures) ∙ there))
+    let there = links-cut (links s) c.self.inside.first c.self.inside.last order key front back
+    c.self.invariant (ap (λ v. v.order) c.self.view_is ∙ is) in
+    ap (λ (e : Ends). e.1) (ap (λ o. unwrap_or o (ends_of node))
+    (sym (ap (option_map ends_of) c.index.ensures) ∙ there))

@@ -8,17 +8,39 @@ use Rattle.lru_metered.proofs.chain.Chain.item_mut.Goals as goal
 
 pub invariant_of-self-lent : goal.invariant_of-self-lent
 invariant_of-self-lent g c = λ w.
-    let s = c.self.inside.nodes in let first = c.self.inside.first in let last = c.self.inside.last in let n = c.index_mut-node.result.now in
+    let s = c.self.inside.nodes in let first = c.self.inside.first in let last = c.self.inside.last in let n =
+    c.index_mut-node.result.now in
     let order = walk (links s) (length s.slots) first in
-    settled (with_value s c.args.key (record { item = w; previous = n.previous; next = n.next })) first last order (chain-item s c.args.key n (record { item = w; previous = n.previous; next = n.next }) first last order c.index_mut-node.ensures.value refl c.self.invariant)
+    settled (with_value s c.args.key (record { item = w; previous = n.previous; next = n.next })) first last
+    order (chain-item s c.args.key n (record { item = w; previous = n.previous; next = n.next }) first
+    last order c.index_mut-node.ensures.value refl c.self.invariant)
 
 pub returns : goal.returns
 returns g c =
-    let s = c.self.inside.nodes in let first = c.self.inside.first in let last = c.self.inside.last in let n = c.index_mut-node.result.now in let key = c.args.key in
+    let s = c.self.inside.nodes in let first = c.self.inside.first in let last = c.self.inside.last in let n =
+    c.index_mut-node.result.now in let key = c.args.key in
     let order = walk (links s) (length s.slots) first in
-    let kept = λ (w : g.row.T.Denot). order-walked (with_value s key (record { item = w; previous = n.previous; next = n.next })) first last order (chain-item s key n (record { item = w; previous = n.previous; next = n.next }) first last order c.index_mut-node.ensures.value refl c.self.invariant) in
-    let items = λ (w : g.row.T.Denot). map-set (option_map item_of) s.slots key (Some (record { item = w; previous = n.previous; next = n.next })) in
+    let kept = λ (w : g.row.T.Denot).
+    order-walked (with_value s key (record { item = w; previous = n.previous; next = n.next })) first last
+    order (chain-item s key n (record { item = w; previous = n.previous; next = n.next }) first last order
+    c.index_mut-node.ensures.value refl c.self.invariant) in
+    let items = λ (w : g.row.T.Denot). map-set (option_map item_of) s.slots key
+    (Some (record { item = w; previous = n.previous; next = n.next })) in
     rw (← c.self.view_is) (
-      (refl, λ w. λ i. record { items = record { slots = items w i; vacant_key = s.vacant_key; capacity = s.capacity }; order = kept w i }),
-      record { writes_back = tt; value = get-items s.slots key ∙ ap (option_map item_of) c.index_mut-node.ensures.value },
+      (
+        refl,
+        λ w. λ i. record {
+          items = record {
+            slots = items w i;
+            vacant_key = s.vacant_key;
+            capacity = s.capacity;
+          };
+          order = kept w i;
+        },
+      ),
+      record {
+        writes_back = tt;
+        value = get-items s.slots key
+            ∙ ap (option_map item_of) c.index_mut-node.ensures.value;
+      },
     )

@@ -6,7 +6,9 @@ use Rattle.lru_metered.proofs.chain.Chain.reserve.Goals as goal
 
 pub invariant_of-self : goal.invariant_of-self
 invariant_of-self g c =
-    subst (λ s. IsChain (links s) c.self.inside.first c.self.inside.last (walk (links s) (length s.slots) c.self.inside.first)) (sym c.reserve.ensures.rest_kept) c.self.invariant
+    subst (λ s. IsChain (links s) c.self.inside.first c.self.inside.last
+    (walk (links s) (length s.slots) c.self.inside.first))
+    (sym c.reserve.ensures.rest_kept) c.self.invariant
 
 pub returns-clause-succeeds : goal.returns-clause-succeeds
 returns-clause-succeeds g c = λ room.

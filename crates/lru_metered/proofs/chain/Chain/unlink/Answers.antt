@@ -1,43 +1,65 @@
 use Rattle.std.proofs.Common.{◌++◌, None, is_some, Contains, length, sym, ap, ◌∙◌, subst}
 use Rattle.lru_metered.specs.Chain.{links, walk, with_ends, without}
-use Rattle.lru_metered.proofs.ChainLemmas.{cut-at, ends-held, unlinked-chain, without-at, settled, order-walked, outer_end}
+use Rattle.lru_metered.proofs.ChainLemmas.{cut-at, ends-held, unlinked-chain, without-at, settled}
+use Rattle.lru_metered.proofs.ChainLemmas.{order-walked, outer_end}
 use Rattle.lru_metered.proofs.chain.Chain.unlink.Goals as goal
 
 pub relink-ends-requires : goal.relink-ends-requires
 relink-ends-requires g c =
-    let s = c.self.inside.nodes in let first = c.self.inside.first in let last = c.self.inside.last in let key = c.args.at in
+    let s = c.self.inside.nodes in let first = c.self.inside.first in let last = c.self.inside.last
+    in let key = c.args.at in
     let order = walk (links s) (length s.slots) first in
-    let cut = cut-at (links s) first last order key c.self.invariant (subst (λ o. Contains o key) (sym (ap (λ v. v.order) c.self.view_is)) c.requires) in
+    let cut = cut-at (links s) first last order key c.self.invariant
+    (subst (λ o. Contains o key) (sym (ap (λ v. v.order) c.self.view_is)) c.requires) in
     ap is_some cut.ends
 
 pub join-requires-clause-previous : goal.join-requires-clause-previous
 join-requires-clause-previous g c =
-    let s = c.self.inside.nodes in let first = c.self.inside.first in let last = c.self.inside.last in let key = c.args.at in
+    let s = c.self.inside.nodes in let first = c.self.inside.first in let last = c.self.inside.last
+    in let key = c.args.at in
     let order = walk (links s) (length s.slots) first in
-    let cut = cut-at (links s) first last order key c.self.invariant (subst (λ o. Contains o key) (sym (ap (λ v. v.order) c.self.view_is)) c.requires) in
-    (ends-held (links s) (links c.relink-ends.new.nodes) first last order key c.relink-ends.result (with_ends None None) cut c.relink-ends.ensures.was c.relink-ends.ensures.changed).0
+    let cut = cut-at (links s) first last order key c.self.invariant
+    (subst (λ o. Contains o key) (sym (ap (λ v. v.order) c.self.view_is)) c.requires) in
+    (ends-held (links s) (links c.relink-ends.new.nodes) first last order key c.relink-ends.result
+    (with_ends None None) cut c.relink-ends.ensures.was c.relink-ends.ensures.changed).0
 
 pub join-requires-clause-next : goal.join-requires-clause-next
 join-requires-clause-next g c =
-    let s = c.self.inside.nodes in let first = c.self.inside.first in let last = c.self.inside.last in let key = c.args.at in
+    let s = c.self.inside.nodes in let first = c.self.inside.first in let last = c.self.inside.last
+    in let key = c.args.at in
     let order = walk (links s) (length s.slots) first in
-    let cut = cut-at (links s) first last order key c.self.invariant (subst (λ o. Contains o key) (sym (ap (λ v. v.order) c.self.view_is)) c.requires) in
-    (ends-held (links s) (links c.relink-ends.new.nodes) first last order key c.relink-ends.result (with_ends None None) cut c.relink-ends.ensures.was c.relink-ends.ensures.changed).1
+    let cut = cut-at (links s) first last order key c.self.invariant
+    (subst (λ o. Contains o key) (sym (ap (λ v. v.order) c.self.view_is)) c.requires) in
+    (ends-held (links s) (links c.relink-ends.new.nodes) first last order key c.relink-ends.result
+    (with_ends None None) cut c.relink-ends.ensures.was c.relink-ends.ensures.changed).1
 
 pub invariant_of-self : goal.invariant_of-self
 invariant_of-self g c =
-    let s = c.self.inside.nodes in let first = c.self.inside.first in let last = c.self.inside.last in let key = c.args.at in
+    let s = c.self.inside.nodes in let first = c.self.inside.first in let last = c.self.inside.last
+    in let key = c.args.at in
     let order = walk (links s) (length s.slots) first in
-    let cut = cut-at (links s) first last order key c.self.invariant (subst (λ o. Contains o key) (sym (ap (λ v. v.order) c.self.view_is)) c.requires) in
+    let cut = cut-at (links s) first last order key c.self.invariant
+    (subst (λ o. Contains o key) (sym (ap (λ v. v.order) c.self.view_is)) c.requires) in
     let ends = c.relink-ends.result in let new = c.join.new.nodes in let joined = c.join.ensures.changed in
-    let made = unlinked-chain (links s) (links c.relink-ends.new.nodes) joined.0 (links new) first last order key ends (None, None) cut c.relink-ends.ensures.was c.relink-ends.ensures.changed joined.1 joined.2 in
-    rw (c.outer-self-inside.ensures, c.outer-self-inside-2.ensures) (settled new (outer_end first ends.0 ends.1) (outer_end last ends.1 ends.0) (cut.front ++ cut.back) made)
+    let made = unlinked-chain (links s) (links c.relink-ends.new.nodes) joined.0
+    (links new) first last order key ends (None, None) cut c.relink-ends.ensures.was
+    c.relink-ends.ensures.changed joined.1 joined.2 in
+    rw (c.outer-self-inside.ensures, c.outer-self-inside-2.ensures)
+    (settled new (outer_end first ends.0 ends.1) (outer_end last ends.1 ends.0)
+    (cut.front ++ cut.back) made)
 
 pub returns-clause-order : goal.returns-clause-order
 returns-clause-order g c =
-    let s = c.self.inside.nodes in let first = c.self.inside.first in let last = c.self.inside.last in let key = c.args.at in
+    let s = c.self.inside.nodes in let first = c.self.inside.first in let last = c.self.inside.last
+    in let key = c.args.at in
     let order = walk (links s) (length s.slots) first in
-    let cut = cut-at (links s) first last order key c.self.invariant (subst (λ o. Contains o key) (sym (ap (λ v. v.order) c.self.view_is)) c.requires) in
+    let cut = cut-at (links s) first last order key c.self.invariant
+    (subst (λ o. Contains o key) (sym (ap (λ v. v.order) c.self.view_is)) c.requires) in
     let ends = c.relink-ends.result in let new = c.join.new.nodes in let joined = c.join.ensures.changed in
-    let made = unlinked-chain (links s) (links c.relink-ends.new.nodes) joined.0 (links new) first last order key ends (None, None) cut c.relink-ends.ensures.was c.relink-ends.ensures.changed joined.1 joined.2 in
-    rw c.outer-self-inside.ensures (order-walked new (outer_end first ends.0 ends.1) (outer_end last ends.1 ends.0) (cut.front ++ cut.back) made ∙ sym (without-at (links s) first last order key cut) ∙ ap (λ v. without key v.order) c.self.view_is)
+    let made = unlinked-chain (links s) (links c.relink-ends.new.nodes) joined.0
+    (links new) first last order key ends (None, None) cut c.relink-ends.ensures.was
+    c.relink-ends.ensures.changed joined.1 joined.2 in
+    rw c.outer-self-inside.ensures
+    (order-walked new (outer_end first ends.0 ends.1) (outer_end last ends.1 ends.0)
+    (cut.front ++ cut.back) made ∙ sym (without-at (links s) first last order key cut)
+    ∙ ap (λ v. without key v.order) c.self.view_is)

@@ -4,4 +4,5 @@ use Rattle.lru_metered.proofs.iter.IntoIterExactSizeIterator.len.Goals as goal
 
 pub returns-clause-value : goal.returns-clause-value
 returns-clause-value g c =
-    c.len.ensures ∙ (c.self.invariant.counted ∙ (sym (length-pairs c.self.inside.nodes c.self.invariant) ∙ ap length c.self.view_is))
+    c.len.ensures ∙ (c.self.invariant.counted ∙ (sym (length-pairs c.self.inside.nodes c.self.invariant)
+    ∙ ap length c.self.view_is))

@@ -13,11 +13,16 @@ returns-in_err-at-clause-steps g c =
 pub returns-clause-steps : goal.returns-clause-steps
 returns-clause-steps g c =
     let old = c.self.inside.nodes in let new = c.take_out.new.nodes in
-    sym c.self.view_is ∙ first-taken old new c.self.invariant c.in_ok-at.at c.take_out.result c.take_out.ensures.pair c.take_out.ensures.order
-    (λ x differs. ap (option_map pair_of) (c.take_out.ensures.updates.others x differs)) (sym c.in_ok-at.ensures)
+    sym c.self.view_is ∙ first-taken old new c.self.invariant c.in_ok-at.at c.take_out.result
+    c.take_out.ensures.pair c.take_out.ensures.order
+    (λ x differs. ap (option_map pair_of) (c.take_out.ensures.updates.others x differs))
+    (sym c.in_ok-at.ensures)
 
 pub returns-clause-goes : goal.returns-clause-goes
 returns-clause-goes g c =
     let old = c.self.inside.nodes in let new = c.take_out.new.nodes in
-    first_progress (λ p. p) _ _ _ (sym c.self.view_is ∙ first-taken old new c.self.invariant c.in_ok-at.at c.take_out.result c.take_out.ensures.pair c.take_out.ensures.order
-    (λ x differs. ap (option_map pair_of) (c.take_out.ensures.updates.others x differs)) (sym c.in_ok-at.ensures))
+    first_progress (λ p. p) _ _ _
+    (sym c.self.view_is ∙ first-taken old new c.self.invariant c.in_ok-at.at c.take_out.result
+    c.take_out.ensures.pair c.take_out.ensures.order
+    (λ x differs. ap (option_map pair_of) (c.take_out.ensures.updates.others x differs))
+    (sym c.in_ok-at.ensures))

@@ -3,7 +3,8 @@ use Rattle.sched.proofs.scheduler.Scheduler.handle_alloc_job.Goals as goal
 
 pub returns-in-Ok-NoRoom : goal.returns-in-Ok-NoRoom
 returns-in-Ok-NoRoom g c = record {
-  allocation = none_has_room _ _ c.in-Ok-NoRoom.standing _ _ _ _ _ _ c.in-Ok-NoRoom.ensures.counted c.in-Ok-NoRoom.ensures.read c.no_room.ensures;
+  allocation = none_has_room _ _ c.in-Ok-NoRoom.standing _ _ _ _ _ _ c.in-Ok-NoRoom.ensures.counted
+      c.in-Ok-NoRoom.ensures.read c.no_room.ensures;
 }
 
 pub returns : goal.returns

@@ -5,7 +5,8 @@ use Rattle.sched.proofs.scheduler.Scheduler.settle.Goals as goal
 pub returns-else-begins : goal.returns-else-begins
 returns-else-begins g c =
     rw c.in-Ok.is
-    (gave_back _ _ _ _ _ _ _ _ c.undo-undone.ensures.counted c.undo-undone.ensures.read (sym c.begins.ensures ∙ c.if-begins.false, refl))
+    (gave_back _ _ _ _ _ _ _ _ c.undo-undone.ensures.counted c.undo-undone.ensures.read
+    (sym c.begins.ensures ∙ c.if-begins.false, refl))
 
 pub returns-in-Err : goal.returns-in-Err
 returns-in-Err g c =

@@ -8,4 +8,9 @@ invariant_of-self c =
     let old = c.self.inside.vectors in
     let new = c.absorb.new.books in
     let step = c.args.step.now in
-    rw c.absorb.ensures.unspent (opened (lists_of old) step.now c.args.number step.kind (vec_len old.open_ones) (vec_capacity old.open_ones) (vec_len new.open_ones) (vec_capacity new.open_ones) (rw (← c.self.view_is) at c.requires.spends) (λ may. (has_rooms old (rw (← c.self.view_is) at (c.requires.job_room may))).1) c.self.invariant c.absorb.ensures.open_len c.absorb.ensures.open_capacity)
+    rw c.absorb.ensures.unspent
+    (opened (lists_of old) step.now c.args.number step.kind (vec_len old.open_ones)
+    (vec_capacity old.open_ones) (vec_len new.open_ones) (vec_capacity new.open_ones)
+    (rw (← c.self.view_is) at c.requires.spends)
+    (λ may. (has_rooms old (rw (← c.self.view_is) at (c.requires.job_room may))).1) c.self.invariant
+    c.absorb.ensures.open_len c.absorb.ensures.open_capacity)

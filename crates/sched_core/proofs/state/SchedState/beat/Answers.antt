@@ -10,10 +10,12 @@ pub take-requires-clause-rule : goal.take-requires-clause-rule
 take-requires-clause-rule g c κs within =
     let s = c.self.inside in
     let a = c.args in
-    let entry = rw (c.key.ensures.key, c.self.invariant.books.rows, c.self.invariant.books.held) at c.in_ok-entry.ensures in
+    let entry = rw (c.key.ensures.key, c.self.invariant.books.rows, c.self.invariant.books.held) at
+    c.in_ok-entry.ensures in
     let some : 1 ≤ a.cpus = omega arith in
     let few : a.cpus ≤ 4294967295 = omega arith in
-    subst (λ l. IsRule (core_of s.base s.count l) c.in_ok-entry.entry) (sym c.in_ok-make_row_room.ensures.log) (call.Beat a.now a.server a.nonce a.cpus (g.A.JobAuthorizer.key_of a.key), (some, few), entry)
+    subst (λ l. IsRule (core_of s.base s.count l) c.in_ok-entry.entry) (sym c.in_ok-make_row_room.ensures.log)
+    (call.Beat a.now a.server a.nonce a.cpus (g.A.JobAuthorizer.key_of a.key), (some, few), entry)
 
 pub take-requires-clause-spends : goal.take-requires-clause-spends
 take-requires-clause-spends g c κs within = rw c.in_ok-entry.ensures tt
@@ -22,4 +24,7 @@ pub take-requires-clause-job_room : goal.take-requires-clause-job_room
 take-requires-clause-job_room g c κs within = rw c.in_ok-entry.ensures (λ may. absurd may)
 
 pub take-requires-clause-log_room : goal.take-requires-clause-log_room
-take-requires-clause-log_room g c κs within = rw c.in_ok-make_row_room.ensures.lists (log_room-one c.self.inside.books.lists c.in_ok-entry.entry (length c.make_row_room.new.log.items) (vec_len c.make_row_room.new.log) (vec_capacity c.make_row_room.new.log) c.in_ok-make_row_room.ensures.spare)
+take-requires-clause-log_room g c κs within = rw c.in_ok-make_row_room.ensures.lists
+    (log_room-one c.self.inside.books.lists c.in_ok-entry.entry (length c.make_row_room.new.log.items)
+    (vec_len c.make_row_room.new.log) (vec_capacity c.make_row_room.new.log)
+    c.in_ok-make_row_room.ensures.spare)

@@ -19,9 +19,11 @@ returns-then-not-is_unspent-clause-logged g c =
     let a = c.args in
     let number = c.number-number.result in
     let job : JobId = c.job_id-job.result in
-    let listed : c.is_unspent.result ≡ list_any (λ u. (u.number == number) && same_job u.job job) s.books.lists.unspent = c.is_unspent.ensures in
+    let listed : c.is_unspent.result ≡ list_any (λ u. (u.number == number) && same_job u.job job)
+    s.books.lists.unspent = c.is_unspent.ensures in
     let among = spent_among s.books.lists.unspent s.log.items number job c.self.invariant.books.unspent in
-    let asked = ap (λ n. is_among (unspent s.log.items) n job) c.number-number.ensures.number ∙ ap (is_among (unspent s.log.items) a.r.number) c.job_id-job.ensures.job in
+    let asked = ap (λ n. is_among (unspent s.log.items) n job) c.number-number.ensures.number
+    ∙ ap (is_among (unspent s.log.items) a.r.number) c.job_id-job.ensures.job in
     rw (← c.self.view_is, sym asked ∙ sym among ∙ sym listed ∙ c.if-not-is_unspent.true) refl
 
 pub returns-then-not-is_unspent-clause-answer : goal.returns-then-not-is_unspent-clause-answer
@@ -30,10 +32,16 @@ returns-then-not-is_unspent-clause-answer g c =
     let a = c.args in
     let number = c.number-number.result in
     let job : JobId = c.job_id-job.result in
-    let listed : c.is_unspent.result ≡ list_any (λ u. (u.number == number) && same_job u.job job) s.books.lists.unspent = c.is_unspent.ensures in
+    let listed : c.is_unspent.result ≡ list_any (λ u. (u.number == number) && same_job u.job job)
+    s.books.lists.unspent = c.is_unspent.ensures in
     let among = spent_among s.books.lists.unspent s.log.items number job c.self.invariant.books.unspent in
-    let asked = ap (λ n. is_among (unspent s.log.items) n job) c.number-number.ensures.number ∙ ap (is_among (unspent s.log.items) a.r.number) c.job_id-job.ensures.job in
-    rw (← c.self.view_is, sym asked ∙ sym among ∙ sym listed ∙ c.if-not-is_unspent.true, c.job_id-job.ensures.job) refl
+    let asked = ap (λ n. is_among (unspent s.log.items) n job) c.number-number.ensures.number
+    ∙ ap (is_among (unspent s.log.items) a.r.number) c.job_id-job.ensures.job in
+    rw (
+      ← c.self.view_is,
+      sym asked ∙ sym among ∙ sym listed ∙ c.if-not-is_unspent.true,
+      c.job_id-job.ensures.job,
+    ) refl
 
 pub take-requires-clause-rule : goal.take-requires-clause-rule
 take-requires-clause-rule g c κs within =
@@ -41,13 +49,20 @@ take-requires-clause-rule g c κs within =
     let a = c.args in
     let number = c.number-number.result in
     let job : JobId = c.job_id-job.result in
-    let listed : c.is_unspent.result ≡ list_any (λ u. (u.number == number) && same_job u.job job) s.books.lists.unspent = c.is_unspent.ensures in
+    let listed : c.is_unspent.result ≡ list_any (λ u. (u.number == number) && same_job u.job job)
+    s.books.lists.unspent = c.is_unspent.ensures in
     let among = spent_among s.books.lists.unspent s.log.items number job c.self.invariant.books.unspent in
-    let kept : c.is_held-kept.result ≡ is_among (unended s.log.items) number job = c.is_held-kept.ensures ∙ held_among s.books.lists.held s.log.items number job c.self.invariant.books.held in
-    (call.Commit a.now number job a.state, (sym among ∙ sym listed ∙ c.if-not-is_unspent.false, c.requires.begins), ap (λ b. record { now = a.now; kind = Commit job a.state b }) kept)
+    let kept : c.is_held-kept.result ≡ is_among (unended s.log.items) number job = c.is_held-kept.ensures
+    ∙ held_among s.books.lists.held s.log.items number job c.self.invariant.books.held in (
+      call.Commit a.now number job a.state,
+      (sym among ∙ sym listed ∙ c.if-not-is_unspent.false, c.requires.begins),
+      ap (λ b. record { now = a.now; kind = Commit job a.state b }) kept,
+    )
 
 pub take-requires-clause-spends : goal.take-requires-clause-spends
-take-requires-clause-spends g c κs within = spends_one c.self.inside.books.lists.unspent c.number-number.result c.job_id-job.result (sym c.is_unspent.ensures ∙ c.if-not-is_unspent.false)
+take-requires-clause-spends g c κs within =
+    spends_one c.self.inside.books.lists.unspent c.number-number.result c.job_id-job.result
+    (sym c.is_unspent.ensures ∙ c.if-not-is_unspent.false)
 
 pub take-requires-clause-log_room : goal.take-requires-clause-log_room
 take-requires-clause-log_room g c κs within =
@@ -55,9 +70,13 @@ take-requires-clause-log_room g c κs within =
     let a = c.args in
     let number = c.number-number.result in
     let job : JobId = c.job_id-job.result in
-    let listed : c.is_unspent.result ≡ list_any (λ u. (u.number == number) && same_job u.job job) s.books.lists.unspent = c.is_unspent.ensures in
+    let listed : c.is_unspent.result ≡ list_any (λ u. (u.number == number) && same_job u.job job)
+    s.books.lists.unspent = c.is_unspent.ensures in
     let among = spent_among s.books.lists.unspent s.log.items number job c.self.invariant.books.unspent in
-    log_room-spent s.books.lists a.now (length s.log.items) (Commit job a.state c.is_held-kept.result) (vec_len s.log) (vec_capacity s.log) (spends_one s.books.lists.unspent number job (sym listed ∙ c.if-not-is_unspent.false)) c.self.invariant.log_room
+    log_room-spent s.books.lists a.now (length s.log.items) (Commit job a.state c.is_held-kept.result)
+    (vec_len s.log) (vec_capacity s.log)
+    (spends_one s.books.lists.unspent number job (sym listed ∙ c.if-not-is_unspent.false))
+    c.self.invariant.log_room
 
 pub returns-clause-logged : goal.returns-clause-logged
 returns-clause-logged g c =
@@ -65,12 +84,22 @@ returns-clause-logged g c =
     let a = c.args in
     let number = c.number-number.result in
     let job : JobId = c.job_id-job.result in
-    let listed : c.is_unspent.result ≡ list_any (λ u. (u.number == number) && same_job u.job job) s.books.lists.unspent = c.is_unspent.ensures in
+    let listed : c.is_unspent.result ≡ list_any (λ u. (u.number == number) && same_job u.job job)
+    s.books.lists.unspent = c.is_unspent.ensures in
     let among = spent_among s.books.lists.unspent s.log.items number job c.self.invariant.books.unspent in
-    let asked = ap (λ n. is_among (unspent s.log.items) n job) c.number-number.ensures.number ∙ ap (is_among (unspent s.log.items) a.r.number) c.job_id-job.ensures.job in
-    let kept : c.is_held-kept.result ≡ is_among (unended s.log.items) number job = c.is_held-kept.ensures ∙ held_among s.books.lists.held s.log.items number job c.self.invariant.books.held in
-    let kept_r = kept ∙ ap (λ n. is_among (unended s.log.items) n job) c.number-number.ensures.number ∙ ap (is_among (unended s.log.items) a.r.number) c.job_id-job.ensures.job in
-    rw (← c.self.view_is, c.take.ensures.log, c.job_id-job.ensures.job, sym asked ∙ sym among ∙ sym listed ∙ c.if-not-is_unspent.false)
+    let asked = ap (λ n. is_among (unspent s.log.items) n job) c.number-number.ensures.number
+    ∙ ap (is_among (unspent s.log.items) a.r.number) c.job_id-job.ensures.job in
+    let kept : c.is_held-kept.result ≡ is_among (unended s.log.items) number job = c.is_held-kept.ensures
+    ∙ held_among s.books.lists.held s.log.items number job c.self.invariant.books.held in
+    let kept_r = kept ∙ ap (λ n. is_among (unended s.log.items) n job) c.number-number.ensures.number
+    ∙ ap (is_among (unended s.log.items) a.r.number) c.job_id-job.ensures.job in
+    rw (
+      ← c.self.view_is,
+      c.take.ensures.log,
+      c.job_id-job.ensures.job,
+      sym asked ∙ sym among ∙ sym listed
+          ∙ c.if-not-is_unspent.false,
+    )
     (ap (λ b. logged (core_of s.base s.count s.log.items) (commit_by b a.now a.r.job a.state)) kept_r)
 
 pub returns-clause-answer : goal.returns-clause-answer
@@ -79,12 +108,18 @@ returns-clause-answer g c =
     let a = c.args in
     let number = c.number-number.result in
     let job : JobId = c.job_id-job.result in
-    let listed : c.is_unspent.result ≡ list_any (λ u. (u.number == number) && same_job u.job job) s.books.lists.unspent = c.is_unspent.ensures in
+    let listed : c.is_unspent.result ≡ list_any (λ u. (u.number == number) && same_job u.job job)
+    s.books.lists.unspent = c.is_unspent.ensures in
     let among = spent_among s.books.lists.unspent s.log.items number job c.self.invariant.books.unspent in
-    let asked = ap (λ n. is_among (unspent s.log.items) n job) c.number-number.ensures.number ∙ ap (is_among (unspent s.log.items) a.r.number) c.job_id-job.ensures.job in
-    let kept : c.is_held-kept.result ≡ is_among (unended s.log.items) number job = c.is_held-kept.ensures ∙ held_among s.books.lists.held s.log.items number job c.self.invariant.books.held in
-    let kept_r = kept ∙ ap (λ n. is_among (unended s.log.items) n job) c.number-number.ensures.number ∙ ap (is_among (unended s.log.items) a.r.number) c.job_id-job.ensures.job in
+    let asked = ap (λ n. is_among (unspent s.log.items) n job) c.number-number.ensures.number
+    ∙ ap (is_among (unspent s.log.items) a.r.number) c.job_id-job.ensures.job in
+    let kept : c.is_held-kept.result ≡ is_among (unended s.log.items) number job = c.is_held-kept.ensures
+    ∙ held_among s.books.lists.held s.log.items number job c.self.invariant.books.held in
+    let kept_r = kept ∙ ap (λ n. is_among (unended s.log.items) n job) c.number-number.ensures.number
+    ∙ ap (is_among (unended s.log.items) a.r.number) c.job_id-job.ensures.job in
     rw (← c.self.view_is, sym asked ∙ sym among ∙ sym listed ∙ c.if-not-is_unspent.false)
     (c.committed.ensures
-    ∙ ap (λ x. if c.is_held-kept.result then committed.Kept x else committed.Dropped x.job_id) c.into_alloc-alloc.ensures.alloc
-    ∙ ap (λ b. if b then committed.Kept (record { auth = a.r.auth; job_id = a.r.job; server_id = a.r.server }) else committed.Dropped a.r.job) kept_r)
+    ∙ ap (λ x. if c.is_held-kept.result then committed.Kept x else committed.Dropped x.job_id)
+    c.into_alloc-alloc.ensures.alloc
+    ∙ ap (λ b. if b then committed.Kept (record { auth = a.r.auth; job_id = a.r.job; server_id = a.r.server })
+    else committed.Dropped a.r.job) kept_r)

@@ -4,4 +4,6 @@ use Rattle.sched_core.proofs.state.SchedState.jobs.Goals as goal
 pub returns-clause-jobs : goal.returns-clause-jobs
 returns-clause-jobs g c =
     let s = c.self.inside in
-    rw (← c.self.view_is, c.jobs.ensures.jobs) (jobs_are s.log.items s.books.lists.jobs c.self.invariant.books.jobs c.self.invariant.books.jobs_placed)
+    rw (← c.self.view_is, c.jobs.ensures.jobs)
+    (jobs_are s.log.items s.books.lists.jobs c.self.invariant.books.jobs
+    c.self.invariant.books.jobs_placed)

@@ -7,4 +7,5 @@ use Rattle.sched_core.proofs.state.SchedState.open_count.Goals as goal
 pub returns : goal.returns
 returns g c =
     let s = c.self.inside in
-    rw (← c.self.view_is) (c.open_count.ensures ∙ ap length c.self.invariant.books.open_ones ∙ length-map (open_jobs s.log.items) (open_of s.log.items))
+    rw (← c.self.view_is) (c.open_count.ensures ∙ ap length c.self.invariant.books.open_ones
+    ∙ length-map (open_jobs s.log.items) (open_of s.log.items))

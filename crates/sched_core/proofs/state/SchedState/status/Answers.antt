@@ -9,8 +9,14 @@ use Rattle.sched_core.proofs.state.SchedState.status.Goals as goal
 pub take-requires-clause-rule : goal.take-requires-clause-rule
 take-requires-clause-rule g c κs within =
     let s = c.self.inside in
-    let entry = rw (c.in_ok-pruned.ensures, c.counts-answer.ensures, c.self.invariant.books.rows, c.self.invariant.books.open_ones) at c.status_entry-entry.ensures in
-    subst (λ l. IsRule (core_of s.base s.count l) c.status_entry-entry.result) (sym c.in_ok-make_log_room.ensures.log) (call.Status c.args.now, tt, entry)
+    let entry = rw (
+      c.in_ok-pruned.ensures,
+      c.counts-answer.ensures,
+      c.self.invariant.books.rows,
+      c.self.invariant.books.open_ones,
+    ) at c.status_entry-entry.ensures in
+    subst (λ l. IsRule (core_of s.base s.count l) c.status_entry-entry.result)
+    (sym c.in_ok-make_log_room.ensures.log) (call.Status c.args.now, tt, entry)
 
 pub take-requires-clause-spends : goal.take-requires-clause-spends
 take-requires-clause-spends g c κs within = rw c.status_entry-entry.ensures tt
@@ -25,4 +31,7 @@ pub take-requires-clause-keys_room : goal.take-requires-clause-keys_room
 take-requires-clause-keys_room g c κs within = rw c.status_entry-entry.ensures (λ may. absurd may)
 
 pub take-requires-clause-log_room : goal.take-requires-clause-log_room
-take-requires-clause-log_room g c κs within = log_room-one c.self.inside.books.lists c.status_entry-entry.result (length c.make_log_room.new.log.items) (vec_len c.make_log_room.new.log) (vec_capacity c.make_log_room.new.log) c.in_ok-make_log_room.ensures.spare
+take-requires-clause-log_room g c κs within =
+    log_room-one c.self.inside.books.lists c.status_entry-entry.result (length c.make_log_room.new.log.items)
+    (vec_len c.make_log_room.new.log) (vec_capacity c.make_log_room.new.log)
+    c.in_ok-make_log_room.ensures.spare

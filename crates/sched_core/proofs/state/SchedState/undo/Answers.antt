@@ -22,9 +22,11 @@ returns-then-not-is_unspent-clause-logged g c =
     let a = c.args in
     let number = c.number-number.result in
     let job : JobId = c.job_id-job.result in
-    let listed : c.is_unspent.result ≡ list_any (λ u. (u.number == number) && same_job u.job job) s.books.lists.unspent = c.is_unspent.ensures in
+    let listed : c.is_unspent.result ≡ list_any (λ u. (u.number == number) && same_job u.job job)
+    s.books.lists.unspent = c.is_unspent.ensures in
     let among = spent_among s.books.lists.unspent s.log.items number job c.self.invariant.books.unspent in
-    let asked = ap (λ n. is_among (unspent s.log.items) n job) c.number-number.ensures.number ∙ ap (is_among (unspent s.log.items) a.r.number) c.job_id-job.ensures.job in
+    let asked = ap (λ n. is_among (unspent s.log.items) n job) c.number-number.ensures.number
+    ∙ ap (is_among (unspent s.log.items) a.r.number) c.job_id-job.ensures.job in
     rw (← c.self.view_is, sym asked ∙ sym among ∙ sym listed ∙ c.if-not-is_unspent.true) refl
 
 pub returns-then-not-is_unspent-clause-answer : goal.returns-then-not-is_unspent-clause-answer
@@ -33,9 +35,11 @@ returns-then-not-is_unspent-clause-answer g c =
     let a = c.args in
     let number = c.number-number.result in
     let job : JobId = c.job_id-job.result in
-    let listed : c.is_unspent.result ≡ list_any (λ u. (u.number == number) && same_job u.job job) s.books.lists.unspent = c.is_unspent.ensures in
+    let listed : c.is_unspent.result ≡ list_any (λ u. (u.number == number) && same_job u.job job)
+    s.books.lists.unspent = c.is_unspent.ensures in
     let among = spent_among s.books.lists.unspent s.log.items number job c.self.invariant.books.unspent in
-    let asked = ap (λ n. is_among (unspent s.log.items) n job) c.number-number.ensures.number ∙ ap (is_among (unspent s.log.items) a.r.number) c.job_id-job.ensures.job in
+    let asked = ap (λ n. is_among (unspent s.log.items) n job) c.number-number.ensures.number
+    ∙ ap (is_among (unspent s.log.items) a.r.number) c.job_id-job.ensures.job in
     rw (← c.self.view_is, sym asked ∙ sym among ∙ sym listed ∙ c.if-not-is_unspent.true) refl
 
 pub take-requires-clause-rule : goal.take-requires-clause-rule
@@ -44,19 +48,35 @@ take-requires-clause-rule g c κs within =
     let a = c.args in
     let number = c.number-number.result in
     let job : JobId = c.job_id-job.result in
-    let listed : c.is_unspent.result ≡ list_any (λ u. (u.number == number) && same_job u.job job) s.books.lists.unspent = c.is_unspent.ensures in
+    let listed : c.is_unspent.result ≡ list_any (λ u. (u.number == number) && same_job u.job job)
+    s.books.lists.unspent = c.is_unspent.ensures in
     let among = spent_among s.books.lists.unspent s.log.items number job c.self.invariant.books.unspent in
-    let owned : list_any (λ u. (u.number == number) && same_job u.job job) s.books.lists.unspent ≡ true = sym listed ∙ c.if-not-is_unspent.false in
-    let server : c.unspent_address-server.result ≡ option_and_then (address_of s.log.items) (place_at s.log.items number) = c.unspent_address-server.ensures ∙ spent_address s.books.lists.unspent s.log.items number job c.self.invariant.books.unspent_placed owned in
-    let noted : c.noted-noted.result ≡ noted_over (servers_of s.log.items) (option_and_then (address_of s.log.items) (place_at s.log.items number)) = (rw c.self.invariant.books.rows at c.noted-noted.ensures) ∙ ap (noted_over (servers_of s.log.items)) server in
-    let gone : c.is_held-ended.result ≡ is_among (unended s.log.items) number job = c.is_held-ended.ensures ∙ held_among s.books.lists.held s.log.items number job c.self.invariant.books.held in (
+    let owned : list_any (λ u. (u.number == number) && same_job u.job job) s.books.lists.unspent ≡ true =
+    sym listed ∙ c.if-not-is_unspent.false in
+    let server : c.unspent_address-server.result ≡ option_and_then (address_of s.log.items)
+    (place_at s.log.items number) = c.unspent_address-server.ensures
+    ∙ spent_address s.books.lists.unspent s.log.items number job c.self.invariant.books.unspent_placed
+    owned in
+    let noted : c.noted-noted.result ≡ noted_over (servers_of s.log.items)
+    (option_and_then (address_of s.log.items) (place_at s.log.items number)) =
+    (rw c.self.invariant.books.rows at c.noted-noted.ensures)
+    ∙ ap (noted_over (servers_of s.log.items)) server in
+    let gone : c.is_held-ended.result ≡ is_among (unended s.log.items) number job = c.is_held-ended.ensures
+    ∙ held_among s.books.lists.held s.log.items number job c.self.invariant.books.held in (
       call.Undo a.now number job,
       sym among ∙ owned,
-      ap (λ n. record { now = a.now; kind = Undo job n c.is_held-ended.result }) noted ∙ ap (λ b. record { now = a.now; kind = Undo job (noted_over (servers_of s.log.items) (option_and_then (address_of s.log.items) (place_at s.log.items number))) b }) gone,
+      ap (λ n. record { now = a.now; kind = Undo job n c.is_held-ended.result }) noted
+          ∙ ap (λ b. record {
+            now = a.now;
+            kind = Undo job (noted_over (servers_of s.log.items)
+                (option_and_then (address_of s.log.items) (place_at s.log.items number))) b;
+          }) gone,
     )
 
 pub take-requires-clause-spends : goal.take-requires-clause-spends
-take-requires-clause-spends g c κs within = spends_one c.self.inside.books.lists.unspent c.number-number.result c.job_id-job.result (sym c.is_unspent.ensures ∙ c.if-not-is_unspent.false)
+take-requires-clause-spends g c κs within =
+    spends_one c.self.inside.books.lists.unspent c.number-number.result c.job_id-job.result
+    (sym c.is_unspent.ensures ∙ c.if-not-is_unspent.false)
 
 pub take-requires-clause-log_room : goal.take-requires-clause-log_room
 take-requires-clause-log_room g c κs within =
@@ -64,9 +84,13 @@ take-requires-clause-log_room g c κs within =
     let a = c.args in
     let number = c.number-number.result in
     let job : JobId = c.job_id-job.result in
-    let listed : c.is_unspent.result ≡ list_any (λ u. (u.number == number) && same_job u.job job) s.books.lists.unspent = c.is_unspent.ensures in
+    let listed : c.is_unspent.result ≡ list_any (λ u. (u.number == number) && same_job u.job job)
+    s.books.lists.unspent = c.is_unspent.ensures in
     let among = spent_among s.books.lists.unspent s.log.items number job c.self.invariant.books.unspent in
-    log_room-spent s.books.lists a.now (length s.log.items) (Undo job c.noted-noted.result c.is_held-ended.result) (vec_len s.log) (vec_capacity s.log) (spends_one s.books.lists.unspent number job (sym listed ∙ c.if-not-is_unspent.false)) c.self.invariant.log_room
+    log_room-spent s.books.lists a.now (length s.log.items)
+    (Undo job c.noted-noted.result c.is_held-ended.result) (vec_len s.log) (vec_capacity s.log)
+    (spends_one s.books.lists.unspent number job (sym listed ∙ c.if-not-is_unspent.false))
+    c.self.invariant.log_room
 
 pub returns-clause-logged : goal.returns-clause-logged
 returns-clause-logged g c =
@@ -74,18 +98,35 @@ returns-clause-logged g c =
     let a = c.args in
     let number = c.number-number.result in
     let job : JobId = c.job_id-job.result in
-    let listed : c.is_unspent.result ≡ list_any (λ u. (u.number == number) && same_job u.job job) s.books.lists.unspent = c.is_unspent.ensures in
+    let listed : c.is_unspent.result ≡ list_any (λ u. (u.number == number) && same_job u.job job)
+    s.books.lists.unspent = c.is_unspent.ensures in
     let among = spent_among s.books.lists.unspent s.log.items number job c.self.invariant.books.unspent in
-    let asked = ap (λ n. is_among (unspent s.log.items) n job) c.number-number.ensures.number ∙ ap (is_among (unspent s.log.items) a.r.number) c.job_id-job.ensures.job in
-    let owned : list_any (λ u. (u.number == number) && same_job u.job job) s.books.lists.unspent ≡ true = sym listed ∙ c.if-not-is_unspent.false in
-    let server : c.unspent_address-server.result ≡ option_and_then (address_of s.log.items) (place_at s.log.items number) = c.unspent_address-server.ensures ∙ spent_address s.books.lists.unspent s.log.items number job c.self.invariant.books.unspent_placed owned in
-    let noted : c.noted-noted.result ≡ noted_over (servers_of s.log.items) (option_and_then (address_of s.log.items) (place_at s.log.items number)) = (rw c.self.invariant.books.rows at c.noted-noted.ensures) ∙ ap (noted_over (servers_of s.log.items)) server in
-    let gone : c.is_held-ended.result ≡ is_among (unended s.log.items) number job = c.is_held-ended.ensures ∙ held_among s.books.lists.held s.log.items number job c.self.invariant.books.held in
-    let noted_r = noted ∙ ap (λ n. noted_over (servers_of s.log.items) (option_and_then (address_of s.log.items) (place_at s.log.items n))) c.number-number.ensures.number in
-    let gone_r = gone ∙ ap (λ n. is_among (unended s.log.items) n job) c.number-number.ensures.number ∙ ap (is_among (unended s.log.items) a.r.number) c.job_id-job.ensures.job in
+    let asked = ap (λ n. is_among (unspent s.log.items) n job) c.number-number.ensures.number
+    ∙ ap (is_among (unspent s.log.items) a.r.number) c.job_id-job.ensures.job in
+    let owned : list_any (λ u. (u.number == number) && same_job u.job job) s.books.lists.unspent ≡ true =
+    sym listed ∙ c.if-not-is_unspent.false in
+    let server : c.unspent_address-server.result ≡ option_and_then (address_of s.log.items)
+    (place_at s.log.items number) = c.unspent_address-server.ensures
+    ∙ spent_address s.books.lists.unspent s.log.items number job c.self.invariant.books.unspent_placed
+    owned in
+    let noted : c.noted-noted.result ≡ noted_over (servers_of s.log.items)
+    (option_and_then (address_of s.log.items) (place_at s.log.items number)) =
+    (rw c.self.invariant.books.rows at c.noted-noted.ensures)
+    ∙ ap (noted_over (servers_of s.log.items)) server in
+    let gone : c.is_held-ended.result ≡ is_among (unended s.log.items) number job = c.is_held-ended.ensures
+    ∙ held_among s.books.lists.held s.log.items number job c.self.invariant.books.held in
+    let noted_r = noted ∙ ap
+    (λ n. noted_over (servers_of s.log.items)
+    (option_and_then (address_of s.log.items) (place_at s.log.items n))) c.number-number.ensures.number in
+    let gone_r = gone ∙ ap (λ n. is_among (unended s.log.items) n job) c.number-number.ensures.number
+    ∙ ap (is_among (unended s.log.items) a.r.number) c.job_id-job.ensures.job in
     rw (← c.self.view_is, c.take.ensures.log, c.job_id-job.ensures.job, sym asked ∙ sym among ∙ owned)
-    (ap (λ n. logged (core_of s.base s.count s.log.items) (undo_by n c.is_held-ended.result a.now a.r.job)) noted_r
-    ∙ ap (λ b. logged (core_of s.base s.count s.log.items) (undo_by (noted_over (servers_of s.log.items) (option_and_then (address_of s.log.items) (place_at s.log.items a.r.number))) b a.now a.r.job)) gone_r)
+    (ap (λ n. logged (core_of s.base s.count s.log.items) (undo_by n c.is_held-ended.result a.now a.r.job))
+    noted_r
+    ∙ ap (λ b. logged (core_of s.base s.count s.log.items)
+    (undo_by (noted_over (servers_of s.log.items)
+    (option_and_then (address_of s.log.items) (place_at s.log.items a.r.number))) b a.now a.r.job))
+    gone_r)
 
 pub returns-clause-answer : goal.returns-clause-answer
 returns-clause-answer g c =
@@ -93,16 +134,31 @@ returns-clause-answer g c =
     let a = c.args in
     let number = c.number-number.result in
     let job : JobId = c.job_id-job.result in
-    let listed : c.is_unspent.result ≡ list_any (λ u. (u.number == number) && same_job u.job job) s.books.lists.unspent = c.is_unspent.ensures in
+    let listed : c.is_unspent.result ≡ list_any (λ u. (u.number == number) && same_job u.job job)
+    s.books.lists.unspent = c.is_unspent.ensures in
     let among = spent_among s.books.lists.unspent s.log.items number job c.self.invariant.books.unspent in
-    let asked = ap (λ n. is_among (unspent s.log.items) n job) c.number-number.ensures.number ∙ ap (is_among (unspent s.log.items) a.r.number) c.job_id-job.ensures.job in
-    let owned : list_any (λ u. (u.number == number) && same_job u.job job) s.books.lists.unspent ≡ true = sym listed ∙ c.if-not-is_unspent.false in
-    let server : c.unspent_address-server.result ≡ option_and_then (address_of s.log.items) (place_at s.log.items number) = c.unspent_address-server.ensures ∙ spent_address s.books.lists.unspent s.log.items number job c.self.invariant.books.unspent_placed owned in
-    let noted : c.noted-noted.result ≡ noted_over (servers_of s.log.items) (option_and_then (address_of s.log.items) (place_at s.log.items number)) = (rw c.self.invariant.books.rows at c.noted-noted.ensures) ∙ ap (noted_over (servers_of s.log.items)) server in
-    let gone : c.is_held-ended.result ≡ is_among (unended s.log.items) number job = c.is_held-ended.ensures ∙ held_among s.books.lists.held s.log.items number job c.self.invariant.books.held in
-    let noted_r = noted ∙ ap (λ n. noted_over (servers_of s.log.items) (option_and_then (address_of s.log.items) (place_at s.log.items n))) c.number-number.ensures.number in
-    let gone_r = gone ∙ ap (λ n. is_among (unended s.log.items) n job) c.number-number.ensures.number ∙ ap (is_among (unended s.log.items) a.r.number) c.job_id-job.ensures.job in
+    let asked = ap (λ n. is_among (unspent s.log.items) n job) c.number-number.ensures.number
+    ∙ ap (is_among (unspent s.log.items) a.r.number) c.job_id-job.ensures.job in
+    let owned : list_any (λ u. (u.number == number) && same_job u.job job) s.books.lists.unspent ≡ true =
+    sym listed ∙ c.if-not-is_unspent.false in
+    let server : c.unspent_address-server.result ≡ option_and_then (address_of s.log.items)
+    (place_at s.log.items number) = c.unspent_address-server.ensures
+    ∙ spent_address s.books.lists.unspent s.log.items number job c.self.invariant.books.unspent_placed
+    owned in
+    let noted : c.noted-noted.result ≡ noted_over (servers_of s.log.items)
+    (option_and_then (address_of s.log.items) (place_at s.log.items number)) =
+    (rw c.self.invariant.books.rows at c.noted-noted.ensures)
+    ∙ ap (noted_over (servers_of s.log.items)) server in
+    let gone : c.is_held-ended.result ≡ is_among (unended s.log.items) number job = c.is_held-ended.ensures
+    ∙ held_among s.books.lists.held s.log.items number job c.self.invariant.books.held in
+    let noted_r = noted ∙ ap
+    (λ n. noted_over (servers_of s.log.items)
+    (option_and_then (address_of s.log.items) (place_at s.log.items n))) c.number-number.ensures.number in
+    let gone_r = gone ∙ ap (λ n. is_among (unended s.log.items) n job) c.number-number.ensures.number
+    ∙ ap (is_among (unended s.log.items) a.r.number) c.job_id-job.ensures.job in
     rw (← c.self.view_is, sym asked ∙ sym among ∙ owned)
     (c.undone.ensures
     ∙ ap (λ n. if c.is_held-ended.result then undone.Unassigned else unended_by n) noted_r
-    ∙ ap (λ b. if b then undone.Unassigned else unended_by (noted_over (servers_of s.log.items) (option_and_then (address_of s.log.items) (place_at s.log.items a.r.number)))) gone_r)
+    ∙ ap (λ b. if b then undone.Unassigned
+    else unended_by (noted_over (servers_of s.log.items)
+    (option_and_then (address_of s.log.items) (place_at s.log.items a.r.number)))) gone_r)

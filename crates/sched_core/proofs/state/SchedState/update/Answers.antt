@@ -17,32 +17,52 @@ pub take-requires-clause-rule : goal.take-requires-clause-rule
 take-requires-clause-rule g c κs within =
     let s = c.self.inside in
     let a = c.args in
-    let step : CoreEntry = record { now = a.now; kind = Update a.server a.job a.state c.answer_by-answer.result } in
-    let answer : c.answer_by-answer.result ≡ advance (open_rows s.log.items) a.server a.job a.state = rw (c.open_job-found.ensures, c.self.invariant.books.open_ones) at c.answer_by-answer.ensures in
-    subst (λ l. IsRule (core_of s.base s.count l) step) (sym c.in_ok-make_log_room.ensures.log) (call.Update a.now a.server a.job a.state, tt, ap (λ r. record { now = a.now; kind = Update a.server a.job a.state r }) answer)
+    let step : CoreEntry = record {
+      now = a.now;
+      kind = Update a.server a.job a.state c.answer_by-answer.result;
+    } in
+    let answer : c.answer_by-answer.result ≡ advance (open_rows s.log.items) a.server a.job a.state =
+    rw (c.open_job-found.ensures, c.self.invariant.books.open_ones) at c.answer_by-answer.ensures in
+    subst (λ l. IsRule (core_of s.base s.count l) step) (sym c.in_ok-make_log_room.ensures.log) (
+      call.Update a.now a.server a.job a.state,
+      tt,
+      ap (λ r. record { now = a.now; kind = Update a.server a.job a.state r }) answer,
+    )
 
 pub take-requires-clause-log_room : goal.take-requires-clause-log_room
-take-requires-clause-log_room g c κs within = log_room-one c.self.inside.books.lists (record { now = c.args.now; kind = Update c.args.server c.args.job c.args.state c.answer_by-answer.result }) (length c.make_log_room.new.log.items) (vec_len c.make_log_room.new.log) (vec_capacity c.make_log_room.new.log) c.in_ok-make_log_room.ensures.spare
+take-requires-clause-log_room g c κs within = log_room-one c.self.inside.books.lists
+    (record {
+      now = c.args.now;
+      kind = Update c.args.server c.args.job c.args.state c.answer_by-answer.result;
+    }) (length c.make_log_room.new.log.items) (vec_len c.make_log_room.new.log)
+    (vec_capacity c.make_log_room.new.log) c.in_ok-make_log_room.ensures.spare
 
 pub returns-clause-logged : goal.returns-clause-logged
 returns-clause-logged g c =
     let s = c.self.inside in
     let a = c.args in
-    let answer : c.answer_by-answer.result ≡ advance (open_rows s.log.items) a.server a.job a.state = rw (c.open_job-found.ensures, c.self.invariant.books.open_ones) at c.answer_by-answer.ensures in
+    let answer : c.answer_by-answer.result ≡ advance (open_rows s.log.items) a.server a.job a.state =
+    rw (c.open_job-found.ensures, c.self.invariant.books.open_ones) at c.answer_by-answer.ensures in
     rw (← c.self.view_is, c.take.ensures.log, c.in_ok-make_log_room.ensures.log)
-    (on_ok c.updated.result _ (ap (λ r. logged (core_of s.base s.count s.log.items) (record { now = a.now; kind = Update a.server a.job a.state r })) answer))
+    (on_ok c.updated.result _
+    (ap (λ r. logged (core_of s.base s.count s.log.items)
+    (record { now = a.now; kind = Update a.server a.job a.state r })) answer))
 
 pub returns-clause-answer : goal.returns-clause-answer
 returns-clause-answer g c = λ refused.
     let s = c.self.inside in
     let a = c.args in
-    let answer : c.answer_by-answer.result ≡ advance (open_rows s.log.items) a.server a.job a.state = rw (c.open_job-found.ensures, c.self.invariant.books.open_ones) at c.answer_by-answer.ensures in
+    let answer : c.answer_by-answer.result ≡ advance (open_rows s.log.items) a.server a.job a.state =
+    rw (c.open_job-found.ensures, c.self.invariant.books.open_ones) at c.answer_by-answer.ensures in
     rw (← c.self.view_is) (c.updated.ensures ∙ ap (λ r. verdict r a.state) answer)
 
 pub returns-clause-err : goal.returns-clause-err
 returns-clause-err g c =
     let s = c.self.inside in
     let a = c.args in
-    let answer : c.answer_by-answer.result ≡ advance (open_rows s.log.items) a.server a.job a.state = rw (c.open_job-found.ensures, c.self.invariant.books.open_ones) at c.answer_by-answer.ensures in
+    let answer : c.answer_by-answer.result ≡ advance (open_rows s.log.items) a.server a.job a.state =
+    rw (c.open_job-found.ensures, c.self.invariant.books.open_ones) at c.answer_by-answer.ensures in
     rw (c.updated.ensures, ← c.self.view_is, c.take.ensures.log, c.in_ok-make_log_room.ensures.log)
-    (verdict_leaves c.answer_by-answer.result a.state (core_of s.base s.count s.log.items) _ _ (ap (λ r. logged (core_of s.base s.count s.log.items) (record { now = a.now; kind = Update a.server a.job a.state r })) answer))
+    (verdict_leaves c.answer_by-answer.result a.state (core_of s.base s.count s.log.items) _ _
+    (ap (λ r. logged (core_of s.base s.count s.log.items)
+    (record { now = a.now; kind = Update a.server a.job a.state r })) answer))

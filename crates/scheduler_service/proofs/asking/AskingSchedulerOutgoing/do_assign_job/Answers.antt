@@ -4,8 +4,10 @@ use Rattle.scheduler_service.proofs.asking.AskingSchedulerOutgoing.do_assign_job
 
 pub returns-in-Ok-ask-clause-lent : goal.returns-in-Ok-ask-clause-lent
 returns-in-Ok-ask-clause-lent g c =
-    replied c.args.self.now.dialer.ghost_name (g.D.Dialer.asked c.args.self.now.dialer.now) (g.D.Dialer.asked c.ask.new.self)
-    c.args.server_id c.addr-addr.result c.args.job_id c.args.tc.now c.args.auth.now c.as_str.result.now c.get.result.now c.in-Ok-ask.reply.items c.port_of.result
+    replied c.args.self.now.dialer.ghost_name (g.D.Dialer.asked c.args.self.now.dialer.now)
+    (g.D.Dialer.asked c.ask.new.self)
+    c.args.server_id c.addr-addr.result c.args.job_id c.args.tc.now c.args.auth.now c.as_str.result.now
+    c.get.result.now c.in-Ok-ask.reply.items c.port_of.result
     c.heard.result
     c.in-Ok-ask.ensures.ok
     c.addr-addr.ensures.addr

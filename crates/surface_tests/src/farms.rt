@@ -1,0 +1,14 @@
+//! Scripts, farms, runs, configurations and the command.
+
+use dist_config::serve::{MemServe, Serve};
+use farm::command::{dist_main, run_command_line};
+use farm::entry::Entry;
+use farm::event::Event;
+use farm::fault::{ConfigCause, FarmFault};
+use farm::files::{Files, MemFiles, RealFiles};
+use farm::parse::{AuthSubcommand, Command, try_parse_from};
+use farm::print::print_run;
+use farm::run::{Farm, Stopped};
+use farm::script::read_script;
+use farm::setup::Setup;
+use farm::token_length::TokenLength;
