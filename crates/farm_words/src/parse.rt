@@ -8,7 +8,7 @@ ghost use Rattle.farm_words.specs.Parsed.{signed, IsParsed};
 ghost use Rattle.farm_words.specs.Signed.{fault_of, IsSigned};
 
 use crate::asked::{Asked, asked_by};
-use crate::command::{AuthSubcommand, Command};
+pub use crate::command::{AuthSubcommand, Command};
 use dist_config::config::{SchedulerConfig, ServerAuth};
 use dist_types::addr::Addr;
 use dist_types::ids::ServerId;
