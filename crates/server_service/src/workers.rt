@@ -104,6 +104,7 @@ fn work_all<
         (T.told (slice_index_or kits.old i d).tasks) (T.told (slice_index_or kits.new i d).tasks)
         (lent D.asked D.faults (builder_of B.built B.refusals) (slice_index_or kits.old i d))
         (lent D.asked D.faults (builder_of B.built B.refusals) (slice_index_or kits.new i d)) }
+    ensures len { length kits.new ≡ length kits.old }
 {
     let threads = kits.len();
     if threads == 0 {
@@ -115,7 +116,7 @@ fn work_all<
         threads,
         &|_, kit: &mut BuildKit<T, D, B>| -> ()
             requires { IsHttp scheduler.now }
-            ensures worked { Worked (λ _. IsReplied (job_verdict key.entry.now)
+            ensures { Worked (λ _. IsReplied (job_verdict key.entry.now)
                 (peer_of scheduler.entry.now scheduler_auth.entry.now))
                 (λ l. record {
                   left = T.L.left l;
