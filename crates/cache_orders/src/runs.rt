@@ -227,30 +227,13 @@ fn every_run(rt: &impl Abort, alloc: Global, order: u64) -> Result<(), Differenc
     Ok(())
 }
 
-/// A hundred orders, from one on.
-fn a_hundred_from<R: Abort + AllocGlobal>(rt: &R, first: u64) {
-    for order in first..first.saturating_add(100) {
-        if let Err(difference) = every_run(rt, rt.alloc(), order) {
-            panic!(rt; "order {order}: {}", difference.text());
+#[test]
+fn generated_orders_are_those_of_the_model(rt: HostRuntime) -> Result<(), Fail> {
+    for order in 0..ORDERS {
+        if let Err(difference) = every_run(&rt, rt.alloc(), order) {
+            panic!(&rt; "order {order}: {}", difference.text());
         }
     }
-}
-
-#[test]
-fn the_first_hundred_orders_are_those_of_the_model(rt: HostRuntime) -> Result<(), Fail> {
-    a_hundred_from(&rt, 0);
-    Ok(())
-}
-
-#[test]
-fn the_second_hundred_orders_are_those_of_the_model(rt: HostRuntime) -> Result<(), Fail> {
-    a_hundred_from(&rt, 100);
-    Ok(())
-}
-
-#[test]
-fn the_third_hundred_orders_are_those_of_the_model(rt: HostRuntime) -> Result<(), Fail> {
-    a_hundred_from(&rt, 200);
     Ok(())
 }
 
