@@ -17,14 +17,14 @@ use Rattle.sched_core.proofs.AllLemmas.{is_false, true_false}
 use Rattle.farm_script.specs.declared.event.Event.{Event}
 use Rattle.farm_script.specs.declared.event.EventKind.TheVariants.{Restart}
 use Rattle.farm_script.specs.Setups.{AreApart}
-use Rattle.farm_script.specs.declared.setup.Setup.{Setup}
-use Rattle.farm_script.specs.declared.setup.SetupServer.{SetupServer}
+use Rattle.farm_run.specs.declared.site.Site.{Site as Setup}
+use Rattle.farm_run.specs.declared.site.SiteServer.{SiteServer as SetupServer}
 use Rattle.farm_run.specs.declared.entry.Effect.{Effect}
 use Rattle.farm_run.specs.declared.entry.Entry.{Entry}
 use Rattle.farm_run.specs.declared.entry.Step.{Step}
 use Rattle.farm_run.specs.declared.entry.StepKind.{StepKind}
 use Rattle.farm_run.specs.declared.entry.StepKind.TheVariants as kinds
-use Rattle.farm_run.specs.declared.station.Station.{Station}
+use Rattle.farm_run.specs.Post.{Post as Station}
 use Rattle.farm_run.specs.Effects.{entry_of}
 use Rattle.farm_run.specs.Servers.{ServerNow, server_begun, kind_after, restart_by, restarted, stepped}
 use Rattle.farm_run.specs.Servers.{server_after, server_of, server_at, server_now}
@@ -236,12 +236,12 @@ same_server s log e still none =
 
 -- ---- the stations
 
-get_set_same : {X : Type 0} (xs : List X) (n : ℕ) (a : X) → n < length xs → slice_get (set xs n a) n ≡ Some a
+pub get_set_same : {X : Type 0} (xs : List X) (n : ℕ) (a : X) → n < length xs → slice_get (set xs n a) n ≡ Some a
 get_set_same [] n a h = absurd (omega arith)
 get_set_same (x ∷ xs) zero a h = refl
 get_set_same (x ∷ xs) (suc n) a h = get_set_same xs n a (omega arith)
 
-get_set_other : {X : Type 0} (xs : List X) (n m : ℕ) (a : X) → n ≢ m
+pub get_set_other : {X : Type 0} (xs : List X) (n m : ℕ) (a : X) → n ≢ m
     → slice_get (set xs n a) m ≡ slice_get xs m
 get_set_other [] n m a h = refl
 get_set_other (x ∷ xs) zero zero a h = absurd (h refl)
@@ -249,7 +249,7 @@ get_set_other (x ∷ xs) zero (suc m) a h = refl
 get_set_other (x ∷ xs) (suc n) zero a h = refl
 get_set_other (x ∷ xs) (suc n) (suc m) a h = get_set_other xs n m a (λ same. h (ap (λ (k : ℕ). suc k) same))
 
-within : {X : Type 0} (xs : List X) (i : ℕ) (x : X) → slice_get xs i ≡ Some x → i < length xs
+pub within : {X : Type 0} (xs : List X) (i : ℕ) (x : X) → slice_get xs i ≡ Some x → i < length xs
 within [] i x e = absurd cc
 within (y ∷ ys) zero x e = omega arith
 within (y ∷ ys) (suc i) x e = omega (arith, within ys i x e)

@@ -21,10 +21,10 @@ use Rattle.build_server.specs.declared.submit.Submitted.{Submitted}
 use Rattle.build_server.specs.declared.submit.Submitted.TheVariants as submitted
 use Rattle.farm_script.specs.declared.setup.BuilderLine.{BuilderLine}
 use Rattle.farm_script.specs.declared.setup.BuilderLine.TheVariants.{Listed, Refuse}
-use Rattle.farm_script.specs.declared.setup.SetupServer.{SetupServer}
+use Rattle.farm_run.specs.declared.site.SiteServer.{SiteServer as SetupServer}
 use Rattle.farm_run.specs.declared.entry.StepKind.{StepKind}
 use Rattle.farm_run.specs.declared.entry.StepKind.TheVariants as kinds
-use Rattle.farm_run.specs.declared.station.Station.{Station}
+use Rattle.farm_run.specs.Post.{Post as Station}
 use Rattle.farm_run.specs.Served.{books_of, build_answer, built, run_outcome}
 use Rattle.farm_run.specs.Servers.{ServerNow, kind_after, stepped, restarted, archives_after_run}
 use Rattle.farm_run.specs.Servers.{builds_after_run}

@@ -2,8 +2,8 @@
 ghost use Rattle.std.specs.List.{AllByRecursion};
 ghost use Rattle.dist_types.specs.Addr.{IsAddr};
 
+use crate::site::{Site, SiteServer};
 use dist_types::addr::Addr;
-use farm_script::setup::{Setup, SetupServer};
 
 // Each number of an address fits its type.
 fn fits(address: Addr)
@@ -20,7 +20,7 @@ fn fits(address: Addr)
 }
 
 // The addresses of servers are addresses.
-fn all_fit(servers: &[SetupServer])
+fn all_fit(servers: &[SiteServer])
     ensures { AllByRecursion (λ s. IsAddr s.addr) servers.now }
 {
     for server in servers {
@@ -29,7 +29,7 @@ fn all_fit(servers: &[SetupServer])
 }
 
 /// That the addresses of a setup are addresses.
-pub(crate) fn has_addresses(setup: &Setup)
+pub(crate) fn has_addresses(setup: &Site)
     ensures scheduler { IsAddr setup.now.scheduler.addr }
     ensures servers { AllByRecursion (λ s. IsAddr s.addr) setup.now.servers }
 {

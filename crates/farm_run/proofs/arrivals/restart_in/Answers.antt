@@ -1,7 +1,7 @@
 use Rattle.std.proofs.Common.{◌≡◌, ◌∙◌, ap, sym, subst, Some, []}
 use Rattle.dist_types.specs.Cause.{counted}
 use Rattle.farm_run.specs.declared.entry.Effect.{Effect}
-use Rattle.farm_run.specs.declared.station.Station.{Station}
+use Rattle.farm_run.specs.Post.{Post as Station}
 use Rattle.farm_run.specs.Servers.{restarted, stepped}
 use Rattle.farm_run.specs.Stations.{now_of}
 use Rattle.farm_run.proofs.StationLemmas.{restart_after}

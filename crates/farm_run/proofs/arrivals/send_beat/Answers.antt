@@ -1,7 +1,7 @@
 use Rattle.std.proofs.Common.{◌≡◌, List, length, refl, sym, subst, Some}
 use Rattle.std.specs.Prelude.{slice_get}
 use Rattle.std.proofs.lemmas.Option.{slice_get_read}
-use Rattle.farm_script.specs.declared.setup.SetupServer.{SetupServer}
+use Rattle.farm_run.specs.declared.site.SiteServer.{SiteServer as SetupServer}
 use Rattle.farm_run.proofs.ServerLemmas.{IsFound, found_is}
 use Rattle.farm_run.proofs.RowLemmas.{beat_received, no_beat_received}
 use Rattle.farm_run.proofs.arrivals.send_beat.Goals as goal
