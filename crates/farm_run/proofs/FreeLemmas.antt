@@ -80,7 +80,7 @@ lives_free w setup life s bytes root json reply t true x is = is
 lives_free w setup life s bytes root json reply t false x is =
     reports_free w setup s bytes root json reply t x is
 
-report_free : (w : Weather) (setup : Setup) (life : ℕ) (bytes : List ℕ) (root : ℕ) (json : Bool)
+pub report_free : (w : Weather) (setup : Setup) (life : ℕ) (bytes : List ℕ) (root : ℕ) (json : Bool)
     (reply : Option (List ℕ)) (t : Told) (o : Option ServerNow) (x : Effect)
     → ReportsIn w setup life bytes root json reply t o x
     → ReportsIn free setup life bytes root json reply t o x

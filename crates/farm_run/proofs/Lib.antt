@@ -1,3 +1,4 @@
+pub mod BeginLemmas
 pub mod BuildLemmas
 pub mod CallLemmas
 pub mod DecideLemmas

@@ -30,7 +30,7 @@ own_set old place was is own before stays = λ i o at. elim (cases_eq place i) [
 still_own : (w : Weather) (old new : List Outside) → IsStill w old new → AreOwn old → (w ≡ calm) × AreOwn new
 still_own w old new is own = (is.own own, subst AreOwn (sym is.left) own)
 
-moves_own : (setup : Setup) (o : Option Addr) (w : Weather) (old new : List Outside)
+pub moves_own : (setup : Setup) (o : Option Addr) (w : Weather) (old new : List Outside)
     → Moves setup o w old new → AreOwn old → (w ≡ calm) × AreOwn new
 moves_own setup None w old new is own = still_own w old new is own
 moves_own setup (Some addr) w old new (inl m) own = (

@@ -64,6 +64,7 @@ use Rattle.farm_run.proofs.BuildLemmas.{found_now, call_later, no_return, no_out
 use Rattle.farm_run.proofs.OneLemmas.{one_asked, one_server_asked, one_outcome, one_update}
 use Rattle.farm_run.proofs.RepliedLemmas.{size_at, replied_once}
 use Rattle.farm_run.proofs.ServerLemmas.{server-push}
+use Rattle.farm_run.proofs.StationLemmas.{reopened_is}
 use Rattle.farm_run.proofs.SettleLemmas.{take_take, get_front, get_take, next_at, way_back, void, settlement}
 use Rattle.farm_run.proofs.TakenLemmas.{take_some}
 
@@ -190,14 +191,7 @@ restarts_so now server key nonce found own =
     let here : restart_by now.setup.addr (Restart server key nonce) ≡ Some (key, nonce) =
     ap (λ (b : Bool). cond b (Some (key, nonce)) None) (ap (same_addr server) own ∙ same_self server) in
     ap (λ (o : Option (List ℕ × ℕ)). stepped (opened_effect now found).step (restarted o now)) here
-    ∙ by_found found
-  where
-    by_found : (o : Option Archives) → stepped (opened_effect now o).step (restarted (Some (key, nonce)) now)
-        ≡ reopened now key nonce o
-    by_found None = refl
-    by_found (Some list) =
-        let fresh : ServerNow = restarted (Some (key, nonce)) now in
-        ap (λ (b : Bool). cond b (kind_after (step.Opened list) fresh) fresh) (same_self now.setup.addr)
+    ∙ reopened_is now key nonce found
 
 -- ---- the runs
 
@@ -207,14 +201,14 @@ module _ (w : Weather) (setup : Setup) (events : List Event) (entries : List Ent
   next n e there = next_at w setup [] events entries n e each there
 
   -- what an entry that settles a call makes of it
-  record Continued (n k : ℕ) (e : Entry) (reply : Option (List ℕ)) : Type 0 where
-    before : n < k
-    way : way_of setup (take k entries) e.event.kind ≡ to_call n reply
-    x : Effect
-    is : e ≡ entry_of e.event x
-    pending : Pending
-    of_call : IsCallOf setup (take k entries) n pending
-    goes : GoesOn w setup (take k entries) e.event.at pending.root pending.json reply pending.ask x
+  pub record Continued (n k : ℕ) (e : Entry) (reply : Option (List ℕ)) : Type 0 where
+    pub before : n < k
+    pub way : way_of setup (take k entries) e.event.kind ≡ to_call n reply
+    pub x : Effect
+    pub is : e ≡ entry_of e.event x
+    pub pending : Pending
+    pub of_call : IsCallOf setup (take k entries) n pending
+    pub goes : GoesOn w setup (take k entries) e.event.at pending.root pending.json reply pending.ask x
 
   continued : (n k : ℕ) (s : SettlesCall entries n k) (reply : Option (List ℕ))
       → settles_by (take k entries) s.entry.event.kind ≡ Some (n, reply) → Continued n k s.entry reply
@@ -357,16 +351,16 @@ module _ (w : Weather) (setup : Setup) (events : List Event) (entries : List Ent
       (q : AsksAt setup entries n server life bytes
       (record { what = server_asked.Run job run at; json = json; body = body }))
       (g : IsGranted setup entries n j server life now) where
-    abbrev wish : ServerAsked
+    abbrev pub wish : ServerAsked
     wish = record { what = server_asked.Run job run at; json = json; body = body }
 
     abbrev start : Told
     start = told.Started job run (body + at)
 
-    first : Continued n j g.back.settles.entry (Some g.bytes)
+    pub first : Continued n j g.back.settles.entry (Some g.bytes)
     first = back n j server life now g
 
-    runs_so : (c : Continued n j g.back.settles.entry (Some g.bytes))
+    pub runs_so : (c : Continued n j g.back.settles.entry (Some g.bytes))
         → StartedEnds w setup now n job run (drop (body + at) bytes) (Ok g.answer) c.x
     runs_so c =
         let r = reported n j server life now g n json start c
@@ -377,7 +371,7 @@ module _ (w : Weather) (setup : Setup) (events : List Event) (entries : List Ent
         StartedEnds w setup now n job run (drop (body + at) (brought_at (take j entries) n)) u c.x)
         (one_update (Some g.bytes) r.0 (Ok g.answer) r.1 g.granted) r.2)
 
-    abbrev went : Outcome
+    abbrev pub went : Outcome
     went = (runs_so first).0
 
     pub works : Works w now (held_for job now.held) run (drop (body + at) bytes) went

@@ -20,7 +20,7 @@ use Rattle.farm_run.specs.declared.entry.StepKind.{StepKind}
 use Rattle.farm_run.specs.declared.entry.StepKind.TheVariants as kinds
 use Rattle.farm_run.specs.Effects.{entry_of}
 use Rattle.farm_run.specs.Farm.{Stands}
-use Rattle.farm_run.specs.Passage.{reaches, reached_in, reached, LeavesTo, AreOwn, IsStill, Moves, IsMoved}
+use Rattle.farm_run.specs.Passage.{reaches, reached_in, reached, LeavesTo, Leaves, AreOwn, IsStill, Moves, IsMoved}
 use Rattle.farm_run.specs.Post.{Post as Station, outside_of}
 use Rattle.farm_run.specs.Servers.{restart_by}
 use Rattle.farm_run.specs.Stations.{AreStations, IsStepAt, HasApart}
@@ -53,6 +53,13 @@ outside_kept sts place st after at same = set_map outside_of sts place after
     ∙ ap (set (map outside_of sts) place) same
     ∙ set_same (map outside_of sts) place (outside_of st) (get_map outside_of sts place st at)
 
+leaves_to : (o : Option Addr) (old new : Outside) → new ≡ old → LeavesTo o old new
+leaves_to None old new same = same
+leaves_to (Some addr) old new same = λ own. ap (λ (x : Outside). x.builder) same ∙ own
+
+pub leaves_same : (step : Option Step) (old new : Outside) → new ≡ old → Leaves step old new
+leaves_same step old new same = leaves_to (reached_in step) old new same
+
 -- ---- events that restart nothing
 
 -- what such an event reaches is told by its step
@@ -65,7 +72,7 @@ reached_still (Return d) step still = refl
 reached_still (Answer c bytes) step still = refl
 reached_still (Beat server) step still = refl
 reached_still (Restart server key nonce) step still =
-    let no : Some (key, nonce) ≡ None =
+    let no : ◌≡◌ {A = Option (List ℕ × ℕ)} (Some (key, nonce)) None =
     ap (λ (b : Bool). cond b (Some (key, nonce)) None) (sym (same_self server)) ∙ still server in
     absurd cc
 

@@ -1,4 +1,5 @@
 pub mod Answers
+pub mod Begins
 pub mod Begun
 pub mod Builds
 pub mod Calls

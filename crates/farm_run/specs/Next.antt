@@ -39,7 +39,7 @@ Follows w setup log at reply (Some p) x = GoesOn w setup log at p.root p.json re
 -- the call of entry n goes on by its reply where it waits; where it does not, there is nothing to do
 abbrev pub IsSettled : Weather → Setup → List Entry → ℕ → ℕ → Option (List ℕ) → Option Entry → Effect → Type 0
 IsSettled w setup log at n reply None x = x ≡ word_effect Void
-IsSettled w setup log at n reply (Some w) x = (p : Pending) × IsCallOf setup log n p
+IsSettled w setup log at n reply (Some e) x = (p : Pending) × IsCallOf setup log n p
     × Follows w setup log at reply (Some p) x
 
 -- what an event does at a moment, where it settles no call, and entry `number` is made

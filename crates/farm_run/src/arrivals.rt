@@ -31,7 +31,7 @@ use farm_script::fault::FarmFault;
 use std::alloc::Global;
 
 /// A request, or a call that is delivered: bytes that come from a peer to an address.
-pub(crate) fn arrive<F: Folder, B: BuilderIncoming>(
+pub(crate) fn arrive<F: Folder + Drop, B: BuilderIncoming + Drop>(
     desk: &mut Desk,
     stations: &mut Vec<Station<F, B>>,
     entries: &[Entry],
@@ -65,7 +65,7 @@ pub(crate) fn arrive<F: Folder, B: BuilderIncoming>(
 }
 
 /// Whether the server at a place of the setup runs.
-pub(crate) fn runs_at<F: Folder, B: BuilderIncoming>(
+pub(crate) fn runs_at<F: Folder + Drop, B: BuilderIncoming + Drop>(
     stations: &[Station<F, B>],
     place: usize,
 ) -> bool
@@ -78,7 +78,7 @@ pub(crate) fn runs_at<F: Folder, B: BuilderIncoming>(
 }
 
 /// Bytes that come to the server at a place of the setup.
-pub(crate) fn arrive_at<F: Folder, B: BuilderIncoming>(
+pub(crate) fn arrive_at<F: Folder + Drop, B: BuilderIncoming + Drop>(
     desk: &Desk,
     stations: &mut Vec<Station<F, B>>,
     place: usize,
@@ -113,7 +113,7 @@ pub(crate) fn arrive_at<F: Folder, B: BuilderIncoming>(
 }
 
 /// A delivery.
-pub(crate) fn deliver<F: Folder, B: BuilderIncoming>(
+pub(crate) fn deliver<F: Folder + Drop, B: BuilderIncoming + Drop>(
     desk: &mut Desk,
     stations: &mut Vec<Station<F, B>>,
     entries: &[Entry],
@@ -147,7 +147,7 @@ pub(crate) fn deliver<F: Folder, B: BuilderIncoming>(
 }
 
 /// A heartbeat of a server.
-pub(crate) fn send_beat<F: Folder, B: BuilderIncoming>(
+pub(crate) fn send_beat<F: Folder + Drop, B: BuilderIncoming + Drop>(
     desk: &Desk,
     stations: &[Station<F, B>],
     entries: &[Entry],
@@ -180,7 +180,7 @@ pub(crate) fn send_beat<F: Folder, B: BuilderIncoming>(
 }
 
 /// A server starts again.
-pub(crate) fn restart_in<F: Folder, B: BuilderIncoming>(
+pub(crate) fn restart_in<F: Folder + Drop, B: BuilderIncoming + Drop>(
     alloc: Global,
     server: &SiteServer,
     station: &mut Station<F, B>,
@@ -199,7 +199,7 @@ pub(crate) fn restart_in<F: Folder, B: BuilderIncoming>(
 }
 
 /// A server that starts again, if it is of the farm.
-pub(crate) fn restart<F: Folder, B: BuilderIncoming>(
+pub(crate) fn restart<F: Folder + Drop, B: BuilderIncoming + Drop>(
     desk: &Desk,
     stations: &mut Vec<Station<F, B>>,
     addr: Addr,

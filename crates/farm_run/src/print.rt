@@ -87,7 +87,7 @@ fn push_rows(out: &mut String, servers: Servers<'_>) -> Result<(), AllocError>
 }
 
 /// Writes the lines of the reservations that are unended.
-fn push_jobs<F: Folder, B: BuilderIncoming>(out: &mut String, farm: &Farm<F, B>) -> Result<(), AllocError>
+fn push_jobs<F: Folder + Drop, B: BuilderIncoming + Drop>(out: &mut String, farm: &Farm<F, B>) -> Result<(), AllocError>
     ensures { OnOk result (string_bytes out.new ≡ string_bytes out.old ++ flat_map job_text
         (held_by_id (core_log farm.now.entries))) }
 {
@@ -122,7 +122,7 @@ fn push_archives(out: &mut String, addr: Addr, archives: Archives<'_>) -> Result
 }
 
 /// Writes the lines of jobs that a server holds, if it runs.
-fn push_jobs_of<F: Folder, B: BuilderIncoming>(
+fn push_jobs_of<F: Folder + Drop, B: BuilderIncoming + Drop>(
     out: &mut String,
     addr: Addr,
     station: &Station<F, B>,
@@ -140,7 +140,7 @@ fn push_jobs_of<F: Folder, B: BuilderIncoming>(
 }
 
 /// Writes the lines of a server's archives, if it runs.
-fn push_archives_of<F: Folder, B: BuilderIncoming>(
+fn push_archives_of<F: Folder + Drop, B: BuilderIncoming + Drop>(
     out: &mut String,
     addr: Addr,
     station: &Station<F, B>,
@@ -158,7 +158,7 @@ fn push_archives_of<F: Folder, B: BuilderIncoming>(
 }
 
 /// Writes the lines of what a server of a farm keeps.
-fn push_server<F: Folder, B: BuilderIncoming>(
+fn push_server<F: Folder + Drop, B: BuilderIncoming + Drop>(
     out: &mut String,
     farm: &Farm<F, B>,
     server: &SiteServer,
@@ -179,7 +179,7 @@ fn push_server<F: Folder, B: BuilderIncoming>(
 }
 
 /// Writes the lines of what each server of a farm keeps.
-fn push_servers<F: Folder, B: BuilderIncoming>(out: &mut String, farm: &Farm<F, B>) -> Result<(), AllocError>
+fn push_servers<F: Folder + Drop, B: BuilderIncoming + Drop>(out: &mut String, farm: &Farm<F, B>) -> Result<(), AllocError>
     ensures { OnOk result (string_bytes out.new ≡ string_bytes out.old ++ flat_map
         (λ s. server_text (server_of s farm.now.entries)) farm.now.setup.servers) }
 {
@@ -190,7 +190,7 @@ fn push_servers<F: Folder, B: BuilderIncoming>(out: &mut String, farm: &Farm<F, 
 }
 
 /// Writes what stands in the books of a farm.
-fn push_standing<F: Folder, B: BuilderIncoming>(out: &mut String, farm: &Farm<F, B>) -> Result<(), AllocError>
+fn push_standing<F: Folder + Drop, B: BuilderIncoming + Drop>(out: &mut String, farm: &Farm<F, B>) -> Result<(), AllocError>
     ensures { OnOk result (string_bytes out.new ≡ string_bytes out.old ++ standing_text farm.now.setup
         farm.now.entries) }
 {
@@ -202,7 +202,7 @@ fn push_standing<F: Folder, B: BuilderIncoming>(out: &mut String, farm: &Farm<F,
 }
 
 /// Writes the books of a farm.
-fn push_books<F: Folder, B: BuilderIncoming>(out: &mut String, farm: &Farm<F, B>) -> Result<(), AllocError>
+fn push_books<F: Folder + Drop, B: BuilderIncoming + Drop>(out: &mut String, farm: &Farm<F, B>) -> Result<(), AllocError>
     ensures { OnOk result (string_bytes out.new ≡ string_bytes out.old ++ books_text farm.now.setup
         farm.now.entries) }
 {
@@ -214,7 +214,7 @@ fn push_books<F: Folder, B: BuilderIncoming>(out: &mut String, farm: &Farm<F, B>
 }
 
 /// The text of a run: a farm, its entries, and its books after them. Refused for want of memory alone.
-pub fn print_run<F: Folder, B: BuilderIncoming>(alloc: Global, farm: &Farm<F, B>) -> Result<String, FarmFault>
+pub fn print_run<F: Folder + Drop, B: BuilderIncoming + Drop>(alloc: Global, farm: &Farm<F, B>) -> Result<String, FarmFault>
     ensures ok { IfOk result (λ text. string_bytes text ≡ run_text farm.now.setup farm.now.entries) }
     ensures err { IfErr result (λ e. e ≡ fault.Memory) }
 {

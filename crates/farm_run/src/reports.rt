@@ -105,7 +105,7 @@ fn unreported(
 }
 
 /// Goes on with a submission, by what the scheduler answered to Ready.
-fn end_ready<F: Folder, B: BuilderIncoming>(
+fn end_ready<F: Folder + Drop, B: BuilderIncoming + Drop>(
     alloc: Global,
     server: &SiteServer,
     station: &mut Station<F, B>,
@@ -153,7 +153,7 @@ fn behind(bytes: &[u8], place: usize) -> &[u8]
 }
 
 /// Goes on with a run, by what the scheduler answered to Started.
-fn end_started<F: Folder, B: BuilderIncoming>(
+fn end_started<F: Folder + Drop, B: BuilderIncoming + Drop>(
     desk: &Desk,
     server: &SiteServer,
     station: &mut Station<F, B>,
@@ -356,7 +356,7 @@ fn end_beat(alloc: Global, addr: Addr, reply: Option<&[u8]>) -> Result<Effect, F
 }
 
 /// Goes on with a call of a build server by its reply.
-pub fn go_on<F: Folder, B: BuilderIncoming>(
+pub fn go_on<F: Folder + Drop, B: BuilderIncoming + Drop>(
     desk: &Desk,
     server: &SiteServer,
     station: &mut Station<F, B>,

@@ -47,14 +47,14 @@ struct Log {
 
 /// A farm and the log of all that came to it. Contracts see how it was set up, the entries, and what is outside
 /// of its servers.
-pub struct Farm<F: Folder, B: BuilderIncoming> {
+pub struct Farm<F: Folder + Drop, B: BuilderIncoming + Drop> {
     desk: Desk,
     /// One for each server, in the order of the setup.
     stations: Vec<Station<F, B>>,
     log: Log,
 }
 
-impl<F: Folder, B: BuilderIncoming> Model for Farm<F, B> {
+impl<F: Folder + Drop, B: BuilderIncoming + Drop> Model for Farm<F, B> {
     ghost use Rattle.std.specs.Prelude.{map};
     ghost use Rattle.farm_run.specs.Farm.{Farmed};
     ghost use Rattle.farm_run.specs.Post.{outside_of};
@@ -74,7 +74,7 @@ impl<F: Folder, B: BuilderIncoming> Model for Farm<F, B> {
 }
 
 /// What is kept of calls that wait is undone.
-impl<F: Folder, B: BuilderIncoming> Drop for Farm<F, B> {
+impl<F: Folder + Drop, B: BuilderIncoming + Drop> Drop for Farm<F, B> {
     fn drop(self) {
         let Farm {
             desk,
@@ -93,13 +93,13 @@ impl<F: Folder, B: BuilderIncoming> Drop for Farm<F, B> {
 
 /// A run that stopped for want of memory.
 #[derive(Drop)]
-pub struct Stopped<F: Folder, B: BuilderIncoming> {
+pub struct Stopped<F: Folder + Drop, B: BuilderIncoming + Drop> {
     /// The entries of the events that were done whole.
     pub entries: Items<Entry>,
     stations: Vec<Station<F, B>>,
 }
 
-impl<F: Folder, B: BuilderIncoming> Stopped<F, B> {
+impl<F: Folder + Drop, B: BuilderIncoming + Drop> Stopped<F, B> {
     /// The folder of the last server that was not handed back yet, and its builder where that was handed in. It
     /// takes no memory.
     pub fn pop(&mut self) -> Option<(Option<F>, Option<B>)>
@@ -113,7 +113,7 @@ impl<F: Folder, B: BuilderIncoming> Stopped<F, B> {
 }
 
 /// Stops a run: what is kept of calls that wait is undone, and the entries are handed back.
-fn stop<F: Folder, B: BuilderIncoming>(
+fn stop<F: Folder + Drop, B: BuilderIncoming + Drop>(
     desk: Desk,
     stations: Vec<Station<F, B>>,
     log: Log,
@@ -133,7 +133,7 @@ fn stop<F: Folder, B: BuilderIncoming>(
     }
 }
 
-impl<F: Folder, B: BuilderIncoming> Farm<F, B> {
+impl<F: Folder + Drop, B: BuilderIncoming + Drop> Farm<F, B> {
     /// A farm with no entries, over stations that were begun.
     pub(crate) fn begun(alloc: Global, setup: Site, stations: Vec<Station<F, B>>) -> Self
         requires apart { HasApart setup }
@@ -297,9 +297,9 @@ impl<F: Folder, B: BuilderIncoming> Farm<F, B> {
 }
 
 /// What an event makes.
-fn made_of<F: Folder, B: BuilderIncoming>(
+fn made_of<F: Folder + Drop, B: BuilderIncoming + Drop>(
     desk: &mut Desk,
-    stations: &mut Vec<Station>,
+    stations: &mut Vec<Station<F, B>>,
     entries: &[Entry],
     kept: &mut Vec<Option<Pending>>,
     event: &Event,
@@ -378,9 +378,9 @@ fn made_of<F: Folder, B: BuilderIncoming>(
 }
 
 /// Makes the entry of an event.
-fn make<F: Folder, B: BuilderIncoming>(
+fn make<F: Folder + Drop, B: BuilderIncoming + Drop>(
     desk: &mut Desk,
-    stations: &mut Vec<Station>,
+    stations: &mut Vec<Station<F, B>>,
     log: &mut Log,
     event: &Event,
 ) -> Result<(), FarmFault>

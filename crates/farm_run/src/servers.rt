@@ -106,7 +106,7 @@ pub fn state_call(
 }
 
 /// The call of a server's heartbeat.
-fn beat_call<F: Folder, B: BuilderIncoming>(desk: &Desk, server: &SiteServer, station: &Station<F, B>) -> Result<OutCall, FarmFault>
+fn beat_call<F: Folder + Drop, B: BuilderIncoming + Drop>(desk: &Desk, server: &SiteServer, station: &Station<F, B>) -> Result<OutCall, FarmFault>
     ensures ok { IfOk result (λ c. c ≡ beat_call desk.now.setup (now_of server.now station.now)) }
     ensures err { IfErr result (λ e. e ≡ fault.Memory) }
 {
@@ -124,7 +124,7 @@ fn beat_call<F: Folder, B: BuilderIncoming>(desk: &Desk, server: &SiteServer, st
 }
 
 /// A server's heartbeat, made by the entry of that number.
-pub fn beat<F: Folder, B: BuilderIncoming>(
+pub fn beat<F: Folder + Drop, B: BuilderIncoming + Drop>(
     desk: &Desk,
     server: &SiteServer,
     station: &Station<F, B>,
@@ -152,7 +152,7 @@ pub fn beat<F: Folder, B: BuilderIncoming>(
 }
 
 /// Assigns a job.
-fn assign<F: Folder, B: BuilderIncoming>(
+fn assign<F: Folder + Drop, B: BuilderIncoming + Drop>(
     alloc: Global,
     server: &SiteServer,
     station: &mut Station<F, B>,
@@ -189,7 +189,7 @@ fn assign<F: Folder, B: BuilderIncoming>(
 }
 
 /// What is kept of a call that a server makes.
-fn report<F: Folder, B: BuilderIncoming>(server: &SiteServer, station: &Station<F, B>, wish: Wish, told: Told) -> Pending
+fn report<F: Folder + Drop, B: BuilderIncoming + Drop>(server: &SiteServer, station: &Station<F, B>, wish: Wish, told: Told) -> Pending
     ensures { result ≡ report_of wish.number wish.json (now_of server.now station.now) told }
 {
     Pending {
@@ -204,7 +204,7 @@ fn report<F: Folder, B: BuilderIncoming>(server: &SiteServer, station: &Station<
 }
 
 /// What a server does with what is asked of it.
-fn serve_asked<F: Folder, B: BuilderIncoming>(
+fn serve_asked<F: Folder + Drop, B: BuilderIncoming + Drop>(
     desk: &Desk,
     server: &SiteServer,
     station: &mut Station<F, B>,
@@ -259,7 +259,7 @@ fn serve_asked<F: Folder, B: BuilderIncoming>(
 }
 
 /// What is made of bytes that come to a build server.
-pub fn serve_at<F: Folder, B: BuilderIncoming>(
+pub fn serve_at<F: Folder + Drop, B: BuilderIncoming + Drop>(
     desk: &Desk,
     server: &SiteServer,
     station: &mut Station<F, B>,

@@ -28,7 +28,7 @@ use lru_disk_cache::folder::Folder;
 use farm_script::fault::FarmFault;
 
 /// A call of the server at a place of the setup goes on by its reply, where the life that made it goes on.
-pub(crate) fn report_at<F: Folder, B: BuilderIncoming>(
+pub(crate) fn report_at<F: Folder + Drop, B: BuilderIncoming + Drop>(
     desk: &Desk,
     stations: &mut Vec<Station<F, B>>,
     place: usize,
@@ -68,7 +68,7 @@ pub(crate) fn report_at<F: Folder, B: BuilderIncoming>(
 }
 
 /// A call of a server goes on by its reply, where the life that made it goes on; else who asked is gone.
-pub(crate) fn report_in<F: Folder, B: BuilderIncoming>(
+pub(crate) fn report_in<F: Folder + Drop, B: BuilderIncoming + Drop>(
     desk: &Desk,
     server: &SiteServer,
     station: &mut Station<F, B>,
@@ -98,7 +98,7 @@ pub(crate) fn report_in<F: Folder, B: BuilderIncoming>(
 }
 
 /// A call of a server that comes back.
-pub(crate) fn report<F: Folder, B: BuilderIncoming>(
+pub(crate) fn report<F: Folder + Drop, B: BuilderIncoming + Drop>(
     desk: &Desk,
     stations: &mut Vec<Station<F, B>>,
     entries: &[Entry],
@@ -130,7 +130,7 @@ pub(crate) fn report<F: Folder, B: BuilderIncoming>(
 }
 
 /// A call that is kept goes on by its reply.
-pub(crate) fn go_on<F: Folder, B: BuilderIncoming>(
+pub(crate) fn go_on<F: Folder + Drop, B: BuilderIncoming + Drop>(
     desk: &mut Desk,
     stations: &mut Vec<Station<F, B>>,
     entries: &[Entry],
@@ -183,7 +183,7 @@ pub(crate) fn go_on<F: Folder, B: BuilderIncoming>(
 }
 
 /// A call that is to be settled.
-pub(crate) fn take_back<F: Folder, B: BuilderIncoming>(
+pub(crate) fn take_back<F: Folder + Drop, B: BuilderIncoming + Drop>(
     desk: &mut Desk,
     stations: &mut Vec<Station<F, B>>,
     entries: &[Entry],

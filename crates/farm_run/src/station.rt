@@ -50,7 +50,7 @@ use std::marker::Model;
 
 /// A build server of a farm: its life, what it keeps over its folder, and its builder.
 #[derive(Drop)]
-pub struct Station<F: Folder, B: BuilderIncoming> {
+pub struct Station<F: Folder + Drop, B: BuilderIncoming + Drop> {
     /// How often it was restarted.
     life: u64,
     nonce: ServerNonce,
@@ -68,7 +68,7 @@ pub struct Station<F: Folder, B: BuilderIncoming> {
     builder: Option<B>,
 }
 
-impl<F: Folder, B: BuilderIncoming> Model for Station<F, B> {
+impl<F: Folder + Drop, B: BuilderIncoming + Drop> Model for Station<F, B> {
     ghost use Rattle.std.specs.Prelude.{is_some};
     ghost use Rattle.std.specs.Option.{option_map};
     ghost use Rattle.build_server.specs.Builds.{builder_of};
@@ -93,7 +93,7 @@ impl<F: Folder, B: BuilderIncoming> Model for Station<F, B> {
 }
 
 /// A server that holds nothing, over what its folder has. Where that fails the folder is handed back.
-fn open<F: Folder>(
+fn open<F: Folder + Drop>(
     alloc: Global,
     folder: F,
     capacity: u64,
@@ -113,7 +113,7 @@ fn open<F: Folder>(
 }
 
 /// That the archives of a cache fit its capacity.
-fn fits<F: Folder>(cache: &TcCache<F>)
+fn fits<F: Folder + Drop>(cache: &TcCache<F>)
     ensures { total cache.now.archives ≤ cache.now.capacity }
 {
     match cache.archives().next() {
@@ -126,7 +126,7 @@ fn fits<F: Folder>(cache: &TcCache<F>)
 
 /// The same over the folder of a server that ran. Where its archives were those of the files, they are so
 /// again.
-fn open_again<F: Folder>(
+fn open_again<F: Folder + Drop>(
     alloc: Global,
     state: ServerState<F>,
     capacity: u64,
@@ -142,7 +142,7 @@ fn open_again<F: Folder>(
 }
 
 /// The same over the folder of a server that was shut.
-fn open_shut<F: Folder>(
+fn open_shut<F: Folder + Drop>(
     alloc: Global,
     closed: Option<F>,
     capacity: u64,
@@ -162,7 +162,7 @@ fn open_shut<F: Folder>(
 }
 
 /// The same over the folder of a server, whether it ran or was shut.
-fn open_over<F: Folder>(
+fn open_over<F: Folder + Drop>(
     alloc: Global,
     state: Option<ServerState<F>>,
     closed: Option<F>,
@@ -185,7 +185,7 @@ fn open_over<F: Folder>(
 }
 
 /// The archives of a server, least recent first. Refused for want of memory alone.
-fn list_of<F: Folder>(
+fn list_of<F: Folder + Drop>(
     alloc: Global,
     state: &ServerState<F>,
 ) -> Result<Items<(Toolchain, u64)>, AllocError>
@@ -270,7 +270,7 @@ fn build_listed(
 }
 
 /// A build of what was taken out, by a builder that was handed in.
-fn build_with<B: BuilderIncoming>(
+fn build_with<B: BuilderIncoming + Drop>(
     builder: &mut B,
     held: RunHeld,
     run: &RunJobHttpRequest,
@@ -290,7 +290,7 @@ fn build_with<B: BuilderIncoming>(
 }
 
 /// A build of what was taken out, by a builder that was handed in or one of the farm's own.
-fn build<B: BuilderIncoming>(
+fn build<B: BuilderIncoming + Drop>(
     alloc: Global,
     server: &SiteServer,
     builds: u64,
@@ -316,7 +316,7 @@ fn build<B: BuilderIncoming>(
     }
 }
 
-impl<F: Folder, B: BuilderIncoming> Station<F, B> {
+impl<F: Folder + Drop, B: BuilderIncoming + Drop> Station<F, B> {
     /// A server as it was set up, over that folder, with a builder that was handed in or none, and what its
     /// opening found. Refused for want of memory alone.
     pub fn begun(
@@ -565,6 +565,9 @@ impl<F: Folder, B: BuilderIncoming> Station<F, B> {
         ensures still_well { OnOk result (IsWell server.now self.new) }
         ensures err { IfErr result (λ e. e ≡ fault.Memory) }
     {
+        if self.builder.is_none() && self.state.is_none() {
+            return Err(FarmFault::Memory);
+        }
         let authorizer = JWTJobAuthorizer::of_key(Vec::from_slice(alloc, key)?);
         let state = self.state.take();
         let closed = self.closed.take();

@@ -7,12 +7,12 @@ use Rattle.farm_run.proofs.RowLemmas.{beat_received, no_beat_received}
 use Rattle.farm_run.proofs.arrivals.send_beat.Goals as goal
 
 pub returns-in-None-clause-received : goal.returns-in-None-clause-received
-returns-in-None-clause-received c = λ at.
+returns-in-None-clause-received g c = λ at.
     no_beat_received c.args.desk.now.setup c.args.desk.now.state c.args.entries.now
     (length c.args.entries.now) at c.args.addr c.idle.result (sym c.in-None.ensures.place) c.idle.ensures
 
 pub returns-in_ok-made-in-Some-get-2-clause-received : goal.returns-in_ok-made-in-Some-get-2-clause-received
-returns-in_ok-made-in-Some-get-2-clause-received c = λ at.
+returns-in_ok-made-in-Some-get-2-clause-received g c = λ at.
     let there : slice_get c.args.desk.now.setup.servers c.in-Some.place ≡ Some c.in-Some-get.server.now =
     subst (λ (xs : List SetupServer). slice_get xs c.in-Some.place ≡ Some c.in-Some-get.server.now)
     c.get.ensures.items
@@ -29,4 +29,5 @@ returns-in_ok-made-in-Some-get-2-clause-received c = λ at.
     beat_received c.args.desk.now.setup c.args.desk.now.state c.args.entries.now c.args.stations.now
     (length c.args.entries.now) at c.args.addr c.in-Some.place c.in-Some-get-2.station.now
     c.in_ok-made-in-Some-get-2.made f c.requires.stations stands
+    (sym c.is_running.ensures ∙ c.if-is_running.true)
     c.in_ok-made-in-Some-get-2.ensures.effect c.in_ok-made-in-Some-get-2.ensures.pending

@@ -1,0 +1,122 @@
+-- Servers that begin one by one.
+use Rattle.std.proofs.Common.{◌≡◌, inl, inr, ℕ, zero, suc, ◌+◌, ◌<◌, ◌≤◌, List, [], ◌∷◌, ◌++◌, length, map, Option}
+use Rattle.std.proofs.Common.{Some, None, refl, sym, ap, subst, ◌∙◌, arith}
+use Rattle.std.specs.Prelude.{slice_get}
+use Rattle.std.proofs.lemmas.Bool.{cases_lt}
+use Rattle.std.proofs.lemmas.Option.{same_Some}
+use Rattle.lru_disk_cache.specs.Held.{Held}
+use Rattle.build_server.specs.Builds.{Builder}
+use Rattle.farm_script.specs.declared.setup.SetupServer.{SetupServer as Script}
+use Rattle.farm_run.specs.declared.site.SiteServer.{SiteServer}
+use Rattle.farm_run.specs.Begins.{IsBegunAs, AreBegun}
+use Rattle.farm_run.specs.Passage.{AreOwn}
+use Rattle.farm_run.specs.Post.{Post, outside_of}
+use Rattle.farm_run.specs.Servers.{server_begun}
+use Rattle.farm_run.specs.Sites.{site_server}
+use Rattle.farm_run.specs.Stations.{now_of, IsWell, AreStations}
+use Rattle.farm_run.specs.Weather.{Outside}
+use Rattle.farm_run.proofs.ServerLemmas.{stations_none, stations_push}
+
+-- ---- lists
+
+pub map_end : {A B : Type 0} (f : A → B) (xs : List A) (x : A) → map f (xs ++ x ∷ []) ≡ map f xs ++ f x ∷ []
+map_end {A} {B} f [] x = refl
+map_end {A} {B} f (y ∷ ys) x = ap (λ (zs : List B). f y ∷ zs) (map_end f ys x)
+
+length_end : {A : Type 0} (xs : List A) (x : A) → length (xs ++ x ∷ []) ≡ length xs + 1
+length_end [] x = refl
+length_end (y ∷ ys) x = ap (λ (n : ℕ). suc n) (length_end ys x)
+
+get_left : {A : Type 0} (xs : List A) (x : A) (i : ℕ) → i < length xs → slice_get (xs ++ x ∷ []) i
+    ≡ slice_get xs i
+get_left [] x i h = absurd (omega arith)
+get_left (y ∷ ys) x zero h = refl
+get_left (y ∷ ys) x (suc i) h = get_left ys x i (omega arith)
+
+get_end : {A : Type 0} (xs : List A) (x y : A) (i : ℕ) → length xs ≤ i → slice_get (xs ++ x ∷ []) i ≡ Some y
+    → (i ≡ length xs) × (x ≡ y)
+get_end [] x y zero h e = (refl, same_Some x y e)
+get_end [] x y (suc i) h e = absurd cc
+get_end (z ∷ zs) x y zero h e = absurd (omega arith)
+get_end (z ∷ zs) x y (suc i) h e =
+    let r = get_end zs x y i (omega arith) e in
+    (ap (λ (n : ℕ). suc n) r.0, r.1)
+
+-- ---- servers of the farm's own
+
+own_end : (os : List Outside) (o : Outside) → AreOwn os → o.builder ≡ None → (i : ℕ) (x : Outside)
+    → slice_get (os ++ o ∷ []) i ≡ Some x → x.builder ≡ None
+own_end [] o own none zero x at = subst (λ (y : Outside). y.builder ≡ None) (same_Some o x at) none
+own_end [] o own none (suc i) x at = absurd cc
+own_end (p ∷ ps) o own none zero x at = own zero x at
+own_end (p ∷ ps) o own none (suc i) x at = own_end ps o (λ j y e. own (suc j) y e) none i x at
+
+-- the servers so far, with their stations
+pub record OwnSoFar (ss : List Script) (ts : List SiteServer) (sts : List Post) : Type 0 where
+  pub sites : ts ≡ map (site_server (Some [])) ss
+  pub stations : AreStations ts [] sts
+  pub own : AreOwn (map outside_of sts)
+
+pub own_none : OwnSoFar [] [] []
+own_none = record { sites = refl; stations = stations_none []; own = λ i o at. absurd cc }
+
+pub own_push : (ss : List Script) (ts : List SiteServer) (sts : List Post) (s : Script) (t : SiteServer)
+    (st : Post) → OwnSoFar ss ts sts → t ≡ site_server (Some []) s → now_of t st ≡ server_begun t
+    → IsWell t st → st.builder ≡ None → OwnSoFar (ss ++ s ∷ []) (ts ++ t ∷ []) (sts ++ st ∷ [])
+own_push ss ts sts s t st is site now well none = record {
+  sites = ap (λ (us : List SiteServer). us ++ t ∷ []) is.sites
+      ∙ ap (λ (u : SiteServer). map (site_server (Some [])) ss ++ u ∷ []) site
+      ∙ sym (map_end (site_server (Some [])) ss s);
+  stations = stations_push [] ts sts t st is.stations (record { now = now; well = well });
+  own = subst AreOwn (sym (map_end outside_of sts st)) (own_end (map outside_of sts) (outside_of st) is.own none);
+}
+
+-- ---- servers over what is handed in
+
+-- the servers so far, with their stations
+pub record HandedSoFar (ss : List Script) (fs : List Held) (bs : List Builder) (ts : List SiteServer)
+    (sts : List Post) : Type 0 where
+  pub begun : AreBegun ss fs bs ts (map outside_of sts)
+  pub stations : AreStations ts [] sts
+
+pub handed_none : (fs : List Held) (bs : List Builder) → HandedSoFar [] fs bs [] []
+handed_none fs bs = record {
+  begun = record { sites = refl; outside = refl; each = λ i s f b t o at ft bt tt' ot. absurd cc };
+  stations = stations_none [];
+}
+
+begun_end : (ss : List Script) (fs : List Held) (bs : List Builder) (ts : List SiteServer) (os : List Outside)
+    (s : Script) (f : Held) (b : Builder) (t : SiteServer) (o : Outside) → AreBegun ss fs bs ts os
+    → slice_get fs (length ss) ≡ Some f → slice_get bs (length ss) ≡ Some b → IsBegunAs s f b t o
+    → AreBegun (ss ++ s ∷ []) fs bs (ts ++ t ∷ []) (os ++ o ∷ [])
+begun_end ss fs bs ts os s f b t o are folder builder is = record {
+  sites = length_end ts t ∙ ap (λ (n : ℕ). n + 1) are.sites ∙ sym (length_end ss s);
+  outside = length_end os o ∙ ap (λ (n : ℕ). n + 1) are.outside ∙ sym (length_end ss s);
+  each = λ i s' f' b' t' o' at ft bt ct ot. elim (cases_lt i (length ss)) [
+    | inl before ↦ are.each i s' f' b' t' o' (sym (get_left ss s i before) ∙ at) ft bt
+        (sym (get_left ts t i (omega (arith, before, are.sites))) ∙ ct)
+        (sym (get_left os o i (omega (arith, before, are.outside))) ∙ ot)
+    | inr past ↦
+        let a = get_end ss s s' i past at in
+        let c = get_end ts t t' i (omega (arith, past, are.sites)) ct in
+        let d = get_end os o o' i (omega (arith, past, are.outside)) ot in
+        let e : f ≡ f' = same_Some f f' (sym folder ∙ ap (slice_get fs) (sym a.0) ∙ ft) in
+        let g : b ≡ b' = same_Some b b' (sym builder ∙ ap (slice_get bs) (sym a.0) ∙ bt) in
+        subst (λ (x : Script). IsBegunAs x f' b' t' o') a.1
+        (subst (λ (x : Held). IsBegunAs s x b' t' o') e
+        (subst (λ (x : Builder). IsBegunAs s f x t' o') g
+        (subst (λ (x : SiteServer). IsBegunAs s f b x o') c.1
+        (subst (λ (x : Outside). IsBegunAs s f b t x) d.1 is))))
+  ];
+}
+
+pub handed_push : (ss : List Script) (fs : List Held) (bs : List Builder) (ts : List SiteServer)
+    (sts : List Post) (s : Script) (f : Held) (b : Builder) (t : SiteServer) (st : Post)
+    → HandedSoFar ss fs bs ts sts → slice_get fs (length ss) ≡ Some f → slice_get bs (length ss) ≡ Some b
+    → IsBegunAs s f b t (outside_of st) → now_of t st ≡ server_begun t → IsWell t st
+    → HandedSoFar (ss ++ s ∷ []) fs bs (ts ++ t ∷ []) (sts ++ st ∷ [])
+handed_push ss fs bs ts sts s f b t st is folder builder begun now well = record {
+  begun = subst (AreBegun (ss ++ s ∷ []) fs bs (ts ++ t ∷ [])) (sym (map_end outside_of sts st))
+      (begun_end ss fs bs ts (map outside_of sts) s f b t (outside_of st) is.begun folder builder begun);
+  stations = stations_push [] ts sts t st is.stations (record { now = now; well = well });
+}
