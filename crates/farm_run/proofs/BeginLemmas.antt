@@ -1,9 +1,10 @@
 -- Servers that begin one by one.
 use Rattle.std.proofs.Common.{◌≡◌, inl, inr, ℕ, zero, suc, ◌+◌, ◌<◌, ◌≤◌, List, [], ◌∷◌, ◌++◌, length, map, Option}
-use Rattle.std.proofs.Common.{Some, None, refl, sym, ap, subst, ◌∙◌, arith}
-use Rattle.std.specs.Prelude.{slice_get}
+use Rattle.std.proofs.Common.{Some, None, refl, sym, ap, subst, ◌∙◌, arith, drop}
+use Rattle.std.specs.Prelude.{slice_get, get_or}
 use Rattle.std.proofs.lemmas.Bool.{cases_lt}
-use Rattle.std.proofs.lemmas.Option.{same_Some}
+use Rattle.std.proofs.lemmas.List.{length-drop}
+use Rattle.std.proofs.lemmas.Option.{same_Some, slice_get_read}
 use Rattle.lru_disk_cache.specs.Held.{Held}
 use Rattle.build_server.specs.Builds.{Builder}
 use Rattle.farm_script.specs.declared.setup.SetupServer.{SetupServer as Script}
@@ -120,3 +121,29 @@ handed_push ss fs bs ts sts s f b t st is folder builder begun now well = record
       (begun_end ss fs bs ts (map outside_of sts) s f b t (outside_of st) is.begun folder builder begun);
   stations = stations_push [] ts sts t st is.stations (record { now = now; well = well });
 }
+
+-- ---- what is left of a list whose items are taken from the front
+
+pub left_there : {A : Type 0} (xs ys : List A) (i : ℕ) → ys ≡ drop i xs → i < length xs → 0 < length ys
+left_there xs ys i is lt = subst (λ (zs : List _). 0 < length zs) (sym is) (omega (arith, length-drop i xs, lt))
+
+get_drop : {A : Type 0} (xs : List A) (i : ℕ) → slice_get (drop i xs) 0 ≡ slice_get xs i
+get_drop [] zero = refl
+get_drop [] (suc i) = refl
+get_drop (x ∷ xs) zero = refl
+get_drop (x ∷ xs) (suc i) = get_drop xs i
+
+pub left_first : {A : Type 0} (xs ys : List A) (i : ℕ) (x : A) → ys ≡ drop i xs → i < length xs
+    → x ≡ get_or ys 0 x → slice_get xs i ≡ Some x
+left_first xs ys i x is lt e = sym (get_drop xs i) ∙ ap (λ (zs : List _). slice_get zs 0) (sym is)
+    ∙ slice_get_read ys (length ys) 0 x refl (left_there xs ys i is lt) e
+
+pub left_rest : {A : Type 0} (xs ys zs : List A) (i : ℕ) → ys ≡ drop i xs → zs ≡ drop 1 ys
+    → zs ≡ drop (i + 1) xs
+left_rest xs ys zs i is e = e ∙ ap (λ (l : List _). drop 1 l) is ∙ rest xs i
+  where
+    rest : {A : Type 0} (l : List A) (n : ℕ) → drop 1 (drop n l) ≡ drop (n + 1) l
+    rest [] zero = refl
+    rest [] (suc n) = refl
+    rest (x ∷ l) zero = refl
+    rest (x ∷ l) (suc n) = rest l n

@@ -2,7 +2,7 @@
 use Rattle.std.proofs.Common.{◌≡◌, ◌⊎◌, inl, inr, ℕ, Bool, true, false, cond, List, [], ◌∷◌, ◌++◌, length, map}
 use Rattle.std.proofs.Common.{drop, set, Option}
 use Rattle.std.proofs.Common.{Some, None, Result, Ok, Err, refl, sym, ap, subst, ◌∙◌}
-use Rattle.std.specs.Prelude.{slice_get, position}
+use Rattle.std.specs.Prelude.{slice_get, position, IfOk}
 use Rattle.std.specs.Option.{option_map}
 use Rattle.std.proofs.lemmas.Option.{same_Some}
 use Rattle.dist_types.specs.Addr.{same_addr}
@@ -22,7 +22,10 @@ use Rattle.sched_core.specs.declared.entry.CoreKind.TheVariants as core
 use Rattle.sched_core.specs.declared.entry.Reserved.TheVariants as reserve
 use Rattle.http_routes.specs.declared.route.SchedRouted.{SchedRouted}
 use Rattle.http_routes.specs.declared.route.SchedRouted.TheVariants as asked
-use Rattle.farm_run.specs.Settled.{assignment_end}
+use Rattle.farm_run.specs.Settled.{IsOutcome, assignment_end}
+use Rattle.farm_run.specs.Next.{GoesOn}
+use Rattle.farm_run.specs.Seen.{core_of}
+use Rattle.farm_run.specs.declared.pending.Ask.TheVariants.{Assign}
 use Rattle.farm_run.proofs.NextLemmas.{served_core}
 use Rattle.build_server.specs.Rules.{assign_verdict}
 use Rattle.build_server.specs.declared.fault.ServerFault.{ServerFault}
@@ -47,7 +50,8 @@ use Rattle.farm_run.specs.Begun.{IsBegunBy, Keeps}
 use Rattle.farm_run.specs.Effects.{word_effect, entry_of}
 use Rattle.farm_run.specs.Farm.{IsFarm, IsReceived, IsMadeSo}
 use Rattle.farm_run.specs.Served.{assigned, served, books_of, IsServerAnswered, beat_effect}
-use Rattle.farm_run.specs.Served.{report_of}
+use Rattle.farm_run.specs.Served.{AsksServer, told_of, report_of}
+use Rattle.http_routes.specs.declared.server_route.ServerAsked.{ServerAsked}
 use Rattle.farm_run.specs.Servers.{ServerNow, restarted, stepped, server_of, server_at, server_now, is_over}
 use Rattle.farm_run.specs.Settled.{ReadyEnds, StartedEnds, complete_end, Reports, Lives, ReportsIn}
 use Rattle.farm_run.specs.Weather.{Weather, calm, weather_of, opened_effect}
@@ -130,6 +134,31 @@ pub report_step : (w : Weather) (setup : Setup) (life : ℕ) (s : ServerNow) (by
     (Some s) x → IsStepOf s.setup.addr x.step
 report_step w setup life s bytes root json reply t x is = lives_of w setup life s bytes root json reply t
     (is_over life s) x is
+
+-- what a server makes of bytes that ask that
+pub server_answered : {E : Type 0} (setup : Setup) (s : ServerNow) (number : ℕ) (bytes : List ℕ)
+    (a : ServerAsked) (r : Result Made E) → AsksServer s bytes a
+    → IfOk r (λ m. m.effect ≡ served setup s number a.json a.what)
+    → IfOk r (λ m. IsServerAnswered setup s number bytes m.effect)
+server_answered setup s number bytes a (Ok m) asks h = (a, asks, h)
+server_answered setup s number bytes a (Err e) asks h = tt
+
+kept_asked : (setup : Setup) (log : List CoreEntry) (s : ServerNow) (number : ℕ) (bytes : List ℕ)
+    (a : ServerAsked) (x : Effect) (o : Option Pending) → AsksServer s bytes a
+    → Keeps (λ p. (t : Told) × (told_of a.body a.what ≡ Some t) × (p ≡ report_of number a.json s t)) x o
+    → Keeps (IsBegunBy setup log number (to_server s bytes) x) x o
+kept_asked setup log s number bytes a x None asks h = h
+kept_asked setup log s number bytes a x (Some p) asks h =
+    ((a, asks, record { told = h.0.0; begins = h.0.1; is = h.0.2 }), h.1, h.2)
+
+pub server_kept : {E : Type 0} (setup : Setup) (log : List CoreEntry) (s : ServerNow) (number : ℕ)
+    (bytes : List ℕ) (a : ServerAsked) (r : Result Made E) → AsksServer s bytes a
+    → IfOk r (λ m. Keeps (λ p. (t : Told) × (told_of a.body a.what ≡ Some t)
+    × (p ≡ report_of number a.json s t)) m.effect m.pending)
+    → IfOk r (λ m. Keeps (IsBegunBy setup log number (to_server s bytes) m.effect) m.effect m.pending)
+server_kept setup log s number bytes a (Ok m) asks h = kept_asked setup log s number bytes a m.effect m.pending
+    asks h
+server_kept setup log s number bytes a (Err e) asks h = tt
 
 -- what is asked of a server reaches for neither its folder nor its builder
 
@@ -330,6 +359,14 @@ pub end_step : (s : Core) (root : ℕ) (json : Bool) (at : ℕ) (t : Ticket)
 end_step s root json at t (Ok a) = refl
 end_step s root json at t (Err f) = refl
 
+-- an assignment that comes back
+pub goes_assigned : (setup : Setup) (log : List Entry) (at root : ℕ) (json : Bool) (reply : Option (List ℕ))
+    (t : Ticket) (core : Core) (x : Effect) → core ≡ core_of setup log
+    → (r : Result AssignJobResult CallFault) → IsOutcome reply r → x ≡ assignment_end core root json at t r
+    → GoesOn calm setup log at root json reply (Assign t) x
+goes_assigned setup log at root json reply t core x same r is made =
+    (r, is, made ∙ ap (λ (c : Core). assignment_end c root json at t r) same)
+
 -- ---- a restart
 
 -- the server at a place of the setup starts again
@@ -384,6 +421,29 @@ step_same place x sts new server s station st after es et put now well leaves =
     record { after = after; is = put; now = now; well = well; outside = leaves } in
     subst (λ (y : SetupServer). IsStepAt y place st x sts new) es
     (subst (λ (y : Station). IsStepAt server place y x sts new) et is)
+
+-- a report that comes back to its place
+abbrev pub IsReported : Setup → ℕ → ℕ → List ℕ → ℕ → Bool → Option (List ℕ) → Told → Effect → List Station
+    → List Station → SetupServer → Station → Type 0
+IsReported setup place life bytes root json reply t x sts new s st =
+    (is : IsStepAt s place st x.step sts new)
+    × ReportsIn (weather_of (outside_of st) (outside_of is.after)) setup life bytes root json reply t
+    (Some (now_of s st)) x
+
+pub report_same : (setup : Setup) (place life : ℕ) (bytes : List ℕ) (root : ℕ) (json : Bool)
+    (reply : Option (List ℕ)) (t : Told) (x : Effect) (sts new : List Station) (server s : SetupServer)
+    (station st after : Station) → server ≡ s → station ≡ st → new ≡ set sts place after
+    → now_of server after ≡ stepped x.step (now_of server station) → IsWell server after
+    → Leaves x.step (outside_of station) (outside_of after)
+    → ReportsIn (weather_of (outside_of station) (outside_of after)) setup life bytes root json reply t
+    (Some (now_of server station)) x
+    → IsReported setup place life bytes root json reply t x sts new s st
+report_same setup place life bytes root json reply t x sts new server s station st after es et put now well leaves
+    reports =
+    let is : IsReported setup place life bytes root json reply t x sts new server station =
+    (record { after = after; is = put; now = now; well = well; outside = leaves }, reports) in
+    subst (λ (y : SetupServer). IsReported setup place life bytes root json reply t x sts new y st) es
+    (subst (λ (y : Station). IsReported setup place life bytes root json reply t x sts new server y) et is)
 
 -- ---- what a restart makes
 

@@ -1,7 +1,7 @@
 -- What a server's calls leave of its station.
-use Rattle.std.proofs.Common.{◌≡◌, ◌≢◌, ◌⊎◌, inl, inr, ℕ, Bool, true, false, cond, List, [], Option, Some, None}
+use Rattle.std.proofs.Common.{◌≡◌, ◌≢◌, ◌⊎◌, inl, inr, ◌≤◌, codes, ℕ, Bool, true, false, cond, List, [], Option, Some, None}
 use Rattle.std.proofs.Common.{Result, Ok, Err, refl, sym, ap, subst, ◌∙◌}
-use Rattle.std.specs.Prelude.{slice_get, is_some, is_none}
+use Rattle.std.specs.Prelude.{slice_get, is_some, is_none, IfOk, not, ◌&&◌}
 use Rattle.std.proofs.lemmas.Bool.{true≢false}
 use Rattle.dist_types.specs.Cause.{counted}
 use Rattle.dist_types.specs.declared.builder.BuildFault.{BuildFault}
@@ -9,7 +9,9 @@ use Rattle.dist_types.specs.declared.builder.BuildFault.TheVariants as build
 use Rattle.dist_types.specs.declared.ids.JobId.{JobId}
 use Rattle.dist_types.specs.declared.results.BuildResult.{BuildResult}
 use Rattle.dist_wire.specs.declared.run.RunJobHttpRequest.{RunJobHttpRequest}
-use Rattle.lru_disk_cache.specs.Archives.{Archives}
+use Rattle.lru_disk_cache.specs.Archives.{Archives, archives_in, opened_archives, IsInStep}
+use Rattle.lru_disk_cache.specs.Archiving.{ArchivesReopen}
+use Rattle.lru_disk_cache.specs.Entries.{total}
 use Rattle.lru_disk_cache.specs.Held.{Held, Holds}
 use Rattle.lru_disk_cache.specs.Store.{OpenFails}
 use Rattle.lru_disk_cache.specs.declared.error.Error.{Error}
@@ -403,6 +405,37 @@ pub reopened_is : (s : ServerNow) (key : List ℕ) (nonce : ℕ) (o : Option Arc
 reopened_is s key nonce None = refl
 reopened_is s key nonce (Some list) = own_step (restarted (Some (key, nonce)) s) (kinds.Opened list)
 
+-- an opening over the folder of a server that ran
+pub reopens : {F E : Type 0} (held : F → Held) (capacity : ℕ) (old : Books) (archives : Archives) (most : ℕ)
+    (origin : F) (r : Result Books E) → old.folder ≡ held origin → old.capacity ≡ capacity
+    → old.path ≡ codes "tc" → archives ≡ old.archives → most ≡ old.capacity → total archives ≤ most
+    → ArchivesReopen → IfOk r (λ s. s.held ≡ [])
+    → IfOk r (λ s. Holds (held origin) (λ files. s.archives ≡ opened_archives (codes "tc") capacity files))
+    → IfOk r (λ s. (s.capacity ≡ capacity) × (s.path ≡ codes "tc"))
+    → IfOk r (λ s. IsInStep s.path s.folder s.archives)
+    → IfOk r (λ s. s.folder.faults ≡ (held origin).faults) → IfOk r (IsReopened held true capacity old)
+reopens held capacity old archives most origin (Err e) from cap path same size fits law none opens at step steady =
+    tt
+reopens held capacity old archives most origin (Ok s) from cap path same size fits law none opens at step steady =
+    record {
+      holds = none;
+      origin = origin;
+      from = from;
+      archives = λ files told. opens files (sym (ap (λ (h : Held). h.files) from) ∙ told);
+      keeps = λ ran in_step files told.
+          let fit : total old.archives ≤ capacity =
+          subst (λ (n : ℕ). total old.archives ≤ n) (size ∙ cap)
+          (subst (λ (a : Archives). total a ≤ most) same fits) in
+          let are : archives_in (codes "tc") files ≡ old.archives =
+          subst (λ (p : List ℕ). archives_in p files ≡ old.archives) path (in_step files told) in
+          opens files (sym (ap (λ (h : Held). h.files) from) ∙ told)
+          ∙ law (codes "tc") capacity files old.archives are fit;
+      capacity_is = at.0;
+      path_is = at.1;
+      step = step;
+      steady = steady ∙ ap (λ (h : Held). h.faults) (sym from);
+    }
+
 -- the station of the next life, over those books
 abbrev pub reborn : Station → List ℕ → ℕ → Bool → Books → Bool → Station
 reborn st key nonce running books failed = record {
@@ -457,6 +490,23 @@ module _ {F : Type 0} (held : F → Held) (s : SetupServer) (st : Station) (new 
     step = λ e. is.step;
     own = λ e. refl;
   }
+
+-- the same in the words of a call
+pub opened_at : {F : Type 0} (held : F → Held) (s : SetupServer) (st : Station) (new : Books)
+    (found : Archives) (key : List ℕ) (nonce : ℕ) → IsWell s st
+    → IsReopened held st.running s.capacity st.state new → found ≡ new.archives
+    → (st.builder ≡ None → IsTelling held) → (is_none st.builder && not st.running) ≡ false
+    → Opens (weather_of (outside_of st) (outside_of (reborn st key nonce true new false))) (now_of s st)
+    (Some found)
+opened_at held s st new found key nonce well is same tells shut =
+    subst (λ (a : Archives). Opens (weather_of (outside_of st) (outside_of (reborn st key nonce true new false)))
+    (now_of s st) (Some a)) (sym same)
+    (opened_so held s st new key nonce well is tells (λ e. runs st.running
+    (sym (ap (λ (o : Option Builder). is_none o && not st.running) e) ∙ shut)))
+  where
+    runs : (b : Bool) → not b ≡ false → b ≡ true
+    runs true h = refl
+    runs false h = absurd (true≢false h)
 
 io_fails : (error : Error) (old new : Held) → is_io error ≡ true → OpenFails error old new → Fails old new
 io_fails (Io Failed) old new e h = inl h

@@ -1,6 +1,6 @@
 //! A farm, and its runs.
 ghost use Rattle.std.specs.Prelude.{◌≡◌, [], ◌<◌, ◌≤◌, ◌^◌, ℕ, List, length, take, slice_get, map, IfOk};
-ghost use Rattle.std.specs.Prelude.{IfErr, OnOk, OnErr, MatchOption, Some};
+ghost use Rattle.std.specs.Prelude.{IfErr, OnOk, OnErr, MatchOption, Some, true, false};
 ghost use Rattle.sched_core.specs.Job.{open_jobs};
 ghost use Rattle.sched_core.specs.Rows.{servers_of, jobs_of, held_by_id, held_part};
 ghost use Rattle.farm_script.specs.declared.fault.FarmFault.TheVariants as fault;
@@ -214,6 +214,7 @@ impl<F: Folder + Drop, B: BuilderIncoming + Drop> Farm<F, B> {
     }
 
     /// One event.
+    #[tactic(auto, using(crate::proofs::PassageLemmas::step_of))]
     fn step(self, event: &Event) -> Result<Farm<F, B>, Stopped<F, B>>
         ensures ok { IfOk result (Steps self event.now) }
         ensures err { IfErr result (λ s. s.entries ≡ self.entries) }
@@ -225,14 +226,14 @@ impl<F: Folder + Drop, B: BuilderIncoming + Drop> Farm<F, B> {
             mut stations,
             mut log,
         } = self;
-        match make(&mut desk, &mut stations, &mut log, event) {
-            Ok(()) => Ok(Farm {
-                desk,
-                stations,
-                log,
-            }),
-            Err(_) => Err(stop(desk, stations, log)),
+        if !advance(&mut desk, &mut stations, &mut log, event) {
+            return Err(stop(desk, stations, log));
         }
+        Ok(Farm {
+            desk,
+            stations,
+            log,
+        })
     }
 
     /// That the entries are those of a run from none, so that all laws of runs hold of them.
@@ -409,5 +410,28 @@ fn make<F: Folder + Drop, B: BuilderIncoming + Drop>(
             undo_last(&mut desk.state, value);
             Err(FarmFault::Memory)
         }
+    }
+}
+
+/// Makes the entry of an event, and gives whether memory was there for it.
+fn advance<F: Folder + Drop, B: BuilderIncoming + Drop>(
+    desk: &mut Desk,
+    stations: &mut Vec<Station<F, B>>,
+    log: &mut Log,
+    event: &Event,
+) -> bool
+    requires farm { IsFarm desk.old.setup desk.old.state log.old.entries.items log.old.kept.items
+        stations.old.items }
+    ensures setup { result ≡ true → desk.new.setup ≡ desk.old.setup }
+    ensures next { result ≡ true
+        → AddsNext desk.old.setup log.old.entries.items event.now log.new.entries.items
+        (map outside_of stations.old.items) (map outside_of stations.new.items) }
+    ensures farm { result ≡ true → IsFarm desk.new.setup desk.new.state log.new.entries.items
+        log.new.kept.items stations.new.items }
+    ensures same { result ≡ false → log.new.entries.items ≡ log.old.entries.items }
+{
+    match make(desk, stations, log, event) {
+        Ok(()) => true,
+        Err(_) => false,
     }
 }

@@ -1,5 +1,6 @@
 //! The stations of a farm's build servers.
-ghost use Rattle.std.specs.Prelude.{◌≡◌, ◌≢◌, ◌≤◌, [], true, false, not, codes, is_some, slice_get, Ok, Err, Some};
+ghost use Rattle.std.specs.Prelude.{◌≡◌, ◌≢◌, ◌≤◌, [], true, false, not, codes, is_some, is_none, ◌&&◌, slice_get, Ok, Err};
+ghost use Rattle.std.specs.Prelude.{Some};
 ghost use Rattle.std.specs.Prelude.{IfOk, IfErr, OnOk, OnErr, MatchOption, None};
 ghost use Rattle.std.specs.Option.{option_map};
 ghost use Rattle.lru_disk_cache.specs.Archives.{opened_archives, IsInStep};
@@ -302,6 +303,7 @@ fn build<B: BuilderIncoming + Drop>(
     ensures goes { IfOk result (λ done. BuildsBy server.now builds
         (option_map (builder_of B.built B.refusals) builder.old)
         (option_map (builder_of B.built B.refusals) builder.new) held run.now inputs.now done) }
+    ensures kept { builder.new ≡ None → builder.old ≡ None }
     ensures err { IfErr result (λ e. e ≡ fault.Memory) }
 {
     match builder {
@@ -394,6 +396,13 @@ impl<F: Folder + Drop, B: BuilderIncoming + Drop> Station<F, B> {
         ensures { result ≡ self.now.running }
     {
         self.state.is_some()
+    }
+
+    // Whether it is one of the farm's own that does not run, as none is.
+    fn is_shut(&self) -> bool
+        ensures { result ≡ (is_none self.now.builder && not self.now.running) }
+    {
+        self.builder.is_none() && self.state.is_none()
     }
 
     /// The jobs that it holds, by rising id, where it runs.
@@ -565,7 +574,7 @@ impl<F: Folder + Drop, B: BuilderIncoming + Drop> Station<F, B> {
         ensures still_well { OnOk result (IsWell server.now self.new) }
         ensures err { IfErr result (λ e. e ≡ fault.Memory) }
     {
-        if self.builder.is_none() && self.state.is_none() {
+        if self.is_shut() {
             return Err(FarmFault::Memory);
         }
         let authorizer = JWTJobAuthorizer::of_key(Vec::from_slice(alloc, key)?);

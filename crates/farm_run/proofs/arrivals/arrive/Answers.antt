@@ -1,13 +1,15 @@
-use Rattle.std.proofs.Common.{ap, sym, ◌∙◌, Option, None}
+use Rattle.std.proofs.Common.{ap, sym, ◌∙◌, List, Option, None}
+use Rattle.std.specs.Prelude.{slice_get}
+use Rattle.farm_run.specs.Post.{Post as Station}
 use Rattle.sched_core.specs.declared.entry.CoreEntry.{CoreEntry}
 use Rattle.farm_run.specs.declared.entry.Effect.{Effect}
 use Rattle.farm_run.specs.declared.pending.Made.{Made}
 use Rattle.farm_run.specs.Farm.{acted}
 use Rattle.farm_run.specs.Stations.{now_of}
-use Rattle.farm_run.proofs.ServerLemmas.{place_found, are_well}
+use Rattle.farm_run.proofs.ServerLemmas.{place_found, station_there, are_well}
 use Rattle.farm_run.proofs.StandLemmas.{stands_same, stands_stepped}
 use Rattle.farm_run.proofs.RowLemmas.{answered_of, answered_reaches, scheduler_step, server_core, nobody_received}
-use Rattle.farm_run.proofs.RowLemmas.{server_received}
+use Rattle.farm_run.proofs.RowLemmas.{server_received, closed_received}
 use Rattle.farm_run.proofs.arrivals.arrive.Goals as goal
 
 pub returns-then-is_scheduler-clause-stations : goal.returns-then-is_scheduler-clause-stations
@@ -47,7 +49,8 @@ returns-in_ok-made-in-Some-clause-received g c =
     c.args.arrival.now.stamp.number c.args.arrival.now.stamp.at c.args.target
     c.args.arrival.now.peer c.args.arrival.now.bytes.now c.in-Some.place st.0 c.in_ok-made-in-Some.made f
     c.requires.stations st.1 (sym c.is_scheduler.ensures ∙ c.if-is_scheduler.false)
-    (sym (c.runs_at.ensures st.0 st.1) ∙ c.if-runs_at.true)
+    (sym (c.runs_at.ensures st.0 (ap (λ (xs : List Station). slice_get xs c.in-Some.place) c.deref.ensures.value ∙ st.1))
+    ∙ c.if-not-runs_at.false)
     (c.in_ok-made-in-Some.ensures.answered f.server st.0 f.there st.1)
     (c.in_ok-made-in-Some.ensures.kept f.server st.0 f.there st.1)
 
@@ -76,3 +79,22 @@ returns-in_ok-made-in-Some-clause-desk g c =
     (sym (server_core c.args.desk.now.setup (now_of f.server st.0) c.args.arrival.now.stamp.number
     c.args.arrival.now.bytes.now c.in_ok-made-in-Some.made.effect
     (c.in_ok-made-in-Some.ensures.answered f.server st.0 f.there st.1)))
+
+pub returns-then-not-runs_at-clause-stations : goal.returns-then-not-runs_at-clause-stations
+returns-then-not-runs_at-clause-stations g c =
+    stands_same c.args.desk.now.setup c.args.entries.now c.args.stations.now.items c.whole-then-not-runs_at.result.effect
+    c.requires.stations
+    (ap (λ (m : Made). m.effect.step) c.whole-then-not-runs_at.ensures ∙ ap (λ (x : Effect). x.step) c.of_word-then-not-runs_at.ensures)
+
+pub returns-then-not-runs_at-clause-received : goal.returns-then-not-runs_at-clause-received
+returns-then-not-runs_at-clause-received g c =
+    let f = place_found c.args.desk.now.setup c.args.target c.in-Some.place (sym c.in-Some.ensures.place) in
+    let st = station_there c.args.desk.now.setup.servers c.args.entries.now c.args.stations.now.items
+    c.in-Some.place f.server c.requires.stations f.there in
+    closed_received c.args.desk.now.setup c.args.desk.now.state c.args.entries.now c.args.stations.now.items
+    c.args.arrival.now.stamp.number c.args.arrival.now.stamp.at c.args.target
+    c.args.arrival.now.peer c.args.arrival.now.bytes.now c.in-Some.place st.0 c.whole-then-not-runs_at.result f
+    c.requires.stations st.1 (sym c.is_scheduler.ensures ∙ c.if-is_scheduler.false)
+    (sym (c.runs_at.ensures st.0 (ap (λ (xs : List Station). slice_get xs c.in-Some.place) c.deref.ensures.value
+    ∙ st.1)) ∙ c.if-not-runs_at.true)
+    (c.whole-then-not-runs_at.ensures ∙ ap (λ (x : Effect). record { effect = x; pending = None }) c.of_word-then-not-runs_at.ensures)

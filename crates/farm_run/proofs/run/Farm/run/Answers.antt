@@ -23,9 +23,11 @@ returns-in_err-farm-clause-err g c =
     rw (p.1, p.2) (
       c.loop-event.event-index,
       c.loop-event-test.true,
-      c.loop-event.farm.outside,
-      Runs-entries c.args.self (take c.loop-event.event-index c.args.events.now) c.loop-event.farm
-          c.in_err-farm.field-0.0.entries c.loop-event.invariant c.in_err-farm.ensures.err,
+      (
+        c.loop-event.farm.outside,
+        Runs-entries c.args.self (take c.loop-event.event-index c.args.events.now) c.loop-event.farm
+            c.in_err-farm.field-0.0.entries c.loop-event.invariant c.in_err-farm.ensures.err,
+      ),
     )
 
 pub returns-in_err-farm-clause-stopped_laws : goal.returns-in_err-farm-clause-stopped_laws
