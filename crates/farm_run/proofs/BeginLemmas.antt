@@ -5,6 +5,10 @@ use Rattle.std.specs.Prelude.{slice_get, get_or}
 use Rattle.std.proofs.lemmas.Bool.{cases_lt}
 use Rattle.std.proofs.lemmas.List.{length-drop}
 use Rattle.std.proofs.lemmas.Option.{same_Some, slice_get_read}
+use Rattle.dist_types.specs.declared.addr.Addr.{Addr}
+use Rattle.farm_script.specs.Setups.{AreApart}
+use Rattle.farm_run.specs.Passage.{IsBegun}
+use Rattle.lru_disk_cache.specs.Archives.{Archives}
 use Rattle.lru_disk_cache.specs.Held.{Held}
 use Rattle.build_server.specs.Builds.{Builder}
 use Rattle.farm_script.specs.declared.setup.SetupServer.{SetupServer as Script}
@@ -26,7 +30,7 @@ map_end {A} {B} f (y ∷ ys) x = ap (λ (zs : List B). f y ∷ zs) (map_end f ys
 
 length_end : {A : Type 0} (xs : List A) (x : A) → length (xs ++ x ∷ []) ≡ length xs + 1
 length_end [] x = refl
-length_end (y ∷ ys) x = ap (λ (n : ℕ). suc n) (length_end ys x)
+length_end (y ∷ ys) x = omega (arith, length_end ys x)
 
 get_left : {A : Type 0} (xs : List A) (x : A) (i : ℕ) → i < length xs → slice_get (xs ++ x ∷ []) i
     ≡ slice_get xs i
@@ -79,11 +83,13 @@ pub record HandedSoFar (ss : List Script) (fs : List Held) (bs : List Builder) (
     (sts : List Post) : Type 0 where
   pub begun : AreBegun ss fs bs ts (map outside_of sts)
   pub stations : AreStations ts [] sts
+  pub addresses : map (λ t. t.addr) ts ≡ map (λ s. s.addr) ss
 
 pub handed_none : (fs : List Held) (bs : List Builder) → HandedSoFar [] fs bs [] []
 handed_none fs bs = record {
   begun = record { sites = refl; outside = refl; each = λ i s f b t o at ft bt tt' ot. absurd cc };
   stations = stations_none [];
+  addresses = refl;
 }
 
 begun_end : (ss : List Script) (fs : List Held) (bs : List Builder) (ts : List SiteServer) (os : List Outside)
@@ -120,6 +126,10 @@ handed_push ss fs bs ts sts s f b t st is folder builder begun now well = record
   begun = subst (AreBegun (ss ++ s ∷ []) fs bs (ts ++ t ∷ [])) (sym (map_end outside_of sts st))
       (begun_end ss fs bs ts (map outside_of sts) s f b t (outside_of st) is.begun folder builder begun);
   stations = stations_push [] ts sts t st is.stations (record { now = now; well = well });
+  addresses = map_end (λ (u : SiteServer). u.addr) ts t
+      ∙ ap (λ (addrs : List Addr). addrs ++ t.addr ∷ []) is.addresses
+      ∙ ap (λ (u : SiteServer). map (λ (r : Script). r.addr) ss ++ u.addr ∷ []) begun.is
+      ∙ sym (map_end (λ (r : Script). r.addr) ss s);
 }
 
 -- ---- what is left of a list whose items are taken from the front
@@ -138,12 +148,42 @@ pub left_first : {A : Type 0} (xs ys : List A) (i : ℕ) (x : A) → ys ≡ drop
 left_first xs ys i x is lt e = sym (get_drop xs i) ∙ ap (λ (zs : List _). slice_get zs 0) (sym is)
     ∙ slice_get_read ys (length ys) 0 x refl (left_there xs ys i is lt) e
 
+drop_once : {A : Type 0} (xs : List A) (n : ℕ) → drop (suc n) xs ≡ drop 1 (drop n xs)
+drop_once [] zero = refl
+drop_once [] (suc n) = refl
+drop_once (x ∷ xs) zero = refl
+drop_once (x ∷ xs) (suc n) = drop_once xs n
+
 pub left_rest : {A : Type 0} (xs ys zs : List A) (i : ℕ) → ys ≡ drop i xs → zs ≡ drop 1 ys
     → zs ≡ drop (i + 1) xs
-left_rest xs ys zs i is e = e ∙ ap (λ (l : List _). drop 1 l) is ∙ rest xs i
-  where
-    rest : {A : Type 0} (l : List A) (n : ℕ) → drop 1 (drop n l) ≡ drop (n + 1) l
-    rest [] zero = refl
-    rest [] (suc n) = refl
-    rest (x ∷ l) zero = refl
-    rest (x ∷ l) (suc n) = rest l n
+left_rest xs ys zs i is e =
+    let same : suc i ≡ i + 1 = omega arith in
+    e ∙ ap (λ (l : List _). drop 1 l) is ∙ sym (drop_once xs i) ∙ ap (λ (k : ℕ). drop k xs) same
+
+-- ---- the parts of a farm that begins
+
+-- the opening of an empty folder of the farm's own
+pub own_found : (capacity : ℕ) (folder : Held) (found : Option Archives) (o : Outside)
+    → folder.files ≡ Some [] → IsBegun capacity None folder found o → found ≡ Some []
+own_found capacity folder None o empty h = absurd (let no = h.3 in cc)
+own_found capacity folder (Some list) o empty h = ap (λ (a : Archives). Some a) (h.0 [] empty)
+
+addresses_own : (ss : List Script) → map (λ (t : SiteServer). t.addr) (map (site_server (Some [])) ss)
+    ≡ map (λ (s : Script). s.addr) ss
+addresses_own [] = refl
+addresses_own (s ∷ ss) = ap (λ (addrs : List Addr). s.addr ∷ addrs) (addresses_own ss)
+
+pub apart_own : (addr own : Addr) (ss : List Script) (ts : List SiteServer)
+    → AreApart (addr ∷ map (λ s. s.addr) ss) → own ≡ addr → ts ≡ map (site_server (Some [])) ss
+    → AreApart (own ∷ map (λ t. t.addr) ts)
+apart_own addr own ss ts apart same are =
+    subst (λ (a : Addr). AreApart (a ∷ map (λ (t : SiteServer). t.addr) ts)) (sym same)
+    (subst (λ (l : List Addr). AreApart (addr ∷ l))
+    (sym (addresses_own ss) ∙ ap (λ (us : List SiteServer). map (λ (t : SiteServer). t.addr) us) (sym are)) apart)
+
+pub apart_handed : (addr own : Addr) (ss : List Script) (ts : List SiteServer)
+    → AreApart (addr ∷ map (λ s. s.addr) ss) → own ≡ addr → map (λ t. t.addr) ts ≡ map (λ s. s.addr) ss
+    → AreApart (own ∷ map (λ t. t.addr) ts)
+apart_handed addr own ss ts apart same are =
+    subst (λ (a : Addr). AreApart (a ∷ map (λ (t : SiteServer). t.addr) ts)) (sym same)
+    (subst (λ (l : List Addr). AreApart (addr ∷ l)) (sym are) apart)

@@ -1,5 +1,5 @@
 -- What each kind of event makes, and what is kept after it.
-use Rattle.std.proofs.Common.{◌≡◌, ◌≢◌, ◌⊎◌, inl, inr, ℕ, zero, suc, ◌<◌, Bool, true, false, ◌&&◌, nat_lt}
+use Rattle.std.proofs.Common.{◌≡◌, ◌≢◌, ◌⊎◌, inl, inr, ℕ, zero, suc, ◌<◌, ◌^◌, Bool, true, false, ◌&&◌, nat_lt}
 use Rattle.std.proofs.Common.{List, [], ◌∷◌, ◌++◌, length, map, take, drop, set, Option, Some, None, Result, Ok}
 use Rattle.std.proofs.Common.{Err, refl, sym, ap, subst, ◌∙◌, arith}
 use Rattle.std.specs.Prelude.{slice_get}
@@ -37,7 +37,7 @@ use Rattle.farm_script.specs.declared.event.EventKind.{EventKind}
 use Rattle.farm_script.specs.declared.event.EventKind.TheVariants.{Request, Deliver, Fail, Return, Answer}
 use Rattle.farm_script.specs.declared.event.EventKind.TheVariants.{Beat, Restart}
 use Rattle.farm_run.specs.Servers.{ServerNow, restart_by, server_now, is_over}
-use Rattle.farm_run.specs.Stations.{AreStations}
+use Rattle.farm_run.specs.Stations.{AreStations, HasApart}
 use Rattle.farm_run.proofs.FreeLemmas.{goes_free, next_free}
 use Rattle.farm_run.proofs.StandLemmas.{stands_same}
 use Rattle.farm_run.specs.declared.pending.Made.{Made}
@@ -57,7 +57,7 @@ use Rattle.farm_run.specs.Settled.{ReportsIn, IsOwnBy}
 use Rattle.farm_run.specs.Ways.{Way, way_of, brought_at, to_nothing, to_nobody, to_scheduler, to_server}
 use Rattle.farm_run.specs.Ways.{to_call, to_beat, to_restart}
 use Rattle.farm_run.proofs.CallLemmas.{waiting-end}
-use Rattle.farm_run.proofs.NextLemmas.{call_ticket, settles_it, way_settles, sound_next}
+use Rattle.farm_run.proofs.NextLemmas.{call_ticket, settles_it, way_settles, sound_next, sound_none}
 use Rattle.farm_run.proofs.RunLemmas.{core_of-push, IsRun-push}
 use Rattle.farm_run.proofs.WaitLemmas.{call-end, kept-left, kept-settled, kept-push}
 
@@ -538,3 +538,20 @@ farm_next setup next s new log ps left sts after event m is made same core-is =
       stations = made.stations;
     } in
     subst (λ (t : Setup). IsFarm t new (log ++ e ∷ []) (left ++ m.pending ∷ []) after) (sym same) farm
+
+-- a farm that begins
+pub begun_farm : (setup : Setup) (core : Core) (entries : List Entry) (ps : List (Option Pending))
+    (sts : List Station) → setup.scheduler.count < 2 ^ 64 → HasApart setup → core ≡ core_of setup []
+    → entries ≡ [] → ps ≡ [] → AreStations setup.servers [] sts → IsFarm setup core entries ps sts
+begun_farm setup core entries ps sts fits apart is none empty stations =
+    let farm : IsFarm setup core [] [] sts = record {
+      fits = fits;
+      apart = apart;
+      run = tt;
+      core_is = is;
+      sound = sound_none setup;
+      kept = record { size = refl; each = λ n. refl };
+      stations = stations;
+    } in
+    subst (λ (es : List Entry). IsFarm setup core es ps sts) (sym none)
+    (subst (λ (qs : List (Option Pending)). IsFarm setup core [] qs sts) (sym empty) farm)

@@ -2,6 +2,7 @@
 use Rattle.std.proofs.Common.{◌≡◌, ◌≢◌, ◌⊎◌, inl, inr, ◌≤◌, codes, ℕ, Bool, true, false, cond, List, [], Option, Some, None}
 use Rattle.std.proofs.Common.{Result, Ok, Err, refl, sym, ap, subst, ◌∙◌}
 use Rattle.std.specs.Prelude.{slice_get, is_some, is_none, IfOk, not, ◌&&◌}
+use Rattle.std.specs.Option.{option_map}
 use Rattle.std.proofs.lemmas.Bool.{true≢false}
 use Rattle.dist_types.specs.Cause.{counted}
 use Rattle.dist_types.specs.declared.builder.BuildFault.{BuildFault}
@@ -65,6 +66,10 @@ with_books st books failed builds builder = record {
   builds = builds;
   builder = builder;
 }
+
+pub unmapped : {A B : Type 0} (f : A → B) (o : Option A) → option_map f o ≡ None → o ≡ None
+unmapped f None e = refl
+unmapped f (Some x) e = absurd cc
 
 -- ---- an assignment
 

@@ -117,6 +117,7 @@ fn handed_servers<F: Folder + Drop, B: BuilderIncoming + Drop>(
     ensures begun { IfOk result (λ p. AreBegun servers.now (map F.held folders.items)
         (map (builder_of B.built B.refusals) builders.items) p.0.items (map outside_of p.1.items)) }
     ensures stations { IfOk result (λ p. AreStations p.0.items [] p.1.items) }
+    ensures addresses { IfOk result (λ p. map (λ t. t.addr) p.0.items ≡ map (λ s. s.addr) servers.now) }
     ensures err { IfErr result (λ e. e ≡ fault.Memory) }
 {
     let mut folders = folders;

@@ -6,6 +6,7 @@ ghost use Rattle.std.specs.Prelude.{◌≡◌, ◌≢◌, Err, IfOk, map, option
 ghost use Rattle.build_server.specs.Echo.{data_of};
 ghost use Rattle.farm_run.specs.Served.{listed, build_answer};
 
+use crate::copies::copy_lines;
 use build_server::echo::echo;
 use dist_types::builder::{BuildFault, BuilderIncoming};
 use dist_types::command::CompileCommand;
@@ -112,14 +113,15 @@ pub struct FarmBuilder {
 }
 
 impl FarmBuilder {
-    /// A builder of those lines, which has answered none. It takes no memory.
-    pub fn new(alloc: Global, lines: Items<BuilderLine>) -> Self {
-        FarmBuilder {
+    /// A builder of those lines, which has answered none. Refused for want of memory alone.
+    pub fn of(alloc: Global, lines: &[BuilderLine]) -> Result<Self, Memory> {
+        let lines = copy_lines(alloc, lines)?;
+        Ok(FarmBuilder {
             alloc,
-            lines,
+            lines: Items::new(lines),
             builds: 0,
             refusals: 0,
-        }
+        })
     }
 }
 

@@ -64,7 +64,8 @@ fn copy_line(line: &BuilderLine) -> Result<BuilderLine, Memory>
     }
 }
 
-fn copy_lines(alloc: Global, lines: &[BuilderLine]) -> Result<Vec<BuilderLine>, Memory>
+/// Copies of lines.
+pub(crate) fn copy_lines(alloc: Global, lines: &[BuilderLine]) -> Result<Vec<BuilderLine>, Memory>
     ensures { IfOk result (λ v. v.items ≡ lines.now) }
 {
     let mut copies = Vec::with_capacity(alloc, lines.len())?;

@@ -4,7 +4,7 @@ ghost use Rattle.std.specs.Prelude.{IfErr, OnOk, OnErr, MatchOption, Some, true,
 ghost use Rattle.sched_core.specs.Job.{open_jobs};
 ghost use Rattle.sched_core.specs.Rows.{servers_of, jobs_of, held_by_id, held_part};
 ghost use Rattle.farm_script.specs.declared.fault.FarmFault.TheVariants as fault;
-ghost use Rattle.farm_run.specs.declared.site.SiteServer.{SiteServer as Site};
+ghost use Rattle.farm_run.specs.declared.site.SiteServer.{SiteServer};
 ghost use Rattle.farm_run.specs.Builds.{AreBuilds, HasToken, HasWords};
 ghost use Rattle.farm_run.specs.Farm.{IsFarm, IsMadeSo, AreLawful, HasNext, acted, AddsNext, Steps, Runs};
 ghost use Rattle.farm_run.specs.Next.{IsRun};
@@ -27,7 +27,7 @@ use crate::settle::Settlement;
 use crate::settlements::take_back;
 use crate::site::Site;
 use crate::station::Station;
-use crate::words::has_addresses;
+use crate::words::{has_addresses, has_count};
 use dist_types::builder::BuilderIncoming;
 use dist_types::text::Items;
 use farm_script::event::{Event, EventKind};
@@ -144,6 +144,7 @@ impl<F: Folder + Drop, B: BuilderIncoming + Drop> Farm<F, B> {
           outside = map outside_of stations.items;
         } }
     {
+        has_count(setup.scheduler.count);
         let state = SchedState::with_job_ids(alloc, setup.scheduler.base, setup.scheduler.count);
         Farm {
             desk: Desk {
@@ -207,7 +208,7 @@ impl<F: Folder + Drop, B: BuilderIncoming + Drop> Farm<F, B> {
     /// The station of a server, by its place in the setup.
     pub(crate) fn station(&self, place: usize) -> Option<&Station<F, B>>
         ensures station { MatchOption result (length self.now.setup.servers ≤ place)
-            (λ st. (s : Site) → slice_get self.now.setup.servers place ≡ Some s
+            (λ st. (s : SiteServer) → slice_get self.now.setup.servers place ≡ Some s
             → now_of s st.now ≡ server_of s self.now.entries) }
     {
         self.stations.get(place)

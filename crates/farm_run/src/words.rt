@@ -1,4 +1,5 @@
 //! That the calls of a farm can be read. Nothing here does anything when it runs.
+ghost use Rattle.std.specs.Prelude.{◌<◌, ◌^◌};
 ghost use Rattle.std.specs.List.{AllByRecursion};
 ghost use Rattle.dist_types.specs.Addr.{IsAddr};
 
@@ -35,4 +36,11 @@ pub(crate) fn has_addresses(setup: &Site)
 {
     fits(setup.scheduler.addr);
     all_fit(setup.servers.get());
+}
+
+/// That the number of ids that are given fits its type.
+pub(crate) fn has_count(count: u64)
+    ensures { count < 2 ^ 64 }
+{
+    let _count = count;
 }

@@ -1,8 +1,8 @@
-use Rattle.std.proofs.Common.{◌≡◌, sym, subst, ◌∙◌, Bool, not, ◌&&◌}
+use Rattle.std.proofs.Common.{◌≡◌, sym, subst, ◌∙◌, not, ◌&&◌}
 use Rattle.std.specs.Prelude.{is_none}
 use Rattle.farm_run.specs.Post.{Post}
 use Rattle.farm_run.specs.Stations.{IsWell}
-use Rattle.farm_run.proofs.StationLemmas.{opened_at}
+use Rattle.farm_run.proofs.StationLemmas.{opened_at, unmapped}
 use Rattle.farm_run.proofs.station.Station.restart.Goals as goal
 
 pub returns-in-Ok-list-clause-opens : goal.returns-in-Ok-list-clause-opens
@@ -12,6 +12,6 @@ returns-in-Ok-list-clause-opens g c =
     c.args.nonce
     (subst (λ (st : Post). IsWell c.args.server.now st) (sym c.self.view_is) c.requires.well)
     (rw (← c.take-state.ensures.value, ← c.take-closed.ensures.value) c.in-Ok.ensures.opened)
-    c.in-Ok-list.ensures c.self.invariant
+    c.in-Ok-list.ensures (λ e. c.self.invariant (unmapped _ c.self.inside.builder e))
     (subst (λ (st : Post). (is_none st.builder && not st.running) ≡ _) (sym c.self.view_is)
     (sym c.is_shut.ensures ∙ c.if-is_shut.false)))
