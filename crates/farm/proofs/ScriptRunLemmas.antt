@@ -1,7 +1,7 @@
 -- What was read of input is the script that input told.
 use Rattle.std.proofs.Common.{◌≡◌, ◌⊎◌, inl, inr, ℕ, List, [], ◌∷◌, ◌++◌, Option, Result, Ok, Err, refl, sym}
 use Rattle.std.proofs.Common.{subst, ◌∙◌}
-use Rattle.std.specs.Prelude.{IfSome}
+use Rattle.std.specs.Prelude.{IfSome, map}
 use Rattle.std.proofs.lemmas.Option.{IfSome_then}
 use Rattle.dist_types.specs.Content.{Added, Began}
 use Rattle.farm_script.specs.declared.fault.FarmFault.{FarmFault}
@@ -17,7 +17,7 @@ use Rattle.farm_script.specs.Setups.{IsSetup}
 use Rattle.farm_script.proofs.FirstFaultyLemmas.{first_faulty}
 use Rattle.farm_script.proofs.SpelledLemmas.{script_is_said}
 use Rattle.farm_run.specs.RunText.{IsRunText, IsReadText}
-use Rattle.farm_run.specs.Stations.{HasApart}
+use Rattle.farm_script.specs.Setups.{AreApart}
 use Rattle.farm.specs.Command.{NamesLine, Side, IsReadWhole, IsFarmRun}
 
 -- the first faulty line is named
@@ -45,7 +45,7 @@ line_or_memory bytes f (inl e) = inl e
 line_or_memory bytes f (inr h) = inr (first_names [] [] (pieces bytes) f h, h)
 
 -- the addresses of a setup that was read differ
-pub setup_apart : (s : Setup) → IsSetup s → HasApart s
+pub setup_apart : (s : Setup) → IsSetup s → AreApart (s.scheduler.addr ∷ map (λ t. t.addr) s.servers)
 setup_apart s is = is.apart
 
 same_text : (v bytes text : List ℕ) → script v ≡ script bytes → IsReadText v text → IsRunText bytes text

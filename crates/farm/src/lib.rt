@@ -10,7 +10,7 @@
 pub use dist_config::{config, serve, start};
 pub use farm_auth::line;
 pub use farm_config::{files, read};
-pub use farm_run::{entry, print, run};
+pub use farm_run::{begin, builder, entry, print, run, site};
 pub use farm_script::{event, fault, lines, pieces, script, setup};
 pub use farm_words::{option_words, parse, token_length};
 

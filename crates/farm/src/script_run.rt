@@ -5,8 +5,8 @@ ghost use Rattle.farm_script.specs.declared.fault.FarmFault.TheVariants as fault
 ghost use Rattle.farm_run.specs.RunText.{IsReadText};
 ghost use Rattle.farm.specs.Command.{NamesLine};
 
+use farm_run::begin;
 use farm_run::print::print_run;
-use farm_run::run::Farm;
 use farm_script::fault::FarmFault;
 use farm_script::script::read_script;
 use std::alloc::Global;
@@ -21,7 +21,7 @@ pub fn run_of(alloc: Global, bytes: &[u8]) -> Result<String, FarmFault>
         Ok(read) => read,
         Err(fault) => return Err(fault),
     };
-    let farm = Farm::new(alloc, &setup)?;
+    let farm = begin::setup(alloc, &setup)?;
     match farm.run(&events) {
         Ok(farm) => print_run(alloc, &farm),
         Err(_) => Err(FarmFault::Memory),

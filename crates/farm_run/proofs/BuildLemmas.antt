@@ -70,8 +70,8 @@ use Rattle.farm_script.specs.declared.event.Event.{Event}
 use Rattle.farm_script.specs.declared.event.EventKind.{EventKind}
 use Rattle.farm_script.specs.declared.event.EventKind.TheVariants.{Request as Brings, Deliver, Fail, Return}
 use Rattle.farm_script.specs.declared.event.EventKind.TheVariants.{Answer, Beat, Restart}
-use Rattle.farm_script.specs.declared.setup.Setup.{Setup}
-use Rattle.farm_script.specs.declared.setup.SetupServer.{SetupServer}
+use Rattle.farm_run.specs.declared.site.Site.{Site as Setup}
+use Rattle.farm_run.specs.declared.site.SiteServer.{SiteServer as SetupServer}
 use Rattle.farm_run.specs.declared.entry.Effect.{Effect}
 use Rattle.farm_run.specs.declared.entry.Entry.{Entry}
 use Rattle.farm_run.specs.declared.entry.EntryWord.TheVariants.{Void, Down, Waiting, Died}
@@ -91,19 +91,20 @@ use Rattle.farm_run.specs.Builds.{SettlesCall, build_by, IsBuild, AreBuiltOnce, 
 use Rattle.farm_run.specs.Builds.{IsTaken, IsStarted, AreStarted, AreBuilds, HasToken, HasWords}
 use Rattle.farm_run.specs.Calls.{call_at, delivered_by, delivery_at, settles_by, is_void, waiting_at}
 use Rattle.farm_run.specs.Effects.{word_effect, effect_of, entry_of}
-use Rattle.farm_run.specs.Farm.{Farmed, Runs}
 use Rattle.farm_run.specs.Next.{GoesOn, IsSettled, IsMade, IsNext, EachNext, IsRun}
 use Rattle.farm_run.specs.Seen.{core_log, core_of, serves}
-use Rattle.farm_run.specs.Served.{assigned, served, told_of, books_of, state_call, run_outcome}
+use Rattle.farm_run.specs.Served.{assigned, served, told_of, books_of, state_call}
+use Rattle.farm_run.specs.Weather.{free, IsFree, opened_effect}
+use Rattle.lru_disk_cache.specs.Archives.{Archives}
 use Rattle.farm_run.specs.Servers.{ServerNow, server_of, server_at, server_now, is_over}
-use Rattle.farm_run.specs.Settled.{IsUpdated, assignment_end, running, ready_end, started_end, complete_end}
+use Rattle.farm_run.specs.Settled.{IsUpdated, assignment_end, unreported, running, ReadyEnds, StartedEnds}
+use Rattle.farm_run.specs.Settled.{complete_end}
 use Rattle.farm_run.specs.Settled.{Reports, Lives, ReportsIn}
 use Rattle.farm_run.specs.Ways.{Way, server_way, caller_by, caller_of, target_of, delivery_way, return_way}
 use Rattle.farm_run.specs.Ways.{is_inside, beat_way, restart_way, way_of, brought_at, to_nothing, to_nobody}
 use Rattle.farm_run.specs.Ways.{to_scheduler, to_server, to_call, to_beat, to_restart}
 use Rattle.farm_run.proofs.NextLemmas.{settles_it, way_settles, runs_lawful}
 use Rattle.farm_run.proofs.ReportLemmas.{state_asked, told_accepted}
-use Rattle.farm_run.proofs.RunLemmas.{Runs-is}
 use Rattle.farm_run.proofs.ServerLemmas.{server_setup}
 use Rattle.farm_run.proofs.SettleLemmas.{take_take, get_front, get_take, next_at, each_front, settled_once}
 use Rattle.farm_run.proofs.StartedLemmas.{starts_by, once, was_ready}
@@ -214,19 +215,29 @@ ran_told addr server j job (outcome.Built tc result) e = let p = same_Some _ _ e
 ran_told addr server j job (outcome.Refused tc) e = let p = same_Some _ _ e
     in (ap (λ (q : Addr × JobId). q.0) p, ap (λ (q : Addr × JobId). q.1) p)
 
-started_told : (setup : Setup) (s : ServerNow) (server : Addr) (j job : JobId) (outputs : List (List ℕ))
-    (inputs : List ℕ) (o : Option (List ℕ))
-    → Tells (running setup s.setup.addr j (run_outcome s o outputs inputs)) server job → (tc : List ℕ)
+-- where nothing is held nothing is built
+started_told : (setup : Setup) (s : ServerNow) (server : Addr) (j job : JobId) (went : Outcome)
+    (o : Option (List ℕ)) → IsFree o went
+    → Tells (running setup s.setup.addr j went) server job → (tc : List ℕ)
     × (o ≡ Some tc) × (s.setup.addr ≡ server) × (j ≡ job)
-started_told setup s server j job outputs inputs None e = absurd cc
-started_told setup s server j job outputs inputs (Some tc) e =
-    let p = ran_told s.setup.addr server j job (run_outcome s (Some tc) outputs inputs) e in
+started_told setup s server j job went None f e =
+    absurd (none_told (subst (λ (d : Outcome). Tells (running setup s.setup.addr j d) server job) f e))
+  where
+    none_told : Tells (running setup s.setup.addr j outcome.None) server job → ⊥
+    none_told h = cc
+started_told setup s server j job went (Some tc) f e =
+    let p = ran_told s.setup.addr server j job went e in
     (tc, refl, p.0, p.1)
 
 ready_quiet : (s : ServerNow) (root : ℕ) (json : Bool) (job : JobId) (archive : List ℕ)
-    (r : Result UpdateJobStateResult CallFault) → built_in (ready_end s root json job archive r).step ≡ None
-ready_quiet s root json job archive (Ok u) = refl
-ready_quiet s root json job archive (Err f) = refl
+    (r : Result UpdateJobStateResult CallFault) (x : Effect) → ReadyEnds free s root json job archive r x
+    → built_in x.step ≡ None
+ready_quiet s root json job archive (Ok u) x is = ap (λ (y : Effect). built_in y.step) is.2
+ready_quiet s root json job archive (Err f) x is = ap (λ (y : Effect). built_in y.step) is
+
+opened_quiet : (s : ServerNow) (o : Option Archives) → built_in (opened_effect s o).step ≡ None
+opened_quiet s None = refl
+opened_quiet s (Some list) = refl
 
 complete_quiet : (addr : Addr) (root : ℕ) (json : Bool) (job : JobId) (o : Outcome)
     (r : Result UpdateJobStateResult CallFault) → built_in (complete_end addr root json job o r).step ≡ None
@@ -306,14 +317,13 @@ module _ (setup : Setup) (log : List Entry) (at n : ℕ) (reply : Option (List �
       by_answer : s.life ≡ life → (j : JobId) (run : RunJobHttpRequest) (place : ℕ)
           → p.ask ≡ Report addr life (told.Started j run place) → (r : Result UpdateJobStateResult CallFault)
           → IsUpdated reply r
-          → x ≡ started_end setup s p.root j run (drop place (brought_at log p.root)) r
+          → StartedEnds free setup s p.root j run (drop place (brought_at log p.root)) r x
           → Ended setup log n reply x server job
       by_answer lives j run place asks (Err f) up same =
-          absurd (quiet x server job (started_end setup s p.root j run (drop place (brought_at log p.root))
-          (Err f)) tells same refl)
-      by_answer lives j run place asks (Ok u) up same =
-          let d = started_told setup s server j job run.outputs (drop place (brought_at log p.root))
-          (held_for j s.held) (ap (λ (z : Effect). built_in z.step) (sym same) ∙ tells) in
+          absurd (quiet x server job (unreported s.setup.addr p.root j f) tells same refl)
+      by_answer lives j run place asks (Ok u) up (went, works, same) =
+          let d = started_told setup s server j job went (held_for j s.held) works
+          (ap (λ (z : Effect). built_in z.step) (sym same) ∙ tells) in
           let addr_is : addr ≡ server = sym (found_now setup log addr s now).own ∙ d.2 in
           record {
             pending = p;
@@ -331,11 +341,11 @@ module _ (setup : Setup) (log : List Entry) (at n : ℕ) (reply : Option (List �
           }
 
       by_report : s.life ≡ life → (t : Told) → p.ask ≡ Report addr life t
-          → Reports setup s (brought_at log p.root) p.root p.json reply t x
+          → Reports free setup s (brought_at log p.root) p.root p.json reply t x
           → Ended setup log n reply x server job
       by_report lives (told.Ready j place) asks is =
-          absurd (quiet x server job (ready_end s p.root p.json j (drop place (brought_at log p.root)) is.0)
-          tells is.2 (ready_quiet s p.root p.json j (drop place (brought_at log p.root)) is.0))
+          absurd (quiet x server job x tells refl
+          (ready_quiet s p.root p.json j (drop place (brought_at log p.root)) is.0 x is.2))
       by_report lives (told.Started j run place) asks is = by_answer lives j run place asks is.0 is.1 is.2
       by_report lives (told.Complete j o) asks is =
           absurd (quiet x server job (complete_end s.setup.addr p.root p.json j o is.0) tells is.2
@@ -343,31 +353,31 @@ module _ (setup : Setup) (log : List Entry) (at n : ℕ) (reply : Option (List �
       by_report lives told.Heartbeat asks is = absurd (quiet x server job _ tells is.2 refl)
 
       by_life : (over : Bool) → is_over life s ≡ over → (t : Told) → p.ask ≡ Report addr life t
-          → Lives setup life s (brought_at log p.root) p.root p.json reply t over x
+          → Lives free setup life s (brought_at log p.root) p.root p.json reply t over x
           → Ended setup log n reply x server job
       by_life true is t asks h = absurd (quiet x server job (word_effect Died) tells h refl)
       by_life false is t asks h = by_report (eqb-true s.life life (not_off (s.life == life) is)) t asks h
 
     by_now : (addr : Addr) (life : ℕ) (o : Option ServerNow) → server_now setup log addr ≡ o → (t : Told)
-        → p.ask ≡ Report addr life t → ReportsIn setup life (brought_at log p.root) p.root p.json reply t o x
+        → p.ask ≡ Report addr life t → ReportsIn free setup life (brought_at log p.root) p.root p.json reply t o x
         → Ended setup log n reply x server job
     by_now addr life None now t asks h = absurd (quiet x server job (word_effect Died) tells h refl)
     by_now addr life (Some s) now t asks h = by_life addr life s now (is_over life s) refl t asks h
 
-    by_ask : (ask : Ask) → p.ask ≡ ask → GoesOn setup log at p.root p.json reply ask x
+    by_ask : (ask : Ask) → p.ask ≡ ask → GoesOn free setup log at p.root p.json reply ask x
         → Ended setup log n reply x server job
     by_ask (Assign t) asks h =
         absurd (quiet x server job (assignment_end (core_of setup log) p.root p.json at t h.0) tells h.2
         (assignment_quiet (core_of setup log) p.root p.json at t h.0))
     by_ask (Report addr life t) asks h = by_now addr life (server_now setup log addr) refl t asks h
 
-  settled_ended : (o : Option Entry) → IsSettled setup log at n reply o x
+  settled_ended : (o : Option Entry) → IsSettled free setup log at n reply o x
       → Ended setup log n reply x server job
   settled_ended None h = absurd (quiet x server job (word_effect Void) tells h refl)
   settled_ended (Some w) h = by_ask h.0 h.1 h.0.ask refl h.2
 
 way_ended : (setup : Setup) (log : List Entry) (at : ℕ) (way : Way) (x : Effect) (server : Addr) (job : JobId)
-    → Tells x server job → IsMade setup log at way x
+    → Tells x server job → IsMade free setup log at way x
     → (n : ℕ) × (reply : Option (List ℕ)) × (way ≡ to_call n reply) × Ended setup log n reply x server job
 way_ended setup log at (to_call n reply) x server job tells h =
     (n, reply, refl, settled_ended setup log at n reply x server job tells (waiting_at log n) h)
@@ -379,7 +389,7 @@ way_ended setup log at (to_server s bytes) x server job tells h =
     (served_quiet setup s (length log) h.0.json h.0.what))
 way_ended setup log at (to_beat s) x server job tells h = absurd (quiet x server job _ tells h refl)
 way_ended setup log at (to_restart s key nonce) x server job tells h =
-    absurd (quiet x server job _ tells h refl)
+    absurd (quiet x server job (opened_effect s h.0) tells h.2 (opened_quiet s h.0))
 way_ended setup log at to_nobody x server job tells h =
     absurd (quiet x server job (word_effect Down) tells h refl)
 way_ended setup log at to_nothing x server job tells h =
@@ -492,7 +502,7 @@ module _ (setup : Setup) (entries : List Entry) (n : ℕ) (e : Entry) (there : s
     (asks : p.ask ≡ Report server life (told.Started job run place)) where
   requested : (way : Way) → way_of setup (take n entries) e.event.kind ≡ way
       → IsMadeBy setup (take n entries) way (effect_of e) p → (x : Effect) → e ≡ entry_of e.event x
-      → IsMade setup (take n entries) e.event.at way x → IsRunRequest setup entries n server life job
+      → IsMade free setup (take n entries) e.event.at way x → IsRunRequest setup entries n server life job
   requested (to_server s bytes) same (a, shown, rep) x is (b, shown_b, x_is) =
       let all : Report s.setup.addr s.life rep.told ≡ Report server life (told.Started job run place) =
       sym (ap (λ (q : Pending). q.ask) rep.is) ∙ asks in
@@ -535,7 +545,11 @@ module _ (setup : Setup) (entries : List Entry) (n : ℕ) (e : Entry) (there : s
 server_comes : (bytes bs : List ℕ) (o : Option ServerNow) (s : ServerNow)
     → server_way bs o ≡ to_server s bytes → o ≡ Some s
 server_comes bytes bs None s e = absurd cc
-server_comes bytes bs (Some t) s e = let same : t ≡ s = cc in ap (λ (u : ServerNow). Some u) same
+server_comes bytes bs (Some t) s e = by_test t.running e
+  where
+    by_test : (b : Bool) → cond b (to_server t bs) to_nobody ≡ to_server s bytes → Some t ≡ Some s
+    by_test true h = let same : t ≡ s = cc in ap (λ (u : ServerNow). Some u) same
+    by_test false h = absurd cc
 
 way_comes : (b : Bool) (peer : Addr) (bytes bs : List ℕ) (o : Option ServerNow) (s : ServerNow)
     → cond b (to_scheduler peer bs) (server_way bs o) ≡ to_server s bytes → o ≡ Some s
@@ -554,7 +568,11 @@ no_outside false c bs s bytes e = cc
 
 pub no_beat : (o : Option ServerNow) (s : ServerNow) (bytes : List ℕ) → beat_way o ≡ to_server s bytes → ⊥
 no_beat None s bytes e = cc
-no_beat (Some t) s bytes e = cc
+no_beat (Some t) s bytes e = by_test t.running e
+  where
+    by_test : (b : Bool) → cond b (to_beat t) to_nobody ≡ to_server s bytes → ⊥
+    by_test true h = cc
+    by_test false h = cc
 
 pub no_restart : (key : List ℕ) (nonce : ℕ) (o : Option ServerNow) (s : ServerNow) (bytes : List ℕ)
     → restart_way key nonce o ≡ to_server s bytes → ⊥
@@ -615,7 +633,7 @@ module _ (setup : Setup) (words : HasWords setup) (entries : List Entry) (n : �
     (d : ℕ) (e : Entry) (there : slice_get entries d ≡ Some e) (delivers : e.event.kind ≡ Deliver n)
     (r : Reply) (replies : e.reply ≡ Some r) (u : UpdateJobStateResult)
     (is_told : IsAnswer update_at r.bytes (Ok u))
-    (x : Effect) (made : IsMade setup (take d entries) e.event.at (way_of setup (take d entries) e.event.kind)
+    (x : Effect) (made : IsMade free setup (take d entries) e.event.at (way_of setup (take d entries) e.event.kind)
     x) (is : e ≡ entry_of e.event x) where
   abbrev sent : OutCall
   sent = state_call setup server job Started
@@ -628,7 +646,7 @@ module _ (setup : Setup) (words : HasWords setup) (entries : List Entry) (n : �
       ap (way_of setup (take d entries)) delivers
       ∙ ap (λ (o : Option OutCall). delivery_way setup (take d entries)
       (caller_of setup (take d entries) (slice_get (take d entries) n)) o) none in
-      let void : x ≡ word_effect Void = subst (λ (w : Way). IsMade setup (take d entries) e.event.at w x) way
+      let void : x ≡ word_effect Void = subst (λ (w : Way). IsMade free setup (take d entries) e.event.at w x) way
       made in
       let no : None ≡ Some r = sym (ap (λ (z : Effect). z.reply) void) ∙ sym (ap (λ (y : Entry). y.reply) is)
       ∙ replies in
@@ -651,7 +669,7 @@ module _ (setup : Setup) (words : HasWords setup) (entries : List Entry) (n : �
   start_after : n < d → Start setup entries d n server job
   start_after lt =
       let s = core_of setup (take d entries) in
-      let (a, shown, x_is) = subst (λ (w : Way). IsMade setup (take d entries) e.event.at w x)
+      let (a, shown, x_is) = subst (λ (w : Way). IsMade free setup (take d entries) e.event.at w x)
       (arrives lt) made in
       let wanted : Asked = record { what = asked.Update server job Started; json = false } in
       let one : a ≡ wanted = one_question (equal_admission setup.scheduler.client)
@@ -753,15 +771,15 @@ module _ (setup : Setup) (log : List Entry) (n : ℕ) (bytes : List ℕ)
 -- ---- the runs
 
 module _ (setup : Setup) (events : List Event) (entries : List Entry) (fits : setup.scheduler.count < 2 ^ 64)
-    (words : HasWords setup) (each : EachNext setup [] events entries) where
+    (words : HasWords setup) (each : EachNext free setup [] events entries) where
   -- all that is known of a build
   record Full (b : ℕ) (server : Addr) (job : JobId) : Type 0 where
     started : IsStarted setup entries b server job
     start : Start setup entries started.delivery started.request server job
     settles : SettlesCall entries started.request b
 
-  next : (n : ℕ) (e : Entry) → slice_get entries n ≡ Some e → IsNext setup (take n entries) e.event e
-  next n e there = next_at setup [] events entries n e each there
+  next : (n : ℕ) (e : Entry) → slice_get entries n ≡ Some e → IsNext free setup (take n entries) e.event e
+  next n e there = next_at free setup [] events entries n e each there
 
   legal : (n : ℕ) → IsLegal setup.scheduler.base setup.scheduler.count (core_log (take n entries))
   legal n = (runs_lawful setup events entries fits each n).legal
@@ -922,41 +940,23 @@ module _ (setup : Setup) (events : List Event) (entries : List Entry) (fits : se
       let g = full k e t job bt b in
       let one = one_request f.started.delivery g.started.delivery f.started.request g.started.request s t job
       f.start g.start in
-      settled_once setup events entries each g.started.request j k
+      settled_once free setup events entries each g.started.request j k
       (subst (λ (n : ℕ). SettlesCall entries n j) one f.settles) g.settles
 
 pub are_builds : (setup : Setup) (events : List Event) (entries : List Entry) → setup.scheduler.count < 2 ^ 64
-    → HasWords setup → EachNext setup [] events entries → AreBuilds setup entries
+    → HasWords setup → EachNext free setup [] events entries → AreBuilds setup entries
 are_builds setup events entries fits words each = record {
   started = λ n. are_started setup (take n events) (take n entries) fits words
-      (each_front setup [] events entries n each);
+      (each_front free setup [] events entries n each);
   once = λ n. built_once setup (take n events) (take n entries) fits words
-      (each_front setup [] events entries n each);
-  settled = λ n. settled_once setup (take n events) (take n entries)
-      (each_front setup [] events entries n each);
+      (each_front free setup [] events entries n each);
+  settled = λ n. settled_once free setup (take n events) (take n entries)
+      (each_front free setup [] events entries n each);
 }
 
 -- the entries of a farm that ran events
 pub run_builds : (setup : Setup) (entries : List Entry) → setup.scheduler.count < 2 ^ 64
-    → (HasToken setup.scheduler.auth → HasWords setup) → IsRun setup entries → HasToken setup.scheduler.auth
+    → (HasToken setup.scheduler.auth → HasWords setup) → IsRun free setup entries → HasToken setup.scheduler.auth
     → AreBuilds setup entries
 run_builds setup entries fits words run token =
     are_builds setup (map (λ (e : Entry). e.event) entries) entries fits (words token) run
-
-pub Runs-builds : (old : Farmed) (events : List Event) (new : Farmed) → old.setup.scheduler.count < 2 ^ 64
-    → (HasToken old.setup.scheduler.auth → HasWords old.setup) → Runs old events new
-    → IsRun new.setup new.entries → HasToken old.setup.scheduler.auth → AreBuilds new.setup new.entries
-Runs-builds old events new fits words run is token =
-    let same : new.setup ≡ old.setup = ap (λ (f : Farmed). f.setup) run.2 in
-    let own : IsRun old.setup new.entries = subst (λ (s : Setup). IsRun s new.entries) same is in
-    subst (λ (s : Setup). AreBuilds s new.entries) (sym same)
-    (run_builds old.setup new.entries fits words own token)
-
--- the same of the entries that were handed back
-pub Runs-stopped : (old : Farmed) (events : List Event) (mid : Farmed) (entries : List Entry)
-    → old.setup.scheduler.count < 2 ^ 64 → (HasToken old.setup.scheduler.auth → HasWords old.setup)
-    → Runs old events mid
-    → entries ≡ mid.entries → IsRun mid.setup mid.entries → HasToken old.setup.scheduler.auth
-    → AreBuilds old.setup entries
-Runs-stopped old events mid entries fits words run same is token = run_builds old.setup entries fits words
-    (Runs-is old events mid entries run same is) token

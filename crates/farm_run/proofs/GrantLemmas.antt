@@ -32,7 +32,7 @@ use Rattle.farm_script.specs.declared.event.Event.{Event}
 use Rattle.farm_script.specs.declared.event.EventKind.{EventKind}
 use Rattle.farm_script.specs.declared.event.EventKind.TheVariants.{Request, Deliver, Fail, Return, Answer}
 use Rattle.farm_script.specs.declared.event.EventKind.TheVariants.{Beat, Restart}
-use Rattle.farm_script.specs.declared.setup.Setup.{Setup}
+use Rattle.farm_run.specs.declared.site.Site.{Site as Setup}
 use Rattle.farm_run.specs.declared.entry.Effect.{Effect}
 use Rattle.farm_run.specs.declared.entry.Entry.{Entry}
 use Rattle.farm_run.specs.declared.entry.EntryWord.TheVariants.{Void}
@@ -50,6 +50,7 @@ use Rattle.farm_run.specs.Served.{served, state_call}
 use Rattle.farm_run.specs.Servers.{ServerNow, server_now}
 use Rattle.farm_run.specs.Ways.{Way, server_way, stepper, caller_by, caller_of, delivery_way, way_of}
 use Rattle.farm_run.specs.Ways.{to_nothing, to_scheduler}
+use Rattle.farm_run.specs.Weather.{Weather}
 use Rattle.farm_run.proofs.BuildLemmas.{mapped, get_past, found_now, found_addr, caller_is, delivered}
 use Rattle.farm_run.proofs.BuildLemmas.{run_asked}
 use Rattle.farm_run.proofs.OneLemmas.{one_server_asked}
@@ -82,10 +83,10 @@ settling_caller setup log later step (Answer c bytes) n reply e = refl
 settling_caller setup log later step (Beat server) n reply e = absurd cc
 settling_caller setup log later step (Restart server key nonce) n reply e = absurd cc
 
-module _ (setup : Setup) (words : HasWords setup) (events : List Event) (entries : List Entry)
-    (each : EachNext setup [] events entries) where
-  next : (n : ℕ) (e : Entry) → slice_get entries n ≡ Some e → IsNext setup (take n entries) e.event e
-  next n e there = next_at setup [] events entries n e each there
+module _ (w : Weather) (setup : Setup) (words : HasWords setup) (events : List Event) (entries : List Entry)
+    (each : EachNext w setup [] events entries) where
+  next : (n : ℕ) (e : Entry) → slice_get entries n ≡ Some e → IsNext w setup (take n entries) e.event e
+  next n e there = next_at w setup [] events entries n e each there
 
   -- a report that entry n makes as the server at the address
   module _ (n : ℕ) (c : Entry) (made_at : slice_get entries n ≡ Some c) (server : Addr) (job : JobId)
@@ -97,7 +98,7 @@ module _ (setup : Setup) (words : HasWords setup) (events : List Event) (entries
 
     module _ (d : ℕ) (e : Entry) (there : slice_get entries d ≡ Some e) (delivers : e.event.kind ≡ Deliver n)
         (r : Reply) (replies : e.reply ≡ Some r) (x : Effect)
-        (made : IsMade setup (take d entries) e.event.at (way_of setup (take d entries) e.event.kind) x)
+        (made : IsMade w setup (take d entries) e.event.at (way_of setup (take d entries) e.event.kind) x)
         (is : e ≡ entry_of e.event x) where
       nothing : d ≤ n → ⊥
       nothing past =
@@ -107,7 +108,7 @@ module _ (setup : Setup) (words : HasWords setup) (events : List Event) (entries
           ap (way_of setup (take d entries)) delivers
           ∙ ap (λ (o : Option OutCall). delivery_way setup (take d entries)
           (caller_of setup (take d entries) (slice_get (take d entries) n)) o) none in
-          let void : x ≡ word_effect Void = subst (λ (w : Way). IsMade setup (take d entries) e.event.at w x)
+          let void : x ≡ word_effect Void = subst (λ (v : Way). IsMade w setup (take d entries) e.event.at v x)
           way made in
           let no : None ≡ Some r = sym (ap (λ (z : Effect). z.reply) void)
           ∙ sym (ap (λ (y : Entry). y.reply) is) ∙ replies in
@@ -129,7 +130,7 @@ module _ (setup : Setup) (words : HasWords setup) (events : List Event) (entries
           → IsAnswer update_at r.bytes (Ok Success)
       answered lt seen is_reply ok =
           let s = core_of setup (take d entries) in
-          let (a, shown, x_is) = subst (λ (w : Way). IsMade setup (take d entries) e.event.at w x)
+          let (a, shown, x_is) = subst (λ (v : Way). IsMade w setup (take d entries) e.event.at v x)
           (arrives lt) made in
           let wanted : Asked = record { what = asked.Update server job state; json = false } in
           let one : a ≡ wanted = one_question (equal_admission setup.scheduler.client)
@@ -179,7 +180,7 @@ module _ (setup : Setup) (words : HasWords setup) (events : List Event) (entries
       → q.entry.call ≡ (served setup q.now (length (take n entries)) a.json a.what).call
   asked_does n server life bytes a q =
       let (x, made, is) = next n q.entry q.there in
-      let own = subst (λ (w : Way). IsMade setup (take n entries) q.entry.event.at w x) q.comes made in
+      let own = subst (λ (v : Way). IsMade w setup (take n entries) q.entry.event.at v x) q.comes made in
       let one : own.0 ≡ a = one_server_asked q.now bytes own.0 a own.1 q.asks in
       ap (λ (y : Entry). y.call) is ∙ ap (λ (z : Effect). z.call) own.2
       ∙ ap (λ (b : ServerAsked). (served setup q.now (length (take n entries)) b.json b.what).call) one
@@ -225,7 +226,7 @@ module _ (setup : Setup) (words : HasWords setup) (events : List Event) (entries
         (addr_of j server now back.at) (run_fits n server life job run at json body bytes q) j life now
         back;
     ends = λ n j k server life job run at json body bytes now later q g back.
-        let ran = run_by setup events entries each n j server life job run at json body bytes now q g in
+        let ran = run_by w setup events entries each n j server life job run at json body bytes now q g in
         let same : ran.entry ≡ g.back.settles.entry = same_Some ran.entry g.back.settles.entry
         (sym ran.there ∙ g.back.settles.there) in
         let names : ◌≡◌ {A = Option (ℕ × Option (List ℕ))} (settles_by (take j entries) ran.entry.event.kind)

@@ -1,6 +1,9 @@
+pub mod BeginLemmas
 pub mod BuildLemmas
 pub mod CallLemmas
 pub mod DecideLemmas
+pub mod FarmLemmas
+pub mod FreeLemmas
 pub mod GrantLemmas
 pub mod HexLemmas
 pub mod IdLemmas
@@ -8,6 +11,7 @@ pub mod MadeLemmas
 pub mod NextLemmas
 pub mod NumberLemmas
 pub mod OneLemmas
+pub mod PassageLemmas
 pub mod ReliableLemmas
 pub mod RepliedLemmas
 pub mod ReportLemmas
@@ -18,6 +22,7 @@ pub mod ServerLemmas
 pub mod SettleLemmas
 pub mod ShownLemmas
 pub mod SoundLemmas
+pub mod StandLemmas
 pub mod StartedLemmas
 pub mod StationLemmas
 pub mod TakenLemmas

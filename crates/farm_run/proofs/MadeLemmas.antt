@@ -1,6 +1,6 @@
 -- What each kind of event makes, and what is kept after it.
-use Rattle.std.proofs.Common.{◌≡◌, ◌≢◌, ◌⊎◌, inl, inr, ℕ, zero, suc, ◌<◌, Bool, true, false, ◌&&◌, nat_lt}
-use Rattle.std.proofs.Common.{List, [], ◌∷◌, ◌++◌, length, take, drop, set, Option, Some, None, Result, Ok}
+use Rattle.std.proofs.Common.{◌≡◌, ◌≢◌, ◌⊎◌, inl, inr, ℕ, zero, suc, ◌<◌, ◌^◌, Bool, true, false, ◌&&◌, nat_lt}
+use Rattle.std.proofs.Common.{List, [], ◌∷◌, ◌++◌, length, map, take, drop, set, Option, Some, None, Result, Ok}
 use Rattle.std.proofs.Common.{Err, refl, sym, ap, subst, ◌∙◌, arith}
 use Rattle.std.specs.Prelude.{slice_get}
 use Rattle.std.proofs.lemmas.Bool.{cases_eq, ne_eqb}
@@ -15,7 +15,7 @@ use Rattle.sched_core.specs.Log.{Core}
 use Rattle.sched_core.specs.Reservation.{unspent}
 use Rattle.sched_core.specs.Rule.{is_among}
 use Rattle.sched_core.specs.Ticket.{Ticket}
-use Rattle.farm_script.specs.declared.setup.Setup.{Setup}
+use Rattle.farm_run.specs.declared.site.Site.{Site as Setup}
 use Rattle.farm_script.specs.declared.event.Event.{Event}
 use Rattle.farm_run.specs.declared.entry.Effect.{Effect}
 use Rattle.farm_run.specs.declared.entry.Entry.{Entry}
@@ -28,7 +28,7 @@ use Rattle.farm_run.specs.declared.pending.Told.TheVariants as told
 use Rattle.farm_run.specs.declared.entry.Step.{Step}
 use Rattle.farm_run.specs.declared.entry.StepKind.{StepKind}
 use Rattle.farm_run.specs.declared.entry.StepKind.TheVariants as kinds
-use Rattle.farm_run.specs.declared.station.Station.{Station}
+use Rattle.farm_run.specs.Post.{Post as Station, outside_of}
 use Rattle.dist_types.specs.declared.ids.JobId.{JobId}
 use Rattle.dist_types.specs.declared.results.UpdateJobStateResult.{UpdateJobStateResult}
 use Rattle.dist_wire.specs.declared.run.RunJobHttpRequest.{RunJobHttpRequest}
@@ -37,8 +37,9 @@ use Rattle.farm_script.specs.declared.event.EventKind.{EventKind}
 use Rattle.farm_script.specs.declared.event.EventKind.TheVariants.{Request, Deliver, Fail, Return, Answer}
 use Rattle.farm_script.specs.declared.event.EventKind.TheVariants.{Beat, Restart}
 use Rattle.farm_run.specs.Servers.{ServerNow, restart_by, server_now, is_over}
-use Rattle.farm_run.specs.Stations.{AreStations}
-use Rattle.farm_run.proofs.ServerLemmas.{stations_same}
+use Rattle.farm_run.specs.Stations.{AreStations, HasApart}
+use Rattle.farm_run.proofs.FreeLemmas.{goes_free, next_free}
+use Rattle.farm_run.proofs.StandLemmas.{stands_same}
 use Rattle.farm_run.specs.declared.pending.Made.{Made}
 use Rattle.farm_run.specs.declared.pending.Pending.{Pending}
 use Rattle.farm_run.specs.Begun.{IsBegunBy, IsFirstCall, IsMadeBy, IsCallOf, Keeps, outcome_of, completion_by}
@@ -46,15 +47,17 @@ use Rattle.farm_run.specs.Begun.{completion_at, completion_of}
 use Rattle.farm_run.specs.Calls.{settles_by, is_void, is_of, settled_at, waiting_at}
 use Rattle.farm_run.specs.Effects.{entry_of, effect_of, word_effect}
 use Rattle.farm_run.specs.Farm.{with_core, IsWaiting, IsKept, kept_at, AreKept, IsAfter, IsReceived, IsMadeSo}
-use Rattle.farm_run.specs.Farm.{IsSound, IsFarm}
-use Rattle.farm_run.specs.Next.{GoesOn, Follows, IsServed, IsSettled, IsMade}
+use Rattle.farm_run.specs.Farm.{IsSound, IsFarm, Stands}
+use Rattle.farm_run.specs.Passage.{IsMoved}
+use Rattle.farm_run.specs.Weather.{Weather, calm, free}
+use Rattle.farm_run.specs.Next.{GoesOn, Follows, IsServed, IsSettled, IsMade, IsNext}
 use Rattle.farm_run.specs.Seen.{core_log, core_of}
-use Rattle.farm_run.specs.Settled.{assignment_end, ready_end, started_end, complete_end, Reports, Lives}
+use Rattle.farm_run.specs.Settled.{assignment_end, ReadyEnds, StartedEnds, complete_end, Reports, Lives}
 use Rattle.farm_run.specs.Settled.{ReportsIn, IsOwnBy}
 use Rattle.farm_run.specs.Ways.{Way, way_of, brought_at, to_nothing, to_nobody, to_scheduler, to_server}
 use Rattle.farm_run.specs.Ways.{to_call, to_beat, to_restart}
 use Rattle.farm_run.proofs.CallLemmas.{waiting-end}
-use Rattle.farm_run.proofs.NextLemmas.{call_ticket, settles_it, way_settles, sound_next}
+use Rattle.farm_run.proofs.NextLemmas.{call_ticket, settles_it, way_settles, sound_next, sound_none}
 use Rattle.farm_run.proofs.RunLemmas.{core_of-push, IsRun-push}
 use Rattle.farm_run.proofs.WaitLemmas.{call-end, kept-left, kept-settled, kept-push}
 
@@ -101,51 +104,55 @@ new_kept setup log e (Some p) is = record {
 
 -- ---- what comes to an address, and what has nothing to do
 
-served_made : (setup : Setup) (log : List Entry) (at : ℕ) (way : Way) (x : Effect)
-    → IsServed setup (core_of setup log) (length log) at way x → IsMade setup log at way x
-served_made setup log at (to_scheduler peer bytes) x is = is
-served_made setup log at (to_server s bytes) x is = is
-served_made setup log at (to_beat s) x is = is
-served_made setup log at (to_restart s key nonce) x is = is
-served_made setup log at to_nothing x is = is
-served_made setup log at to_nobody x is = is
-served_made setup log at (to_call n reply) x is = absurd is
+served_made : (w : Weather) (setup : Setup) (log : List Entry) (at : ℕ) (way : Way) (x : Effect)
+    → IsServed w setup (core_of setup log) (length log) at way x → IsMade w setup log at way x
+served_made w setup log at (to_scheduler peer bytes) x is = is
+served_made w setup log at (to_server s bytes) x is = is
+served_made w setup log at (to_beat s) x is = is
+served_made w setup log at (to_restart s key nonce) x is = is
+served_made w setup log at to_nothing x is = is
+served_made w setup log at to_nobody x is = is
+served_made w setup log at (to_call n reply) x is = absurd is
 
-begun_made : (setup : Setup) (log : List Entry) (at : ℕ) (way : Way) (x : Effect) (o : Option Pending)
-    → IsServed setup (core_of setup log) (length log) at way x
+begun_made : (w : Weather) (setup : Setup) (log : List Entry) (at : ℕ) (way : Way) (x : Effect) (o : Option Pending)
+    → IsServed w setup (core_of setup log) (length log) at way x
     → Keeps (IsBegunBy setup (core_log log) (length log) way x) x o → Keeps (IsMadeBy setup log way x) x o
-begun_made setup log at way x None served is = is
-begun_made setup log at (to_scheduler peer bytes) x (Some p) served is = is
-begun_made setup log at (to_server s bytes) x (Some p) served is = is
-begun_made setup log at (to_beat s) x (Some p) served is = is
-begun_made setup log at (to_restart s key nonce) x (Some p) served is = absurd is.0
-begun_made setup log at to_nothing x (Some p) served is = absurd is.0
-begun_made setup log at to_nobody x (Some p) served is = absurd is.0
-begun_made setup log at (to_call n reply) x (Some p) served is = absurd is.0
+begun_made w setup log at way x None served is = is
+begun_made w setup log at (to_scheduler peer bytes) x (Some p) served is = is
+begun_made w setup log at (to_server s bytes) x (Some p) served is = is
+begun_made w setup log at (to_beat s) x (Some p) served is = is
+begun_made w setup log at (to_restart s key nonce) x (Some p) served is = absurd is.0
+begun_made w setup log at to_nothing x (Some p) served is = absurd is.0
+begun_made w setup log at to_nobody x (Some p) served is = absurd is.0
+begun_made w setup log at (to_call n reply) x (Some p) served is = absurd is.0
 
-pub received_made : (setup : Setup) (s : Core) (log : List Entry) (ps : List (Option Pending))
+pub received_made : (w : Weather) (setup : Setup) (s : Core) (log : List Entry) (ps : List (Option Pending))
     (sts new : List Station) (event : Event) (number at : ℕ) (way : Way) (m : Made)
     → IsFarm setup s log ps sts → number ≡ length log → event.at ≡ at → way_of setup log event.kind ≡ way
     → settles_by log event.kind ≡ None
-    → IsReceived setup s number at way m → AreStations setup.servers (log ++ entry_of event m.effect ∷ []) new
-    → IsMadeSo setup log event (way_of setup log event.kind) ps new m
-received_made setup s log ps sts new event number at way m is numbered moment comes none received stand =
-    let one : IsReceived setup (core_of setup log) number at way m =
-    subst (λ (c : Core). IsReceived setup c number at way m) is.core_is received in
-    let two : IsReceived setup (core_of setup log) (length log) at way m =
-    subst (λ (n : ℕ). IsReceived setup (core_of setup log) n at way m) numbered one in
-    let three : IsReceived setup (core_of setup log) (length log) event.at way m =
-    subst (λ (n : ℕ). IsReceived setup (core_of setup log) (length log) n way m) (sym moment) two in
-    let four : IsReceived setup (core_of setup log) (length log) event.at (way_of setup log event.kind) m =
-    subst (λ (w : Way). IsReceived setup (core_of setup log) (length log) event.at w m) (sym comes) three in
+    → IsReceived w setup s number at way m
+    → AreStations setup.servers (log ++ entry_of event m.effect ∷ []) new
+    → IsMoved setup (entry_of event m.effect) w (map outside_of sts) (map outside_of new)
+    → IsMadeSo setup log event (way_of setup log event.kind) ps sts new m
+received_made w setup s log ps sts new event number at way m is numbered moment comes none received stand moved =
+    let one : IsReceived w setup (core_of setup log) number at way m =
+    subst (λ (c : Core). IsReceived w setup c number at way m) is.core_is received in
+    let two : IsReceived w setup (core_of setup log) (length log) at way m =
+    subst (λ (n : ℕ). IsReceived w setup (core_of setup log) n at way m) numbered one in
+    let three : IsReceived w setup (core_of setup log) (length log) event.at way m =
+    subst (λ (n : ℕ). IsReceived w setup (core_of setup log) (length log) n way m) (sym moment) two in
+    let four : IsReceived w setup (core_of setup log) (length log) event.at (way_of setup log event.kind) m =
+    subst (λ (v : Way). IsReceived w setup (core_of setup log) (length log) event.at v m) (sym comes) three in
     record {
-      made = served_made setup log event.at (way_of setup log event.kind) m.effect four.served;
+      weather = w;
+      made = served_made w setup log event.at (way_of setup log event.kind) m.effect four.served;
+      moved = moved;
       after = record {
         size = is.kept.size;
         old = all_kept setup log (entry_of event m.effect) ps is.kept
             (unsettling log (entry_of event m.effect) none);
         new = new_kept setup log (entry_of event m.effect) m.pending
-            (begun_made setup log event.at (way_of setup log event.kind) m.effect m.pending four.served
+            (begun_made w setup log event.at (way_of setup log event.kind) m.effect m.pending four.served
             four.kept);
       };
       stations = stand;
@@ -156,12 +163,15 @@ pub idle_stands : (setup : Setup) (s : Core) (log : List Entry) (ps : List (Opti
     (sts new : List Station) (event : Event) (m : Made)
     → IsFarm setup s log ps sts → way_of setup log event.kind ≡ to_nothing
     → AreStations setup.servers (log ++ entry_of event (word_effect Void) ∷ []) new
+    → IsMoved setup (entry_of event (word_effect Void)) calm (map outside_of sts) (map outside_of new)
     → m ≡ record { effect = word_effect Void; pending = None }
-    → IsMadeSo setup log event (way_of setup log event.kind) ps new m
-idle_stands setup s log ps sts new event m is nothing stand same =
+    → IsMadeSo setup log event (way_of setup log event.kind) ps sts new m
+idle_stands setup s log ps sts new event m is nothing stand moved same =
     let idle : Made = record { effect = word_effect Void; pending = None } in
-    let there : IsMadeSo setup log event to_nothing ps new idle = record {
+    let there : IsMadeSo setup log event to_nothing ps sts new idle = record {
+      weather = calm;
       made = refl;
+      moved = moved;
       after = record {
         size = is.kept.size;
         old = all_kept setup log (entry_of event (word_effect Void)) ps is.kept
@@ -170,8 +180,8 @@ idle_stands setup s log ps sts new event m is nothing stand same =
       };
       stations = stand;
     } in
-    subst (λ (x : Made). IsMadeSo setup log event (way_of setup log event.kind) ps new x) (sym same)
-    (subst (λ (w : Way). IsMadeSo setup log event w ps new idle) (sym nothing) there)
+    subst (λ (x : Made). IsMadeSo setup log event (way_of setup log event.kind) ps sts new x) (sym same)
+    (subst (λ (v : Way). IsMadeSo setup log event v ps sts new idle) (sym nothing) there)
 
 -- an event that has nothing to do, and restarts nothing
 pub idle_made : (setup : Setup) (s : Core) (log : List Entry) (ps : List (Option Pending))
@@ -179,10 +189,10 @@ pub idle_made : (setup : Setup) (s : Core) (log : List Entry) (ps : List (Option
     → IsFarm setup s log ps sts → way_of setup log event.kind ≡ to_nothing
     → ((a : Addr) → restart_by a event.kind ≡ None)
     → m ≡ record { effect = word_effect Void; pending = None }
-    → IsMadeSo setup log event (way_of setup log event.kind) ps sts m
+    → IsMadeSo setup log event (way_of setup log event.kind) ps sts sts m
 idle_made setup s log ps sts event m is nothing still same =
-    idle_stands setup s log ps sts sts event m is nothing
-    (stations_same setup.servers log sts (entry_of event (word_effect Void)) is.stations still refl) same
+    let stand = stands_same setup log sts (word_effect Void) is.stations refl event still in
+    idle_stands setup s log ps sts sts event m is nothing stand.0 stand.1 same
 
 -- ---- settlements
 
@@ -246,15 +256,16 @@ end_loud s root json at t (Ok a) = refl
 end_loud s root json at t (Err f) = refl
 
 ready_loud : (s : ServerNow) (root : ℕ) (json : Bool) (job : JobId) (archive : List ℕ)
-    (r : Result UpdateJobStateResult CallFault) → is_void (ready_end s root json job archive r).word ≡ false
-ready_loud s root json job archive (Ok u) = refl
-ready_loud s root json job archive (Err f) = refl
+    (r : Result UpdateJobStateResult CallFault) (x : Effect) → ReadyEnds free s root json job archive r x
+    → is_void x.word ≡ false
+ready_loud s root json job archive (Ok u) x is = ap (λ (y : Effect). is_void y.word) is.2
+ready_loud s root json job archive (Err f) x is = ap (λ (y : Effect). is_void y.word) is
 
 started_loud : (setup : Setup) (s : ServerNow) (root : ℕ) (job : JobId) (run : RunJobHttpRequest)
-    (inputs : List ℕ) (r : Result UpdateJobStateResult CallFault)
-    → is_void (started_end setup s root job run inputs r).word ≡ false
-started_loud setup s root job run inputs (Ok u) = refl
-started_loud setup s root job run inputs (Err f) = refl
+    (inputs : List ℕ) (r : Result UpdateJobStateResult CallFault) (x : Effect)
+    → StartedEnds free setup s root job run inputs r x → is_void x.word ≡ false
+started_loud setup s root job run inputs (Ok u) x is = ap (λ (y : Effect). is_void y.word) is.2
+started_loud setup s root job run inputs (Err f) x is = ap (λ (y : Effect). is_void y.word) is
 
 complete_loud : (addr : Addr) (root : ℕ) (json : Bool) (job : JobId) (outcome : Outcome)
     (r : Result UpdateJobStateResult CallFault) → is_void (complete_end addr root json job outcome r).word
@@ -263,31 +274,31 @@ complete_loud addr root json job outcome (Ok u) = refl
 complete_loud addr root json job outcome (Err f) = refl
 
 reports_loud : (setup : Setup) (s : ServerNow) (bytes : List ℕ) (root : ℕ) (json : Bool)
-    (reply : Option (List ℕ)) (t : Told) (x : Effect) → Reports setup s bytes root json reply t x
+    (reply : Option (List ℕ)) (t : Told) (x : Effect) → Reports free setup s bytes root json reply t x
     → is_void x.word ≡ false
-reports_loud setup s bytes root json reply (told.Ready job at) x is = ap (λ (y : Effect). is_void y.word) is.2
-    ∙ ready_loud s root json job (drop at bytes) is.0
+reports_loud setup s bytes root json reply (told.Ready job at) x is =
+    ready_loud s root json job (drop at bytes) is.0 x is.2
 reports_loud setup s bytes root json reply (told.Started job run at) x is =
-    ap (λ (y : Effect). is_void y.word) is.2 ∙ started_loud setup s root job run (drop at bytes) is.0
+    started_loud setup s root job run (drop at bytes) is.0 x is.2
 reports_loud setup s bytes root json reply (told.Complete job outcome) x is =
     ap (λ (y : Effect). is_void y.word) is.2 ∙ complete_loud s.setup.addr root json job outcome is.0
 reports_loud setup s bytes root json reply told.Heartbeat x is = ap (λ (y : Effect). is_void y.word) is.2
 
 lives_loud : (setup : Setup) (life : ℕ) (s : ServerNow) (bytes : List ℕ) (root : ℕ) (json : Bool)
     (reply : Option (List ℕ)) (t : Told) (over : Bool) (x : Effect)
-    → Lives setup life s bytes root json reply t over x → is_void x.word ≡ false
+    → Lives free setup life s bytes root json reply t over x → is_void x.word ≡ false
 lives_loud setup life s bytes root json reply t true x is = ap (λ (y : Effect). is_void y.word) is
 lives_loud setup life s bytes root json reply t false x is = reports_loud setup s bytes root json reply t x is
 
 report_loud : (setup : Setup) (life : ℕ) (bytes : List ℕ) (root : ℕ) (json : Bool) (reply : Option (List ℕ))
-    (t : Told) (o : Option ServerNow) (x : Effect) → ReportsIn setup life bytes root json reply t o x
+    (t : Told) (o : Option ServerNow) (x : Effect) → ReportsIn free setup life bytes root json reply t o x
     → is_void x.word ≡ false
 report_loud setup life bytes root json reply t None x is = ap (λ (y : Effect). is_void y.word) is
 report_loud setup life bytes root json reply t (Some s) x is = lives_loud setup life s bytes root json reply t
     (is_over life s) x is
 
 pub goes_loud : (setup : Setup) (log : List Entry) (at root : ℕ) (json : Bool) (reply : Option (List ℕ))
-    (ask : Ask) (x : Effect) → GoesOn setup log at root json reply ask x → is_void x.word ≡ false
+    (ask : Ask) (x : Effect) → GoesOn free setup log at root json reply ask x → is_void x.word ≡ false
 goes_loud setup log at root json reply (Assign t) x is = ap (λ (y : Effect). is_void y.word) is.2
     ∙ end_loud (core_of setup log) root json at t is.0
 goes_loud setup log at root json reply (Report server life t) x is =
@@ -303,7 +314,7 @@ no_second addr root json job outcome (Err f) n j a life = refl
 lives_second : (setup : Setup) (life : ℕ) (s : ServerNow) (bytes : List ℕ) (root : ℕ) (json : Bool)
     (reply : Option (List ℕ)) (job : JobId) (outcome : Outcome) (over : Bool) (x : Effect) (n : ℕ) (j : Bool)
     (a : Addr) (l : ℕ)
-    → Lives setup life s bytes root json reply (told.Complete job outcome) over x
+    → Lives free setup life s bytes root json reply (told.Complete job outcome) over x
     → completion_at n j a l x.step ≡ None
 lives_second setup life s bytes root json reply job outcome true x n j a l is =
     ap (λ (y : Effect). completion_at n j a l y.step) is
@@ -314,7 +325,7 @@ lives_second setup life s bytes root json reply job outcome false x n j a l is =
 report_second : (setup : Setup) (life : ℕ) (bytes : List ℕ) (root : ℕ) (json : Bool) (reply : Option (List ℕ))
     (job : JobId) (outcome : Outcome) (o : Option ServerNow) (x : Effect) (n : ℕ) (j : Bool) (a : Addr)
     (l : ℕ)
-    → ReportsIn setup life bytes root json reply (told.Complete job outcome) o x
+    → ReportsIn free setup life bytes root json reply (told.Complete job outcome) o x
     → completion_at n j a l x.step ≡ None
 report_second setup life bytes root json reply job outcome None x n j a l is =
     ap (λ (y : Effect). completion_at n j a l y.step) is
@@ -355,16 +366,16 @@ completes q (Report addr life t) (Some step) p e = completes_by q.root q.json ad
 -- a call whose settlement tells a run's end is no such report itself
 none_after : (setup : Setup) (log : List Entry) (at root : ℕ) (json : Bool) (reply : Option (List ℕ))
     (q first : Pending) (ask : Ask) (x : Effect) (p : Pending)
-    → Completes first → first.ask ≡ ask → GoesOn setup log at root json reply ask x
+    → Completes first → first.ask ≡ ask → GoesOn free setup log at root json reply ask x
     → completion_of first ask x.step ≡ Some p → ⊥
 none_after setup log at root json reply q first (Assign t) x p c asks goes e = cc
 none_after setup log at root json reply q first (Report server life t) x p c asks goes e =
     let same : Report c.addr c.life (told.Complete c.job c.outcome) ≡ Report server life t = sym c.asks ∙ asks
     in
     let kind : told.Complete c.job c.outcome ≡ t = cc in
-    let ended : ReportsIn setup life (brought_at log root) root json reply (told.Complete c.job c.outcome)
+    let ended : ReportsIn free setup life (brought_at log root) root json reply (told.Complete c.job c.outcome)
     (server_now setup log server) x =
-    subst (λ (k : Told). ReportsIn setup life (brought_at log root) root json reply k
+    subst (λ (k : Told). ReportsIn free setup life (brought_at log root) root json reply k
     (server_now setup log server) x) (sym kind) goes in
     let none = report_second setup life (brought_at log root) root json reply c.job c.outcome
     (server_now setup log server) x first.root first.json server life ended in
@@ -403,7 +414,7 @@ first_call setup log n first not_it is =
 
 -- what is kept of the call that a settlement makes
 settled_kept : (setup : Setup) (log : List Entry) (at n : ℕ) (reply : Option (List ℕ)) (first : Pending)
-    (x : Effect) (o : Option Pending) → IsCallOf setup log n first → Follows setup log at reply (Some first) x
+    (x : Effect) (o : Option Pending) → IsCallOf setup log n first → Follows free setup log at reply (Some first) x
     → Keeps (λ p. completion_of first first.ask x.step ≡ Some p) x o
     → Keeps (IsMadeBy setup log (to_call n reply) x) x o
 settled_kept setup log at n reply first x None call goes is = is
@@ -419,57 +430,6 @@ settled_kept setup log at n reply first x (Some p) call goes is = (
   is.2,
 )
 
--- what follows where that is kept of the call
-pub settled_by : (setup : Setup) (s : Core) (log : List Entry) (ps : List (Option Pending))
-    (sts new : List Station) (event : Event) (n at : ℕ) (reply : Option (List ℕ)) (first : Pending) (m : Made)
-    → IsFarm setup s log ps sts → event.at ≡ at → way_of setup log event.kind ≡ to_call n reply
-    → kept_at ps n ≡ Some first → Follows setup log at reply (Some first) m.effect
-    → Keeps (λ p. completion_of first first.ask m.effect.step ≡ Some p) m.effect m.pending
-    → AreStations setup.servers (log ++ entry_of event m.effect ∷ []) new
-    → IsMadeSo setup log event (way_of setup log event.kind) (set ps n None) new m
-settled_by setup s log ps sts new event n at reply first m is moment comes some follows keeps stand =
-    let waits : IsWaiting setup log n first = subst (IsKept setup log n) some (is.kept.each n) in
-    let names = way_settles setup log event.kind n reply comes in
-    let goes : Follows setup log event.at reply (Some first) m.effect =
-    subst (λ (k : ℕ). Follows setup log k reply (Some first) m.effect) (sym moment) follows in
-    let made : IsMade setup log event.at (to_call n reply) m.effect =
-    subst (λ (o : Option Entry). IsSettled setup log event.at n reply o m.effect) (sym waits.waits)
-    (first, waits.call, goes) in
-    let kept : Keeps (IsMadeBy setup log (to_call n reply) m.effect) m.effect m.pending =
-    settled_kept setup log event.at n reply first m.effect m.pending waits.call goes keeps in
-    let here : Keeps (IsMadeBy setup log (way_of setup log event.kind) m.effect) m.effect m.pending =
-    subst (λ (w : Way). Keeps (IsMadeBy setup log w m.effect) m.effect m.pending) (sym comes) kept in
-    record {
-      made = subst (λ (w : Way). IsMade setup log event.at w m.effect) (sym comes) made;
-      after = after_settled setup log (entry_of event m.effect) ps n reply is.kept names m.pending
-          (new_kept setup log (entry_of event m.effect) m.pending here)
-          (inl (goes_loud setup log event.at first.root first.json reply first.ask m.effect goes));
-      stations = stand;
-    }
-
--- a call that is not kept does not wait
-pub settled_none : (setup : Setup) (s : Core) (log : List Entry) (ps : List (Option Pending))
-    (sts : List Station) (event : Event) (n : ℕ) (reply : Option (List ℕ)) (m : Made)
-    → IsFarm setup s log ps sts → way_of setup log event.kind ≡ to_call n reply → kept_at ps n ≡ None
-    → ((a : Addr) → restart_by a event.kind ≡ None)
-    → m ≡ record { effect = word_effect Void; pending = None }
-    → IsMadeSo setup log event (way_of setup log event.kind) (set ps n None) sts m
-settled_none setup s log ps sts event n reply m is comes none still same =
-    let x = word_effect Void in
-    let waits : waiting_at log n ≡ None = subst (IsKept setup log n) none (is.kept.each n) in
-    let names = way_settles setup log event.kind n reply comes in
-    let made : IsMade setup log event.at (to_call n reply) x =
-    subst (λ (o : Option Entry). IsSettled setup log event.at n reply o x) (sym waits) refl in
-    let there : IsMadeSo setup log event (way_of setup log event.kind) (set ps n None) sts
-    (record { effect = x; pending = None }) = record {
-      made = subst (λ (w : Way). IsMade setup log event.at w x) (sym comes) made;
-      after = after_settled setup log (entry_of event x) ps n reply is.kept names None
-          (nothing_new setup log (entry_of event x) refl) (inr (refl, none));
-      stations = stations_same setup.servers log sts (entry_of event x) is.stations still refl;
-    } in
-    subst (λ (q : Made). IsMadeSo setup log event (way_of setup log event.kind) (set ps n None) sts q)
-    (sym same) there
-
 -- an event that settles a call restarts nothing
 pub settling_still : (setup : Setup) (log : List Entry) (k : EventKind) (n : ℕ) (reply : Option (List ℕ))
     → way_of setup log k ≡ to_call n reply → (a : Addr) → restart_by a k ≡ None
@@ -482,6 +442,66 @@ settling_still setup log (Beat server) n reply is a = refl
 settling_still setup log (Restart server key nonce) n reply is a =
     let names = way_settles setup log (Restart server key nonce) n reply is in
     absurd cc
+
+-- what follows where that is kept of the call
+pub settled_by : (setup : Setup) (s : Core) (log : List Entry) (ps : List (Option Pending))
+    (sts new : List Station) (event : Event) (n at : ℕ) (reply : Option (List ℕ)) (first : Pending) (m : Made)
+    (w : Weather)
+    → IsFarm setup s log ps sts → event.at ≡ at → way_of setup log event.kind ≡ to_call n reply
+    → kept_at ps n ≡ Some first → Follows w setup log at reply (Some first) m.effect
+    → Keeps (λ p. completion_of first first.ask m.effect.step ≡ Some p) m.effect m.pending
+    → Stands setup log m.effect w sts new
+    → IsMadeSo setup log event (way_of setup log event.kind) (set ps n None) sts new m
+settled_by setup s log ps sts new event n at reply first m w is moment comes some follows keeps stands =
+    let waits : IsWaiting setup log n first = subst (IsKept setup log n) some (is.kept.each n) in
+    let names = way_settles setup log event.kind n reply comes in
+    let stand = stands event (settling_still setup log event.kind n reply comes) in
+    let goes : Follows w setup log event.at reply (Some first) m.effect =
+    subst (λ (k : ℕ). Follows w setup log k reply (Some first) m.effect) (sym moment) follows in
+    let freely : Follows free setup log event.at reply (Some first) m.effect =
+    goes_free w setup log event.at first.root first.json reply first.ask m.effect goes in
+    let made : IsMade w setup log event.at (to_call n reply) m.effect =
+    subst (λ (o : Option Entry). IsSettled w setup log event.at n reply o m.effect) (sym waits.waits)
+    (first, waits.call, goes) in
+    let kept : Keeps (IsMadeBy setup log (to_call n reply) m.effect) m.effect m.pending =
+    settled_kept setup log event.at n reply first m.effect m.pending waits.call freely keeps in
+    let here : Keeps (IsMadeBy setup log (way_of setup log event.kind) m.effect) m.effect m.pending =
+    subst (λ (v : Way). Keeps (IsMadeBy setup log v m.effect) m.effect m.pending) (sym comes) kept in
+    record {
+      weather = w;
+      made = subst (λ (v : Way). IsMade w setup log event.at v m.effect) (sym comes) made;
+      moved = stand.1;
+      after = after_settled setup log (entry_of event m.effect) ps n reply is.kept names m.pending
+          (new_kept setup log (entry_of event m.effect) m.pending here)
+          (inl (goes_loud setup log event.at first.root first.json reply first.ask m.effect freely));
+      stations = stand.0;
+    }
+
+-- a call that is not kept does not wait
+pub settled_none : (setup : Setup) (s : Core) (log : List Entry) (ps : List (Option Pending))
+    (sts : List Station) (event : Event) (n : ℕ) (reply : Option (List ℕ)) (m : Made)
+    → IsFarm setup s log ps sts → way_of setup log event.kind ≡ to_call n reply → kept_at ps n ≡ None
+    → m ≡ record { effect = word_effect Void; pending = None }
+    → IsMadeSo setup log event (way_of setup log event.kind) (set ps n None) sts sts m
+settled_none setup s log ps sts event n reply m is comes none same =
+    let x = word_effect Void in
+    let waits : waiting_at log n ≡ None = subst (IsKept setup log n) none (is.kept.each n) in
+    let names = way_settles setup log event.kind n reply comes in
+    let stand = stands_same setup log sts x is.stations refl event
+    (settling_still setup log event.kind n reply comes) in
+    let made : IsMade calm setup log event.at (to_call n reply) x =
+    subst (λ (o : Option Entry). IsSettled calm setup log event.at n reply o x) (sym waits) refl in
+    let there : IsMadeSo setup log event (way_of setup log event.kind) (set ps n None) sts sts
+    (record { effect = x; pending = None }) = record {
+      weather = calm;
+      made = subst (λ (v : Way). IsMade calm setup log event.at v x) (sym comes) made;
+      moved = stand.1;
+      after = after_settled setup log (entry_of event x) ps n reply is.kept names None
+          (nothing_new setup log (entry_of event x) refl) (inr (refl, none));
+      stations = stand.0;
+    } in
+    subst (λ (q : Made). IsMadeSo setup log event (way_of setup log event.kind) (set ps n None) sts sts q)
+    (sym same) there
 
 -- the reservation of a call that is kept is unspent
 own_by : (setup : Setup) (s : Core) (log : List Entry) (n : ℕ) (p : Pending) (ask : Ask)
@@ -501,18 +521,37 @@ kept_own setup s log ps sts n p is some = own_by setup s log n p p.ask is.core_i
 -- one entry more
 pub farm_next : (setup next : Setup) (s new : Core) (log : List Entry) (ps left : List (Option Pending))
     (sts after : List Station) (event : Event) (m : Made)
-    → IsFarm setup s log ps sts → IsMadeSo setup log event (way_of setup log event.kind) left after m
+    → IsFarm setup s log ps sts → IsMadeSo setup log event (way_of setup log event.kind) left sts after m
     → next ≡ setup → new ≡ with_core s m.effect.core
     → IsFarm next new (log ++ entry_of event m.effect ∷ []) (left ++ m.pending ∷ []) after
 farm_next setup next s new log ps left sts after event m is made same core-is =
     let e : Entry = entry_of event m.effect in
+    let is_next : IsNext free setup log event e =
+    next_free made.weather setup log event e (m.effect, made.made, refl) in
     let farm : IsFarm setup new (log ++ e ∷ []) (left ++ m.pending ∷ []) after = record {
       fits = is.fits;
       apart = is.apart;
-      run = IsRun-push setup log e is.run (m.effect, made.made, refl);
+      run = IsRun-push setup log e is.run is_next;
       core_is = core-is ∙ ap (λ (c : Core). with_core c m.effect.core) is.core_is ∙ core_of-push setup log e;
-      sound = sound_next setup log event e is.fits is.sound (m.effect, made.made, refl);
+      sound = sound_next setup log event e is.fits is.sound is_next;
       kept = kept-push setup log e left m.pending made.after;
       stations = made.stations;
     } in
     subst (λ (t : Setup). IsFarm t new (log ++ e ∷ []) (left ++ m.pending ∷ []) after) (sym same) farm
+
+-- a farm that begins
+pub begun_farm : (setup : Setup) (core : Core) (entries : List Entry) (ps : List (Option Pending))
+    (sts : List Station) → setup.scheduler.count < 2 ^ 64 → HasApart setup → core ≡ core_of setup []
+    → entries ≡ [] → ps ≡ [] → AreStations setup.servers [] sts → IsFarm setup core entries ps sts
+begun_farm setup core entries ps sts fits apart is none empty stations =
+    let farm : IsFarm setup core [] [] sts = record {
+      fits = fits;
+      apart = apart;
+      run = tt;
+      core_is = is;
+      sound = sound_none setup;
+      kept = record { size = refl; each = λ n. refl };
+      stations = stations;
+    } in
+    subst (λ (es : List Entry). IsFarm setup core es ps sts) (sym none)
+    (subst (λ (qs : List (Option Pending)). IsFarm setup core [] qs sts) (sym empty) farm)

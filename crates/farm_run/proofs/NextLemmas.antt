@@ -35,7 +35,7 @@ use Rattle.sched_core.proofs.OnceLemmas.{legal_all}
 use Rattle.http_routes.specs.declared.route.SchedRouted.{SchedRouted}
 use Rattle.http_routes.specs.declared.route.SchedRouted.TheVariants as asked
 use Rattle.http_routes.proofs.CallLemmas.{begins_assigned}
-use Rattle.farm_script.specs.declared.setup.Setup.{Setup}
+use Rattle.farm_run.specs.declared.site.Site.{Site as Setup}
 use Rattle.farm_script.specs.declared.event.Event.{Event}
 use Rattle.farm_script.specs.declared.event.EventKind.{EventKind}
 use Rattle.farm_script.specs.declared.event.EventKind.TheVariants.{Request, Deliver, Fail, Return, Answer}
@@ -69,8 +69,10 @@ use Rattle.farm_run.specs.Effects.{entry_of, effect_of, word_effect}
 use Rattle.farm_run.specs.Farm.{IsSound, IsLawful, AreLawful}
 use Rattle.farm_run.specs.Next.{GoesOn, IsSettled, IsMade, IsNext, EachNext, IsRun}
 use Rattle.farm_run.specs.Seen.{core_log, core_of}
-use Rattle.farm_run.specs.Settled.{IsOutcome, assignment_end, ready_end, started_end, complete_end, Reports}
+use Rattle.farm_run.specs.Settled.{IsOutcome, assignment_end, ReadyEnds, StartedEnds, complete_end, Reports}
 use Rattle.farm_run.specs.Settled.{ReportsIn, Lives}
+use Rattle.farm_run.specs.Weather.{free, opened_effect}
+use Rattle.lru_disk_cache.specs.Archives.{Archives}
 use Rattle.farm_run.specs.Tickets.{ticket_of, ticket_at}
 use Rattle.farm_run.specs.Ways.{Way, server_way, caller_of, delivery_way, return_way, is_inside, beat_way}
 use Rattle.farm_run.specs.Ways.{restart_way, way_of, brought_at, to_nothing, to_nobody, to_scheduler}
@@ -270,15 +272,16 @@ served_core setup s number json (server_asked.Run job run at) = refl
 served_core setup s number json (server_asked.Done response) = refl
 
 ready_core : (s : ServerNow) (root : ℕ) (json : Bool) (job : JobId) (archive : List ℕ)
-    (r : Result UpdateJobStateResult CallFault) → (ready_end s root json job archive r).core ≡ None
-ready_core s root json job archive (Ok u) = refl
-ready_core s root json job archive (Err f) = refl
+    (r : Result UpdateJobStateResult CallFault) (x : Effect) → ReadyEnds free s root json job archive r x
+    → x.core ≡ None
+ready_core s root json job archive (Ok u) x is = ap (λ (y : Effect). y.core) is.2
+ready_core s root json job archive (Err f) x is = ap (λ (y : Effect). y.core) is
 
 started_core : (setup : Setup) (s : ServerNow) (root : ℕ) (job : JobId) (run : RunJobHttpRequest)
-    (inputs : List ℕ) (r : Result UpdateJobStateResult CallFault)
-    → (started_end setup s root job run inputs r).core ≡ None
-started_core setup s root job run inputs (Ok u) = refl
-started_core setup s root job run inputs (Err f) = refl
+    (inputs : List ℕ) (r : Result UpdateJobStateResult CallFault) (x : Effect)
+    → StartedEnds free setup s root job run inputs r x → x.core ≡ None
+started_core setup s root job run inputs (Ok u) x is = ap (λ (y : Effect). y.core) is.2
+started_core setup s root job run inputs (Err f) x is = ap (λ (y : Effect). y.core) is
 
 complete_core : (addr : Addr) (root : ℕ) (json : Bool) (job : JobId) (outcome : Outcome)
     (r : Result UpdateJobStateResult CallFault) → (complete_end addr root json job outcome r).core ≡ None
@@ -286,28 +289,32 @@ complete_core addr root json job outcome (Ok u) = refl
 complete_core addr root json job outcome (Err f) = refl
 
 reports_core : (setup : Setup) (s : ServerNow) (bytes : List ℕ) (root : ℕ) (json : Bool)
-    (reply : Option (List ℕ)) (t : Told) (x : Effect) → Reports setup s bytes root json reply t x
+    (reply : Option (List ℕ)) (t : Told) (x : Effect) → Reports free setup s bytes root json reply t x
     → x.core ≡ None
-reports_core setup s bytes root json reply (told.Ready job at) x is = ap (λ (y : Effect). y.core) is.2
-    ∙ ready_core s root json job (drop at bytes) is.0
-reports_core setup s bytes root json reply (told.Started job run at) x is = ap (λ (y : Effect). y.core) is.2
-    ∙ started_core setup s root job run (drop at bytes) is.0
+reports_core setup s bytes root json reply (told.Ready job at) x is =
+    ready_core s root json job (drop at bytes) is.0 x is.2
+reports_core setup s bytes root json reply (told.Started job run at) x is =
+    started_core setup s root job run (drop at bytes) is.0 x is.2
 reports_core setup s bytes root json reply (told.Complete job outcome) x is = ap (λ (y : Effect). y.core) is.2
     ∙ complete_core s.setup.addr root json job outcome is.0
 reports_core setup s bytes root json reply told.Heartbeat x is = ap (λ (y : Effect). y.core) is.2
 
 lives_core : (setup : Setup) (life : ℕ) (s : ServerNow) (bytes : List ℕ) (root : ℕ) (json : Bool)
     (reply : Option (List ℕ)) (t : Told) (over : Bool) (x : Effect)
-    → Lives setup life s bytes root json reply t over x → x.core ≡ None
+    → Lives free setup life s bytes root json reply t over x → x.core ≡ None
 lives_core setup life s bytes root json reply t true x is = ap (λ (y : Effect). y.core) is
 lives_core setup life s bytes root json reply t false x is = reports_core setup s bytes root json reply t x is
 
 pub reports_in_core : (setup : Setup) (life : ℕ) (bytes : List ℕ) (root : ℕ) (json : Bool)
     (reply : Option (List ℕ)) (t : Told) (o : Option ServerNow) (x : Effect)
-    → ReportsIn setup life bytes root json reply t o x → x.core ≡ None
+    → ReportsIn free setup life bytes root json reply t o x → x.core ≡ None
 reports_in_core setup life bytes root json reply t None x is = ap (λ (y : Effect). y.core) is
 reports_in_core setup life bytes root json reply t (Some s) x is =
     lives_core setup life s bytes root json reply t (is_over life s) x is
+
+opened_core : (s : ServerNow) (o : Option Archives) → (opened_effect s o).core ≡ None
+opened_core s None = refl
+opened_core s (Some list) = refl
 
 -- an effect without a core entry
 quiet_adds : (setup : Setup) (log : List Entry) (event : Event) (x : Effect) → x.core ≡ None
@@ -318,7 +325,7 @@ goes_adds : (setup : Setup) (log : List Entry) (event : Event) (at n root : ℕ)
     (reply : Option (List ℕ)) (w : Entry) (p : Pending) (ask : Ask) (x : Effect)
     → IsSound setup log → waiting_at log n ≡ Some w → IsCallOf setup log n p → p.ask ≡ ask
     → settles_by log event.kind ≡ Some (n, reply)
-    → GoesOn setup log at root json reply ask x → Adds setup log (entry_of event x)
+    → GoesOn free setup log at root json reply ask x → Adds setup log (entry_of event x)
 goes_adds setup log event at n root json reply w p (Assign t) x sound waits of_call asks names is =
     subst (λ (y : Effect). Adds setup log (entry_of event y)) (sym is.2)
     (assignment_adds setup log event at root json n reply w t is.0 sound waits
@@ -331,7 +338,7 @@ goes_adds setup log event at n root json reply w p (Report server life t) x soun
 settled_adds : (setup : Setup) (log : List Entry) (event : Event) (at n : ℕ) (reply : Option (List ℕ))
     (o : Option Entry) (x : Effect)
     → IsSound setup log → waiting_at log n ≡ o → settles_by log event.kind ≡ Some (n, reply)
-    → IsSettled setup log at n reply o x → Adds setup log (entry_of event x)
+    → IsSettled free setup log at n reply o x → Adds setup log (entry_of event x)
 settled_adds setup log event at n reply None x sound waits names is = word_adds setup log event Void x is
 settled_adds setup log event at n reply (Some w) x sound waits names is =
     goes_adds setup log event at n is.0.root is.0.json reply w is.0 is.0.ask x sound waits is.1 refl names
@@ -343,7 +350,11 @@ settled_adds setup log event at n reply (Some w) x sound waits names is =
 no_server_call : (bytes : List ℕ) (o : Option ServerNow) (n : ℕ) (reply : Option (List ℕ))
     → server_way bytes o ≡ to_call n reply → ⊥
 no_server_call bytes None n reply is = cc
-no_server_call bytes (Some s) n reply is = cc
+no_server_call bytes (Some s) n reply is = by_test s.running is
+  where
+    by_test : (b : Bool) → cond b (to_server s bytes) to_nobody ≡ to_call n reply → ⊥
+    by_test true e = cc
+    by_test false e = cc
 
 no_call : (b : Bool) (peer : Addr) (bytes : List ℕ) (o : Option ServerNow) (n : ℕ) (reply : Option (List ℕ))
     → cond b (to_scheduler peer bytes) (server_way bytes o) ≡ to_call n reply → ⊥
@@ -359,7 +370,11 @@ no_delivery setup log caller (Some c) n reply is =
 
 no_beat : (o : Option ServerNow) (n : ℕ) (reply : Option (List ℕ)) → beat_way o ≡ to_call n reply → ⊥
 no_beat None n reply is = cc
-no_beat (Some s) n reply is = cc
+no_beat (Some s) n reply is = by_test s.running is
+  where
+    by_test : (b : Bool) → cond b (to_beat s) to_nobody ≡ to_call n reply → ⊥
+    by_test true e = cc
+    by_test false e = cc
 
 no_restart : (key : List ℕ) (nonce : ℕ) (o : Option ServerNow) (n : ℕ) (reply : Option (List ℕ))
     → restart_way key nonce o ≡ to_call n reply → ⊥
@@ -402,7 +417,7 @@ way_settles setup log (Restart server key nonce) n reply is =
     absurd (no_restart key nonce (server_now setup log server) n reply is)
 
 made_adds : (setup : Setup) (log : List Entry) (event : Event) (way : Way) (x : Effect)
-    → way_of setup log event.kind ≡ way → IsSound setup log → IsMade setup log event.at way x
+    → way_of setup log event.kind ≡ way → IsSound setup log → IsMade free setup log event.at way x
     → Adds setup log (entry_of event x)
 made_adds setup log event (to_scheduler peer bytes) x same sound is =
     subst (λ (y : Effect). Adds setup log (entry_of event y)) (sym is.2)
@@ -417,12 +432,12 @@ made_adds setup log event (to_server s bytes) x same sound is =
 made_adds setup log event (to_beat s) x same sound is = quiet_adds setup log event x
     (ap (λ (y : Effect). y.core) is)
 made_adds setup log event (to_restart s key nonce) x same sound is = quiet_adds setup log event x
-    (ap (λ (y : Effect). y.core) is)
+    (ap (λ (y : Effect). y.core) is.2 ∙ opened_core s is.0)
 made_adds setup log event to_nobody x same sound is = word_adds setup log event Down x is
 made_adds setup log event to_nothing x same sound is = word_adds setup log event Void x is
 
 pub sound_next : (setup : Setup) (log : List Entry) (event : Event) (e : Entry)
-    → setup.scheduler.count < 2 ^ 64 → IsSound setup log → IsNext setup log event e
+    → setup.scheduler.count < 2 ^ 64 → IsSound setup log → IsNext free setup log event e
     → IsSound setup (log ++ e ∷ [])
 sound_next setup log event e fits sound is =
     subst (λ (d : Entry). IsSound setup (log ++ d ∷ [])) (sym is.2)
@@ -439,7 +454,7 @@ sound_none setup = record {
 -- ---- runs
 
 pub sound_run : (setup : Setup) (log : List Entry) (events : List Event) (entries : List Entry)
-    → setup.scheduler.count < 2 ^ 64 → IsSound setup log → EachNext setup log events entries
+    → setup.scheduler.count < 2 ^ 64 → IsSound setup log → EachNext free setup log events entries
     → IsSound setup (log ++ entries)
 sound_run setup log [] [] fits sound each = subst (IsSound setup) (sym (append-nil log)) sound
 sound_run setup log (v ∷ vs) (x ∷ xs) fits sound each =
@@ -473,10 +488,10 @@ are_lawful setup entries fits sound = λ n.
     (front_log n entries) sound.legal))
 
 pub runs_lawful : (setup : Setup) (events : List Event) (entries : List Entry)
-    → setup.scheduler.count < 2 ^ 64 → EachNext setup [] events entries → AreLawful setup entries
+    → setup.scheduler.count < 2 ^ 64 → EachNext free setup [] events entries → AreLawful setup entries
 runs_lawful setup events entries fits each = are_lawful setup entries fits
     (sound_run setup [] events entries fits (sound_none setup) each)
 
-pub run_lawful : (setup : Setup) (entries : List Entry) → setup.scheduler.count < 2 ^ 64 → IsRun setup entries
+pub run_lawful : (setup : Setup) (entries : List Entry) → setup.scheduler.count < 2 ^ 64 → IsRun free setup entries
     → AreLawful setup entries
 run_lawful setup entries fits run = runs_lawful setup (map (λ (e : Entry). e.event) entries) entries fits run

@@ -1,6 +1,6 @@
 -- An event makes one entry, events make one list of entries, and a script's run has one text.
 use Rattle.std.proofs.Common.{◌≡◌, ℕ, Bool, true, false, List, [], ◌∷◌, ◌++◌, length, take, drop, Option}
-use Rattle.std.proofs.Common.{Some, None, Result, refl, ap, ◌∙◌, sym, subst}
+use Rattle.std.proofs.Common.{Some, None, Result, Ok, Err, refl, ap, ◌∙◌, sym, subst}
 use Rattle.std.proofs.lemmas.Option.{same_Some}
 use Rattle.dist_types.specs.declared.addr.Addr.{Addr}
 use Rattle.dist_types.specs.declared.outgoing.CallFault.{CallFault}
@@ -12,7 +12,7 @@ use Rattle.http_routes.specs.declared.route.Asked.{Asked}
 use Rattle.http_routes.specs.Admission.{equal_admission}
 use Rattle.http_routes.proofs.AskLemmas.{one_question}
 use Rattle.http_routes.proofs.CallLemmas.{one_assignment, one_answer as one_answer_at}
-use Rattle.farm_script.specs.declared.setup.Setup.{Setup}
+use Rattle.farm_run.specs.declared.site.Site.{Site as Setup}
 use Rattle.farm_script.specs.declared.event.Event.{Event}
 use Rattle.farm_script.proofs.SpelledLemmas.{one_script}
 use Rattle.farm_run.specs.declared.entry.Effect.{Effect}
@@ -40,7 +40,13 @@ use Rattle.farm_run.specs.Next.{GoesOn, Follows, IsSettled, IsMade, IsNext, Each
 use Rattle.farm_run.specs.Printed.{run_text}
 use Rattle.farm_run.specs.RunText.{IsRunText}
 use Rattle.farm_run.specs.Seen.{core_log, core_of, serves}
-use Rattle.farm_run.specs.Settled.{IsOutcome, assignment_end, IsUpdated, IsHeard, ready_end, started_end}
+use Rattle.farm_run.specs.Settled.{IsOutcome, assignment_end, IsUpdated, IsHeard, ReadyEnds, StartedEnds}
+use Rattle.farm_run.specs.Settled.{submission, running}
+use Rattle.farm_run.specs.Sites.{site_of}
+use Rattle.farm_run.specs.Weather.{calm, opened_effect, IsRestarted}
+use Rattle.farm_script.specs.declared.setup.Setup.{Setup as Script}
+use Rattle.dist_types.specs.declared.ids.JobId.{JobId}
+use Rattle.dist_wire.specs.declared.run.RunJobHttpRequest.{RunJobHttpRequest}
 use Rattle.farm_run.specs.Settled.{complete_end, heard_as, Reports, Lives, ReportsIn}
 use Rattle.farm_run.specs.Ways.{Way, way_of, brought_at, to_nothing, to_nobody, to_scheduler, to_server}
 use Rattle.farm_run.specs.Ways.{to_call, to_beat, to_restart}
@@ -149,13 +155,36 @@ one_hearing : (reply : Option (List ℕ)) (a b : Result HeartbeatServerResult Ca
 one_hearing None a b p q = p ∙ sym q
 one_hearing (Some bytes) a b p q = one_answer_at heard_at bytes a b p q
 
+-- in calm weather
+one_ready : (s : ServerNow) (root : ℕ) (json : Bool) (job : JobId) (archive : List ℕ)
+    (r : Result UpdateJobStateResult CallFault) (x y : Effect) → ReadyEnds calm s root json job archive r x
+    → ReadyEnds calm s root json job archive r y → x ≡ y
+one_ready s root json job archive (Ok u) x y a b = a.2
+    ∙ ap (submission s.setup.addr root json job) (a.1 ∙ sym b.1) ∙ sym b.2
+one_ready s root json job archive (Err f) x y a b = a ∙ sym b
+
+one_start : (setup : Setup) (s : ServerNow) (root : ℕ) (job : JobId) (run : RunJobHttpRequest)
+    (inputs : List ℕ) (r : Result UpdateJobStateResult CallFault) (x y : Effect)
+    → StartedEnds calm setup s root job run inputs r x → StartedEnds calm setup s root job run inputs r y
+    → x ≡ y
+one_start setup s root job run inputs (Ok u) x y a b = a.2
+    ∙ ap (running setup s.setup.addr job) (a.1 ∙ sym b.1) ∙ sym b.2
+one_start setup s root job run inputs (Err f) x y a b = a ∙ sym b
+
+one_restart : (s : ServerNow) (x y : Effect) → IsRestarted calm s x → IsRestarted calm s y → x ≡ y
+one_restart s x y a b = a.2 ∙ ap (opened_effect s) (a.1 ∙ sym b.1) ∙ sym b.2
+
 one_end : (setup : Setup) (s : ServerNow) (bytes : List ℕ) (root : ℕ) (json : Bool) (reply : Option (List ℕ))
-    (t : Told) (x y : Effect) → Reports setup s bytes root json reply t x
-    → Reports setup s bytes root json reply t y → x ≡ y
-one_end setup s bytes root json reply (told.Ready job at) x y a b = a.2
-    ∙ ap (ready_end s root json job (drop at bytes)) (one_update reply a.0 b.0 a.1 b.1) ∙ sym b.2
-one_end setup s bytes root json reply (told.Started job run at) x y a b = a.2
-    ∙ ap (started_end setup s root job run (drop at bytes)) (one_update reply a.0 b.0 a.1 b.1) ∙ sym b.2
+    (t : Told) (x y : Effect) → Reports calm setup s bytes root json reply t x
+    → Reports calm setup s bytes root json reply t y → x ≡ y
+one_end setup s bytes root json reply (told.Ready job at) x y a b =
+    one_ready s root json job (drop at bytes) a.0 x y a.2
+    (subst (λ (r : Result UpdateJobStateResult CallFault). ReadyEnds calm s root json job (drop at bytes) r y)
+    (one_update reply b.0 a.0 b.1 a.1) b.2)
+one_end setup s bytes root json reply (told.Started job run at) x y a b =
+    one_start setup s root job run (drop at bytes) a.0 x y a.2
+    (subst (λ (r : Result UpdateJobStateResult CallFault).
+    StartedEnds calm setup s root job run (drop at bytes) r y) (one_update reply b.0 a.0 b.1 a.1) b.2)
 one_end setup s bytes root json reply (told.Complete job outcome) x y a b = a.2
     ∙ ap (complete_end s.setup.addr root json job outcome) (one_update reply a.0 b.0 a.1 b.1) ∙ sym b.2
 one_end setup s bytes root json reply told.Heartbeat x y a b =
@@ -164,21 +193,21 @@ one_end setup s bytes root json reply told.Heartbeat x y a b =
 
 one_life : (setup : Setup) (life : ℕ) (s : ServerNow) (bytes : List ℕ) (root : ℕ) (json : Bool)
     (reply : Option (List ℕ)) (t : Told) (over : Bool) (x y : Effect)
-    → Lives setup life s bytes root json reply t over x → Lives setup life s bytes root json reply t over y
+    → Lives calm setup life s bytes root json reply t over x → Lives calm setup life s bytes root json reply t over y
     → x ≡ y
 one_life setup life s bytes root json reply t true x y a b = a ∙ sym b
 one_life setup life s bytes root json reply t false x y a b = one_end setup s bytes root json reply t x y a b
 
 one_report_end : (setup : Setup) (life : ℕ) (bytes : List ℕ) (root : ℕ) (json : Bool)
     (reply : Option (List ℕ)) (t : Told) (o : Option ServerNow) (x y : Effect)
-    → ReportsIn setup life bytes root json reply t o x → ReportsIn setup life bytes root json reply t o y
+    → ReportsIn calm setup life bytes root json reply t o x → ReportsIn calm setup life bytes root json reply t o y
     → x ≡ y
 one_report_end setup life bytes root json reply t None x y a b = a ∙ sym b
 one_report_end setup life bytes root json reply t (Some s) x y a b =
     one_life setup life s bytes root json reply t (is_over life s) x y a b
 
 one_way : (setup : Setup) (log : List Entry) (at root : ℕ) (json : Bool) (reply : Option (List ℕ)) (ask : Ask)
-    (x y : Effect) → GoesOn setup log at root json reply ask x → GoesOn setup log at root json reply ask y
+    (x y : Effect) → GoesOn calm setup log at root json reply ask x → GoesOn calm setup log at root json reply ask y
     → x ≡ y
 one_way setup log at root json reply (Assign t) x y a b =
     a.2 ∙ ap (assignment_end (core_of setup log) root json at t) (one_outcome reply a.0 b.0 a.1 b.1) ∙ sym b.2
@@ -186,39 +215,39 @@ one_way setup log at root json reply (Report server life t) x y a b = one_report
     (brought_at log root) root json reply t (server_now setup log server) x y a b
 
 one_settled : (setup : Setup) (log : List Entry) (at n : ℕ) (reply : Option (List ℕ)) (o : Option Entry)
-    (x y : Effect) → IsSettled setup log at n reply o x → IsSettled setup log at n reply o y → x ≡ y
+    (x y : Effect) → IsSettled calm setup log at n reply o x → IsSettled calm setup log at n reply o y → x ≡ y
 one_settled setup log at n reply None x y p q = p ∙ sym q
 one_settled setup log at n reply (Some w) x y p q =
     let same : q.0 ≡ p.0 = one_call setup log n q.0 p.0 q.1 p.1 in
     one_way setup log at p.0.root p.0.json reply p.0.ask x y p.2
-    (subst (λ (a : Pending). Follows setup log at reply (Some a) y) same q.2)
+    (subst (λ (a : Pending). Follows calm setup log at reply (Some a) y) same q.2)
 
 -- ---- entries
 
-one_made : (setup : Setup) (log : List Entry) (at : ℕ) (way : Way) (x y : Effect) → IsMade setup log at way x
-    → IsMade setup log at way y → x ≡ y
+one_made : (setup : Setup) (log : List Entry) (at : ℕ) (way : Way) (x y : Effect) → IsMade calm setup log at way x
+    → IsMade calm setup log at way y → x ≡ y
 one_made setup log at (to_scheduler peer bytes) x y p q = one_answer setup (core_of setup log)
     (length log) at peer bytes x y p q
 one_made setup log at (to_call n reply) x y p q = one_settled setup log at n reply (waiting_at log n) x y p q
 one_made setup log at (to_server s bytes) x y p q = one_served setup s (length log) bytes x y p q
 one_made setup log at (to_beat s) x y p q = p ∙ sym q
-one_made setup log at (to_restart s key nonce) x y p q = p ∙ sym q
+one_made setup log at (to_restart s key nonce) x y p q = one_restart s x y p q
 one_made setup log at to_nothing x y p q = p ∙ sym q
 one_made setup log at to_nobody x y p q = p ∙ sym q
 
-pub one_next : (setup : Setup) (log : List Entry) (event : Event) (a b : Entry) → IsNext setup log event a
-    → IsNext setup log event b → a ≡ b
+pub one_next : (setup : Setup) (log : List Entry) (event : Event) (a b : Entry) → IsNext calm setup log event a
+    → IsNext calm setup log event b → a ≡ b
 one_next setup log event a b p q = p.2
     ∙ ap (entry_of event) (one_made setup log event.at (way_of setup log event.kind) p.0 q.0 p.1 q.1)
     ∙ sym q.2
 
 pub one_run : (setup : Setup) (log : List Entry) (events : List Event) (xs ys : List Entry)
-    → EachNext setup log events xs → EachNext setup log events ys → xs ≡ ys
+    → EachNext calm setup log events xs → EachNext calm setup log events ys → xs ≡ ys
 one_run setup log [] [] [] p q = refl
 one_run setup log (v ∷ vs) (x ∷ xs) (y ∷ ys) p q =
     let same : y ≡ x = one_next setup log v y x q.0 p.0 in
-    let rest : EachNext setup (log ++ x ∷ []) vs ys =
-    subst (λ (z : Entry). EachNext setup (log ++ z ∷ []) vs ys) same q.1 in
+    let rest : EachNext calm setup (log ++ x ∷ []) vs ys =
+    subst (λ (z : Entry). EachNext calm setup (log ++ z ∷ []) vs ys) same q.1 in
     ap (λ (z : Entry). z ∷ xs) (sym same) ∙ ap (λ (zs : List Entry). y ∷ zs)
     (one_run setup (log ++ x ∷ []) vs xs ys p.1 rest)
 one_run setup log [] (x ∷ xs) ys p q = absurd p
@@ -229,8 +258,9 @@ one_run setup log (v ∷ vs) (x ∷ xs) [] p q = absurd q
 pub one_text : (bytes a b : List ℕ) → IsRunText bytes a → IsRunText bytes b → a ≡ b
 one_text bytes a b p q =
     let both = one_script bytes q.setup p.setup q.events p.events q.says p.says in
-    let each : EachNext p.setup [] p.events q.entries =
-    subst (λ (s : Setup). EachNext s [] p.events q.entries) both.0
-    (subst (λ (es : List Event). EachNext q.setup [] es q.entries) both.1 q.each) in
-    p.is ∙ ap (run_text p.setup) (one_run p.setup [] p.events p.entries q.entries p.each each)
-    ∙ ap (λ (s : Setup). run_text s q.entries) (sym both.0) ∙ sym q.is
+    let each : EachNext calm (site_of p.setup) [] p.events q.entries =
+    subst (λ (s : Script). EachNext calm (site_of s) [] p.events q.entries) both.0
+    (subst (λ (es : List Event). EachNext calm (site_of q.setup) [] es q.entries) both.1 q.each) in
+    p.is ∙ ap (run_text (site_of p.setup))
+    (one_run (site_of p.setup) [] p.events p.entries q.entries p.each each)
+    ∙ ap (λ (s : Script). run_text (site_of s) q.entries) (sym both.0) ∙ sym q.is

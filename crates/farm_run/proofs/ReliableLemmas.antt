@@ -1,13 +1,12 @@
 -- Which requests get the reply that their row names, and what a restart keeps.
 use Rattle.std.proofs.Common.{◌≡◌, ◌⊎◌, inl, inr, ℕ, suc, ◌+◌, ◌<◌, not, Bool, true, false, cond, List, []}
-use Rattle.std.proofs.Common.{length, map, take, drop, Option, Some, None, Ok, refl, ap, ◌∙◌, sym, subst}
+use Rattle.std.proofs.Common.{length, map, take, drop, Option, Some, None, Result, Ok, refl, ap, ◌∙◌, sym, subst}
 use Rattle.std.proofs.Common.{arith}
 use Rattle.std.specs.Prelude.{slice_get}
 use Rattle.std.specs.Option.{option_map}
 use Rattle.std.proofs.lemmas.Bool.{eq-eqb}
 use Rattle.std.proofs.lemmas.Option.{same_Some}
 use Rattle.dist_types.specs.Addr.{same_addr}
-use Rattle.dist_types.specs.Cause.{counted}
 use Rattle.dist_types.specs.declared.addr.Addr.{Addr}
 use Rattle.dist_types.specs.declared.ids.JobId.{JobId}
 use Rattle.dist_wire.specs.declared.run.RunJobHttpRequest.{RunJobHttpRequest}
@@ -22,15 +21,14 @@ use Rattle.http_routes.specs.declared.server_route.ServerAsked.{ServerAsked}
 use Rattle.http_routes.specs.declared.server_route.ServerRouted.TheVariants as server_asked
 use Rattle.build_server.specs.Books.{held_for}
 use Rattle.build_server.specs.Builds.{ran_of, built_of, run_answer}
-use Rattle.build_server.specs.Rules.{submit_verdict}
 use Rattle.build_server.specs.declared.run.Outcome.{Outcome}
 use Rattle.build_server.specs.declared.run.Outcome.TheVariants as outcome
 use Rattle.farm_script.specs.declared.event.Event.{Event}
 use Rattle.farm_script.specs.declared.event.EventKind.{EventKind}
 use Rattle.farm_script.specs.declared.event.EventKind.TheVariants.{Request, Deliver, Fail, Return, Answer}
 use Rattle.farm_script.specs.declared.event.EventKind.TheVariants.{Beat, Restart}
-use Rattle.farm_script.specs.declared.setup.Setup.{Setup}
-use Rattle.farm_script.specs.declared.setup.SetupServer.{SetupServer}
+use Rattle.farm_run.specs.declared.site.Site.{Site as Setup}
+use Rattle.farm_run.specs.declared.site.SiteServer.{SiteServer as SetupServer}
 use Rattle.farm_run.specs.declared.entry.Effect.{Effect}
 use Rattle.farm_run.specs.declared.entry.Entry.{Entry}
 use Rattle.farm_run.specs.declared.entry.OutCall.{OutCall}
@@ -47,21 +45,26 @@ use Rattle.farm_run.specs.Calls.{call_at, delivery_at, settles_by, is_void, wait
 use Rattle.farm_run.specs.Effects.{effect_of, entry_of}
 use Rattle.farm_run.specs.Next.{GoesOn, IsSettled, IsMade, IsNext, EachNext, IsRun}
 use Rattle.farm_run.specs.Reliable.{IsReserved, AsksAt, IsGranted, EndsBy, AllocationsEnd, SubmissionsEnd}
-use Rattle.farm_run.specs.Reliable.{IsRunBy, RestartsKeep, IsReliable}
+use Rattle.farm_run.specs.Reliable.{IsRunBy, reopened, RestartsKeep, IsReliable}
+use Rattle.farm_run.specs.Weather.{Weather, Works, opened_effect, IsRestarted}
+use Rattle.lru_disk_cache.specs.Archives.{Archives}
+use Rattle.dist_types.specs.declared.outgoing.CallFault.{CallFault}
+use Rattle.dist_types.specs.declared.results.UpdateJobStateResult.{UpdateJobStateResult}
+use Rattle.farm_run.proofs.FreeLemmas.{each_free}
 use Rattle.farm_run.specs.Seen.{core_log, core_of}
-use Rattle.farm_run.specs.Served.{AsksServer, IsReport, report_of, told_of, books_of, run_outcome}
-use Rattle.farm_run.specs.Served.{restart_effect}
+use Rattle.farm_run.specs.Served.{AsksServer, IsReport, report_of, told_of}
 use Rattle.farm_run.specs.Servers.{ServerNow, restart_by, restarted, kind_after, stepped, server_after}
 use Rattle.farm_run.specs.Servers.{server_of, server_now}
-use Rattle.farm_run.specs.Settled.{assignment_end, ready_end, started_end, complete_end, ended_response}
+use Rattle.farm_run.specs.Settled.{assignment_end, ReadyEnds, StartedEnds, complete_end, ended_response}
 use Rattle.farm_run.specs.Settled.{running, Reports, Lives, ReportsIn}
 use Rattle.farm_run.specs.Ways.{Way, server_way, delivery_way, caller_of, is_inside, restart_way, way_of}
 use Rattle.farm_run.specs.Ways.{brought_by, brought_of, brought_at, bytes_of, to_nothing, to_scheduler}
-use Rattle.farm_run.specs.Ways.{to_server, to_call, to_restart}
+use Rattle.farm_run.specs.Ways.{to_nobody, to_server, to_call, to_restart}
 use Rattle.farm_run.proofs.BuildLemmas.{found_now, call_later, no_return, no_outside, no_beat, no_restart}
 use Rattle.farm_run.proofs.OneLemmas.{one_asked, one_server_asked, one_outcome, one_update}
 use Rattle.farm_run.proofs.RepliedLemmas.{size_at, replied_once}
 use Rattle.farm_run.proofs.ServerLemmas.{server-push}
+use Rattle.farm_run.proofs.StationLemmas.{reopened_is}
 use Rattle.farm_run.proofs.SettleLemmas.{take_take, get_front, get_take, next_at, way_back, void, settlement}
 use Rattle.farm_run.proofs.TakenLemmas.{take_some}
 
@@ -70,7 +73,11 @@ use Rattle.farm_run.proofs.TakenLemmas.{take_some}
 server_brings : (bytes bs : List ℕ) (o : Option ServerNow) (s : ServerNow)
     → server_way bs o ≡ to_server s bytes → bs ≡ bytes
 server_brings bytes bs None s e = absurd cc
-server_brings bytes bs (Some t) s e = cc
+server_brings bytes bs (Some t) s e = by_test t.running e
+  where
+    by_test : (b : Bool) → cond b (to_server t bs) to_nobody ≡ to_server s bytes → bs ≡ bytes
+    by_test true h = cc
+    by_test false h = absurd cc
 
 way_brings : (b : Bool) (peer : Addr) (bytes bs : List ℕ) (o : Option ServerNow) (s : ServerNow)
     → cond b (to_scheduler peer bs) (server_way bs o) ≡ to_server s bytes → bs ≡ bytes
@@ -176,42 +183,32 @@ module _ (setup : Setup) (entries : List Entry) (n : ℕ) (server : Addr) (life 
 
 -- ---- a restart
 
-restarts_so : (now : ServerNow) (server : Addr) (key : List ℕ) (nonce : ℕ) → now.setup.addr ≡ server
-    → stepped (Some (record { server = now.setup.addr; kind = step.Opened now.archives }))
-    (restarted (restart_by now.setup.addr (Restart server key nonce)) now)
-    ≡ record {
-      setup = now.setup;
-      life = counted now.life;
-      key = key;
-      nonce = nonce;
-      held = [];
-      archives = now.archives;
-      builds = now.builds;
-    }
-restarts_so now server key nonce own =
-    let opened : Option Step = Some (record { server = now.setup.addr; kind = step.Opened now.archives }) in
+restarts_so : (now : ServerNow) (server : Addr) (key : List ℕ) (nonce : ℕ) (found : Option Archives)
+    → now.setup.addr ≡ server
+    → stepped (opened_effect now found).step (restarted (restart_by now.setup.addr (Restart server key nonce))
+    now) ≡ reopened now key nonce found
+restarts_so now server key nonce found own =
     let here : restart_by now.setup.addr (Restart server key nonce) ≡ Some (key, nonce) =
     ap (λ (b : Bool). cond b (Some (key, nonce)) None) (ap (same_addr server) own ∙ same_self server) in
-    let fresh : ServerNow = restarted (Some (key, nonce)) now in
-    ap (λ (o : Option (List ℕ × ℕ)). stepped opened (restarted o now)) here
-    ∙ ap (λ (b : Bool). cond b (kind_after (step.Opened now.archives) fresh) fresh) (same_self now.setup.addr)
+    ap (λ (o : Option (List ℕ × ℕ)). stepped (opened_effect now found).step (restarted o now)) here
+    ∙ reopened_is now key nonce found
 
 -- ---- the runs
 
-module _ (setup : Setup) (events : List Event) (entries : List Entry)
-    (each : EachNext setup [] events entries) where
-  next : (n : ℕ) (e : Entry) → slice_get entries n ≡ Some e → IsNext setup (take n entries) e.event e
-  next n e there = next_at setup [] events entries n e each there
+module _ (w : Weather) (setup : Setup) (events : List Event) (entries : List Entry)
+    (each : EachNext w setup [] events entries) where
+  next : (n : ℕ) (e : Entry) → slice_get entries n ≡ Some e → IsNext w setup (take n entries) e.event e
+  next n e there = next_at w setup [] events entries n e each there
 
   -- what an entry that settles a call makes of it
-  record Continued (n k : ℕ) (e : Entry) (reply : Option (List ℕ)) : Type 0 where
-    before : n < k
-    way : way_of setup (take k entries) e.event.kind ≡ to_call n reply
-    x : Effect
-    is : e ≡ entry_of e.event x
-    pending : Pending
-    of_call : IsCallOf setup (take k entries) n pending
-    goes : GoesOn setup (take k entries) e.event.at pending.root pending.json reply pending.ask x
+  pub record Continued (n k : ℕ) (e : Entry) (reply : Option (List ℕ)) : Type 0 where
+    pub before : n < k
+    pub way : way_of setup (take k entries) e.event.kind ≡ to_call n reply
+    pub x : Effect
+    pub is : e ≡ entry_of e.event x
+    pub pending : Pending
+    pub of_call : IsCallOf setup (take k entries) n pending
+    pub goes : GoesOn w setup (take k entries) e.event.at pending.root pending.json reply pending.ask x
 
   continued : (n k : ℕ) (s : SettlesCall entries n k) (reply : Option (List ℕ))
       → settles_by (take k entries) s.entry.event.kind ≡ Some (n, reply) → Continued n k s.entry reply
@@ -222,10 +219,10 @@ module _ (setup : Setup) (events : List Event) (entries : List Entry)
     where
       by_wait : (x : Effect) → s.entry ≡ entry_of s.entry.event x → is_void s.entry.word ≡ false
           → way_of setup (take k entries) s.entry.event.kind ≡ to_call n reply
-          → (o : Option Entry) → IsSettled setup (take k entries) s.entry.event.at n reply o x
+          → (o : Option Entry) → IsSettled w setup (take k entries) s.entry.event.at n reply o x
           → Continued n k s.entry reply
       by_wait x is silent way None h = absurd (void s.entry.event x s.entry is h silent)
-      by_wait x is silent way (Some w) h =
+      by_wait x is silent way (Some waits) h =
           record {
             before = (get_front entries n k h.1.entry h.1.there).0;
             way = way;
@@ -237,16 +234,16 @@ module _ (setup : Setup) (events : List Event) (entries : List Entry)
           }
 
       by_way : (x : Effect) → s.entry ≡ entry_of s.entry.event x
-          → IsMade setup (take k entries) s.entry.event.at (way_of setup (take k entries) s.entry.event.kind)
+          → IsMade w setup (take k entries) s.entry.event.at (way_of setup (take k entries) s.entry.event.kind)
           x → is_void s.entry.word ≡ false
           → (way_of setup (take k entries) s.entry.event.kind ≡ to_call n reply)
           ⊎ (way_of setup (take k entries) s.entry.event.kind ≡ to_nothing) → Continued n k s.entry reply
       by_way x is made silent (inl same) =
           by_wait x is silent same (waiting_at (take k entries) n)
-          (subst (λ (w : Way). IsMade setup (take k entries) s.entry.event.at w x) same made)
+          (subst (λ (way : Way). IsMade w setup (take k entries) s.entry.event.at way x) same made)
       by_way x is made silent (inr same) =
           absurd (void s.entry.event x s.entry is
-          (subst (λ (w : Way). IsMade setup (take k entries) s.entry.event.at w x) same made) silent)
+          (subst (λ (way : Way). IsMade w setup (take k entries) s.entry.event.at way x) same made) silent)
 
   -- ---- an allocation
 
@@ -280,8 +277,8 @@ module _ (setup : Setup) (events : List Event) (entries : List Entry)
   allocations_end = λ n k json t bytes a q back is_assigned.
       let e : Entry = back.settles.entry in
       let c = continued n k back.settles (Some bytes) back.names in
-      let goes : GoesOn setup (take k entries) e.event.at n json (Some bytes) (Assign t) c.x =
-      subst (λ (p : Pending). GoesOn setup (take k entries) e.event.at p.root p.json (Some bytes) p.ask c.x)
+      let goes : GoesOn w setup (take k entries) e.event.at n json (Some bytes) (Assign t) c.x =
+      subst (λ (p : Pending). GoesOn w setup (take k entries) e.event.at p.root p.json (Some bytes) p.ask c.x)
       (reserved_call n k json t q c.pending c.of_call) c.goes in
       let same : c.x ≡ assignment_end (core_of setup (take k entries)) n json e.event.at t (Ok a) =
       goes.2 ∙ ap (assignment_end (core_of setup (take k entries)) n json e.event.at t)
@@ -304,47 +301,48 @@ module _ (setup : Setup) (events : List Event) (entries : List Entry)
 
     reported : (root : ℕ) (json : Bool) (t : Told) (c : Continued n k g.back.settles.entry (Some g.bytes))
         → c.pending ≡ record { root = root; json = json; ask = Report server life t }
-        → Reports setup now (brought_at (take k entries) root) root json (Some g.bytes) t c.x
+        → Reports w setup now (brought_at (take k entries) root) root json (Some g.bytes) t c.x
     reported root json t c same =
         let bs = brought_at (take k entries) root in
-        let goes : ReportsIn setup life bs root json (Some g.bytes) t
+        let goes : ReportsIn w setup life bs root json (Some g.bytes) t
         (server_now setup (take k entries) server) c.x =
-        subst (λ (p : Pending). GoesOn setup (take k entries) g.back.settles.entry.event.at p.root p.json
+        subst (λ (p : Pending). GoesOn w setup (take k entries) g.back.settles.entry.event.at p.root p.json
         (Some g.bytes) p.ask c.x) same c.goes in
-        let here : ReportsIn setup life bs root json (Some g.bytes) t (Some now) c.x =
-        subst (λ (o : Option ServerNow). ReportsIn setup life bs root json (Some g.bytes) t o c.x) g.at
+        let here : ReportsIn w setup life bs root json (Some g.bytes) t (Some now) c.x =
+        subst (λ (o : Option ServerNow). ReportsIn w setup life bs root json (Some g.bytes) t o c.x) g.at
         goes in
-        subst (λ (b : Bool). Lives setup life now bs root json (Some g.bytes) t b c.x)
+        subst (λ (b : Bool). Lives w setup life now bs root json (Some g.bytes) t b c.x)
         (ap not (eq-eqb now.life life g.lives)) here
 
     granted_addr : now.setup.addr ≡ server
     granted_addr = (found_now setup (take k entries) server now g.at).own
 
-  submissions_end : SubmissionsEnd setup entries
+  submissions_end : SubmissionsEnd w setup entries
   submissions_end = λ n k server life job json body bytes now q g.
       let a : ServerAsked = record { what = server_asked.Submit job; json = json; body = body } in
       let c = back n k server life now g in
       let r = reported n k server life now g n json (told.Ready job body) c
       (asked_call setup entries n server life bytes a q (told.Ready job body) refl k c.pending c.of_call)
       in
-      let same : c.x ≡ ready_end now n json job (drop body bytes) (Ok g.answer) =
-      r.2 ∙ ap (ready_end now n json job (drop body (brought_at (take k entries) n)))
-      (one_update (Some g.bytes) r.0 (Ok g.answer) r.1 g.granted)
-      ∙ ap (λ (bs : List ℕ). ready_end now n json job (drop body bs) (Ok g.answer))
-      (asked_brought setup entries n server life bytes a q (told.Ready job body) refl k c.before) in
-      record {
-        entry = g.back.settles.entry;
-        there = g.back.settles.there;
-        steps = ap (λ (y : Entry). y.step) c.is ∙ ap (λ (z : Effect). z.step) same
-            ∙ ap (λ (addr : Addr). Some
-            (record {
-              server = addr;
-              kind = step.Submitted job
-                  (submit_verdict (books_of now) (held_for job now.held) (drop body bytes));
-            }))
-            (granted_addr n k server life now g);
-        replies = ap (λ (y : Entry). y.reply) c.is ∙ ap (λ (z : Effect). z.reply) same;
-      }
+      let brought : drop body (brought_at (take k entries) n) ≡ drop body bytes =
+      ap (drop body) (asked_brought setup entries n server life bytes a q (told.Ready job body) refl k
+      c.before) in
+      let ends : ReadyEnds w now n json job (drop body bytes) (Ok g.answer) c.x =
+      subst (λ (bs : List ℕ). ReadyEnds w now n json job bs (Ok g.answer) c.x) brought
+      (subst (λ (u : Result UpdateJobStateResult CallFault).
+      ReadyEnds w now n json job (drop body (brought_at (take k entries) n)) u c.x)
+      (one_update (Some g.bytes) r.0 (Ok g.answer) r.1 g.granted) r.2) in (
+        ends.0,
+        ends.1,
+        record {
+          entry = g.back.settles.entry;
+          there = g.back.settles.there;
+          steps = ap (λ (y : Entry). y.step) c.is ∙ ap (λ (z : Effect). z.step) ends.2
+              ∙ ap (λ (addr : Addr). Some (record { server = addr; kind = step.Submitted job ends.0 }))
+              (granted_addr n k server life now g);
+          replies = ap (λ (y : Entry). y.reply) c.is ∙ ap (λ (z : Effect). z.reply) ends.2;
+        },
+      )
 
   -- ---- a run
 
@@ -353,39 +351,46 @@ module _ (setup : Setup) (events : List Event) (entries : List Entry)
       (q : AsksAt setup entries n server life bytes
       (record { what = server_asked.Run job run at; json = json; body = body }))
       (g : IsGranted setup entries n j server life now) where
-    abbrev wish : ServerAsked
+    abbrev pub wish : ServerAsked
     wish = record { what = server_asked.Run job run at; json = json; body = body }
 
     abbrev start : Told
     start = told.Started job run (body + at)
 
-    abbrev went : Outcome
-    went = run_outcome now (held_for job now.held) run.outputs (drop (body + at) bytes)
-
-    first : Continued n j g.back.settles.entry (Some g.bytes)
+    pub first : Continued n j g.back.settles.entry (Some g.bytes)
     first = back n j server life now g
 
-    run_is : (c : Continued n j g.back.settles.entry (Some g.bytes)) → c.x ≡ running setup server job went
-    run_is c =
+    pub runs_so : (c : Continued n j g.back.settles.entry (Some g.bytes))
+        → StartedEnds w setup now n job run (drop (body + at) bytes) (Ok g.answer) c.x
+    runs_so c =
         let r = reported n j server life now g n json start c
         (asked_call setup entries n server life bytes wish q start refl j c.pending c.of_call) in
-        r.2 ∙ ap (started_end setup now n job run (drop (body + at) (brought_at (take j entries) n)))
-        (one_update (Some g.bytes) r.0 (Ok g.answer) r.1 g.granted)
-        ∙ ap (λ (bs : List ℕ). running setup now.setup.addr job
-        (run_outcome now (held_for job now.held) run.outputs (drop (body + at) bs)))
-        (asked_brought setup entries n server life bytes wish q start refl j c.before)
-        ∙ ap (λ (addr : Addr). running setup addr job went) (granted_addr n j server life now g)
+        subst (λ (bs : List ℕ). StartedEnds w setup now n job run bs (Ok g.answer) c.x)
+        (ap (drop (body + at)) (asked_brought setup entries n server life bytes wish q start refl j c.before))
+        (subst (λ (u : Result UpdateJobStateResult CallFault).
+        StartedEnds w setup now n job run (drop (body + at) (brought_at (take j entries) n)) u c.x)
+        (one_update (Some g.bytes) r.0 (Ok g.answer) r.1 g.granted) r.2)
+
+    abbrev pub went : Outcome
+    went = (runs_so first).0
+
+    pub works : Works w now (held_for job now.held) run (drop (body + at) bytes) went
+    works = (runs_so first).1
+
+    run_is : first.x ≡ running setup server job went
+    run_is = (runs_so first).2 ∙ ap (λ (addr : Addr). running setup addr job went)
+        (granted_addr n j server life now g)
 
     ran_step : g.back.settles.entry.step ≡ Some
         (record { server = server; kind = step.Ran job (ran_of went) (built_of went) })
-    ran_step = ap (λ (y : Entry). y.step) first.is ∙ ap (λ (z : Effect). z.step) (run_is first)
+    ran_step = ap (λ (y : Entry). y.step) first.is ∙ ap (λ (z : Effect). z.step) run_is
 
     pub run_by : IsRunBy setup entries j server job went
     run_by = record {
       entry = g.back.settles.entry;
       there = g.back.settles.there;
       steps = ran_step;
-      tells = ap (λ (y : Entry). y.call) first.is ∙ ap (λ (z : Effect). z.call) (run_is first);
+      tells = ap (λ (y : Entry). y.call) first.is ∙ ap (λ (z : Effect). z.call) run_is;
     }
 
     -- what is kept of the report of the run's end
@@ -435,47 +440,45 @@ module _ (setup : Setup) (events : List Event) (entries : List Entry)
           replies = ap (λ (y : Entry). y.reply) c.is ∙ ap (λ (z : Effect). z.reply) same;
         }
 
-  restarts_keep : RestartsKeep setup entries
+  restarts_keep : RestartsKeep w setup entries
   restarts_keep = λ k e server key nonce now there is at.
       let (x, made, same) = next k e there in
       let way : way_of setup (take k entries) e.event.kind ≡ to_restart now key nonce =
       ap (way_of setup (take k entries)) is ∙ ap (restart_way key nonce) at in
-      let does : x ≡ restart_effect now = subst (λ (w : Way). IsMade setup (take k entries) e.event.at w x)
-      way made in
-      let opened : Option Step = Some (record { server = now.setup.addr; kind = step.Opened now.archives }) in
-      let steps : e.step ≡ opened = ap (λ (y : Entry). y.step) same ∙ ap (λ (z : Effect). z.step) does in
+      let does : IsRestarted w now x =
+      subst (λ (v : Way). IsMade w setup (take k entries) e.event.at v x) way made in
+      let found : Option Archives = does.0 in
+      let steps : e.step ≡ (opened_effect now found).step =
+      ap (λ (y : Entry). y.step) same ∙ ap (λ (z : Effect). z.step) does.2 in
       let f = found_now setup (take k entries) server now at in
-      let after : server_of f.server (take (suc k) entries) ≡ record {
-        setup = now.setup;
-        life = counted now.life;
-        key = key;
-        nonce = nonce;
-        held = [];
-        archives = now.archives;
-        builds =
-            now.builds;
-      } =
+      let after : server_of f.server (take (suc k) entries) ≡ reopened now key nonce found =
       ap (server_of f.server) (take_some entries k e there) ∙ server-push f.server (take k entries) e
       ∙ ap (λ (s : ServerNow). server_after s e) f.is
       ∙ ap (λ (o : Option Step). stepped o (restarted (restart_by now.setup.addr e.event.kind) now)) steps
-      ∙ ap (λ (kd : EventKind). stepped opened (restarted (restart_by now.setup.addr kd) now)) is
-      ∙ restarts_so now server key nonce f.own in (
+      ∙ ap (λ (kd : EventKind). stepped (opened_effect now found).step
+      (restarted (restart_by now.setup.addr kd) now)) is
+      ∙ restarts_so now server key nonce found f.own in (
+        found,
+        does.1,
         steps,
         ap (option_map (λ (s : SetupServer). server_of s (take (suc k) entries))) f.found
             ∙ ap (λ (s : ServerNow). Some s) after,
       )
 
-  pub is_reliable : IsReliable setup entries
+  pub is_reliable : IsReliable w setup entries
   is_reliable = record {
-    replied = replied_once setup events entries each;
+    replied = replied_once setup events entries (each_free w setup [] events entries each);
     allocations = allocations_end;
     submissions = submissions_end;
     runs = λ n j server life job run at json body bytes now q g. (
+      went n j server life job run at json body bytes now q g,
+      works n j server life job run at json body bytes now q g,
       run_by n j server life job run at json body bytes now q g,
       run_ends n j server life job run at json body bytes now q g,
     );
     restarts = restarts_keep;
   }
 
-pub run_reliable : (setup : Setup) (entries : List Entry) → IsRun setup entries → IsReliable setup entries
-run_reliable setup entries run = is_reliable setup (map (λ (e : Entry). e.event) entries) entries run
+pub run_reliable : (w : Weather) (setup : Setup) (entries : List Entry) → IsRun w setup entries
+    → IsReliable w setup entries
+run_reliable w setup entries run = is_reliable w setup (map (λ (e : Entry). e.event) entries) entries run

@@ -32,13 +32,12 @@ use Rattle.http_routes.specs.declared.route.SchedRouted.{SchedRouted}
 use Rattle.http_routes.specs.declared.route.SchedRouted.TheVariants as asked
 use Rattle.http_routes.specs.declared.server_route.ServerRouted.{ServerRouted}
 use Rattle.http_routes.specs.declared.server_route.ServerRouted.TheVariants as server_asked
-use Rattle.build_server.specs.Books.{held_for}
 use Rattle.build_server.specs.Builds.{run_answer}
-use Rattle.build_server.specs.Rules.{assign_verdict, submit_verdict, submit_result}
+use Rattle.build_server.specs.Rules.{assign_verdict, submit_result}
 use Rattle.build_server.specs.declared.fault.ServerFault.{ServerFault}
 use Rattle.build_server.specs.declared.run.Outcome.{Outcome}
 use Rattle.farm_script.specs.declared.event.Event.{Event}
-use Rattle.farm_script.specs.declared.setup.Setup.{Setup}
+use Rattle.farm_run.specs.declared.site.Site.{Site as Setup}
 use Rattle.farm_run.specs.declared.entry.Effect.{Effect}
 use Rattle.farm_run.specs.declared.entry.Entry.{Entry}
 use Rattle.farm_run.specs.declared.entry.OutCall.{OutCall}
@@ -63,7 +62,10 @@ use Rattle.farm_run.specs.Reliable.{RepliesTo, AreRepliedOnce}
 use Rattle.farm_run.specs.Seen.{core_log, core_of}
 use Rattle.farm_run.specs.Served.{assigned, served, books_of}
 use Rattle.farm_run.specs.Servers.{ServerNow, server_now, is_over}
-use Rattle.farm_run.specs.Settled.{assignment_end, ready_end, started_end, complete_end, ended_response}
+use Rattle.farm_run.specs.Settled.{assignment_end, unreported, submission, ReadyEnds, StartedEnds}
+use Rattle.farm_run.specs.Settled.{complete_end, ended_response}
+use Rattle.farm_run.specs.Weather.{free, opened_effect}
+use Rattle.lru_disk_cache.specs.Archives.{Archives}
 use Rattle.farm_run.specs.Settled.{Reports, Lives, ReportsIn}
 use Rattle.farm_run.specs.Ways.{Way, way_of, brought_at, to_nothing, to_nobody, to_scheduler, to_server}
 use Rattle.farm_run.specs.Ways.{to_call, to_beat, to_restart}
@@ -161,19 +163,6 @@ assignment_says s root json at t (Err f) =
     let made = rule s (call.Undo at t.number t.job) in
     says_reply root (Some made) (fault_response_of (fault.AssignFailed (undone_by made.kind) f))
 
-ready_says : (s : ServerNow) (root : ℕ) (json : Bool) (job : JobId) (archive : List ℕ)
-    (r : Result UpdateJobStateResult CallFault) → Says root (ready_end s root json job archive r)
-ready_says s root json job archive (Ok u) =
-    let outcome = submit_verdict (books_of s) (held_for job s.held) archive in
-    says_step root s.setup.addr (step.Submitted job outcome) (submit_response json (submit_result outcome))
-ready_says s root json job archive (Err f) = unreported_says root s.setup.addr job f
-
-started_says : (setup : Setup) (s : ServerNow) (root : ℕ) (job : JobId) (run : RunJobHttpRequest)
-    (inputs : List ℕ) (r : Result UpdateJobStateResult CallFault)
-    → Says root (started_end setup s root job run inputs r)
-started_says setup s root job run inputs (Ok u) = inl refl
-started_says setup s root job run inputs (Err f) = unreported_says root s.setup.addr job f
-
 complete_says : (addr : Addr) (root : ℕ) (json : Bool) (job : JobId) (outcome : Outcome)
     (r : Result UpdateJobStateResult CallFault) → Says root (complete_end addr root json job outcome r)
 complete_says addr root json job outcome (Ok u) = says_step root addr (step.Finished job)
@@ -184,15 +173,33 @@ complete_says addr root json job outcome (Err f) = unreported_says root addr job
 moved : (n : ℕ) (x y : Effect) → x ≡ y → Says n y → Says n x
 moved n x y e h = subst (Says n) (sym e) h
 
+ready_says : (s : ServerNow) (root : ℕ) (json : Bool) (job : JobId) (archive : List ℕ)
+    (r : Result UpdateJobStateResult CallFault) (x : Effect) → ReadyEnds free s root json job archive r x
+    → Says root x
+ready_says s root json job archive (Ok u) x is =
+    moved root x (submission s.setup.addr root json job is.0) is.2
+    (says_step root s.setup.addr (step.Submitted job is.0) (submit_response json (submit_result is.0)))
+ready_says s root json job archive (Err f) x is =
+    moved root x (unreported s.setup.addr root job f) is (unreported_says root s.setup.addr job f)
+
+started_says : (setup : Setup) (s : ServerNow) (root : ℕ) (job : JobId) (run : RunJobHttpRequest)
+    (inputs : List ℕ) (r : Result UpdateJobStateResult CallFault) (x : Effect)
+    → StartedEnds free setup s root job run inputs r x → Says root x
+started_says setup s root job run inputs (Ok u) x is = inl (ap (λ (y : Effect). y.reply) is.2)
+started_says setup s root job run inputs (Err f) x is =
+    moved root x (unreported s.setup.addr root job f) is (unreported_says root s.setup.addr job f)
+
+opened_says : (n : ℕ) (s : ServerNow) (o : Option Archives) → Says n (opened_effect s o)
+opened_says n s None = inl refl
+opened_says n s (Some list) = inl refl
+
 reports_says : (setup : Setup) (s : ServerNow) (bytes : List ℕ) (root : ℕ) (json : Bool)
-    (reply : Option (List ℕ)) (t : Told) (x : Effect) → Reports setup s bytes root json reply t x
+    (reply : Option (List ℕ)) (t : Told) (x : Effect) → Reports free setup s bytes root json reply t x
     → Says root x
 reports_says setup s bytes root json reply (told.Ready job at) x is =
-    moved root x (ready_end s root json job (drop at bytes) is.0) is.2
-    (ready_says s root json job (drop at bytes) is.0)
+    ready_says s root json job (drop at bytes) is.0 x is.2
 reports_says setup s bytes root json reply (told.Started job run at) x is =
-    moved root x (started_end setup s root job run (drop at bytes) is.0) is.2
-    (started_says setup s root job run (drop at bytes) is.0)
+    started_says setup s root job run (drop at bytes) is.0 x is.2
 reports_says setup s bytes root json reply (told.Complete job outcome) x is =
     moved root x (complete_end s.setup.addr root json job outcome is.0) is.2
     (complete_says s.setup.addr root json job outcome is.0)
@@ -200,19 +207,19 @@ reports_says setup s bytes root json reply told.Heartbeat x is = inl (ap (λ (y 
 
 lives_says : (setup : Setup) (life : ℕ) (s : ServerNow) (bytes : List ℕ) (root : ℕ) (json : Bool)
     (reply : Option (List ℕ)) (t : Told) (over : Bool) (x : Effect)
-    → Lives setup life s bytes root json reply t over x → Says root x
+    → Lives free setup life s bytes root json reply t over x → Says root x
 lives_says setup life s bytes root json reply t true x is = inl (ap (λ (y : Effect). y.reply) is)
 lives_says setup life s bytes root json reply t false x is = reports_says setup s bytes root json reply t x is
 
 report_says : (setup : Setup) (life : ℕ) (bytes : List ℕ) (root : ℕ) (json : Bool) (reply : Option (List ℕ))
-    (t : Told) (o : Option ServerNow) (x : Effect) → ReportsIn setup life bytes root json reply t o x
+    (t : Told) (o : Option ServerNow) (x : Effect) → ReportsIn free setup life bytes root json reply t o x
     → Says root x
 report_says setup life bytes root json reply t None x is = inl (ap (λ (y : Effect). y.reply) is)
 report_says setup life bytes root json reply t (Some s) x is = lives_says setup life s bytes root json reply t
     (is_over life s) x is
 
 goes_says : (setup : Setup) (log : List Entry) (at root : ℕ) (json : Bool) (reply : Option (List ℕ))
-    (ask : Ask) (x : Effect) → GoesOn setup log at root json reply ask x → Says root x
+    (ask : Ask) (x : Effect) → GoesOn free setup log at root json reply ask x → Says root x
 goes_says setup log at root json reply (Assign t) x is =
     moved root x (assignment_end (core_of setup log) root json at t is.0) is.2
     (assignment_says (core_of setup log) root json at t is.0)
@@ -221,7 +228,7 @@ goes_says setup log at root json reply (Report server life t) x is =
 
 -- what an event does that settles no call
 served_says_so : (setup : Setup) (s : Core) (number at : ℕ) (way : Way) (x : Effect)
-    → IsServed setup s number at way x → Says number x
+    → IsServed free setup s number at way x → Says number x
 served_says_so setup s number at (to_scheduler peer bytes) x is =
     moved number x (answer_to s number at is.0.json is.0.what) is.2
     (answer_says s number at is.0.json is.0.what)
@@ -229,7 +236,8 @@ served_says_so setup s number at (to_server n bytes) x is =
     moved number x (served setup n number is.0.json is.0.what) is.2
     (served_says setup n number is.0.json is.0.what)
 served_says_so setup s number at (to_beat n) x is = inl (ap (λ (y : Effect). y.reply) is)
-served_says_so setup s number at (to_restart n key nonce) x is = inl (ap (λ (y : Effect). y.reply) is)
+served_says_so setup s number at (to_restart n key nonce) x is =
+    moved number x (opened_effect n is.0) is.2 (opened_says number n is.0)
 served_says_so setup s number at to_nobody x is = inl (ap (λ (y : Effect). y.reply) is)
 served_says_so setup s number at to_nothing x is = inl (ap (λ (y : Effect). y.reply) is)
 served_says_so setup s number at (to_call n reply) x is = absurd is
@@ -288,9 +296,9 @@ no_completion q x p e h = by_ask q.ask (ap (λ (y : Effect). completion_of q q.a
 -- ---- the runs
 
 module _ (setup : Setup) (events : List Event) (entries : List Entry)
-    (each : EachNext setup [] events entries) where
-  next : (n : ℕ) (e : Entry) → slice_get entries n ≡ Some e → IsNext setup (take n entries) e.event e
-  next n e there = next_at setup [] events entries n e each there
+    (each : EachNext free setup [] events entries) where
+  next : (n : ℕ) (e : Entry) → slice_get entries n ≡ Some e → IsNext free setup (take n entries) e.event e
+  next n e there = next_at free setup [] events entries n e each there
 
   abbrev HasCall : ℕ → Type 0
   HasCall n = (e : Entry) × (slice_get entries n ≡ Some e) × ((c : OutCall) × (e.call ≡ Some c))
@@ -306,7 +314,7 @@ module _ (setup : Setup) (events : List Event) (entries : List Entry)
   settled_call : (n k : ℕ) → SettlesCall entries n k → HasCall n
   settled_call n k s =
       let t = settlement n (take k entries) (drop (suc k) entries) s.entry s.settles in
-      let w = settles_waiting setup (take k entries) s.entry n t.reply
+      let w = settles_waiting free setup (take k entries) s.entry n t.reply
       (next k s.entry s.there) t.silent t.names in
       waiting_call n k w.0 w.1
 
@@ -318,7 +326,7 @@ module _ (setup : Setup) (events : List Event) (entries : List Entry)
   settles : (n k : ℕ) (e : Entry) (there : slice_get entries k ≡ Some e) (x : Effect)
       (is : e ≡ entry_of e.event x) (reply : Option (List ℕ)) (p : Pending)
       → way_of setup (take k entries) e.event.kind ≡ to_call n reply → IsCallOf setup (take k entries) n p
-      → GoesOn setup (take k entries) e.event.at p.root p.json reply p.ask x → SettlesCall entries n k
+      → GoesOn free setup (take k entries) e.event.at p.root p.json reply p.ask x → SettlesCall entries n k
   settles n k e there x is reply p way of_call goes = record {
     entry = e;
     there = there;
@@ -334,7 +342,7 @@ module _ (setup : Setup) (events : List Event) (entries : List Entry)
       (is : d ≡ entry_of d.event x) (reply : Option (List ℕ)) (first p : Pending)
       → way_of setup (take c entries) d.event.kind ≡ to_call m reply
       → completion_of first first.ask x.step ≡ Some p
-      → (o : Option Entry) → IsSettled setup (take c entries) d.event.at m reply o x → SettlesCall entries m c
+      → (o : Option Entry) → IsSettled free setup (take c entries) d.event.at m reply o x → SettlesCall entries m c
   completed m c d there x is reply first p way done None h = absurd (no_completion first x p h done)
   completed m c d there x is reply first p way done (Some w) h =
       settles m c d there x is reply h.0 way h.1 h.2
@@ -370,7 +378,7 @@ module _ (setup : Setup) (events : List Event) (entries : List Entry)
           ap (λ (o : Option Step). completion_of made.first made.first.ask o) (sym step_is) ∙ made.is in
           let s : SettlesCall entries m c =
           completed m c of_call.entry there x is reply made.first p same done (waiting_at (take c entries) m)
-          (subst (λ (w : Way). IsMade setup (take c entries) of_call.entry.event.at w x) same y_made) in
+          (subst (λ (w : Way). IsMade free setup (take c entries) of_call.entry.event.at w x) same y_made) in
           let first_root : made.first.root ≡ m =
           begun_root setup (core_log (take m (take c entries))) m
           (way_of setup (take m (take c entries)) made.call.entry.event.kind)
@@ -392,7 +400,7 @@ module _ (setup : Setup) (events : List Event) (entries : List Entry)
     spoken n (inl none) = absurd (let no : None ≡ Some r = sym none ∙ said in cc)
     spoken n (inr h) = (ap (λ (y : Entry). y.call) is ∙ h.0, h.1 r said)
 
-    at_once : (way : Way) → IsServed setup (core_of setup (take j entries))
+    at_once : (way : Way) → IsServed free setup (core_of setup (take j entries))
         (length (take j entries)) e.event.at way x → (e.call ≡ None) × Replying r.to j
     at_once way h =
         let t = spoken (length (take j entries))
@@ -401,10 +409,10 @@ module _ (setup : Setup) (events : List Event) (entries : List Entry)
         (t.0, inl (t.1 ∙ size_at entries j e there))
 
     replying : (way : Way) → way_of setup (take j entries) e.event.kind ≡ way
-        → IsMade setup (take j entries) e.event.at way x → (e.call ≡ None) × Replying r.to j
+        → IsMade free setup (take j entries) e.event.at way x → (e.call ≡ None) × Replying r.to j
     replying (to_call c reply) same made = by_wait (waiting_at (take j entries) c) made
       where
-        by_wait : (o : Option Entry) → IsSettled setup (take j entries) e.event.at c reply o x
+        by_wait : (o : Option Entry) → IsSettled free setup (take j entries) e.event.at c reply o x
             → (e.call ≡ None) × Replying r.to j
         by_wait None h = absurd (let no : None ≡ Some r = sym (ap (λ (y : Effect). y.reply) h) ∙ said in cc)
         by_wait (Some w) h =
@@ -447,18 +455,18 @@ module _ (setup : Setup) (events : List Event) (entries : List Entry)
     where
       both : (n j k c d : ℕ) → RepliesTo entries n j → RepliesTo entries n k → SettlesCall entries c j
           → SettlesCall entries d k → Goes n c → Goes n d → j ≡ k
-      both n j k c d a b s t (inl p) (inl q) = settled_once setup events entries each c j k s
+      both n j k c d a b s t (inl p) (inl q) = settled_once free setup events entries each c j k s
           (subst (λ (m : ℕ). SettlesCall entries m k) (sym q ∙ p) t)
       both n j k c d a b s t (inr p) (inr q) =
-          settled_once setup events entries each c j k s
-          (subst (λ (m : ℕ). SettlesCall entries m k) (settled_once setup events entries each n d c q p)
+          settled_once free setup events entries each c j k s
+          (subst (λ (m : ℕ). SettlesCall entries m k) (settled_once free setup events entries each n d c q p)
           t)
       both n j k c d a b s t (inl p) (inr q) =
-          let same : d ≡ j = settled_once setup events entries each n d j q
+          let same : d ≡ j = settled_once free setup events entries each n d j q
           (subst (λ (m : ℕ). SettlesCall entries m j) (sym p) s) in
           absurd (clash n j a (called_at d j same (settled_call d k t)))
       both n j k c d a b s t (inr p) (inl q) =
-          let same : c ≡ k = settled_once setup events entries each n c k p
+          let same : c ≡ k = settled_once free setup events entries each n c k p
           (subst (λ (m : ℕ). SettlesCall entries m k) (sym q) t) in
           absurd (clash n k b (called_at c k same (settled_call c j s)))
 

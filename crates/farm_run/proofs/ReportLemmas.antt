@@ -39,7 +39,7 @@ use Rattle.dist_wire.specs.Written.{state_bytes, update_text}
 use Rattle.http_routes.specs.Written.{post_with, state_with, state_request_text, CanGo}
 use Rattle.http_routes.proofs.BackLemmas.{read_back}
 use Rattle.http_routes.proofs.ToldLemmas.{addr_visible, states_read_back}
-use Rattle.farm_script.specs.declared.setup.Setup.{Setup}
+use Rattle.farm_run.specs.declared.site.Site.{Site as Setup}
 use Rattle.farm_run.specs.Builds.{HasWords}
 use Rattle.farm_run.specs.Seen.{serves, server_token}
 use Rattle.farm_run.proofs.ShownLemmas.{shows}

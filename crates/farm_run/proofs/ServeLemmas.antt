@@ -32,7 +32,7 @@ use Rattle.sched_core.specs.declared.entry.CoreKind.TheVariants as core
 use Rattle.sched_core.specs.declared.entry.Reserved.TheVariants.{Job, NoRoom, Spent}
 use Rattle.sched_core.specs.declared.entry.UpdateAnswer.{UpdateAnswer}
 use Rattle.sched_core.specs.declared.entry.UpdateAnswer.TheVariants.{Accepted, Unknown, Wrong, Transition}
-use Rattle.farm_script.specs.declared.setup.Setup.{Setup}
+use Rattle.farm_run.specs.declared.site.Site.{Site as Setup}
 use Rattle.farm_run.specs.declared.entry.Effect.{Effect}
 use Rattle.farm_run.specs.declared.entry.Reply.{Reply}
 use Rattle.farm_script.specs.declared.fault.FarmFault.{FarmFault}

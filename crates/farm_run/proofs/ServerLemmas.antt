@@ -2,14 +2,16 @@
 use Rattle.std.proofs.Common.{◌≡◌, ◌≢◌, ℕ, zero, suc, ◌+◌, ◌-◌, ◌<◌, ◌≤◌, Bool, true, false, cond, List, []}
 use Rattle.std.proofs.Common.{◌∷◌, ◌++◌, length, map, set, Option, Some, None, refl, sym, ap, subst, ◌∙◌, inl}
 use Rattle.std.proofs.Common.{inr, arith}
-use Rattle.std.specs.Prelude.{slice_get, position, find, fold, is_some}
+use Rattle.std.specs.Borrow.{Bor}
+use Rattle.std.specs.Prelude.{slice_get, position, find, fold, is_some, MatchOption}
+use Rattle.std.specs.Slice.{IsItemAt}
 use Rattle.std.specs.List.{position_from, AllByRecursion}
 use Rattle.std.proofs.lemmas.Iterator.Adapters.{position_from-zero}
 use Rattle.std.specs.Option.{option_map}
 use Rattle.std.proofs.lemmas.Bool.{cases_eq}
 use Rattle.std.proofs.lemmas.List.{length-set}
 use Rattle.std.proofs.lemmas.List.Sums.{fold-append}
-use Rattle.std.proofs.lemmas.Option.{same_Some}
+use Rattle.std.proofs.lemmas.Option.{same_Some, slice_get_read}
 use Rattle.dist_types.specs.Addr.{same_addr}
 use Rattle.dist_types.specs.declared.addr.Addr.{Addr}
 use Rattle.sched_core.proofs.AddressLemmas.{same_is, same_self}
@@ -17,14 +19,14 @@ use Rattle.sched_core.proofs.AllLemmas.{is_false, true_false}
 use Rattle.farm_script.specs.declared.event.Event.{Event}
 use Rattle.farm_script.specs.declared.event.EventKind.TheVariants.{Restart}
 use Rattle.farm_script.specs.Setups.{AreApart}
-use Rattle.farm_script.specs.declared.setup.Setup.{Setup}
-use Rattle.farm_script.specs.declared.setup.SetupServer.{SetupServer}
+use Rattle.farm_run.specs.declared.site.Site.{Site as Setup}
+use Rattle.farm_run.specs.declared.site.SiteServer.{SiteServer as SetupServer}
 use Rattle.farm_run.specs.declared.entry.Effect.{Effect}
 use Rattle.farm_run.specs.declared.entry.Entry.{Entry}
 use Rattle.farm_run.specs.declared.entry.Step.{Step}
 use Rattle.farm_run.specs.declared.entry.StepKind.{StepKind}
 use Rattle.farm_run.specs.declared.entry.StepKind.TheVariants as kinds
-use Rattle.farm_run.specs.declared.station.Station.{Station}
+use Rattle.farm_run.specs.Post.{Post as Station}
 use Rattle.farm_run.specs.Effects.{entry_of}
 use Rattle.farm_run.specs.Servers.{ServerNow, server_begun, kind_after, restart_by, restarted, stepped}
 use Rattle.farm_run.specs.Servers.{server_after, server_of, server_at, server_now}
@@ -236,12 +238,12 @@ same_server s log e still none =
 
 -- ---- the stations
 
-get_set_same : {X : Type 0} (xs : List X) (n : ℕ) (a : X) → n < length xs → slice_get (set xs n a) n ≡ Some a
+pub get_set_same : {X : Type 0} (xs : List X) (n : ℕ) (a : X) → n < length xs → slice_get (set xs n a) n ≡ Some a
 get_set_same [] n a h = absurd (omega arith)
 get_set_same (x ∷ xs) zero a h = refl
 get_set_same (x ∷ xs) (suc n) a h = get_set_same xs n a (omega arith)
 
-get_set_other : {X : Type 0} (xs : List X) (n m : ℕ) (a : X) → n ≢ m
+pub get_set_other : {X : Type 0} (xs : List X) (n m : ℕ) (a : X) → n ≢ m
     → slice_get (set xs n a) m ≡ slice_get xs m
 get_set_other [] n m a h = refl
 get_set_other (x ∷ xs) zero zero a h = absurd (h refl)
@@ -249,7 +251,7 @@ get_set_other (x ∷ xs) zero (suc m) a h = refl
 get_set_other (x ∷ xs) (suc n) zero a h = refl
 get_set_other (x ∷ xs) (suc n) (suc m) a h = get_set_other xs n m a (λ same. h (ap (λ (k : ℕ). suc k) same))
 
-within : {X : Type 0} (xs : List X) (i : ℕ) (x : X) → slice_get xs i ≡ Some x → i < length xs
+pub within : {X : Type 0} (xs : List X) (i : ℕ) (x : X) → slice_get xs i ≡ Some x → i < length xs
 within [] i x e = absurd cc
 within (y ∷ ys) zero x e = omega arith
 within (y ∷ ys) (suc i) x e = omega (arith, within ys i x e)
@@ -418,3 +420,12 @@ stations_restarted setup log sts e addr key nonce place st after f apart are bt 
     (λ a far. ap (restart_by a) kind ∙ ap (λ (b : Bool). cond b (Some (key, nonce)) None)
     (not_same addr a (λ same. far (sym same ∙ sym f.at))))
     (now ∙ ap (λ (o : Option (List ℕ × ℕ)). stepped e.step (restarted o (now_of f.server st))) (sym own)) well
+
+-- the station that is looked up at a place is the server there
+pub station_look : (servers : List SetupServer) (log : List Entry) (sts : List Station) (place : ℕ)
+    (o : Option (Bor Station)) → AreStations servers log sts → IsItemAt sts place o
+    → MatchOption o (length servers ≤ place) (λ st. (s : SetupServer) → slice_get servers place ≡ Some s
+    → now_of s st.now ≡ server_of s log)
+station_look servers log sts place None are h = omega (arith, are.size, h.3)
+station_look servers log sts place (Some b) are h = λ s at.
+    (are.each place s b.now at (slice_get_read sts (length sts) place b.now refl h.3.0 h.1)).now

@@ -15,7 +15,7 @@ use Rattle.farm_script.specs.declared.event.Event.{Event}
 use Rattle.farm_script.specs.declared.event.EventKind.{EventKind}
 use Rattle.farm_script.specs.declared.event.EventKind.TheVariants.{Request, Deliver, Fail, Return, Answer}
 use Rattle.farm_script.specs.declared.event.EventKind.TheVariants.{Beat, Restart}
-use Rattle.farm_script.specs.declared.setup.Setup.{Setup}
+use Rattle.farm_run.specs.declared.site.Site.{Site as Setup}
 use Rattle.farm_run.specs.declared.entry.Effect.{Effect}
 use Rattle.farm_run.specs.declared.entry.Entry.{Entry}
 use Rattle.farm_run.specs.declared.entry.EntryWord.TheVariants.{Void}
@@ -25,6 +25,7 @@ use Rattle.farm_run.specs.Calls.{waiting_at}
 use Rattle.farm_run.specs.Effects.{word_effect, entry_of}
 use Rattle.farm_run.specs.Next.{IsSettled, IsMade, IsNext, EachNext}
 use Rattle.farm_run.specs.Ways.{Way, return_way, is_inside, way_of, to_nothing, to_call}
+use Rattle.farm_run.specs.Weather.{Weather}
 
 -- ---- places
 
@@ -54,31 +55,31 @@ get_take (y ∷ ys) (suc n) (suc m) h = get_take ys n m (omega arith)
 -- ---- the entries of a run
 
 -- each entry is next over those before it
-pub next_at : (setup : Setup) (log : List Entry) (events : List Event) (entries : List Entry) (n : ℕ)
-    (e : Entry) → EachNext setup log events entries → slice_get entries n ≡ Some e
-    → IsNext setup (log ++ take n entries) e.event e
-next_at setup log [] [] n e each at = absurd cc
-next_at setup log (v ∷ vs) (x ∷ xs) zero e each at =
+pub next_at : (w : Weather) (setup : Setup) (log : List Entry) (events : List Event) (entries : List Entry) (n : ℕ)
+    (e : Entry) → EachNext w setup log events entries → slice_get entries n ≡ Some e
+    → IsNext w setup (log ++ take n entries) e.event e
+next_at w setup log [] [] n e each at = absurd cc
+next_at w setup log (v ∷ vs) (x ∷ xs) zero e each at =
     let event : x.event ≡ v = ap (λ (y : Entry). y.event) each.0.2 in
-    let own : IsNext setup log x.event x = subst (λ (u : Event). IsNext setup log u x) (sym event) each.0 in
-    subst (λ (y : Entry). IsNext setup (log ++ []) y.event y) (same_Some x e at)
-    (subst (λ (l : List Entry). IsNext setup l x.event x) (sym (append-nil log)) own)
-next_at setup log (v ∷ vs) (x ∷ xs) (suc n) e each at =
-    subst (λ (l : List Entry). IsNext setup l e.event e) (append_assoc log (x ∷ []) (take n xs))
-    (next_at setup (log ++ x ∷ []) vs xs n e each.1 at)
-next_at setup log [] (x ∷ xs) n e each at = absurd each
-next_at setup log (v ∷ vs) [] n e each at = absurd each
+    let own : IsNext w setup log x.event x = subst (λ (u : Event). IsNext w setup log u x) (sym event) each.0 in
+    subst (λ (y : Entry). IsNext w setup (log ++ []) y.event y) (same_Some x e at)
+    (subst (λ (l : List Entry). IsNext w setup l x.event x) (sym (append-nil log)) own)
+next_at w setup log (v ∷ vs) (x ∷ xs) (suc n) e each at =
+    subst (λ (l : List Entry). IsNext w setup l e.event e) (append_assoc log (x ∷ []) (take n xs))
+    (next_at w setup (log ++ x ∷ []) vs xs n e each.1 at)
+next_at w setup log [] (x ∷ xs) n e each at = absurd each
+next_at w setup log (v ∷ vs) [] n e each at = absurd each
 
 -- a front of a run is a run
-pub each_front : (setup : Setup) (log : List Entry) (events : List Event) (entries : List Entry) (n : ℕ)
-    → EachNext setup log events entries → EachNext setup log (take n events) (take n entries)
-each_front setup log [] [] zero each = tt
-each_front setup log [] [] (suc n) each = tt
-each_front setup log (v ∷ vs) (x ∷ xs) zero each = tt
-each_front setup log (v ∷ vs) (x ∷ xs) (suc n) each =
-    (each.0, each_front setup (log ++ x ∷ []) vs xs n each.1)
-each_front setup log [] (x ∷ xs) n each = absurd each
-each_front setup log (v ∷ vs) [] n each = absurd each
+pub each_front : (w : Weather) (setup : Setup) (log : List Entry) (events : List Event) (entries : List Entry) (n : ℕ)
+    → EachNext w setup log events entries → EachNext w setup log (take n events) (take n entries)
+each_front w setup log [] [] zero each = tt
+each_front w setup log [] [] (suc n) each = tt
+each_front w setup log (v ∷ vs) (x ∷ xs) zero each = tt
+each_front w setup log (v ∷ vs) (x ∷ xs) (suc n) each =
+    (each.0, each_front w setup (log ++ x ∷ []) vs xs n each.1)
+each_front w setup log [] (x ∷ xs) n each = absurd each
+each_front w setup log (v ∷ vs) [] n each = absurd each
 
 -- ---- what an event that is to settle a call comes to
 
@@ -112,23 +113,23 @@ void event x e is made off = false≢true (sym off ∙ ap (λ (y : Entry). is_vo
     ∙ ap (λ (y : Effect). is_void y.word) made)
 
 -- what an entry settles waited
-pub settles_waiting : (setup : Setup) (log : List Entry) (e : Entry) (n : ℕ) (reply : Option (List ℕ))
-    → IsNext setup log e.event e → is_void e.word ≡ false → settles_by log e.event.kind ≡ Some (n, reply)
+pub settles_waiting : (w : Weather) (setup : Setup) (log : List Entry) (e : Entry) (n : ℕ) (reply : Option (List ℕ))
+    → IsNext w setup log e.event e → is_void e.word ≡ false → settles_by log e.event.kind ≡ Some (n, reply)
     → (w : Entry) × (waiting_at log n ≡ Some w)
-settles_waiting setup log e n reply (x, made, is) off settles =
+settles_waiting w setup log e n reply (x, made, is) off settles =
     by_way (way_back setup log e.event.kind n reply settles)
   where
-    by_wait : (o : Option Entry) → IsSettled setup log e.event.at n reply o x → waiting_at log n ≡ o
+    by_wait : (o : Option Entry) → IsSettled w setup log e.event.at n reply o x → waiting_at log n ≡ o
         → (w : Entry) × (waiting_at log n ≡ Some w)
     by_wait None h same = absurd (void e.event x e is h off)
-    by_wait (Some w) h same = (w, same)
+    by_wait (Some waits) h same = (waits, same)
 
     by_way : (way_of setup log e.event.kind ≡ to_call n reply) ⊎ (way_of setup log e.event.kind ≡ to_nothing)
         → (w : Entry) × (waiting_at log n ≡ Some w)
     by_way (inl same) = by_wait (waiting_at log n)
-        (subst (λ (way : Way). IsMade setup log e.event.at way x) same made) refl
+        (subst (λ (way : Way). IsMade w setup log e.event.at way x) same made) refl
     by_way (inr same) = absurd
-        (void e.event x e is (subst (λ (way : Way). IsMade setup log e.event.at way x) same made) off)
+        (void e.event x e is (subst (λ (way : Way). IsMade w setup log e.event.at way x) same made) off)
 
 -- ---- once
 
@@ -187,20 +188,20 @@ settled_among n front (x ∷ xs) (suc k) e at t =
     (ap (λ (l : List Entry). settled_at n (record { before = l; at = e; after = [] }))
     (append_assoc front (x ∷ []) (take k xs)) ∙ t))
 
-module _ (setup : Setup) (events : List Event) (entries : List Entry)
-    (each : EachNext setup [] events entries) where
+module _ (w : Weather) (setup : Setup) (events : List Event) (entries : List Entry)
+    (each : EachNext w setup [] events entries) where
   twice : (n j k : ℕ) → j < k → SettlesCall entries n j → SettlesCall entries n k → ⊥
   twice n j k less a b =
       let s = settlement n (take k entries) (drop (suc k) entries) b.entry b.settles in
-      let w = settles_waiting setup (take k entries) b.entry n s.reply
-      (next_at setup [] events entries k b.entry each b.there) s.silent s.names in
+      let waits = settles_waiting w setup (take k entries) b.entry n s.reply
+      (next_at w setup [] events entries k b.entry each b.there) s.silent s.names in
       let before : settled_at n (record { before = take j (take k entries); at = a.entry; after = [] })
       ≡ true =
       ap (λ (l : List Entry). settled_at n (record { before = l; at = a.entry; after = [] }))
       (take_take entries j k (omega (arith, less))) ∙ a.settles in
       true_false (is_settled (take k entries) n)
       (settled_among n [] (take k entries) j a.entry (get_take entries j k less ∙ a.there) before)
-      (waits_unsettled (take k entries) n w.0 w.1)
+      (waits_unsettled (take k entries) n waits.0 waits.1)
 
   pub settled_once : AreSettledOnce entries
   settled_once = λ n j k a b. elim (cases_lt j k) [

@@ -21,7 +21,7 @@ use Rattle.sched_core.specs.declared.entry.CoreKind.TheVariants.{Reserve, Commit
 use Rattle.sched_core.specs.declared.entry.Reserved.TheVariants.{Job, NoRoom, Spent}
 use Rattle.sched_core.proofs.AllLemmas.{is_false, true_false, same_job-sym}
 use Rattle.sched_core.proofs.LegalLemmas.{legal-push}
-use Rattle.farm_script.specs.declared.setup.Setup.{Setup}
+use Rattle.farm_run.specs.declared.site.Site.{Site as Setup}
 use Rattle.farm_run.specs.declared.entry.Entry.{Entry}
 use Rattle.farm_run.specs.Calls.{settled_at, waiting_at}
 use Rattle.farm_run.specs.Seen.{core_log, core_of}

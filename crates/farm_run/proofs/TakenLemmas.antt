@@ -9,7 +9,7 @@ use Rattle.dist_types.specs.declared.addr.Addr.{Addr}
 use Rattle.dist_types.specs.declared.ids.JobId.{JobId}
 use Rattle.sched_core.proofs.AddressLemmas.{same_is}
 use Rattle.build_server.specs.Books.{Table, is_job, held_for, placed, without_job}
-use Rattle.farm_script.specs.declared.setup.SetupServer.{SetupServer}
+use Rattle.farm_run.specs.declared.site.SiteServer.{SiteServer as SetupServer}
 use Rattle.farm_run.specs.declared.entry.Entry.{Entry}
 use Rattle.farm_run.specs.declared.entry.Step.{Step}
 use Rattle.farm_run.specs.declared.entry.StepKind.{StepKind}

@@ -1,6 +1,6 @@
 -- Each event has a next entry over the entries of a farm.
 use Rattle.std.proofs.Common.{◌≡◌, inl, inr, ℕ, Bool, true, false, List, length, drop, Option, Some, None}
-use Rattle.std.proofs.Common.{Result, Err, refl}
+use Rattle.std.proofs.Common.{Result, Ok, Err, refl}
 use Rattle.dist_types.specs.declared.addr.Addr.{Addr}
 use Rattle.dist_types.specs.declared.outgoing.CallFault.{CallFault}
 use Rattle.dist_types.specs.declared.outgoing.CallFault.TheVariants.{Lost}
@@ -20,12 +20,17 @@ use Rattle.http_routes.specs.declared.refusal.Refusal.TheVariants.{BadHead as Ba
 use Rattle.http_routes.specs.declared.server_route.ServerAsked.{ServerAsked}
 use Rattle.http_routes.specs.declared.server_route.ServerRouted.TheVariants as server_asked
 use Rattle.farm_run.specs.Servers.{ServerNow, server_now, is_over}
-use Rattle.farm_run.specs.Served.{AsksServer, served, beat_effect, restart_effect}
+use Rattle.farm_run.specs.Served.{AsksServer, served, beat_effect, books_of, run_outcome}
+use Rattle.farm_run.specs.Weather.{calm, opened_effect}
+use Rattle.build_server.specs.Books.{held_for}
+use Rattle.build_server.specs.Rules.{submit_verdict}
+use Rattle.dist_types.specs.declared.ids.JobId.{JobId}
+use Rattle.dist_wire.specs.declared.run.RunJobHttpRequest.{RunJobHttpRequest}
 use Rattle.farm_run.specs.declared.entry.StepKind.TheVariants as kinds
 use Rattle.farm_run.specs.declared.pending.Told.{Told}
 use Rattle.farm_run.specs.declared.pending.Told.TheVariants as told
 use Rattle.http_routes.specs.Calls.{told_by, assigned_by, answer_by, IsAssigned, IsAnswer}
-use Rattle.farm_script.specs.declared.setup.Setup.{Setup}
+use Rattle.farm_run.specs.declared.site.Site.{Site as Setup}
 use Rattle.farm_run.specs.declared.entry.Effect.{Effect}
 use Rattle.farm_run.specs.declared.entry.Entry.{Entry}
 use Rattle.farm_run.specs.declared.entry.EntryWord.TheVariants.{Void, Down, Died}
@@ -39,7 +44,8 @@ use Rattle.farm_run.specs.Effects.{entry_of, word_effect, step_effect}
 use Rattle.farm_run.specs.Farm.{IsKept, kept_at, AreKept, HasNext}
 use Rattle.farm_run.specs.Next.{GoesOn, IsSettled, IsMade}
 use Rattle.farm_run.specs.Seen.{core_of, serves}
-use Rattle.farm_run.specs.Settled.{IsOutcome, assignment_end, IsUpdated, IsHeard, ready_end, started_end}
+use Rattle.farm_run.specs.Settled.{IsOutcome, assignment_end, IsUpdated, IsHeard, ReadyEnds, StartedEnds}
+use Rattle.farm_run.specs.Settled.{unreported, submission, running}
 use Rattle.farm_run.specs.Settled.{complete_end, heard_as, Reports, Lives, ReportsIn}
 use Rattle.farm_run.specs.Ways.{Way, way_of, brought_at, to_nothing, to_nobody, to_scheduler, to_server}
 use Rattle.farm_run.specs.Ways.{to_call, to_beat, to_restart}
@@ -101,12 +107,27 @@ hearing_there (Some bytes) = telling_there heard_at bytes
 
 -- ---- what follows
 
+ready_there : (s : ServerNow) (root : ℕ) (json : Bool) (job : JobId) (archive : List ℕ)
+    (r : Result UpdateJobStateResult CallFault) → (x : Effect) × ReadyEnds calm s root json job archive r x
+ready_there s root json job archive (Ok u) =
+    let o = submit_verdict (books_of s) (held_for job s.held) archive in
+    (submission s.setup.addr root json job o, (o, refl, refl))
+ready_there s root json job archive (Err f) = (unreported s.setup.addr root job f, refl)
+
+started_there : (setup : Setup) (s : ServerNow) (root : ℕ) (job : JobId) (run : RunJobHttpRequest)
+    (inputs : List ℕ) (r : Result UpdateJobStateResult CallFault) → (x : Effect)
+    × StartedEnds calm setup s root job run inputs r x
+started_there setup s root job run inputs (Ok u) =
+    let o = run_outcome s (held_for job s.held) run.outputs inputs in
+    (running setup s.setup.addr job o, (o, refl, refl))
+started_there setup s root job run inputs (Err f) = (unreported s.setup.addr root job f, refl)
+
 end_there : (setup : Setup) (s : ServerNow) (bytes : List ℕ) (root : ℕ) (json : Bool)
-    (reply : Option (List ℕ)) (t : Told) → (x : Effect) × Reports setup s bytes root json reply t x
+    (reply : Option (List ℕ)) (t : Told) → (x : Effect) × Reports calm setup s bytes root json reply t x
 end_there setup s bytes root json reply (told.Ready job at) = let r = update_there reply
-    in (ready_end s root json job (drop at bytes) r.0, (r.0, r.1, refl))
+    in let x = ready_there s root json job (drop at bytes) r.0 in (x.0, (r.0, r.1, x.1))
 end_there setup s bytes root json reply (told.Started job run at) = let r = update_there reply
-    in (started_end setup s root job run (drop at bytes) r.0, (r.0, r.1, refl))
+    in let x = started_there setup s root job run (drop at bytes) r.0 in (x.0, (r.0, r.1, x.1))
 end_there setup s bytes root json reply (told.Complete job outcome) = let r = update_there reply
     in (complete_end s.setup.addr root json job outcome r.0, (r.0, r.1, refl))
 end_there setup s bytes root json reply told.Heartbeat = let r = hearing_there reply
@@ -114,18 +135,18 @@ end_there setup s bytes root json reply told.Heartbeat = let r = hearing_there r
 
 life_there : (setup : Setup) (life : ℕ) (s : ServerNow) (bytes : List ℕ) (root : ℕ) (json : Bool)
     (reply : Option (List ℕ)) (t : Told) (over : Bool) → (x : Effect)
-    × Lives setup life s bytes root json reply t over x
+    × Lives calm setup life s bytes root json reply t over x
 life_there setup life s bytes root json reply t true = (word_effect Died, refl)
 life_there setup life s bytes root json reply t false = end_there setup s bytes root json reply t
 
 report_there : (setup : Setup) (life : ℕ) (bytes : List ℕ) (root : ℕ) (json : Bool) (reply : Option (List ℕ))
-    (t : Told) (o : Option ServerNow) → (x : Effect) × ReportsIn setup life bytes root json reply t o x
+    (t : Told) (o : Option ServerNow) → (x : Effect) × ReportsIn calm setup life bytes root json reply t o x
 report_there setup life bytes root json reply t None = (word_effect Died, refl)
 report_there setup life bytes root json reply t (Some s) = life_there setup life s bytes root json reply t
     (is_over life s)
 
 way_there : (setup : Setup) (log : List Entry) (at root : ℕ) (json : Bool) (reply : Option (List ℕ))
-    (ask : Ask) → (x : Effect) × GoesOn setup log at root json reply ask x
+    (ask : Ask) → (x : Effect) × GoesOn calm setup log at root json reply ask x
 way_there setup log at root json reply (Assign t) = let r = outcome_there reply
     in (assignment_end (core_of setup log) root json at t r.0, (r.0, r.1, refl))
 way_there setup log at root json reply (Report server life t) =
@@ -143,7 +164,7 @@ kept_known setup log n w (Some p) is kept = record { pending = p; call = kept.ca
 
 settled_there : (setup : Setup) (log : List Entry) (ps : List (Option Pending)) → AreKept setup log ps
     → (at n : ℕ) (reply : Option (List ℕ)) (o : Option Entry) → waiting_at log n ≡ o
-    → (x : Effect) × IsSettled setup log at n reply o x
+    → (x : Effect) × IsSettled calm setup log at n reply o x
 settled_there setup log ps kept at n reply None is = (word_effect Void, refl)
 settled_there setup log ps kept at n reply (Some w) is =
     let k = kept_known setup log n w (kept_at ps n) is (kept.each n) in
@@ -151,7 +172,7 @@ settled_there setup log ps kept at n reply (Some w) is =
     (x.0, (k.pending, k.call, x.1))
 
 made_there : (setup : Setup) (log : List Entry) (ps : List (Option Pending)) → AreKept setup log ps
-    → (at : ℕ) (way : Way) → (x : Effect) × IsMade setup log at way x
+    → (at : ℕ) (way : Way) → (x : Effect) × IsMade calm setup log at way x
 made_there setup log ps kept at (to_scheduler peer bytes) =
     let a = question_there setup peer bytes in
     (answer_to (core_of setup log) (length log) at a.0.json a.0.what, (a.0, a.1, refl))
@@ -161,7 +182,7 @@ made_there setup log ps kept at (to_server s bytes) =
     let a = server_question_there s bytes in
     (served setup s (length log) a.0.json a.0.what, (a.0, a.1, refl))
 made_there setup log ps kept at (to_beat s) = (beat_effect setup s, refl)
-made_there setup log ps kept at (to_restart s key nonce) = (restart_effect s, refl)
+made_there setup log ps kept at (to_restart s key nonce) = (opened_effect s (Some s.archives), (Some s.archives, refl, refl))
 made_there setup log ps kept at to_nothing = (word_effect Void, refl)
 made_there setup log ps kept at to_nobody = (word_effect Down, refl)
 

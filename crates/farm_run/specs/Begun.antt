@@ -10,7 +10,7 @@ use Rattle.build_server.specs.declared.run.Outcome.{Outcome}
 use Rattle.build_server.specs.declared.run.Outcome.TheVariants as outcome
 use Rattle.build_server.specs.declared.run.Ran.{Ran}
 use Rattle.build_server.specs.declared.run.Ran.TheVariants as ran
-use Rattle.farm_script.specs.declared.setup.Setup.{Setup}
+use Rattle.farm_run.specs.declared.site.Site.{Site as Setup}
 use Rattle.farm_run.specs.declared.entry.Effect.{Effect}
 use Rattle.farm_run.specs.declared.entry.Entry.{Entry}
 use Rattle.farm_run.specs.declared.entry.OutCall.{OutCall}

@@ -16,7 +16,7 @@ use Rattle.sched_core.specs.declared.entry.CoreKind.TheVariants as core
 use Rattle.sched_core.specs.declared.entry.UpdateAnswer.TheVariants.{Accepted}
 use Rattle.build_server.specs.declared.run.Ran.TheVariants as ran
 use Rattle.farm_script.specs.declared.event.EventKind.TheVariants.{Deliver, Return}
-use Rattle.farm_script.specs.declared.setup.Setup.{Setup}
+use Rattle.farm_run.specs.declared.site.Site.{Site as Setup}
 use Rattle.farm_script.specs.declared.setup.SetupAuth.{SetupAuth}
 use Rattle.farm_script.specs.declared.setup.SetupAuth.TheVariants.{Plain, Jwt}
 use Rattle.farm_script.specs.Words.{is_visible}

@@ -11,30 +11,40 @@ use Rattle.sched_core.specs.Rule.{is_among}
 use Rattle.sched_core.specs.Laws.{IsLegal, AreDistinct, IsHeldOnce, HasOrder, IsBounded}
 use Rattle.sched_core.specs.Ticket.{Ticket}
 use Rattle.sched_core.specs.declared.entry.CoreEntry.{CoreEntry}
-use Rattle.farm_script.specs.declared.setup.Setup.{Setup}
+use Rattle.farm_run.specs.declared.site.Site.{Site as Setup}
 use Rattle.farm_script.specs.declared.event.Event.{Event}
 use Rattle.farm_run.specs.declared.desk.Desk.{Desk}
+use Rattle.farm_run.specs.declared.entry.Effect.{Effect}
 use Rattle.farm_run.specs.declared.entry.Entry.{Entry}
+use Rattle.dist_types.specs.declared.addr.Addr.{Addr}
 use Rattle.farm_run.specs.declared.pending.Made.{Made}
 use Rattle.farm_run.specs.declared.pending.Pending.{Pending}
-use Rattle.farm_run.specs.declared.station.Station.{Station}
+use Rattle.farm_run.specs.Post.{Post as Station, outside_of}
 use Rattle.farm_run.specs.Begun.{IsCallOf, IsBegunBy, Keeps}
 use Rattle.farm_run.specs.Calls.{waiting_at}
 use Rattle.farm_run.specs.Effects.{entry_of}
-use Rattle.farm_run.specs.Next.{IsServed, IsMade, IsNext, EachNext, IsRun}
+use Rattle.farm_run.specs.Next.{IsServed, IsMade, IsNext, IsRun}
+use Rattle.farm_run.specs.Passage.{IsMoved, Passage}
 use Rattle.farm_run.specs.Seen.{core_log, core_of}
+use Rattle.farm_run.specs.Servers.{restart_by}
 use Rattle.farm_run.specs.Stations.{AreStations, HasApart}
 use Rattle.farm_run.specs.Tickets.{ticket_at}
 use Rattle.farm_run.specs.Ways.{Way}
+use Rattle.farm_run.specs.Weather.{Outside, Weather, calm, free}
 
--- how the farm was set up, and the entries so far
+-- how the farm was set up, the entries so far, and what is outside of each server, in the order of the setup
 pub record Farmed : Type 0 where
   pub setup : Setup
   pub entries : List Entry
+  pub outside : List Outside
 
--- the farm with more entries
-abbrev pub with_entries : Farmed → List Entry → Farmed
-with_entries farm more = record { setup = farm.setup; entries = farm.entries ++ more }
+-- the farm with more entries, and that outside of its servers
+abbrev pub with_entries : Farmed → List Entry → List Outside → Farmed
+with_entries farm more outside = record {
+  setup = farm.setup;
+  entries = farm.entries ++ more;
+  outside = outside;
+}
 
 -- ---- the calls that wait
 
@@ -66,14 +76,26 @@ pub record IsAfter (setup : Setup) (log : List Entry) (e : Entry) (ps : List (Op
   pub new : IsKept setup (log ++ e ∷ []) (length log) o
 
 -- what is made of bytes that come to an address: what they make, and what is kept of the call that this makes
-pub record IsReceived (setup : Setup) (core : Core) (number at : ℕ) (way : Way) (m : Made) : Type 0 where
-  pub served : IsServed setup core number at way m.effect
+pub record IsReceived (w : Weather) (setup : Setup) (core : Core) (number at : ℕ) (way : Way)
+    (m : Made) : Type 0 where
+  pub served : IsServed w setup core number at way m.effect
   pub kept : Keeps (IsBegunBy setup core.log number way m.effect) m.effect m.pending
 
--- what an event made: what is made of what it comes to, and what is kept after it
+-- An event that restarts nothing and did that leaves the stations so: they are the servers after its entry, and
+-- what is outside of them is left as in that weather.
+abbrev pub Stands : Setup → List Entry → Effect → Weather → List Station → List Station → Type 0
+Stands setup log x w old new =
+    (event : Event) → ((a : Addr) → restart_by a event.kind ≡ None)
+    → AreStations setup.servers (log ++ entry_of event x ∷ []) new
+    × IsMoved setup (entry_of event x) w (map outside_of old) (map outside_of new)
+
+-- what an event made: what is made of what it comes to in some weather, which is that outside of its server,
+-- and what is kept after it
 pub record IsMadeSo (setup : Setup) (log : List Entry) (event : Event) (way : Way)
-    (ps : List (Option Pending)) (sts : List Station) (m : Made) : Type 0 where
-  pub made : IsMade setup log event.at way m.effect
+    (ps : List (Option Pending)) (old sts : List Station) (m : Made) : Type 0 where
+  pub weather : Weather
+  pub made : IsMade weather setup log event.at way m.effect
+  pub moved : IsMoved setup (entry_of event m.effect) weather (map outside_of old) (map outside_of sts)
   pub after : IsAfter setup log (entry_of event m.effect) ps m.pending
   pub stations : AreStations setup.servers (log ++ entry_of event m.effect ∷ []) sts
 
@@ -112,9 +134,9 @@ abbrev pub AreLawful : Setup → List Entry → Type 0
 AreLawful setup entries = (n : ℕ) → IsLawful setup.scheduler.base setup.scheduler.count
     (core_log (take n entries))
 
--- each event, whatever it is, has a next entry
+-- each event, whatever it is, has a next entry in calm weather
 abbrev pub HasNext : Setup → List Entry → Type 0
-HasNext setup log = (event : Event) → (e : Entry) × IsNext setup log event e
+HasNext setup log = (event : Event) → (e : Entry) × IsNext calm setup log event e
 
 -- ---- farms
 
@@ -124,21 +146,24 @@ pub record IsFarm (setup : Setup) (core : Core) (entries : List Entry) (ps : Lis
     (sts : List Station) : Type 0 where
   pub fits : setup.scheduler.count < 2 ^ 64
   pub apart : HasApart setup
-  pub run : IsRun setup entries
+  pub run : IsRun free setup entries
   pub core_is : core ≡ core_of setup entries
   pub sound : IsSound setup entries
   pub kept : AreKept setup entries ps
   pub stations : AreStations setup.servers entries sts
 
 -- one entry more, which is next
-abbrev pub AddsNext : Setup → List Entry → Event → List Entry → Type 0
-AddsNext setup old event new = (e : Entry) × IsNext setup old event e × (new ≡ old ++ e ∷ [])
+abbrev pub AddsNext : Setup → List Entry → Event → List Entry → List Outside → List Outside → Type 0
+AddsNext setup old event new before after = (w : Weather) × (e : Entry) × IsNext w setup old event e
+    × IsMoved setup e w before after × (new ≡ old ++ e ∷ [])
 
 -- one event makes its entry
 abbrev pub Steps : Farmed → Event → Farmed → Type 0
-Steps old event new = (e : Entry) × IsNext old.setup old.entries event e × (new ≡ with_entries old (e ∷ []))
+Steps old event new = (w : Weather) × (e : Entry) × IsNext w old.setup old.entries event e
+    × IsMoved old.setup e w old.outside new.outside × (new ≡ with_entries old (e ∷ []) new.outside)
 
 -- the farm has one more entry for each of the events, each next over those before it
 abbrev pub Runs : Farmed → List Event → Farmed → Type 0
-Runs old events new = (entries : List Entry) × EachNext old.setup old.entries events entries
-    × (new ≡ with_entries old entries)
+Runs old events new = (entries : List Entry)
+    × Passage old.setup old.entries old.outside events entries new.outside
+    × (new ≡ with_entries old entries new.outside)

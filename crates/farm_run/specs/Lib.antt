@@ -1,10 +1,13 @@
 pub mod Answers
+pub mod Begins
 pub mod Begun
 pub mod Builds
 pub mod Calls
 pub mod Effects
 pub mod Farm
 pub mod Next
+pub mod Passage
+pub mod Post
 pub mod Printed
 pub mod Reliable
 pub mod RunText
@@ -12,9 +15,11 @@ pub mod Seen
 pub mod Served
 pub mod Servers
 pub mod Settled
+pub mod Sites
 pub mod Stations
 pub mod Tickets
 pub mod Ways
+pub mod Weather
 pub use Rattle.farm_script.specs.Built
 pub use Rattle.farm_script.specs.FirstFaulty
 pub use Rattle.farm_script.specs.Grammar

@@ -1,6 +1,7 @@
 -- What whoever asks a farm may count on: how often an entry is replied to, which requests get the reply that
 -- their row names, and what a restart keeps.
-use Rattle.std.specs.Prelude.{◌≡◌, ℕ, ◌+◌, suc, List, [], take, drop, slice_get, Bool, true, Some, Ok}
+use Rattle.std.specs.Prelude.{◌≡◌, ℕ, ◌+◌, suc, List, [], take, drop, slice_get, Bool, true, is_some, Option, Some}
+use Rattle.std.specs.Prelude.{Ok}
 use Rattle.dist_types.specs.Cause.{counted}
 use Rattle.dist_types.specs.declared.addr.Addr.{Addr}
 use Rattle.dist_types.specs.declared.ids.JobId.{JobId}
@@ -23,10 +24,12 @@ use Rattle.sched_core.specs.declared.call.Call.TheVariants as call
 use Rattle.sched_core.specs.declared.entry.CoreEntry.{CoreEntry}
 use Rattle.build_server.specs.Books.{held_for}
 use Rattle.build_server.specs.Builds.{ran_of, built_of, run_answer}
-use Rattle.build_server.specs.Rules.{submit_verdict, submit_result}
+use Rattle.build_server.specs.Rules.{submit_result}
 use Rattle.build_server.specs.declared.run.Outcome.{Outcome}
+use Rattle.build_server.specs.declared.submit.Submitted.{Submitted}
+use Rattle.lru_disk_cache.specs.Archives.{Archives}
 use Rattle.farm_script.specs.declared.event.EventKind.TheVariants.{Return, Restart}
-use Rattle.farm_script.specs.declared.setup.Setup.{Setup}
+use Rattle.farm_run.specs.declared.site.Site.{Site as Setup}
 use Rattle.farm_run.specs.declared.entry.Entry.{Entry}
 use Rattle.farm_run.specs.declared.entry.Reply.{Reply}
 use Rattle.farm_run.specs.declared.entry.Step.{Step}
@@ -36,11 +39,12 @@ use Rattle.farm_run.specs.Builds.{SettlesCall}
 use Rattle.farm_run.specs.Calls.{settles_by}
 use Rattle.farm_run.specs.Effects.{reply_to}
 use Rattle.farm_run.specs.Seen.{core_log, core_of}
-use Rattle.farm_run.specs.Served.{AsksServer, books_of, state_call, run_outcome}
-use Rattle.farm_run.specs.Servers.{ServerNow, server_now}
+use Rattle.farm_run.specs.Served.{AsksServer, state_call}
+use Rattle.farm_run.specs.Servers.{ServerNow, listed_in, server_now}
 use Rattle.farm_run.specs.Settled.{IsUpdated, ended_response}
 use Rattle.farm_run.specs.Tickets.{ticket_of}
 use Rattle.farm_run.specs.Ways.{way_of, to_scheduler, to_server}
+use Rattle.farm_run.specs.Weather.{Weather, Stores, Works, Opens, opened_effect}
 
 -- ---- once
 
@@ -143,16 +147,17 @@ AllocationsEnd setup log =
     → IsReserved setup log n json t → BringsBack log n k bytes → IsAssigned bytes (Ok a)
     → IsCommitted setup log n k json t a
 
--- a submission gets the 200 of its outcome, over what the server keeps then, where its call is granted
-abbrev pub SubmissionsEnd : Setup → List Entry → Type 0
-SubmissionsEnd setup log =
+-- a submission gets the 200 of what it comes to in that weather, over what the server keeps then, where its call
+-- is granted
+abbrev pub SubmissionsEnd : Weather → Setup → List Entry → Type 0
+SubmissionsEnd w setup log =
     (n k : ℕ) (server : Addr) (life : ℕ) (job : JobId) (json : Bool) (body : ℕ) (bytes : List ℕ)
     (now : ServerNow)
     → AsksAt setup log n server life bytes
     (record { what = server_asked.Submit job; json = json; body = body })
     → IsGranted setup log n k server life now
-    → let outcome = submit_verdict (books_of now) (held_for job now.held) (drop body bytes) in
-    EndsBy log n k (record { server = server; kind = step.Submitted job outcome })
+    → (outcome : Submitted) × Stores w now job (drop body bytes) outcome
+    × EndsBy log n k (record { server = server; kind = step.Submitted job outcome })
     (submit_response json (submit_result outcome))
 
 -- entry j runs the job so at the server, and tells the scheduler that it is complete
@@ -164,50 +169,55 @@ pub record IsRunBy (setup : Setup) (log : List Entry) (j : ℕ) (server : Addr) 
       (record { server = server; kind = step.Ran job (ran_of outcome) (built_of outcome) })
   pub tells : entry.call ≡ Some (state_call setup server job state.Complete)
 
--- A request to run a job is run, over what the server keeps then, where its first call is granted; where the
--- second is too, the reply is that of its outcome: a 200 where the job was built or is not held.
-abbrev pub RunsEnd : Setup → List Entry → Type 0
-RunsEnd setup log =
+-- A request to run a job is run in that weather, over what the server keeps then, where its first call is
+-- granted; where the second is too, the reply is that of its outcome: a 200 where the job was built or is not
+-- held.
+abbrev pub RunsEnd : Weather → Setup → List Entry → Type 0
+RunsEnd w setup log =
     (n j : ℕ) (server : Addr) (life : ℕ) (job : JobId) (run : RunJobHttpRequest) (at : ℕ) (json : Bool)
     (body : ℕ) (bytes : List ℕ) (now : ServerNow)
     → AsksAt setup log n server life bytes
     (record { what = server_asked.Run job run at; json = json; body = body })
     → IsGranted setup log n j server life now
-    → let outcome = run_outcome now (held_for job now.held) run.outputs (drop (body + at) bytes) in
-    IsRunBy setup log j server job outcome
+    → (outcome : Outcome) × Works w now (held_for job now.held) run (drop (body + at) bytes) outcome
+    × IsRunBy setup log j server job outcome
     × ((k : ℕ) (later : ServerNow) → IsGranted setup log j k server life later
     → EndsBy log n k (record { server = server; kind = step.Finished job })
     (ended_response json (run_answer outcome)))
 
 -- ---- restarts
 
--- A restart of a server lists the archives that it had, and keeps them in their order. Nothing is held after
--- it, and key and nonce are the new ones.
-abbrev pub RestartsKeep : Setup → List Entry → Type 0
-RestartsKeep setup log =
+-- the server behind a restart with that key and nonce, whose opening came to this
+abbrev pub reopened : ServerNow → List ℕ → ℕ → Option Archives → ServerNow
+reopened now key nonce found = record {
+  setup = now.setup;
+  life = counted now.life;
+  key = key;
+  nonce = nonce;
+  running = is_some found;
+  held = [];
+  archives = listed_in found;
+  builds = now.builds;
+}
+
+-- A restart of a server lists what its opening in that weather gives, which are in calm weather the archives
+-- that it had, in their order. Nothing is held after it, and key and nonce are the new ones.
+abbrev pub RestartsKeep : Weather → Setup → List Entry → Type 0
+RestartsKeep w setup log =
     (k : ℕ) (e : Entry) (server : Addr) (key : List ℕ) (nonce : ℕ) (now : ServerNow)
     → slice_get log k ≡ Some e → e.event.kind ≡ Restart server key nonce
     → server_now setup (take k log) server ≡ Some now
-    → (e.step ≡ Some (record { server = now.setup.addr; kind = step.Opened now.archives }))
-    × (server_now setup (take (suc k) log) server
-    ≡ Some (record {
-      setup = now.setup;
-      life = counted now.life;
-      key = key;
-      nonce = nonce;
-      held = [];
-      archives = now.archives;
-      builds = now.builds;
-    }))
+    → (found : Option Archives) × Opens w now found × (e.step ≡ (opened_effect now found).step)
+    × (server_now setup (take (suc k) log) server ≡ Some (reopened now key nonce found))
 
 -- ---- all of these
 
-pub record IsReliable (setup : Setup) (log : List Entry) : Type 0 where
+pub record IsReliable (w : Weather) (setup : Setup) (log : List Entry) : Type 0 where
   pub replied : AreRepliedOnce log
   pub allocations : AllocationsEnd setup log
-  pub submissions : SubmissionsEnd setup log
-  pub runs : RunsEnd setup log
-  pub restarts : RestartsKeep setup log
+  pub submissions : SubmissionsEnd w setup log
+  pub runs : RunsEnd w setup log
+  pub restarts : RestartsKeep w setup log
 
 -- ---- what a 200 of the scheduler grants
 

@@ -11,6 +11,8 @@ use Rattle.farm_run.specs.Next.{EachNext}
 use Rattle.farm_run.specs.Farm.{AreLawful}
 use Rattle.farm_run.specs.Printed.{run_text}
 use Rattle.farm_run.specs.Reliable.{IsReliable}
+use Rattle.farm_run.specs.Sites.{site_of}
+use Rattle.farm_run.specs.Weather.{calm}
 
 -- The text is that of a script's run: no line of the script is faulty, its lines say a setup and events, and
 -- the text is that of the farm that is set up so and of a list that has one entry for each event, each next
@@ -23,11 +25,11 @@ pub record IsRunText (bytes text : List ℕ) : Type 0 where
   pub entries : List Entry
   pub fine : IsFaultless bytes
   pub says : Says bytes setup events
-  pub each : EachNext setup [] events entries
-  pub lawful : AreLawful setup entries
-  pub builds : AreBuilds setup entries
-  pub reliable : IsReliable setup entries
-  pub is : text ≡ run_text setup entries
+  pub each : EachNext calm (site_of setup) [] events entries
+  pub lawful : AreLawful (site_of setup) entries
+  pub builds : AreBuilds (site_of setup) entries
+  pub reliable : IsReliable calm (site_of setup) entries
+  pub is : text ≡ run_text (site_of setup) entries
 
 -- the same, where the script is what reading it gives
 pub record IsReadText (bytes text : List ℕ) : Type 0 where
@@ -35,8 +37,8 @@ pub record IsReadText (bytes text : List ℕ) : Type 0 where
   pub events : List Event
   pub entries : List Entry
   pub read : script bytes ≡ Ok (setup, events)
-  pub each : EachNext setup [] events entries
-  pub lawful : AreLawful setup entries
-  pub builds : AreBuilds setup entries
-  pub reliable : IsReliable setup entries
-  pub is : text ≡ run_text setup entries
+  pub each : EachNext calm (site_of setup) [] events entries
+  pub lawful : AreLawful (site_of setup) entries
+  pub builds : AreBuilds (site_of setup) entries
+  pub reliable : IsReliable calm (site_of setup) entries
+  pub is : text ≡ run_text (site_of setup) entries

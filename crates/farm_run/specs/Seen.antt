@@ -8,7 +8,7 @@ use Rattle.dist_token.specs.Token.{plain_text, token_text, server_claims_text}
 use Rattle.dist_token.specs.Verdict.{plain_server, server_verdict}
 use Rattle.sched_core.specs.Log.{Core}
 use Rattle.sched_core.specs.declared.entry.CoreEntry.{CoreEntry}
-use Rattle.farm_script.specs.declared.setup.Setup.{Setup}
+use Rattle.farm_run.specs.declared.site.Site.{Site as Setup}
 use Rattle.farm_script.specs.declared.setup.SetupAuth.{SetupAuth}
 use Rattle.farm_script.specs.declared.setup.SetupAuth.TheVariants.{Plain, Jwt}
 use Rattle.farm_run.specs.declared.entry.Entry.{Entry}

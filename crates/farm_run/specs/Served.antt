@@ -25,7 +25,7 @@ use Rattle.build_server.specs.Rules.{assign_verdict}
 use Rattle.build_server.specs.declared.fault.ServerFault.{ServerFault}
 use Rattle.build_server.specs.declared.run.Outcome.{Outcome}
 use Rattle.build_server.specs.declared.run.Outcome.TheVariants as outcome
-use Rattle.farm_script.specs.declared.setup.Setup.{Setup}
+use Rattle.farm_run.specs.declared.site.Site.{Site as Setup}
 use Rattle.farm_script.specs.declared.setup.BuilderLine.{BuilderLine}
 use Rattle.farm_script.specs.declared.setup.BuilderLine.TheVariants.{Listed, Refuse}
 use Rattle.farm_run.specs.declared.entry.Effect.{Effect}
@@ -35,7 +35,7 @@ use Rattle.farm_run.specs.declared.pending.Ask.TheVariants.{Report}
 use Rattle.farm_run.specs.declared.pending.Pending.{Pending}
 use Rattle.farm_run.specs.declared.pending.Told.{Told}
 use Rattle.farm_run.specs.declared.pending.Told.TheVariants as told
-use Rattle.farm_run.specs.Effects.{reply_effect, call_effect, step_effect, step_reply_effect, reply_to}
+use Rattle.farm_run.specs.Effects.{reply_effect, call_effect, step_reply_effect, reply_to}
 use Rattle.farm_run.specs.Seen.{server_token}
 use Rattle.farm_run.specs.Servers.{ServerNow}
 
@@ -121,10 +121,6 @@ pub record IsReport (s : ServerNow) (number : ℕ) (a : ServerAsked) (p : Pendin
 -- a heartbeat: its call
 abbrev pub beat_effect : Setup → ServerNow → Effect
 beat_effect setup s = call_effect None (Some (beat_call setup s))
-
--- a restart: the opening lists the archives that are there
-abbrev pub restart_effect : ServerNow → Effect
-restart_effect s = step_effect s.setup.addr (step.Opened s.archives)
 
 -- ---- its builder
 

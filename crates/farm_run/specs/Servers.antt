@@ -1,5 +1,6 @@
 -- The build servers of a farm, as its entries tell.
-use Rattle.std.specs.Prelude.{ℕ, List, [], Bool, not, ◌==◌, if◌then◌else◌, fold, find, Option, Some, None}
+use Rattle.std.specs.Prelude.{ℕ, List, [], Bool, true, false, not, ◌==◌, if◌then◌else◌, fold, find, is_some}
+use Rattle.std.specs.Prelude.{Option, Some, None}
 use Rattle.std.specs.Option.{option_map}
 use Rattle.dist_types.specs.Addr.{same_addr}
 use Rattle.dist_types.specs.Cause.{counted}
@@ -10,8 +11,8 @@ use Rattle.build_server.specs.Books.{Table, held_for, placed, without_job}
 use Rattle.build_server.specs.Rules.{archives_after_submit}
 use Rattle.build_server.specs.declared.run.Ran.{Ran}
 use Rattle.build_server.specs.declared.run.Ran.TheVariants as ran
-use Rattle.farm_script.specs.declared.setup.Setup.{Setup}
-use Rattle.farm_script.specs.declared.setup.SetupServer.{SetupServer}
+use Rattle.farm_run.specs.declared.site.Site.{Site as Setup}
+use Rattle.farm_run.specs.declared.site.SiteServer.{SiteServer as SetupServer}
 use Rattle.farm_script.specs.declared.event.EventKind.{EventKind}
 use Rattle.farm_script.specs.declared.event.EventKind.TheVariants.{Request, Deliver, Fail, Return, Answer}
 use Rattle.farm_script.specs.declared.event.EventKind.TheVariants.{Beat, Restart}
@@ -21,26 +22,34 @@ use Rattle.farm_run.specs.declared.entry.StepKind.{StepKind}
 use Rattle.farm_run.specs.declared.entry.StepKind.TheVariants as step
 
 -- A build server at a moment: how it was set up, the number of its life with the key and the nonce of that
--- life, the jobs that it holds by rising id, its archives, least recent first, and how many builds its
--- builder was asked for.
+-- life, whether it runs, the jobs that it holds by rising id, its archives, least recent first, and how many
+-- builds its builder was asked for.
 pub record ServerNow : Type 0 where
   pub setup : SetupServer
   pub life : ℕ
   pub key : List ℕ
   pub nonce : ℕ
+  pub running : Bool
   pub held : Table
   pub archives : Archives
   pub builds : ℕ
 
--- as it was set up: its first life, with nothing held and no archives
+-- the archives that an opening listed, if it listed any
+abbrev pub listed_in : Option Archives → Archives
+listed_in None = []
+listed_in (Some archives) = archives
+
+-- as it was set up: its first life, with nothing held, and the archives that its opening listed; where that
+-- failed it does not run
 abbrev pub server_begun : SetupServer → ServerNow
 server_begun s = record {
   setup = s;
   life = 0;
   key = s.key;
   nonce = s.nonce;
+  running = is_some s.found;
   held = [];
-  archives = [];
+  archives = listed_in s.found;
   builds = 0;
 }
 
@@ -54,8 +63,8 @@ restart_by addr (Answer call bytes) = None
 restart_by addr (Beat server) = None
 restart_by addr (Restart server key nonce) = if same_addr server addr then Some (key, nonce) else None
 
--- a restart ends a life, and begins one with that key and nonce; nothing is held, and no archive is there
--- until the cache was opened
+-- a restart ends a life, and begins one with that key and nonce; nothing is held, and the server does not run
+-- and has no archive until its cache was opened
 abbrev pub restarted : Option (List ℕ × ℕ) → ServerNow → ServerNow
 restarted None s = s
 restarted (Some p) s = record {
@@ -63,6 +72,7 @@ restarted (Some p) s = record {
   life = counted s.life;
   key = p.0;
   nonce = p.1;
+  running = false;
   held = [];
   archives = [];
   builds = s.builds;
@@ -85,7 +95,7 @@ builds_after_run (ran.Unlisted tc) builds = builds
 builds_after_run ran.None builds = builds
 
 -- What a step of the server leaves: an assigned job is held until it is run; a stored archive is the most
--- recent, and the dropped ones are gone; an opening lists its archives.
+-- recent, and the dropped ones are gone; an opening lists its archives, and the server runs.
 abbrev pub kind_after : StepKind → ServerNow → ServerNow
 kind_after (step.Heard as_what) s = s
 kind_after (step.Assigned job tc ready) s = record s { held = placed job tc s.held }
@@ -97,13 +107,23 @@ kind_after (step.Ran job ran result) s =
       life = s.life;
       key = s.key;
       nonce = s.nonce;
+      running = s.running;
       held = without_job job s.held;
       archives = archives_after_run ran s.archives;
       builds = builds_after_run ran s.builds;
     }
 kind_after (step.Finished job) s = s
 kind_after (step.Unreported job) s = s
-kind_after (step.Opened archives) s = record s { archives = archives }
+kind_after (step.Opened archives) s = record {
+  setup = s.setup;
+  life = s.life;
+  key = s.key;
+  nonce = s.nonce;
+  running = true;
+  held = s.held;
+  archives = archives;
+  builds = s.builds;
+}
 
 -- what an entry's step leaves, where it is the server's
 abbrev pub stepped : Option Step → ServerNow → ServerNow

@@ -28,14 +28,14 @@ use Rattle.sched_core.specs.declared.call.Call.TheVariants as call
 use Rattle.sched_core.specs.declared.entry.CoreEntry.{CoreEntry}
 use Rattle.build_server.specs.Books.{held_for}
 use Rattle.build_server.specs.Builds.{ran_of, built_of, run_answer}
-use Rattle.build_server.specs.Rules.{submit_verdict, submit_result}
+use Rattle.build_server.specs.Rules.{submit_result}
 use Rattle.build_server.specs.declared.fault.ServerFault.{ServerFault}
 use Rattle.build_server.specs.declared.fault.ServerFault.TheVariants as refusal
 use Rattle.build_server.specs.declared.fault.BuildCause.{BuildCause}
 use Rattle.build_server.specs.declared.fault.BuildCause.TheVariants as cause
 use Rattle.build_server.specs.declared.run.Outcome.{Outcome}
 use Rattle.build_server.specs.declared.submit.Submitted.{Submitted}
-use Rattle.farm_script.specs.declared.setup.Setup.{Setup}
+use Rattle.farm_run.specs.declared.site.Site.{Site as Setup}
 use Rattle.farm_run.specs.declared.entry.Effect.{Effect}
 use Rattle.farm_run.specs.declared.entry.EntryWord.TheVariants.{Died}
 use Rattle.farm_run.specs.declared.entry.HeardAs.{HeardAs}
@@ -47,8 +47,9 @@ use Rattle.farm_run.specs.declared.pending.Told.{Told}
 use Rattle.farm_run.specs.declared.pending.Told.TheVariants as told
 use Rattle.farm_run.specs.Effects.{word_effect, reply_effect, step_effect, step_reply_effect}
 use Rattle.farm_run.specs.Effects.{step_call_effect, reply_to}
-use Rattle.farm_run.specs.Served.{books_of, state_call, run_outcome}
+use Rattle.farm_run.specs.Served.{state_call}
 use Rattle.farm_run.specs.Servers.{ServerNow, is_over}
+use Rattle.farm_run.specs.Weather.{Weather, Stores, Works}
 
 -- ---- an assignment
 
@@ -90,23 +91,24 @@ abbrev pub submission : Addr → ℕ → Bool → JobId → Submitted → Effect
 submission addr root json job outcome = step_reply_effect addr (step.Submitted job outcome)
     (reply_to root (submit_response json (submit_result outcome)))
 
--- Ready was told of a job, whose archive was submitted
-abbrev pub ready_end : ServerNow → ℕ → Bool → JobId → List ℕ → Result UpdateJobStateResult CallFault → Effect
-ready_end s root json job archive (Ok u) = submission s.setup.addr root json job
-    (submit_verdict (books_of s) (held_for job s.held) archive)
-ready_end s root json job archive (Err f) = unreported s.setup.addr root job f
+-- Ready was told of a job, whose archive was submitted in that weather
+abbrev pub ReadyEnds : Weather → ServerNow → ℕ → Bool → JobId → List ℕ → Result UpdateJobStateResult CallFault
+    → Effect → Type 0
+ReadyEnds w s root json job archive (Ok u) x =
+    (o : Submitted) × Stores w s job archive o × (x ≡ submission s.setup.addr root json job o)
+ReadyEnds w s root json job archive (Err f) x = x ≡ unreported s.setup.addr root job f
 
 -- a run that went so, whose end is told
 abbrev pub running : Setup → Addr → JobId → Outcome → Effect
 running setup addr job outcome = step_call_effect addr (step.Ran job (ran_of outcome) (built_of outcome))
     (state_call setup addr job state.Complete)
 
--- Started was told of a job, which was to be run
-abbrev pub started_end : Setup → ServerNow → ℕ → JobId → RunJobHttpRequest → List ℕ
-    → Result UpdateJobStateResult CallFault → Effect
-started_end setup s root job run inputs (Ok u) = running setup s.setup.addr job
-    (run_outcome s (held_for job s.held) run.outputs inputs)
-started_end setup s root job run inputs (Err f) = unreported s.setup.addr root job f
+-- Started was told of a job, which was to be run in that weather
+abbrev pub StartedEnds : Weather → Setup → ServerNow → ℕ → JobId → RunJobHttpRequest → List ℕ
+    → Result UpdateJobStateResult CallFault → Effect → Type 0
+StartedEnds w setup s root job run inputs (Ok u) x =
+    (o : Outcome) × Works w s (held_for job s.held) run inputs o × (x ≡ running setup s.setup.addr job o)
+StartedEnds w setup s root job run inputs (Err f) x = x ≡ unreported s.setup.addr root job f
 
 -- why a build gave nothing, as a reply tells it
 abbrev pub failure_of : BuildCause → BuildFailure
@@ -134,29 +136,30 @@ heard_as (Ok answer) = if answer.is_new then heard.New else heard.Old
 heard_as (Err f) = heard.Lost
 
 -- a report of the server goes on by its reply; the bytes are those that the event of the root brought
-abbrev pub Reports : Setup → ServerNow → List ℕ → ℕ → Bool → Option (List ℕ) → Told → Effect → Type 0
-Reports setup s bytes root json reply (told.Ready job at) x =
+abbrev pub Reports : Weather → Setup → ServerNow → List ℕ → ℕ → Bool → Option (List ℕ) → Told → Effect → Type 0
+Reports w setup s bytes root json reply (told.Ready job at) x =
     (r : Result UpdateJobStateResult CallFault) × IsUpdated reply r
-    × (x ≡ ready_end s root json job (drop at bytes) r)
-Reports setup s bytes root json reply (told.Started job run at) x =
+    × ReadyEnds w s root json job (drop at bytes) r x
+Reports w setup s bytes root json reply (told.Started job run at) x =
     (r : Result UpdateJobStateResult CallFault) × IsUpdated reply r
-    × (x ≡ started_end setup s root job run (drop at bytes) r)
-Reports setup s bytes root json reply (told.Complete job outcome) x =
+    × StartedEnds w setup s root job run (drop at bytes) r x
+Reports w setup s bytes root json reply (told.Complete job outcome) x =
     (r : Result UpdateJobStateResult CallFault) × IsUpdated reply r
     × (x ≡ complete_end s.setup.addr root json job outcome r)
-Reports setup s bytes root json reply told.Heartbeat x =
+Reports w setup s bytes root json reply told.Heartbeat x =
     (r : Result HeartbeatServerResult CallFault) × IsHeard reply r
     × (x ≡ step_effect s.setup.addr (step.Heard (heard_as r)))
 
-abbrev pub Lives : Setup → ℕ → ServerNow → List ℕ → ℕ → Bool → Option (List ℕ) → Told → Bool → Effect → Type 0
-Lives setup life s bytes root json reply told true x = x ≡ word_effect Died
-Lives setup life s bytes root json reply told false x = Reports setup s bytes root json reply told x
+abbrev pub Lives : Weather → Setup → ℕ → ServerNow → List ℕ → ℕ → Bool → Option (List ℕ) → Told → Bool
+    → Effect → Type 0
+Lives w setup life s bytes root json reply told true x = x ≡ word_effect Died
+Lives w setup life s bytes root json reply told false x = Reports w setup s bytes root json reply told x
 
 -- the same in the life that made it; where that is over, who asked is gone
-abbrev pub ReportsIn : Setup → ℕ → List ℕ → ℕ → Bool → Option (List ℕ) → Told → Option ServerNow → Effect
-    → Type 0
-ReportsIn setup life bytes root json reply told None x = x ≡ word_effect Died
-ReportsIn setup life bytes root json reply told (Some s) x = Lives setup life s bytes root json reply told
+abbrev pub ReportsIn : Weather → Setup → ℕ → List ℕ → ℕ → Bool → Option (List ℕ) → Told → Option ServerNow
+    → Effect → Type 0
+ReportsIn w setup life bytes root json reply told None x = x ≡ word_effect Died
+ReportsIn w setup life bytes root json reply told (Some s) x = Lives w setup life s bytes root json reply told
     (is_over life s) x
 
 -- ---- the reservations of calls

@@ -3,7 +3,7 @@ use Rattle.std.specs.Prelude.{ℕ, List, [], Bool, false, ◌||◌, slice_get, i
 use Rattle.std.specs.Prelude.{if◌then◌else◌}
 use Rattle.dist_types.specs.Addr.{same_addr}
 use Rattle.dist_types.specs.declared.addr.Addr.{Addr}
-use Rattle.farm_script.specs.declared.setup.Setup.{Setup}
+use Rattle.farm_run.specs.declared.site.Site.{Site as Setup}
 use Rattle.farm_script.specs.declared.event.EventKind.{EventKind}
 use Rattle.farm_script.specs.declared.event.EventKind.TheVariants.{Request, Deliver, Fail, Return, Answer}
 use Rattle.farm_script.specs.declared.event.EventKind.TheVariants.{Beat, Restart}
@@ -29,10 +29,10 @@ pub data Way : Type 0 where
   -- a build server starts again, with that key and nonce
   to_restart : ServerNow → List ℕ → ℕ → Way
 
--- bytes that come to a build server, where there is one
+-- bytes that come to a build server, where there is one that runs
 abbrev pub server_way : List ℕ → Option ServerNow → Way
 server_way bytes None = to_nobody
-server_way bytes (Some s) = to_server s bytes
+server_way bytes (Some s) = if s.running then to_server s bytes else to_nobody
 
 -- bytes that a peer sends to an address
 abbrev pub way_to : Setup → List Entry → Addr → Addr → List ℕ → Way
@@ -79,10 +79,10 @@ abbrev pub is_inside : Setup → Option OutCall → Bool
 is_inside setup None = false
 is_inside setup (Some c) = same_addr c.target setup.scheduler.addr || is_some (server_at setup c.target)
 
--- a heartbeat, where the server is of the farm
+-- a heartbeat, where the server is of the farm and runs
 abbrev pub beat_way : Option ServerNow → Way
 beat_way None = to_nothing
-beat_way (Some s) = to_beat s
+beat_way (Some s) = if s.running then to_beat s else to_nobody
 
 -- a restart, where the server is of the farm
 abbrev pub restart_way : List ℕ → ℕ → Option ServerNow → Way

@@ -1,20 +1,19 @@
 //! Bytes that come to an address, and the events of a build server of its own.
-ghost use Rattle.std.specs.Prelude.{◌≡◌, ◌++◌, ◌∷◌, [], ℕ, length, set, slice_get, position, IfOk, IfErr};
-ghost use Rattle.std.specs.Prelude.{OnOk, Some, None};
+ghost use Rattle.std.specs.Prelude.{◌≡◌, ℕ, length, slice_get, position, IfOk, IfErr, OnOk, Some, None};
 ghost use Rattle.dist_types.specs.Addr.{same_addr};
-ghost use Rattle.dist_types.specs.declared.addr.Addr.{Addr as Place};
-ghost use Rattle.farm_script.specs.declared.event.Event.{Event as Happening};
 ghost use Rattle.farm_script.specs.declared.event.EventKind.TheVariants as kind;
 ghost use Rattle.farm_script.specs.declared.fault.FarmFault.TheVariants as fault;
-ghost use Rattle.farm_script.specs.declared.setup.SetupServer.{SetupServer as Site};
-ghost use Rattle.farm_run.specs.declared.station.Station.{Station as Post};
+ghost use Rattle.farm_run.specs.declared.site.SiteServer.{SiteServer as Site};
 ghost use Rattle.farm_run.specs.Begun.{IsBegunBy, Keeps};
-ghost use Rattle.farm_run.specs.Effects.{word_effect, entry_of};
-ghost use Rattle.farm_run.specs.Farm.{IsReceived, acted};
-ghost use Rattle.farm_run.specs.Served.{IsServerAnswered, restart_effect};
-ghost use Rattle.farm_run.specs.Servers.{restart_by, restarted, stepped, server_at, server_now};
-ghost use Rattle.farm_run.specs.Stations.{now_of, IsWell, AreWell, AreStations, IsStepAt, HasApart};
+ghost use Rattle.farm_run.specs.Effects.{word_effect};
+ghost use Rattle.farm_run.specs.Farm.{IsReceived, Stands, acted};
+ghost use Rattle.farm_run.specs.Post.{Post};
+ghost use Rattle.farm_run.specs.Served.{IsServerAnswered};
+ghost use Rattle.farm_run.specs.Servers.{server_at, server_now};
+ghost use Rattle.farm_run.specs.Stations.{now_of, IsWell, AreWell, AreStations, IsStepAt, IsRestartedSo};
+ghost use Rattle.farm_run.specs.Stations.{IsRestartAt, HasApart};
 ghost use Rattle.farm_run.specs.Ways.{way_of, way_to, beat_way, to_server};
+ghost use Rattle.farm_run.specs.Weather.{calm};
 
 use crate::desk::Desk;
 use crate::entry::{Effect, Entry, EntryWord, StepKind};
@@ -22,18 +21,19 @@ use crate::lookup::{call_at, caller_of, is_scheduler, place_of};
 use crate::pending::{Made, idle};
 use crate::serve::{Arrival, Stamp, serve};
 use crate::servers::{beat, serve_at};
+use crate::site::SiteServer;
 use crate::station::Station;
 use dist_types::addr::Addr;
+use dist_types::builder::BuilderIncoming;
 use dist_types::ids::ServerNonce;
 use farm_script::fault::FarmFault;
-use farm_script::setup::SetupServer;
+use lru_disk_cache::folder::Folder;
 use std::alloc::Global;
-use std::mem;
 
 /// A request, or a call that is delivered: bytes that come from a peer to an address.
-pub(crate) fn arrive(
+pub(crate) fn arrive<F: Folder + Drop, B: BuilderIncoming + Drop>(
     desk: &mut Desk,
-    stations: &mut Vec<Station>,
+    stations: &mut Vec<Station<F, B>>,
     entries: &[Entry],
     target: Addr,
     arrival: &Arrival<'_>,
@@ -41,11 +41,10 @@ pub(crate) fn arrive(
     requires apart { HasApart desk.old.setup }
     requires stations { AreStations desk.old.setup.servers entries.now stations.old.items }
     ensures received { IfOk result
-        (IsReceived desk.old.setup desk.old.state arrival.now.stamp.number arrival.now.stamp.at
+        (IsReceived calm desk.old.setup desk.old.state arrival.now.stamp.number arrival.now.stamp.at
         (way_to desk.old.setup entries.now target arrival.now.peer arrival.now.bytes.now)) }
-    ensures stations { IfOk result (λ m. (event : Happening) → ((a : Place) → restart_by a event.kind ≡ None)
-        → AreStations desk.old.setup.servers (entries.now ++ entry_of event m.effect ∷ [])
-        stations.new.items) }
+    ensures stations { IfOk result
+        (λ m. Stands desk.old.setup entries.now m.effect calm stations.old.items stations.new.items) }
     ensures desk { IfOk result (λ m. desk.new ≡ acted desk.old m.effect.core) }
     ensures err { IfErr result (λ e. e ≡ fault.Memory) }
 {
@@ -56,16 +55,32 @@ pub(crate) fn arrive(
     match place_of(&desk.setup, target) {
         None => Ok(Made::whole(Effect::of_word(EntryWord::Down))),
         Some(place) => {
+            if !runs_at(stations, place) {
+                return Ok(Made::whole(Effect::of_word(EntryWord::Down)));
+            }
             let made = arrive_at(desk, stations, place, arrival)?;
             Ok(made)
         }
     }
 }
 
+/// Whether the server at a place of the setup runs.
+pub(crate) fn runs_at<F: Folder + Drop, B: BuilderIncoming + Drop>(
+    stations: &[Station<F, B>],
+    place: usize,
+) -> bool
+    ensures { (st : Post) → slice_get stations.now place ≡ Some st → result ≡ st.running }
+{
+    match stations.get(place) {
+        None => false,
+        Some(station) => station.is_running(),
+    }
+}
+
 /// Bytes that come to the server at a place of the setup.
-pub(crate) fn arrive_at(
+pub(crate) fn arrive_at<F: Folder + Drop, B: BuilderIncoming + Drop>(
     desk: &Desk,
-    stations: &mut Vec<Station>,
+    stations: &mut Vec<Station<F, B>>,
     place: usize,
     arrival: &Arrival<'_>,
 ) -> Result<Made, FarmFault>
@@ -98,20 +113,19 @@ pub(crate) fn arrive_at(
 }
 
 /// A delivery.
-pub(crate) fn deliver(
+pub(crate) fn deliver<F: Folder + Drop, B: BuilderIncoming + Drop>(
     desk: &mut Desk,
-    stations: &mut Vec<Station>,
+    stations: &mut Vec<Station<F, B>>,
     entries: &[Entry],
     at: u64,
     call: u64,
 ) -> Result<Made, FarmFault>
     requires apart { HasApart desk.old.setup }
     requires stations { AreStations desk.old.setup.servers entries.now stations.old.items }
-    ensures received { IfOk result (IsReceived desk.old.setup desk.old.state (length entries.now) at
+    ensures received { IfOk result (IsReceived calm desk.old.setup desk.old.state (length entries.now) at
         (way_of desk.old.setup entries.now (kind.Deliver call))) }
-    ensures stations { IfOk result (λ m. (event : Happening) → ((a : Place) → restart_by a event.kind ≡ None)
-        → AreStations desk.old.setup.servers (entries.now ++ entry_of event m.effect ∷ [])
-        stations.new.items) }
+    ensures stations { IfOk result
+        (λ m. Stands desk.old.setup entries.now m.effect calm stations.old.items stations.new.items) }
     ensures desk { IfOk result (λ m. desk.new ≡ acted desk.old m.effect.core) }
     ensures err { IfErr result (λ e. e ≡ fault.Memory) }
 {
@@ -133,15 +147,15 @@ pub(crate) fn deliver(
 }
 
 /// A heartbeat of a server.
-pub(crate) fn send_beat(
+pub(crate) fn send_beat<F: Folder + Drop, B: BuilderIncoming + Drop>(
     desk: &Desk,
-    stations: &[Station],
+    stations: &[Station<F, B>],
     entries: &[Entry],
     addr: Addr,
 ) -> Result<Made, FarmFault>
     requires stations { AreStations desk.now.setup.servers entries.now stations.now }
     ensures received { IfOk result
-        (λ m. (at : ℕ) → IsReceived desk.now.setup desk.now.state (length entries.now) at
+        (λ m. (at : ℕ) → IsReceived calm desk.now.setup desk.now.state (length entries.now) at
         (beat_way (server_now desk.now.setup entries.now addr)) m) }
     ensures step { IfOk result (λ m. m.effect.step ≡ None) }
     ensures core { IfOk result (λ m. m.effect.core ≡ None) }
@@ -154,6 +168,9 @@ pub(crate) fn send_beat(
             Some(server) => match stations.get(place) {
                 None => Err(FarmFault::Memory),
                 Some(station) => {
+                    if !station.is_running() {
+                        return Ok(Made::whole(Effect::of_word(EntryWord::Down)));
+                    }
                     let made = beat(desk, server, station, entries.len() as u64)?;
                     Ok(made)
                 }
@@ -163,33 +180,28 @@ pub(crate) fn send_beat(
 }
 
 /// A server starts again.
-pub(crate) fn restart_in(
+pub(crate) fn restart_in<F: Folder + Drop, B: BuilderIncoming + Drop>(
     alloc: Global,
-    server: &SetupServer,
-    station: &mut Station,
+    server: &SiteServer,
+    station: &mut Station<F, B>,
     key: &[u8],
     nonce: ServerNonce,
 ) -> Result<Effect, FarmFault>
     requires well { IsWell server.now station.old }
-    ensures effect { IfOk result (λ x. x ≡ restart_effect (now_of server.now station.old)) }
-    ensures after { IfOk result
-        (λ x. now_of server.now station.new ≡ stepped x.step
-        (restarted (Some (key.now, nonce)) (now_of server.now station.old))) }
-    ensures still_well { OnOk result (IsWell server.now station.new) }
+    ensures restarts { IfOk result (IsRestartedSo server.now station.old station.new key.now nonce) }
     ensures err { IfErr result (λ e. e ≡ fault.Memory) }
 {
-    let opened = station.archive_list(alloc)?;
-    let fresh = Station::new(alloc, server)?;
-    let old = mem::replace(station, fresh);
-    let next = old.reopen(alloc, server, key, nonce)?;
-    *station = next;
-    Ok(Effect::of_step(server.addr, StepKind::Opened(opened)))
+    match station.restart(alloc, server, key, nonce) {
+        Ok(Some(found)) => Ok(Effect::of_step(server.addr, StepKind::Opened(found))),
+        Ok(None) => Ok(Effect::of_word(EntryWord::Down)),
+        Err(_) => Err(FarmFault::Memory),
+    }
 }
 
 /// A server that starts again, if it is of the farm.
-pub(crate) fn restart(
+pub(crate) fn restart<F: Folder + Drop, B: BuilderIncoming + Drop>(
     desk: &Desk,
-    stations: &mut Vec<Station>,
+    stations: &mut Vec<Station<F, B>>,
     addr: Addr,
     key: &[u8],
     nonce: ServerNonce,
@@ -201,9 +213,8 @@ pub(crate) fn restart(
     ensures some { IfOk result (λ m. (place : ℕ) (s : Site) (st : Post)
         → position (λ x. same_addr x.addr addr) desk.now.setup.servers ≡ Some place
         → slice_get desk.now.setup.servers place ≡ Some s → slice_get stations.old.items place ≡ Some st
-        → (m ≡ record { effect = restart_effect (now_of s st); pending = None })
-        × ((after : Post) × (stations.new.items ≡ set stations.old.items place after) × IsWell s after
-        × (now_of s after ≡ stepped m.effect.step (restarted (Some (key.now, nonce)) (now_of s st))))) }
+        → (m.pending ≡ None)
+        × IsRestartAt s place st key.now nonce m.effect stations.old.items stations.new.items) }
     ensures err { IfErr result (λ e. e ≡ fault.Memory) }
 {
     match place_of(&desk.setup, addr) {

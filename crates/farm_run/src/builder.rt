@@ -1,20 +1,26 @@
 //! The builders of a setup: they answer what their lines list, in order, and then echo.
+//!
+//! A farm that a script sets up keeps the lines of its builders in its setup and the number of their builds in
+//! its stations. `FarmBuilder` is such a builder by itself.
 ghost use Rattle.std.specs.Prelude.{◌≡◌, ◌≢◌, Err, IfOk, map, option_copied};
 ghost use Rattle.build_server.specs.Echo.{data_of};
 ghost use Rattle.farm_run.specs.Served.{listed, build_answer};
 
+use crate::copies::copy_lines;
 use build_server::echo::echo;
-use dist_types::builder::BuildFault;
+use dist_types::builder::{BuildFault, BuilderIncoming};
+use dist_types::command::CompileCommand;
 use dist_types::fault::Memory;
 use dist_types::output::{OutputData, ProcessOutput};
 use dist_types::results::BuildResult;
 use dist_types::text::{Bytes, Items, Text};
+use dist_types::toolchain::Toolchain;
 use dist_types::try_clone::{TryClone, push};
 use farm_script::setup::BuilderLine;
 use std::alloc::Global;
 
 /// A copy of what a build gave. Refused for want of memory alone.
-pub fn copy_result(built: &BuildResult) -> Result<BuildResult, Memory>
+pub(crate) fn copy_result(built: &BuildResult) -> Result<BuildResult, Memory>
     ensures { IfOk result (λ copy. copy ≡ built.now) }
 {
     let output = built.output.clone()?;
@@ -76,7 +82,7 @@ fn listed(alloc: Global, line: &BuilderLine) -> Result<Result<BuildResult, Build
 
 /// The answer of a builder of which that line is due, or which has answered all its lines. Refused for want
 /// of memory alone.
-pub fn build_answer(
+pub(crate) fn build_answer(
     alloc: Global,
     line: Option<&BuilderLine>,
     outputs: &[Text],
@@ -93,6 +99,61 @@ pub fn build_answer(
         Some(line) => {
             let heard = listed(alloc, line)?;
             Ok(heard)
+        }
+    }
+}
+
+/// A builder that answers what its lines list, in order, and then echoes. It tells no record.
+#[derive(Debug, Drop)]
+pub struct FarmBuilder {
+    alloc: Global,
+    lines: Items<BuilderLine>,
+    builds: u64,
+    refusals: u64,
+}
+
+impl FarmBuilder {
+    /// A builder of those lines, which has answered none. Refused for want of memory alone.
+    pub fn of(alloc: Global, lines: &[BuilderLine]) -> Result<Self, Memory> {
+        let lines = copy_lines(alloc, lines)?;
+        Ok(FarmBuilder {
+            alloc,
+            lines: Items::new(lines),
+            builds: 0,
+            refusals: 0,
+        })
+    }
+}
+
+impl BuilderIncoming for FarmBuilder {
+    ghost use Rattle.std.specs.Prelude.{None};
+
+    ghost built = { λ _. None };
+
+    ghost refusals = { λ b. b.refusals };
+
+    /// What is listed, or echoed. Refused where a line says so, and for want of memory.
+    fn run_build(
+        &mut self,
+        _toolchain: &Toolchain,
+        _archive: &[u8],
+        _command: &CompileCommand,
+        outputs: &[Text],
+        inputs: &[u8],
+    ) -> Result<BuildResult, BuildFault> {
+        let line = self.lines.get().get(self.builds as usize);
+        match build_answer(self.alloc, line, outputs, inputs) {
+            Ok(Ok(built)) => {
+                self.builds = self.builds.saturating_add(1);
+                Ok(built)
+            }
+            Ok(Err(BuildFault::Refused)) => {
+                self.builds = self.builds.saturating_add(1);
+                self.refusals = self.refusals.saturating_add(1);
+                Err(BuildFault::Refused)
+            }
+            Ok(Err(BuildFault::Memory)) => Err(BuildFault::Memory),
+            Err(_) => Err(BuildFault::Memory),
         }
     }
 }

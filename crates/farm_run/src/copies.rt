@@ -1,10 +1,13 @@
 //! Copies of setups. Each is refused for want of memory alone.
 ghost use Rattle.std.specs.Prelude.{◌≡◌, IfOk};
+ghost use Rattle.farm_run.specs.Sites.{site_server};
 
+use crate::site::SiteServer;
 use dist_types::fault::Memory;
 use dist_types::text::Items;
+use dist_types::toolchain::Toolchain;
 use dist_types::try_clone::{TryClone, push};
-use farm_script::setup::{BuilderLine, Setup, SetupAuth, SetupScheduler, SetupServer};
+use farm_script::setup::{BuilderLine, SetupAuth, SetupScheduler, SetupServer};
 use std::alloc::Global;
 
 fn copy_auth(auth: &SetupAuth) -> Result<SetupAuth, Memory>
@@ -22,7 +25,8 @@ fn copy_auth(auth: &SetupAuth) -> Result<SetupAuth, Memory>
     }
 }
 
-fn copy_scheduler(scheduler: &SetupScheduler) -> Result<SetupScheduler, Memory>
+/// A copy of a scheduler.
+pub fn copy_scheduler(scheduler: &SetupScheduler) -> Result<SetupScheduler, Memory>
     ensures { IfOk result (λ s. s ≡ scheduler.now) }
 {
     let client = scheduler.client.clone()?;
@@ -60,7 +64,8 @@ fn copy_line(line: &BuilderLine) -> Result<BuilderLine, Memory>
     }
 }
 
-fn copy_lines(alloc: Global, lines: &[BuilderLine]) -> Result<Vec<BuilderLine>, Memory>
+/// Copies of lines.
+pub(crate) fn copy_lines(alloc: Global, lines: &[BuilderLine]) -> Result<Vec<BuilderLine>, Memory>
     ensures { IfOk result (λ v. v.items ≡ lines.now) }
 {
     let mut copies = Vec::with_capacity(alloc, lines.len())?;
@@ -71,40 +76,23 @@ fn copy_lines(alloc: Global, lines: &[BuilderLine]) -> Result<Vec<BuilderLine>, 
     Ok(copies)
 }
 
-fn copy_server(alloc: Global, server: &SetupServer) -> Result<SetupServer, Memory>
-    ensures { IfOk result (λ s. s ≡ server.now) }
+/// A copy of a server, with what its first opening found.
+pub fn copy_server(
+    alloc: Global,
+    server: &SetupServer,
+    found: Option<Items<(Toolchain, u64)>>,
+) -> Result<SiteServer, Memory>
+    ensures { IfOk result (λ s. s ≡ site_server found server.now) }
 {
     let key = server.key.clone()?;
     let builder = copy_lines(alloc, server.builder.get())?;
-    Ok(SetupServer {
+    Ok(SiteServer {
         addr: server.addr,
         cpus: server.cpus,
         nonce: server.nonce,
         key,
         capacity: server.capacity,
         builder: Items::new(builder),
-    })
-}
-
-fn copy_servers(alloc: Global, servers: &[SetupServer]) -> Result<Vec<SetupServer>, Memory>
-    ensures { IfOk result (λ v. v.items ≡ servers.now) }
-{
-    let mut copies = Vec::with_capacity(alloc, servers.len())?;
-    for server in servers {
-        let copy = copy_server(alloc, server)?;
-        push(&mut copies, copy)?;
-    }
-    Ok(copies)
-}
-
-/// A copy of a setup.
-pub fn copy_setup(alloc: Global, setup: &Setup) -> Result<Setup, Memory>
-    ensures { IfOk result (λ s. s ≡ setup.now) }
-{
-    let scheduler = copy_scheduler(&setup.scheduler)?;
-    let servers = copy_servers(alloc, setup.servers.get())?;
-    Ok(Setup {
-        scheduler,
-        servers: Items::new(servers),
+        found,
     })
 }

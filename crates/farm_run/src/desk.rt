@@ -1,6 +1,6 @@
 //! The scheduler of a farm at its desk.
+use crate::site::Site;
 use dist_token::job_token::JWTJobAuthorizer;
-use farm_script::setup::Setup;
 use sched_core::state::SchedState;
 use std::alloc::Global;
 
@@ -8,6 +8,6 @@ use std::alloc::Global;
 #[derive(Drop)]
 pub struct Desk {
     pub alloc: Global,
-    pub setup: Setup,
+    pub setup: Site,
     pub state: SchedState<JWTJobAuthorizer>,
 }

@@ -5,12 +5,13 @@
 //! farm and of that list.
 //!
 //! The layer above is `farm`, whose command reads a script, runs it and writes the text. Tests and replays
-//! use `Farm::new`, `Farm::run`, `Farm::history` and `print_run`.
+//! use `setup`, `Farm::new`, `Farm::run`, `Farm::history` and `print_run`.
 #![tactic(auto)]
 
 mod arrivals;
+pub mod begin;
 pub mod build_laws;
-mod builder;
+pub mod builder;
 mod copies;
 mod desk;
 pub mod entry;
@@ -24,6 +25,7 @@ mod serve;
 mod servers;
 mod settle;
 mod settlements;
+pub mod site;
 mod station;
 mod text;
 mod words;

@@ -6,9 +6,9 @@ ghost use Rattle.farm_run.specs.Calls.{call_at, delivery_at};
 ghost use Rattle.farm_run.specs.Ways.{is_inside, caller_of, stepper, brought_at};
 
 use crate::entry::{Entry, OutCall, Step};
+use crate::site::Site;
 use dist_types::addr::Addr;
 use farm_script::event::EventKind;
-use farm_script::setup::Setup;
 
 /// The call of that number, if it was made.
 pub(crate) fn call_at(entries: &[Entry], call: u64) -> Option<&OutCall>
@@ -24,7 +24,7 @@ pub(crate) fn call_at(entries: &[Entry], call: u64) -> Option<&OutCall>
 }
 
 /// The place of the server at an address.
-pub(crate) fn place_of(setup: &Setup, addr: Addr) -> Option<usize>
+pub(crate) fn place_of(setup: &Site, addr: Addr) -> Option<usize>
     ensures place { result ≡ position (λ s. same_addr s.addr addr) setup.now.servers }
 {
     setup
@@ -35,14 +35,14 @@ pub(crate) fn place_of(setup: &Setup, addr: Addr) -> Option<usize>
 }
 
 /// Whether an address is the scheduler's.
-pub(crate) fn is_scheduler(setup: &Setup, addr: Addr) -> bool
+pub(crate) fn is_scheduler(setup: &Site, addr: Addr) -> bool
     ensures { result ≡ same_addr addr setup.now.scheduler.addr }
 {
     addr == setup.scheduler.addr
 }
 
 /// Whether a call goes to the scheduler, or to a server of the farm.
-pub(crate) fn is_inside(setup: &Setup, entries: &[Entry], call: u64) -> bool
+pub(crate) fn is_inside(setup: &Site, entries: &[Entry], call: u64) -> bool
     ensures { result ≡ is_inside setup.now (call_at entries.now call) }
 {
     match call_at(entries, call) {
@@ -57,7 +57,7 @@ pub(crate) fn is_inside(setup: &Setup, entries: &[Entry], call: u64) -> bool
 }
 
 /// The address of who made the call of that number.
-pub(crate) fn caller_of(setup: &Setup, entries: &[Entry], call: u64) -> Addr
+pub(crate) fn caller_of(setup: &Site, entries: &[Entry], call: u64) -> Addr
     ensures { result ≡ caller_of setup.now entries.now (slice_get entries.now call) }
 {
     match entries.get(call as usize) {

@@ -11,14 +11,18 @@ ghost use Rattle.farm_script.specs.declared.fault.FarmFault.TheVariants as fault
 
 use crate::entry::Entry;
 use crate::run::Farm;
+use crate::site::SiteServer;
 use crate::station::Station;
 use crate::text::{
     ArchiveLine, CallLine, CoreLine, HeldLine, JobLine, Kind, ReplyLine, RowLine, StepLine,
     WordLine,
 };
+use build_server::Held;
 use dist_types::addr::Addr;
+use dist_types::builder::BuilderIncoming;
 use farm_script::fault::FarmFault;
-use farm_script::setup::SetupServer;
+use lru_disk_cache::Archives;
+use lru_disk_cache::folder::Folder;
 use sched_core::rows::Servers;
 use std::alloc::{AllocError, Global};
 
@@ -83,7 +87,10 @@ fn push_rows(out: &mut String, servers: Servers<'_>) -> Result<(), AllocError>
 }
 
 /// Writes the lines of the reservations that are unended.
-fn push_jobs(out: &mut String, farm: &Farm) -> Result<(), AllocError>
+fn push_jobs<F: Folder + Drop, B: BuilderIncoming + Drop>(
+    out: &mut String,
+    farm: &Farm<F, B>,
+) -> Result<(), AllocError>
     ensures { OnOk result (string_bytes out.new ≡ string_bytes out.old ++ flat_map job_text
         (held_by_id (core_log farm.now.entries))) }
 {
@@ -94,12 +101,11 @@ fn push_jobs(out: &mut String, farm: &Farm) -> Result<(), AllocError>
     Ok(())
 }
 
-/// Writes the lines of what a server keeps.
-fn push_held(out: &mut String, addr: Addr, station: &Station) -> Result<(), AllocError>
-    ensures { OnOk result (string_bytes out.new ≡ string_bytes out.old ++ flat_map
-        (held_text addr) station.now.state.held) }
+/// Writes the lines of jobs that a server holds.
+fn push_held(out: &mut String, addr: Addr, held: Held<'_>) -> Result<(), AllocError>
+    ensures { OnOk result (string_bytes out.new ≡ string_bytes out.old ++ flat_map (held_text addr) held.entry) }
 {
-    for (job, tc) in station.state.held() {
+    for (job, tc) in held {
         let line = HeldLine { addr, job, tc };
         write!(out, "{line}")?;
     }
@@ -107,22 +113,58 @@ fn push_held(out: &mut String, addr: Addr, station: &Station) -> Result<(), Allo
 }
 
 /// Writes the lines of a server's archives.
-fn push_archives(out: &mut String, addr: Addr, station: &Station) -> Result<(), AllocError>
+fn push_archives(out: &mut String, addr: Addr, archives: Archives<'_>) -> Result<(), AllocError>
     ensures { OnOk result (string_bytes out.new ≡ string_bytes out.old ++ flat_map
-        (kept_archive_text addr) station.now.state.archives) }
+        (kept_archive_text addr) archives.entry) }
 {
-    for (tc, size) in station.state.archives() {
+    for (tc, size) in archives {
         let line = ArchiveLine { addr, tc, size };
         write!(out, "{line}")?;
     }
     Ok(())
 }
 
-/// Writes the lines of what a server of a farm keeps.
-fn push_server(
+/// Writes the lines of jobs that a server holds, if it runs.
+fn push_jobs_of<F: Folder + Drop, B: BuilderIncoming + Drop>(
     out: &mut String,
-    farm: &Farm,
-    server: &SetupServer,
+    addr: Addr,
+    station: &Station<F, B>,
+) -> Result<(), AllocError>
+    ensures { OnOk result (string_bytes out.new ≡ string_bytes out.old ++ flat_map
+        (held_text addr) station.now.state.held) }
+{
+    match station.held() {
+        None => Ok(()),
+        Some(held) => {
+            push_held(out, addr, held)?;
+            Ok(())
+        }
+    }
+}
+
+/// Writes the lines of a server's archives, if it runs.
+fn push_archives_of<F: Folder + Drop, B: BuilderIncoming + Drop>(
+    out: &mut String,
+    addr: Addr,
+    station: &Station<F, B>,
+) -> Result<(), AllocError>
+    ensures { OnOk result (string_bytes out.new ≡ string_bytes out.old ++ flat_map
+        (kept_archive_text addr) station.now.state.archives) }
+{
+    match station.archives() {
+        None => Ok(()),
+        Some(archives) => {
+            push_archives(out, addr, archives)?;
+            Ok(())
+        }
+    }
+}
+
+/// Writes the lines of what a server of a farm keeps.
+fn push_server<F: Folder + Drop, B: BuilderIncoming + Drop>(
+    out: &mut String,
+    farm: &Farm<F, B>,
+    server: &SiteServer,
     place: usize,
 ) -> Result<(), AllocError>
     requires { slice_get farm.now.setup.servers place ≡ Some server.now }
@@ -132,15 +174,18 @@ fn push_server(
     match farm.station(place) {
         None => Err(AllocError),
         Some(station) => {
-            push_held(out, server.addr, station)?;
-            push_archives(out, server.addr, station)?;
+            push_jobs_of(out, server.addr, station)?;
+            push_archives_of(out, server.addr, station)?;
             Ok(())
         }
     }
 }
 
 /// Writes the lines of what each server of a farm keeps.
-fn push_servers(out: &mut String, farm: &Farm) -> Result<(), AllocError>
+fn push_servers<F: Folder + Drop, B: BuilderIncoming + Drop>(
+    out: &mut String,
+    farm: &Farm<F, B>,
+) -> Result<(), AllocError>
     ensures { OnOk result (string_bytes out.new ≡ string_bytes out.old ++ flat_map
         (λ s. server_text (server_of s farm.now.entries)) farm.now.setup.servers) }
 {
@@ -151,7 +196,10 @@ fn push_servers(out: &mut String, farm: &Farm) -> Result<(), AllocError>
 }
 
 /// Writes what stands in the books of a farm.
-fn push_standing(out: &mut String, farm: &Farm) -> Result<(), AllocError>
+fn push_standing<F: Folder + Drop, B: BuilderIncoming + Drop>(
+    out: &mut String,
+    farm: &Farm<F, B>,
+) -> Result<(), AllocError>
     ensures { OnOk result (string_bytes out.new ≡ string_bytes out.old ++ standing_text farm.now.setup
         farm.now.entries) }
 {
@@ -163,7 +211,10 @@ fn push_standing(out: &mut String, farm: &Farm) -> Result<(), AllocError>
 }
 
 /// Writes the books of a farm.
-fn push_books(out: &mut String, farm: &Farm) -> Result<(), AllocError>
+fn push_books<F: Folder + Drop, B: BuilderIncoming + Drop>(
+    out: &mut String,
+    farm: &Farm<F, B>,
+) -> Result<(), AllocError>
     ensures { OnOk result (string_bytes out.new ≡ string_bytes out.old ++ books_text farm.now.setup
         farm.now.entries) }
 {
@@ -175,7 +226,10 @@ fn push_books(out: &mut String, farm: &Farm) -> Result<(), AllocError>
 }
 
 /// The text of a run: a farm, its entries, and its books after them. Refused for want of memory alone.
-pub fn print_run(alloc: Global, farm: &Farm) -> Result<String, FarmFault>
+pub fn print_run<F: Folder + Drop, B: BuilderIncoming + Drop>(
+    alloc: Global,
+    farm: &Farm<F, B>,
+) -> Result<String, FarmFault>
     ensures ok { IfOk result (λ text. string_bytes text ≡ run_text farm.now.setup farm.now.entries) }
     ensures err { IfErr result (λ e. e ≡ fault.Memory) }
 {

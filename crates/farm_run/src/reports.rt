@@ -1,34 +1,32 @@
 //! What follows the settlement of a build server's calls.
-ghost use Rattle.std.specs.Prelude.{◌≡◌, Some, None, Ok, Err, Result, drop, slice_get, if◌then◌else◌, IfOk};
-ghost use Rattle.std.specs.Prelude.{IfErr, OnOk, option_copied};
-ghost use Rattle.build_server.specs.Books.{held_for};
-ghost use Rattle.build_server.specs.Rules.{submit_verdict, NotFolder};
-ghost use Rattle.build_server.specs.Builds.{ran_of, built_of, is_due, outcome_by};
-ghost use Rattle.dist_types.specs.Cause.{counted};
+ghost use Rattle.std.specs.Prelude.{◌≡◌, Some, None, Ok, Err, Result, drop, IfOk, IfErr, OnOk, option_copied};
+ghost use Rattle.build_server.specs.Builds.{built_of};
 ghost use Rattle.dist_types.specs.declared.outgoing.CallFault.{CallFault as Cause};
 ghost use Rattle.dist_types.specs.declared.results.UpdateJobStateResult.{UpdateJobStateResult as Accepted};
 ghost use Rattle.dist_types.specs.declared.results.HeartbeatServerResult.{HeartbeatServerResult as Heard};
 ghost use Rattle.farm_run.specs.Begun.{Keeps, completion_at};
 ghost use Rattle.farm_run.specs.Effects.{step_effect};
-ghost use Rattle.farm_run.specs.Served.{books_of, build_answer, run_outcome};
+ghost use Rattle.farm_run.specs.Passage.{Leaves};
+ghost use Rattle.farm_run.specs.Post.{outside_of};
 ghost use Rattle.farm_run.specs.Servers.{stepped};
-ghost use Rattle.farm_run.specs.Settled.{IsUpdated, IsHeard, unreported, submission, running, ready_end};
-ghost use Rattle.farm_run.specs.Settled.{started_end, complete_end, heard_as, failure_of, ended_response};
-ghost use Rattle.farm_run.specs.Settled.{Reports};
-ghost use Rattle.farm_run.specs.Stations.{now_of, IsWell, NotBroken};
+ghost use Rattle.farm_run.specs.Settled.{IsUpdated, IsHeard, unreported, running, ReadyEnds, StartedEnds};
+ghost use Rattle.farm_run.specs.Settled.{complete_end, heard_as, failure_of, ended_response, Reports};
+ghost use Rattle.farm_run.specs.Stations.{now_of, IsWell};
+ghost use Rattle.farm_run.specs.Weather.{weather_of};
 ghost use Rattle.farm_script.specs.declared.fault.FarmFault.TheVariants as fault;
 
-use crate::builder::{build_answer, copy_result};
+use crate::builder::copy_result;
 use crate::desk::Desk;
 use crate::entry::{Effect, HeardAs, StepKind};
 use crate::pending::{Ask, Made, Pending, Told};
 use crate::serve::reply;
 use crate::servers::state_call;
+use crate::site::SiteServer;
 use crate::station::Station;
 use build_server::fault::{BuildCause, ServerFault};
-use build_server::run::{Ran, RunDone, RunHeld};
-use build_server::submit::Submitted;
+use build_server::run::RunDone;
 use dist_types::addr::Addr;
+use dist_types::builder::BuilderIncoming;
 use dist_types::ids::JobId;
 use dist_types::outgoing::CallFault;
 use dist_types::results::{
@@ -36,11 +34,11 @@ use dist_types::results::{
 };
 use dist_wire::run::RunJobHttpRequest;
 use farm_script::fault::FarmFault;
-use farm_script::setup::SetupServer;
 use http_routes::calls::answer;
 use http_routes::fault::{BuildFailure, RouteFault};
 use http_routes::replies::{to_fault, to_run, to_submission, want_of_memory};
 use http_routes::reply::Response;
+use lru_disk_cache::folder::Folder;
 use std::alloc::Global;
 
 /// A call of a server that comes back: the entry that is replied to and in which form, what the event of that
@@ -106,67 +104,24 @@ fn unreported(
     Ok(Effect::of_step_reply(addr, StepKind::Unreported { job }, reply))
 }
 
-/// An outcome that is no failing folder: a folder in memory that fails is told as want of memory.
-fn sound(outcome: Submitted) -> Result<Submitted, FarmFault>
-    ensures same { IfOk result (λ o. o ≡ outcome) }
-    ensures sound { IfOk result NotFolder }
-    ensures err { IfErr result (λ e. e ≡ fault.Memory) }
-{
-    match outcome {
-        Submitted::None => Ok(Submitted::None),
-        Submitted::Listed => Ok(Submitted::Listed),
-        Submitted::Stored(size, dropped) => Ok(Submitted::Stored(size, dropped)),
-        Submitted::Digest => Ok(Submitted::Digest),
-        Submitted::Capacity => Ok(Submitted::Capacity),
-        Submitted::Folder(_) => Err(FarmFault::Memory),
-    }
-}
-
-/// Submits an archive under a job, after Ready was accepted.
-fn store(
-    server: &SetupServer,
-    station: &mut Station,
-    job: JobId,
-    archive: &[u8],
-    accepted: UpdateJobStateResult,
-) -> Result<Submitted, FarmFault>
-    requires well { IsWell server.now station.old }
-    ensures ok { IfOk result (λ o. o ≡ submit_verdict (books_of (now_of server.now station.old))
-        (held_for job station.old.state.held) archive.now) }
-    ensures after { IfOk result
-        (λ o. now_of server.now station.new ≡ stepped
-        (Some (record { server = server.now.addr; kind = StepKind.Submitted job o }))
-        (now_of server.now station.old)) }
-    ensures still_well { OnOk result (IsWell server.now station.new) }
-    ensures err { IfErr result (λ e. e ≡ fault.Memory) }
-{
-    let _server = server.capacity;
-    let submit = station.state.begin_submit(job);
-    match station.state.end_submit(submit, Ok(accepted), archive) {
-        Ok(outcome) => {
-            let outcome = sound(outcome)?;
-            Ok(outcome)
-        }
-        Err(_) => Err(FarmFault::Memory),
-    }
-}
-
 /// Goes on with a submission, by what the scheduler answered to Ready.
-fn end_ready(
+fn end_ready<F: Folder + Drop, B: BuilderIncoming + Drop>(
     alloc: Global,
-    server: &SetupServer,
-    station: &mut Station,
+    server: &SiteServer,
+    station: &mut Station<F, B>,
     back: &Back<'_>,
     job: JobId,
     archive: usize,
 ) -> Result<Effect, FarmFault>
     requires well { IsWell server.now station.old }
     ensures made { IfOk result (λ x. (r : Result Accepted Cause) × IsUpdated (option_copied back.now.reply) r
-        × (x ≡ ready_end (now_of server.now station.old) back.now.root back.now.json job
-        (drop archive back.now.brought.now) r)) }
+        × ReadyEnds (weather_of (outside_of station.old) (outside_of station.new))
+        (now_of server.now station.old) back.now.root back.now.json job (drop archive back.now.brought.now) r
+        x) }
     ensures silent { IfOk result (λ x. x.call ≡ None) }
     ensures after { IfOk result
         (λ x. now_of server.now station.new ≡ stepped x.step (now_of server.now station.old)) }
+    ensures outside { IfOk result (λ x. Leaves x.step (outside_of station.old) (outside_of station.new)) }
     ensures still_well { OnOk result (IsWell server.now station.new) }
     ensures err { IfErr result (λ e. e ≡ fault.Memory) }
 {
@@ -178,7 +133,7 @@ fn end_ready(
         }
         Ok(accepted) => {
             let bytes = behind(back.brought, archive);
-            let outcome = store(server, station, job, bytes, accepted)?;
+            let outcome = station.submit(server, job, bytes, accepted)?;
             let response = to_submission(alloc, back.json, &outcome.result())?;
             let reply = reply(alloc, back.root, &response)?;
             let kind = StepKind::Submitted { job, outcome };
@@ -197,97 +152,11 @@ fn behind(bytes: &[u8], place: usize) -> &[u8]
     &bytes[place..]
 }
 
-/// One build of what was taken out, of which so many were before; none where no archive was read.
-fn build(
-    alloc: Global,
-    server: &SetupServer,
-    builds: &mut u64,
-    held: RunHeld,
-    run: &RunJobHttpRequest,
-    inputs: &[u8],
-) -> Result<RunDone, FarmFault>
-    ensures goes { IfOk result
-        (λ done. outcome_by held
-        (build_answer (slice_get server.now.builder builds.old) run.now.outputs inputs.now) ≡ Ok done) }
-    ensures counted { OnOk result (builds.new ≡ (if is_due held then counted builds.old else builds.old)) }
-    ensures err { IfErr result (λ e. e ≡ fault.Memory) }
-{
-    let due = held.is_due();
-    let line = server.builder.get().get(*builds as usize);
-    let heard = match build_answer(alloc, line, run.outputs.get(), inputs) {
-        Ok(heard) => heard,
-        Err(_) => {
-            held.give_up();
-            return Err(FarmFault::Memory);
-        }
-    };
-    match held.build_as(heard) {
-        Ok(done) => {
-            if due {
-                *builds = builds.saturating_add(1);
-            }
-            Ok(done)
-        }
-        Err((held, _)) => {
-            held.give_up();
-            Err(FarmFault::Memory)
-        }
-    }
-}
-
-/// Takes a job out and builds it, after Started was accepted.
-fn run_job(
-    alloc: Global,
-    server: &SetupServer,
-    station: &mut Station,
-    job: JobId,
-    run: &RunJobHttpRequest,
-    inputs: &[u8],
-    accepted: UpdateJobStateResult,
-) -> Result<RunDone, FarmFault>
-    requires well { IsWell server.now station.old }
-    ensures ok { IfOk result
-        (λ done. done ≡ run_outcome (now_of server.now station.old) (held_for job station.old.state.held)
-        run.now.outputs inputs.now) }
-    ensures after { IfOk result
-        (λ done. now_of server.now station.new ≡ stepped
-        (Some (record { server = server.now.addr; kind = StepKind.Ran job (ran_of done) (built_of done) }))
-        (now_of server.now station.old)) }
-    ensures still_well { OnOk result (IsWell server.now station.new) }
-    ensures err { IfErr result (λ e. e ≡ fault.Memory) }
-{
-    let held = match station.state.begin_run(job, Ok(accepted)) {
-        Ok(held) => held,
-        Err(_) => return Err(FarmFault::Memory),
-    };
-    let done = build(alloc, server, &mut station.builds, held, run, inputs)?;
-    let done = read_well(done)?;
-    Ok(done)
-}
-
-/// A run whose folder did not fail: a folder in memory that fails is told as want of memory.
-fn read_well(done: RunDone) -> Result<RunDone, FarmFault>
-    ensures same { IfOk result (λ d. d ≡ done) }
-    ensures sound { IfOk result (λ d. NotBroken (ran_of d)) }
-    ensures err { IfErr result (λ e. e ≡ fault.Memory) }
-{
-    match done.ran() {
-        Ran::None => Ok(done),
-        Ran::Unlisted(_) => Ok(done),
-        Ran::Folder(_) => {
-            let _ = done.end_run(Err(CallFault::Lost));
-            Err(FarmFault::Memory)
-        }
-        Ran::Built(_) => Ok(done),
-        Ran::Refused(_) => Ok(done),
-    }
-}
-
 /// Goes on with a run, by what the scheduler answered to Started.
-fn end_started(
+fn end_started<F: Folder + Drop, B: BuilderIncoming + Drop>(
     desk: &Desk,
-    server: &SetupServer,
-    station: &mut Station,
+    server: &SiteServer,
+    station: &mut Station<F, B>,
     back: &Back<'_>,
     job: JobId,
     run: RunJobHttpRequest,
@@ -295,13 +164,14 @@ fn end_started(
 ) -> Result<Made, FarmFault>
     requires well { IsWell server.now station.old }
     ensures made { IfOk result (λ m. (r : Result Accepted Cause) × IsUpdated (option_copied back.now.reply) r
-        × (m.effect ≡ started_end desk.now.setup (now_of server.now station.old) back.now.root job run
-        (drop inputs back.now.brought.now) r)) }
+        × StartedEnds (weather_of (outside_of station.old) (outside_of station.new)) desk.now.setup
+        (now_of server.now station.old) back.now.root job run (drop inputs back.now.brought.now) r m.effect) }
     ensures kept { IfOk result
         (λ m. Keeps (λ p. completion_at back.now.root back.now.json server.now.addr station.old.life
         m.effect.step ≡ Some p) m.effect m.pending) }
     ensures after { IfOk result
         (λ m. now_of server.now station.new ≡ stepped m.effect.step (now_of server.now station.old)) }
+    ensures outside { IfOk result (λ m. Leaves m.effect.step (outside_of station.old) (outside_of station.new)) }
     ensures still_well { OnOk result (IsWell server.now station.new) }
     ensures err { IfErr result (λ e. e ≡ fault.Memory) }
 {
@@ -312,9 +182,9 @@ fn end_started(
             Ok(Made::whole(effect))
         }
         Ok(accepted) => {
-            let life = station.life;
+            let life = station.life();
             let bytes = behind(back.brought, inputs);
-            let done = run_job(desk.alloc, server, station, job, &run, bytes, accepted)?;
+            let done = station.run(desk.alloc, server, job, &run, bytes, accepted)?;
             let made = tell_run(desk, server.addr, life, back, job, done)?;
             Ok(made)
         }
@@ -486,22 +356,24 @@ fn end_beat(alloc: Global, addr: Addr, reply: Option<&[u8]>) -> Result<Effect, F
 }
 
 /// Goes on with a call of a build server by its reply.
-pub fn go_on(
+pub fn go_on<F: Folder + Drop, B: BuilderIncoming + Drop>(
     desk: &Desk,
-    server: &SetupServer,
-    station: &mut Station,
+    server: &SiteServer,
+    station: &mut Station<F, B>,
     back: &Back<'_>,
     told: Told,
 ) -> Result<Made, FarmFault>
     requires well { IsWell server.now station.old }
     ensures made { IfOk result
-        (λ m. Reports desk.now.setup (now_of server.now station.old) back.now.brought.now back.now.root
-        back.now.json (option_copied back.now.reply) told m.effect) }
+        (λ m. Reports (weather_of (outside_of station.old) (outside_of station.new)) desk.now.setup
+        (now_of server.now station.old) back.now.brought.now back.now.root back.now.json
+        (option_copied back.now.reply) told m.effect) }
     ensures kept { IfOk result
         (λ m. Keeps (λ p. completion_at back.now.root back.now.json server.now.addr station.old.life
         m.effect.step ≡ Some p) m.effect m.pending) }
     ensures after { IfOk result
         (λ m. now_of server.now station.new ≡ stepped m.effect.step (now_of server.now station.old)) }
+    ensures outside { IfOk result (λ m. Leaves m.effect.step (outside_of station.old) (outside_of station.new)) }
     ensures still_well { OnOk result (IsWell server.now station.new) }
     ensures err { IfErr result (λ e. e ≡ fault.Memory) }
 {

@@ -1,10 +1,10 @@
 //! A farm, and its runs.
-ghost use Rattle.std.specs.Prelude.{◌≡◌, [], ◌<◌, ◌≤◌, ◌^◌, ℕ, length, take, slice_get, IfOk, IfErr, OnOk};
-ghost use Rattle.std.specs.Prelude.{OnErr, MatchOption, map, Some};
+ghost use Rattle.std.specs.Prelude.{◌≡◌, [], ◌<◌, ◌≤◌, ◌^◌, ℕ, List, length, take, slice_get, map, IfOk};
+ghost use Rattle.std.specs.Prelude.{IfErr, OnOk, OnErr, MatchOption, Some, true, false};
 ghost use Rattle.sched_core.specs.Job.{open_jobs};
 ghost use Rattle.sched_core.specs.Rows.{servers_of, jobs_of, held_by_id, held_part};
 ghost use Rattle.farm_script.specs.declared.fault.FarmFault.TheVariants as fault;
-ghost use Rattle.farm_script.specs.declared.setup.SetupServer.{SetupServer as Site};
+ghost use Rattle.farm_run.specs.declared.site.SiteServer.{SiteServer};
 ghost use Rattle.farm_run.specs.Builds.{AreBuilds, HasToken, HasWords};
 ghost use Rattle.farm_run.specs.Farm.{IsFarm, IsMadeSo, AreLawful, HasNext, acted, AddsNext, Steps, Runs};
 ghost use Rattle.farm_run.specs.Next.{IsRun};
@@ -13,10 +13,11 @@ ghost use Rattle.farm_run.specs.Reliable.{IsReliable};
 ghost use Rattle.farm_run.specs.Seen.{core_log};
 ghost use Rattle.farm_run.specs.Servers.{server_of};
 ghost use Rattle.farm_run.specs.Stations.{now_of, AreStations, HasApart};
+ghost use Rattle.farm_run.specs.Post.{outside_of};
 ghost use Rattle.farm_run.specs.Ways.{way_of};
+ghost use Rattle.farm_run.specs.Weather.{Outside, free};
 
 use crate::arrivals::{arrive, deliver, restart, send_beat};
-use crate::copies::copy_setup;
 use crate::desk::Desk;
 use crate::entry::Entry;
 use crate::lookup::{delivery_at, is_inside};
@@ -24,12 +25,14 @@ use crate::pending::{Made, Pending, idle, release, undo_last};
 use crate::serve::{Arrival, Stamp};
 use crate::settle::Settlement;
 use crate::settlements::take_back;
+use crate::site::Site;
 use crate::station::Station;
-use crate::words::has_addresses;
+use crate::words::{has_addresses, has_count};
+use dist_types::builder::BuilderIncoming;
 use dist_types::text::Items;
 use farm_script::event::{Event, EventKind};
 use farm_script::fault::FarmFault;
-use farm_script::setup::{Setup, SetupServer};
+use lru_disk_cache::folder::Folder;
 use sched_core::rows::{Jobs, Servers};
 use sched_core::state::SchedState;
 use std::alloc::{AllocFailed, Global};
@@ -42,29 +45,36 @@ struct Log {
     kept: Vec<Option<Pending>>,
 }
 
-/// A farm and the log of all that came to it. Contracts see how it was set up, and the entries.
-pub struct Farm {
+/// A farm and the log of all that came to it. Contracts see how it was set up, the entries, and what is outside
+/// of its servers.
+pub struct Farm<F: Folder + Drop, B: BuilderIncoming + Drop> {
     desk: Desk,
     /// One for each server, in the order of the setup.
-    stations: Vec<Station>,
+    stations: Vec<Station<F, B>>,
     log: Log,
 }
 
-impl Model for Farm {
+impl<F: Folder + Drop, B: BuilderIncoming + Drop> Model for Farm<F, B> {
+    ghost use Rattle.std.specs.Prelude.{map};
     ghost use Rattle.farm_run.specs.Farm.{Farmed};
+    ghost use Rattle.farm_run.specs.Post.{outside_of};
 
     ghost Value = { Farmed };
 
     ghost use Rattle.farm_run.specs.Farm.{IsFarm};
 
-    ghost view = { λ f. record { setup = f.desk.setup; entries = f.log.entries.items } };
+    ghost view = { λ f. record {
+      setup = f.desk.setup;
+      entries = f.log.entries.items;
+      outside = map outside_of f.stations.items;
+    } };
 
     ghost invariant = { λ f. IsFarm f.desk.setup f.desk.state f.log.entries.items f.log.kept.items
         f.stations.items };
 }
 
 /// What is kept of calls that wait is undone.
-impl Drop for Farm {
+impl<F: Folder + Drop, B: BuilderIncoming + Drop> Drop for Farm<F, B> {
     fn drop(self) {
         let Farm {
             desk,
@@ -82,14 +92,32 @@ impl Drop for Farm {
 }
 
 /// A run that stopped for want of memory.
-#[derive(Debug, Drop)]
-pub struct Stopped {
+#[derive(Drop)]
+pub struct Stopped<F: Folder + Drop, B: BuilderIncoming + Drop> {
     /// The entries of the events that were done whole.
     pub entries: Items<Entry>,
+    stations: Vec<Station<F, B>>,
+}
+
+impl<F: Folder + Drop, B: BuilderIncoming + Drop> Stopped<F, B> {
+    /// The folder of the last server that was not handed back yet, and its builder where that was handed in. It
+    /// takes no memory.
+    pub fn pop(&mut self) -> Option<(Option<F>, Option<B>)>
+        ensures entries { self.new.entries ≡ self.old.entries }
+    {
+        match self.stations.pop() {
+            None => None,
+            Some(station) => Some(station.into_parts()),
+        }
+    }
 }
 
 /// Stops a run: what is kept of calls that wait is undone, and the entries are handed back.
-fn stop(desk: Desk, log: Log) -> Stopped
+fn stop<F: Folder + Drop, B: BuilderIncoming + Drop>(
+    desk: Desk,
+    stations: Vec<Station<F, B>>,
+    log: Log,
+) -> Stopped<F, B>
     ensures { result.entries ≡ log.entries.items }
 {
     let Log { entries, kept } = log;
@@ -101,23 +129,24 @@ fn stop(desk: Desk, log: Log) -> Stopped
     release(state, kept);
     Stopped {
         entries: Items::new(entries),
+        stations,
     }
 }
 
-impl Farm {
-    /// The farm that a script sets up, with no entries. Refused for want of memory alone.
-    pub fn new(alloc: Global, setup: &Setup) -> Result<Self, FarmFault>
-        requires apart { HasApart setup.now }
-        ensures ok { IfOk result (λ farm. farm ≡ record { setup = setup.now; entries = [] }) }
-        ensures err { IfErr result (λ e. e ≡ fault.Memory) }
+impl<F: Folder + Drop, B: BuilderIncoming + Drop> Farm<F, B> {
+    /// A farm with no entries, over stations that were begun.
+    pub(crate) fn begun(alloc: Global, setup: Site, stations: Vec<Station<F, B>>) -> Self
+        requires apart { HasApart setup }
+        requires stations { AreStations setup.servers [] stations.items }
+        ensures begun { result ≡ record {
+          setup = setup;
+          entries = [];
+          outside = map outside_of stations.items;
+        } }
     {
-        let setup = match copy_setup(alloc, setup) {
-            Ok(setup) => setup,
-            Err(_) => return Err(FarmFault::Memory),
-        };
+        has_count(setup.scheduler.count);
         let state = SchedState::with_job_ids(alloc, setup.scheduler.base, setup.scheduler.count);
-        let stations = opened_stations(alloc, setup.servers.get())?;
-        Ok(Farm {
+        Farm {
             desk: Desk {
                 alloc,
                 setup,
@@ -128,11 +157,11 @@ impl Farm {
                 entries: Vec::new(alloc),
                 kept: Vec::new(alloc),
             },
-        })
+        }
     }
 
     /// How it was set up.
-    pub fn setup(&self) -> &Setup
+    pub fn setup(&self) -> &Site
         ensures setup { result.now ≡ self.now.setup }
     {
         &self.desk.setup
@@ -177,19 +206,20 @@ impl Farm {
     }
 
     /// The station of a server, by its place in the setup.
-    pub(crate) fn station(&self, place: usize) -> Option<&Station>
+    pub(crate) fn station(&self, place: usize) -> Option<&Station<F, B>>
         ensures station { MatchOption result (length self.now.setup.servers ≤ place)
-            (λ st. (s : Site) → slice_get self.now.setup.servers place ≡ Some s
+            (λ st. (s : SiteServer) → slice_get self.now.setup.servers place ≡ Some s
             → now_of s st.now ≡ server_of s self.now.entries) }
     {
         self.stations.get(place)
     }
 
     /// One event.
-    fn step(self, event: &Event) -> Result<Farm, Stopped>
+    #[tactic(auto, using(crate::proofs::PassageLemmas::step_of))]
+    fn step(self, event: &Event) -> Result<Farm<F, B>, Stopped<F, B>>
         ensures ok { IfOk result (Steps self event.now) }
         ensures err { IfErr result (λ s. s.entries ≡ self.entries) }
-        ensures run { OnErr result (IsRun self.setup self.entries) }
+        ensures run { OnErr result (IsRun free self.setup self.entries) }
     {
         self.obey();
         let Farm {
@@ -197,20 +227,20 @@ impl Farm {
             mut stations,
             mut log,
         } = self;
-        match make(&mut desk, &mut stations, &mut log, event) {
-            Ok(()) => Ok(Farm {
-                desk,
-                stations,
-                log,
-            }),
-            Err(_) => Err(stop(desk, log)),
+        if !advance(&mut desk, &mut stations, &mut log, event) {
+            return Err(stop(desk, stations, log));
         }
+        Ok(Farm {
+            desk,
+            stations,
+            log,
+        })
     }
 
     /// That the entries are those of a run from none, so that all laws of runs hold of them.
     fn obey(&self)
         ensures fits { self.now.setup.scheduler.count < 2 ^ 64 }
-        ensures run { IsRun self.now.setup self.now.entries }
+        ensures run { IsRun free self.now.setup self.now.entries }
     {
         let _ = self.log.entries.len();
     }
@@ -233,8 +263,9 @@ impl Farm {
 
     /// Runs events in order. Stopped for want of memory alone, with the entries of the events that were
     /// done whole.
-    pub fn run(self, events: &[Event]) -> Result<Farm, Stopped>
-        // One entry more for each event, each next over the entries before it.
+    pub fn run(self, events: &[Event]) -> Result<Farm<F, B>, Stopped<F, B>>
+        // One entry more for each event, each next over the entries before it in the weather that is outside of
+        // its server: what its folder and its builder were before the event and are after it.
         ensures ok { IfOk result (Runs self events.now) }
         // After each front of the entries the books are those of a lawful scheduler: different reservations
         // have different jobs, each open job has exactly one unended reservation, at a registration that
@@ -246,15 +277,16 @@ impl Farm {
         ensures builds { IfOk result (λ farm. HasToken self.setup.scheduler.auth
             → AreBuilds farm.setup farm.entries) }
         // An entry is replied to at most once; a request whose calls are granted gets the reply that its row
-        // names; a restart keeps the archives.
-        ensures reliable { IfOk result (λ farm. IsReliable farm.setup farm.entries) }
+        // names; a restart lists what its opening gives.
+        ensures reliable { IfOk result (λ farm. IsReliable free farm.setup farm.entries) }
         // All hold also of the events before the one that memory ran out in.
         ensures err { IfErr result (λ s. (n : ℕ) × (n < length events.now)
-            × Runs self (take n events.now) (record { setup = self.setup; entries = s.entries })) }
+            × ((outside : List Outside) × Runs self (take n events.now)
+            (record { setup = self.setup; entries = s.entries; outside = outside }))) }
         ensures stopped_laws { IfErr result (λ s. AreLawful self.setup s.entries) }
         ensures stopped_builds { IfErr result (λ s. HasToken self.setup.scheduler.auth
             → AreBuilds self.setup s.entries) }
-        ensures stopped_reliable { IfErr result (λ s. IsReliable self.setup s.entries) }
+        ensures stopped_reliable { IfErr result (λ s. IsReliable free self.setup s.entries) }
     {
         let mut farm = self;
         farm.words();
@@ -267,9 +299,9 @@ impl Farm {
 }
 
 /// What an event makes.
-fn made_of(
+fn made_of<F: Folder + Drop, B: BuilderIncoming + Drop>(
     desk: &mut Desk,
-    stations: &mut Vec<Station>,
+    stations: &mut Vec<Station<F, B>>,
     entries: &[Entry],
     kept: &mut Vec<Option<Pending>>,
     event: &Event,
@@ -277,7 +309,7 @@ fn made_of(
     requires farm { IsFarm desk.old.setup desk.old.state entries.now kept.old.items stations.old.items }
     ensures made { IfOk result
         (IsMadeSo desk.old.setup entries.now event.now (way_of desk.old.setup entries.now event.now.kind)
-        kept.new.items stations.new.items) }
+        kept.new.items stations.old.items stations.new.items) }
     ensures desk { IfOk result (λ m. desk.new ≡ acted desk.old m.effect.core) }
     ensures err { IfErr result (λ e. e ≡ fault.Memory) }
 {
@@ -348,9 +380,9 @@ fn made_of(
 }
 
 /// Makes the entry of an event.
-fn make(
+fn make<F: Folder + Drop, B: BuilderIncoming + Drop>(
     desk: &mut Desk,
-    stations: &mut Vec<Station>,
+    stations: &mut Vec<Station<F, B>>,
     log: &mut Log,
     event: &Event,
 ) -> Result<(), FarmFault>
@@ -358,7 +390,8 @@ fn make(
         stations.old.items }
     ensures setup { OnOk result (desk.new.setup ≡ desk.old.setup) }
     ensures next { OnOk result
-        (AddsNext desk.old.setup log.old.entries.items event.now log.new.entries.items) }
+        (AddsNext desk.old.setup log.old.entries.items event.now log.new.entries.items
+        (map outside_of stations.old.items) (map outside_of stations.new.items)) }
     ensures farm { OnOk result
         (IsFarm desk.new.setup desk.new.state log.new.entries.items log.new.kept.items stations.new.items) }
     ensures same { OnErr result (log.new.entries.items ≡ log.old.entries.items) }
@@ -381,15 +414,25 @@ fn make(
     }
 }
 
-/// The stations of servers as they were set up.
-fn opened_stations(alloc: Global, servers: &[SetupServer]) -> Result<Vec<Station>, FarmFault>
-    ensures ok { IfOk result (λ v. AreStations servers.now [] v.items) }
-    ensures err { IfErr result (λ e. e ≡ fault.Memory) }
+/// Makes the entry of an event, and gives whether memory was there for it.
+fn advance<F: Folder + Drop, B: BuilderIncoming + Drop>(
+    desk: &mut Desk,
+    stations: &mut Vec<Station<F, B>>,
+    log: &mut Log,
+    event: &Event,
+) -> bool
+    requires farm { IsFarm desk.old.setup desk.old.state log.old.entries.items log.old.kept.items
+        stations.old.items }
+    ensures setup { result ≡ true → desk.new.setup ≡ desk.old.setup }
+    ensures next { result ≡ true
+        → AddsNext desk.old.setup log.old.entries.items event.now log.new.entries.items
+        (map outside_of stations.old.items) (map outside_of stations.new.items) }
+    ensures farm { result ≡ true → IsFarm desk.new.setup desk.new.state log.new.entries.items
+        log.new.kept.items stations.new.items }
+    ensures same { result ≡ false → log.new.entries.items ≡ log.old.entries.items }
 {
-    let mut stations = Vec::with_capacity(alloc, servers.len())?;
-    for server in servers {
-        let station = Station::new(alloc, server)?;
-        stations.push(station)?;
+    match make(desk, stations, log, event) {
+        Ok(()) => true,
+        Err(_) => false,
     }
-    Ok(stations)
 }

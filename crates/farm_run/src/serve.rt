@@ -28,6 +28,7 @@ ghost use Rattle.farm_script.specs.declared.fault.FarmFault.TheVariants as fault
 use crate::desk::Desk;
 use crate::entry::{Effect, OutCall, Reply};
 use crate::pending::{Ask, Made, Pending};
+use crate::site::Site;
 use dist_token::checks::{EqCheck, JwtServerCheck};
 use dist_token::job_token::JWTJobAuthorizer;
 use dist_types::addr::Addr;
@@ -38,7 +39,7 @@ use dist_types::text::Bytes;
 use dist_types::toolchain::Toolchain;
 use dist_wire::heartbeat::HeartbeatServerHttpRequest;
 use farm_script::fault::FarmFault;
-use farm_script::setup::{Setup, SetupAuth};
+use farm_script::setup::SetupAuth;
 use http_routes::asked::{asked, asked_under};
 use http_routes::fault::RouteFault;
 use http_routes::replies::{
@@ -115,7 +116,7 @@ fn asked_by_key(
 }
 
 /// What bytes ask of the scheduler, by how build servers show who they are.
-fn question(alloc: Global, setup: &Setup, peer: Addr, bytes: &[u8]) -> Result<Asked, FarmFault>
+fn question(alloc: Global, setup: &Site, peer: Addr, bytes: &[u8]) -> Result<Asked, FarmFault>
     ensures ok { IfOk result (Asks setup.now peer bytes.now) }
     ensures err { IfErr result (λ e. e ≡ fault.Memory) }
 {

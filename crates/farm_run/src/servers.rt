@@ -5,9 +5,10 @@ ghost use Rattle.dist_token.specs.Token.{plain_text, token_text, server_claims_t
 ghost use Rattle.build_server.specs.Rules.{assign_verdict};
 ghost use Rattle.farm_run.specs.Begun.{Keeps, IsBegunBy};
 ghost use Rattle.farm_run.specs.Seen.{server_token};
-ghost use Rattle.farm_run.specs.Served.{books_of, state_call, beat_call, beat_effect, restart_effect};
+ghost use Rattle.farm_run.specs.Served.{books_of, state_call, beat_call, beat_effect};
 ghost use Rattle.farm_run.specs.Served.{report_of, assigned, served, told_of, AsksServer, IsServerAnswered};
 ghost use Rattle.farm_run.specs.Servers.{stepped};
+ghost use Rattle.farm_run.specs.Post.{outside_of};
 ghost use Rattle.farm_run.specs.Stations.{now_of, IsWell};
 ghost use Rattle.farm_run.specs.Ways.{to_server};
 ghost use Rattle.farm_run.specs.declared.pending.Told.{Told as Kept};
@@ -17,10 +18,12 @@ use crate::desk::Desk;
 use crate::entry::{Effect, OutCall, StepKind};
 use crate::pending::{Ask, Made, Pending, Told};
 use crate::serve::{Arrival, reply};
+use crate::site::{Site, SiteServer};
 use crate::station::Station;
 use build_server::fault::ServerFault;
 use dist_token::server_token::{create_jwt_server_token, create_server_token};
 use dist_types::addr::Addr;
+use dist_types::builder::BuilderIncoming;
 use dist_types::ids::{JobId, ServerId};
 use dist_types::results::JobState;
 use dist_types::roles::JobAuthorizer;
@@ -28,11 +31,12 @@ use dist_types::text::Bytes;
 use dist_types::toolchain::Toolchain;
 use dist_wire::heartbeat::HeartbeatServerHttpRequest;
 use farm_script::fault::FarmFault;
-use farm_script::setup::{Setup, SetupAuth, SetupServer};
+use farm_script::setup::SetupAuth;
 use http_routes::fault::RouteFault;
 use http_routes::replies::{to_assignment, to_fault, want_of_memory};
 use http_routes::server_route::{ServerAsked, ServerRouted, server_asked};
 use http_routes::written::{heartbeat_request, state_request};
+use lru_disk_cache::folder::Folder;
 use std::alloc::Global;
 
 /// Which entry asks a server, in which form the reply is wanted, and where the body begins.
@@ -67,7 +71,7 @@ fn signed_token(alloc: Global, addr: Addr, key: &[u8]) -> Result<String, FarmFau
 }
 
 /// The token that the server at an address shows to the scheduler.
-fn token_at(alloc: Global, setup: &Setup, addr: Addr) -> Result<String, FarmFault>
+fn token_at(alloc: Global, setup: &Site, addr: Addr) -> Result<String, FarmFault>
     ensures ok { IfOk result (λ text. string_bytes text ≡ server_token setup.now addr) }
     ensures err { IfErr result (λ e. e ≡ fault.Memory) }
 {
@@ -102,15 +106,19 @@ pub fn state_call(
 }
 
 /// The call of a server's heartbeat.
-fn beat_call(desk: &Desk, server: &SetupServer, station: &Station) -> Result<OutCall, FarmFault>
+fn beat_call<F: Folder + Drop, B: BuilderIncoming + Drop>(
+    desk: &Desk,
+    server: &SiteServer,
+    station: &Station<F, B>,
+) -> Result<OutCall, FarmFault>
     ensures ok { IfOk result (λ c. c ≡ beat_call desk.now.setup (now_of server.now station.now)) }
     ensures err { IfErr result (λ e. e ≡ fault.Memory) }
 {
     let text = token_at(desk.alloc, &desk.setup, server.addr)?;
     let beat = HeartbeatServerHttpRequest {
-        jwt_key: Bytes::from_slice(desk.alloc, station.authorizer.key())?,
+        jwt_key: Bytes::from_slice(desk.alloc, station.authorizer().key())?,
         num_cpus: server.cpus,
-        server_nonce: station.nonce,
+        server_nonce: station.nonce(),
     };
     let target = desk.setup.scheduler.addr;
     match heartbeat_request(desk.alloc, target, text.as_str(), &beat) {
@@ -120,10 +128,10 @@ fn beat_call(desk: &Desk, server: &SetupServer, station: &Station) -> Result<Out
 }
 
 /// A server's heartbeat, made by the entry of that number.
-pub fn beat(
+pub fn beat<F: Folder + Drop, B: BuilderIncoming + Drop>(
     desk: &Desk,
-    server: &SetupServer,
-    station: &Station,
+    server: &SiteServer,
+    station: &Station<F, B>,
     number: u64,
 ) -> Result<Made, FarmFault>
     ensures effect { IfOk result
@@ -140,7 +148,7 @@ pub fn beat(
             json: false,
             ask: Ask::Report {
                 server: server.addr,
-                life: station.life,
+                life: station.life(),
                 told: Told::Heartbeat,
             },
         }),
@@ -148,10 +156,10 @@ pub fn beat(
 }
 
 /// Assigns a job.
-fn assign(
+fn assign<F: Folder + Drop, B: BuilderIncoming + Drop>(
     alloc: Global,
-    server: &SetupServer,
-    station: &mut Station,
+    server: &SiteServer,
+    station: &mut Station<F, B>,
     wish: Wish,
     job: JobId,
     tc: Toolchain,
@@ -162,9 +170,10 @@ fn assign(
     ensures after { IfOk result
         (λ x. now_of server.now station.new ≡ stepped x.step (now_of server.now station.old)) }
     ensures still_well { OnOk result (IsWell server.now station.new) }
+    ensures outside { OnOk result (outside_of station.new ≡ outside_of station.old) }
     ensures err { IfErr result (λ e. e ≡ fault.Memory) }
 {
-    match station.state.assign(job, tc) {
+    match station.assign(server, job, tc) {
         Ok(answer) => {
             let response = to_assignment(alloc, wish.json, &answer)?;
             let reply = reply(alloc, wish.number, &response)?;
@@ -184,7 +193,12 @@ fn assign(
 }
 
 /// What is kept of a call that a server makes.
-fn report(server: &SetupServer, station: &Station, wish: Wish, told: Told) -> Pending
+fn report<F: Folder + Drop, B: BuilderIncoming + Drop>(
+    server: &SiteServer,
+    station: &Station<F, B>,
+    wish: Wish,
+    told: Told,
+) -> Pending
     ensures { result ≡ report_of wish.number wish.json (now_of server.now station.now) told }
 {
     Pending {
@@ -192,17 +206,17 @@ fn report(server: &SetupServer, station: &Station, wish: Wish, told: Told) -> Pe
         json: wish.json,
         ask: Ask::Report {
             server: server.addr,
-            life: station.life,
+            life: station.life(),
             told,
         },
     }
 }
 
 /// What a server does with what is asked of it.
-fn serve_asked(
+fn serve_asked<F: Folder + Drop, B: BuilderIncoming + Drop>(
     desk: &Desk,
-    server: &SetupServer,
-    station: &mut Station,
+    server: &SiteServer,
+    station: &mut Station<F, B>,
     wish: Wish,
     what: ServerRouted,
 ) -> Result<Made, FarmFault>
@@ -214,6 +228,7 @@ fn serve_asked(
     ensures after { IfOk result
         (λ m. now_of server.now station.new ≡ stepped m.effect.step (now_of server.now station.old)) }
     ensures still_well { OnOk result (IsWell server.now station.new) }
+    ensures outside { OnOk result (outside_of station.new ≡ outside_of station.old) }
     ensures err { IfErr result (λ e. e ≡ fault.Memory) }
 {
     match what {
@@ -253,10 +268,10 @@ fn serve_asked(
 }
 
 /// What is made of bytes that come to a build server.
-pub fn serve_at(
+pub fn serve_at<F: Folder + Drop, B: BuilderIncoming + Drop>(
     desk: &Desk,
-    server: &SetupServer,
-    station: &mut Station,
+    server: &SiteServer,
+    station: &mut Station<F, B>,
     arrival: &Arrival<'_>,
 ) -> Result<Made, FarmFault>
     requires well { IsWell server.now station.old }
@@ -269,9 +284,10 @@ pub fn serve_at(
     ensures after { IfOk result
         (λ m. now_of server.now station.new ≡ stepped m.effect.step (now_of server.now station.old)) }
     ensures still_well { OnOk result (IsWell server.now station.new) }
+    ensures outside { OnOk result (outside_of station.new ≡ outside_of station.old) }
     ensures err { IfErr result (λ e. e ≡ fault.Memory) }
 {
-    let question = match server_asked(desk.alloc, arrival.bytes, &station.authorizer) {
+    let question = match server_asked(desk.alloc, arrival.bytes, station.authorizer()) {
         Ok(question) => question,
         Err(error) => return Err(FarmFault::from(want_of_memory(error))),
     };

@@ -1,20 +1,19 @@
 //! A call that comes back, by its reply or lost.
-ghost use Rattle.std.specs.Prelude.{◌≡◌, ◌++◌, ◌∷◌, [], slice_get, IfOk, IfErr, OnOk, Some, None};
-ghost use Rattle.std.specs.Prelude.{option_copied};
-ghost use Rattle.dist_types.specs.declared.addr.Addr.{Addr as Place};
+ghost use Rattle.std.specs.Prelude.{◌≡◌, slice_get, IfOk, IfErr, OnOk, Some, None, option_copied};
 ghost use Rattle.farm_script.specs.declared.event.Event.{Event as Happening};
 ghost use Rattle.farm_script.specs.declared.fault.FarmFault.TheVariants as fault;
-ghost use Rattle.farm_script.specs.declared.setup.SetupServer.{SetupServer as Site};
-ghost use Rattle.farm_run.specs.declared.station.Station.{Station as Post};
+ghost use Rattle.farm_run.specs.declared.site.SiteServer.{SiteServer as Site};
 ghost use Rattle.farm_run.specs.Begun.{Keeps, completion_at, completion_of};
-ghost use Rattle.farm_run.specs.Effects.{entry_of};
-ghost use Rattle.farm_run.specs.Farm.{IsFarm, IsMadeSo, acted};
+ghost use Rattle.farm_run.specs.Farm.{IsFarm, IsMadeSo, Stands, acted};
 ghost use Rattle.farm_run.specs.Next.{Follows};
+ghost use Rattle.farm_run.specs.Passage.{Leaves};
+ghost use Rattle.farm_run.specs.Post.{Post, outside_of};
 ghost use Rattle.farm_run.specs.Seen.{core_of};
-ghost use Rattle.farm_run.specs.Servers.{restart_by, stepped, server_now};
+ghost use Rattle.farm_run.specs.Servers.{stepped, server_now};
 ghost use Rattle.farm_run.specs.Settled.{IsOwnBy, ReportsIn};
 ghost use Rattle.farm_run.specs.Stations.{now_of, IsWell, AreWell, AreStations, IsStepAt, HasApart};
 ghost use Rattle.farm_run.specs.Ways.{way_of, to_call};
+ghost use Rattle.farm_run.specs.Weather.{Weather, weather_of};
 
 use crate::desk::Desk;
 use crate::entry::{Effect, Entry, EntryWord};
@@ -22,30 +21,31 @@ use crate::lookup::{brought_at, place_of};
 use crate::pending::{Ask, Made, Pending, Told, drop_told, idle, take_at};
 use crate::reports::{Back, go_on as go_on_report};
 use crate::settle::{Settlement, Turn, end_assignment};
+use crate::site::SiteServer;
 use crate::station::Station;
+use dist_types::builder::BuilderIncoming;
 use farm_script::fault::FarmFault;
-use farm_script::setup::SetupServer;
+use lru_disk_cache::folder::Folder;
 
 /// A call of the server at a place of the setup goes on by its reply, where the life that made it goes on.
-pub(crate) fn report_at(
+pub(crate) fn report_at<F: Folder + Drop, B: BuilderIncoming + Drop>(
     desk: &Desk,
-    stations: &mut Vec<Station>,
+    stations: &mut Vec<Station<F, B>>,
     place: usize,
     back: &Back<'_>,
     told: Told,
 ) -> Result<Made, FarmFault>
     requires well { AreWell desk.now.setup.servers stations.old.items }
-    ensures made { IfOk result (λ m. (s : Site) (st : Post) → slice_get desk.now.setup.servers place ≡ Some s
-        → slice_get stations.old.items place ≡ Some st
-        → ReportsIn desk.now.setup back.now.life back.now.brought.now back.now.root back.now.json
-        (option_copied back.now.reply) told (Some (now_of s st)) m.effect) }
     ensures kept { IfOk result (λ m. (s : Site) (st : Post) → slice_get desk.now.setup.servers place ≡ Some s
         → slice_get stations.old.items place ≡ Some st
         → Keeps (λ p. completion_at back.now.root back.now.json s.addr back.now.life m.effect.step ≡ Some p)
         m.effect m.pending) }
     ensures step { IfOk result (λ m. (s : Site) (st : Post) → slice_get desk.now.setup.servers place ≡ Some s
         → slice_get stations.old.items place ≡ Some st
-        → IsStepAt s place st m.effect.step stations.old.items stations.new.items) }
+        → (is : IsStepAt s place st m.effect.step stations.old.items stations.new.items)
+        × ReportsIn (weather_of (outside_of st) (outside_of is.after)) desk.now.setup back.now.life
+        back.now.brought.now back.now.root back.now.json (option_copied back.now.reply) told
+        (Some (now_of s st)) m.effect) }
     ensures there { OnOk result ((st : Post) × (slice_get stations.old.items place ≡ Some st)) }
     ensures err { IfErr result (λ e. e ≡ fault.Memory) }
 {
@@ -68,26 +68,28 @@ pub(crate) fn report_at(
 }
 
 /// A call of a server goes on by its reply, where the life that made it goes on; else who asked is gone.
-pub(crate) fn report_in(
+pub(crate) fn report_in<F: Folder + Drop, B: BuilderIncoming + Drop>(
     desk: &Desk,
-    server: &SetupServer,
-    station: &mut Station,
+    server: &SiteServer,
+    station: &mut Station<F, B>,
     back: &Back<'_>,
     told: Told,
 ) -> Result<Made, FarmFault>
     requires well { IsWell server.now station.old }
     ensures made { IfOk result
-        (λ m. ReportsIn desk.now.setup back.now.life back.now.brought.now back.now.root back.now.json
-        (option_copied back.now.reply) told (Some (now_of server.now station.old)) m.effect) }
+        (λ m. ReportsIn (weather_of (outside_of station.old) (outside_of station.new)) desk.now.setup
+        back.now.life back.now.brought.now back.now.root back.now.json (option_copied back.now.reply) told
+        (Some (now_of server.now station.old)) m.effect) }
     ensures kept { IfOk result
         (λ m. Keeps (λ p. completion_at back.now.root back.now.json server.now.addr back.now.life
         m.effect.step ≡ Some p) m.effect m.pending) }
     ensures after { IfOk result
         (λ m. now_of server.now station.new ≡ stepped m.effect.step (now_of server.now station.old)) }
+    ensures outside { IfOk result (λ m. Leaves m.effect.step (outside_of station.old) (outside_of station.new)) }
     ensures still_well { OnOk result (IsWell server.now station.new) }
     ensures err { IfErr result (λ e. e ≡ fault.Memory) }
 {
-    if station.life != back.life {
+    if station.life() != back.life {
         drop_told(told);
         return Ok(Made::whole(Effect::of_word(EntryWord::Died)));
     }
@@ -96,25 +98,22 @@ pub(crate) fn report_in(
 }
 
 /// A call of a server that comes back.
-pub(crate) fn report(
+pub(crate) fn report<F: Folder + Drop, B: BuilderIncoming + Drop>(
     desk: &Desk,
-    stations: &mut Vec<Station>,
+    stations: &mut Vec<Station<F, B>>,
     entries: &[Entry],
     back: &Back<'_>,
     told: Told,
 ) -> Result<Made, FarmFault>
     requires apart { HasApart desk.now.setup }
     requires stations { AreStations desk.now.setup.servers entries.now stations.old.items }
-    ensures made { IfOk result
-        (λ m. ReportsIn desk.now.setup back.now.life back.now.brought.now back.now.root back.now.json
-        (option_copied back.now.reply) told
-        (server_now desk.now.setup entries.now back.now.server) m.effect) }
+    ensures made { IfOk result (λ m. (w : Weather)
+        × ReportsIn w desk.now.setup back.now.life back.now.brought.now back.now.root back.now.json
+        (option_copied back.now.reply) told (server_now desk.now.setup entries.now back.now.server) m.effect
+        × Stands desk.now.setup entries.now m.effect w stations.old.items stations.new.items) }
     ensures kept { IfOk result
         (λ m. Keeps (λ p. completion_at back.now.root back.now.json back.now.server back.now.life
         m.effect.step ≡ Some p) m.effect m.pending) }
-    ensures stations { IfOk result (λ m. (event : Happening) → ((a : Place) → restart_by a event.kind ≡ None)
-        → AreStations desk.now.setup.servers (entries.now ++ entry_of event m.effect ∷ [])
-        stations.new.items) }
     ensures core { IfOk result (λ m. m.effect.core ≡ None) }
     ensures err { IfErr result (λ e. e ≡ fault.Memory) }
 {
@@ -131,9 +130,9 @@ pub(crate) fn report(
 }
 
 /// A call that is kept goes on by its reply.
-pub(crate) fn go_on(
+pub(crate) fn go_on<F: Folder + Drop, B: BuilderIncoming + Drop>(
     desk: &mut Desk,
-    stations: &mut Vec<Station>,
+    stations: &mut Vec<Station<F, B>>,
     entries: &[Entry],
     pending: Pending,
     settlement: &Settlement<'_>,
@@ -142,14 +141,12 @@ pub(crate) fn go_on(
     requires stations { AreStations desk.old.setup.servers entries.now stations.old.items }
     requires core { desk.old.state ≡ core_of desk.old.setup entries.now }
     requires own { IsOwnBy desk.old.state.log pending.ask }
-    ensures follows { IfOk result
-        (λ m. Follows desk.old.setup entries.now settlement.now.at (option_copied settlement.now.reply)
-        (Some pending) m.effect) }
+    ensures follows { IfOk result (λ m. (w : Weather)
+        × Follows w desk.old.setup entries.now settlement.now.at (option_copied settlement.now.reply)
+        (Some pending) m.effect
+        × Stands desk.old.setup entries.now m.effect w stations.old.items stations.new.items) }
     ensures kept { IfOk result
         (λ m. Keeps (λ p. completion_of pending pending.ask m.effect.step ≡ Some p) m.effect m.pending) }
-    ensures stations { IfOk result (λ m. (event : Happening) → ((a : Place) → restart_by a event.kind ≡ None)
-        → AreStations desk.old.setup.servers (entries.now ++ entry_of event m.effect ∷ [])
-        stations.new.items) }
     ensures desk { IfOk result (λ m. desk.new ≡ acted desk.old m.effect.core) }
     ensures err { IfErr result (λ e. e ≡ fault.Memory) }
 {
@@ -186,9 +183,9 @@ pub(crate) fn go_on(
 }
 
 /// A call that is to be settled.
-pub(crate) fn take_back(
+pub(crate) fn take_back<F: Folder + Drop, B: BuilderIncoming + Drop>(
     desk: &mut Desk,
-    stations: &mut Vec<Station>,
+    stations: &mut Vec<Station<F, B>>,
     entries: &[Entry],
     kept: &mut Vec<Option<Pending>>,
     settlement: &Settlement<'_>,
@@ -198,7 +195,7 @@ pub(crate) fn take_back(
         → way_of desk.old.setup entries.now event.kind ≡ to_call settlement.now.call
         (option_copied settlement.now.reply)
         → IsMadeSo desk.old.setup entries.now event (way_of desk.old.setup entries.now event.kind)
-        kept.new.items stations.new.items m) }
+        kept.new.items stations.old.items stations.new.items m) }
     ensures desk { IfOk result (λ m. desk.new ≡ acted desk.old m.effect.core) }
     ensures err { IfErr result (λ e. e ≡ fault.Memory) }
 {

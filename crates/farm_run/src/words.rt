@@ -1,9 +1,10 @@
 //! That the calls of a farm can be read. Nothing here does anything when it runs.
+ghost use Rattle.std.specs.Prelude.{◌<◌, ◌^◌};
 ghost use Rattle.std.specs.List.{AllByRecursion};
 ghost use Rattle.dist_types.specs.Addr.{IsAddr};
 
+use crate::site::{Site, SiteServer};
 use dist_types::addr::Addr;
-use farm_script::setup::{Setup, SetupServer};
 
 // Each number of an address fits its type.
 fn fits(address: Addr)
@@ -20,7 +21,7 @@ fn fits(address: Addr)
 }
 
 // The addresses of servers are addresses.
-fn all_fit(servers: &[SetupServer])
+fn all_fit(servers: &[SiteServer])
     ensures { AllByRecursion (λ s. IsAddr s.addr) servers.now }
 {
     for server in servers {
@@ -29,10 +30,17 @@ fn all_fit(servers: &[SetupServer])
 }
 
 /// That the addresses of a setup are addresses.
-pub(crate) fn has_addresses(setup: &Setup)
+pub(crate) fn has_addresses(setup: &Site)
     ensures scheduler { IsAddr setup.now.scheduler.addr }
     ensures servers { AllByRecursion (λ s. IsAddr s.addr) setup.now.servers }
 {
     fits(setup.scheduler.addr);
     all_fit(setup.servers.get());
+}
+
+/// That the number of ids that are given fits its type.
+pub(crate) fn has_count(count: u64)
+    ensures { count < 2 ^ 64 }
+{
+    let _count = count;
 }

@@ -8,13 +8,17 @@ use Rattle.farm_script.specs.Setups.{AreApart}
 use Rattle.farm_script.specs.declared.event.Event.{Event}
 use Rattle.farm_run.specs.declared.entry.Entry.{Entry}
 use Rattle.farm_run.specs.Farm.{Farmed, with_entries, Runs, Steps}
-use Rattle.farm_run.specs.Next.{EachNext}
-use Rattle.farm_run.specs.Stations.{HasApart}
-use Rattle.farm_run.proofs.RunLemmas.{Runs-push}
+use Rattle.farm_run.specs.declared.site.Site.{Site}
+use Rattle.farm_run.specs.Next.{IsNext, EachNext}
+use Rattle.farm_run.specs.Passage.{reached, AreOwn, IsMoved, Passage}
+use Rattle.farm_run.specs.Sites.{site_of}
+use Rattle.farm_run.specs.Weather.{Outside, Weather, calm}
+use Rattle.farm_run.proofs.PassageLemmas.{moves_own}
+use Rattle.farm_run.proofs.RunLemmas.{EachNext-push}
 use Rattle.farm_storm.specs.Deeds.{storm_deeds}
 use Rattle.farm_storm.specs.Places.{deed_at}
 use Rattle.farm_storm.specs.Storm.{local, event_of, storm_setup, storm_events}
-use Rattle.farm_storm.specs.Summary.{summary, IsStormText}
+use Rattle.farm_storm.specs.Summary.{summary, IsStormText, IsStormed}
 use Rattle.farm_storm.proofs.PlaceLemmas.{events_more}
 
 -- ---- the addresses differ
@@ -40,7 +44,7 @@ ports_apart : (p : ℕ) (qs : List ℕ) → AreRising p qs → AreApart (map loc
 ports_apart p [] rising = (tt, tt)
 ports_apart p (q ∷ qs) rising = (differ p q qs rising.0 rising.1, ports_apart q qs rising.1)
 
-pub setup_apart : HasApart storm_setup
+pub setup_apart : AreApart (storm_setup.scheduler.addr ∷ map (λ s. s.addr) storm_setup.servers)
 unfolding storm_setup
 setup_apart =
     ports_apart 10600 (20001 ∷ 20002 ∷ 20003 ∷ 20004 ∷ 20005 ∷ 20006 ∷ 20007 ∷ 20008 ∷ []) (
@@ -57,29 +61,49 @@ events_none : storm_events 0 ≡ []
 unfolding storm_events storm_deeds
 events_none = refl
 
-pub begun_run : (farm : Farmed) → farm ≡ record { setup = storm_setup; entries = [] }
-    → Runs (record { setup = storm_setup; entries = [] }) (storm_events 0) farm
-begun_run farm is = subst (λ (es : List Event). Runs (record { setup = storm_setup; entries = [] }) es farm)
-    (sym events_none) ([], tt, is)
+pub begun_run : (farm : Farmed) → farm.setup ≡ site_of storm_setup → farm.entries ≡ [] → AreOwn farm.outside
+    → IsStormed 0 farm
+begun_run farm is none own = record {
+  setup = is;
+  each = subst (λ (es : List Event). EachNext calm (site_of storm_setup) [] es farm.entries)
+      (sym events_none)
+      (subst (λ (l : List Entry). EachNext calm (site_of storm_setup) [] [] l) (sym none) tt);
+  own = own;
+}
 
 -- a run of one event is its step
 pub one_step : (old : Farmed) (event : Event) (new : Farmed) → Runs old (event ∷ []) new → Steps old event new
 one_step old event new run = by_entries run.0 run.1 run.2
   where
-    by_entries : (es : List Entry) → EachNext old.setup old.entries (event ∷ []) es
-        → new ≡ with_entries old es → Steps old event new
-    by_entries [] each is = absurd each
-    by_entries (e ∷ []) each is = (e, each.0, is)
-    by_entries (e ∷ f ∷ es) each is = absurd each.1
+    by_entries : (es : List Entry)
+        → Passage old.setup old.entries old.outside (event ∷ []) es new.outside
+        → new ≡ with_entries old es new.outside → Steps old event new
+    by_entries [] p is = absurd p
+    by_entries (e ∷ []) (w, mid, next, moved, rest) is =
+        (w, e, next, subst (λ (o : List Outside). IsMoved old.setup e w old.outside o) (sym rest) moved, is)
+    by_entries (e ∷ f ∷ es) (w, mid, next, moved, rest) is = absurd rest
 
-pub more_run : (start : Farmed) (n : ℕ) (farm new : Farmed) → Runs start (storm_events n) farm
-    → Steps farm (event_of n (deed_at n)) new → Runs start (storm_events (n + 1)) new
-more_run start n farm new run step =
-    subst (λ (es : List Event). Runs start es new) (sym (events_more n))
-    (Runs-push start (storm_events n) (event_of n (deed_at n)) farm new step.0 run step.1 step.2)
+pub more_run : (n : ℕ) (farm new : Farmed) → IsStormed n farm → Steps farm (event_of n (deed_at n)) new
+    → IsStormed (n + 1) new
+more_run n farm new run (w, e, next, moved, is) =
+    let event = event_of n (deed_at n) in
+    let site = site_of storm_setup in
+    let m = moves_own farm.setup (reached e.event.kind e.step) w farm.outside new.outside moved run.own in
+    let one : IsNext calm farm.setup farm.entries event e =
+    subst (λ (u : Weather). IsNext u farm.setup farm.entries event e) m.0 next in
+    let two : IsNext calm site farm.entries event e =
+    subst (λ (s : Site). IsNext calm s farm.entries event e) run.setup one in
+    let more : EachNext calm site [] (storm_events n ++ event ∷ []) (farm.entries ++ e ∷ []) =
+    EachNext-push calm site [] (storm_events n) farm.entries event e run.each two in
+    record {
+      setup = ap (λ (f : Farmed). f.setup) is ∙ run.setup;
+      each = subst (λ (es : List Event). EachNext calm site [] es new.entries) (sym (events_more n))
+          (subst (λ (l : List Entry). EachNext calm site [] (storm_events n ++ event ∷ []) l)
+          (sym (ap (λ (f : Farmed). f.entries) is)) more);
+      own = m.1;
+    }
 
 -- the summary of a farm that ran the storm's events is that of the storm
-pub told : (n : ℕ) (farm : Farmed) (text : List ℕ) → Runs (record { setup = storm_setup; entries = [] })
-    (storm_events n) farm → text ≡ summary n farm.entries → IsStormText n text
-told n farm text run is =
-    record { entries = run.0; each = run.1; is = is ∙ ap (λ (f : Farmed). summary n f.entries) run.2 }
+pub told : (n : ℕ) (farm : Farmed) (text : List ℕ) → IsStormed n farm → text ≡ summary n farm.entries
+    → IsStormText n text
+told n farm text run is = record { entries = farm.entries; each = run.each; is = is }

@@ -10,7 +10,11 @@ use Rattle.build_server.specs.declared.run.Ran.TheVariants as ran
 use Rattle.build_server.specs.declared.submit.Submitted.{Submitted}
 use Rattle.build_server.specs.declared.submit.Submitted.TheVariants as submitted
 use Rattle.farm_script.specs.Texts.{◌⧺◌}
+use Rattle.farm_run.specs.Farm.{Farmed}
 use Rattle.farm_run.specs.Next.{EachNext}
+use Rattle.farm_run.specs.Passage.{AreOwn}
+use Rattle.farm_run.specs.Sites.{site_of}
+use Rattle.farm_run.specs.Weather.{calm}
 use Rattle.farm_run.specs.Seen.{core_log}
 use Rattle.farm_run.specs.declared.entry.Entry.{Entry}
 use Rattle.farm_run.specs.declared.entry.Step.{Step}
@@ -99,5 +103,11 @@ summary n entries = sums_text (sums_of n entries)
 -- next over those before it.
 pub record IsStormText (n : ℕ) (text : List ℕ) : Type 0 where
   pub entries : List Entry
-  pub each : EachNext storm_setup [] (storm_events n) entries
+  pub each : EachNext calm (site_of storm_setup) [] (storm_events n) entries
   pub is : text ≡ summary n entries
+
+-- a farm that the storm's setup made, after so many of its events
+pub record IsStormed (n : ℕ) (farm : Farmed) : Type 0 where
+  pub setup : farm.setup ≡ site_of storm_setup
+  pub each : EachNext calm (site_of storm_setup) [] (storm_events n) farm.entries
+  pub own : AreOwn farm.outside

@@ -1,35 +1,37 @@
 //! The run of the storm.
 ghost use Rattle.std.specs.Prelude.{◌≡◌, [], IfOk, IfErr, OnErr, string_bytes};
-ghost use Rattle.farm_run.specs.Farm.{Runs, Steps};
-ghost use Rattle.farm_run.specs.Stations.{HasApart};
+ghost use Rattle.farm_run.specs.Farm.{Steps};
 ghost use Rattle.farm_script.specs.declared.fault.FarmFault.TheVariants as fault;
 ghost use Rattle.farm_storm.specs.Places.{deed_at};
-ghost use Rattle.farm_storm.specs.Storm.{event_of, storm_setup, storm_events};
-ghost use Rattle.farm_storm.specs.Summary.{IsStormText};
+ghost use Rattle.farm_storm.specs.Storm.{event_of};
+ghost use Rattle.farm_storm.specs.Summary.{IsStormText, IsStormed};
 
 use crate::events::event_at;
 use crate::setup::storm_setup;
 use crate::summary::summary;
+use farm_run::begin;
+use farm_run::builder::FarmBuilder;
 use farm_run::run::Farm;
 use farm_script::fault::FarmFault;
+use lru_disk_cache::mem_folder::MemFolder;
 use std::alloc::Global;
 use std::slice;
 
 /// The farm before the first event.
-#[tactic(auto, using(crate::proofs::StormLemmas::setup_apart))]
-fn begun(alloc: Global) -> Result<Farm, FarmFault>
-    ensures ok { IfOk result (λ farm. farm ≡ record { setup = storm_setup; entries = [] }) }
+#[tactic(auto, using(crate::proofs::StormLemmas::setup_apart, crate::proofs::StormLemmas::begun_run))]
+fn begun(alloc: Global) -> Result<Farm<MemFolder, FarmBuilder>, FarmFault>
+    ensures ok { IfOk result (IsStormed 0) }
     ensures err { IfErr result (λ e. e ≡ fault.Memory) }
 {
     match storm_setup(alloc) {
-        Ok(setup) => Farm::new(alloc, &setup),
+        Ok(setup) => begin::setup(alloc, &setup),
         Err(_) => Err(FarmFault::Memory),
     }
 }
 
 /// The farm after the event of that number.
 #[tactic(auto, using(crate::proofs::StormLemmas::one_step))]
-fn next(alloc: Global, farm: Farm, number: u64) -> Result<Farm, FarmFault>
+fn next(alloc: Global, farm: Farm<MemFolder, FarmBuilder>, number: u64) -> Result<Farm<MemFolder, FarmBuilder>, FarmFault>
     ensures ok { IfOk result (Steps farm (event_of number (deed_at number))) }
     ensures err { IfErr result (λ e. e ≡ fault.Memory) }
 {
@@ -45,8 +47,8 @@ fn next(alloc: Global, farm: Farm, number: u64) -> Result<Farm, FarmFault>
 
 /// The farm after so many events.
 #[tactic(auto, using(crate::proofs::StormLemmas::begun_run, crate::proofs::StormLemmas::more_run))]
-fn run_storm(alloc: Global, count: u64) -> Result<Farm, FarmFault>
-    ensures ok { IfOk result (Runs (record { setup = storm_setup; entries = [] }) (storm_events count)) }
+fn run_storm(alloc: Global, count: u64) -> Result<Farm<MemFolder, FarmBuilder>, FarmFault>
+    ensures ok { IfOk result (IsStormed count) }
     ensures err { IfErr result (λ e. e ≡ fault.Memory) }
 {
     let mut farm = begun(alloc)?;

@@ -7,7 +7,9 @@ use crate::sums::Sums;
 use build_server::run::Ran;
 use build_server::submit::Submitted;
 use farm_run::entry::{Entry, Step, StepKind};
+use dist_types::builder::BuilderIncoming;
 use farm_run::run::Farm;
+use lru_disk_cache::folder::Folder;
 use sched_core::entry::CoreEntry;
 use sched_core::kind::is_reservation;
 use std::alloc::{AllocError, Global};
@@ -178,7 +180,7 @@ fn count_of(entries: &[Entry], what: Counted) -> usize
 }
 
 /// The numbers of a farm after so many events.
-fn sums_of(events: u64, farm: &Farm) -> Sums
+fn sums_of<F: Folder + Drop, B: BuilderIncoming + Drop>(events: u64, farm: &Farm<F, B>) -> Sums
     ensures { result ≡ sums_of events farm.now.entries }
 {
     let entries = farm.history();
@@ -200,7 +202,7 @@ fn sums_of(events: u64, farm: &Farm) -> Sums
 }
 
 /// The summary of a farm after so many events. Refused for want of memory alone.
-pub fn summary(alloc: Global, events: u64, farm: &Farm) -> Result<String, AllocError>
+pub fn summary<F: Folder + Drop, B: BuilderIncoming + Drop>(alloc: Global, events: u64, farm: &Farm<F, B>) -> Result<String, AllocError>
     ensures { IfOk result (λ text. string_bytes text ≡ summary events farm.now.entries) }
 {
     let sums = sums_of(events, farm);

@@ -13,6 +13,8 @@ mod command_line;
 #[cfg(test)]
 mod first_run;
 #[cfg(test)]
+mod handed_in;
+#[cfg(test)]
 mod limits;
 #[cfg(test)]
 mod ran;

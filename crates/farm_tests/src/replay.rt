@@ -1,5 +1,7 @@
 //! A script that is replayed by the farm's own calls, under their public paths.
 use crate::first_run::{FIRST_RUN, FIRST_SCRIPT};
+use farm::begin::setup;
+use farm::builder::FarmBuilder;
 use farm::entry::Entry;
 use farm::event::Event;
 use farm::fault::FarmFault;
@@ -7,6 +9,7 @@ use farm::print::print_run;
 use farm::run::{Farm, Stopped};
 use farm::script::read_script;
 use farm::setup::Setup;
+use lru_disk_cache::mem_folder::MemFolder;
 use std::alloc::Global;
 use std::test::Fail;
 
@@ -16,9 +19,9 @@ fn replayed(alloc: Global, script: &[u8]) -> Result<String, FarmFault> {
         Ok(read) => read,
         Err(fault) => return Err(fault),
     };
-    let (setup, events) = read;
-    let farm = Farm::new(alloc, &setup)?;
-    let ran: Result<Farm, Stopped> = farm.run(&events);
+    let (site, events) = read;
+    let farm: Farm<MemFolder, FarmBuilder> = setup(alloc, &site)?;
+    let ran: Result<Farm<MemFolder, FarmBuilder>, Stopped<MemFolder, FarmBuilder>> = farm.run(&events);
     match ran {
         Ok(farm) => print_run(alloc, &farm),
         Err(_) => Err(FarmFault::Memory),
@@ -36,8 +39,8 @@ fn replays_the_first_run(rt: HostRuntime) -> Result<(), Fail> {
 
 #[test]
 fn a_farm_begins_with_no_entries(rt: HostRuntime) -> Result<(), Fail> {
-    let (setup, _) = read_script(rt.alloc(), FIRST_SCRIPT.as_bytes())?;
-    let farm = Farm::new(rt.alloc(), &setup)?;
+    let (site, _) = read_script(rt.alloc(), FIRST_SCRIPT.as_bytes())?;
+    let farm = setup(rt.alloc(), &site)?;
     let entries: &[Entry] = farm.history();
     assert_eq!(rt; entries.len(), 0);
     assert_eq!(rt; farm.ids_given(), 0);

@@ -1,6 +1,8 @@
 //! Scripts, farms, runs, configurations and the command.
 
 use dist_config::serve::{MemServe, Serve};
+use farm::begin::setup;
+use farm::builder::FarmBuilder;
 use farm::command::{dist_main, run_command_line};
 use farm::entry::Entry;
 use farm::event::Event;

@@ -1,12 +1,14 @@
 use Rattle.std.proofs.Common.{◌≡◌, ◌∙◌, List, length, set, refl, sym, subst, Some}
 use Rattle.std.specs.Prelude.{slice_get}
 use Rattle.std.proofs.lemmas.Option.{same_Some, slice_get_read}
-use Rattle.farm_script.specs.declared.setup.SetupServer.{SetupServer}
+use Rattle.farm_run.specs.declared.site.SiteServer.{SiteServer as SetupServer}
+use Rattle.farm_run.specs.Post.{outside_of}
 use Rattle.farm_run.proofs.RowLemmas.{kept_same, step_same}
+use Rattle.farm_run.proofs.StandLemmas.{leaves_same}
 use Rattle.farm_run.proofs.arrivals.arrive_at.Goals as goal
 
 pub returns-in_ok-made-in-Some-get_mut-clause-kept : goal.returns-in_ok-made-in-Some-get_mut-clause-kept
-returns-in_ok-made-in-Some-get_mut-clause-kept c = λ s st at bt.
+returns-in_ok-made-in-Some-get_mut-clause-kept g c = λ s st at bt.
     let there : slice_get c.args.desk.now.setup.servers c.args.place ≡ Some c.in-Some.server.now =
     subst (λ (xs : List SetupServer). slice_get xs c.args.place ≡ Some c.in-Some.server.now)
     c.get.ensures.items
@@ -23,7 +25,7 @@ returns-in_ok-made-in-Some-get_mut-clause-kept c = λ s st at bt.
     c.in_ok-made-in-Some-get_mut.ensures.kept
 
 pub returns-in_ok-made-in-Some-get_mut-clause-step : goal.returns-in_ok-made-in-Some-get_mut-clause-step
-returns-in_ok-made-in-Some-get_mut-clause-step c = λ s st at bt.
+returns-in_ok-made-in-Some-get_mut-clause-step g c = λ s st at bt.
     let there : slice_get c.args.desk.now.setup.servers c.args.place ≡ Some c.in-Some.server.now =
     subst (λ (xs : List SetupServer). slice_get xs c.args.place ≡ Some c.in-Some.server.now)
     c.get.ensures.items
@@ -39,9 +41,11 @@ returns-in_ok-made-in-Some-get_mut-clause-step c = λ s st at bt.
     (same_Some c.in-Some.server.now s (sym there ∙ at))
     (same_Some c.in-Some-get_mut.station.now st (sym stands ∙ bt)) refl
     c.in_ok-made-in-Some-get_mut.ensures.after c.in_ok-made-in-Some-get_mut.ensures.still_well
+    (leaves_same c.in_ok-made-in-Some-get_mut.made.effect.step (outside_of c.in-Some-get_mut.station.now)
+    (outside_of c.serve_at.new.station) c.in_ok-made-in-Some-get_mut.ensures.outside)
 
 pub returns-in_ok-made-in-Some-get_mut-clause-there : goal.returns-in_ok-made-in-Some-get_mut-clause-there
-returns-in_ok-made-in-Some-get_mut-clause-there c =
+returns-in_ok-made-in-Some-get_mut-clause-there g c =
     let stands : slice_get c.args.stations.now.items c.args.place ≡ Some c.in-Some-get_mut.station.now =
     slice_get_read c.args.stations.now.items (length c.args.stations.now.items) c.args.place
     c.in-Some-get_mut.station.now refl c.in-Some-get_mut.ensures.item.3.0 c.in-Some-get_mut.ensures.item.1

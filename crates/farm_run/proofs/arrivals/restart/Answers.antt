@@ -1,20 +1,18 @@
-use Rattle.std.proofs.Common.{◌≡◌, ◌∙◌, List, length, set, refl, ap, sym, subst, Some, None}
+use Rattle.std.proofs.Common.{◌≡◌, List, length, set, refl, ap, sym, subst, Some}
 use Rattle.std.specs.Prelude.{slice_get}
 use Rattle.std.proofs.lemmas.Option.{slice_get_read}
-use Rattle.farm_script.specs.declared.setup.SetupServer.{SetupServer}
-use Rattle.farm_run.specs.declared.entry.Effect.{Effect}
+use Rattle.farm_run.specs.declared.site.SiteServer.{SiteServer as SetupServer}
 use Rattle.farm_run.specs.declared.pending.Made.{Made}
-use Rattle.farm_run.specs.Servers.{restarted, stepped}
-use Rattle.farm_run.specs.Stations.{now_of}
+use Rattle.farm_run.specs.Stations.{IsRestartedSo}
 use Rattle.farm_run.proofs.RowLemmas.{no_restart, restart_at}
 use Rattle.farm_run.proofs.arrivals.restart.Goals as goal
 
 pub returns-in_ok-effect-in-Some-get_mut-clause-none : goal.returns-in_ok-effect-in-Some-get_mut-clause-none
-returns-in_ok-effect-in-Some-get_mut-clause-none c = λ none.
+returns-in_ok-effect-in-Some-get_mut-clause-none g c = λ none.
     no_restart _ c.args.desk.now.setup c.args.addr c.in-Some.place (sym c.in-Some.ensures.place) none
 
 pub returns-in_ok-effect-in-Some-get_mut-clause-some : goal.returns-in_ok-effect-in-Some-get_mut-clause-some
-returns-in_ok-effect-in-Some-get_mut-clause-some c = λ p s st e at bt.
+returns-in_ok-effect-in-Some-get_mut-clause-some g c = λ p s st e at bt.
     let there : slice_get c.args.desk.now.setup.servers c.in-Some.place ≡ Some c.in-Some-get.server.now =
     subst (λ (xs : List SetupServer). slice_get xs c.in-Some.place ≡ Some c.in-Some-get.server.now)
     c.get.ensures.items
@@ -30,15 +28,12 @@ returns-in_ok-effect-in-Some-get_mut-clause-some c = λ p s st e at bt.
     (set c.args.stations.now.items c.in-Some.place c.restart_in.new.station) c.whole.result c.args.key.now
     c.args.nonce
     c.in-Some.place server station (sym c.in-Some.ensures.place) there stands (
-      c.whole.ensures ∙ ap (λ (x : Effect). record { effect = x; pending = None })
-          c.in_ok-effect-in-Some-get_mut.ensures.effect,
-      (
-        c.restart_in.new.station,
-        refl,
-        c.in_ok-effect-in-Some-get_mut.ensures.still_well,
-        c.in_ok-effect-in-Some-get_mut.ensures.after
-            ∙ ap (λ (m : Made). stepped m.effect.step
-            (restarted (Some (c.args.key.now, c.args.nonce)) (now_of server station)))
-            (sym c.whole.ensures),
-      ),
+      ap (λ (m : Made). m.pending) c.whole.ensures,
+      record {
+        after = c.restart_in.new.station;
+        is = refl;
+        so = subst (λ (m : Made).
+            IsRestartedSo server station c.restart_in.new.station c.args.key.now c.args.nonce m.effect)
+            (sym c.whole.ensures) c.in_ok-effect-in-Some-get_mut.ensures.restarts;
+      },
     ) p s st e at bt

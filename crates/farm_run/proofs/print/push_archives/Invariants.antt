@@ -6,4 +6,4 @@ use Rattle.farm_run.proofs.print.push_archives.Given as goal
 -- the lines so far and those of what is left
 abbrev pub invariant-loop-tc : goal.invariant-loop-tc
 invariant-loop-tc l = string_bytes l.out ++ flat_map (kept_archive_text l.fn.addr) l.tc-iterator
-    ≡ string_bytes l.initial.out ++ flat_map (kept_archive_text l.fn.addr) l.station.state.archives
+    ≡ string_bytes l.initial.out ++ flat_map (kept_archive_text l.fn.addr) l.fn.archives

@@ -7,5 +7,5 @@ use Rattle.farm_run.proofs.print.push_jobs.Given as goal
 
 -- the lines so far and those of what is left
 abbrev pub invariant-loop-row : goal.invariant-loop-row
-invariant-loop-row l = string_bytes l.out ++ flat_map job_text (map held_part l.row-iterator) ≡ string_bytes
+invariant-loop-row g l = string_bytes l.out ++ flat_map job_text (map held_part l.row-iterator) ≡ string_bytes
     l.initial.out ++ flat_map job_text (held_by_id (core_log l.farm.entries))

@@ -2,17 +2,18 @@ use Rattle.std.proofs.Common.{◌≡◌, ℕ, List, Bool, cond, Option, Some, No
 use Rattle.sched_core.specs.declared.entry.CoreEntry.{CoreEntry}
 use Rattle.farm_script.specs.declared.event.EventKind.TheVariants as kind
 use Rattle.farm_run.specs.Calls.{settles_by, delivery_at}
-use Rattle.farm_run.specs.Effects.{entry_of}
 use Rattle.farm_run.specs.Farm.{acted}
 use Rattle.farm_run.specs.Servers.{restart_by, server_now}
 use Rattle.farm_run.specs.Ways.{way_of, way_to, beat_way, return_way, to_nothing, to_call}
 use Rattle.farm_run.proofs.MadeLemmas.{idle_made, received_made}
-use Rattle.farm_run.proofs.ServerLemmas.{are_well, stations_same}
+use Rattle.farm_run.specs.Weather.{calm}
+use Rattle.farm_run.proofs.ServerLemmas.{are_well}
+use Rattle.farm_run.proofs.StandLemmas.{stands_same}
 use Rattle.farm_run.proofs.RowLemmas.{restart_core, restart_made}
 use Rattle.farm_run.proofs.run.made_of.Goals as goal
 
 pub returns-then-is_inside-clause-made : goal.returns-then-is_inside-clause-made
-returns-then-is_inside-clause-made c =
+returns-then-is_inside-clause-made g c =
     idle_made c.args.desk.now.setup c.args.desk.now.state c.args.entries.now c.args.kept.now.items
     c.args.stations.now.items c.args.event.now c.idle-then-is_inside.result c.requires.farm
     (ap (way_of c.args.desk.now.setup c.args.entries.now) c.in-Answer.is
@@ -21,15 +22,17 @@ returns-then-is_inside-clause-made c =
     (λ a. ap (restart_by a) c.in-Answer.is) c.idle-then-is_inside.ensures
 
 pub restart-requires : goal.restart-requires
-restart-requires c = record {
+restart-requires g c = record {
   well = are_well c.args.desk.now.setup.servers c.args.entries.now
       c.args.stations.now.items c.requires.farm.stations;
 }
 
 pub returns-in_ok-made-in-Request-clause-made : goal.returns-in_ok-made-in-Request-clause-made
-returns-in_ok-made-in-Request-clause-made c =
+returns-in_ok-made-in-Request-clause-made g c =
     let s = c.args.desk.now.setup in
-    received_made s c.args.desk.now.state c.args.entries.now c.args.kept.now.items c.args.stations.now.items
+    let stand = c.in_ok-made-in-Request.ensures.stations c.args.event.now
+    (λ a. ap (restart_by a) c.in-Request.is) in
+    received_made calm s c.args.desk.now.state c.args.entries.now c.args.kept.now.items c.args.stations.now.items
     c.arrive.new.stations.items c.args.event.now (length c.args.entries.now) c.args.event.now.at
     (way_to s c.args.entries.now c.in-Request.target c.in-Request.peer c.get.result.now)
     c.in_ok-made-in-Request.made c.requires.farm refl refl
@@ -37,20 +40,22 @@ returns-in_ok-made-in-Request-clause-made c =
     ∙ ap (λ (b : List ℕ). way_to s c.args.entries.now c.in-Request.target c.in-Request.peer b)
     (sym c.get.ensures.bytes))
     (ap (settles_by c.args.entries.now) c.in-Request.is) c.in_ok-made-in-Request.ensures.received
-    (c.in_ok-made-in-Request.ensures.stations c.args.event.now (λ a. ap (restart_by a) c.in-Request.is))
+    stand.0 stand.1
 
 pub returns-in_ok-made-in-Deliver-clause-made : goal.returns-in_ok-made-in-Deliver-clause-made
-returns-in_ok-made-in-Deliver-clause-made c =
+returns-in_ok-made-in-Deliver-clause-made g c =
     let s = c.args.desk.now.setup in
-    received_made s c.args.desk.now.state c.args.entries.now c.args.kept.now.items c.args.stations.now.items
+    let stand = c.in_ok-made-in-Deliver.ensures.stations c.args.event.now
+    (λ a. ap (restart_by a) c.in-Deliver.is) in
+    received_made calm s c.args.desk.now.state c.args.entries.now c.args.kept.now.items c.args.stations.now.items
     c.deliver.new.stations.items c.args.event.now (length c.args.entries.now) c.args.event.now.at
     (way_of s c.args.entries.now (kind.Deliver c.in-Deliver.call)) c.in_ok-made-in-Deliver.made
     c.requires.farm refl refl (ap (way_of s c.args.entries.now) c.in-Deliver.is)
     (ap (settles_by c.args.entries.now) c.in-Deliver.is) c.in_ok-made-in-Deliver.ensures.received
-    (c.in_ok-made-in-Deliver.ensures.stations c.args.event.now (λ a. ap (restart_by a) c.in-Deliver.is))
+    stand.0 stand.1
 
 pub returns-in-None-clause-made : goal.returns-in-None-clause-made
-returns-in-None-clause-made c =
+returns-in-None-clause-made g c =
     let none : delivery_at c.args.entries.now c.in-Return.delivery ≡ None = search rules in
     idle_made c.args.desk.now.setup c.args.desk.now.state c.args.entries.now c.args.kept.now.items
     c.args.stations.now.items c.args.event.now c.idle.result c.requires.farm
@@ -58,20 +63,21 @@ returns-in-None-clause-made c =
     (λ a. ap (restart_by a) c.in-Return.is) c.idle.ensures
 
 pub returns-in_ok-made-in-Beat-clause-made : goal.returns-in_ok-made-in-Beat-clause-made
-returns-in_ok-made-in-Beat-clause-made c =
+returns-in_ok-made-in-Beat-clause-made g c =
     let s = c.args.desk.now.setup in
     let m = c.in_ok-made-in-Beat.made in
-    received_made s c.args.desk.now.state c.args.entries.now c.args.kept.now.items c.args.stations.now.items
+    let stand = stands_same s c.args.entries.now c.args.stations.now.items m.effect c.requires.farm.stations
+    c.in_ok-made-in-Beat.ensures.step c.args.event.now (λ a. ap (restart_by a) c.in-Beat.is) in
+    received_made calm s c.args.desk.now.state c.args.entries.now c.args.kept.now.items c.args.stations.now.items
     c.args.stations.now.items c.args.event.now (length c.args.entries.now) c.args.event.now.at
     (beat_way (server_now s c.args.entries.now c.in-Beat.server)) m c.requires.farm refl refl
     (ap (way_of s c.args.entries.now) c.in-Beat.is)
     (ap (settles_by c.args.entries.now) c.in-Beat.is)
     (c.in_ok-made-in-Beat.ensures.received c.args.event.now.at)
-    (stations_same s.servers c.args.entries.now c.args.stations.now.items (entry_of c.args.event.now m.effect)
-    c.requires.farm.stations (λ a. ap (restart_by a) c.in-Beat.is) c.in_ok-made-in-Beat.ensures.step)
+    stand.0 stand.1
 
 pub returns-in_ok-made-in-Restart-clause-made : goal.returns-in_ok-made-in-Restart-clause-made
-returns-in_ok-made-in-Restart-clause-made c =
+returns-in_ok-made-in-Restart-clause-made g c =
     restart_made c.args.desk.now.setup c.args.desk.now.state c.args.entries.now c.args.kept.now.items
     c.args.stations.now.items c.restart.new.stations.items c.args.event.now c.in-Restart.server
     c.get-in-Restart.result.now c.in-Restart.nonce c.in_ok-made-in-Restart.made c.requires.farm
@@ -80,7 +86,7 @@ returns-in_ok-made-in-Restart-clause-made c =
     c.in_ok-made-in-Restart.ensures.none c.in_ok-made-in-Restart.ensures.some
 
 pub returns-in_ok-made-in-Restart-clause-desk : goal.returns-in_ok-made-in-Restart-clause-desk
-returns-in_ok-made-in-Restart-clause-desk c =
+returns-in_ok-made-in-Restart-clause-desk g c =
     ap (λ (o : Option CoreEntry). acted c.args.desk.now o)
     (sym (restart_core c.args.desk.now.setup c.args.entries.now c.in-Restart.server c.args.stations.now.items
     c.restart.new.stations.items c.in_ok-made-in-Restart.made c.get-in-Restart.result.now

@@ -4,7 +4,7 @@ use Rattle.farm_run.proofs.MadeLemmas.{farm_next}
 use Rattle.farm_run.proofs.run.make.Goals as goal
 
 pub returns-in-Ok-clause-farm : goal.returns-in-Ok-clause-farm
-returns-in-Ok-clause-farm c =
+returns-in-Ok-clause-farm g c =
     rw (
       c.push_reserved.ensures.items,
       c.in-Ok.ensures.items,

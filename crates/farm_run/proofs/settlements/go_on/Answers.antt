@@ -1,16 +1,28 @@
-use Rattle.std.proofs.Common.{ap, ◌∙◌}
+use Rattle.std.proofs.Common.{ap, subst, sym, ◌∙◌}
+use Rattle.std.specs.Prelude.{option_copied}
 use Rattle.farm_run.specs.declared.entry.Effect.{Effect}
+use Rattle.farm_run.specs.declared.pending.Ask.{Ask}
 use Rattle.farm_run.specs.declared.pending.Made.{Made}
-use Rattle.farm_run.specs.Effects.{entry_of}
-use Rattle.farm_run.proofs.ServerLemmas.{stations_same}
-use Rattle.farm_run.proofs.RowLemmas.{end_step}
+use Rattle.farm_run.specs.Next.{GoesOn}
+use Rattle.farm_run.specs.Weather.{calm}
+use Rattle.farm_run.proofs.StandLemmas.{stands_same}
+use Rattle.farm_run.proofs.RowLemmas.{end_step, goes_assigned}
 use Rattle.farm_run.proofs.settlements.go_on.Goals as goal
 
-pub returns-in_ok-effect-in-Assign-clause-stations : goal.returns-in_ok-effect-in-Assign-clause-stations
-returns-in_ok-effect-in-Assign-clause-stations c = λ event still.
-    let made = c.in_ok-effect-in-Assign.ensures.made in
-    stations_same c.args.desk.now.setup.servers c.args.entries.now c.args.stations.now.items
-    (entry_of event c.whole.result.effect) c.requires.stations still
-    (ap (λ (m : Made). m.effect.step) c.whole.ensures ∙ ap (λ (x : Effect). x.step) made.2
-    ∙ end_step c.args.desk.now.state c.args.pending.root c.args.pending.json c.args.settlement.now.at
-    c.in-Assign.reservation made.0)
+pub returns-in_ok-effect-in-Assign-clause-follows : goal.returns-in_ok-effect-in-Assign-clause-follows
+returns-in_ok-effect-in-Assign-clause-follows g c =
+    let made = c.in_ok-effect-in-Assign.ensures.made in (
+      calm,
+      subst (λ (a : Ask). GoesOn calm c.args.desk.now.setup c.args.entries.now c.args.settlement.now.at
+          c.args.pending.root c.args.pending.json (option_copied c.args.settlement.now.reply) a
+          c.whole.result.effect) (sym c.in-Assign.is)
+          (goes_assigned c.args.desk.now.setup c.args.entries.now c.args.settlement.now.at c.args.pending.root
+          c.args.pending.json (option_copied c.args.settlement.now.reply) c.in-Assign.reservation
+          c.args.desk.now.state c.whole.result.effect c.requires.core made.0 made.1
+          (ap (λ (m : Made). m.effect) c.whole.ensures ∙ made.2)),
+      stands_same c.args.desk.now.setup c.args.entries.now c.args.stations.now.items c.whole.result.effect
+          c.requires.stations
+          (ap (λ (m : Made). m.effect.step) c.whole.ensures ∙ ap (λ (x : Effect). x.step) made.2
+          ∙ end_step c.args.desk.now.state c.args.pending.root c.args.pending.json c.args.settlement.now.at
+          c.in-Assign.reservation made.0),
+    )

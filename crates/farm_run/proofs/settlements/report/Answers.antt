@@ -5,45 +5,57 @@ use Rattle.farm_run.specs.declared.entry.Effect.{Effect}
 use Rattle.farm_run.specs.declared.pending.Made.{Made}
 use Rattle.farm_run.specs.declared.pending.Pending.{Pending}
 use Rattle.farm_run.specs.Begun.{Keeps, completion_at}
-use Rattle.farm_run.specs.Effects.{entry_of}
 use Rattle.farm_run.specs.Stations.{now_of}
 use Rattle.farm_run.proofs.NextLemmas.{reports_in_core}
-use Rattle.farm_run.proofs.ServerLemmas.{place_found, are_well, stations_same, stations_stepped}
+use Rattle.farm_run.specs.Post.{outside_of}
+use Rattle.farm_run.specs.Weather.{calm, weather_of}
+use Rattle.farm_run.proofs.FreeLemmas.{report_free}
+use Rattle.farm_run.proofs.ServerLemmas.{place_found, are_well}
+use Rattle.farm_run.proofs.StandLemmas.{stands_same, stands_reported}
 use Rattle.farm_run.proofs.RowLemmas.{report_step, no_report, report_there}
 use Rattle.farm_run.proofs.settlements.report.Goals as goal
 
 pub report_at-requires : goal.report_at-requires
-report_at-requires c = record {
+report_at-requires g c = record {
   well = are_well c.args.desk.now.setup.servers c.args.entries.now
       c.args.stations.now.items c.requires.stations;
 }
 
 pub returns-in-None-clause-made : goal.returns-in-None-clause-made
-returns-in-None-clause-made c =
-    no_report c.args.desk.now.setup c.args.entries.now c.args.back.now.life c.args.back.now.brought.now
-    c.args.back.now.root c.args.back.now.json (option_copied c.args.back.now.reply) c.args.told
-    c.args.back.now.server c.whole.result.effect (sym c.in-None.ensures.place)
-    (ap (λ (m : Made). m.effect) c.whole.ensures ∙ c.of_word.ensures)
-
-pub returns-in-None-clause-stations : goal.returns-in-None-clause-stations
-returns-in-None-clause-stations c = λ event still.
-    stations_same c.args.desk.now.setup.servers c.args.entries.now c.args.stations.now.items
-    (entry_of event c.whole.result.effect) c.requires.stations still
-    (ap (λ (m : Made). m.effect.step) c.whole.ensures ∙ ap (λ (x : Effect). x.step) c.of_word.ensures)
+returns-in-None-clause-made g c = (
+  calm,
+  no_report calm c.args.desk.now.setup c.args.entries.now c.args.back.now.life c.args.back.now.brought.now
+      c.args.back.now.root c.args.back.now.json (option_copied c.args.back.now.reply) c.args.told
+      c.args.back.now.server c.whole.result.effect (sym c.in-None.ensures.place)
+      (ap (λ (m : Made). m.effect) c.whole.ensures ∙ c.of_word.ensures),
+  stands_same c.args.desk.now.setup c.args.entries.now c.args.stations.now.items c.whole.result.effect
+      c.requires.stations
+      (ap (λ (m : Made). m.effect.step) c.whole.ensures ∙ ap (λ (x : Effect). x.step) c.of_word.ensures),
+)
 
 pub returns-in_ok-made-in-Some-clause-made : goal.returns-in_ok-made-in-Some-clause-made
-returns-in_ok-made-in-Some-clause-made c =
+returns-in_ok-made-in-Some-clause-made g c =
     let f = place_found c.args.desk.now.setup c.args.back.now.server c.in-Some.place
     (sym c.in-Some.ensures.place) in
     let st = c.in_ok-made-in-Some.ensures.there in
-    report_there c.args.desk.now.setup c.args.entries.now c.args.stations.now.items c.args.back.now.life
-    c.args.back.now.brought.now c.args.back.now.root c.args.back.now.json
-    (option_copied c.args.back.now.reply) c.args.told c.args.back.now.server c.in-Some.place st.0
-    c.in_ok-made-in-Some.made.effect f c.requires.stations st.1
-    (c.in_ok-made-in-Some.ensures.made f.server st.0 f.there st.1)
+    let m = c.in_ok-made-in-Some.made in
+    let (is, reports) = c.in_ok-made-in-Some.ensures.step f.server st.0 f.there st.1 in
+    let w = weather_of (outside_of st.0) (outside_of is.after) in (
+      w,
+      report_there w c.args.desk.now.setup c.args.entries.now c.args.stations.now.items c.args.back.now.life
+          c.args.back.now.brought.now c.args.back.now.root c.args.back.now.json
+          (option_copied c.args.back.now.reply) c.args.told c.args.back.now.server c.in-Some.place st.0
+          m.effect f c.requires.stations st.1 reports,
+      stands_reported c.args.desk.now.setup c.args.entries.now c.args.stations.now.items
+          c.report_at.new.stations.items m.effect c.in-Some.place f.server st.0 c.requires.apart
+          c.requires.stations f.there st.1
+          (report_step w c.args.desk.now.setup c.args.back.now.life (now_of f.server st.0)
+          c.args.back.now.brought.now c.args.back.now.root c.args.back.now.json
+          (option_copied c.args.back.now.reply) c.args.told m.effect reports) is,
+    )
 
 pub returns-in_ok-made-in-Some-clause-kept : goal.returns-in_ok-made-in-Some-clause-kept
-returns-in_ok-made-in-Some-clause-kept c =
+returns-in_ok-made-in-Some-clause-kept g c =
     let f = place_found c.args.desk.now.setup c.args.back.now.server c.in-Some.place
     (sym c.in-Some.ensures.place) in
     let st = c.in_ok-made-in-Some.ensures.there in
@@ -53,27 +65,16 @@ returns-in_ok-made-in-Some-clause-kept c =
     m.effect.step ≡ Some p) m.effect m.pending) f.at
     (c.in_ok-made-in-Some.ensures.kept f.server st.0 f.there st.1)
 
-pub returns-in_ok-made-in-Some-clause-stations : goal.returns-in_ok-made-in-Some-clause-stations
-returns-in_ok-made-in-Some-clause-stations c = λ event still.
-    let f = place_found c.args.desk.now.setup c.args.back.now.server c.in-Some.place
-    (sym c.in-Some.ensures.place) in
-    let st = c.in_ok-made-in-Some.ensures.there in
-    let m = c.in_ok-made-in-Some.made in
-    stations_stepped c.args.desk.now.setup c.args.entries.now c.args.stations.now.items
-    c.report_at.new.stations.items event m.effect c.in-Some.place f.server st.0 c.requires.apart
-    c.requires.stations
-    f.there st.1
-    (report_step c.args.desk.now.setup c.args.back.now.life (now_of f.server st.0) c.args.back.now.brought.now
-    c.args.back.now.root c.args.back.now.json (option_copied c.args.back.now.reply) c.args.told
-    m.effect (c.in_ok-made-in-Some.ensures.made f.server st.0 f.there st.1))
-    (c.in_ok-made-in-Some.ensures.step f.server st.0 f.there st.1) still
-
 pub returns-in_ok-made-in-Some-clause-core : goal.returns-in_ok-made-in-Some-clause-core
-returns-in_ok-made-in-Some-clause-core c =
+returns-in_ok-made-in-Some-clause-core g c =
     let f = place_found c.args.desk.now.setup c.args.back.now.server c.in-Some.place
     (sym c.in-Some.ensures.place) in
     let st = c.in_ok-made-in-Some.ensures.there in
+    let (is, reports) = c.in_ok-made-in-Some.ensures.step f.server st.0 f.there st.1 in
+    let w = weather_of (outside_of st.0) (outside_of is.after) in
     reports_in_core c.args.desk.now.setup c.args.back.now.life c.args.back.now.brought.now
     c.args.back.now.root c.args.back.now.json (option_copied c.args.back.now.reply) c.args.told
     (Some (now_of f.server st.0)) c.in_ok-made-in-Some.made.effect
-    (c.in_ok-made-in-Some.ensures.made f.server st.0 f.there st.1)
+    (report_free w c.args.desk.now.setup c.args.back.now.life c.args.back.now.brought.now
+    c.args.back.now.root c.args.back.now.json (option_copied c.args.back.now.reply) c.args.told
+    (Some (now_of f.server st.0)) c.in_ok-made-in-Some.made.effect reports)

@@ -1,34 +1,37 @@
 use Rattle.std.proofs.Common.{◌≡◌, ◌+◌, ◌++◌, ◌∷◌, [], take, ap, ◌∙◌, sym}
 use Rattle.std.proofs.lemmas.List.{take_more}
 use Rattle.std.proofs.lemmas.Result.{err_from_is_err_and}
-use Rattle.farm_run.proofs.BuildLemmas.{Runs-builds, Runs-stopped}
 use Rattle.farm_run.proofs.NextLemmas.{run_lawful}
 use Rattle.farm_run.proofs.ReliableLemmas.{run_reliable}
-use Rattle.farm_run.proofs.RunLemmas.{Runs-push, Runs-entries, Runs-is}
+use Rattle.farm_run.specs.Weather.{free}
+use Rattle.farm_run.proofs.FarmLemmas.{Runs-push, Runs-entries, Runs-is, Runs-builds, Runs-stopped}
 use Rattle.farm_run.proofs.run.Farm.run.Goals as goal
 
 pub loop-event-preserved : goal.loop-event-preserved
-loop-event-preserved c =
+loop-event-preserved g c =
     let more : take (c.loop-event.event-index + 1) c.args.events.now ≡ take c.loop-event.event-index
     c.args.events.now ++ c.event-item.result ∷ [] =
     take_more c.args.events.now c.loop-event.event-index c.event-item.result c.loop-event-test.true
     ∙ ap (λ x. take c.loop-event.event-index c.args.events.now ++ x ∷ []) (sym c.event-item.is) in
-    rw more (Runs-push _ _ _ _ _ c.in_ok-farm.ensures.ok.0 c.loop-event.invariant c.in_ok-farm.ensures.ok.1
-    c.in_ok-farm.ensures.ok.2)
+    let (w, e, next, moved, is) = c.in_ok-farm.ensures.ok in
+    rw more (Runs-push _ _ _ _ _ w e c.loop-event.invariant next moved is)
 
 -- the entries before the event that memory ran out in
 pub returns-in_err-farm-clause-err : goal.returns-in_err-farm-clause-err
-returns-in_err-farm-clause-err c =
+returns-in_err-farm-clause-err g c =
     let p = err_from_is_err_and c.from_residual.result c.from_residual.ensures.1 in
     rw (p.1, p.2) (
       c.loop-event.event-index,
       c.loop-event-test.true,
-      Runs-entries c.args.self (take c.loop-event.event-index c.args.events.now) c.loop-event.farm
-          c.in_err-farm.field-0.0.entries c.loop-event.invariant c.in_err-farm.ensures.err,
+      (
+        c.loop-event.farm.outside,
+        Runs-entries c.args.self (take c.loop-event.event-index c.args.events.now) c.loop-event.farm
+            c.in_err-farm.field-0.0.entries c.loop-event.invariant c.in_err-farm.ensures.err,
+      ),
     )
 
 pub returns-in_err-farm-clause-stopped_laws : goal.returns-in_err-farm-clause-stopped_laws
-returns-in_err-farm-clause-stopped_laws c =
+returns-in_err-farm-clause-stopped_laws g c =
     let p = err_from_is_err_and c.from_residual.result c.from_residual.ensures.1 in
     rw (p.1, p.2) (
     run_lawful c.args.self.setup c.in_err-farm.field-0.0.entries c.words.ensures.count
@@ -38,7 +41,7 @@ returns-in_err-farm-clause-stopped_laws c =
     )
 
 pub returns-in_err-farm-clause-stopped_builds : goal.returns-in_err-farm-clause-stopped_builds
-returns-in_err-farm-clause-stopped_builds c =
+returns-in_err-farm-clause-stopped_builds g c =
     let p = err_from_is_err_and c.from_residual.result c.from_residual.ensures.1 in
     rw (p.1, p.2) (
     Runs-stopped c.args.self (take c.loop-event.event-index c.args.events.now) c.loop-event.farm
@@ -47,23 +50,23 @@ returns-in_err-farm-clause-stopped_builds c =
     )
 
 pub returns-in_err-farm-clause-stopped_reliable : goal.returns-in_err-farm-clause-stopped_reliable
-returns-in_err-farm-clause-stopped_reliable c =
+returns-in_err-farm-clause-stopped_reliable g c =
     let p = err_from_is_err_and c.from_residual.result c.from_residual.ensures.1 in
     rw (p.1, p.2) (
-    run_reliable c.args.self.setup c.in_err-farm.field-0.0.entries
+    run_reliable free c.args.self.setup c.in_err-farm.field-0.0.entries
     (Runs-is c.args.self (take c.loop-event.event-index c.args.events.now) c.loop-event.farm
     c.in_err-farm.field-0.0.entries c.loop-event.invariant c.in_err-farm.ensures.err
     c.in_err-farm.ensures.run)
     )
 
 pub returns-clause-laws : goal.returns-clause-laws
-returns-clause-laws c = run_lawful c.loop-event.farm.setup c.loop-event.farm.entries c.obey.ensures.fits
+returns-clause-laws g c = run_lawful c.loop-event.farm.setup c.loop-event.farm.entries c.obey.ensures.fits
     c.obey.ensures.run
 
 pub returns-clause-builds : goal.returns-clause-builds
-returns-clause-builds c =
+returns-clause-builds g c =
     Runs-builds c.args.self (take c.loop-event.event-index c.args.events.now) c.loop-event.farm
     c.words.ensures.count c.words.ensures.words c.loop-event.invariant c.obey.ensures.run
 
 pub returns-clause-reliable : goal.returns-clause-reliable
-returns-clause-reliable c = run_reliable c.loop-event.farm.setup c.loop-event.farm.entries c.obey.ensures.run
+returns-clause-reliable g c = run_reliable free c.loop-event.farm.setup c.loop-event.farm.entries c.obey.ensures.run

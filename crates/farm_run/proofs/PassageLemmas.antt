@@ -1,0 +1,101 @@
+-- What a run leaves outside of the servers, and what follows where the farm made all that is there.
+use Rattle.std.proofs.Common.{◌≡◌, ◌⊎◌, inl, inr, ℕ, List, [], ◌∷◌, ◌++◌, length, set, Option, Some, None, refl}
+use Rattle.std.proofs.Common.{sym, ap, subst, ◌∙◌, append_assoc, append-nil}
+use Rattle.std.specs.Prelude.{slice_get}
+use Rattle.std.proofs.lemmas.Bool.{cases_eq}
+use Rattle.std.proofs.lemmas.Option.{same_Some}
+use Rattle.dist_types.specs.declared.addr.Addr.{Addr}
+use Rattle.build_server.specs.Builds.{Builder}
+use Rattle.farm_script.specs.declared.event.Event.{Event}
+use Rattle.farm_run.specs.declared.site.Site.{Site as Setup}
+use Rattle.farm_run.specs.declared.entry.Entry.{Entry}
+use Rattle.farm_run.specs.Farm.{AddsNext, Steps}
+use Rattle.farm_run.specs.Next.{IsNext, EachNext}
+use Rattle.farm_run.specs.Passage.{reached, StaysOwn, AreOwn, IsStill, MovesAt, Moves, IsMoved, Passage}
+use Rattle.farm_run.specs.Weather.{Outside, Weather, calm, free, weather_by}
+use Rattle.farm_run.proofs.FreeLemmas.{next_free}
+use Rattle.farm_run.proofs.ServerLemmas.{get_set_same, get_set_other, within}
+
+-- ---- farms whose folders and builders are their own
+
+own_set : (old : List Outside) (place : ℕ) (was is : Outside) → AreOwn old → slice_get old place ≡ Some was
+    → StaysOwn was is → AreOwn (set old place is)
+own_set old place was is own before stays = λ i o at. elim (cases_eq place i) [
+  | inl same ↦
+      let here : Some is ≡ Some o = sym (get_set_same old place is (within old place was before))
+      ∙ ap (slice_get (set old place is)) same ∙ at in
+      subst (λ (x : Outside). x.builder ≡ None) (same_Some is o here) (stays (own place was before))
+  | inr differ ↦ own i o (sym (get_set_other old place i is differ) ∙ at)
+]
+
+still_own : (w : Weather) (old new : List Outside) → IsStill w old new → AreOwn old → (w ≡ calm) × AreOwn new
+still_own w old new is own = (is.own own, subst AreOwn (sym is.left) own)
+
+pub moves_own : (setup : Setup) (o : Option Addr) (w : Weather) (old new : List Outside)
+    → Moves setup o w old new → AreOwn old → (w ≡ calm) × AreOwn new
+moves_own setup None w old new is own = still_own w old new is own
+moves_own setup (Some addr) w old new (inl m) own = (
+  m.weather ∙ ap (λ (o : Option Builder). weather_by o m.was m.is) (own m.place m.was m.before),
+  subst AreOwn (sym m.left) (own_set old m.place m.was m.is own m.before m.own),
+)
+moves_own setup (Some addr) w old new (inr m) own = still_own w old new m.still own
+
+-- a run of such a farm is one in calm weather
+pub passage_calm : (setup : Setup) (log : List Entry) (old : List Outside) (events : List Event)
+    (entries : List Entry) (new : List Outside) → Passage setup log old events entries new → AreOwn old
+    → EachNext calm setup log events entries × AreOwn new
+passage_calm setup log old [] [] new p own = (tt, subst AreOwn (sym p) own)
+passage_calm setup log old (v ∷ vs) (e ∷ es) new (w, mid, next, moved, rest) own =
+    let m = moves_own setup (reached e.event.kind e.step) w old mid moved own in
+    let r = passage_calm setup (log ++ e ∷ []) mid vs es new rest m.1 in
+    ((subst (λ (u : Weather). IsNext u setup log v e) m.0 next, r.0), r.1)
+passage_calm setup log old [] (e ∷ es) new p own = absurd p
+passage_calm setup log old (v ∷ vs) [] new p own = absurd p
+
+-- ---- any run
+
+pub passage_free : (setup : Setup) (log : List Entry) (old : List Outside) (events : List Event)
+    (entries : List Entry) (new : List Outside) → Passage setup log old events entries new
+    → EachNext free setup log events entries
+passage_free setup log old [] [] new p = tt
+passage_free setup log old (v ∷ vs) (e ∷ es) new (w, mid, next, moved, rest) =
+    (next_free w setup log v e next, passage_free setup (log ++ e ∷ []) mid vs es new rest)
+passage_free setup log old [] (e ∷ es) new p = absurd p
+passage_free setup log old (v ∷ vs) [] new p = absurd p
+
+-- a run goes on by one entry
+pub passage-push : (setup : Setup) (log : List Entry) (old : List Outside) (events : List Event)
+    (entries : List Entry) (mid new : List Outside) (event : Event) (w : Weather) (e : Entry)
+    → Passage setup log old events entries mid → IsNext w setup (log ++ entries) event e
+    → IsMoved setup e w mid new → Passage setup log old (events ++ event ∷ []) (entries ++ e ∷ []) new
+passage-push setup log old [] [] mid new event w e p next moved = (
+  w,
+  new,
+  subst (λ (l : List Entry). IsNext w setup l event e) (append-nil log) next,
+  subst (λ (o : List Outside). IsMoved setup e w o new) p moved,
+  refl,
+)
+passage-push setup log old (v ∷ vs) (x ∷ xs) mid new event w e (u, between, is, goes, rest) next moved = (
+  u,
+  between,
+  is,
+  goes,
+  passage-push setup (log ++ x ∷ []) between vs xs mid new event w e rest
+      (subst (λ (l : List Entry). IsNext w setup l event e) (sym (append_assoc log (x ∷ []) xs)) next) moved,
+)
+passage-push setup log old [] (x ∷ xs) mid new event w e p next moved = absurd p
+passage-push setup log old (v ∷ vs) [] mid new event w e p next moved = absurd p
+
+-- one entry more is a step of the farm
+pub step_of : (setup next : Setup) (old new : List Entry) (event : Event) (before after : List Outside)
+    → AddsNext setup old event new before after → next ≡ setup
+    → Steps (record { setup = setup; entries = old; outside = before }) event
+    (record { setup = next; entries = new; outside = after })
+step_of setup next old new event before after (w, e, is, moved, more) same = (
+  w,
+  e,
+  is,
+  moved,
+  ap (λ (s : Setup). record { setup = s; entries = new; outside = after }) same
+      ∙ ap (λ (l : List Entry). record { setup = setup; entries = l; outside = after }) more,
+)

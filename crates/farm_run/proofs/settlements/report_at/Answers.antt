@@ -1,0 +1,34 @@
+use Rattle.std.proofs.Common.{◌≡◌, ◌∙◌, List, length, set, refl, sym, subst, Some}
+use Rattle.std.specs.Prelude.{slice_get, option_copied}
+use Rattle.std.proofs.lemmas.Option.{same_Some, slice_get_read}
+use Rattle.farm_run.specs.declared.site.SiteServer.{SiteServer as SetupServer}
+use Rattle.farm_run.proofs.RowLemmas.{report_same}
+use Rattle.farm_run.proofs.settlements.report_at.Goals as goal
+
+pub returns-in_ok-made-in-Some-get_mut-clause-step : goal.returns-in_ok-made-in-Some-get_mut-clause-step
+returns-in_ok-made-in-Some-get_mut-clause-step g c = λ s st at bt.
+    let there : slice_get c.args.desk.now.setup.servers c.args.place ≡ Some c.in-Some.server.now =
+    subst (λ (xs : List SetupServer). slice_get xs c.args.place ≡ Some c.in-Some.server.now)
+    c.get.ensures.items
+    (slice_get_read c.get.result.now (length c.get.result.now) c.args.place c.in-Some.server.now refl
+    c.in-Some.ensures.lookup.3.0 c.in-Some.ensures.lookup.1) in
+    let stands : slice_get c.args.stations.now.items c.args.place ≡ Some c.in-Some-get_mut.station.now =
+    slice_get_read c.args.stations.now.items (length c.args.stations.now.items) c.args.place
+    c.in-Some-get_mut.station.now refl c.in-Some-get_mut.ensures.item.3.0 c.in-Some-get_mut.ensures.item.1
+    in
+    report_same c.args.desk.now.setup c.args.place c.args.back.now.life c.args.back.now.brought.now
+    c.args.back.now.root c.args.back.now.json (option_copied c.args.back.now.reply) c.args.told
+    c.in_ok-made-in-Some-get_mut.made.effect c.args.stations.now.items
+    (set c.args.stations.now.items c.args.place c.report_in.new.station) c.in-Some.server.now s
+    c.in-Some-get_mut.station.now st c.report_in.new.station
+    (same_Some c.in-Some.server.now s (sym there ∙ at))
+    (same_Some c.in-Some-get_mut.station.now st (sym stands ∙ bt)) refl
+    c.in_ok-made-in-Some-get_mut.ensures.after c.in_ok-made-in-Some-get_mut.ensures.still_well
+    c.in_ok-made-in-Some-get_mut.ensures.outside c.in_ok-made-in-Some-get_mut.ensures.made
+
+pub returns-in_ok-made-in-Some-get_mut-clause-there : goal.returns-in_ok-made-in-Some-get_mut-clause-there
+returns-in_ok-made-in-Some-get_mut-clause-there g c = (
+  c.in-Some-get_mut.station.now,
+  slice_get_read c.args.stations.now.items (length c.args.stations.now.items) c.args.place
+      c.in-Some-get_mut.station.now refl c.in-Some-get_mut.ensures.item.3.0 c.in-Some-get_mut.ensures.item.1,
+)

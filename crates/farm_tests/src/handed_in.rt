@@ -1,0 +1,64 @@
+//! Farms over folders and builders that are handed in.
+use crate::whole_farms::{ORDINARY_BUILD, RESTART_KEEPS_ARCHIVES};
+use farm::builder::FarmBuilder;
+use farm::entry::EntryWord;
+use farm::fault::FarmFault;
+use farm::print::print_run;
+use farm::run::Farm;
+use farm::script::read_script;
+use lru_disk_cache::calls::Calls;
+use lru_disk_cache::mem_folder::MemFolder;
+use std::alloc::Global;
+use std::test::Fail;
+
+/// The farm of a script whose one server has a folder that fails behind the calls of these numbers.
+fn ran(alloc: Global, script: &str, failing: &[u64]) -> Result<Farm<MemFolder, FarmBuilder>, FarmFault> {
+    let (setup, events) = read_script(alloc, script.as_bytes())?;
+    let mut folders = Vec::new(alloc);
+    let mut builders = Vec::new(alloc);
+    for server in setup.servers.get() {
+        let numbers = Vec::from_slice(alloc, failing)?;
+        let calls = Calls::new(numbers, Vec::new(alloc));
+        folders.push(MemFolder::new(alloc, Vec::new(alloc), calls))?;
+        match FarmBuilder::of(alloc, server.builder.get()) {
+            Ok(builder) => builders.push(builder)?,
+            Err(_) => return Err(FarmFault::Memory),
+        }
+    }
+    let farm = Farm::new(alloc, &setup, folders, builders)?;
+    match farm.run(&events) {
+        Ok(farm) => Ok(farm),
+        Err(_) => Err(FarmFault::Memory),
+    }
+}
+
+#[test]
+fn runs_as_a_script_does_where_nothing_fails(rt: HostRuntime) -> Result<(), Fail> {
+    for (script, run) in [ORDINARY_BUILD, RESTART_KEEPS_ARCHIVES] {
+        let farm = ran(rt.alloc(), script, &[])?;
+        let text = print_run(rt.alloc(), &farm)?;
+        assert_eq!(rt; text.as_str(), run);
+    }
+    Ok(())
+}
+
+/// The ordinary build has so many events.
+const EVENTS: usize = 14;
+
+#[test]
+fn goes_on_where_a_folder_fails(rt: HostRuntime) -> Result<(), Fail> {
+    let (script, _) = ORDINARY_BUILD;
+    for number in 0..40 {
+        let farm = ran(rt.alloc(), script, &[number])?;
+        assert_eq!(rt; farm.history().len(), EVENTS);
+    }
+    Ok(())
+}
+
+#[test]
+fn a_server_is_down_whose_first_opening_failed(rt: HostRuntime) -> Result<(), Fail> {
+    let (script, _) = ORDINARY_BUILD;
+    let farm = ran(rt.alloc(), script, &[0])?;
+    assert!(rt; matches!(&farm.history()[0].word, Some(EntryWord::Down)));
+    Ok(())
+}
