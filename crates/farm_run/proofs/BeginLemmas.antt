@@ -9,6 +9,10 @@ use Rattle.dist_types.specs.declared.addr.Addr.{Addr}
 use Rattle.farm_script.specs.Setups.{AreApart}
 use Rattle.farm_run.specs.Passage.{IsBegun}
 use Rattle.lru_disk_cache.specs.Archives.{Archives}
+use Rattle.std.specs.List.{IsDistinct}
+use Rattle.std.specs.Map.{keys_of}
+use Rattle.std.specs.Str.{bytes_eq}
+use Rattle.lru_disk_cache.specs.Files.{Files}
 use Rattle.lru_disk_cache.specs.Held.{Held}
 use Rattle.build_server.specs.Builds.{Builder}
 use Rattle.farm_script.specs.declared.setup.SetupServer.{SetupServer as Script}
@@ -187,3 +191,7 @@ pub apart_handed : (addr own : Addr) (ss : List Script) (ts : List SiteServer)
 apart_handed addr own ss ts apart same are =
     subst (λ (a : Addr). AreApart (a ∷ map (λ (t : SiteServer). t.addr) ts)) (sym same)
     (subst (λ (l : List Addr). AreApart (addr ∷ l)) (sym are) apart)
+
+pub none_distinct : (files : Files) → files ≡ [] → IsDistinct bytes_eq (keys_of files)
+unfolding IsDistinct
+none_distinct files none = subst (λ (fs : Files). IsDistinct bytes_eq (keys_of fs)) (sym none) tt

@@ -8,7 +8,6 @@ use Rattle.farm_script.specs.declared.setup.Setup.{Setup as Script}
 use Rattle.farm_script.specs.Script.{script}
 use Rattle.farm_script.specs.Setups.{IsSetup}
 use Rattle.farm_run.specs.declared.entry.Entry.{Entry}
-
 use Rattle.farm_run.specs.declared.site.Site.{Site}
 use Rattle.farm_run.specs.Builds.{AreBuilds, HasToken, HasWords}
 use Rattle.farm_run.specs.Farm.{Farmed, with_entries, Runs, AreLawful}

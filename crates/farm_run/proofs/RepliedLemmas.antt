@@ -163,7 +163,6 @@ assignment_says s root json at t (Err f) =
     let made = rule s (call.Undo at t.number t.job) in
     says_reply root (Some made) (fault_response_of (fault.AssignFailed (undone_by made.kind) f))
 
-
 complete_says : (addr : Addr) (root : ℕ) (json : Bool) (job : JobId) (outcome : Outcome)
     (r : Result UpdateJobStateResult CallFault) → Says root (complete_end addr root json job outcome r)
 complete_says addr root json job outcome (Ok u) = says_step root addr (step.Finished job)

@@ -2,14 +2,16 @@
 use Rattle.std.proofs.Common.{◌≡◌, ◌≢◌, ℕ, zero, suc, ◌+◌, ◌-◌, ◌<◌, ◌≤◌, Bool, true, false, cond, List, []}
 use Rattle.std.proofs.Common.{◌∷◌, ◌++◌, length, map, set, Option, Some, None, refl, sym, ap, subst, ◌∙◌, inl}
 use Rattle.std.proofs.Common.{inr, arith}
-use Rattle.std.specs.Prelude.{slice_get, position, find, fold, is_some}
+use Rattle.std.specs.Borrow.{Bor}
+use Rattle.std.specs.Prelude.{slice_get, position, find, fold, is_some, MatchOption}
+use Rattle.std.specs.Slice.{IsItemAt}
 use Rattle.std.specs.List.{position_from, AllByRecursion}
 use Rattle.std.proofs.lemmas.Iterator.Adapters.{position_from-zero}
 use Rattle.std.specs.Option.{option_map}
 use Rattle.std.proofs.lemmas.Bool.{cases_eq}
 use Rattle.std.proofs.lemmas.List.{length-set}
 use Rattle.std.proofs.lemmas.List.Sums.{fold-append}
-use Rattle.std.proofs.lemmas.Option.{same_Some}
+use Rattle.std.proofs.lemmas.Option.{same_Some, slice_get_read}
 use Rattle.dist_types.specs.Addr.{same_addr}
 use Rattle.dist_types.specs.declared.addr.Addr.{Addr}
 use Rattle.sched_core.proofs.AddressLemmas.{same_is, same_self}
@@ -418,3 +420,12 @@ stations_restarted setup log sts e addr key nonce place st after f apart are bt 
     (λ a far. ap (restart_by a) kind ∙ ap (λ (b : Bool). cond b (Some (key, nonce)) None)
     (not_same addr a (λ same. far (sym same ∙ sym f.at))))
     (now ∙ ap (λ (o : Option (List ℕ × ℕ)). stepped e.step (restarted o (now_of f.server st))) (sym own)) well
+
+-- the station that is looked up at a place is the server there
+pub station_look : (servers : List SetupServer) (log : List Entry) (sts : List Station) (place : ℕ)
+    (o : Option (Bor Station)) → AreStations servers log sts → IsItemAt sts place o
+    → MatchOption o (length servers ≤ place) (λ st. (s : SetupServer) → slice_get servers place ≡ Some s
+    → now_of s st.now ≡ server_of s log)
+station_look servers log sts place None are h = omega (arith, are.size, h.3)
+station_look servers log sts place (Some b) are h = λ s at.
+    (are.each place s b.now at (slice_get_read sts (length sts) place b.now refl h.3.0 h.1)).now

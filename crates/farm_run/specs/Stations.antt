@@ -1,5 +1,5 @@
 -- What the stations of a farm's build servers hold.
-use Rattle.std.specs.Prelude.{◌≡◌, ℕ, List, ◌∷◌, length, map, slice_get, set, Bool, true, false, Option, Some, None}
+use Rattle.std.specs.Prelude.{◌≡◌, ℕ, List, ◌∷◌, length, map, slice_get, set, true, false, Option, Some, None}
 use Rattle.std.specs.Prelude.{codes, Ok}
 use Rattle.lru_disk_cache.specs.Archives.{Archives, IsInStep}
 use Rattle.farm_script.specs.Setups.{AreApart}

@@ -1,5 +1,5 @@
 -- What may come to a server from outside of a farm: from its folder and from its builder.
-use Rattle.std.specs.Prelude.{◌≡◌, ℕ, List, Bool, true, false, Option, Some, None, Result, Ok, codes}
+use Rattle.std.specs.Prelude.{◌≡◌, ℕ, List, Bool, true, false, Option, Some, None, Ok, codes}
 use Rattle.lru_disk_cache.specs.Archives.{Archives, opened_archives}
 use Rattle.lru_disk_cache.specs.Held.{Held, Holds}
 use Rattle.dist_types.specs.declared.ids.JobId.{JobId}

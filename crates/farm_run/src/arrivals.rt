@@ -23,11 +23,11 @@ use crate::serve::{Arrival, Stamp, serve};
 use crate::servers::{beat, serve_at};
 use crate::site::SiteServer;
 use crate::station::Station;
-use dist_types::builder::BuilderIncoming;
-use lru_disk_cache::folder::Folder;
 use dist_types::addr::Addr;
+use dist_types::builder::BuilderIncoming;
 use dist_types::ids::ServerNonce;
 use farm_script::fault::FarmFault;
+use lru_disk_cache::folder::Folder;
 use std::alloc::Global;
 
 /// A request, or a call that is delivered: bytes that come from a peer to an address.

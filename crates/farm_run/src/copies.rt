@@ -5,8 +5,8 @@ ghost use Rattle.farm_run.specs.Sites.{site_server};
 use crate::site::SiteServer;
 use dist_types::fault::Memory;
 use dist_types::text::Items;
-use dist_types::try_clone::{TryClone, push};
 use dist_types::toolchain::Toolchain;
+use dist_types::try_clone::{TryClone, push};
 use farm_script::setup::{BuilderLine, SetupAuth, SetupScheduler, SetupServer};
 use std::alloc::Global;
 

@@ -13,16 +13,16 @@ use crate::entry::Entry;
 use crate::run::Farm;
 use crate::site::SiteServer;
 use crate::station::Station;
-use dist_types::builder::BuilderIncoming;
-use lru_disk_cache::Archives;
-use lru_disk_cache::folder::Folder;
 use crate::text::{
     ArchiveLine, CallLine, CoreLine, HeldLine, JobLine, Kind, ReplyLine, RowLine, StepLine,
     WordLine,
 };
 use build_server::Held;
 use dist_types::addr::Addr;
+use dist_types::builder::BuilderIncoming;
 use farm_script::fault::FarmFault;
+use lru_disk_cache::Archives;
+use lru_disk_cache::folder::Folder;
 use sched_core::rows::Servers;
 use std::alloc::{AllocError, Global};
 
@@ -87,7 +87,10 @@ fn push_rows(out: &mut String, servers: Servers<'_>) -> Result<(), AllocError>
 }
 
 /// Writes the lines of the reservations that are unended.
-fn push_jobs<F: Folder + Drop, B: BuilderIncoming + Drop>(out: &mut String, farm: &Farm<F, B>) -> Result<(), AllocError>
+fn push_jobs<F: Folder + Drop, B: BuilderIncoming + Drop>(
+    out: &mut String,
+    farm: &Farm<F, B>,
+) -> Result<(), AllocError>
     ensures { OnOk result (string_bytes out.new ≡ string_bytes out.old ++ flat_map job_text
         (held_by_id (core_log farm.now.entries))) }
 {
@@ -179,7 +182,10 @@ fn push_server<F: Folder + Drop, B: BuilderIncoming + Drop>(
 }
 
 /// Writes the lines of what each server of a farm keeps.
-fn push_servers<F: Folder + Drop, B: BuilderIncoming + Drop>(out: &mut String, farm: &Farm<F, B>) -> Result<(), AllocError>
+fn push_servers<F: Folder + Drop, B: BuilderIncoming + Drop>(
+    out: &mut String,
+    farm: &Farm<F, B>,
+) -> Result<(), AllocError>
     ensures { OnOk result (string_bytes out.new ≡ string_bytes out.old ++ flat_map
         (λ s. server_text (server_of s farm.now.entries)) farm.now.setup.servers) }
 {
@@ -190,7 +196,10 @@ fn push_servers<F: Folder + Drop, B: BuilderIncoming + Drop>(out: &mut String, f
 }
 
 /// Writes what stands in the books of a farm.
-fn push_standing<F: Folder + Drop, B: BuilderIncoming + Drop>(out: &mut String, farm: &Farm<F, B>) -> Result<(), AllocError>
+fn push_standing<F: Folder + Drop, B: BuilderIncoming + Drop>(
+    out: &mut String,
+    farm: &Farm<F, B>,
+) -> Result<(), AllocError>
     ensures { OnOk result (string_bytes out.new ≡ string_bytes out.old ++ standing_text farm.now.setup
         farm.now.entries) }
 {
@@ -202,7 +211,10 @@ fn push_standing<F: Folder + Drop, B: BuilderIncoming + Drop>(out: &mut String, 
 }
 
 /// Writes the books of a farm.
-fn push_books<F: Folder + Drop, B: BuilderIncoming + Drop>(out: &mut String, farm: &Farm<F, B>) -> Result<(), AllocError>
+fn push_books<F: Folder + Drop, B: BuilderIncoming + Drop>(
+    out: &mut String,
+    farm: &Farm<F, B>,
+) -> Result<(), AllocError>
     ensures { OnOk result (string_bytes out.new ≡ string_bytes out.old ++ books_text farm.now.setup
         farm.now.entries) }
 {
@@ -214,7 +226,10 @@ fn push_books<F: Folder + Drop, B: BuilderIncoming + Drop>(out: &mut String, far
 }
 
 /// The text of a run: a farm, its entries, and its books after them. Refused for want of memory alone.
-pub fn print_run<F: Folder + Drop, B: BuilderIncoming + Drop>(alloc: Global, farm: &Farm<F, B>) -> Result<String, FarmFault>
+pub fn print_run<F: Folder + Drop, B: BuilderIncoming + Drop>(
+    alloc: Global,
+    farm: &Farm<F, B>,
+) -> Result<String, FarmFault>
     ensures ok { IfOk result (λ text. string_bytes text ≡ run_text farm.now.setup farm.now.entries) }
     ensures err { IfErr result (λ e. e ≡ fault.Memory) }
 {

@@ -23,11 +23,10 @@ use crate::serve::reply;
 use crate::servers::state_call;
 use crate::site::SiteServer;
 use crate::station::Station;
-use dist_types::builder::BuilderIncoming;
-use lru_disk_cache::folder::Folder;
 use build_server::fault::{BuildCause, ServerFault};
 use build_server::run::RunDone;
 use dist_types::addr::Addr;
+use dist_types::builder::BuilderIncoming;
 use dist_types::ids::JobId;
 use dist_types::outgoing::CallFault;
 use dist_types::results::{
@@ -39,6 +38,7 @@ use http_routes::calls::answer;
 use http_routes::fault::{BuildFailure, RouteFault};
 use http_routes::replies::{to_fault, to_run, to_submission, want_of_memory};
 use http_routes::reply::Response;
+use lru_disk_cache::folder::Folder;
 use std::alloc::Global;
 
 /// A call of a server that comes back: the entry that is replied to and in which form, what the event of that

@@ -20,11 +20,10 @@ use crate::pending::{Ask, Made, Pending, Told};
 use crate::serve::{Arrival, reply};
 use crate::site::{Site, SiteServer};
 use crate::station::Station;
-use dist_types::builder::BuilderIncoming;
-use lru_disk_cache::folder::Folder;
 use build_server::fault::ServerFault;
 use dist_token::server_token::{create_jwt_server_token, create_server_token};
 use dist_types::addr::Addr;
+use dist_types::builder::BuilderIncoming;
 use dist_types::ids::{JobId, ServerId};
 use dist_types::results::JobState;
 use dist_types::roles::JobAuthorizer;
@@ -37,6 +36,7 @@ use http_routes::fault::RouteFault;
 use http_routes::replies::{to_assignment, to_fault, want_of_memory};
 use http_routes::server_route::{ServerAsked, ServerRouted, server_asked};
 use http_routes::written::{heartbeat_request, state_request};
+use lru_disk_cache::folder::Folder;
 use std::alloc::Global;
 
 /// Which entry asks a server, in which form the reply is wanted, and where the body begins.
@@ -106,7 +106,11 @@ pub fn state_call(
 }
 
 /// The call of a server's heartbeat.
-fn beat_call<F: Folder + Drop, B: BuilderIncoming + Drop>(desk: &Desk, server: &SiteServer, station: &Station<F, B>) -> Result<OutCall, FarmFault>
+fn beat_call<F: Folder + Drop, B: BuilderIncoming + Drop>(
+    desk: &Desk,
+    server: &SiteServer,
+    station: &Station<F, B>,
+) -> Result<OutCall, FarmFault>
     ensures ok { IfOk result (λ c. c ≡ beat_call desk.now.setup (now_of server.now station.now)) }
     ensures err { IfErr result (λ e. e ≡ fault.Memory) }
 {
@@ -189,7 +193,12 @@ fn assign<F: Folder + Drop, B: BuilderIncoming + Drop>(
 }
 
 /// What is kept of a call that a server makes.
-fn report<F: Folder + Drop, B: BuilderIncoming + Drop>(server: &SiteServer, station: &Station<F, B>, wish: Wish, told: Told) -> Pending
+fn report<F: Folder + Drop, B: BuilderIncoming + Drop>(
+    server: &SiteServer,
+    station: &Station<F, B>,
+    wish: Wish,
+    told: Told,
+) -> Pending
     ensures { result ≡ report_of wish.number wish.json (now_of server.now station.now) told }
 {
     Pending {

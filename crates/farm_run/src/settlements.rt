@@ -24,8 +24,8 @@ use crate::settle::{Settlement, Turn, end_assignment};
 use crate::site::SiteServer;
 use crate::station::Station;
 use dist_types::builder::BuilderIncoming;
-use lru_disk_cache::folder::Folder;
 use farm_script::fault::FarmFault;
+use lru_disk_cache::folder::Folder;
 
 /// A call of the server at a place of the setup goes on by its reply, where the life that made it goes on.
 pub(crate) fn report_at<F: Folder + Drop, B: BuilderIncoming + Drop>(

@@ -540,7 +540,15 @@ impl<F: Folder + Drop, B: BuilderIncoming + Drop> Station<F, B> {
             },
         };
         let due = held.is_due();
-        let done = build(alloc, server, self.builds, &mut self.builder, held, run, inputs)?;
+        let done = build(
+            alloc,
+            server,
+            self.builds,
+            &mut self.builder,
+            held,
+            run,
+            inputs,
+        )?;
         if due {
             self.builds = self.builds.saturating_add(1);
         }

@@ -31,7 +31,11 @@ fn begun(alloc: Global) -> Result<Farm<MemFolder, FarmBuilder>, FarmFault>
 
 /// The farm after the event of that number.
 #[tactic(auto, using(crate::proofs::StormLemmas::one_step))]
-fn next(alloc: Global, farm: Farm<MemFolder, FarmBuilder>, number: u64) -> Result<Farm<MemFolder, FarmBuilder>, FarmFault>
+fn next(
+    alloc: Global,
+    farm: Farm<MemFolder, FarmBuilder>,
+    number: u64,
+) -> Result<Farm<MemFolder, FarmBuilder>, FarmFault>
     ensures ok { IfOk result (Steps farm (event_of number (deed_at number))) }
     ensures err { IfErr result (λ e. e ≡ fault.Memory) }
 {

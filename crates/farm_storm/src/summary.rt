@@ -6,8 +6,8 @@ ghost use Rattle.farm_storm.specs.Summary.{is_listed, steps_so, counts, sums_of,
 use crate::sums::Sums;
 use build_server::run::Ran;
 use build_server::submit::Submitted;
-use farm_run::entry::{Entry, Step, StepKind};
 use dist_types::builder::BuilderIncoming;
+use farm_run::entry::{Entry, Step, StepKind};
 use farm_run::run::Farm;
 use lru_disk_cache::folder::Folder;
 use sched_core::entry::CoreEntry;
@@ -202,7 +202,11 @@ fn sums_of<F: Folder + Drop, B: BuilderIncoming + Drop>(events: u64, farm: &Farm
 }
 
 /// The summary of a farm after so many events. Refused for want of memory alone.
-pub fn summary<F: Folder + Drop, B: BuilderIncoming + Drop>(alloc: Global, events: u64, farm: &Farm<F, B>) -> Result<String, AllocError>
+pub fn summary<F: Folder + Drop, B: BuilderIncoming + Drop>(
+    alloc: Global,
+    events: u64,
+    farm: &Farm<F, B>,
+) -> Result<String, AllocError>
     ensures { IfOk result (λ text. string_bytes text ≡ summary events farm.now.entries) }
 {
     let sums = sums_of(events, farm);

@@ -12,7 +12,11 @@ use std::alloc::Global;
 use std::test::Fail;
 
 /// The farm of a script whose one server has a folder that fails behind the calls of these numbers.
-fn ran(alloc: Global, script: &str, failing: &[u64]) -> Result<Farm<MemFolder, FarmBuilder>, FarmFault> {
+fn ran(
+    alloc: Global,
+    script: &str,
+    failing: &[u64],
+) -> Result<Farm<MemFolder, FarmBuilder>, FarmFault> {
     let (setup, events) = read_script(alloc, script.as_bytes())?;
     let mut folders = Vec::new(alloc);
     let mut builders = Vec::new(alloc);

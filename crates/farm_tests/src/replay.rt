@@ -21,7 +21,9 @@ fn replayed(alloc: Global, script: &[u8]) -> Result<String, FarmFault> {
     };
     let (site, events) = read;
     let farm: Farm<MemFolder, FarmBuilder> = setup(alloc, &site)?;
-    let ran: Result<Farm<MemFolder, FarmBuilder>, Stopped<MemFolder, FarmBuilder>> = farm.run(&events);
+    let ran: Result<Farm<MemFolder, FarmBuilder>, Stopped<MemFolder, FarmBuilder>> = farm.run(
+        &events,
+    );
     match ran {
         Ok(farm) => print_run(alloc, &farm),
         Err(_) => Err(FarmFault::Memory),

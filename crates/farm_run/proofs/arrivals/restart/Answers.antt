@@ -1,4 +1,4 @@
-use Rattle.std.proofs.Common.{◌≡◌, ◌∙◌, List, length, set, refl, ap, sym, subst, Some, None}
+use Rattle.std.proofs.Common.{◌≡◌, List, length, set, refl, ap, sym, subst, Some}
 use Rattle.std.specs.Prelude.{slice_get}
 use Rattle.std.proofs.lemmas.Option.{slice_get_read}
 use Rattle.farm_run.specs.declared.site.SiteServer.{SiteServer as SetupServer}

@@ -4,11 +4,11 @@ use Rattle.lru_disk_cache.specs.Files.{Files}
 use Rattle.lru_disk_cache.specs.InMemory.{folder_held}
 use Rattle.farm_run.specs.Post.{outside_of}
 use Rattle.farm_run.specs.Sites.{site_server}
-use Rattle.farm_run.proofs.BeginLemmas.{own_found}
+use Rattle.farm_run.proofs.BeginLemmas.{own_found, none_distinct}
 use Rattle.farm_run.proofs.begin.own_server.Goals as goal
 
 pub new-folder-requires : goal.new-folder-requires
-new-folder-requires c = rw c.new-3.ensures.items tt
+new-folder-requires c = none_distinct c.new-3.result.items c.new-3.ensures.items
 
 pub returns-in-Ok-clause-site : goal.returns-in-Ok-clause-site
 returns-in-Ok-clause-site c =
