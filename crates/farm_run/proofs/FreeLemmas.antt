@@ -1,11 +1,10 @@
 -- What is next in some weather is next where anything may come.
 use Rattle.std.proofs.Common.{◌≡◌, ℕ, Bool, true, false, List, [], ◌∷◌, ◌++◌, drop, Option, Some, None, Result, Ok}
-use Rattle.std.proofs.Common.{Err, refl}
+use Rattle.std.proofs.Common.{Err}
 use Rattle.dist_types.specs.declared.ids.JobId.{JobId}
 use Rattle.dist_types.specs.declared.outgoing.CallFault.{CallFault}
 use Rattle.dist_types.specs.declared.results.UpdateJobStateResult.{UpdateJobStateResult}
 use Rattle.dist_wire.specs.declared.run.RunJobHttpRequest.{RunJobHttpRequest}
-use Rattle.sched_core.specs.Log.{Core}
 use Rattle.build_server.specs.Builds.{Builder, Order}
 use Rattle.build_server.specs.Rules.{Finds}
 use Rattle.build_server.specs.declared.run.Outcome.{Outcome}
@@ -21,8 +20,7 @@ use Rattle.farm_run.specs.declared.pending.Ask.TheVariants.{Assign, Report}
 use Rattle.farm_run.specs.declared.pending.Told.{Told}
 use Rattle.farm_run.specs.declared.pending.Told.TheVariants as told
 use Rattle.farm_run.specs.Calls.{waiting_at}
-use Rattle.farm_run.specs.Next.{GoesOn, Follows, IsSettled, IsServed, IsMade, IsNext, EachNext}
-use Rattle.farm_run.specs.Seen.{core_of}
+use Rattle.farm_run.specs.Next.{GoesOn, IsSettled, IsMade, IsNext, EachNext}
 use Rattle.farm_run.specs.Servers.{ServerNow, server_now, is_over}
 use Rattle.farm_run.specs.Settled.{ReadyEnds, StartedEnds, Reports, Lives, ReportsIn}
 use Rattle.farm_run.specs.Ways.{Way, way_of, brought_at, to_nothing, to_nobody, to_scheduler, to_server, to_call}

@@ -1,5 +1,5 @@
 -- What a run leaves outside of the servers, and what follows where the farm made all that is there.
-use Rattle.std.proofs.Common.{◌≡◌, ◌⊎◌, inl, inr, ℕ, List, [], ◌∷◌, ◌++◌, length, set, Option, Some, None, refl}
+use Rattle.std.proofs.Common.{◌≡◌, inl, inr, ℕ, List, [], ◌∷◌, ◌++◌, set, Option, Some, None, refl}
 use Rattle.std.proofs.Common.{sym, ap, subst, ◌∙◌, append_assoc, append-nil}
 use Rattle.std.specs.Prelude.{slice_get}
 use Rattle.std.proofs.lemmas.Bool.{cases_eq}
@@ -11,7 +11,7 @@ use Rattle.farm_run.specs.declared.site.Site.{Site as Setup}
 use Rattle.farm_run.specs.declared.entry.Entry.{Entry}
 use Rattle.farm_run.specs.Farm.{AddsNext, Steps}
 use Rattle.farm_run.specs.Next.{IsNext, EachNext}
-use Rattle.farm_run.specs.Passage.{reached, StaysOwn, AreOwn, IsStill, MovesAt, Moves, IsMoved, Passage}
+use Rattle.farm_run.specs.Passage.{reached, StaysOwn, AreOwn, IsStill, Moves, IsMoved, Passage}
 use Rattle.farm_run.specs.Weather.{Outside, Weather, calm, free, weather_by}
 use Rattle.farm_run.proofs.FreeLemmas.{next_free}
 use Rattle.farm_run.proofs.ServerLemmas.{get_set_same, get_set_other, within}

@@ -53,7 +53,7 @@ use Rattle.dist_types.specs.declared.results.UpdateJobStateResult.{UpdateJobStat
 use Rattle.farm_run.proofs.FreeLemmas.{each_free}
 use Rattle.farm_run.specs.Seen.{core_log, core_of}
 use Rattle.farm_run.specs.Served.{AsksServer, IsReport, report_of, told_of}
-use Rattle.farm_run.specs.Servers.{ServerNow, restart_by, restarted, kind_after, stepped, server_after}
+use Rattle.farm_run.specs.Servers.{ServerNow, restart_by, restarted, stepped, server_after}
 use Rattle.farm_run.specs.Servers.{server_of, server_now}
 use Rattle.farm_run.specs.Settled.{assignment_end, ReadyEnds, StartedEnds, complete_end, ended_response}
 use Rattle.farm_run.specs.Settled.{running, Reports, Lives, ReportsIn}

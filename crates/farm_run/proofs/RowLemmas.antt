@@ -1,5 +1,5 @@
 -- What the rows of servers make, at the places of the setup.
-use Rattle.std.proofs.Common.{◌≡◌, ◌⊎◌, inl, inr, ℕ, Bool, true, false, cond, List, [], ◌∷◌, ◌++◌, length, map}
+use Rattle.std.proofs.Common.{◌≡◌, inl, inr, ℕ, Bool, true, false, cond, List, [], ◌∷◌, ◌++◌, length, map}
 use Rattle.std.proofs.Common.{drop, set, Option}
 use Rattle.std.proofs.Common.{Some, None, Result, Ok, Err, refl, sym, ap, subst, ◌∙◌}
 use Rattle.std.specs.Prelude.{slice_get, position, IfOk}
@@ -52,7 +52,7 @@ use Rattle.farm_run.specs.Farm.{IsFarm, IsReceived, IsMadeSo}
 use Rattle.farm_run.specs.Served.{assigned, served, books_of, IsServerAnswered, beat_effect}
 use Rattle.farm_run.specs.Served.{AsksServer, told_of, report_of}
 use Rattle.http_routes.specs.declared.server_route.ServerAsked.{ServerAsked}
-use Rattle.farm_run.specs.Servers.{ServerNow, restarted, stepped, server_of, server_at, server_now, is_over}
+use Rattle.farm_run.specs.Servers.{ServerNow, stepped, server_of, server_at, server_now, is_over}
 use Rattle.farm_run.specs.Settled.{ReadyEnds, StartedEnds, complete_end, Reports, Lives, ReportsIn}
 use Rattle.farm_run.specs.Weather.{Weather, calm, weather_of, opened_effect}
 use Rattle.farm_run.specs.Passage.{reached_in, reached, Leaves, Moves, IsMoved}

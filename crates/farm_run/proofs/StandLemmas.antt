@@ -1,9 +1,8 @@
 -- What an event leaves of the stations, and outside of them.
-use Rattle.std.proofs.Common.{◌≡◌, ◌≢◌, ◌⊎◌, inl, inr, ℕ, zero, suc, Bool, true, false, cond, List, [], ◌∷◌, ◌++◌}
-use Rattle.std.proofs.Common.{length, map, set, Option, Some, None, refl, sym, ap, subst, ◌∙◌}
+use Rattle.std.proofs.Common.{◌≡◌, inl, ℕ, zero, suc, Bool, cond, List, [], ◌∷◌}
+use Rattle.std.proofs.Common.{map, set, Option, Some, None, refl, sym, ap, subst, ◌∙◌}
 use Rattle.std.specs.Prelude.{slice_get}
 use Rattle.std.proofs.lemmas.Option.{same_Some}
-use Rattle.dist_types.specs.Addr.{same_addr}
 use Rattle.dist_types.specs.declared.addr.Addr.{Addr}
 use Rattle.sched_core.proofs.AddressLemmas.{same_self}
 use Rattle.build_server.specs.Builds.{Builder}
@@ -20,11 +19,11 @@ use Rattle.farm_run.specs.declared.entry.StepKind.{StepKind}
 use Rattle.farm_run.specs.declared.entry.StepKind.TheVariants as kinds
 use Rattle.farm_run.specs.Effects.{entry_of}
 use Rattle.farm_run.specs.Farm.{Stands}
-use Rattle.farm_run.specs.Passage.{reaches, reached_in, reached, LeavesTo, Leaves, AreOwn, IsStill, Moves, IsMoved}
+use Rattle.farm_run.specs.Passage.{reaches, reached_in, reached, LeavesTo, Leaves, AreOwn, Moves, IsMoved}
 use Rattle.farm_run.specs.Post.{Post as Station, outside_of}
 use Rattle.farm_run.specs.Servers.{restart_by}
 use Rattle.farm_run.specs.Stations.{AreStations, IsStepAt, HasApart}
-use Rattle.farm_run.specs.Weather.{Outside, Weather, calm, weather_by, weather_of}
+use Rattle.farm_run.specs.Weather.{Outside, calm, weather_by, weather_of}
 use Rattle.farm_run.proofs.ServerLemmas.{IsStepOf, stations_same, stations_stepped}
 
 -- ---- lists
