@@ -4,12 +4,11 @@ use crate::fault::Fault;
 use crate::words::{hex_of, packager, said};
 use disk_cache::ClientToolchains;
 use disk_cache::folder::Folder;
-use disk_cache::mem_folder::MemFolder;
+use disk_cache::reliable_folder::ReliableFolder;
 use dist_types::dialer::{Asked, MemDialer};
 use dist_types::text::Bytes;
 use http_calls::calls::Client;
 use http_calls::http;
-use lru_disk_cache::calls::Calls;
 use std::alloc::Global;
 use url::Url;
 
@@ -32,12 +31,6 @@ pub(crate) struct Call<'a> {
 pub(crate) struct Outcome {
     said: String,
     dialer: MemDialer,
-}
-
-/// An empty folder that never fails.
-fn empty_folder(alloc: Global) -> MemFolder {
-    let calls = Calls::new(Vec::new(alloc), Vec::new(alloc));
-    MemFolder::new(alloc, Vec::new(alloc), calls)
 }
 
 /// Toolchains over a folder.
@@ -84,7 +77,21 @@ fn ask<C: Client>(alloc: Global, client: &mut C, call: Call<'_>) -> Result<Strin
     make(alloc, client, call.name, call.word)
 }
 
-/// Has a new client make a call.
+/// The dialer of a client, whose toolchains are dropped.
+fn dialer_of<F: Folder + Drop>(client: http::Client<MemDialer, F>) -> MemDialer {
+    let (dialer, _toolchains) = client.into_parts();
+    dialer
+}
+
+/// What came of a call, beside the dialer.
+fn beside(said: Result<String, Fault>, dialer: MemDialer) -> Result<Outcome, Fault> {
+    match said {
+        Ok(said) => Ok(Outcome { said, dialer }),
+        Err(fault) => Err(fault),
+    }
+}
+
+/// Has a client over a folder make a call.
 fn ask_over<F: Folder + Drop>(
     alloc: Global,
     folder: F,
@@ -92,9 +99,8 @@ fn ask_over<F: Folder + Drop>(
     replies: Vec<Bytes>,
 ) -> Result<Outcome, Fault> {
     let mut client = client_of(alloc, folder, call.base, replies)?;
-    let said = ask(alloc, &mut client, call)?;
-    let (dialer, _toolchains) = client.into_parts();
-    Ok(Outcome { said, dialer })
+    let said = ask(alloc, &mut client, call);
+    beside(said, dialer_of(client))
 }
 
 /// Has a new client make a call, whose dialer gives that reply or none.
@@ -107,7 +113,7 @@ pub(crate) fn outcome_of(
     if let Some(bytes) = reply {
         replies.push(Bytes::new(bytes))?;
     }
-    ask_over(alloc, empty_folder(alloc), call, replies)
+    ask_over(alloc, ReliableFolder::new(alloc), call, replies)
 }
 
 /// Whom the dialer was asked for, at which port, and how.

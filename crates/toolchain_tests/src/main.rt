@@ -6,16 +6,17 @@
 mod bench;
 mod fault;
 mod files;
+mod folders;
 mod puts;
 mod steps;
 mod sweep;
 mod words;
 
 use bench::Bench;
-use disk_cache::real_folder::RealFolder;
 use dist_types::sink::{Sink, StdSink, write_all};
 use dist_types::source::{Source, StdSource, read_whole};
 use fault::Fault;
+use folders::{Directory, Folders};
 use std::alloc::Global;
 use std::fs;
 use std::process::ExitCode;
@@ -27,33 +28,52 @@ const LIMIT: u32 = 4 << 20;
 /// The directory, which is made, and removed again.
 const DIR: &str = "toolchain_tests_dir";
 
-/// Takes each step, each with the directory as a folder of its own, and puts down what came of it.
-fn take_all<R: Files + AllocGlobal + Drop>(
-    rt: &R,
+/// Takes the step of a line with a folder of its own.
+fn take_line<M: Folders>(
     alloc: Global,
+    folders: &M,
+    bench: &mut Bench<M::Made>,
+    line: &str,
+) -> Result<String, Fault> {
+    let folder = folders.make()?;
+    steps::take(alloc, bench, folder, line)
+}
+
+/// Takes each step, and puts down what came of it.
+fn take_lines<M: Folders>(
+    alloc: Global,
+    folders: &M,
+    bench: &mut Bench<M::Made>,
     text: &str,
-    told: &mut String,
-) -> Result<(), Fault> {
-    let mut bench = Bench::new(alloc);
+) -> Result<String, Fault> {
+    let mut told = String::new(alloc);
     for line in text.lines() {
-        let folder = RealFolder::new(rt, DIR)?;
-        let said = steps::take(alloc, &mut bench, folder, line)?;
+        let said = take_line(alloc, folders, bench, line)?;
         told.push_str(said.as_str())?;
         told.push_str("\n")?;
     }
-    Ok(())
+    Ok(told)
+}
+
+/// The same, with nothing open before.
+fn take_all<M: Folders>(alloc: Global, folders: &M, text: &str) -> Result<String, Fault> {
+    let mut bench = Bench::new(alloc);
+    take_lines(alloc, folders, &mut bench, text)
 }
 
 /// The same in a new directory, which is removed again.
-fn told<R: Files + AllocGlobal + Drop>(rt: &R, alloc: Global, text: &str) -> Result<String, Fault> {
+fn take_in_directory<R: Files + AllocGlobal + Drop>(
+    rt: &R,
+    alloc: Global,
+    text: &str,
+) -> Result<String, Fault> {
     let _ = fs::remove_dir_all(rt, DIR);
     let Ok(()) = fs::create_dir_all(rt, DIR) else {
         return Err(Fault::NoDirectory);
     };
-    let mut told = String::new(alloc);
-    take_all(rt, alloc, text, &mut told)?;
+    let told = take_all(alloc, &Directory { rt, path: DIR }, text);
     let _ = fs::remove_dir_all(rt, DIR);
-    Ok(told)
+    told
 }
 
 /// What is read, as a text.
@@ -81,7 +101,7 @@ fn run<R: Files + AllocGlobal + Drop, S: Source, K: Sink>(
 ) -> Result<(), Fault> {
     let alloc: Global = rt.alloc();
     let text = read_text(alloc, input)?;
-    let told = told(rt, alloc, text.as_str())?;
+    let told = take_in_directory(rt, alloc, text.as_str())?;
     write_text(out, told.as_str())
 }
 

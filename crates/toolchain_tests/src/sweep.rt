@@ -41,6 +41,7 @@ fn end_of(refusal: ToolchainError) -> End {
 }
 
 /// A folder whose calls are as listed, empty.
+#[tactic(auto, using(crate::proofs::Empty::none_twice))]
 fn folder_of(alloc: Global, before: Vec<u64>, behind: Vec<u64>) -> MemFolder {
     MemFolder::new(alloc, Vec::new(alloc), Calls::new(before, behind))
 }
