@@ -1,5 +1,5 @@
 -- The requests of clients, from their parts.
-use Rattle.std.proofs.Common.{◌≡◌, List, ℕ, ◌++◌, codes, decimal, refl, Some, None}
+use Rattle.std.proofs.Common.{◌≡◌, List, ℕ, ◌++◌, codes, decimal, refl, None}
 use Rattle.dist_types.specs.Addr.{addr_text}
 use Rattle.dist_types.specs.declared.addr.Addr.{Addr}
 use Rattle.dist_types.specs.declared.ids.JobId.{JobId}

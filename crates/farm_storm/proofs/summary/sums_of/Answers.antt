@@ -2,7 +2,7 @@ use Rattle.std.proofs.Common.{refl}
 use Rattle.farm_storm.proofs.summary.sums_of.Goals as goal
 
 pub returns : goal.returns
-returns c =
+returns g c =
     rw (
       c.count_of-core.ensures,
       c.count_of-reserved.ensures,
