@@ -32,7 +32,16 @@ fn serve_each<S: Keeping, L: Link, K: Sink>(
     let key = JWTJobAuthorizer::new(Vec::from_slice(alloc, &[1, 2, 2])?);
     let mut builder = EchoBuilder::new(alloc);
     for _ in 0..number {
-        let served = serve_server_connection(alloc, state, &key, link, dialer, base, SHOWN, &mut builder);
+        let served = serve_server_connection(
+            alloc,
+            state,
+            &key,
+            link,
+            dialer,
+            base,
+            SHOWN,
+            &mut builder,
+        );
         write_served(alloc, errs, served, dialer.asked().len())?;
     }
     Ok(())
