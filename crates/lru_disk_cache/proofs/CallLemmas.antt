@@ -1,9 +1,8 @@
 -- What a call of a folder leaves, in the words of a step.
-use Rattle.std.proofs.Common.{◌≡◌, ℕ, Bool, true, false, cond, not, [], ◌∷◌, ◌≤◌, List, Option, Some, None}
+use Rattle.std.proofs.Common.{◌≡◌, ℕ, Bool, true, false, cond, not, [], ◌∷◌, List, Option, Some, None}
 use Rattle.std.proofs.Common.{Result, Ok, Err, IfOk, is_some, refl, sym, ap, subst, ◌∙◌, true≢false, arith}
 use Rattle.std.specs.Option.{option_map}
 use Rattle.lru_disk_cache.specs.Files.{Files, file_at, without, touched, DoneOrNot, Same}
-use Rattle.dist_types.specs.Cause.{Rose}
 use Rattle.lru_disk_cache.specs.Held.{Held, Holds, Lacks, Became, Changes}
 use Rattle.lru_disk_cache.specs.declared.fault.FolderFault.{FolderFault}
 use Rattle.lru_disk_cache.specs.declared.fault.FolderFault.TheVariants.{Missing, Failed, Memory}
@@ -160,13 +159,3 @@ taken_missing path at result old new was is h =
     (DoneOrNot (without path)) r old new in
     let m = subst Q was h in
     subst P is (nothing_if old.files new.files path (ap (λ k. k.files) m.0) m.1)
-
--- a step behind one that succeeded, where no file is missing
-pub counts_found : {T : Type 0} (result : Result T FolderFault) (one two three : Held)
-    → ¬ (result ≡ Err Missing) → two.faults ≡ one.faults → Counts result two three → Counts result one three
-counts_found (Ok x) one two three found steady counts = counts ∙ steady
-counts_found (Err Missing) one two three found steady counts = absurd (found refl)
-counts_found (Err Failed) one two three found steady counts =
-    subst (λ n. Rose n three.faults × (n ≤ three.faults)) steady counts
-counts_found (Err Memory) one two three found steady counts =
-    subst (λ n. n ≤ three.faults) steady counts

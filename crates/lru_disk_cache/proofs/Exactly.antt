@@ -186,14 +186,7 @@ removed_only path old new h =
 pub none_removed : (o : Option Files) → Became OnlyRemoved o o
 none_removed o = became_same OnlyRemoved o (λ f q b h. h)
 
-pub removed_then : {T : Type 0} (result : Result T FolderFault) (one two three : Option Files)
-    → Became OnlyRemoved one two → OnOk result (Became OnlyRemoved two three)
-    → OnOk result (Became OnlyRemoved one three)
-removed_then (Ok x) one two three a b = became_then OnlyRemoved OnlyRemoved OnlyRemoved one two three
-    (λ f g h x y q c found. x q c (y q c found)) a b
-removed_then (Err e) one two three a b = tt
-
-removed_both : (one two three : Option Files) → Became OnlyRemoved one two → Became OnlyRemoved two three
+pub removed_both : (one two three : Option Files) → Became OnlyRemoved one two → Became OnlyRemoved two three
     → Became OnlyRemoved one three
 removed_both one two three a b = became_then OnlyRemoved OnlyRemoved OnlyRemoved one two three
     (λ f g h x y q c found. x q c (y q c found)) a b
@@ -224,16 +217,10 @@ pub outside_ok : {T : Type 0} (root key : List ℕ) (result : Result T FolderFau
 outside_ok root key (Ok x) old new h = outside_at root key old new h
 outside_ok root key (Err e) old new h = tt
 
-outside_both : (root : List ℕ) (one two three : Option Files) → Became (ButUnder root) one two
+pub outside_both : (root : List ℕ) (one two three : Option Files) → Became (ButUnder root) one two
     → Became (ButUnder root) two three → Became (ButUnder root) one three
 outside_both root one two three a b = became_then (ButUnder root) (ButUnder root)
     (ButUnder root) one two three (λ f g h x y q away. y q away ∙ x q away) a b
-
-pub outside_more : {T : Type 0} (root : List ℕ) (result : Result T FolderFault) (one two three : Option Files)
-    → Became (ButUnder root) one two → OnOk result (Became (ButUnder root) two three)
-    → OnOk result (Became (ButUnder root) one three)
-outside_more root (Ok x) one two three a b = outside_both root one two three a b
-outside_more root (Err e) one two three a b = tt
 
 pub outside_twice : (root : List ℕ) (one two three four : Option Files) → Became SameAt one two
     → Became (ButUnder root) two three → Became (ButUnder root) three four → Became (ButUnder root) one four

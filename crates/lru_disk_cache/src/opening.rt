@@ -1,6 +1,6 @@
 //! The opening of a disk cache: what is found is sorted out, the least recent go until the rest fits, and the
 //! rest is listed.
-ghost use Rattle.std.specs.Prelude.{◌≡◌, ◌+◌, ◌≤◌, ◌++◌, ◌∷◌, [], nat_le, Err, IfOk, OnOk};
+ghost use Rattle.std.specs.Prelude.{◌≡◌, ◌+◌, ◌≤◌, ◌++◌, ◌∷◌, [], length, drop, Err, IfOk, OnOk};
 ghost use Rattle.std.specs.List.{IsDistinct};
 ghost use Rattle.std.specs.Map.{keys_of, remove_entry};
 ghost use Rattle.std.specs.Option.{option_copied};
@@ -79,28 +79,28 @@ fn sort_out<F: Folder>(
         (Became (ButUnder root.now) (F.held folder.old).files (F.held folder.new).files) }
     ensures counts { Counts result (F.held folder.old) (F.held folder.new) }
 {
-    match found {
-        [] => Ok(()),
-        [file, rest @ ..] => {
-            sort_one(folder, root, capacity, file, good)?;
-            sort_out(folder, root, capacity, rest, good)
-        }
+    for file in found {
+        sort_one(folder, root, capacity, file, good)?;
     }
+    Ok(())
 }
 
-/// Whether the sizes fit.
-fn fits(good: &[(Text, u64)], capacity: u64) -> bool
-    ensures { result ≡ nat_le (total good.now) capacity }
+/// Where the longest end begins whose sizes fit. It adds up from the end, so no sum passes the capacity.
+fn first_kept(good: &[(Text, u64)], capacity: u64) -> usize
+    ensures within { result ≤ length good.now }
+    ensures rest { drop result good.now ≡ trim capacity good.now }
 {
-    match good {
-        [] => true,
-        [(_, size), rest @ ..] => {
-            if *size > capacity {
-                return false;
-            }
-            fits(rest, capacity - *size)
+    let mut first = good.len();
+    let mut room = capacity;
+    while first > 0 {
+        let size = good[first - 1].1;
+        if size > room {
+            return first;
         }
+        room -= size;
+        first -= 1;
     }
+    first
 }
 
 /// Removes the least recent files until the sizes of the others fit. Gives the others.
@@ -119,16 +119,11 @@ fn drop_old<'a, F: Folder>(
         (Became (ButUnder root.now) (F.held folder.old).files (F.held folder.new).files) }
     ensures counts { Counts result (F.held folder.old) (F.held folder.new) }
 {
-    match good {
-        [] => Ok(good),
-        [entry, rest @ ..] => {
-            if fits(good, capacity) {
-                return Ok(good);
-            }
-            remove_file(folder, root, &entry.0)?;
-            drop_old(folder, root, capacity, rest)
-        }
+    let first = first_kept(good, capacity);
+    for (key, _size) in &good[..first] {
+        remove_file(folder, root, key)?;
     }
+    Ok(&good[first..])
 }
 
 /// Lists a key as the most recent. It fits.
@@ -155,13 +150,10 @@ fn list_all(alloc: Global, table: &mut Table, good: &[(Text, u64)]) -> Result<()
         → table.new.entries ≡ table.old.entries ++ good.now) }
     ensures keys { OnOk result (AllKeys table.old.entries → AllKeys good.now → AllKeys table.new.entries) }
 {
-    match good {
-        [] => Ok(()),
-        [entry, rest @ ..] => {
-            list_one(alloc, table, &entry.0, entry.1)?;
-            list_all(alloc, table, rest)
-        }
+    for (key, size) in good {
+        list_one(alloc, table, key, *size)?;
     }
+    Ok(())
 }
 
 /// Opens a cache: lists the files under a root, removes those that are no key's or too large, and the least

@@ -142,30 +142,32 @@ fn doubt_in(pending: &mut Vec<Reserved>, number: u64)
 fn temp_in<'a>(pending: &'a [Reserved], entry: &LruDiskCacheAddEntry) -> Option<&'a str>
     ensures { option_copied result ≡ temp_of entry.now pending.now }
 {
-    match pending {
-        [] => None,
-        [reserved, rest @ ..] => {
-            if is_of(entry, reserved) {
-                Some(reserved.temp.get())
-            } else {
-                temp_in(rest, entry)
-            }
+    for reserved in pending {
+        if is_of(entry, reserved) {
+            return Some(reserved.temp.get());
         }
     }
+    None
 }
 
 // The sum of the sizes of those of other numbers, which stops at 2^64 - 1.
 fn sum_beside(pending: &[Reserved], number: u64) -> u64
     ensures { result ≡ min (held_size (without_number number pending.now)) 18446744073709551615 }
 {
-    match pending {
-        [] => 0,
-        [reserved, rest @ ..] => {
-            if reserved.number == number {
-                sum_beside(rest, number)
-            } else {
-                reserved.size.saturating_add(sum_beside(rest, number))
-            }
-        }
+    let mut sum = 0u64;
+    for reserved in pending {
+        sum = sum.saturating_add(size_beside(reserved, number));
+    }
+    sum
+}
+
+// The size of one of another number, and else none.
+fn size_beside(reserved: &Reserved, number: u64) -> u64
+    ensures { result ≡ held_size (without_number number (reserved.now ∷ [])) }
+{
+    if reserved.number == number {
+        0
+    } else {
+        reserved.size
     }
 }

@@ -11,16 +11,12 @@ use std::alloc::{AllocError, Global};
 pub(crate) fn content<'a>(files: &'a [(Text, Bytes)], path: &str) -> Option<&'a [u8]>
     ensures { option_copied result ≡ file_at files.now path.now }
 {
-    match files {
-        [] => None,
-        [(here, bytes), rest @ ..] => {
-            if path == here.get() {
-                Some(bytes.get())
-            } else {
-                content(rest, path)
-            }
+    for (here, bytes) in files {
+        if path == here.get() {
+            return Some(bytes.get());
         }
     }
+    None
 }
 
 // Takes out the file at a path.
