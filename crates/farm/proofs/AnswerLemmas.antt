@@ -21,10 +21,10 @@ use Rattle.farm_words.specs.declared.command.Command.{Command}
 use Rattle.farm_words.specs.declared.command.Command.TheVariants.{Farm, Storm, Auth, Scheduler, Server}
 use Rattle.farm_words.specs.Asked.{Asked, farm, random, token_under, token_of, scheduler, server, storm}
 use Rattle.farm_words.specs.Asked.{asked_by}
-use Rattle.farm_words.specs.Parsed.{IsParsed, OverFiles, command_in}
-use Rattle.farm.specs.Command.{fault_status, Side, Serving, Called, Moment, IsReadWhole, IsFarmRun}
-use Rattle.farm.specs.Command.{IsStormRun, IsAuthRun, IsStarted, IsCarriedOut, IsUntouched, IsUnparsed}
-use Rattle.farm.specs.Command.{IsWorked, IsUsage, IsDoneBy, IsDone, IsTold, IsLong, StandsFor, IsReported}
+use Rattle.farm_words.specs.Parsed.{OverFiles, command_in}
+use Rattle.farm.specs.Command.{fault_status, Side, Serving, Called, Moment, IsFarmRun}
+use Rattle.farm.specs.Command.{IsStormRun, IsAuthRun, IsStarted, IsCarriedOut, IsUnparsed}
+use Rattle.farm.specs.Command.{IsWorked, IsDoneBy, IsDone, IsTold, IsLong, StandsFor, IsReported}
 use Rattle.farm.specs.Command.{IsAnswered}
 
 status_some : (f : FarmFault) → 0 < fault_status f

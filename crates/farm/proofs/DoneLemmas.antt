@@ -1,15 +1,13 @@
 -- What was done, from what each step did.
-use Rattle.std.proofs.Common.{◌≡◌, ◌⊎◌, inl, inr, ℕ, Option, Some, None, Result, Ok, Err, refl}
+use Rattle.std.proofs.Common.{◌≡◌, ◌⊎◌, inl, inr, Option, Some, None, Result, Ok, Err, refl}
 use Rattle.std.specs.Prelude.{IfSome, ⊤}
-use Rattle.rand_core.specs.Stream.{Stream}
-use Rattle.farm_config.specs.declared.files.NamedFile.{NamedFile}
 use Rattle.farm_script.specs.declared.fault.FarmFault.{FarmFault}
 use Rattle.farm_script.specs.declared.fault.FarmFault.TheVariants.{Usage, Memory}
 use Rattle.farm_words.specs.declared.command.Command.{Command}
 use Rattle.farm_words.specs.declared.command.Command.TheVariants.{Farm, Storm, Auth, Scheduler, Server}
 use Rattle.farm_words.specs.Asked.{Asked}
 use Rattle.farm_words.specs.Parsed.{IsParsed}
-use Rattle.farm.specs.Command.{Moment, moment, IsCarriedOut, IsUntouched, IsUsage, IsDoneBy}
+use Rattle.farm.specs.Command.{Moment, moment, IsCarriedOut, IsUntouched, IsDoneBy}
 
 -- what is carried out looks at no file
 pub carried_out_at : (command : Command) (result : Result ⊤ FarmFault) (before after : Moment)

@@ -1,5 +1,5 @@
 -- Faults that are told.
-use Rattle.std.proofs.Common.{◌≡◌, inl, inr, ℕ, List, codes, refl}
+use Rattle.std.proofs.Common.{◌≡◌, inr, ℕ, codes, refl}
 use Rattle.farm_script.specs.declared.fault.ConfigCause.TheVariants.{Missing, Unreadable}
 use Rattle.farm_script.specs.declared.fault.FarmFault.{FarmFault}
 use Rattle.farm_script.specs.declared.fault.FarmFault.TheVariants.{BadConfig, Memory}

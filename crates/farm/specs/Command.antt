@@ -1,5 +1,5 @@
 -- What the command has to do: what its words ask for, or tell a fault.
-use Rattle.std.specs.Prelude.{◌≡◌, ◌⊎◌, ℕ, ◌<◌, List, [], ◌∷◌, Option, Some, None, IfSome, Result, Ok, Err, ⊤}
+use Rattle.std.specs.Prelude.{◌≡◌, ◌⊎◌, ℕ, ◌<◌, List, Option, Some, None, IfSome, Result, Ok, Err, ⊤}
 use Rattle.std.specs.Prelude.{codes}
 use Rattle.rand_core.specs.Stream.{Stream}
 use Rattle.dist_types.specs.Cause.{Rose}
@@ -7,7 +7,6 @@ use Rattle.dist_types.specs.Content.{Added, Began, Recorded, KeptOrRecorded, lef
 use Rattle.dist_types.specs.declared.fault.Failed.{Failed}
 use Rattle.dist_config.specs.Serve.{scheduler_call, server_call}
 use Rattle.dist_config.specs.declared.serve.ServeCall.{ServeCall}
-use Rattle.farm_script.specs.declared.fault.ConfigCause.{ConfigCause}
 use Rattle.farm_script.specs.declared.fault.ConfigCause.TheVariants.{Key}
 use Rattle.farm_script.specs.declared.fault.FarmFault.{FarmFault}
 use Rattle.farm_script.specs.declared.fault.FarmFault.TheVariants.{Usage, BadLine, DuplicateAddress}

@@ -1,4 +1,4 @@
-use Rattle.std.proofs.Common.{string_bytes, refl}
+use Rattle.std.proofs.Common.{string_bytes}
 use Rattle.farm.proofs.ScriptRunLemmas.{no_run, text_added, text_began}
 use Rattle.farm.proofs.command.run_farm.Goals as goal
 
