@@ -1,7 +1,9 @@
 pub mod AddressLemmas
 pub mod AllLemmas
 pub mod BookLemmas
+pub mod BookedLemmas
 pub mod CallLemmas
+pub mod ChangeLemmas
 pub mod EndLemmas
 pub mod FactLemmas
 pub mod FreeLemmas

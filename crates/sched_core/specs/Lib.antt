@@ -13,6 +13,8 @@ pub mod Reap
 pub mod Advance
 pub mod Rule
 pub mod Calls
+pub mod Changes
 pub mod Laws
 pub mod Books
 pub mod Texts
+pub mod Booked

@@ -6,6 +6,7 @@ ghost use Rattle.sched_core.specs.Log.{same_job};
 ghost use Rattle.sched_core.specs.Pick.{pick};
 ghost use Rattle.sched_core.specs.Prune.{prune};
 ghost use Rattle.sched_core.specs.Rule.{noted_over, reserved_at, beat_over, counts_over};
+ghost use Rattle.sched_core.specs.Changes.{AreSoundRows};
 ghost use Rattle.sched_core.specs.Books.{MayRegister, MayReserve, IsOfUnspent, no_lists, lists_next};
 
 use crate::entry::{CoreEntry, Reserved};
@@ -212,6 +213,7 @@ impl Books {
 
     /// Takes an entry of this number into the books. It takes no memory.
     pub fn absorb(&mut self, step: &CoreEntry, number: u64)
+        requires sound { AreSoundRows self.old.lists.rows }
         requires row_room { MayRegister step.now.kind → self.old.has_row_room ≡ true }
         requires job_room { MayReserve step.now.kind → self.old.has_job_room ≡ true }
         requires spends { IsOfUnspent step.now.kind self.old.lists.unspent }

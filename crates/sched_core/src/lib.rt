@@ -11,6 +11,7 @@
 pub mod answers;
 mod books;
 pub mod call;
+mod change;
 pub mod entry;
 pub mod error;
 mod held;

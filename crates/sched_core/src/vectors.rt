@@ -1,9 +1,11 @@
 //! The books as plain vectors, and what one entry does to them: one pass over each.
 ghost use Rattle.std.specs.Prelude.{◌≡◌, ◌<◌, ◌≤◌, ◌+◌, IsSome, length, option_to_list, vec_len};
 ghost use Rattle.std.specs.Prelude.{vec_capacity};
+ghost use Rattle.sched_core.specs.Changes.{AreSoundRows};
 ghost use Rattle.sched_core.specs.Books.{MayRegister, MayReserve, HasJobRoom, lists_of, rows_next, held_next};
 ghost use Rattle.sched_core.specs.Books.{jobs_next, open_next, unspent_next, made_next, open_by};
 
+use crate::change::change_rows;
 use crate::entry::CoreEntry;
 use crate::held;
 use crate::kind::is_reservation;
@@ -43,6 +45,7 @@ pub struct Vectors {
 
 /// Takes an entry of this number into the books. It takes no memory.
 pub fn absorb(books: &mut Vectors, step: &CoreEntry, number: u64)
+    requires sound { AreSoundRows books.old.rows.items }
     requires row_room { MayRegister step.now.kind → vec_len books.old.rows < vec_capacity books.old.rows }
     requires job_room { MayReserve step.now.kind → HasJobRoom books.old }
     requires open_room { vec_len books.old.open_ones + length
@@ -57,7 +60,6 @@ pub fn absorb(books: &mut Vectors, step: &CoreEntry, number: u64)
         length (option_to_list (open_by step.entry.now.kind books.old.jobs.items)) }
     ensures open_capacity { vec_capacity books.old.open_ones ≤ vec_capacity books.new.open_ones }
 {
-    let served = standing::served(&step.kind, &books.open_ones);
     let row = standing::row_made(step, number);
     let held = held::held_made(&step.kind, number, step.now);
     let job = held::job_made(&step.kind, &books.rows, number, step.now);
@@ -66,7 +68,7 @@ pub fn absorb(books: &mut Vectors, step: &CoreEntry, number: u64)
 
     standing::end_rows(&mut books.rows, &step.kind);
     standing::free_rows(&mut books.rows, &books.held, &step.kind);
-    standing::change_rows(&mut books.rows, step, served);
+    change_rows(&mut books.rows, step, &books.open_ones);
     push_some(&mut books.rows, row);
 
     held::end_held(&mut books.held, &step.kind);

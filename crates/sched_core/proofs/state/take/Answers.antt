@@ -2,7 +2,12 @@ use Rattle.std.proofs.Common.{◌≡◌, [], length, refl, ap, ◌∙◌, arith}
 use Rattle.sched_core.specs.Books.{lists_next, unspent_next}
 use Rattle.sched_core.proofs.LegalLemmas.{legal-push}
 use Rattle.sched_core.proofs.BookLemmas.{absorbed}
+use Rattle.sched_core.proofs.ChangeLemmas.{sound_rows}
 use Rattle.sched_core.proofs.state.take.Goals as goal
+
+pub absorb-requires-clause-sound : goal.absorb-requires-clause-sound
+absorb-requires-clause-sound g c κs within = rw c.requires.state.books.rows
+    (sound_rows c.args.base c.args.count c.args.log.now.items c.ranges.count.fits c.requires.state.legal)
 
 pub returns-clause-state : goal.returns-clause-state
 returns-clause-state g c =

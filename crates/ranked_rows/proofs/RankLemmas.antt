@@ -1,0 +1,134 @@
+-- What the trees say of the places is what holds of the rows.
+use Rattle.std.proofs.Common.{◌≡◌, ℕ, zero, suc, ◌+◌, ◌*◌, ◌<◌, ◌≤◌, List, [], ◌∷◌, ◌++◌, Bool, true, false, cond, not, map, filter, length, Option, Some, None, refl, ap, ◌∙◌, sym, subst, arith, get_or, set, append_assoc, length-append}
+use Rattle.std.specs.Prelude.{◌==◌, find, if◌then◌else◌, is_some, MatchOption}
+use Rattle.std.specs.List.{AllByRecursion}
+use Rattle.std.proofs.lemmas.List.{map-set, set-get_or, length-map}
+use Rattle.winner_tree.specs.Winner.{HasNone, IsLeast, early_slots}
+use Rattle.numbered_slots.specs.Slots.{rows_in, IsPlaceOf}
+use Rattle.ranked_rows.specs.Ranks.{key_in, HaveNoKey, IsFirstBy, is_early, early_numbers, number_in, number_at, touches}
+
+-- no place's key, no row's
+pub none_of : {T K : Type 0} (key : T → Option K) (places : List (Option T)) → HasNone (map (key_in key) places) → HaveNoKey key (rows_in places)
+none_of key [] none = tt
+none_of key (None ∷ places) none = none_of key places (λ i. none (suc i))
+none_of key (Some row ∷ places) none = (none zero, none_of key places (λ i. none (suc i)))
+
+-- what holds of each place's key holds of each row's
+pub each_of : {T K : Type 0} (key : T → Option K) (P : K → Type 0) (places : List (Option T)) → ((i : ℕ) (k : K) → get_or (map (key_in key) places) i None ≡ Some k → P k) → AllByRecursion (λ r. (k : K) → key r ≡ Some k → P k) (rows_in places)
+each_of key P [] all = tt
+each_of key P (None ∷ places) all = each_of key P places (λ i k e. all (suc i) k e)
+each_of key P (Some row ∷ places) all = ((λ k e. all zero k e), each_of key P places (λ i k e. all (suc i) k e))
+
+-- the key of a place is its row's
+pub key_there : {T K : Type 0} (key : T → Option K) (places : List (Option T)) (i : ℕ) (o : Option T) → get_or places i None ≡ o → get_or (map (key_in key) places) i None ≡ key_in key o
+key_there key [] i o e = ap (key_in key) e
+key_there key (p ∷ places) zero o e = ap (key_in key) e
+key_there key (p ∷ places) (suc i) o e = key_there key places i o e
+
+-- the first place has the first row
+pub first_of : {T K : Type 0} (number : T → ℕ) (key : T → Option K) (before : K → K → Bool) (places : List (Option T)) (place : ℕ) (row : T) → IsLeast before (map (key_in key) places) place → IsPlaceOf number places (number row) place → get_or places place None ≡ Some row →
+    IsFirstBy number key before (rows_in places) row
+first_of number key before places place row least at there = record {
+  own = least.key;
+  is = sym (key_there key places place (Some row) there) ∙ least.is;
+  listed = at.found ∙ sym at.is ∙ there;
+  none_before = each_of key (λ k. before k least.key ≡ false) places least.none_before;
+}
+
+-- a first place has a row
+pub first_there : {T K : Type 0} (key : T → Option K) (before : K → K → Bool) (places : List (Option T)) (place : ℕ) → IsLeast before (map (key_in key) places) place → get_or places place None ≡ None → ⊥
+first_there key before places place least none = let no : None ≡ Some least.key = sym (key_there key places place None none) ∙ least.is in absurd cc
+
+-- and is one of the places
+pub first_within : {T K : Type 0} (key : T → Option K) (before : K → K → Bool) (places : List (Option T)) (place : ℕ) → IsLeast before (map (key_in key) places) place → place < length places
+first_within {T} key before places place least = go places place least.is
+  where
+    go : (ps : List (Option T)) (i : ℕ) → get_or (map (key_in key) ps) i None ≡ Some least.key → i < length ps
+    go [] i e = let no : None ≡ Some least.key = e in absurd cc
+    go (p ∷ ps) zero e = omega arith
+    go (p ∷ ps) (suc i) e = let lt = go ps i e in omega (arith, lt)
+
+pub first_is : {T K : Type 0} (number : T → ℕ) (key : T → Option K) (before : K → K → Bool) (places : List (Option T)) (place : ℕ) (o : Option T) → IsLeast before (map (key_in key) places) place → o ≡ get_or places place None →
+    MatchOption o (Unit {0}) (λ row. IsPlaceOf number places (number row) place) → MatchOption o (HaveNoKey key (rows_in places)) (IsFirstBy number key before (rows_in places))
+first_is number key before places place None least is at = absurd (first_there key before places place least (sym is))
+first_is number key before places place (Some row) least is at = first_of number key before places place row least at (sym is)
+
+-- the row behind a front
+at_seam : {T : Type 0} (front : List (Option T)) (o : Option T) (places : List (Option T)) → get_or (front ++ o ∷ places) (length front) None ≡ o
+at_seam [] o places = refl
+at_seam (p ∷ front) o places = at_seam front o places
+
+-- a place more in front
+moved : {T K : Type 0} (number : T → ℕ) (key : T → Option K) (before : K → K → Bool) (bound : K) (front : List (Option T)) (o : Option T) (places : List (Option T)) (numbers : List ℕ) →
+    map (number_at number ((front ++ o ∷ []) ++ places)) (early_slots before bound (length (front ++ o ∷ [])) (map (key_in key) places)) ≡ numbers →
+    map (number_at number (front ++ o ∷ places)) (early_slots before bound (length front + 1) (map (key_in key) places)) ≡ numbers
+moved number key before bound front o places numbers is =
+    subst (λ n. map (number_at number (front ++ o ∷ places)) (early_slots before bound n (map (key_in key) places)) ≡ numbers) (length-append front (o ∷ []))
+    (subst (λ l. map (number_at number l) (early_slots before bound (length (front ++ o ∷ [])) (map (key_in key) places)) ≡ numbers) (append_assoc front (o ∷ []) places) is)
+
+early_from : {T K : Type 0} (number : T → ℕ) (key : T → Option K) (before : K → K → Bool) (bound : K) (front places : List (Option T)) →
+    map (number_at number (front ++ places)) (early_slots before bound (length front) (map (key_in key) places)) ≡ early_numbers number key before bound (rows_in places)
+early_from number key before bound front [] = refl
+early_from number key before bound front (None ∷ places) = moved number key before bound front None places (early_numbers number key before bound (rows_in places)) (early_from number key before bound (front ++ None ∷ []) places)
+early_from {T} {K} number key before bound front (Some r ∷ places) =
+    split (key r) (moved number key before bound front (Some r) places (early_numbers number key before bound (rows_in places)) (early_from number key before bound (front ++ Some r ∷ []) places))
+  where
+    slots : List ℕ
+    slots = early_slots before bound (length front + 1) (map (key_in key) places)
+
+    early : List T
+    early = filter (λ x. is_early before bound (key x)) (rows_in places)
+
+    tested : (b : Bool) → map (number_at number (front ++ Some r ∷ places)) slots ≡ map number early →
+        map (number_at number (front ++ Some r ∷ places)) (cond b (length front ∷ slots) slots) ≡ map number (cond b (r ∷ early) early)
+    tested true rest = ap (λ o. number_in number o ∷ map (number_at number (front ++ Some r ∷ places)) slots) (at_seam front (Some r) places) ∙ ap (λ l. number r ∷ l) rest
+    tested false rest = rest
+
+    split : (k : Option K) → map (number_at number (front ++ Some r ∷ places)) slots ≡ map number early →
+        map (number_at number (front ++ Some r ∷ places)) (early_slots before bound (length front) (k ∷ map (key_in key) places)) ≡ map number (cond (is_early before bound k) (r ∷ early) early)
+    split None rest = rest
+    split (Some k) rest = tested (before k bound) rest
+
+-- the early places' rows have the early numbers
+pub early_are : {T K : Type 0} (number : T → ℕ) (key : T → Option K) (before : K → K → Bool) (bound : K) (places : List (Option T)) → map (number_at number places) (early_slots before bound 0 (map (key_in key) places)) ≡ early_numbers number key before bound (rows_in places)
+early_are number key before bound places = early_from number key before bound [] places
+
+-- the early places are places
+early_below : {K : Type 0} (before : K → K → Bool) (bound : K) (at n : ℕ) (keys : List (Option K)) → at + length keys ≤ n → AllByRecursion (λ p. p < n) (early_slots before bound at keys)
+early_below before bound at n [] le = tt
+early_below before bound at n (None ∷ keys) le = early_below before bound (at + 1) n keys (omega (arith, le))
+early_below before bound at n (Some k ∷ keys) le = split (before k bound) (early_below before bound (at + 1) n keys (omega (arith, le)))
+  where
+    split : (b : Bool) → AllByRecursion (λ p. p < n) (early_slots before bound (at + 1) keys) → AllByRecursion (λ p. p < n) (cond b (at ∷ early_slots before bound (at + 1) keys) (early_slots before bound (at + 1) keys))
+    split true rest = (omega (arith, le), rest)
+    split false rest = rest
+
+pub early_within : {T K : Type 0} (key : T → Option K) (before : K → K → Bool) (bound : K) (places : List (Option T)) → AllByRecursion (λ p. p < length places) (early_slots before bound 0 (map (key_in key) places))
+early_within key before bound places = early_below before bound 0 (length places) (map (key_in key) places) (let same = length-map places (key_in key) in omega (arith, same))
+
+-- where no row has the number, none is changed or taken out
+pub none_changed : {T : Type 0} (number : T → ℕ) (n : ℕ) (new : T) (rows : List T) → find (λ r. number r == n) rows ≡ None → map (λ r. if number r == n then new else r) rows ≡ rows
+none_changed number n new [] none = refl
+none_changed {T} number n new (row ∷ rows) none = split (number row == n) none
+  where
+    split : (b : Bool) → cond b (Some row) (find (λ r. number r == n) rows) ≡ None → cond b new row ∷ map (λ r. if number r == n then new else r) rows ≡ row ∷ rows
+    split true no = absurd cc
+    split false no = ap (λ l. row ∷ l) (none_changed number n new rows no)
+
+pub none_taken : {T : Type 0} (number : T → ℕ) (n : ℕ) (rows : List T) → find (λ r. number r == n) rows ≡ None → filter (λ r. not (number r == n)) rows ≡ rows
+none_taken number n [] none = refl
+none_taken {T} number n (row ∷ rows) none = split (number row == n) none
+  where
+    split : (b : Bool) → cond b (Some row) (find (λ r. number r == n) rows) ≡ None → cond (not b) (row ∷ filter (λ r. not (number r == n)) rows) (filter (λ r. not (number r == n)) rows) ≡ row ∷ rows
+    split true no = absurd cc
+    split false no = ap (λ l. row ∷ l) (none_taken number n rows no)
+
+-- a place's key that stays none
+pub unset : {K : Type 0} (keys : List (Option K)) (place : ℕ) (old new : Option K) → get_or keys place None ≡ old → (is_some old ≡ false) → (is_some new ≡ false) → keys ≡ set keys place new
+unset keys place None None is o n = sym (set-get_or keys place None) ∙ ap (set keys place) is
+unset keys place None (Some k) is o n = absurd cc
+unset keys place (Some k) new is o n = absurd cc
+
+-- as many early places as early numbers
+pub early_length : {T K : Type 0} (number : T → ℕ) (key : T → Option K) (before : K → K → Bool) (bound : K) (places : List (Option T)) → length (early_slots before bound 0 (map (key_in key) places)) ≡ length (early_numbers number key before bound (rows_in places))
+early_length number key before bound places = sym (length-map (early_slots before bound 0 (map (key_in key) places)) (number_at number places)) ∙ ap length (early_are number key before bound places)
