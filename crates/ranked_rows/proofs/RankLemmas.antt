@@ -1,11 +1,11 @@
 -- What the trees say of the places is what holds of the rows.
-use Rattle.std.proofs.Common.{◌≡◌, ℕ, zero, suc, ◌+◌, ◌*◌, ◌<◌, ◌≤◌, List, [], ◌∷◌, ◌++◌, Bool, true, false, cond, not, map, filter, length, Option, Some, None, refl, ap, ◌∙◌, sym, subst, arith, get_or, set, append_assoc, length-append}
-use Rattle.std.specs.Prelude.{◌==◌, find, if◌then◌else◌, is_some, MatchOption}
+use Rattle.std.proofs.Common.{◌≡◌, ℕ, zero, suc, ◌+◌, ◌*◌, ◌<◌, ◌≤◌, List, [], ◌∷◌, ◌++◌, Bool, true, false, cond, not, ◌&&◌, map, filter, length, Option, Some, None, refl, ap, ◌∙◌, sym, subst, arith, get_or, set, append_assoc, length-append}
+use Rattle.std.specs.Prelude.{◌==◌, find, if◌then◌else◌, MatchOption}
 use Rattle.std.specs.List.{AllByRecursion}
 use Rattle.std.proofs.lemmas.List.{map-set, set-get_or, length-map}
 use Rattle.winner_tree.specs.Winner.{HasNone, IsLeast, early_slots}
 use Rattle.numbered_slots.specs.Slots.{rows_in, IsPlaceOf}
-use Rattle.ranked_rows.specs.Ranks.{key_in, HaveNoKey, IsFirstBy, is_early, early_numbers, number_in, number_at, touches}
+use Rattle.ranked_rows.specs.Ranks.{key_in, HaveNoKey, IsFirstBy, is_early, early_numbers, key_stays, number_in, number_at}
 
 -- no place's key, no row's
 pub none_of : {T K : Type 0} (key : T → Option K) (places : List (Option T)) → HasNone (map (key_in key) places) → HaveNoKey key (rows_in places)
@@ -123,11 +123,29 @@ none_taken {T} number n (row ∷ rows) none = split (number row == n) none
     split true no = absurd cc
     split false no = ap (λ l. row ∷ l) (none_taken number n rows no)
 
--- a place's key that stays none
-pub unset : {K : Type 0} (keys : List (Option K)) (place : ℕ) (old new : Option K) → get_or keys place None ≡ old → (is_some old ≡ false) → (is_some new ≡ false) → keys ≡ set keys place new
-unset keys place None None is o n = sym (set-get_or keys place None) ∙ ap (set keys place) is
-unset keys place None (Some k) is o n = absurd cc
-unset keys place (Some k) new is o n = absurd cc
+-- a place's key that stays
+neither : (x y : Bool) → (not x && not y) ≡ true → (x ≡ false) × (y ≡ false)
+neither true y is = absurd cc
+neither false true is = absurd cc
+neither false false is = (refl, refl)
+
+pub kept : {K : Type 0} (before : K → K → Bool) → ((a b : K) → before a b ≡ false → before b a ≡ false → a ≡ b)
+    → (keys : List (Option K)) (place : ℕ) (old new : Option K) → get_or keys place None ≡ old
+    → key_stays before old new ≡ true → keys ≡ set keys place new
+kept before apart keys place None None is stays = sym (set-get_or keys place None) ∙ ap (set keys place) is
+kept before apart keys place None (Some b) is stays = absurd cc
+kept before apart keys place (Some a) None is stays = absurd cc
+kept before apart keys place (Some a) (Some b) is stays =
+    let both = neither (before a b) (before b a) stays in
+    sym (set-get_or keys place None) ∙ ap (set keys place) (is ∙ ap Some (apart a b both.0 both.1))
+
+-- the row in the place of a number is the only one of it
+pub only_row : {T : Type 0} (number : T → ℕ) (wanted place : ℕ) (places : List (Option T)) (o : Option T)
+    → IsPlaceOf number places wanted place → o ≡ get_or places place None
+    → MatchOption o (Unit {0}) (λ row. AllByRecursion (λ r. (number r == wanted) ≡ true → r ≡ row) (rows_in places))
+only_row number wanted place places o at is =
+    subst (λ q. MatchOption q (Unit {0}) (λ row. AllByRecursion (λ r. (number r == wanted) ≡ true → r ≡ row)
+    (rows_in places))) (sym (is ∙ at.is)) at.only
 
 -- as many early places as early numbers
 pub early_length : {T K : Type 0} (number : T → ℕ) (key : T → Option K) (before : K → K → Bool) (bound : K) (places : List (Option T)) → length (early_slots before bound 0 (map (key_in key) places)) ≡ length (early_numbers number key before bound (rows_in places))

@@ -1,8 +1,10 @@
 -- The first row by a key, and how many trees a change touches.
-use Rattle.std.specs.Prelude.{◌≡◌, ◌+◌, ◌||◌, ◌==◌, ℕ, List, [], ◌∷◌, map, filter, find, Bool, true, false, Option, Some, None, is_some, if◌then◌else◌, slice_index_or}
+use Rattle.std.specs.Prelude.{◌≡◌, ◌+◌, ◌&&◌, ◌==◌, ℕ, List, [], ◌∷◌, map, filter, find, Bool, true, false, not}
+use Rattle.std.specs.Prelude.{Option, Some, None, if◌then◌else◌, slice_index_or}
 use Rattle.std.specs.List.{AllByRecursion}
 use Rattle.winner_tree.specs.declared.keys.LoadKey.{LoadKey}
 use Rattle.winner_tree.specs.declared.keys.MomentKey.{MomentKey}
+use Rattle.winner_tree.specs.Keys.{load_before, moment_before}
 use Rattle.numbered_slots.specs.Slots.{rows_in}
 
 -- the key of a place's row, if it has one
@@ -36,9 +38,16 @@ is_early before bound (Some k) = before k bound
 abbrev pub early_numbers : {T K : Type 0} → (T → ℕ) → (T → Option K) → (K → K → Bool) → K → List T → List ℕ
 early_numbers number key before bound rows = map number (filter (λ r. is_early before bound (key r)) rows)
 
--- how often a change of one key touches its tree: once, unless there is none before and after
-abbrev pub touches : {K : Type 0} → Option K → Option K → ℕ
-touches old new = if is_some old || is_some new then 1 else 0
+-- whether the key stays: there is none before and after, or neither of the two goes before the other
+abbrev pub key_stays : {K : Type 0} → (K → K → Bool) → Option K → Option K → Bool
+key_stays before None None = true
+key_stays before None (Some new) = false
+key_stays before (Some old) None = false
+key_stays before (Some old) (Some new) = not (before old new) && not (before new old)
+
+-- how often a change of one key touches its tree: once, unless the key stays
+abbrev pub touches : {K : Type 0} → (K → K → Bool) → Option K → Option K → ℕ
+touches before old new = if key_stays before old new then 0 else 1
 
 -- the number of the row in a place, or 0
 abbrev pub number_in : {T : Type 0} → (T → ℕ) → Option T → ℕ
@@ -50,5 +59,8 @@ abbrev pub number_at : {T : Type 0} → (T → ℕ) → List (Option T) → ℕ 
 number_at number places place = number_in number (slice_index_or places place None)
 
 -- how many trees a change of one place touches
-abbrev pub touched : {T : Type 0} → (T → Option LoadKey) → (T → Option MomentKey) → (T → Option MomentKey) → Option T → Option T → ℕ
-touched load_of error_of sign_of old new = touches (key_in load_of old) (key_in load_of new) + touches (key_in error_of old) (key_in error_of new) + touches (key_in sign_of old) (key_in sign_of new)
+abbrev pub touched : {T : Type 0} → (T → Option LoadKey) → (T → Option MomentKey) → (T → Option MomentKey)
+    → Option T → Option T → ℕ
+touched load_of error_of sign_of old new = touches load_before (key_in load_of old) (key_in load_of new)
+    + touches moment_before (key_in error_of old) (key_in error_of new)
+    + touches moment_before (key_in sign_of old) (key_in sign_of new)

@@ -1,11 +1,24 @@
 //! The key of one place in one tree.
 ghost use Rattle.std.specs.Prelude.{◌≡◌, ◌≤◌, ◌<◌, ◌+◌, ◌*◌, ◌^◌, ℕ, None, length, slice_index_or, slice_set};
-ghost use Rattle.ranked_rows.specs.Ranks.{touches};
+ghost use Rattle.ranked_rows.specs.Ranks.{key_stays, touches};
 
 use std::sync::ledger::Ledger;
 use winner_tree::{Key, Steps, WinnerTree};
 
-/// Gives a place another key, where it has or is to have one.
+/// Whether the key stays.
+fn stays<K: Key>(old: &Option<K>, new: &Option<K>) -> bool
+    ensures { result ≡ key_stays K.before old.now new.now }
+{
+    match old {
+        Some(old) => match new {
+            Some(new) => !old.is_before(new) && !new.is_before(old),
+            None => false,
+        },
+        None => new.is_none(),
+    }
+}
+
+/// Gives a place another key, unless it stays.
 pub(crate) fn enter<K: Key, L: Ledger>(
     tree: &mut WinnerTree<K>,
     place: usize,
@@ -16,9 +29,10 @@ pub(crate) fn enter<K: Key, L: Ledger>(
     requires within { place < length tree.old }
     requires old { slice_index_or tree.old place None ≡ old }
     ensures keys { tree.new ≡ slice_set tree.old place new }
-    ensures looks { (h : ℕ) → length tree.old ≤ 2 ^ h → steps.new ≤ steps.old + touches old new * (2 * h + 1) }
+    ensures looks { (h : ℕ) → length tree.old ≤ 2 ^ h → steps.new ≤ steps.old + 
+        touches K.before old new * (2 * h + 1) }
 {
-    if old.is_some() || new.is_some() {
+    if !stays(&old, &new) {
         tree.set(place, new, steps);
     }
 }

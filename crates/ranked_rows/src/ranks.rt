@@ -134,9 +134,12 @@ impl<T: Ranked> Ranks<T> {
         self.slots.has_room()
     }
 
-    /// The row of that number.
+    /// The row of that number, of which there is no other.
     pub fn row(&self, number: u64) -> Option<T>
-        ensures { result ≡ find (λ r. T.number_of r == number) (rows_in self.now.places) }
+        ensures row { result ≡ find (λ r. T.number_of r == number) (rows_in self.now.places) }
+        ensures only { MatchOption result (Unit {0})
+            (λ row. AllByRecursion (λ r. (T.number_of r == number) ≡ true → r ≡ row)
+            (rows_in self.now.places)) }
     {
         match self.slots.place_of(number) {
             Some(place) => self.slots.row(place),
