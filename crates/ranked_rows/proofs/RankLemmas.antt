@@ -1,10 +1,14 @@
 -- What the trees say of the places is what holds of the rows.
-use Rattle.std.proofs.Common.{◌≡◌, ℕ, zero, suc, ◌+◌, ◌*◌, ◌<◌, ◌≤◌, List, [], ◌∷◌, ◌++◌, Bool, true, false, cond, not, ◌&&◌, map, filter, length, Option, Some, None, refl, ap, ◌∙◌, sym, subst, arith, get_or, set, append_assoc, length-append}
+use Rattle.std.proofs.Common.{◌≡◌, ℕ, zero, suc, ◌+◌, ◌*◌, ◌<◌, ◌≤◌, List, [], ◌∷◌, ◌++◌, Bool, true, false, cond, not, ◌&&◌, map, filter, length, Option, Some, None, refl, ap, ◌∙◌, sym, subst, arith, get_or, set, append_assoc, length-append, replicate, ◌^◌, ◌-◌}
 use Rattle.std.specs.Prelude.{◌==◌, find, if◌then◌else◌, MatchOption}
 use Rattle.std.specs.List.{AllByRecursion}
 use Rattle.std.proofs.lemmas.List.{map-set, set-get_or, length-map}
+use Rattle.winner_tree.specs.declared.keys.LoadKey.{LoadKey}
+use Rattle.winner_tree.specs.declared.keys.MomentKey.{MomentKey}
+use Rattle.winner_tree.specs.Keys.{load_before, moment_before}
 use Rattle.winner_tree.specs.Winner.{HasNone, IsLeast, early_slots}
 use Rattle.numbered_slots.specs.Slots.{rows_in, IsPlaceOf}
+use Rattle.ranked_rows.specs.Ranks.{AreRanked, touches, touched}
 use Rattle.ranked_rows.specs.Ranks.{key_in, HaveNoKey, IsFirstBy, is_early, early_numbers, key_stays, number_in, number_at}
 
 -- no place's key, no row's
@@ -109,19 +113,23 @@ early_within key before bound places = early_below before bound 0 (length places
 -- where no row has the number, none is changed or taken out
 pub none_changed : {T : Type 0} (number : T → ℕ) (n : ℕ) (new : T) (rows : List T) → find (λ r. number r == n) rows ≡ None → map (λ r. if number r == n then new else r) rows ≡ rows
 none_changed number n new [] none = refl
-none_changed {T} number n new (row ∷ rows) none = split (number row == n) none
+none_changed {T} number n new (row ∷ rows) none = split (number row == n) none (none_changed number n new rows)
   where
-    split : (b : Bool) → cond b (Some row) (find (λ r. number r == n) rows) ≡ None → cond b new row ∷ map (λ r. if number r == n then new else r) rows ≡ row ∷ rows
-    split true no = absurd cc
-    split false no = ap (λ l. row ∷ l) (none_changed number n new rows no)
+    split : (b : Bool) → cond b (Some row) (find (λ r. number r == n) rows) ≡ None
+        → (find (λ r. number r == n) rows ≡ None → map (λ r. if number r == n then new else r) rows ≡ rows)
+        → cond b new row ∷ map (λ r. if number r == n then new else r) rows ≡ row ∷ rows
+    split true gone rest = absurd cc
+    split false gone rest = ap (λ l. row ∷ l) (rest gone)
 
 pub none_taken : {T : Type 0} (number : T → ℕ) (n : ℕ) (rows : List T) → find (λ r. number r == n) rows ≡ None → filter (λ r. not (number r == n)) rows ≡ rows
 none_taken number n [] none = refl
-none_taken {T} number n (row ∷ rows) none = split (number row == n) none
+none_taken {T} number n (row ∷ rows) none = split (number row == n) none (none_taken number n rows)
   where
-    split : (b : Bool) → cond b (Some row) (find (λ r. number r == n) rows) ≡ None → cond (not b) (row ∷ filter (λ r. not (number r == n)) rows) (filter (λ r. not (number r == n)) rows) ≡ row ∷ rows
-    split true no = absurd cc
-    split false no = ap (λ l. row ∷ l) (none_taken number n rows no)
+    split : (b : Bool) → cond b (Some row) (find (λ r. number r == n) rows) ≡ None
+        → (find (λ r. number r == n) rows ≡ None → filter (λ r. not (number r == n)) rows ≡ rows)
+        → cond (not b) (row ∷ filter (λ r. not (number r == n)) rows) (filter (λ r. not (number r == n)) rows) ≡ row ∷ rows
+    split true gone rest = absurd cc
+    split false gone rest = ap (λ l. row ∷ l) (rest gone)
 
 -- a place's key that stays
 neither : (x y : Bool) → (not x && not y) ≡ true → (x ≡ false) × (y ≡ false)
@@ -150,3 +158,83 @@ only_row number wanted place places o at is =
 -- as many early places as early numbers
 pub early_length : {T K : Type 0} (number : T → ℕ) (key : T → Option K) (before : K → K → Bool) (bound : K) (places : List (Option T)) → length (early_slots before bound 0 (map (key_in key) places)) ≡ length (early_numbers number key before bound (rows_in places))
 early_length number key before bound places = sym (length-map (early_slots before bound 0 (map (key_in key) places)) (number_at number places)) ∙ ap length (early_are number key before bound places)
+
+-- what a search by the keys costs, by the rows that it finds
+pub early_looks : {T K : Type 0} (number : T → ℕ) (key : T → Option K) (before : K → K → Bool) (bound : K)
+    (places : List (Option T)) (keys : List (Option K)) (old new : ℕ) → keys ≡ map (key_in key) places
+    → ((h : ℕ) → length keys ≤ 2 ^ h → new ≤ old + (2 * h * length (early_slots before bound 0 keys) + 1))
+    → (h : ℕ) → length places ≤ 2 ^ h
+    → new ≤ old + (2 * h * length (early_numbers number key before bound (rows_in places)) + 1)
+early_looks number key before bound places keys old new is looks h le =
+    subst (λ n. new ≤ old + (2 * h * n + 1)) (early_length number key before bound places)
+    (subst (λ k. new ≤ old + (2 * h * length (early_slots before bound 0 k) + 1)) is
+    (looks h (subst (λ n. n ≤ 2 ^ h) (sym (ap length is ∙ length-map places (key_in key))) le)))
+
+-- the numbers of the places that a search by the keys finds
+pub early_found : {T K : Type 0} (number : T → ℕ) (key : T → Option K) (before : K → K → Bool) (bound : K)
+    (places : List (Option T)) (keys : List (Option K)) (found : List ℕ) → keys ≡ map (key_in key) places
+    → found ≡ early_slots before bound 0 keys
+    → map (number_at number places) found ≡ early_numbers number key before bound (rows_in places)
+early_found number key before bound places keys found is by =
+    ap (map (number_at number places)) (by ∙ ap (early_slots before bound 0) is)
+    ∙ early_are number key before bound places
+
+-- no keys
+pub no_keys : {T K : Type 0} (key : T → Option K) (n : ℕ) → replicate n None ≡ map (key_in key) (replicate n None)
+no_keys key zero = refl
+no_keys key (suc n) = ap (λ l. None ∷ l) (no_keys key n)
+
+pub no_keys_grown : {T K : Type 0} (key : T → Option K) (n : ℕ) (places : List (Option T)) (keys : List (Option K))
+    → keys ≡ [] ++ replicate (n - 0) None → places ≡ replicate n None → keys ≡ map (key_in key) places
+no_keys_grown {T} {K} key n places keys is by = is ∙ ap (λ m. replicate m None) whole ∙ no_keys key n
+    ∙ ap (map (key_in key)) (sym by)
+  where
+    whole : n - 0 ≡ n
+    whole = omega arith
+
+-- three keys one after the other
+pub three_looks : (a b c n first second third fourth : ℕ) → second ≤ first + a * n → third ≤ second + b * n
+    → fourth ≤ third + c * n → fourth ≤ first + (a + b + c) * n
+three_looks a b c n first second third fourth one two three = omega (arith, one, two, three)
+
+-- the trees after a change of one place
+pub ranked_set : {T : Type 0} (load_of : T → Option LoadKey) (error_of sign_of : T → Option MomentKey)
+    (places new : List (Option T)) (place : ℕ) (o : Option T) (loads new_loads : List (Option LoadKey))
+    (errors new_errors signs new_signs : List (Option MomentKey))
+    → AreRanked load_of error_of sign_of places loads errors signs → new ≡ set places place o
+    → new_loads ≡ set loads place (key_in load_of o) → new_errors ≡ set errors place (key_in error_of o)
+    → new_signs ≡ set signs place (key_in sign_of o)
+    → AreRanked load_of error_of sign_of new new_loads new_errors new_signs
+ranked_set {T} load_of error_of sign_of places new place o loads new_loads errors new_errors signs new_signs are is
+    by_load by_error by_sign = record {
+      by_load = one load_of loads new_loads are.by_load by_load;
+      by_error = one error_of errors new_errors are.by_error by_error;
+      by_sign = one sign_of signs new_signs are.by_sign by_sign;
+    }
+  where
+    one : {K : Type 0} (key : T → Option K) (old keys : List (Option K)) → old ≡ map (key_in key) places
+        → keys ≡ set old place (key_in key o) → keys ≡ map (key_in key) new
+    one key old keys was does = does ∙ ap (λ k. set k place (key_in key o)) was
+        ∙ sym (map-set (key_in key) places place o) ∙ ap (map (key_in key)) (sym is)
+
+-- the looks of a change of one place, as the number of trees that it touches
+pub put_looks : {T : Type 0} (load_of : T → Option LoadKey) (error_of sign_of : T → Option MomentKey)
+    (places : List (Option T)) (loads : List (Option LoadKey)) (errors signs : List (Option MomentKey)) (old new : Option T)
+    (first second third fourth : ℕ) → AreRanked load_of error_of sign_of places loads errors signs
+    → ((h : ℕ) → length loads ≤ 2 ^ h
+    → second ≤ first + touches load_before (key_in load_of old) (key_in load_of new) * (2 * h + 1))
+    → ((h : ℕ) → length errors ≤ 2 ^ h
+    → third ≤ second + touches moment_before (key_in error_of old) (key_in error_of new) * (2 * h + 1))
+    → ((h : ℕ) → length signs ≤ 2 ^ h
+    → fourth ≤ third + touches moment_before (key_in sign_of old) (key_in sign_of new) * (2 * h + 1))
+    → (h : ℕ) → length places ≤ 2 ^ h → fourth ≤ first + touched load_of error_of sign_of old new * (2 * h + 1)
+put_looks {T} load_of error_of sign_of places loads errors signs old new first second third fourth are one two three h le =
+    three_looks (touches load_before (key_in load_of old) (key_in load_of new))
+    (touches moment_before (key_in error_of old) (key_in error_of new))
+    (touches moment_before (key_in sign_of old) (key_in sign_of new)) (2 * h + 1) first second third fourth
+    (one h (as_many load_of loads are.by_load)) (two h (as_many error_of errors are.by_error))
+    (three h (as_many sign_of signs are.by_sign))
+  where
+    as_many : {K : Type 0} (key : T → Option K) (keys : List (Option K)) → keys ≡ map (key_in key) places
+        → length keys ≤ 2 ^ h
+    as_many key keys is = subst (λ n. n ≤ 2 ^ h) (sym (ap length is ∙ length-map places (key_in key))) le

@@ -1,11 +1,10 @@
 -- The first row by a key, and how many trees a change touches.
-use Rattle.std.specs.Prelude.{◌≡◌, ◌+◌, ◌&&◌, ◌==◌, ℕ, List, [], ◌∷◌, map, filter, find, Bool, true, false, not}
+use Rattle.std.specs.Prelude.{◌≡◌, ◌+◌, ◌&&◌, ◌==◌, ℕ, List, map, filter, find, Bool, true, false, not}
 use Rattle.std.specs.Prelude.{Option, Some, None, if◌then◌else◌, slice_index_or}
 use Rattle.std.specs.List.{AllByRecursion}
 use Rattle.winner_tree.specs.declared.keys.LoadKey.{LoadKey}
 use Rattle.winner_tree.specs.declared.keys.MomentKey.{MomentKey}
 use Rattle.winner_tree.specs.Keys.{load_before, moment_before}
-use Rattle.numbered_slots.specs.Slots.{rows_in}
 
 -- the key of a place's row, if it has one
 abbrev pub key_in : {T K : Type 0} → (T → Option K) → Option T → Option K
@@ -14,9 +13,9 @@ key_in key (Some row) = key row
 
 -- the keys of the places, of each tree
 pub record AreRanked {T : Type 0} (load_of : T → Option LoadKey) (error_of sign_of : T → Option MomentKey) (places : List (Option T)) (loads : List (Option LoadKey)) (errors signs : List (Option MomentKey)) : Type 0 where
-  pub loads : loads ≡ map (key_in load_of) places
-  pub errors : errors ≡ map (key_in error_of) places
-  pub signs : signs ≡ map (key_in sign_of) places
+  pub by_load : loads ≡ map (key_in load_of) places
+  pub by_error : errors ≡ map (key_in error_of) places
+  pub by_sign : signs ≡ map (key_in sign_of) places
 
 -- no row has a key
 abbrev pub HaveNoKey : {T K : Type 0} → (T → Option K) → List T → Type 0

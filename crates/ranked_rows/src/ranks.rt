@@ -1,5 +1,7 @@
 //! `Ranks`: the rows and their trees.
-ghost use Rattle.std.specs.Prelude.{◌≡◌, ◌≤◌, ◌<◌, ◌+◌, ◌*◌, ◌^◌, ◌==◌, ℕ, [], ◌∷◌, ◌++◌, None, Some, IfOk, OnOk, OnErr, MatchOption, length, map, filter, find, not, if◌then◌else◌, nat_lt, slice_index_or, replicate};
+ghost use Rattle.std.specs.Prelude.{◌≡◌, ◌≤◌, ◌<◌, ◌+◌, ◌*◌, ◌^◌, ◌==◌, ℕ, [], ◌∷◌, ◌++◌, true, None, Some};
+ghost use Rattle.std.specs.Prelude.{IfOk, MatchOption, length, map, filter, find, not, if◌then◌else◌, nat_lt};
+ghost use Rattle.std.specs.Prelude.{slice_index_or, replicate};
 ghost use Rattle.winner_tree.specs.Keys.{load_before, moment_before};
 ghost use Rattle.winner_tree.specs.Winner.{early_slots};
 ghost use Rattle.std.specs.List.{AllByRecursion};
