@@ -1,6 +1,6 @@
 -- One place of the rows changes.
 use Rattle.std.proofs.lemmas.Bool.{cases_lt, false≢true}
-use Rattle.std.proofs.Common.{◌≡◌, ◌⊎◌, inl, inr, ℕ, zero, suc, ◌+◌, ◌<◌, ◌≤◌, List, [], ◌∷◌, ◌++◌, Bool, true, false, cond, not, map, filter, length, Option, Some, None, refl, ap, ◌∙◌, sym, subst, arith, eq-eqb, eqb-true, get_or, set, take, drop}
+use Rattle.std.proofs.Common.{◌≡◌, ◌⊎◌, inl, inr, ℕ, zero, suc, ◌+◌, ◌<◌, ◌≤◌, List, [], ◌∷◌, ◌++◌, Bool, true, false, cond, not, map, filter, length, Option, Some, None, refl, ap, ◌∙◌, sym, subst, arith, eq-eqb, eqb-true, get_or, set, take, drop, replicate}
 use Rattle.std.specs.Prelude.{◌==◌, find, if◌then◌else◌}
 use Rattle.std.specs.List.{AllByRecursion}
 use Rattle.std.specs.Prelude.{MatchOption, IsSome}
@@ -242,3 +242,28 @@ between_none ns n at i low high lt is = split (cases_lt i at)
     split : (i < at) ⊎ (at ≤ i) → ⊥
     split (inl below) = let less = low i below in omega (arith, less, is)
     split (inr above) = let more = high i above lt in omega (arith, more, is)
+
+-- how many rows there are
+
+pub fewer : {T : Type 0} (places : List (Option T)) (i : ℕ) (row : T) → get_or places i None ≡ Some row
+    → length (rows_in (set places i None)) + 1 ≡ length (rows_in places)
+fewer [] i row is = let no : None ≡ Some row = is in absurd cc
+fewer (None ∷ places) zero row is = let no : None ≡ Some row = is in absurd cc
+fewer (Some r ∷ places) zero row is = omega arith
+fewer (None ∷ places) (suc i) row is = fewer places i row is
+fewer (Some r ∷ places) (suc i) row is = let less = fewer places i row is in omega (arith, less)
+
+pub no_more : {T : Type 0} (number : T → ℕ) (ns : List ℕ) (places : List (Option T)) → AreNumbered number ns places
+    → length (rows_in places) ≤ length ns
+no_more number [] places are = let none : length (rows_in places) ≡ 0 = ap length (none_there places are) in omega (arith, none)
+no_more number (n ∷ ns) [] are = absurd are
+no_more number (n ∷ ns) (None ∷ places) are = let le = no_more number ns places are in omega (arith, le)
+no_more number (n ∷ ns) (Some row ∷ places) are = let le = no_more number ns places are.1 in omega (arith, le)
+
+pub none_counted : (T : Type 0) (n : ℕ) → 0 ≡ length (rows_in (replicate {A = Option T} n None))
+none_counted T zero = refl
+none_counted T (suc n) = none_counted T n
+
+pub none_listed : (T : Type 0) (n : ℕ) → AllByRecursion (λ (o : Option T). o ≡ None) (replicate n None)
+none_listed T zero = tt
+none_listed T (suc n) = (refl, none_listed T n)

@@ -31,11 +31,13 @@ AreNumbered number (n ∷ ns) [] = ⊥
 AreNumbered number (n ∷ ns) (None ∷ places) = AreNumbered number ns places
 AreNumbered number (n ∷ ns) (Some row ∷ places) = (number row ≡ n) × AreNumbered number ns places
 
--- The numbers rise and are those of the rows, and there is room for the number of each place.
-pub record AreSlots {T : Type 0} (number : T → ℕ) (numbers : List ℕ) (places : List (Option T)) (len capacity : ℕ) : Type 0 where
+-- The numbers rise and are those of the rows, there is room for the number of each place, and the rows are counted.
+pub record AreSlots {T : Type 0} (number : T → ℕ) (numbers : List ℕ) (places : List (Option T))
+    (len capacity count : ℕ) : Type 0 where
   pub rising : AreRising numbers
   pub numbered : AreNumbered number numbers places
   pub room : len ≤ capacity
+  pub counted : count ≡ length (rows_in places)
 
 -- the number is none of those
 abbrev pub IsNowhere : List ℕ → ℕ → Type 0

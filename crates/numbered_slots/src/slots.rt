@@ -12,6 +12,7 @@ use std::marker::Model;
 pub struct Slots<T: Numbered> {
     numbers: Vec<u64>,
     rows: Vec<Option<T>>,
+    count: usize,
 }
 
 impl<T: Numbered> Model for Slots<T> {
@@ -22,7 +23,8 @@ impl<T: Numbered> Model for Slots<T> {
 
     ghost view = { λ s. record { places = s.rows.items; numbers = s.numbers.items } };
 
-    ghost invariant = { λ s. AreSlots T.number_of s.numbers.items s.rows.items (vec_len s.rows) (vec_capacity s.numbers) };
+    ghost invariant = { λ s. AreSlots T.number_of s.numbers.items s.rows.items (vec_len s.rows)
+        (vec_capacity s.numbers) s.count };
 }
 
 /// The place of a number among numbers that rise, if it is there.
@@ -53,6 +55,16 @@ fn write_at<T: Copy>(rows: &mut Vec<Option<T>>, place: usize, row: Option<T>)
     rows[place] = row;
 }
 
+/// So many places without a row. Refused for want of memory alone.
+fn free_places<T: Copy>(alloc: Global, places: usize) -> Result<Vec<Option<T>>, AllocError>
+    ensures items { IfOk result (λ v. v.items ≡ replicate places None) }
+    ensures len { IfOk result (λ v. vec_len v ≡ places) }
+{
+    let mut rows = Vec::new(alloc);
+    rows.resize(places, None)?;
+    Ok(rows)
+}
+
 /// The place, where it has a row.
 fn if_full<T: Copy>(place: usize, row: Option<T>) -> Option<usize>
     ensures { MatchOption result (row ≡ None) (λ p. (p ≡ place) × IsSome row) }
@@ -71,6 +83,7 @@ impl<T: Numbered> Slots<T> {
         Slots {
             numbers: Vec::new(alloc),
             rows: Vec::new(alloc),
+            count: 0,
         }
     }
 
@@ -79,9 +92,12 @@ impl<T: Numbered> Slots<T> {
         ensures { IfOk result (λ s. s ≡ record { places = replicate places None; numbers = [] }) }
     {
         let numbers = Vec::with_capacity(alloc, places)?;
-        let mut rows = Vec::new(alloc);
-        rows.resize(places, None)?;
-        Ok(Slots { numbers, rows })
+        let rows = free_places(alloc, places)?;
+        Ok(Slots {
+            numbers,
+            rows,
+            count: 0,
+        })
     }
 
     /// How many places there are.
@@ -89,6 +105,13 @@ impl<T: Numbered> Slots<T> {
         ensures { result ≡ length self.now.places }
     {
         self.rows.len()
+    }
+
+    /// How many rows there are.
+    pub fn count(&self) -> usize
+        ensures { result ≡ length (rows_in self.now.places) }
+    {
+        self.count
     }
 
     /// How many places had a row: the next row goes behind them.
@@ -154,6 +177,7 @@ impl<T: Numbered> Slots<T> {
         ensures numbers { self.new.numbers ≡ self.old.numbers }
     {
         write_at(&mut self.rows, place, None);
+        self.count -= 1;
     }
 
     /// Adds a row whose number is above all that were pushed, behind all others. It takes no memory.
@@ -170,5 +194,6 @@ impl<T: Numbered> Slots<T> {
             Err(_) => unreachable!(),
         }
         write_at(&mut self.rows, place, Some(row));
+        self.count += 1;
     }
 }

@@ -1,5 +1,5 @@
 use Rattle.std.proofs.Common.{◌≤◌, ap, ◌∙◌, sym, arith}
-use Rattle.numbered_slots.proofs.SlotLemmas.{rows-take_out, numbered-take_out, among}
+use Rattle.numbered_slots.proofs.SlotLemmas.{rows-take_out, numbered-take_out, among, fewer}
 use Rattle.numbered_slots.proofs.slots.Slots.take_out.Goals as goal
 
 pub invariant_of-self : goal.invariant_of-self
@@ -13,6 +13,7 @@ invariant_of-self g c =
       rising = c.self.invariant.rising;
       numbered = numbered-take_out g.T.Numbered.number_of s.numbers.items s.rows.items c.args.place c.self.invariant.numbered at.0;
       room = omega (arith, len, room);
+      counted = omega (arith, fewer s.rows.items c.args.place c.requires.row is, c.self.invariant.counted);
     })
 
 pub returns-clause-rows : goal.returns-clause-rows
