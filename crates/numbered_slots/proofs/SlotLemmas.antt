@@ -1,6 +1,6 @@
 -- One place of the rows changes.
 use Rattle.std.proofs.lemmas.Bool.{cases_lt, false≢true}
-use Rattle.std.proofs.Common.{◌≡◌, ◌⊎◌, inl, inr, ℕ, zero, suc, ◌+◌, ◌<◌, ◌≤◌, List, [], ◌∷◌, ◌++◌, Bool, true, false, cond, not, map, filter, length, Option, Some, None, refl, ap, ◌∙◌, sym, subst, arith, eq-eqb, eqb-true, get_or, set, take, drop, replicate}
+use Rattle.std.proofs.Common.{◌≡◌, ◌⊎◌, inl, inr, ℕ, zero, suc, ◌+◌, ◌<◌, ◌≤◌, List, [], ◌∷◌, ◌++◌, Bool, true, false, not, map, filter, length, Option, Some, None, refl, ap, ◌∙◌, sym, subst, arith, eq-eqb, eqb-true, get_or, set, replicate}
 use Rattle.std.specs.Prelude.{◌==◌, find, if◌then◌else◌}
 use Rattle.std.specs.List.{AllByRecursion}
 use Rattle.std.specs.Prelude.{MatchOption, IsSome}
@@ -267,3 +267,35 @@ none_counted T (suc n) = none_counted T n
 pub none_listed : (T : Type 0) (n : ℕ) → AllByRecursion (λ (o : Option T). o ≡ None) (replicate n None)
 none_listed T zero = tt
 none_listed T (suc n) = (refl, none_listed T n)
+
+-- the order of the rows
+
+all_above : {T : Type 0} (number : T → ℕ) (n : ℕ) (rows : List T) → AllByRecursion (λ r. n < number r) rows
+    → AllByRecursion (λ m. n < m) (map number rows)
+all_above number n [] all = tt
+all_above number n (row ∷ rows) all = (all.0, all_above number n rows all.1)
+
+pub rows_rise : {T : Type 0} (number : T → ℕ) (ns : List ℕ) (places : List (Option T)) → AreRising ns
+    → AreNumbered number ns places → AreRising (map number (rows_in places))
+rows_rise number [] places rising are = rw (none_there places are) tt
+rows_rise number (n ∷ ns) [] rising are = absurd are
+rows_rise number (n ∷ ns) (None ∷ places) rising are = rows_rise number ns places rising.1 are
+rows_rise number (n ∷ ns) (Some row ∷ places) rising are =
+    (all_above number (number row) (rows_in places)
+    (above number (number row) ns places are.1 (subst (λ k. AllByRecursion (λ m. k < m) ns) (sym are.0) rising.0)),
+    rows_rise number ns places rising.1 are.1)
+
+less_all : {T : Type 0} (number : T → ℕ) (m n : ℕ) (rows : List T) → m ≤ n → AllByRecursion (λ r. number r < m) rows
+    → AllByRecursion (λ r. number r < n) rows
+less_all number m n [] le all = tt
+less_all number m n (row ∷ rows) le all = let lt : number row < m = all.0 in (omega (arith, lt, le), less_all number m n rows le all.1)
+
+pub rows_below : {T : Type 0} (number : T → ℕ) (ns : List ℕ) (places : List (Option T)) → AreRising ns
+    → AreNumbered number ns places → AllByRecursion (λ r. number r < top ns) (rows_in places)
+rows_below number [] places rising are = rw (none_there places are) tt
+rows_below number (n ∷ ns) [] rising are = absurd are
+rows_below number (n ∷ ns) (None ∷ places) rising are =
+    less_all number (top ns) (top (n ∷ ns)) (rows_in places) (top_of n ns) (rows_below number ns places rising.1 are)
+rows_below number (n ∷ ns) (Some row ∷ places) rising are =
+    (subst (λ k. k < top (n ∷ ns)) (sym are.0) (below_top n ns rising),
+    less_all number (top ns) (top (n ∷ ns)) (rows_in places) (top_of n ns) (rows_below number ns places rising.1 are.1))

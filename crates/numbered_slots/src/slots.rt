@@ -1,5 +1,6 @@
 //! `Slots`: rows by place and by number.
 ghost use Rattle.std.specs.Prelude.{◌≡◌, ◌≤◌, ◌<◌, ◌+◌, ◌==◌, [], ◌∷◌, ◌++◌, None, Some, IfOk, IsSome, MatchOption, length, map, filter, find, not, replicate, if◌then◌else◌, nat_lt, slice_index_or, slice_set, vec_len, vec_capacity};
+ghost use Rattle.std.specs.List.{AllByRecursion};
 ghost use Rattle.numbered_slots.specs.Slots.{rows_in, top, IsPlaceOf, AreRising, IsNowhere, IsAt};
 
 use crate::numbered::Numbered;
@@ -118,6 +119,9 @@ impl<T: Numbered> Slots<T> {
     pub fn used(&self) -> usize
         ensures used { result ≡ length self.now.numbers }
         ensures within { result ≤ length self.now.places }
+        // The numbers of the rows rise, and are below the least number above all that were pushed.
+        ensures rising { AreRising (map T.number_of (rows_in self.now.places)) }
+        ensures below { AllByRecursion (λ r. T.number_of r < top self.now.numbers) (rows_in self.now.places) }
     {
         self.numbers.len()
     }

@@ -1,13 +1,13 @@
 -- What the trees say of the places is what holds of the rows.
-use Rattle.std.proofs.Common.{◌≡◌, ℕ, zero, suc, ◌+◌, ◌*◌, ◌<◌, ◌≤◌, List, [], ◌∷◌, ◌++◌, Bool, true, false, cond, not, ◌&&◌, map, filter, length, Option, Some, None, refl, ap, ◌∙◌, sym, subst, arith, get_or, set, append_assoc, length-append, replicate, ◌^◌, ◌-◌}
-use Rattle.std.specs.Prelude.{◌==◌, find, if◌then◌else◌, MatchOption}
+use Rattle.std.proofs.Common.{◌≡◌, ℕ, zero, suc, ◌+◌, ◌*◌, ◌<◌, ◌≤◌, List, [], ◌∷◌, ◌++◌, Bool, true, false, cond, not, ◌&&◌, map, filter, length, Option, Some, None, refl, ap, ◌∙◌, sym, subst, arith, get_or, set, append_assoc, length-append, replicate, ◌^◌, ◌-◌, take}
+use Rattle.std.specs.Prelude.{◌==◌, find, if◌then◌else◌, MatchOption, IfSome, option_to_list}
 use Rattle.std.specs.List.{AllByRecursion}
-use Rattle.std.proofs.lemmas.List.{map-set, set-get_or, length-map}
+use Rattle.std.proofs.lemmas.List.{map-set, set-get_or, length-map, map-append, take_more}
 use Rattle.winner_tree.specs.declared.keys.LoadKey.{LoadKey}
 use Rattle.winner_tree.specs.declared.keys.MomentKey.{MomentKey}
 use Rattle.winner_tree.specs.Keys.{load_before, moment_before}
 use Rattle.winner_tree.specs.Winner.{HasNone, IsLeast, early_slots}
-use Rattle.numbered_slots.specs.Slots.{rows_in, IsPlaceOf}
+use Rattle.numbered_slots.specs.Slots.{rows_in, top, AreRising, IsPlaceOf}
 use Rattle.ranked_rows.specs.Ranks.{AreRanked, touches, touched}
 use Rattle.ranked_rows.specs.Ranks.{key_in, HaveNoKey, IsFirstBy, is_early, early_numbers, key_stays, number_in, number_at}
 
@@ -238,3 +238,87 @@ put_looks {T} load_of error_of sign_of places loads errors signs old new first s
     as_many : {K : Type 0} (key : T → Option K) (keys : List (Option K)) → keys ≡ map (key_in key) places
         → length keys ≤ 2 ^ h
     as_many key keys is = subst (λ n. n ≤ 2 ^ h) (sym (ap length is ∙ length-map places (key_in key))) le
+
+-- rows one after the other
+
+rows_more : {T : Type 0} (front : List (Option T)) (o : Option T)
+    → rows_in (front ++ o ∷ []) ≡ rows_in front ++ option_to_list o
+rows_more [] None = refl
+rows_more [] (Some row) = refl
+rows_more (None ∷ front) o = rows_more front o
+rows_more (Some row ∷ front) o = ap (λ l. row ∷ l) (rows_more front o)
+
+pub rows_take : {T : Type 0} (places : List (Option T)) (i : ℕ) → i < length places
+    → rows_in (take (i + 1) places) ≡ rows_in (take i places) ++ option_to_list (get_or places i None)
+rows_take places i lt = ap rows_in (take_more places i None lt) ∙ rows_more (take i places) (get_or places i None)
+
+pub rows_few : {T : Type 0} (places : List (Option T)) (i : ℕ) → length (rows_in (take i places)) ≤ length (rows_in places)
+rows_few [] zero = omega arith
+rows_few [] (suc i) = omega arith
+rows_few (o ∷ places) zero = omega arith
+rows_few (None ∷ places) (suc i) = rows_few places i
+rows_few (Some row ∷ places) (suc i) = let few = rows_few places i in omega (arith, few)
+
+above_all : {T : Type 0} (number : T → ℕ) (n : ℕ) (places : List (Option T)) (i : ℕ) (row : T)
+    → AllByRecursion (λ m. n < m) (map number (rows_in places)) → get_or places i None ≡ Some row → n < number row
+above_all number n [] i row all is = let none : None ≡ Some row = is in absurd cc
+above_all number n (None ∷ places) zero row all is = let none : None ≡ Some row = is in absurd cc
+above_all number n (Some r ∷ places) zero row all is =
+    let one : Some r ≡ Some row = is in
+    let same : r ≡ row = cc in subst (λ q. n < number q) same all.0
+above_all number n (None ∷ places) (suc i) row all is = above_all number n places i row all is
+above_all number n (Some r ∷ places) (suc i) row all is = above_all number n places i row all.1 is
+
+-- the numbers in front of a row are below its own
+pub top_front : {T : Type 0} (number : T → ℕ) (places : List (Option T)) (i : ℕ) (row : T)
+    → AreRising (map number (rows_in places)) → get_or places i None ≡ Some row
+    → top (map number (rows_in (take i places))) ≤ number row
+top_front number [] zero row rising is = omega arith
+top_front number [] (suc i) row rising is = omega arith
+top_front number (o ∷ places) zero row rising is = omega arith
+top_front number (None ∷ places) (suc i) row rising is = top_front number places i row rising is
+top_front number (Some r ∷ places) (suc i) row rising is =
+    let lt : number r < number row = above_all number (number r) places i row rising.0 is in
+    let rest : top (map number (rows_in (take i places))) ≤ number row = top_front number places i row rising.1 is in
+    top_cons (number r) (map number (rows_in (take i places))) (number row) lt rest
+  where
+    top_cons : (n : ℕ) (ns : List ℕ) (m : ℕ) → n < m → top ns ≤ m → top (n ∷ ns) ≤ m
+    top_cons n [] m lt le = omega (arith, lt)
+    top_cons n (k ∷ ns) m lt le = le
+
+pub top_all : {T : Type 0} (number : T → ℕ) (t : ℕ) (rows : List T) → AllByRecursion (λ r. number r < t) rows
+    → top (map number rows) ≤ t
+top_all number t [] all = omega arith
+top_all number t (row ∷ []) all = let lt : number row < t = all.0 in omega (arith, lt)
+top_all number t (row ∷ other ∷ rows) all = top_all number t (other ∷ rows) all.1
+
+-- what stands at a place, whatever stands for what does not
+pub in_range : {X : Type 0} (xs : List X) (i : ℕ) (a b : X) → i < length xs → get_or xs i a ≡ get_or xs i b
+in_range [] i a b lt = absurd (omega (arith, lt))
+in_range (x ∷ xs) zero a b lt = refl
+in_range (x ∷ xs) (suc i) a b lt = in_range xs i a b (omega (arith, lt))
+
+-- what has a number is above the front
+pub above_front : {T : Type 0} (number : T → ℕ) (places : List (Option T)) (i : ℕ) (o : Option T)
+    → AreRising (map number (rows_in places)) → o ≡ get_or places i None
+    → IfSome o (λ r. top (map number (rows_in (take i places))) ≤ number r)
+above_front number places i None rising is = tt
+above_front number places i (Some row) rising is = top_front number places i row rising (sym is)
+
+-- one row more of those
+pub more_rows : {T : Type 0} (number : T → ℕ) (places : List (Option T)) (i : ℕ) (o : Option T)
+    (rows new : List T) (numbers new_numbers : List ℕ) → i < length places → o ≡ get_or places i None
+    → (rows ≡ rows_in (take i places)) × (numbers ≡ map number (rows_in (take i places)))
+    → new ≡ rows ++ option_to_list o → new_numbers ≡ numbers ++ map number (option_to_list o)
+    → (new ≡ rows_in (take (i + 1) places)) × (new_numbers ≡ map number (rows_in (take (i + 1) places)))
+more_rows number places i o rows new numbers new_numbers lt is so_far by_row by_number =
+    let more = rows_take places i lt in (
+      by_row ∙ ap (λ l. l ++ option_to_list o) so_far.0 ∙ ap (λ q. rows_in (take i places) ++ option_to_list q) is ∙ sym more,
+      by_number ∙ ap (λ l. l ++ map number (option_to_list o)) so_far.1
+          ∙ sym (map-append number (rows_in (take i places)) (option_to_list o))
+          ∙ ap (map number) (ap (λ q. rows_in (take i places) ++ option_to_list q) is ∙ sym more),
+    )
+
+pub no_rows : (T : Type 0) (n : ℕ) → rows_in (replicate {A = Option T} n None) ≡ []
+no_rows T zero = refl
+no_rows T (suc n) = no_rows T n

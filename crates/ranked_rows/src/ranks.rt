@@ -1,7 +1,7 @@
 //! `Ranks`: the rows and their trees.
 ghost use Rattle.std.specs.Prelude.{◌≡◌, ◌≤◌, ◌<◌, ◌+◌, ◌*◌, ◌^◌, ◌==◌, ℕ, [], ◌∷◌, ◌++◌, true, None, Some};
 ghost use Rattle.std.specs.Prelude.{IfOk, MatchOption, length, map, filter, find, not, if◌then◌else◌, nat_lt};
-ghost use Rattle.std.specs.Prelude.{slice_index_or, replicate};
+ghost use Rattle.std.specs.Prelude.{slice_index_or, replicate, IfSome, option_to_list};
 ghost use Rattle.winner_tree.specs.Keys.{load_before, moment_before};
 ghost use Rattle.winner_tree.specs.Winner.{early_slots};
 ghost use Rattle.std.specs.List.{AllByRecursion};
@@ -90,6 +90,20 @@ fn numbers_at<T: Ranked>(alloc: Global, slots: &Slots<T>, places: &[usize]) -> R
     Ok(numbers)
 }
 
+/// Adds a row, if there is one, whose number is above all that were pushed.
+fn push_if<T: Ranked, L: Ledger>(ranks: &mut Ranks<T>, row: &Option<T>, steps: &mut Steps<L>)
+    requires room { length ranks.old.numbers < length ranks.old.places }
+    requires above { IfSome row.now (λ r. top ranks.old.numbers ≤ T.number_of r) }
+    ensures rows { rows_in ranks.new.places ≡ rows_in ranks.old.places ++ option_to_list row.now }
+    ensures numbers { ranks.new.numbers ≡ ranks.old.numbers ++ map T.number_of (option_to_list row.now) }
+    ensures len { length ranks.new.places ≡ length ranks.old.places }
+{
+    match row {
+        Some(row) => ranks.push(*row, steps),
+        None => (),
+    }
+}
+
 impl<T: Ranked> Ranks<T> {
     /// No row, in no place. It takes no memory.
     pub fn new(alloc: Global) -> Self
@@ -127,6 +141,20 @@ impl<T: Ranked> Ranks<T> {
         ensures { result.now ≡ self.now.places }
     {
         self.slots.places()
+    }
+
+    /// How many rows there are.
+    pub fn count(&self) -> usize
+        ensures { result ≡ length (rows_in self.now.places) }
+    {
+        self.slots.count()
+    }
+
+    /// How many places there are.
+    pub fn len(&self) -> usize
+        ensures { result ≡ length self.now.places }
+    {
+        self.slots.len()
     }
 
     /// Whether a place is left behind all rows.
@@ -274,5 +302,26 @@ impl<T: Ranked> Ranks<T> {
         self.errors.set(place, row.error_key(), steps);
         self.signs.set(place, row.sign_key(), steps);
         self.slots.push(row);
+    }
+
+    /// The same rows in so many places, from the first on. Refused for want of memory alone.
+    pub fn renewed<L: Ledger>(
+        &self,
+        alloc: Global,
+        places: usize,
+        steps: &mut Steps<L>,
+    ) -> Result<Self, AllocError>
+        requires { length (rows_in self.now.places) < places }
+        ensures rows { IfOk result (λ r. rows_in r.places ≡ rows_in self.now.places) }
+        ensures len { IfOk result (λ r. length r.places ≡ places) }
+        ensures room { IfOk result (λ r. length r.numbers < length r.places) }
+        ensures top { IfOk result (λ r. top r.numbers ≤ top self.now.numbers) }
+    {
+        let _used = self.slots.used();
+        let mut ranks = Ranks::with_places(alloc, places)?;
+        for row in self.slots.places() {
+            push_if(&mut ranks, row, steps);
+        }
+        Ok(ranks)
     }
 }

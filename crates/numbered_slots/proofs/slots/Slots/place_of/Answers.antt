@@ -1,4 +1,4 @@
-use Rattle.std.proofs.Common.{◌<◌, ◌≤◌, length, arith}
+use Rattle.std.proofs.Common.{◌<◌, length, arith}
 use Rattle.numbered_slots.proofs.SlotLemmas.{not_found, place_is, within}
 use Rattle.numbered_slots.proofs.slots.Slots.place_of.Goals as goal
 

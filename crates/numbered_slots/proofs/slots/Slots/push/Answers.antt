@@ -1,4 +1,4 @@
-use Rattle.std.proofs.Common.{◌≡◌, ◌<◌, ◌≤◌, ◌+◌, ◌∷◌, [], Some, set, length, length-append, ap, ◌∙◌, sym, arith}
+use Rattle.std.proofs.Common.{◌≡◌, ◌<◌, ◌+◌, ◌∷◌, [], Some, set, length, length-append, ap, ◌∙◌, arith}
 use Rattle.numbered_slots.specs.Slots.{rows_in}
 use Rattle.numbered_slots.proofs.SlotLemmas.{rows-push, numbered-push, rising-push, no_more}
 use Rattle.numbered_slots.proofs.slots.Slots.push.Goals as goal

@@ -1,4 +1,4 @@
-use Rattle.std.proofs.Common.{◌≤◌, ap, ◌∙◌, sym, arith}
+use Rattle.std.proofs.Common.{ap, ◌∙◌, sym, arith}
 use Rattle.std.proofs.Common.{length}
 use Rattle.std.proofs.lemmas.List.{length-map}
 use Rattle.numbered_slots.specs.Slots.{rows_in}

@@ -1,4 +1,3 @@
-use Rattle.std.proofs.Common.{◌∙◌, ap}
 use Rattle.numbered_slots.proofs.SlotLemmas.{row_is}
 use Rattle.numbered_slots.proofs.slots.Slots.row.Goals as goal
 

@@ -1,4 +1,4 @@
-use Rattle.std.proofs.Common.{◌≤◌, ap, ◌∙◌, sym, arith}
+use Rattle.std.proofs.Common.{◌∙◌, arith}
 use Rattle.numbered_slots.proofs.SlotLemmas.{rows-take_out, numbered-take_out, among, fewer}
 use Rattle.numbered_slots.proofs.slots.Slots.take_out.Goals as goal
 

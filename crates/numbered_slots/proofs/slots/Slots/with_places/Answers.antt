@@ -1,5 +1,4 @@
-use Rattle.std.proofs.Common.{◌≡◌, ◌≤◌, [], None, replicate, length, ap, ◌∙◌, sym, arith}
-use Rattle.numbered_slots.specs.Slots.{rows_in}
+use Rattle.std.proofs.Common.{arith}
 use Rattle.numbered_slots.proofs.SlotLemmas.{none_counted, none_listed}
 use Rattle.numbered_slots.proofs.slots.Slots.with_places.Goals as goal
 
