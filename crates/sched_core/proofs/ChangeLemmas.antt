@@ -1,5 +1,5 @@
 -- What an entry does to all rows, as changes of single rows.
-use Rattle.std.proofs.Common.{◌≡◌, ◌<◌, ℕ, ◌+◌, ◌^◌, List, [], ◌∷◌, ◌++◌, Bool, true, false, cond, not, ◌||◌, ◌&&◌, map, filter}
+use Rattle.std.proofs.Common.{◌≡◌, ◌<◌, ℕ, ◌+◌, ◌-◌, ◌^◌, List, [], ◌∷◌, ◌++◌, ◌≤◌, Bool, true, false, cond, not, ◌||◌, ◌&&◌, map, filter}
 use Rattle.std.proofs.Common.{Option, Some, None, refl, ap, ◌∙◌, sym, subst, take, get_or, length, arith, eqb-true, eq-eqb}
 use Rattle.std.specs.Prelude.{◌==◌, if◌then◌else◌, find}
 use Rattle.std.specs.List.{AllByRecursion, list_any}
@@ -25,13 +25,16 @@ use Rattle.sched_core.specs.Standing.{is_heard, standing}
 use Rattle.sched_core.specs.Rows.{row_of, servers_of}
 use Rattle.sched_core.specs.Prune.{at_address}
 use Rattle.sched_core.specs.Laws.{AreRising, AreDifferent, IsLegal}
-use Rattle.sched_core.specs.Books.{one_more_if, row_after, served_by, place_if}
-use Rattle.sched_core.specs.Changes.{row_changed, row_changed_at, row_changed_if, row_forgiven, row_reserved, row_renewed, AreSoundRows}
+use Rattle.std.specs.Prelude.{count_by}
+use Rattle.sched_core.specs.declared.rows.HeldRow.{HeldRow}
+use Rattle.sched_core.specs.Books.{one_more_if, row_after, row_freed, row_stays, freed_at, served_by, place_if, settled}
+use Rattle.sched_core.specs.Changes.{row_changed, row_changed_at, row_changed_if, row_forgiven, row_reserved, row_renewed}
+use Rattle.sched_core.specs.Registrations.{AreSoundRows, HasCpus}
 use Rattle.sched_core.proofs.Lists.{map-map, map-same, filter-filter}
 use Rattle.sched_core.proofs.GrowLemmas.{map-agree}
-use Rattle.sched_core.proofs.AllLemmas.{all-both, all-weaker, is_false, true_false}
+use Rattle.sched_core.proofs.AllLemmas.{all-both, all-weaker, all-map, all-filter, is_false, true_false}
 use Rattle.sched_core.proofs.AddressLemmas.{same_is, legal_apart}
-use Rattle.sched_core.proofs.PickLemmas.{rising_only, rows_rising}
+use Rattle.sched_core.proofs.PickLemmas.{rising_only, rows_rising, rows_positive}
 use Rattle.sched_core.proofs.RoomLemmas.{legal_fits}
 use Rattle.sched_core.proofs.RowLemmas.{at_there}
 use Rattle.sched_core.proofs.RisingLemmas.{rising-filter, different-filter}
@@ -213,7 +216,7 @@ update_seen e open_ones rows server job state answer served is by =
 
 -- which rows end
 
-filter_each : {X : Type 0} (p q : X → Bool) → ((x : X) → p x ≡ q x) → (xs : List X) → filter p xs ≡ filter q xs
+pub filter_each : {X : Type 0} (p q : X → Bool) → ((x : X) → p x ≡ q x) → (xs : List X) → filter p xs ≡ filter q xs
 filter_each p q same [] = refl
 filter_each p q same (x ∷ xs) = ap (λ b. cond b (x ∷ filter p xs) (filter p xs)) (same x)
     ∙ ap (λ l. cond (q x) (x ∷ l) l) (filter_each p q same xs)
@@ -234,14 +237,24 @@ end_more ns n rows = filter_each (λ r. not (names (ns ++ n ∷ []) r.reg)) (λ 
     each : (r : ServerRow) → not (names (ns ++ n ∷ []) r.reg) ≡ (not (names ns r.reg) && not (n == r.reg))
     each r = ap not (list_any-append (λ k. k == r.reg) ns (n ∷ [])) ∙ neither (names ns r.reg) (n == r.reg)
 
--- rows that are left, with other loads, are of different registrations still
-pub sound_left : (p : ServerRow → Bool) (f : ServerRow → ServerRow) → ((r : ServerRow) → (f r).reg ≡ r.reg) → ((r : ServerRow) → (f r).server ≡ r.server)
-    → (rows : List ServerRow) → AreSoundRows rows → AreSoundRows (map f (filter p rows))
-sound_left p f same_reg same_server rows sound = record {
-  rising = subst AreRising (map-agree (λ r. r.reg) (λ r. (f r).reg) (λ r. sym (same_reg r)) (filter p rows) ∙ sym (map-map (λ r. r.reg) f (filter p rows)))
-      (rising-filter (λ r. r.reg) p rows sound.rising);
-  apart = subst AreDifferent (map-agree (λ r. r.server) (λ r. (f r).server) (λ r. sym (same_server r)) (filter p rows) ∙ sym (map-map (λ r. r.server) f (filter p rows)))
-      (different-filter (λ r. r.server) p rows sound.apart);
+-- rows of other registrations, and fewer of them, are of different registrations still
+pub sound_map : (f : ServerRow → ServerRow) → ((r : ServerRow) → (f r).reg ≡ r.reg)
+    → ((r : ServerRow) → (f r).server ≡ r.server) → ((r : ServerRow) → (f r).cpus ≡ r.cpus)
+    → (rows : List ServerRow) → AreSoundRows rows → AreSoundRows (map f rows)
+sound_map f same_reg same_server same_cpus rows sound = record {
+  rising = subst AreRising (map-agree (λ r. r.reg) (λ r. (f r).reg) (λ r. sym (same_reg r)) rows
+      ∙ sym (map-map (λ r. r.reg) f rows)) sound.rising;
+  apart = subst AreDifferent (map-agree (λ r. r.server) (λ r. (f r).server) (λ r. sym (same_server r)) rows
+      ∙ sym (map-map (λ r. r.server) f rows)) sound.apart;
+  cpus = all-map HasCpus f rows (all-weaker HasCpus (λ r. HasCpus (f r))
+      (λ r some. subst (λ n. 1 ≤ n) (sym (same_cpus r)) some) rows sound.cpus);
+}
+
+pub sound_filter : (p : ServerRow → Bool) (rows : List ServerRow) → AreSoundRows rows → AreSoundRows (filter p rows)
+sound_filter p rows sound = record {
+  rising = rising-filter (λ r. r.reg) p rows sound.rising;
+  apart = different-filter (λ r. r.server) p rows sound.apart;
+  cpus = all-filter HasCpus HasCpus p (λ r some t. some) rows sound.cpus;
 }
 
 -- the registrations that stand over a legal log
@@ -249,4 +262,68 @@ pub sound_rows : (base count : ℕ) (log : List CoreEntry) → count < 2 ^ 64 �
 sound_rows base count log fits legal = record {
   rising = rows_rising log (legal_fits base count log fits legal).room.rising;
   apart = subst AreDifferent (sym (map-map (λ r. r.server) (row_of log) (standing log))) (legal_apart base count log legal);
+  cpus = rows_positive log (legal_fits base count log fits legal).room.positive;
 }
+
+-- which rows end, one number after the other
+pub end-none : (rows : List ServerRow) → rows ≡ filter (λ r. not (names [] r.reg)) rows
+end-none rows = sym (filter_all (λ r. true) (λ r. refl) rows)
+  where
+    filter_all : (p : ServerRow → Bool) → ((r : ServerRow) → p r ≡ true) → (rs : List ServerRow) → filter p rs ≡ rs
+    filter_all p yes [] = refl
+    filter_all p yes (r ∷ rs) = ap (λ b. cond b (r ∷ filter p rs) (filter p rs)) (yes r) ∙ ap (λ l. r ∷ l) (filter_all p yes rs)
+
+pub end-step : (numbers : List ℕ) (i : ℕ) (first rows new : List ServerRow) → i < length numbers
+    → rows ≡ filter (λ r. not (names (take i numbers) r.reg)) first
+    → new ≡ filter (λ r. not (get_or numbers i 0 == r.reg)) rows
+    → new ≡ filter (λ r. not (names (take (i + 1) numbers) r.reg)) first
+end-step numbers i first rows new within so_far does =
+    does ∙ ap (filter (λ r. not (get_or numbers i 0 == r.reg))) so_far
+    ∙ sym (end_more (take i numbers) (get_or numbers i 0) first)
+    ∙ ap (λ ns. filter (λ r. not (names ns r.reg)) first) (sym (take_more numbers i 0 within))
+
+pub end_both : (ns : List ℕ) (o : Option ℕ) (rows : List ServerRow)
+    → filter (λ r. not (is_this o r.reg)) (filter (λ r. not (names ns r.reg)) rows)
+    ≡ filter (λ r. not (names ns r.reg || is_this o r.reg)) rows
+end_both ns o rows = sym (filter-filter (λ r. not (is_this o r.reg)) (λ r. not (names ns r.reg)) rows)
+    ∙ filter_each (λ r. not (names ns r.reg) && not (is_this o r.reg)) (λ r. not (names ns r.reg || is_this o r.reg))
+    (λ r. each (names ns r.reg) (is_this o r.reg)) rows
+  where
+    each : (a b : Bool) → (not a && not b) ≡ not (a || b)
+    each true b = refl
+    each false b = refl
+
+pub keep_all : {X : Type 0} (xs : List X) → xs ≡ filter (λ x. true) xs
+keep_all [] = refl
+keep_all (x ∷ xs) = ap (λ l. x ∷ l) (keep_all xs)
+
+-- a reserve ends no registration and no reservation
+pub reserve_whole : (e : CoreEntry) (held : List HeldRow) (open_ones : List OpenRow) (rows : List ServerRow) (reserved : Reserved)
+    → e.kind ≡ Reserve reserved → map (row_reserved reserved) rows ≡ settled e held open_ones rows
+reserve_whole e held open_ones rows reserved is =
+    subst (λ k. map (row_reserved reserved) rows ≡ settled (record { now = e.now; kind = k }) held open_ones rows) (sym is)
+    (by_reserved reserved)
+  where
+    none_freed : (r : Reserved) (hs : List HeldRow) (n : ℕ) → freed_at (Reserve r) hs n ≡ 0
+    none_freed r hs n = count_none hs
+      where
+        count_none : (xs : List HeldRow) → count_by (λ (x : HeldRow). false) xs ≡ 0
+        count_none [] = refl
+        count_none (x ∷ xs) = count_none xs
+
+    unfreed : (r : Reserved) → map (row_freed (Reserve r) held) (filter (row_stays (Reserve r)) rows) ≡ rows
+    unfreed r = map-same (row_freed (Reserve r) held)
+        (λ x. ap (λ n. record x { load = x.load - n }) (none_freed r held x.reg) ∙ ap (λ n. record x { load = n }) (less_none x.load))
+        (filter (row_stays (Reserve r)) rows) ∙ sym (keep_all rows)
+      where
+        less_none : (n : ℕ) → n - 0 ≡ n
+        less_none n = omega arith
+
+    by_reserved : (r : Reserved) → map (row_reserved r) rows ≡ settled (record { now = e.now; kind = Reserve r }) held open_ones rows
+    by_reserved (Job job reg forgiven) = ap (map (row_reserved (Job job reg forgiven))) (sym (unfreed (Job job reg forgiven)))
+        ∙ map-agree (row_reserved (Job job reg forgiven))
+        (row_after (record { now = e.now; kind = Reserve (Job job reg forgiven) }) None) (λ r. refl) _
+    by_reserved (NoRoom n) = ap (map (row_reserved (NoRoom n))) (sym (unfreed (NoRoom n)))
+        ∙ map-agree (row_reserved (NoRoom n)) (row_after (record { now = e.now; kind = Reserve (NoRoom n) }) None) (λ r. refl) _
+    by_reserved Spent = ap (map (row_reserved Spent)) (sym (unfreed Spent))
+        ∙ map-agree (row_reserved Spent) (row_after (record { now = e.now; kind = Reserve Spent }) None) (λ r. refl) _

@@ -20,6 +20,7 @@ use Rattle.sched_core.specs.Pick.{pick, first_best, or_else, is_lighter, is_olde
 use Rattle.sched_core.specs.Pick.{has_room}
 use Rattle.sched_core.specs.Laws.{IsRule, IsLegal, AreDistinct, AreRising, IsFirst, IsFair, IsFairly}
 use Rattle.sched_core.specs.Laws.{IsFairEntry}
+use Rattle.sched_core.specs.Registrations.{HasCpus}
 use Rattle.sched_core.proofs.LegalLemmas.{core_of, legal_has}
 use Rattle.sched_core.proofs.AllLemmas.{true_false, is_false, all-weaker, all-both, all-append, all-filter}
 use Rattle.sched_core.proofs.AllLemmas.{all-map, all-unmap, own_only}
@@ -125,8 +126,8 @@ older_not : (a x : ServerRow) → is_older a x ≡ true → is_older x a ≡ fal
 older_not a x e = let lt : unwrap_or a.error 0 < unwrap_or x.error 0 = lt_true (unwrap_or a.error 0)
     (unwrap_or x.error 0) e in ge_is (unwrap_or x.error 0) (unwrap_or a.error 0) (omega (arith, lt))
 
-abbrev HasCpus : ServerRow → Type 0
-HasCpus row = 1 ≤ row.cpus
+
+
 
 all_unit : (rows : List ServerRow) → AllByRecursion (λ r. Unit {0}) rows
 all_unit [] = tt
@@ -333,7 +334,7 @@ fair_entry base count log (Undo job noted was_ended) ok rising distinct is = tt
 fair_entry base count log (Update server job state answer) ok rising distinct is = tt
 fair_entry base count log (Status pruned servers cpus n) ok rising distinct is = tt
 
-rows_positive : (log : List CoreEntry) → AllByRecursion (λ p. 1 ≤ p.1) (pairs log)
+pub rows_positive : (log : List CoreEntry) → AllByRecursion (λ p. 1 ≤ p.1) (pairs log)
     → AllByRecursion HasCpus (servers_of log)
 rows_positive log all = all-map HasCpus (row_of log) (standing log)
     (all-unmap (λ p. 1 ≤ p.1) view (standing log) all)

@@ -1,4 +1,3 @@
--- Not declared in Lib yet: it wants the crates winner_tree and ranked_rows. Never checked.
 -- The first rows by the keys are the pick, the forgiven and the pruned.
 use Rattle.std.proofs.Common.{◌≡◌, ℕ, ◌*◌, ◌-◌, ◌<◌, ◌≤◌, List, [], ◌∷◌, Bool, true, false, cond, not, ◌&&◌, map, filter, max}
 use Rattle.std.proofs.Common.{Option, Some, None, ◌⊎◌, inl, inr, refl, ap, ◌∙◌, sym, subst, arith, eqb-true}
@@ -14,7 +13,8 @@ use Rattle.sched_core.specs.declared.rows.ServerRow.{ServerRow}
 use Rattle.sched_core.specs.Pick.{pick, has_room, is_faultless, is_lighter, is_older, is_stale, roomy, forgiven}
 use Rattle.sched_core.specs.Prune.{prune, is_expired}
 use Rattle.sched_core.specs.Laws.{AreRising, IsFirst}
-use Rattle.sched_core.specs.Registrations.{HasCpus, load_key_by, load_key_of, error_key_by, error_key_of, sign_key_of}
+use Rattle.sched_core.specs.Registrations.{HasCpus, AreSoundRows, load_key_by, load_key_of, error_key_by, error_key_of}
+use Rattle.sched_core.specs.Registrations.{sign_key_of}
 use Rattle.sched_core.proofs.AllLemmas.{all-weaker, all-both, true_false, is_false}
 use Rattle.sched_core.proofs.RoomLemmas.{lt_false, lt_is, ge_is}
 use Rattle.sched_core.proofs.RowLemmas.{at_there}
@@ -175,3 +175,10 @@ forgiven_is now rows = ap (map (λ r. r.reg)) (sym (filter-filter (λ r. is_stal
 -- the pruned are those whose last sign goes before the bound
 pub prune_is : (now : ℕ) (rows : List ServerRow) → prune now rows ≡ early_numbers (λ r. r.reg) sign_key_of moment_before (record { moment = now - 90000; number = 0 }) rows
 prune_is now rows = ap (map (λ r. r.reg)) (filter_each (is_expired now) (λ r. is_early moment_before (record { moment = now - 90000; number = 0 }) (sign_key_of r)) (λ r. late now r.seen r.reg 90000) rows)
+
+-- what the second tree gives where the first gives nothing
+pub second_is : (rows : List ServerRow) (o : Option ServerRow) → AreSoundRows rows → HaveNoKey load_key_of rows
+    → MatchOption o (HaveNoKey error_key_of rows) (IsFirstBy (λ r. r.reg) error_key_of moment_before rows)
+    → o ≡ pick rows
+second_is rows None sound none first = sym (no_pick_is rows none first)
+second_is rows (Some row) sound none first = sym (old_is rows row sound.rising none first)

@@ -1,5 +1,5 @@
 -- What an entry does to single registrations.
-use Rattle.std.specs.Prelude.{◌≡◌, ℕ, ◌-◌, List, map, Bool, true, false, not, ◌&&◌, ◌==◌, Option, Some, None, if◌then◌else◌}
+use Rattle.std.specs.Prelude.{◌≡◌, ◌≤◌, ℕ, ◌-◌, List, map, Bool, true, false, not, ◌&&◌, ◌==◌, Option, Some, None, if◌then◌else◌}
 use Rattle.dist_types.specs.declared.addr.Addr.{Addr}
 use Rattle.dist_types.specs.Addr.{same_addr}
 use Rattle.sched_core.specs.declared.entry.Reserved.{Reserved}
@@ -9,7 +9,6 @@ use Rattle.sched_core.specs.declared.change.Change.{Change}
 use Rattle.sched_core.specs.declared.change.Change.TheVariants.{Lower, Raise, Forgive, Note, See}
 use Rattle.sched_core.specs.Log.{names, is_this}
 use Rattle.sched_core.specs.Books.{one_more_if}
-use Rattle.sched_core.specs.Laws.{AreRising, AreDifferent}
 
 -- the row after a change
 abbrev pub row_changed : Change → ServerRow → ServerRow
@@ -39,8 +38,3 @@ row_reserved other row = row
 -- a row after a heartbeat at that address
 abbrev pub row_renewed : ℕ → Addr → Bool → ServerRow → ServerRow
 row_renewed now server is_new row = record row { seen = if not is_new && same_addr row.server server then now else row.seen }
-
--- Rows of different registrations: their numbers rise, and their addresses differ.
-pub record AreSoundRows (rows : List ServerRow) : Type 0 where
-  pub rising : AreRising (map (λ r. r.reg) rows)
-  pub apart : AreDifferent (map (λ r. r.server) rows)

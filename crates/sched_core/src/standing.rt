@@ -9,8 +9,7 @@ ghost use Rattle.sched_core.specs.Books.{row_by, row_stays, row_lowered, row_fre
 ghost use Rattle.sched_core.specs.Books.{one_more_if};
 
 use crate::entry::{CoreEntry, CoreKind};
-use crate::kind::{ends, frees};
-use crate::rows::{HeldRow, OpenRow, ServerRow};
+use crate::rows::{OpenRow, ServerRow};
 use crate::rules::open_job;
 use dist_types::ids::{JobId, ServerId, ServerNonce};
 use dist_types::results::SchedulerStatusResult;
@@ -21,7 +20,7 @@ use std::alloc::{AllocError, Global};
 pub const HEARTBEAT_TIMEOUT: u64 = 90000;
 
 /// Whether the last sign is too long ago.
-fn is_silent(row: &ServerRow, now: u64) -> bool
+pub fn is_silent(row: &ServerRow, now: u64) -> bool
     ensures { result ≡ is_expired now row.now }
 {
     now.saturating_sub(row.seen) > HEARTBEAT_TIMEOUT
@@ -52,71 +51,6 @@ pub fn row_at(rows: &[ServerRow], server: ServerId) -> Option<ServerRow>
     ensures { result ≡ at_address server rows.now }
 {
     rows.iter().copied().find(|row| row.server == server)
-}
-
-/// The registration of that number.
-pub fn row_numbered(rows: &[ServerRow], reg: u64) -> Option<ServerRow>
-    ensures { result ≡ find (λ r. r.reg == reg) rows.now }
-{
-    rows.iter().copied().find(|row| row.reg == reg)
-}
-
-/// Takes out the registrations that an entry ends.
-pub fn end_rows(rows: &mut Vec<ServerRow>, kind: &CoreKind)
-    ensures items { rows.new.items ≡ filter (row_stays kind.now) rows.old.items }
-    ensures len { vec_len rows.new ≤ vec_len rows.old }
-    ensures capacity { vec_capacity rows.new ≡ vec_capacity rows.old }
-{
-    rows.retain(|row| !ends(kind, row.reg));
-}
-
-/// The row with one reservation less, where it is that registration's.
-fn lowered(row: ServerRow, reg: u64) -> ServerRow
-    ensures { result ≡ row_lowered reg row }
-{
-    if reg == row.reg {
-        ServerRow {
-            load: row.load.saturating_sub(1),
-            ..row
-        }
-    } else {
-        row
-    }
-}
-
-/// Takes one reservation from the load of a registration.
-fn lower(rows: &mut Vec<ServerRow>, reg: u64)
-    ensures items { rows.new.items ≡ map (row_lowered reg) rows.old.items }
-    ensures len { vec_len rows.new ≡ vec_len rows.old }
-    ensures capacity { vec_capacity rows.new ≡ vec_capacity rows.old }
-{
-    for row in rows.iter_mut() {
-        *row = lowered(*row, reg);
-    }
-}
-
-/// The same, where the reservation ended.
-fn lower_if(rows: &mut Vec<ServerRow>, freed: bool, reg: u64)
-    ensures freed { freed ≡ true → rows.new.items ≡ map (row_lowered reg) rows.old.items }
-    ensures kept { freed ≡ false → rows.new.items ≡ rows.old.items }
-    ensures len { vec_len rows.new ≡ vec_len rows.old }
-    ensures capacity { vec_capacity rows.new ≡ vec_capacity rows.old }
-{
-    if freed {
-        lower(rows, reg);
-    }
-}
-
-/// Takes the reservations that an entry ends from the loads of their registrations.
-pub fn free_rows(rows: &mut Vec<ServerRow>, held: &[HeldRow], kind: &CoreKind)
-    ensures items { rows.new.items ≡ map (row_freed kind.now held.now) rows.old.items }
-    ensures len { vec_len rows.new ≡ vec_len rows.old }
-    ensures capacity { vec_capacity rows.new ≡ vec_capacity rows.old }
-{
-    for h in held {
-        let freed = frees(kind, h.job, h.reg);
-        lower_if(rows, freed, h.reg);
-    }
 }
 
 /// The registration of an open job, if there is one.
