@@ -266,12 +266,12 @@ sound_rows base count log fits legal = record {
 }
 
 -- which rows end, one number after the other
+keep_each : {X : Type 0} (xs : List X) → xs ≡ filter (λ x. true) xs
+keep_each [] = refl
+keep_each (x ∷ xs) = ap (λ l. x ∷ l) (keep_each xs)
+
 pub end-none : (rows : List ServerRow) → rows ≡ filter (λ r. not (names [] r.reg)) rows
-end-none rows = sym (filter_all (λ r. true) (λ r. refl) rows)
-  where
-    filter_all : (p : ServerRow → Bool) → ((r : ServerRow) → p r ≡ true) → (rs : List ServerRow) → filter p rs ≡ rs
-    filter_all p yes [] = refl
-    filter_all p yes (r ∷ rs) = ap (λ b. cond b (r ∷ filter p rs) (filter p rs)) (yes r) ∙ ap (λ l. r ∷ l) (filter_all p yes rs)
+end-none rows = keep_each rows
 
 pub end-step : (numbers : List ℕ) (i : ℕ) (first rows new : List ServerRow) → i < length numbers
     → rows ≡ filter (λ r. not (names (take i numbers) r.reg)) first

@@ -1,7 +1,7 @@
 -- What a change of one registration does, and what it costs.
 use Rattle.std.proofs.Common.{◌≡◌, ◌<◌, ◌≤◌, ℕ, ◌+◌, ◌*◌, ◌-◌, ◌^◌, List, [], ◌∷◌, ◌++◌, Bool, true, false, cond, not, ◌&&◌}
 use Rattle.std.proofs.Common.{map, filter, length, Option, Some, None, refl, ap, ◌∙◌, sym, subst, arith, get_or, drop, take}
-use Rattle.std.proofs.Common.{eqb-true, eq-eqb, min}
+use Rattle.std.proofs.Common.{eqb-true, eq-eqb, min, zero, suc}
 use Rattle.std.specs.Prelude.{◌==◌, find, if◌then◌else◌, IfSome, option_to_list, sum_by, MatchOption, is_some}
 use Rattle.std.specs.List.{AllByRecursion}
 use Rattle.std.proofs.Math.Seq.{drop-cons}
@@ -178,8 +178,16 @@ few_trees (Note moment) r = one_two (touches load_before (load_key_of r) (load_k
 few_trees (See moment) r = only_third (touches load_before (load_key_of r) (load_key_of (row_changed (See moment) r)))
     (touches moment_before (error_key_of r) (error_key_of (row_changed (See moment) r)))
     (touches moment_before (sign_key_of r) (sign_key_of (row_changed (See moment) r)))
-    (no_touch load_before load_not_self (load_key_of r)) (no_touch moment_before moment_not_self (error_key_of r))
+    (same_load r.error) (same_error r.error)
     (at_most moment_before (sign_key_of r) (sign_key_of (row_changed (See moment) r)))
+  where
+    same_load : (o : Option ℕ) → touches load_before (load_key_by o r) (load_key_by o (row_changed (See moment) r)) ≡ 0
+    same_load None = no_touch load_before load_not_self (load_if_room r)
+    same_load (Some m) = refl
+
+    same_error : (o : Option ℕ) → touches moment_before (error_key_by o r) (error_key_by o (row_changed (See moment) r)) ≡ 0
+    same_error None = refl
+    same_error (Some m) = no_touch moment_before moment_not_self (error_key_by (Some m) r)
 
 pub changed_looks : (change : Change) (n : ℕ) (row : ServerRow) (rows : List ServerRow) (looks old new : ℕ)
     → find (λ r. r.reg == n) rows ≡ Some row
@@ -386,3 +394,11 @@ few_pushed (Commit job state kept) number now h first second third none few = tt
 few_pushed (Undo job noted was_ended) number now h first second third none few = tt
 few_pushed (Update server job state answer) number now h first second third none few = tt
 few_pushed (Status pruned servers cpus n) number now h first second third none few = tt
+
+-- the first row, and what is behind it
+pub yields_first : (places rest : List (Option ServerRow)) (place : ℕ) (o : Option ServerRow) → IsFirstFull places place
+    → o ≡ get_or places place None → rest ≡ drop (place + 1) places
+    → MatchOption o ((rows_in places ≡ []) × (rows_in rest ≡ [])) (λ x. rows_in places ≡ x ∷ rows_in rest)
+yields_first places rest place o full is by =
+    subst (λ q. MatchOption q ((rows_in places ≡ []) × (rows_in rest ≡ [])) (λ x. rows_in places ≡ x ∷ rows_in rest))
+    (sym (is ∙ full.is)) (full.rest ∙ ap (λ ps. full.row ∷ rows_in ps) (sym by))

@@ -10,14 +10,14 @@ pub loop-number-preserved : goal.loop-number-preserved
 loop-number-preserved g c = (
   forgive-more c.args.numbers.now c.loop-number.number-index c.args.rows.now.rows c.loop-number.rows.rows
       c.change.new.self.rows c.loop-number-test.true c.loop-number.invariant.0 c.change.ensures.rows,
-  c.change.ensures.places ∙ c.loop-number.invariant.1.0,
+  c.change.ensures.places ∙ c.loop-number.invariant.1,
   λ h le. looks_more c.loop-number.number-index (2 * h + 1) c.args.steps.now c.loop-number.steps c.change.new.steps
-      (c.loop-number.invariant.1.1 h le)
-      (c.change.ensures.looks h (subst (λ p. p.count ≤ 2 ^ h) (sym c.loop-number.invariant.1.0) le)),
+      (c.loop-number.invariant.2 h le)
+      (c.change.ensures.looks h (subst (λ p. p.count ≤ 2 ^ h) (sym c.loop-number.invariant.1) le)),
 )
 
 pub returns-clause-looks : goal.returns-clause-looks
 returns-clause-looks g c = λ h le.
     let at : c.loop-number.number-index ≡ length c.args.numbers.now =
     omega (arith, c.loop-number-test.false, c.loop-number.auto.number-index-end) in
-    subst (λ n. c.loop-number.steps ≤ c.args.steps.now + 2 * n * (2 * h + 1)) at (c.loop-number.invariant.1.1 h le)
+    subst (λ n. c.loop-number.steps ≤ c.args.steps.now + 2 * n * (2 * h + 1)) at (c.loop-number.invariant.2 h le)
