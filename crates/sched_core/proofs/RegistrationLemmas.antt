@@ -6,7 +6,7 @@ use Rattle.std.specs.Prelude.{◌==◌, find, if◌then◌else◌, IfSome, optio
 use Rattle.std.specs.List.{AllByRecursion}
 use Rattle.std.proofs.Math.Seq.{drop-cons}
 use Rattle.std.proofs.lemmas.Nat.{mul-le}
-use Rattle.std.proofs.lemmas.List.{take_more}
+use Rattle.std.proofs.lemmas.List.{take_more, length-map}
 use Rattle.std.proofs.lemmas.List.Sums.{sum_by-append}
 use Rattle.std.proofs.lemmas.List.Elements.{filter-append}
 use Rattle.dist_types.specs.declared.addr.Addr.{Addr}
@@ -25,7 +25,7 @@ use Rattle.sched_core.specs.declared.entry.CoreKind.{CoreKind}
 use Rattle.sched_core.specs.declared.entry.CoreKind.TheVariants.{Beat, Reserve, Commit, Undo, Update, Status}
 use Rattle.sched_core.specs.declared.entry.Reserved.{Reserved}
 use Rattle.sched_core.specs.declared.entry.Reserved.TheVariants.{Job, NoRoom, Spent}
-use Rattle.sched_core.specs.Prune.{at_address, left, is_expired}
+use Rattle.sched_core.specs.Prune.{at_address, left, is_expired, prune}
 use Rattle.sched_core.specs.Laws.{AreDifferent}
 use Rattle.sched_core.specs.Books.{row_by, row_lowered}
 use Rattle.sched_core.proofs.GrowLemmas.{map-agree}
@@ -402,3 +402,12 @@ pub yields_first : (places rest : List (Option ServerRow)) (place : ℕ) (o : Op
 yields_first places rest place o full is by =
     subst (λ q. MatchOption q ((rows_in places ≡ []) × (rows_in rest ≡ [])) (λ x. rows_in places ≡ x ∷ rows_in rest))
     (sym (is ∙ full.is)) (full.rest ∙ ap (λ ps. full.row ∷ rows_in ps) (sym by))
+
+-- how many are left of so many rows
+pub left_count : (now : ℕ) (rows : List ServerRow) (pruned : List ℕ) → pruned ≡ prune now rows
+    → (length pruned ≤ length rows) × (length (left now rows) ≡ length rows - length pruned)
+left_count now rows pruned is =
+    let both = left_few now rows in
+    let same : length pruned ≡ length (filter (is_expired now) rows) =
+    ap length is ∙ length-map (filter (is_expired now) rows) (λ r. r.reg) in
+    (omega (arith, both, same), omega (arith, both, same))
