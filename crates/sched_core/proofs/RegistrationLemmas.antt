@@ -350,7 +350,7 @@ left_few now (r ∷ rows) = split (is_expired now r) (left_few now rows)
 
 pub cpus_more : (now : ℕ) (front new : List ServerRow) (o : Option ServerRow) (total more : ℕ)
     → new ≡ front ++ option_to_list o → total ≡ min (2 ^ 64 - 1) (sum_by (λ r. r.cpus) (left now front))
-    → more ≡ min (2 ^ 64 - 1) (total + cpus_by now o) → more ≡ min (2 ^ 64 - 1) (sum_by (λ r. r.cpus) (left now new))
+    → more ≡ min (total + cpus_by now o) (2 ^ 64 - 1) → more ≡ min (2 ^ 64 - 1) (sum_by (λ r. r.cpus) (left now new))
 cpus_more now front new o total more is so_far does =
     let sums : sum_by (λ r. r.cpus) (left now new) ≡ sum_by (λ r. r.cpus) (left now front) + cpus_by now o =
     ap (λ l. sum_by (λ r. r.cpus) (left now l)) is

@@ -4,7 +4,7 @@ use Rattle.sched_core.proofs.change.absorb_rows.Goals as goal
 
 pub returns-in-Reserve-clause-rows : goal.returns-in-Reserve-clause-rows
 returns-in-Reserve-clause-rows g c = c.reserve.ensures.rows ∙ reserve_whole c.args.step.now c.args.held.now c.args.open_ones.now
-    c.args.rows.now.rows c.in-Reserve.field-0 c.in-Reserve.is
+    c.args.rows.now.rows c.in-Reserve.reserved c.in-Reserve.is
 
 pub returns-in-Reserve-clause-looks : goal.returns-in-Reserve-clause-looks
 returns-in-Reserve-clause-looks g c = rw c.in-Reserve.is (λ h le. c.reserve.ensures.looks h le)

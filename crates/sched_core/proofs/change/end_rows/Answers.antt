@@ -14,5 +14,5 @@ pub returns-in-Update-clause-rows : goal.returns-in-Update-clause-rows
 returns-in-Update-clause-rows g c = rw c.in-Update.is (keep_all c.args.rows.now.rows)
 
 pub returns-in-Beat-clause-rows : goal.returns-in-Beat-clause-rows
-returns-in-Beat-clause-rows g c = rw (c.in-Beat.is, c.end_if.ensures.rows, c.end_all-in-Beat.ensures.rows, c.get-in-Beat.ensures.items)
+returns-in-Beat-clause-rows g c = rw (c.in-Beat.is, c.end_if.ensures.rows, c.end_all.ensures.rows, c.get.ensures.items)
     (end_both c.in-Beat.pruned c.in-Beat.replaced c.args.rows.now.rows)

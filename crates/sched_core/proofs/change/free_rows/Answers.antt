@@ -1,4 +1,4 @@
-use Rattle.std.proofs.Common.{[], ap, ◌∙◌, sym, arith}
+use Rattle.std.proofs.Common.{[], refl, ap, ◌∙◌, sym, arith}
 use Rattle.sched_core.proofs.Lists.{map-same}
 use Rattle.sched_core.specs.Books.{row_freed}
 use Rattle.sched_core.proofs.FreeLemmas.{freed-more}

@@ -7,7 +7,8 @@ push_row-requires-clause-above g c = rw (c.row_made.ensures, c.absorb_rows.ensur
     (above_number c.args.step.now.kind c.args.number c.args.step.now.now c.args.books.now.rows.places.top c.requires.above)
 
 pub push_row-requires-clause-sound : goal.push_row-requires-clause-sound
-push_row-requires-clause-sound g c = rw (c.row_made.ensures, c.absorb_rows.ensures.rows) c.requires.sound
+push_row-requires-clause-sound g c = rw (c.row_made.ensures, c.absorb_rows.ensures.rows,
+    c.deref-2.ensures.value, c.deref-3.ensures.value) c.requires.sound
 
 pub returns-clause-top : goal.returns-clause-top
 returns-clause-top g c = c.push_row.ensures.top c.args.number (rw c.absorb_rows.ensures.places c.requires.above)
