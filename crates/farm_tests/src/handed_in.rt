@@ -11,6 +11,12 @@ use lru_disk_cache::mem_folder::MemFolder;
 use std::alloc::Global;
 use std::test::Fail;
 
+/// An empty folder that fails behind the calls of these numbers.
+#[tactic(auto, using(crate::proofs::Empty::none_twice))]
+fn folder_of(alloc: Global, numbers: Vec<u64>) -> MemFolder {
+    MemFolder::new(alloc, Vec::new(alloc), Calls::new(numbers, Vec::new(alloc)))
+}
+
 /// The farm of a script whose one server has a folder that fails behind the calls of these numbers.
 fn ran(
     alloc: Global,
@@ -22,8 +28,7 @@ fn ran(
     let mut builders = Vec::new(alloc);
     for server in setup.servers.get() {
         let numbers = Vec::from_slice(alloc, failing)?;
-        let calls = Calls::new(numbers, Vec::new(alloc));
-        folders.push(MemFolder::new(alloc, Vec::new(alloc), calls))?;
+        folders.push(folder_of(alloc, numbers))?;
         match FarmBuilder::of(alloc, server.builder.get()) {
             Ok(builder) => builders.push(builder)?,
             Err(_) => return Err(FarmFault::Memory),
