@@ -6,6 +6,7 @@ use farm::fault::FarmFault;
 use farm::print::print_run;
 use farm::run::Farm;
 use farm::script::read_script;
+use farm::setup::SetupServer;
 use lru_disk_cache::calls::Calls;
 use lru_disk_cache::mem_folder::MemFolder;
 use std::alloc::Global;
@@ -17,22 +18,36 @@ fn folder_of(alloc: Global, numbers: Vec<u64>) -> MemFolder {
     MemFolder::new(alloc, Vec::new(alloc), Calls::new(numbers, Vec::new(alloc)))
 }
 
-/// The farm of a script whose one server has a folder that fails behind the calls of these numbers.
-fn ran(
+/// A folder that fails behind the calls of these numbers, and a builder of the setup's lines, for each server.
+fn handed(
     alloc: Global,
-    script: &str,
+    servers: &[SetupServer],
     failing: &[u64],
-) -> Result<Farm<MemFolder, FarmBuilder>, FarmFault> {
-    let (setup, events) = read_script(alloc, script.as_bytes())?;
+) -> Result<(Vec<MemFolder>, Vec<FarmBuilder>), FarmFault> {
     let mut folders = Vec::new(alloc);
     let mut builders = Vec::new(alloc);
-    for server in setup.servers.get() {
+    for server in servers {
         let numbers = Vec::from_slice(alloc, failing)?;
         folders.push(folder_of(alloc, numbers))?;
         match FarmBuilder::of(alloc, server.builder.get()) {
             Ok(builder) => builders.push(builder)?,
             Err(_) => return Err(FarmFault::Memory),
         }
+    }
+    Ok((folders, builders))
+}
+
+/// The run of a script whose servers have folders that fail behind the calls of these numbers.
+fn ran(
+    alloc: Global,
+    script: &str,
+    failing: &[u64],
+) -> Result<Farm<MemFolder, FarmBuilder>, FarmFault> {
+    let (setup, events) = read_script(alloc, script.as_bytes())?;
+    let (folders, builders) = handed(alloc, setup.servers.get(), failing)?;
+    let count = setup.servers.get().len();
+    if folders.as_slice().len() != count || builders.as_slice().len() != count {
+        return Err(FarmFault::Memory);
     }
     let farm = Farm::new(alloc, &setup, folders, builders)?;
     match farm.run(&events) {
