@@ -1,7 +1,6 @@
 //! Farms over folders and builders that are handed in.
 use crate::whole_farms::{ORDINARY_BUILD, RESTART_KEEPS_ARCHIVES};
 use farm::builder::FarmBuilder;
-use farm::entry::EntryWord;
 use farm::fault::FarmFault;
 use farm::print::print_run;
 use farm::run::Farm;
@@ -76,13 +75,5 @@ fn goes_on_where_a_folder_fails(rt: HostRuntime) -> Result<(), Fail> {
         let farm = ran(rt.alloc(), script, &[number])?;
         assert_eq!(rt; farm.history().len(), EVENTS);
     }
-    Ok(())
-}
-
-#[test]
-fn a_server_is_down_whose_first_opening_failed(rt: HostRuntime) -> Result<(), Fail> {
-    let (script, _) = ORDINARY_BUILD;
-    let farm = ran(rt.alloc(), script, &[0])?;
-    assert!(rt; matches!(&farm.history()[0].word, Some(EntryWord::Down)));
     Ok(())
 }
