@@ -8,6 +8,7 @@ writes the command's output. With --json the answers are asked for in JSON, else
 """
 import hashlib
 import http.client
+import ipaddress
 import json
 import struct
 import sys
@@ -26,28 +27,22 @@ class Reader:
     """The messages in binary: whole numbers have their lowest byte first."""
 
     def __init__(self, data):
-        self.data, self.at = data, 0
+        self.data = data
+
+    def take(self, size):
+        front, self.data = self.data[:size], self.data[size:]
+        return front
 
     def number(self, form):
-        value = struct.unpack_from("<" + form, self.data, self.at)[0]
-        self.at += struct.calcsize("<" + form)
-        return value
+        return struct.unpack("<" + form, self.take(struct.calcsize("<" + form)))[0]
 
     def list_of_bytes(self):
-        length = self.number("Q")
-        self.at += length
-        return self.data[self.at - length:self.at]
+        return self.take(self.number("Q"))
 
     def address(self):
-        wide = self.number("I")
-        size = 16 if wide else 4
-        octets = self.data[self.at:self.at + size]
-        self.at += size
-        port = self.number("H")
-        if wide:
-            groups = ":".join(octets[i:i + 2].hex() for i in range(0, 16, 2))
-            return f"[{groups}]:{port}"
-        return ".".join(str(octet) for octet in octets) + f":{port}"
+        if self.number("I") == 0:
+            return f"{ipaddress.IPv4Address(self.take(4))}:{self.number('H')}"
+        return f"[{ipaddress.IPv6Address(self.take(16))}]:{self.number('H')}"
 
 
 def allocation(data, as_json):
@@ -66,23 +61,14 @@ def allocation(data, as_json):
 
 
 def result(data, as_json):
-    """The message RunJobResult: code, standard output, standard error, and the outputs by name."""
-    if as_json:
-        answer = json.loads(data)
-        if answer == "JobNotFound":
-            sys.exit("the server does not know the job")
-        output = answer["Complete"]["output"]
-        outputs = {name: bytes(content[0]) for name, content in answer["Complete"]["outputs"]}
-        return output["code"], bytes(output["stdout"]), bytes(output["stderr"]), outputs
-    reader = Reader(data)
-    if reader.number("I") == 0:
+    """The message RunJobResult: code, standard output and standard error; the outputs are left."""
+    if data in (b'"JobNotFound"', b"\0\0\0\0"):
         sys.exit("the server does not know the job")
-    code, stdout, stderr, outputs = reader.number("i"), reader.list_of_bytes(), reader.list_of_bytes(), {}
-    for _ in range(reader.number("Q")):
-        name = reader.list_of_bytes().decode()
-        outputs[name] = reader.list_of_bytes()
-        reader.number("Q")
-    return code, stdout, stderr, outputs
+    if as_json:
+        output = json.loads(data)["Complete"]["output"]
+        return output["code"], bytes(output["stdout"]), bytes(output["stderr"])
+    reader = Reader(data[4:])
+    return reader.number("i"), reader.list_of_bytes(), reader.list_of_bytes()
 
 
 def post(address, path, token, body, as_json):
@@ -99,27 +85,24 @@ def post(address, path, token, body, as_json):
 
 
 def main():
-    words = sys.argv[1:]
-    command = words[words.index("--") + 1:]
-    words = words[:words.index("--")]
+    if "--" not in sys.argv:
+        sys.exit(__doc__)
+    cut = sys.argv.index("--")
+    words, command = sys.argv[1:cut], sys.argv[cut + 1:]
     as_json = "--json" in words
     scheduler, token, archive_name = [word for word in words if word != "--json"]
     with open(archive_name, "rb") as file:
         archive = file.read()
     toolchain = text(hashlib.sha256(archive).hexdigest())
     data = post(scheduler, "/api/v1/scheduler/alloc_job", token, toolchain, as_json)
-    job_token, job, server, wanted = allocation(data, as_json)
+    token, job, server, wanted = allocation(data, as_json)
     if wanted:
-        path = f"/api/v1/distserver/submit_toolchain/{job}"
-        taken = post(server, path, job_token, archive, as_json)
+        taken = post(server, f"/api/v1/distserver/submit_toolchain/{job}", token, archive, as_json)
         if taken not in (b'"Success"', b"\0\0\0\0"):
             sys.exit("the server did not take the archive")
-    inputs = sys.stdin.buffer.read()
-    no_variables = struct.pack("<Q", 0)
-    head = text(command[0]) + texts(command[1:]) + no_variables + text("/") + texts(["out"])
-    body = struct.pack(">I", len(head)) + head + inputs
-    data = post(server, f"/api/v1/distserver/run_job/{job}", job_token, body, as_json)
-    code, stdout, stderr, _outputs = result(data, as_json)
+    head = text(command[0]) + texts(command[1:]) + texts([]) + text("/") + texts(["out"])
+    body = struct.pack(">I", len(head)) + head + sys.stdin.buffer.read()
+    code, stdout, stderr = result(post(server, f"/api/v1/distserver/run_job/{job}", token, body, as_json), as_json)
     sys.stdout.buffer.write(stdout)
     sys.stderr.buffer.write(stderr)
     sys.exit(code)

@@ -30,7 +30,7 @@ pub use http_routes::server_route::{ServerRouted, server_route};
 pub use sched_core::HEARTBEAT_TIMEOUT;
 pub use scheduler_service::connection::serve_scheduler_connection;
 pub use scheduler_service::run_scheduler::serve_scheduler;
-pub use scheduler_service::workers::{Kit, serve_scheduler_workers};
+pub use scheduler_service::workers::{Kit, serve_scheduler_kits, serve_scheduler_workers};
 pub use server_service::connection::serve_server_connection;
 pub use server_service::heartbeat::{HEARTBEAT_FAULT_WAIT_MS, HEARTBEAT_WAIT_MS};
 pub use server_service::run_server::serve_server;

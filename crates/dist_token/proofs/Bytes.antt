@@ -1,5 +1,5 @@
 -- What is encoded is read again.
-use Rattle.std.proofs.Common.{◌≡◌, ℕ, zero, suc, ◌<◌, List, [], ◌∷◌, ◌++◌, Some, refl, ap, arith, lit<}
+use Rattle.std.proofs.Common.{◌≡◌, ℕ, zero, suc, ◌<◌, List, [], ◌∷◌, ◌++◌, Some, refl, ap, arith, lit<, codes}
 use Rattle.std.specs.Prelude.{slice_index}
 use Rattle.std.specs.Int.{w32, to_be_bytes, byte_at}
 use Rattle.std.specs.Result.{result_ok}
@@ -8,10 +8,11 @@ use Rattle.std.proofs.lemmas.Str.{IsUtf8-from_ascii}
 use Rattle.base64.specs.Engines.{url_safe_no_pad}
 use Rattle.base64.specs.GeneralPurpose.{IsBytes, decoded_of}
 use Rattle.base64.proofs.EngineFacts.{decode_of-encode_of}
+use Rattle.base64.proofs.OnLiterals.{base64_on_literals}
 use Rattle.sha2.specs.Sha256.{sha256, digest_bytes}
 use Rattle.serde_json.specs.Read.{read}
 use Rattle.dist_token.specs.Mac.{hmac_of}
-use Rattle.dist_token.specs.Token.{encoded}
+use Rattle.dist_token.specs.Token.{encoded, header_text}
 use Rattle.dist_token.specs.Verdict.{bytes_of, value_of}
 use Rattle.dist_token.proofs.Json.{json_of-utf8}
 
@@ -25,6 +26,11 @@ bytes_from_ascii bytes h i = let low = h i in omega arith
 pub value_of-encoded : (text : List ℕ) → IsAscii text → value_of (encoded text) ≡ read text
 value_of-encoded text h = rw (bytes_of-encoded text (bytes_from_ascii text h))
     (json_of-utf8 text (IsUtf8-from_ascii text h))
+
+-- the header of every token that is made, in base64url
+pub encoded_header : encoded header_text ≡ codes "eyJ0eXAiOiJKV1QiLCJhbGciOiJIUzI1NiJ9"
+unfolding encoded base64_on_literals
+encoded_header = refl
 
 -- ---- a digest is bytes
 

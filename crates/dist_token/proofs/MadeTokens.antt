@@ -19,8 +19,9 @@ use Rattle.dist_types.specs.declared.token_error.TokenError.TheVariants.{LinkFau
 use Rattle.dist_token.specs.Mac.{hmac_of}
 use Rattle.dist_token.specs.Token.{encoded, header_text, signed_text, token_text, job_claims_text}
 use Rattle.dist_token.specs.Verdict.{Parts, three, parts_of, mac_test, header_test, tested, job_verdict}
+use Rattle.dist_token.specs.Verdict.{value_of, IsWritten, job_said}
 use Rattle.dist_token.proofs.Dotless.{parts_of_last, parts_of_more}
-use Rattle.dist_token.proofs.Bytes.{bytes_of-encoded, value_of-encoded, hmac_bytes}
+use Rattle.dist_token.proofs.Bytes.{bytes_of-encoded, encoded_header, value_of-encoded, hmac_bytes}
 use Rattle.dist_token.proofs.Claims.{read-header_text, job_value, read-job_claims_text}
 
 same : (xs : List ℕ) → bytes_eq xs xs ≡ true
@@ -59,11 +60,21 @@ ascii [] h = IsAscii-nil
 ascii (b ∷ bs) h = let both = and_parts (nat_lt b 128) (are_low bs) h in IsAscii-cons b bs
     (ltb-true b 128 both.0) (ascii bs both.1)
 
+-- a part that is written so is the header of every token that is made
+pub made_header : (part : List ℕ) → bytes_eq part (codes "eyJ0eXAiOiJKV1QiLCJhbGciOiJIUzI1NiJ9") ≡ true
+    → part ≡ encoded header_text
+made_header part same = (bytes_eq-Decides part (codes "eyJ0eXAiOiJKV1QiLCJhbGciOiJIUzI1NiJ9")).0 same
+    ∙ sym encoded_header
+
 header_ascii : IsAscii header_text
 header_ascii = ascii header_text refl
 
+-- the header of every token that is made passes
+pub header_test-written : (p : Parts) → p.header ≡ encoded header_text → header_test p ≡ Ok tt
+header_test-written p is = rw is (rw (value_of-encoded header_text header_ascii ∙ read-header_text) refl)
+
 header_test-made : (key claims : List ℕ) → header_test (made key claims) ≡ Ok tt
-header_test-made key claims = rw (value_of-encoded header_text header_ascii ∙ read-header_text)
+header_test-made key claims = header_test-written (made key claims) refl
 
 -- what the claims of a token that was made say
 pub tested-token_text : (key claims : List ℕ) (d : Data) → IsAscii claims → read claims ≡ Some d
@@ -81,6 +92,15 @@ job_claims_ascii id h =
 
 equal : (n : ℕ) → eqb n n ≡ true
 equal n = eq-eqb n n refl
+
+-- parts that are written as in the token that is made for a job say that job
+pub job_said-written : (id : ℕ) (p : Parts) → id < 2 ^ 64 → IsWritten (job_claims_text id) p
+    → job_said id p ≡ Ok tt
+job_said-written id p h is =
+    let says : value_of p.claims ≡ Some (job_value id) =
+    ap value_of is.1 ∙ value_of-encoded (job_claims_text id) (job_claims_ascii id h)
+    ∙ read-job_claims_text id h in
+    rw (header_test-written p is.0) (rw says (rw (equal id)))
 
 pub accepted : (key : List ℕ) (id : ℕ) → id < 2 ^ 64
     → job_verdict key id (token_text key (job_claims_text id)) ≡ Ok tt

@@ -1,5 +1,5 @@
 -- The tests that a token passes, in order.
-use Rattle.std.specs.Prelude.{ℕ, suc, ◌==◌, ◌&&◌, List, [], ◌∷◌, length, nat_lt, codes, Bool, false}
+use Rattle.std.specs.Prelude.{◌≡◌, ℕ, suc, ◌==◌, ◌&&◌, List, [], ◌∷◌, length, nat_lt, codes, Bool, false}
 use Rattle.std.specs.Prelude.{if◌then◌else◌, Option, Some, None, ok_or, option_and_then, option_map, Result}
 use Rattle.std.specs.Prelude.{Ok, Err, ⊤}
 use Rattle.std.specs.List.{position_or_len, before_first, after_first}
@@ -16,7 +16,7 @@ use Rattle.dist_types.specs.declared.token_error.TokenError.{TokenError}
 use Rattle.dist_types.specs.declared.token_error.TokenError.TheVariants.{BadToken, BadMac, MismatchedClaims}
 use Rattle.dist_token.specs.Mac.{hmac_of}
 use Rattle.dist_token.specs.Dots.{dot_parts}
-use Rattle.dist_token.specs.Token.{signed_text}
+use Rattle.dist_token.specs.Token.{encoded, header_text, signed_text}
 
 -- the second test is made where the first passes
 abbrev pub and_then : {T U : Type 0} → Result T TokenError → (T → Result U TokenError) → Result U TokenError
@@ -54,6 +54,10 @@ json_of bytes = if is_utf8 bytes then read bytes else None
 -- the value that a part says
 abbrev pub value_of : List ℕ → Option Data
 value_of part = option_and_then json_of (bytes_of part)
+
+-- the header and the claims are written as in a token that is made for these claims
+abbrev pub IsWritten : List ℕ → Parts → Type 0
+IsWritten claims p = (p.header ≡ encoded header_text) × (p.claims ≡ encoded claims)
 
 -- ---- what the values say
 
@@ -128,6 +132,11 @@ job_claims = claims_of (codes "job_id") u64_of
 -- no expiry, and the job's number
 abbrev pub match_test : ℕ → ℕ × ℕ → Result ⊤ TokenError
 match_test id claims = if (claims.0 == 0) && (claims.1 == id) then Ok tt else Err MismatchedClaims
+
+-- whether the header and the claims say this job, and if not by which test
+abbrev pub job_said : ℕ → Parts → Result ⊤ TokenError
+job_said id p =
+    and_then (said p) (λ value. and_then (ok_or (job_claims value) (BadToken Claims)) (match_test id))
 
 -- whether a token is accepted for a job under a key, and if not by which test
 abbrev pub job_verdict : List ℕ → ℕ → List ℕ → Result ⊤ TokenError

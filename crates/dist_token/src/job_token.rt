@@ -3,10 +3,12 @@ ghost use Rattle.std.specs.Prelude.{◌≡◌, IfOk, Ok, OnOk, string_bytes};
 ghost use Rattle.serde_json.specs.View.{view};
 ghost use Rattle.dist_types.specs.Answers.{Gives};
 ghost use Rattle.dist_token.specs.Token.{token_text, job_claims_text};
-ghost use Rattle.dist_token.specs.Verdict.{job_claims, job_verdict};
+ghost use Rattle.dist_token.specs.Verdict.{job_claims, job_said, job_verdict};
+ghost use Rattle.dist_token.specs.Views.{parts_view};
 
-use crate::token::token_under;
-use crate::verdict::{are_two, tested};
+use crate::parts::{TokenParts, parts_of};
+use crate::token::{is_written, token_under};
+use crate::verdict::{are_two, mac_test, said};
 use dist_types::fault::Memory;
 use dist_types::ids::JobId;
 use dist_types::roles::JobAuthorizer;
@@ -96,11 +98,11 @@ fn job_claims(claims: &Value) -> Option<(u64, u64)>
     Some((exp, job))
 }
 
-// Accepts a token for a job under a key, or says by which test it is refused.
-fn verify_job(alloc: Global, key: &[u8], id: u64, token: &str) -> Result<(), TokenError>
-    ensures { Gives (λ x. x) (job_verdict key.now id token.now) result }
+// Accepts the claims of a token for a job as JSON, or says by which test they are refused.
+fn read_job(alloc: Global, parts: &TokenParts<'_>, id: u64) -> Result<(), TokenError>
+    ensures { Gives (λ x. x) (job_said id (parts_view parts.now)) result }
 {
-    let claims = tested(alloc, key, token)?;
+    let claims = said(alloc, parts)?;
     let Some((exp, job)) = job_claims(&claims) else {
         return Err(TokenError::BadToken(Part::Claims));
     };
@@ -109,4 +111,26 @@ fn verify_job(alloc: Global, key: &[u8], id: u64, token: &str) -> Result<(), Tok
     } else {
         Err(TokenError::MismatchedClaims)
     }
+}
+
+// The same. What is written as in the token that is made for the job is not read.
+fn claims_test(alloc: Global, parts: &TokenParts<'_>, id: u64) -> Result<(), TokenError>
+    ensures { Gives (λ x. x) (job_said id (parts_view parts.now)) result }
+{
+    let claims = claims_for(alloc, id)?;
+    if is_written(alloc, parts, claims.as_bytes())? {
+        return Ok(());
+    }
+    read_job(alloc, parts, id)
+}
+
+// Accepts a token for a job under a key, or says by which test it is refused.
+fn verify_job(alloc: Global, key: &[u8], id: u64, token: &str) -> Result<(), TokenError>
+    ensures { Gives (λ x. x) (job_verdict key.now id token.now) result }
+{
+    let Some(parts) = parts_of(token) else {
+        return Err(TokenError::BadToken(Part::Shape));
+    };
+    mac_test(alloc, key, &parts)?;
+    claims_test(alloc, &parts, id)
 }

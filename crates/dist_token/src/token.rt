@@ -1,19 +1,32 @@
 //! The text of a signed token: RFC 7519 with HS256 alone, its parts in base64url without padding
 //! (RFC 4648, section 5).
-ghost use Rattle.std.specs.Prelude.{◌≡◌, ◌∷◌, ◌++◌, IfOk, OnOk, string_bytes};
+ghost use Rattle.std.specs.Prelude.{◌≡◌, ◌∷◌, ◌++◌, IfOk, OnOk, IsTrue, string_bytes};
 ghost use Rattle.dist_token.specs.Token.{encoded, header_text, token_text};
+ghost use Rattle.dist_token.specs.Verdict.{IsWritten};
+ghost use Rattle.dist_token.specs.Views.{parts_view};
 
 use crate::mac::hmac_sha256;
+use crate::parts::TokenParts;
 use base64::engine::general_purpose::URL_SAFE_NO_PAD;
 use dist_types::fault::Memory;
 use std::alloc::Global;
 
+/// The header of every token that is made, in base64url.
+const HEADER: &str = "eyJ0eXAiOiJKV1QiLCJhbGciOiJIUzI1NiJ9";
+
 // The header, as every token begins.
-#[tactic(auto, unfolding(crate::specs::Token::encoded))]
+#[tactic(auto, using(crate::proofs::Bytes::encoded_header))]
 fn begun(alloc: Global) -> Result<String, Memory>
     ensures { IfOk result (λ token. string_bytes token ≡ encoded header_text) }
 {
-    Ok(URL_SAFE_NO_PAD.encode(alloc, b"{\"typ\":\"JWT\",\"alg\":\"HS256\"}")?)
+    Ok(String::from_str(alloc, HEADER)?)
+}
+
+/// Whether a part is the header of every token that is made.
+pub fn is_made_header(part: &[u8]) -> bool
+    ensures { IsTrue result → part.now ≡ encoded header_text }
+{
+    part == HEADER.as_bytes()
 }
 
 // Adds a dot and a part.
@@ -35,4 +48,16 @@ pub fn token_under(alloc: Global, key: &[u8], claims: &[u8]) -> Result<String, M
     let mac = hmac_sha256(key, token.as_bytes());
     push_part(&mut token, &mac)?;
     Ok(token)
+}
+
+/// Whether the header and the claims are written as they are in a token that is made for these claims.
+#[tactic(auto, unfolding(crate::specs::Token::encoded))]
+pub fn is_written(alloc: Global, parts: &TokenParts<'_>, claims: &[u8]) -> Result<bool, Memory>
+    ensures { IfOk result (λ same. IsTrue same → IsWritten claims.now (parts_view parts.now)) }
+{
+    if !is_made_header(parts.header) {
+        return Ok(false);
+    }
+    let written = URL_SAFE_NO_PAD.encode(alloc, claims)?;
+    Ok(parts.claims == written.as_bytes())
 }

@@ -1,10 +1,10 @@
 -- Servers that begin one by one.
-use Rattle.std.proofs.Common.{◌≡◌, inl, inr, ℕ, zero, suc, ◌+◌, ◌<◌, ◌≤◌, List, [], ◌∷◌, ◌++◌, length, map, Option}
+use Rattle.std.proofs.Common.{◌≡◌, inl, inr, ℕ, zero, suc, ◌+◌, ◌<◌, ◌≤◌, List, [], ◌∷◌, ◌++◌, length, map}
+use Rattle.std.proofs.Common.{Option}
 use Rattle.std.proofs.Common.{Some, None, refl, sym, ap, subst, ◌∙◌, arith, drop}
-use Rattle.std.specs.Prelude.{slice_get, get_or}
+use Rattle.std.specs.Prelude.{slice_get}
 use Rattle.std.proofs.lemmas.Bool.{cases_lt}
-use Rattle.std.proofs.lemmas.List.{length-drop}
-use Rattle.std.proofs.lemmas.Option.{same_Some, slice_get_read}
+use Rattle.std.proofs.lemmas.Option.{same_Some}
 use Rattle.dist_types.specs.declared.addr.Addr.{Addr}
 use Rattle.farm_script.specs.Setups.{AreApart}
 use Rattle.farm_run.specs.Passage.{IsBegun}
@@ -32,7 +32,7 @@ pub map_end : {A B : Type 0} (f : A → B) (xs : List A) (x : A) → map f (xs +
 map_end {A} {B} f [] x = refl
 map_end {A} {B} f (y ∷ ys) x = ap (λ (zs : List B). f y ∷ zs) (map_end f ys x)
 
-length_end : {A : Type 0} (xs : List A) (x : A) → length (xs ++ x ∷ []) ≡ length xs + 1
+pub length_end : {A : Type 0} (xs : List A) (x : A) → length (xs ++ x ∷ []) ≡ length xs + 1
 length_end [] x = refl
 length_end (y ∷ ys) x = omega (arith, length_end ys x)
 
@@ -77,7 +77,8 @@ own_push ss ts sts s t st is site now well none = record {
       ∙ ap (λ (u : SiteServer). map (site_server (Some [])) ss ++ u ∷ []) site
       ∙ sym (map_end (site_server (Some [])) ss s);
   stations = stations_push [] ts sts t st is.stations (record { now = now; well = well });
-  own = subst AreOwn (sym (map_end outside_of sts st)) (own_end (map outside_of sts) (outside_of st) is.own none);
+  own = subst AreOwn (sym (map_end outside_of sts st))
+      (own_end (map outside_of sts) (outside_of st) is.own none);
 }
 
 -- ---- servers over what is handed in
@@ -138,19 +139,15 @@ handed_push ss fs bs ts sts s f b t st is folder builder begun now well = record
 
 -- ---- what is left of a list whose items are taken from the front
 
-pub left_there : {A : Type 0} (xs ys : List A) (i : ℕ) → ys ≡ drop i xs → i < length xs → 0 < length ys
-left_there xs ys i is lt = subst (λ (zs : List _). 0 < length zs) (sym is) (omega (arith, length-drop i xs, lt))
-
 get_drop : {A : Type 0} (xs : List A) (i : ℕ) → slice_get (drop i xs) 0 ≡ slice_get xs i
 get_drop [] zero = refl
 get_drop [] (suc i) = refl
 get_drop (x ∷ xs) zero = refl
 get_drop (x ∷ xs) (suc i) = get_drop xs i
 
-pub left_first : {A : Type 0} (xs ys : List A) (i : ℕ) (x : A) → ys ≡ drop i xs → i < length xs
-    → x ≡ get_or ys 0 x → slice_get xs i ≡ Some x
-left_first xs ys i x is lt e = sym (get_drop xs i) ∙ ap (λ (zs : List _). slice_get zs 0) (sym is)
-    ∙ slice_get_read ys (length ys) 0 x refl (left_there xs ys i is lt) e
+pub left_first : {A : Type 0} (xs ys zs : List A) (i : ℕ) (x : A) → ys ≡ drop i xs → ys ≡ x ∷ zs
+    → slice_get xs i ≡ Some x
+left_first xs ys zs i x is e = sym (get_drop xs i) ∙ ap (λ (l : List _). slice_get l 0) (sym is ∙ e)
 
 drop_once : {A : Type 0} (xs : List A) (n : ℕ) → drop (suc n) xs ≡ drop 1 (drop n xs)
 drop_once [] zero = refl
@@ -158,11 +155,11 @@ drop_once [] (suc n) = refl
 drop_once (x ∷ xs) zero = refl
 drop_once (x ∷ xs) (suc n) = drop_once xs n
 
-pub left_rest : {A : Type 0} (xs ys zs : List A) (i : ℕ) → ys ≡ drop i xs → zs ≡ drop 1 ys
+pub left_rest : {A : Type 0} (xs ys zs : List A) (i : ℕ) (x : A) → ys ≡ drop i xs → ys ≡ x ∷ zs
     → zs ≡ drop (i + 1) xs
-left_rest xs ys zs i is e =
+left_rest xs ys zs i x is e =
     let same : suc i ≡ i + 1 = omega arith in
-    e ∙ ap (λ (l : List _). drop 1 l) is ∙ sym (drop_once xs i) ∙ ap (λ (k : ℕ). drop k xs) same
+    ap (λ (l : List _). drop 1 l) (sym e ∙ is) ∙ sym (drop_once xs i) ∙ ap (λ (k : ℕ). drop k xs) same
 
 -- ---- the parts of a farm that begins
 
@@ -183,7 +180,8 @@ pub apart_own : (addr own : Addr) (ss : List Script) (ts : List SiteServer)
 apart_own addr own ss ts apart same are =
     subst (λ (a : Addr). AreApart (a ∷ map (λ (t : SiteServer). t.addr) ts)) (sym same)
     (subst (λ (l : List Addr). AreApart (addr ∷ l))
-    (sym (addresses_own ss) ∙ ap (λ (us : List SiteServer). map (λ (t : SiteServer). t.addr) us) (sym are)) apart)
+    (sym (addresses_own ss) ∙ ap (λ (us : List SiteServer). map (λ (t : SiteServer). t.addr) us) (sym are))
+    apart)
 
 pub apart_handed : (addr own : Addr) (ss : List Script) (ts : List SiteServer)
     → AreApart (addr ∷ map (λ s. s.addr) ss) → own ≡ addr → map (λ t. t.addr) ts ≡ map (λ s. s.addr) ss

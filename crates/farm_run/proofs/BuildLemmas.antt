@@ -359,7 +359,8 @@ module _ (setup : Setup) (log : List Entry) (at n : ℕ) (reply : Option (List �
       by_life false is t asks h = by_report (eqb-true s.life life (not_off (s.life == life) is)) t asks h
 
     by_now : (addr : Addr) (life : ℕ) (o : Option ServerNow) → server_now setup log addr ≡ o → (t : Told)
-        → p.ask ≡ Report addr life t → ReportsIn free setup life (brought_at log p.root) p.root p.json reply t o x
+        → p.ask ≡ Report addr life t → ReportsIn free setup life (brought_at log p.root) p.root p.json reply
+        t o x
         → Ended setup log n reply x server job
     by_now addr life None now t asks h = absurd (quiet x server job (word_effect Died) tells h refl)
     by_now addr life (Some s) now t asks h = by_life addr life s now (is_over life s) refl t asks h
@@ -633,7 +634,8 @@ module _ (setup : Setup) (words : HasWords setup) (entries : List Entry) (n : �
     (d : ℕ) (e : Entry) (there : slice_get entries d ≡ Some e) (delivers : e.event.kind ≡ Deliver n)
     (r : Reply) (replies : e.reply ≡ Some r) (u : UpdateJobStateResult)
     (is_told : IsAnswer update_at r.bytes (Ok u))
-    (x : Effect) (made : IsMade free setup (take d entries) e.event.at (way_of setup (take d entries) e.event.kind)
+    (x : Effect) (made : IsMade free setup (take d entries) e.event.at
+    (way_of setup (take d entries) e.event.kind)
     x) (is : e ≡ entry_of e.event x) where
   abbrev sent : OutCall
   sent = state_call setup server job Started
@@ -646,7 +648,8 @@ module _ (setup : Setup) (words : HasWords setup) (entries : List Entry) (n : �
       ap (way_of setup (take d entries)) delivers
       ∙ ap (λ (o : Option OutCall). delivery_way setup (take d entries)
       (caller_of setup (take d entries) (slice_get (take d entries) n)) o) none in
-      let void : x ≡ word_effect Void = subst (λ (w : Way). IsMade free setup (take d entries) e.event.at w x) way
+      let void : x ≡ word_effect Void = subst (λ (w : Way). IsMade free setup (take d entries) e.event.at w
+      x) way
       made in
       let no : None ≡ Some r = sym (ap (λ (z : Effect). z.reply) void) ∙ sym (ap (λ (y : Entry). y.reply) is)
       ∙ replies in
@@ -956,7 +959,8 @@ are_builds setup events entries fits words each = record {
 
 -- the entries of a farm that ran events
 pub run_builds : (setup : Setup) (entries : List Entry) → setup.scheduler.count < 2 ^ 64
-    → (HasToken setup.scheduler.auth → HasWords setup) → IsRun free setup entries → HasToken setup.scheduler.auth
+    → (HasToken setup.scheduler.auth → HasWords setup) → IsRun free setup entries
+    → HasToken setup.scheduler.auth
     → AreBuilds setup entries
 run_builds setup entries fits words run token =
     are_builds setup (map (λ (e : Entry). e.event) entries) entries fits (words token) run

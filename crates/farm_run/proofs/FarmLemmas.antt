@@ -23,7 +23,8 @@ use Rattle.farm_run.proofs.ReliableLemmas.{is_reliable}
 use Rattle.farm_run.proofs.ShownLemmas.{has_token}
 
 -- a run goes on by one event
-pub Runs-push : (old : Farmed) (events : List Event) (event : Event) (mid new : Farmed) (w : Weather) (e : Entry)
+pub Runs-push : (old : Farmed) (events : List Event) (event : Event) (mid new : Farmed) (w : Weather)
+    (e : Entry)
     → Runs old events mid → IsNext w mid.setup mid.entries event e
     → IsMoved mid.setup e w mid.outside new.outside → new ≡ with_entries mid (e ∷ []) new.outside
     → Runs old (events ++ event ∷ []) new
@@ -61,6 +62,20 @@ Runs-is old events mid entries run same is =
     subst (λ (s : Site). IsRun free s entries) (ap (λ (m : Farmed). m.setup) run.2)
     (subst (λ (es : List Entry). IsRun free mid.setup es) (sym same) is)
 
+-- a farm that made its folders and builders itself stays one
+pub Runs-own : (old : Farmed) (events : List Event) (new : Farmed) → Runs old events new → AreOwn old.outside
+    → AreOwn new.outside
+Runs-own old events new run own =
+    (passage_calm old.setup old.entries old.outside events run.0 new.outside run.1 own).1
+
+-- and its entries are those of a run from none in calm weather
+pub Runs-calm : (old : Farmed) (events : List Event) (mid : Farmed) (entries : List Entry)
+    → Runs old events mid → entries ≡ mid.entries → (AreOwn mid.outside → IsRun calm mid.setup mid.entries)
+    → AreOwn old.outside → IsRun calm old.setup entries
+Runs-calm old events mid entries run same is own =
+    subst (λ (s : Site). IsRun calm s entries) (ap (λ (m : Farmed). m.setup) run.2)
+    (subst (λ (es : List Entry). IsRun calm mid.setup es) (sym same) (is (Runs-own old events mid run own)))
+
 pub Runs-builds : (old : Farmed) (events : List Event) (new : Farmed) → old.setup.scheduler.count < 2 ^ 64
     → (HasToken old.setup.scheduler.auth → HasWords old.setup) → Runs old events new
     → IsRun free new.setup new.entries → HasToken old.setup.scheduler.auth → AreBuilds new.setup new.entries
@@ -87,7 +102,8 @@ pub run_text_is : {X : Type 0} (view : X → List ℕ) (r : Result X FarmFault) 
     → run_events ≡ events → Runs start run_events farm → AreLawful farm.setup farm.entries
     → (HasToken start.setup.scheduler.auth → AreBuilds farm.setup farm.entries)
     → IfOk r (λ t. view t ≡ run_text farm.setup farm.entries) → IfOk r (λ t. IsReadText bytes (view t))
-run_text_is view (Err f) bytes setup events run_events start farm read set setup_is none own events_is run laws
+run_text_is view (Err f) bytes setup events run_events start farm read set setup_is none own events_is run
+    laws
     builds h = tt
 run_text_is view (Ok t) bytes setup events run_events start farm read set setup_is none own events_is
     (entries, passage, farm_is) laws builds h =

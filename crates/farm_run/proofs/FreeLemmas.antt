@@ -1,5 +1,6 @@
 -- What is next in some weather is next where anything may come.
-use Rattle.std.proofs.Common.{◌≡◌, ℕ, Bool, true, false, List, [], ◌∷◌, ◌++◌, drop, Option, Some, None, Result, Ok}
+use Rattle.std.proofs.Common.{◌≡◌, ℕ, Bool, true, false, List, [], ◌∷◌, ◌++◌, drop, Option, Some, None}
+use Rattle.std.proofs.Common.{Result, Ok}
 use Rattle.std.proofs.Common.{Err}
 use Rattle.dist_types.specs.declared.ids.JobId.{JobId}
 use Rattle.dist_types.specs.declared.outgoing.CallFault.{CallFault}
@@ -23,7 +24,8 @@ use Rattle.farm_run.specs.Calls.{waiting_at}
 use Rattle.farm_run.specs.Next.{GoesOn, IsSettled, IsMade, IsNext, EachNext}
 use Rattle.farm_run.specs.Servers.{ServerNow, server_now, is_over}
 use Rattle.farm_run.specs.Settled.{ReadyEnds, StartedEnds, Reports, Lives, ReportsIn}
-use Rattle.farm_run.specs.Ways.{Way, way_of, brought_at, to_nothing, to_nobody, to_scheduler, to_server, to_call}
+use Rattle.farm_run.specs.Ways.{Way, way_of, brought_at, to_nothing, to_nobody, to_scheduler, to_server}
+use Rattle.farm_run.specs.Ways.{to_call}
 use Rattle.farm_run.specs.Ways.{to_beat, to_restart}
 use Rattle.farm_run.specs.Weather.{Outside, Weather, calm, free, between, Asked, Works, IsFree, books_in}
 
@@ -70,7 +72,8 @@ reports_free w setup s bytes root json reply (told.Started job run at) x is =
 reports_free w setup s bytes root json reply (told.Complete job outcome) x is = is
 reports_free w setup s bytes root json reply told.Heartbeat x is = is
 
-lives_free : (w : Weather) (setup : Setup) (life : ℕ) (s : ServerNow) (bytes : List ℕ) (root : ℕ) (json : Bool)
+lives_free : (w : Weather) (setup : Setup) (life : ℕ) (s : ServerNow) (bytes : List ℕ) (root : ℕ)
+    (json : Bool)
     (reply : Option (List ℕ)) (t : Told) (over : Bool) (x : Effect)
     → Lives w setup life s bytes root json reply t over x
     → Lives free setup life s bytes root json reply t over x

@@ -108,7 +108,8 @@ module _ (w : Weather) (setup : Setup) (words : HasWords setup) (events : List E
           ap (way_of setup (take d entries)) delivers
           ∙ ap (λ (o : Option OutCall). delivery_way setup (take d entries)
           (caller_of setup (take d entries) (slice_get (take d entries) n)) o) none in
-          let void : x ≡ word_effect Void = subst (λ (v : Way). IsMade w setup (take d entries) e.event.at v x)
+          let void : x ≡ word_effect Void = subst (λ (v : Way). IsMade w setup (take d entries) e.event.at v
+          x)
           way made in
           let no : None ≡ Some r = sym (ap (λ (z : Effect). z.reply) void)
           ∙ sym (ap (λ (y : Entry). y.reply) is) ∙ replies in

@@ -1,6 +1,7 @@
 pub mod BeginLemmas
 pub mod BuildLemmas
 pub mod CallLemmas
+pub mod CutLemmas
 pub mod DecideLemmas
 pub mod FarmLemmas
 pub mod FreeLemmas

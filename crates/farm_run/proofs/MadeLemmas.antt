@@ -1,6 +1,8 @@
 -- What each kind of event makes, and what is kept after it.
-use Rattle.std.proofs.Common.{◌≡◌, ◌≢◌, ◌⊎◌, inl, inr, ℕ, zero, suc, ◌<◌, ◌^◌, Bool, true, false, ◌&&◌, nat_lt}
-use Rattle.std.proofs.Common.{List, [], ◌∷◌, ◌++◌, length, map, take, drop, set, Option, Some, None, Result, Ok}
+use Rattle.std.proofs.Common.{◌≡◌, ◌≢◌, ◌⊎◌, inl, inr, ℕ, zero, suc, ◌<◌, ◌^◌, Bool, true, false, ◌&&◌}
+use Rattle.std.proofs.Common.{nat_lt}
+use Rattle.std.proofs.Common.{List, [], ◌∷◌, ◌++◌, length, map, take, drop, set, Option, Some, None, Result}
+use Rattle.std.proofs.Common.{Ok}
 use Rattle.std.proofs.Common.{Err, refl, sym, ap, subst, ◌∙◌, arith}
 use Rattle.std.specs.Prelude.{slice_get}
 use Rattle.std.proofs.lemmas.Bool.{cases_eq, ne_eqb}
@@ -114,7 +116,8 @@ served_made w setup log at to_nothing x is = is
 served_made w setup log at to_nobody x is = is
 served_made w setup log at (to_call n reply) x is = absurd is
 
-begun_made : (w : Weather) (setup : Setup) (log : List Entry) (at : ℕ) (way : Way) (x : Effect) (o : Option Pending)
+begun_made : (w : Weather) (setup : Setup) (log : List Entry) (at : ℕ) (way : Way) (x : Effect)
+    (o : Option Pending)
     → IsServed w setup (core_of setup log) (length log) at way x
     → Keeps (IsBegunBy setup (core_log log) (length log) way x) x o → Keeps (IsMadeBy setup log way x) x o
 begun_made w setup log at way x None served is = is
@@ -134,7 +137,8 @@ pub received_made : (w : Weather) (setup : Setup) (s : Core) (log : List Entry) 
     → AreStations setup.servers (log ++ entry_of event m.effect ∷ []) new
     → IsMoved setup (entry_of event m.effect) w (map outside_of sts) (map outside_of new)
     → IsMadeSo setup log event (way_of setup log event.kind) ps sts new m
-received_made w setup s log ps sts new event number at way m is numbered moment comes none received stand moved =
+received_made w setup s log ps sts new event number at way m is numbered moment comes none received stand
+    moved =
     let one : IsReceived w setup (core_of setup log) number at way m =
     subst (λ (c : Core). IsReceived w setup c number at way m) is.core_is received in
     let two : IsReceived w setup (core_of setup log) (length log) at way m =
@@ -373,7 +377,8 @@ none_after setup log at root json reply q first (Report server life t) x p c ask
     let same : Report c.addr c.life (told.Complete c.job c.outcome) ≡ Report server life t = sym c.asks ∙ asks
     in
     let kind : told.Complete c.job c.outcome ≡ t = cc in
-    let ended : ReportsIn free setup life (brought_at log root) root json reply (told.Complete c.job c.outcome)
+    let ended : ReportsIn free setup life (brought_at log root) root json reply
+    (told.Complete c.job c.outcome)
     (server_now setup log server) x =
     subst (λ (k : Told). ReportsIn free setup life (brought_at log root) root json reply k
     (server_now setup log server) x) (sym kind) goes in
@@ -414,7 +419,8 @@ first_call setup log n first not_it is =
 
 -- what is kept of the call that a settlement makes
 settled_kept : (setup : Setup) (log : List Entry) (at n : ℕ) (reply : Option (List ℕ)) (first : Pending)
-    (x : Effect) (o : Option Pending) → IsCallOf setup log n first → Follows free setup log at reply (Some first) x
+    (x : Effect) (o : Option Pending) → IsCallOf setup log n first → Follows free setup log at reply
+    (Some first) x
     → Keeps (λ p. completion_of first first.ask x.step ≡ Some p) x o
     → Keeps (IsMadeBy setup log (to_call n reply) x) x o
 settled_kept setup log at n reply first x None call goes is = is
@@ -531,7 +537,7 @@ farm_next setup next s new log ps left sts after event m is made same core-is =
     let farm : IsFarm setup new (log ++ e ∷ []) (left ++ m.pending ∷ []) after = record {
       fits = is.fits;
       apart = is.apart;
-      run = IsRun-push setup log e is.run is_next;
+      run = IsRun-push free setup log e is.run is_next;
       core_is = core-is ∙ ap (λ (c : Core). with_core c m.effect.core) is.core_is ∙ core_of-push setup log e;
       sound = sound_next setup log event e is.fits is.sound is_next;
       kept = kept-push setup log e left m.pending made.after;

@@ -492,6 +492,7 @@ pub runs_lawful : (setup : Setup) (events : List Event) (entries : List Entry)
 runs_lawful setup events entries fits each = are_lawful setup entries fits
     (sound_run setup [] events entries fits (sound_none setup) each)
 
-pub run_lawful : (setup : Setup) (entries : List Entry) → setup.scheduler.count < 2 ^ 64 → IsRun free setup entries
+pub run_lawful : (setup : Setup) (entries : List Entry) → setup.scheduler.count < 2 ^ 64
+    → IsRun free setup entries
     → AreLawful setup entries
 run_lawful setup entries fits run = runs_lawful setup (map (λ (e : Entry). e.event) entries) entries fits run

@@ -193,21 +193,24 @@ one_end setup s bytes root json reply told.Heartbeat x y a b =
 
 one_life : (setup : Setup) (life : ℕ) (s : ServerNow) (bytes : List ℕ) (root : ℕ) (json : Bool)
     (reply : Option (List ℕ)) (t : Told) (over : Bool) (x y : Effect)
-    → Lives calm setup life s bytes root json reply t over x → Lives calm setup life s bytes root json reply t over y
+    → Lives calm setup life s bytes root json reply t over x → Lives calm setup life s bytes root json reply
+    t over y
     → x ≡ y
 one_life setup life s bytes root json reply t true x y a b = a ∙ sym b
 one_life setup life s bytes root json reply t false x y a b = one_end setup s bytes root json reply t x y a b
 
 one_report_end : (setup : Setup) (life : ℕ) (bytes : List ℕ) (root : ℕ) (json : Bool)
     (reply : Option (List ℕ)) (t : Told) (o : Option ServerNow) (x y : Effect)
-    → ReportsIn calm setup life bytes root json reply t o x → ReportsIn calm setup life bytes root json reply t o y
+    → ReportsIn calm setup life bytes root json reply t o x → ReportsIn calm setup life bytes root json
+    reply t o y
     → x ≡ y
 one_report_end setup life bytes root json reply t None x y a b = a ∙ sym b
 one_report_end setup life bytes root json reply t (Some s) x y a b =
     one_life setup life s bytes root json reply t (is_over life s) x y a b
 
 one_way : (setup : Setup) (log : List Entry) (at root : ℕ) (json : Bool) (reply : Option (List ℕ)) (ask : Ask)
-    (x y : Effect) → GoesOn calm setup log at root json reply ask x → GoesOn calm setup log at root json reply ask y
+    (x y : Effect) → GoesOn calm setup log at root json reply ask x → GoesOn calm setup log at root json
+    reply ask y
     → x ≡ y
 one_way setup log at root json reply (Assign t) x y a b =
     a.2 ∙ ap (assignment_end (core_of setup log) root json at t) (one_outcome reply a.0 b.0 a.1 b.1) ∙ sym b.2
@@ -224,7 +227,8 @@ one_settled setup log at n reply (Some w) x y p q =
 
 -- ---- entries
 
-one_made : (setup : Setup) (log : List Entry) (at : ℕ) (way : Way) (x y : Effect) → IsMade calm setup log at way x
+one_made : (setup : Setup) (log : List Entry) (at : ℕ) (way : Way) (x y : Effect) → IsMade calm setup log at
+    way x
     → IsMade calm setup log at way y → x ≡ y
 one_made setup log at (to_scheduler peer bytes) x y p q = one_answer setup (core_of setup log)
     (length log) at peer bytes x y p q
@@ -235,7 +239,8 @@ one_made setup log at (to_restart s key nonce) x y p q = one_restart s x y p q
 one_made setup log at to_nothing x y p q = p ∙ sym q
 one_made setup log at to_nobody x y p q = p ∙ sym q
 
-pub one_next : (setup : Setup) (log : List Entry) (event : Event) (a b : Entry) → IsNext calm setup log event a
+pub one_next : (setup : Setup) (log : List Entry) (event : Event) (a b : Entry)
+    → IsNext calm setup log event a
     → IsNext calm setup log event b → a ≡ b
 one_next setup log event a b p q = p.2
     ∙ ap (entry_of event) (one_made setup log event.at (way_of setup log event.kind) p.0 q.0 p.1 q.1)

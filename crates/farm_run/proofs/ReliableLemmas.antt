@@ -1,6 +1,7 @@
 -- Which requests get the reply that their row names, and what a restart keeps.
 use Rattle.std.proofs.Common.{◌≡◌, ◌⊎◌, inl, inr, ℕ, suc, ◌+◌, ◌<◌, not, Bool, true, false, cond, List, []}
-use Rattle.std.proofs.Common.{length, map, take, drop, Option, Some, None, Result, Ok, refl, ap, ◌∙◌, sym, subst}
+use Rattle.std.proofs.Common.{length, map, take, drop, Option, Some, None, Result, Ok, refl, ap, ◌∙◌, sym}
+use Rattle.std.proofs.Common.{subst}
 use Rattle.std.proofs.Common.{arith}
 use Rattle.std.specs.Prelude.{slice_get}
 use Rattle.std.specs.Option.{option_map}
@@ -234,7 +235,8 @@ module _ (w : Weather) (setup : Setup) (events : List Event) (entries : List Ent
           }
 
       by_way : (x : Effect) → s.entry ≡ entry_of s.entry.event x
-          → IsMade w setup (take k entries) s.entry.event.at (way_of setup (take k entries) s.entry.event.kind)
+          → IsMade w setup (take k entries) s.entry.event.at
+          (way_of setup (take k entries) s.entry.event.kind)
           x → is_void s.entry.word ≡ false
           → (way_of setup (take k entries) s.entry.event.kind ≡ to_call n reply)
           ⊎ (way_of setup (take k entries) s.entry.event.kind ≡ to_nothing) → Continued n k s.entry reply

@@ -342,7 +342,8 @@ module _ (setup : Setup) (events : List Event) (entries : List Entry)
       (is : d ≡ entry_of d.event x) (reply : Option (List ℕ)) (first p : Pending)
       → way_of setup (take c entries) d.event.kind ≡ to_call m reply
       → completion_of first first.ask x.step ≡ Some p
-      → (o : Option Entry) → IsSettled free setup (take c entries) d.event.at m reply o x → SettlesCall entries m c
+      → (o : Option Entry) → IsSettled free setup (take c entries) d.event.at m reply o x
+      → SettlesCall entries m c
   completed m c d there x is reply first p way done None h = absurd (no_completion first x p h done)
   completed m c d there x is reply first p way done (Some w) h =
       settles m c d there x is reply h.0 way h.1 h.2

@@ -125,11 +125,13 @@ reports_of w setup s bytes root json reply told.Heartbeat x is =
 lives_of : (w : Weather) (setup : Setup) (life : ℕ) (s : ServerNow) (bytes : List ℕ) (root : ℕ) (json : Bool)
     (reply : Option (List ℕ)) (t : Told) (over : Bool) (x : Effect)
     → Lives w setup life s bytes root json reply t over x → IsStepOf s.setup.addr x.step
-lives_of w setup life s bytes root json reply t true x is = subst (λ (y : Effect). IsStepOf s.setup.addr y.step)
+lives_of w setup life s bytes root json reply t true x is = subst (λ (y : Effect). IsStepOf s.setup.addr
+    y.step)
     (sym is) tt
 lives_of w setup life s bytes root json reply t false x is = reports_of w setup s bytes root json reply t x is
 
-pub report_step : (w : Weather) (setup : Setup) (life : ℕ) (s : ServerNow) (bytes : List ℕ) (root : ℕ) (json : Bool)
+pub report_step : (w : Weather) (setup : Setup) (life : ℕ) (s : ServerNow) (bytes : List ℕ) (root : ℕ)
+    (json : Bool)
     (reply : Option (List ℕ)) (t : Told) (x : Effect) → ReportsIn w setup life bytes root json reply t
     (Some s) x → IsStepOf s.setup.addr x.step
 report_step w setup life s bytes root json reply t x is = lives_of w setup life s bytes root json reply t
@@ -156,7 +158,8 @@ pub server_kept : {E : Type 0} (setup : Setup) (log : List CoreEntry) (s : Serve
     → IfOk r (λ m. Keeps (λ p. (t : Told) × (told_of a.body a.what ≡ Some t)
     × (p ≡ report_of number a.json s t)) m.effect m.pending)
     → IfOk r (λ m. Keeps (IsBegunBy setup log number (to_server s bytes) m.effect) m.effect m.pending)
-server_kept setup log s number bytes a (Ok m) asks h = kept_asked setup log s number bytes a m.effect m.pending
+server_kept setup log s number bytes a (Ok m) asks h = kept_asked setup log s number bytes a m.effect
+    m.pending
     asks h
 server_kept setup log s number bytes a (Err e) asks h = tt
 
@@ -169,7 +172,8 @@ assigned_reaches addr number json job tc (Err e) = refl
 
 served_reaches : (setup : Setup) (s : ServerNow) (number : ℕ) (json : Bool) (what : ServerRouted)
     → reached_in (served setup s number json what).step ≡ None
-served_reaches setup s number json (server_asked.Assign job tc) = assigned_reaches s.setup.addr number json job
+served_reaches setup s number json (server_asked.Assign job tc) = assigned_reaches s.setup.addr number json
+    job
     tc (assign_verdict (books_of s) job tc)
 served_reaches setup s number json (server_asked.Submit job) = refl
 served_reaches setup s number json (server_asked.Run job run at) = refl
@@ -207,7 +211,8 @@ pub nobody_received : (setup : Setup) (s : Core) (log : List Entry) (number at :
     → m ≡ record { effect = word_effect Down; pending = None }
     → IsReceived calm setup s number at (way_to setup log target peer bytes) m
 nobody_received setup s log number at target peer bytes m off none same =
-    let here : IsReceived calm setup s number at to_nobody (record { effect = word_effect Down; pending = None }) =
+    let here : IsReceived calm setup s number at to_nobody
+    (record { effect = word_effect Down; pending = None }) =
     record { served = refl; kept = refl } in
     let nobody : server_now setup log target ≡ None =
     ap (λ (o : Option SetupServer). option_map (λ x. server_of x log) o) (place_none setup target none) in
@@ -260,7 +265,8 @@ beat_received setup s log sts number at addr place st m f are there runs effect 
       effect = beat_effect setup n;
       pending = Some (report_of number false n told.Heartbeat);
     } in
-    let here : IsReceived calm setup s number at (to_beat n) one = record { served = refl; kept = (refl, _, refl) }
+    let here : IsReceived calm setup s number at (to_beat n) one =
+    record { served = refl; kept = (refl, _, refl) }
     in
     let same : m ≡ one = ap (λ (x : Effect). record { effect = x; pending = m.pending }) effect
     ∙ ap (λ (o : Option Pending). record { effect = beat_effect setup n; pending = o }) pending in
@@ -288,7 +294,8 @@ pub no_beat_received : (setup : Setup) (s : Core) (log : List Entry) (number at 
     → m ≡ record { effect = word_effect Void; pending = None }
     → IsReceived calm setup s number at (beat_way (server_now setup log addr)) m
 no_beat_received setup s log number at addr m none same =
-    let here : IsReceived calm setup s number at to_nothing (record { effect = word_effect Void; pending = None })
+    let here : IsReceived calm setup s number at to_nothing
+    (record { effect = word_effect Void; pending = None })
     = record { served = refl; kept = refl } in
     let nobody : server_now setup log addr ≡ None =
     ap (λ (o : Option SetupServer). option_map (λ x. server_of x log) o) (place_none setup addr none) in
@@ -298,7 +305,8 @@ no_beat_received setup s log number at addr m none same =
 -- ---- a report that comes back
 
 -- nobody is there whom it comes back to
-pub no_report : (w : Weather) (setup : Setup) (log : List Entry) (life : ℕ) (bytes : List ℕ) (root : ℕ) (json : Bool)
+pub no_report : (w : Weather) (setup : Setup) (log : List Entry) (life : ℕ) (bytes : List ℕ) (root : ℕ)
+    (json : Bool)
     (reply : Option (List ℕ)) (t : Told) (addr : Addr) (x : Effect)
     → position (λ (s : SetupServer). same_addr s.addr addr) setup.servers ≡ None → x ≡ word_effect Died
     → ReportsIn w setup life bytes root json reply t (server_now setup log addr) x
@@ -307,7 +315,8 @@ no_report w setup log life bytes root json reply t addr x none died =
     ap (λ (o : Option SetupServer). option_map (λ s. server_of s log) o) (place_none setup addr none) in
     subst (λ (o : Option ServerNow). ReportsIn w setup life bytes root json reply t o x) (sym nobody) died
 
-pub report_there : (w : Weather) (setup : Setup) (log : List Entry) (sts : List Station) (life : ℕ) (bytes : List ℕ)
+pub report_there : (w : Weather) (setup : Setup) (log : List Entry) (sts : List Station) (life : ℕ)
+    (bytes : List ℕ)
     (root : ℕ) (json : Bool) (reply : Option (List ℕ)) (t : Told) (addr : Addr) (place : ℕ) (st : Station)
     (x : Effect) (f : IsFound setup addr place)
     → AreStations setup.servers log sts → slice_get sts place ≡ Some st
@@ -438,7 +447,8 @@ pub report_same : (setup : Setup) (place life : ℕ) (bytes : List ℕ) (root : 
     → ReportsIn (weather_of (outside_of station) (outside_of after)) setup life bytes root json reply t
     (Some (now_of server station)) x
     → IsReported setup place life bytes root json reply t x sts new s st
-report_same setup place life bytes root json reply t x sts new server s station st after es et put now well leaves
+report_same setup place life bytes root json reply t x sts new server s station st after es et put now well
+    leaves
     reports =
     let is : IsReported setup place life bytes root json reply t x sts new server station =
     (record { after = after; is = put; now = now; well = well; outside = leaves }, reports) in
@@ -529,15 +539,18 @@ restart_made_by setup s log ps sts new event addr key nonce m (Some place) is ki
     let w = weather_of (outside_of st.0) (outside_of r.after) in
     let silent : m.effect.call ≡ None =
     ap (λ (x : Effect). x.call) r.so.effect ∙ opened_call n r.so.found in
-    let kept : Keeps (IsBegunBy setup s.log (length log) (to_restart n key nonce) m.effect) m.effect m.pending =
-    subst (λ (o : Option Pending). Keeps (IsBegunBy setup s.log (length log) (to_restart n key nonce) m.effect)
+    let kept : Keeps (IsBegunBy setup s.log (length log) (to_restart n key nonce) m.effect) m.effect
+    m.pending =
+    subst (λ (o : Option Pending). Keeps (IsBegunBy setup s.log (length log) (to_restart n key nonce)
+    m.effect)
     m.effect o) (sym given.0) silent in
     let here : IsReceived w setup s (length log) event.at (to_restart n key nonce) m =
     record { served = (r.so.found, r.so.opens, r.so.effect); kept = kept } in
     let way : way_of setup log event.kind ≡ to_restart n key nonce = ap (way_of setup log) kind
     ∙ ap (restart_way key nonce) (station_now setup log sts addr place st.0 f is.stations st.1) in
     let of : IsStepOf f.server.addr (entry_of event m.effect).step =
-    subst (λ (x : Effect). IsStepOf f.server.addr x.step) (sym r.so.effect) (opened_of f.server st.0 r.so.found) in
+    subst (λ (x : Effect). IsStepOf f.server.addr x.step) (sym r.so.effect)
+    (opened_of f.server st.0 r.so.found) in
     let stand = stations_restarted setup log sts (entry_of event m.effect) addr key nonce place st.0 r.after f
     is.apart is.stations st.1 kind of r.so.now r.so.well in
     let moved : Moves setup (Some addr) w (map outside_of sts) (map outside_of (set sts place r.after)) =

@@ -11,7 +11,7 @@ use Rattle.farm_run.specs.declared.site.Site.{Site as Setup}
 use Rattle.farm_run.specs.Farm.{with_core}
 use Rattle.farm_run.specs.Next.{IsNext, EachNext, IsRun}
 use Rattle.farm_run.specs.Seen.{core_log, core_of}
-use Rattle.farm_run.specs.Weather.{Weather, free}
+use Rattle.farm_run.specs.Weather.{Weather}
 
 one_core : {X : Type 0} (o : Option X) → cons_option o [] ≡ option_to_list o
 one_core None = refl
@@ -43,7 +43,8 @@ core_of-push setup log e =
       log = l;
     }) (sym (core_log-push log e))
 
-pub EachNext-push : (w : Weather) (setup : Setup) (log : List Entry) (events : List Event) (entries : List Entry)
+pub EachNext-push : (w : Weather) (setup : Setup) (log : List Entry) (events : List Event)
+    (entries : List Entry)
     (event : Event) (e : Entry)
     → EachNext w setup log events entries → IsNext w setup (log ++ entries) event e
     → EachNext w setup log (events ++ event ∷ []) (entries ++ e ∷ [])
@@ -63,8 +64,8 @@ mapped_push [] e = refl
 mapped_push (x ∷ xs) e = ap (λ (vs : List Event). x.event ∷ vs) (mapped_push xs e)
 
 -- a run from none with one more entry, which is next
-pub IsRun-push : (setup : Setup) (log : List Entry) (e : Entry) → IsRun free setup log
-    → IsNext free setup log e.event e → IsRun free setup (log ++ e ∷ [])
-IsRun-push setup log e run is =
-    subst (λ (vs : List Event). EachNext free setup [] vs (log ++ e ∷ [])) (sym (mapped_push log e))
-    (EachNext-push free setup [] (map (λ (d : Entry). d.event) log) log e.event e run is)
+pub IsRun-push : (w : Weather) (setup : Setup) (log : List Entry) (e : Entry) → IsRun w setup log
+    → IsNext w setup log e.event e → IsRun w setup (log ++ e ∷ [])
+IsRun-push w setup log e run is =
+    subst (λ (vs : List Event). EachNext w setup [] vs (log ++ e ∷ [])) (sym (mapped_push log e))
+    (EachNext-push w setup [] (map (λ (d : Entry). d.event) log) log e.event e run is)

@@ -238,7 +238,8 @@ same_server s log e still none =
 
 -- ---- the stations
 
-pub get_set_same : {X : Type 0} (xs : List X) (n : ℕ) (a : X) → n < length xs → slice_get (set xs n a) n ≡ Some a
+pub get_set_same : {X : Type 0} (xs : List X) (n : ℕ) (a : X) → n < length xs → slice_get (set xs n a) n
+    ≡ Some a
 get_set_same [] n a h = absurd (omega arith)
 get_set_same (x ∷ xs) zero a h = refl
 get_set_same (x ∷ xs) (suc n) a h = get_set_same xs n a (omega arith)

@@ -55,13 +55,15 @@ get_take (y ∷ ys) (suc n) (suc m) h = get_take ys n m (omega arith)
 -- ---- the entries of a run
 
 -- each entry is next over those before it
-pub next_at : (w : Weather) (setup : Setup) (log : List Entry) (events : List Event) (entries : List Entry) (n : ℕ)
+pub next_at : (w : Weather) (setup : Setup) (log : List Entry) (events : List Event) (entries : List Entry)
+    (n : ℕ)
     (e : Entry) → EachNext w setup log events entries → slice_get entries n ≡ Some e
     → IsNext w setup (log ++ take n entries) e.event e
 next_at w setup log [] [] n e each at = absurd cc
 next_at w setup log (v ∷ vs) (x ∷ xs) zero e each at =
     let event : x.event ≡ v = ap (λ (y : Entry). y.event) each.0.2 in
-    let own : IsNext w setup log x.event x = subst (λ (u : Event). IsNext w setup log u x) (sym event) each.0 in
+    let own : IsNext w setup log x.event x = subst (λ (u : Event). IsNext w setup log u x) (sym event)
+    each.0 in
     subst (λ (y : Entry). IsNext w setup (log ++ []) y.event y) (same_Some x e at)
     (subst (λ (l : List Entry). IsNext w setup l x.event x) (sym (append-nil log)) own)
 next_at w setup log (v ∷ vs) (x ∷ xs) (suc n) e each at =
@@ -71,7 +73,8 @@ next_at w setup log [] (x ∷ xs) n e each at = absurd each
 next_at w setup log (v ∷ vs) [] n e each at = absurd each
 
 -- a front of a run is a run
-pub each_front : (w : Weather) (setup : Setup) (log : List Entry) (events : List Event) (entries : List Entry) (n : ℕ)
+pub each_front : (w : Weather) (setup : Setup) (log : List Entry) (events : List Event)
+    (entries : List Entry) (n : ℕ)
     → EachNext w setup log events entries → EachNext w setup log (take n events) (take n entries)
 each_front w setup log [] [] zero each = tt
 each_front w setup log [] [] (suc n) each = tt
@@ -113,7 +116,8 @@ void event x e is made off = false≢true (sym off ∙ ap (λ (y : Entry). is_vo
     ∙ ap (λ (y : Effect). is_void y.word) made)
 
 -- what an entry settles waited
-pub settles_waiting : (w : Weather) (setup : Setup) (log : List Entry) (e : Entry) (n : ℕ) (reply : Option (List ℕ))
+pub settles_waiting : (w : Weather) (setup : Setup) (log : List Entry) (e : Entry) (n : ℕ)
+    (reply : Option (List ℕ))
     → IsNext w setup log e.event e → is_void e.word ≡ false → settles_by log e.event.kind ≡ Some (n, reply)
     → (w : Entry) × (waiting_at log n ≡ Some w)
 settles_waiting w setup log e n reply (x, made, is) off settles =

@@ -1,7 +1,7 @@
 -- What an event leaves of the stations, and outside of them.
 use Rattle.std.proofs.Common.{◌≡◌, inl, ℕ, zero, suc, Bool, cond, List, [], ◌∷◌}
 use Rattle.std.proofs.Common.{map, set, Option, Some, None, refl, sym, ap, subst, ◌∙◌}
-use Rattle.std.specs.Prelude.{slice_get}
+use Rattle.std.specs.Prelude.{slice_get, is_some}
 use Rattle.std.proofs.lemmas.Option.{same_Some}
 use Rattle.dist_types.specs.declared.addr.Addr.{Addr}
 use Rattle.sched_core.proofs.AddressLemmas.{same_self}
@@ -54,7 +54,7 @@ outside_kept sts place st after at same = set_map outside_of sts place after
 
 leaves_to : (o : Option Addr) (old new : Outside) → new ≡ old → LeavesTo o old new
 leaves_to None old new same = same
-leaves_to (Some addr) old new same = λ own. ap (λ (x : Outside). x.builder) same ∙ own
+leaves_to (Some addr) old new same = ap (λ (x : Outside). is_some x.builder) same
 
 pub leaves_same : (step : Option Step) (old new : Outside) → new ≡ old → Leaves step old new
 leaves_same step old new same = leaves_to (reached_in step) old new same

@@ -1,5 +1,6 @@
 -- What a server's calls leave of its station.
-use Rattle.std.proofs.Common.{◌≡◌, ◌≢◌, inl, inr, ◌≤◌, codes, ℕ, Bool, true, false, cond, List, [], Option, Some, None}
+use Rattle.std.proofs.Common.{◌≡◌, ◌≢◌, inl, inr, ◌≤◌, codes, ℕ, Bool, true, false, cond, List, [], Option}
+use Rattle.std.proofs.Common.{Some, None}
 use Rattle.std.proofs.Common.{Result, Ok, Err, refl, sym, ap, subst, ◌∙◌}
 use Rattle.std.specs.Prelude.{slice_get, is_some, is_none, IfOk, not, ◌&&◌}
 use Rattle.std.specs.Option.{option_map}
@@ -46,7 +47,8 @@ use Rattle.farm_run.specs.Served.{books_of, build_answer, built, run_outcome}
 use Rattle.farm_run.specs.Servers.{ServerNow, kind_after, stepped, restarted, archives_after_run}
 use Rattle.farm_run.specs.Servers.{builds_after_run}
 use Rattle.farm_run.specs.Stations.{now_of, IsOpen, IsWell, BuildsBy}
-use Rattle.farm_run.specs.Weather.{Outside, weather_by, weather_of, failed_after_submit, failed_after_run, Stores}
+use Rattle.farm_run.specs.Weather.{Outside, weather_by, weather_of, failed_after_submit, failed_after_run}
+use Rattle.farm_run.specs.Weather.{Stores}
 use Rattle.farm_run.specs.Weather.{books_in, Asked, order_of, Works, Opens, opened_effect}
 
 -- a step of the server itself
@@ -70,6 +72,12 @@ with_books st books failed builds builder = record {
 pub unmapped : {A B : Type 0} (f : A → B) (o : Option A) → option_map f o ≡ None → o ≡ None
 unmapped f None e = refl
 unmapped f (Some x) e = absurd cc
+
+-- a builder that is as it was, whether there is one
+pub none_was : {A : Type 0} (old new : Option A) → is_some new ≡ is_some old → new ≡ None → old ≡ None
+none_was None new same none = refl
+none_was (Some x) new same none =
+    absurd (true≢false (sym same ∙ ap (λ (o : Option _). is_some o) none))
 
 -- ---- an assignment
 
@@ -181,7 +189,8 @@ submit_after s st new job bytes o failed is =
     ∙ ap (λ (a : Archives). record (now_of s st) { archives = a }) is.archives
     ∙ sym (own_step (now_of s st) (kinds.Submitted job o))
 
-pub submit_well : (s : SetupServer) (st : Station) (new : Books) (job : JobId) (bytes : List ℕ) (o : Submitted)
+pub submit_well : (s : SetupServer) (st : Station) (new : Books) (job : JobId) (bytes : List ℕ)
+    (o : Submitted)
     (failed : Bool) → IsOpen s st → IsSubmitted job bytes st.state new o
     → failed ≡ failed_after_submit o st.failed
     → (st.builder ≡ None → failed_after_submit o false ≡ false)
@@ -321,7 +330,8 @@ pub record IsRunDone (s : SetupServer) (st : Station) (new : Books) (builder : O
   pub fails : failed ≡ failed_after_run (ran_of went) st.failed
   pub own : st.builder ≡ None → failed_after_run (ran_of went) false ≡ false
 
-module _ (s : SetupServer) (st : Station) (new : Books) (builder : Option Builder) (builds : ℕ) (failed : Bool)
+module _ (s : SetupServer) (st : Station) (new : Books) (builder : Option Builder) (builds : ℕ)
+    (failed : Bool)
     (job : JobId) (t : Taken) (run : RunJobHttpRequest) (inputs : List ℕ) (went : Outcome)
     (is : IsRunDone s st new builder builds failed job t run inputs went) where
   abbrev after : Station
@@ -376,7 +386,13 @@ module _ (s : SetupServer) (st : Station) (new : Books) (builder : Option Builde
       ∙ sym (own_step (now_of s st) (kinds.Ran job (ran_of went) (built_of went)))
 
   pub run_own : StaysOwn (outside_of st) (outside_of after)
-  run_own e = (subst (λ (x : Option Builder). BuildsBy s st.builds x builder t run inputs went) e is.asked).0
+  run_own = by_builder st.builder builder is.asked
+    where
+      by_builder : (x y : Option Builder) → BuildsBy s st.builds x y t run inputs went
+          → is_some y ≡ is_some x
+      by_builder None y h = ap (λ (o : Option Builder). is_some o) h.0
+      by_builder (Some old) None h = absurd h
+      by_builder (Some old) (Some new) h = refl
 
   -- a builder that was handed in stays one
   stays : builder ≡ None → st.builder ≡ None
@@ -419,9 +435,11 @@ pub reopens : {F E : Type 0} (held : F → Held) (capacity : ℕ) (old : Books) 
     → IfOk r (λ s. (s.capacity ≡ capacity) × (s.path ≡ codes "tc"))
     → IfOk r (λ s. IsInStep s.path s.folder s.archives)
     → IfOk r (λ s. s.folder.faults ≡ (held origin).faults) → IfOk r (IsReopened held true capacity old)
-reopens held capacity old archives most origin (Err e) from cap path same size fits law none opens at step steady =
+reopens held capacity old archives most origin (Err e) from cap path same size fits law none opens at step
+    steady =
     tt
-reopens held capacity old archives most origin (Ok s) from cap path same size fits law none opens at step steady =
+reopens held capacity old archives most origin (Ok s) from cap path same size fits law none opens at step
+    steady =
     record {
       holds = none;
       origin = origin;
@@ -504,7 +522,8 @@ pub opened_at : {F : Type 0} (held : F → Held) (s : SetupServer) (st : Station
     → Opens (weather_of (outside_of st) (outside_of (reborn st key nonce true new false))) (now_of s st)
     (Some found)
 opened_at held s st new found key nonce well is same tells shut =
-    subst (λ (a : Archives). Opens (weather_of (outside_of st) (outside_of (reborn st key nonce true new false)))
+    subst (λ (a : Archives). Opens
+    (weather_of (outside_of st) (outside_of (reborn st key nonce true new false)))
     (now_of s st) (Some a)) (sym same)
     (opened_so held s st new key nonce well is tells (λ e. runs st.running
     (sym (ap (λ (o : Option Builder). is_none o && not st.running) e) ∙ shut)))

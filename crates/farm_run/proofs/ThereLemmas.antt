@@ -182,7 +182,8 @@ made_there setup log ps kept at (to_server s bytes) =
     let a = server_question_there s bytes in
     (served setup s (length log) a.0.json a.0.what, (a.0, a.1, refl))
 made_there setup log ps kept at (to_beat s) = (beat_effect setup s, refl)
-made_there setup log ps kept at (to_restart s key nonce) = (opened_effect s (Some s.archives), (Some s.archives, refl, refl))
+made_there setup log ps kept at (to_restart s key nonce) =
+    (opened_effect s (Some s.archives), (Some s.archives, refl, refl))
 made_there setup log ps kept at to_nothing = (word_effect Void, refl)
 made_there setup log ps kept at to_nobody = (word_effect Down, refl)
 

@@ -81,8 +81,8 @@ pub record IsReceived (w : Weather) (setup : Setup) (core : Core) (number at : �
   pub served : IsServed w setup core number at way m.effect
   pub kept : Keeps (IsBegunBy setup core.log number way m.effect) m.effect m.pending
 
--- An event that restarts nothing and did that leaves the stations so: they are the servers after its entry, and
--- what is outside of them is left as in that weather.
+-- An event that restarts nothing and did that leaves the stations so: they are the servers after its entry,
+-- and what is outside of them is left as in that weather.
 abbrev pub Stands : Setup → List Entry → Effect → Weather → List Station → List Station → Type 0
 Stands setup log x w old new =
     (event : Event) → ((a : Addr) → restart_by a event.kind ≡ None)

@@ -5,6 +5,7 @@ pub mod Builds
 pub mod Calls
 pub mod Effects
 pub mod Farm
+pub mod Lined
 pub mod Next
 pub mod Passage
 pub mod Post
@@ -17,6 +18,7 @@ pub mod Servers
 pub mod Settled
 pub mod Sites
 pub mod Stations
+pub mod Stops
 pub mod Tickets
 pub mod Ways
 pub mod Weather

@@ -59,9 +59,9 @@ IsBegun capacity builder folder None new =
 
 -- ---- what an entry leaves
 
--- a builder that the farm made stays one
+-- a builder that the farm made stays one, and so does one that was handed in
 abbrev pub StaysOwn : Outside → Outside → Type 0
-StaysOwn old new = old.builder ≡ None → new.builder ≡ None
+StaysOwn old new = is_some new.builder ≡ is_some old.builder
 
 abbrev pub LeavesTo : Option Addr → Outside → Outside → Type 0
 LeavesTo None old new = new ≡ old
@@ -107,8 +107,8 @@ Moves setup (Some addr) w old new = MovesAt setup addr w old new ⊎ IsNobody se
 abbrev pub IsMoved : Setup → Entry → Weather → List Outside → List Outside → Type 0
 IsMoved setup e w old new = Moves setup (reached e.event.kind e.step) w old new
 
--- One entry for each event, each next over those before it, in the weather that what was outside of its server
--- before it and after it makes.
+-- One entry for each event, each next over those before it, in the weather that what was outside of its
+-- server before it and after it makes.
 abbrev pub Passage : Setup → List Entry → List Outside → List Event → List Entry → List Outside → Type 0
 Passage setup log old [] [] new = new ≡ old
 Passage setup log old (event ∷ events) (e ∷ es) new =

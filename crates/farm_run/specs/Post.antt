@@ -8,9 +8,9 @@ use Rattle.build_server.specs.Books.{Books}
 use Rattle.build_server.specs.Builds.{Builder}
 use Rattle.farm_run.specs.Weather.{Outside}
 
--- A station: the number of its life with that life's nonce and key, whether it runs, what it keeps, whether its
--- folder failed since its last opening began, how many builds its builder was asked for, and a builder that
--- was handed in.
+-- A station: the number of its life with that life's nonce and key, whether it runs, what it keeps, whether
+-- its folder failed since its last opening began, how many builds its builder was asked for, and a builder
+-- that was handed in.
 pub record Post : Type 0 where
   pub life : ℕ
   pub nonce : ℕ
@@ -51,9 +51,10 @@ abbrev pub is_io : Error → Bool
 is_io (Io fault) = true
 is_io other = false
 
--- Books over a cache that was opened again, where the server ran or not: nothing is held, the archives are those
--- that the files give, and those that it had where they were in step with the files.
-pub record IsReopened {F : Type 0} (held : F → Held) (ran : Bool) (capacity : ℕ) (old new : Books) : Type 0 where
+-- Books over a cache that was opened again, where the server ran or not: nothing is held, the archives are
+-- those that the files give, and those that it had where they were in step with the files.
+pub record IsReopened {F : Type 0} (held : F → Held) (ran : Bool) (capacity : ℕ)
+    (old new : Books) : Type 0 where
   pub holds : new.held ≡ []
   pub origin : F
   pub from : old.folder ≡ held origin

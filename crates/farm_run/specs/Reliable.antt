@@ -1,6 +1,7 @@
 -- What whoever asks a farm may count on: how often an entry is replied to, which requests get the reply that
 -- their row names, and what a restart keeps.
-use Rattle.std.specs.Prelude.{◌≡◌, ℕ, ◌+◌, suc, List, [], take, drop, slice_get, Bool, true, is_some, Option, Some}
+use Rattle.std.specs.Prelude.{◌≡◌, ℕ, ◌+◌, suc, List, [], take, drop, slice_get, Bool, true, is_some, Option}
+use Rattle.std.specs.Prelude.{Some}
 use Rattle.std.specs.Prelude.{Ok}
 use Rattle.dist_types.specs.Cause.{counted}
 use Rattle.dist_types.specs.declared.addr.Addr.{Addr}
@@ -147,8 +148,8 @@ AllocationsEnd setup log =
     → IsReserved setup log n json t → BringsBack log n k bytes → IsAssigned bytes (Ok a)
     → IsCommitted setup log n k json t a
 
--- a submission gets the 200 of what it comes to in that weather, over what the server keeps then, where its call
--- is granted
+-- a submission gets the 200 of what it comes to in that weather, over what the server keeps then, where its
+-- call is granted
 abbrev pub SubmissionsEnd : Weather → Setup → List Entry → Type 0
 SubmissionsEnd w setup log =
     (n k : ℕ) (server : Addr) (life : ℕ) (job : JobId) (json : Bool) (body : ℕ) (bytes : List ℕ)

@@ -136,7 +136,8 @@ heard_as (Ok answer) = if answer.is_new then heard.New else heard.Old
 heard_as (Err f) = heard.Lost
 
 -- a report of the server goes on by its reply; the bytes are those that the event of the root brought
-abbrev pub Reports : Weather → Setup → ServerNow → List ℕ → ℕ → Bool → Option (List ℕ) → Told → Effect → Type 0
+abbrev pub Reports : Weather → Setup → ServerNow → List ℕ → ℕ → Bool → Option (List ℕ) → Told → Effect
+    → Type 0
 Reports w setup s bytes root json reply (told.Ready job at) x =
     (r : Result UpdateJobStateResult CallFault) × IsUpdated reply r
     × ReadyEnds w s root json job (drop at bytes) r x

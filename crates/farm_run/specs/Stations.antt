@@ -43,8 +43,8 @@ pub record IsOpen (s : SetupServer) (st : Station) : Type 0 where
 abbrev pub IsWell : SetupServer → Station → Type 0
 IsWell s st = st.running ≡ true → IsOpen s st
 
--- a build of what was taken out by a builder of the farm's own, which answers by its lines, or by one that was
--- handed in
+-- a build of what was taken out by a builder of the farm's own, which answers by its lines, or by one that
+-- was handed in
 abbrev pub BuildsBy : SetupServer → ℕ → Option Builder → Option Builder → Taken → RunJobHttpRequest → List ℕ
     → Outcome → Type 0
 BuildsBy s n None new t run inputs o = (new ≡ None)
@@ -76,8 +76,8 @@ pub record IsStepAt (s : SetupServer) (place : ℕ) (st : Station) (step : Optio
   pub well : IsWell s after
   pub outside : Leaves step (outside_of st) (outside_of after)
 
--- A server starts again with that key and nonce, by an opening that comes to what is found in the weather that is
--- outside of it.
+-- A server starts again with that key and nonce, by an opening that comes to what is found in the weather
+-- that is outside of it.
 pub record IsRestartedSo (s : SetupServer) (st after : Station) (key : List ℕ) (nonce : ℕ)
     (x : Effect) : Type 0 where
   pub found : Option Archives

@@ -102,8 +102,8 @@ abbrev pub IsFree : Option (List ℕ) → Outcome → Type 0
 IsFree None o = o ≡ outcome.None
 IsFree (Some tc) o = Unit {0}
 
--- A run of a job that holds this toolchain may go so: a builder that was handed in answers what it will, once,
--- and a folder that was handed in may fail as the archive is looked up.
+-- A run of a job that holds this toolchain may go so: a builder that was handed in answers what it will,
+-- once, and a folder that was handed in may fail as the archive is looked up.
 abbrev pub Works : Weather → ServerNow → Option (List ℕ) → RunJobHttpRequest → List ℕ → Outcome → Type 0
 Works calm s found run inputs o = o ≡ run_outcome s found run.outputs inputs
 Works free s found run inputs o = IsFree found o

@@ -1,5 +1,6 @@
 //! Bytes that come to an address, and the events of a build server of its own.
-ghost use Rattle.std.specs.Prelude.{◌≡◌, ℕ, length, slice_get, position, IfOk, IfErr, OnOk, Some, None};
+ghost use Rattle.std.specs.Prelude.{◌≡◌, ℕ, length, slice_get, position, map, IfOk, IfErr, OnOk, OnErr, Some};
+ghost use Rattle.std.specs.Prelude.{None};
 ghost use Rattle.dist_types.specs.Addr.{same_addr};
 ghost use Rattle.farm_script.specs.declared.event.EventKind.TheVariants as kind;
 ghost use Rattle.farm_script.specs.declared.fault.FarmFault.TheVariants as fault;
@@ -7,11 +8,13 @@ ghost use Rattle.farm_run.specs.declared.site.SiteServer.{SiteServer as Site};
 ghost use Rattle.farm_run.specs.Begun.{IsBegunBy, Keeps};
 ghost use Rattle.farm_run.specs.Effects.{word_effect};
 ghost use Rattle.farm_run.specs.Farm.{IsReceived, Stands, acted};
-ghost use Rattle.farm_run.specs.Post.{Post};
+ghost use Rattle.farm_run.specs.Passage.{StaysOwn};
+ghost use Rattle.farm_run.specs.Post.{Post, outside_of};
 ghost use Rattle.farm_run.specs.Served.{IsServerAnswered};
 ghost use Rattle.farm_run.specs.Servers.{server_at, server_now};
 ghost use Rattle.farm_run.specs.Stations.{now_of, IsWell, AreWell, AreStations, IsStepAt, IsRestartedSo};
 ghost use Rattle.farm_run.specs.Stations.{IsRestartAt, HasApart};
+ghost use Rattle.farm_run.specs.Stops.{IsCutOff};
 ghost use Rattle.farm_run.specs.Ways.{way_of, way_to, beat_way, to_server};
 ghost use Rattle.farm_run.specs.Weather.{calm};
 
@@ -46,6 +49,8 @@ pub(crate) fn arrive<F: Folder + Drop, B: BuilderIncoming + Drop>(
     ensures stations { IfOk result
         (λ m. Stands desk.old.setup entries.now m.effect calm stations.old.items stations.new.items) }
     ensures desk { IfOk result (λ m. desk.new ≡ acted desk.old m.effect.core) }
+    ensures cut { OnErr result
+        (IsCutOff (map outside_of stations.old.items) (map outside_of stations.new.items)) }
     ensures err { IfErr result (λ e. e ≡ fault.Memory) }
 {
     if is_scheduler(&desk.setup, target) {
@@ -98,6 +103,8 @@ pub(crate) fn arrive_at<F: Folder + Drop, B: BuilderIncoming + Drop>(
         → slice_get stations.old.items place ≡ Some st
         → IsStepAt s place st m.effect.step stations.old.items stations.new.items) }
     ensures there { OnOk result ((st : Post) × (slice_get stations.old.items place ≡ Some st)) }
+    ensures cut { OnErr result
+        (IsCutOff (map outside_of stations.old.items) (map outside_of stations.new.items)) }
     ensures err { IfErr result (λ e. e ≡ fault.Memory) }
 {
     match desk.setup.servers.get().get(place) {
@@ -127,6 +134,8 @@ pub(crate) fn deliver<F: Folder + Drop, B: BuilderIncoming + Drop>(
     ensures stations { IfOk result
         (λ m. Stands desk.old.setup entries.now m.effect calm stations.old.items stations.new.items) }
     ensures desk { IfOk result (λ m. desk.new ≡ acted desk.old m.effect.core) }
+    ensures cut { OnErr result
+        (IsCutOff (map outside_of stations.old.items) (map outside_of stations.new.items)) }
     ensures err { IfErr result (λ e. e ≡ fault.Memory) }
 {
     match call_at(entries, call) {
@@ -189,6 +198,7 @@ pub(crate) fn restart_in<F: Folder + Drop, B: BuilderIncoming + Drop>(
 ) -> Result<Effect, FarmFault>
     requires well { IsWell server.now station.old }
     ensures restarts { IfOk result (IsRestartedSo server.now station.old station.new key.now nonce) }
+    ensures own { OnErr result (StaysOwn (outside_of station.old) (outside_of station.new)) }
     ensures err { IfErr result (λ e. e ≡ fault.Memory) }
 {
     match station.restart(alloc, server, key, nonce) {
@@ -215,6 +225,8 @@ pub(crate) fn restart<F: Folder + Drop, B: BuilderIncoming + Drop>(
         → slice_get desk.now.setup.servers place ≡ Some s → slice_get stations.old.items place ≡ Some st
         → (m.pending ≡ None)
         × IsRestartAt s place st key.now nonce m.effect stations.old.items stations.new.items) }
+    ensures cut { OnErr result
+        (IsCutOff (map outside_of stations.old.items) (map outside_of stations.new.items)) }
     ensures err { IfErr result (λ e. e ≡ fault.Memory) }
 {
     match place_of(&desk.setup, addr) {

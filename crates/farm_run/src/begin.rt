@@ -64,8 +64,8 @@ fn own_servers(
     Ok((sites, stations))
 }
 
-/// The farm that a script sets up, with no entries: over empty folders in memory, which never fail, and builders
-/// that answer by the lines of the script and then echo. Refused for want of memory alone.
+/// The farm that a script sets up, with no entries: over empty folders in memory, which never fail, and
+/// builders that answer by the lines of the script and then echo. Refused for want of memory alone.
 pub fn setup(alloc: Global, setup: &Setup) -> Result<Farm<MemFolder, FarmBuilder>, FarmFault>
     requires apart { AreApart (setup.now.scheduler.addr ∷ map (λ s. s.addr) setup.now.servers) }
     ensures setup { IfOk result (λ farm. farm.setup ≡ site_of setup.now) }
@@ -82,7 +82,8 @@ pub fn setup(alloc: Global, setup: &Setup) -> Result<Farm<MemFolder, FarmBuilder
         scheduler,
         servers: Items::new(servers),
     };
-    Ok(Farm::begun(alloc, site, stations))
+    let farm = Farm::begun(alloc, site, stations)?;
+    Ok(farm)
 }
 
 /// A server over a folder and a builder that are handed in.
@@ -120,13 +121,17 @@ fn handed_servers<F: Folder + Drop, B: BuilderIncoming + Drop>(
     ensures addresses { IfOk result (λ p. map (λ t. t.addr) p.0.items ≡ map (λ s. s.addr) servers.now) }
     ensures err { IfErr result (λ e. e ≡ fault.Memory) }
 {
-    let mut folders = folders;
-    let mut builders = builders;
+    let mut folders = folders.into_iter();
+    let mut builders = builders.into_iter();
     let mut sites = Vec::with_capacity(alloc, servers.len())?;
     let mut stations = Vec::with_capacity(alloc, servers.len())?;
     for server in servers {
-        let folder = folders.remove(0);
-        let builder = builders.remove(0);
+        let Some(folder) = folders.next() else {
+            return Err(FarmFault::Memory);
+        };
+        let Some(builder) = builders.next() else {
+            return Err(FarmFault::Memory);
+        };
         let (site, station) = handed_server(alloc, server, folder, builder)?;
         sites.push(site)?;
         stations.push(station)?;
@@ -135,9 +140,9 @@ fn handed_servers<F: Folder + Drop, B: BuilderIncoming + Drop>(
 }
 
 impl<F: Folder + Drop, B: BuilderIncoming + Drop> Farm<F, B> {
-    /// The farm of a setup, with no entries, over folders and builders that are handed in, one of each for each
-    /// server. A server whose folder did not fail in the opening runs, with the archives that its files give;
-    /// one whose opening failed does not run. Refused for want of memory alone.
+    /// The farm of a setup, with no entries, over folders and builders that are handed in, one of each for
+    /// each server. A server whose folder did not fail in the opening runs, with the archives that its files
+    /// give; one whose opening failed does not run. Refused for want of memory alone.
     pub fn new(
         alloc: Global,
         setup: &Setup,
@@ -162,6 +167,7 @@ impl<F: Folder + Drop, B: BuilderIncoming + Drop> Farm<F, B> {
             scheduler,
             servers: Items::new(servers),
         };
-        Ok(Farm::begun(alloc, site, stations))
+        let farm = Farm::begun(alloc, site, stations)?;
+        Ok(farm)
     }
 }

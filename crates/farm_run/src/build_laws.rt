@@ -1,5 +1,5 @@
-//! Laws of runs on calls and builds, each a clause that quantifies over every input, and over what may come to
-//! build servers from outside: their folders and their builders.
+//! Laws of runs on calls and builds, each a clause that quantifies over every input, and over what may come
+//! to build servers from outside: their folders and their builders.
 ghost use Rattle.std.specs.Prelude.{◌≡◌, ◌<◌, ◌^◌, List, [], ℕ};
 ghost use Rattle.farm_run.specs.Builds.{AreSettledOnce, AreBuiltOnce, AreBuilds, HasWords};
 ghost use Rattle.farm_run.specs.Next.{EachNext};
@@ -18,13 +18,15 @@ pub fn calls_are_settled_once()
 /// At every prefix of a run each build goes on from an accepted start of a run request, and no id is built
 /// twice.
 pub fn builds_are_accepted()
-    ensures { (w : Weather) (setup : Site) (events : List Event) (entries : List Entry) → setup.scheduler.count < 2 ^ 64
+    ensures { (w : Weather) (setup : Site) (events : List Event) (entries : List Entry)
+        → setup.scheduler.count < 2 ^ 64
         → HasWords setup → EachNext w setup [] events entries → AreBuilds setup entries }
 {}
 
 /// No id is built twice.
 pub fn no_id_is_built_twice()
-    ensures { (w : Weather) (setup : Site) (events : List Event) (entries : List Entry) → setup.scheduler.count < 2 ^ 64
+    ensures { (w : Weather) (setup : Site) (events : List Event) (entries : List Entry)
+        → setup.scheduler.count < 2 ^ 64
         → HasWords setup → EachNext w setup [] events entries → AreBuiltOnce entries }
 {}
 

@@ -1,8 +1,9 @@
 //! The builders of a setup: they answer what their lines list, in order, and then echo.
 //!
-//! A farm that a script sets up keeps the lines of its builders in its setup and the number of their builds in
-//! its stations. `FarmBuilder` is such a builder by itself.
-ghost use Rattle.std.specs.Prelude.{◌≡◌, ◌≢◌, Err, IfOk, map, option_copied};
+//! A farm that a script sets up keeps the lines of its builders in its setup and the number of their builds
+//! in its stations. `FarmBuilder` is such a builder by itself.
+ghost use Rattle.std.specs.Prelude.{◌≡◌, ◌≢◌, ◌≤◌, Err, IfOk, OnOk, map, slice_get, option_copied};
+ghost use Rattle.dist_types.specs.Cause.{Rose, counted};
 ghost use Rattle.build_server.specs.Echo.{data_of};
 ghost use Rattle.farm_run.specs.Served.{listed, build_answer};
 
@@ -18,6 +19,7 @@ use dist_types::toolchain::Toolchain;
 use dist_types::try_clone::{TryClone, push};
 use farm_script::setup::BuilderLine;
 use std::alloc::Global;
+use std::marker::Model;
 
 /// A copy of what a build gave. Refused for want of memory alone.
 pub(crate) fn copy_result(built: &BuildResult) -> Result<BuildResult, Memory>
@@ -103,7 +105,8 @@ pub(crate) fn build_answer(
     }
 }
 
-/// A builder that answers what its lines list, in order, and then echoes. It tells no record.
+/// A builder that answers what its lines list, in order, and then echoes. It tells no record. Contracts see
+/// its lines, how many builds it answered, and how many of them it refused.
 #[derive(Debug, Drop)]
 pub struct FarmBuilder {
     alloc: Global,
@@ -112,9 +115,19 @@ pub struct FarmBuilder {
     refusals: u64,
 }
 
+impl Model for FarmBuilder {
+    ghost use Rattle.farm_run.specs.Lined.{Lined};
+
+    ghost Value = { Lined };
+
+    ghost view = { λ b. record { lines = b.lines; builds = b.builds; refusals = b.refusals } };
+}
+
 impl FarmBuilder {
     /// A builder of those lines, which has answered none. Refused for want of memory alone.
-    pub fn of(alloc: Global, lines: &[BuilderLine]) -> Result<Self, Memory> {
+    pub fn of(alloc: Global, lines: &[BuilderLine]) -> Result<Self, Memory>
+        ensures of { IfOk result (λ b. b ≡ record { lines = lines.now; builds = 0; refusals = 0 }) }
+    {
         let lines = copy_lines(alloc, lines)?;
         Ok(FarmBuilder {
             alloc,
@@ -132,7 +145,8 @@ impl BuilderIncoming for FarmBuilder {
 
     ghost refusals = { λ b. b.refusals };
 
-    /// What is listed, or echoed. Refused where a line says so, and for want of memory.
+    /// What the line lists that is due; where all are answered, the echo. Refused where the line says so, and
+    /// for want of memory, which changes nothing.
     fn run_build(
         &mut self,
         _toolchain: &Toolchain,
@@ -140,7 +154,17 @@ impl BuilderIncoming for FarmBuilder {
         _command: &CompileCommand,
         outputs: &[Text],
         inputs: &[u8],
-    ) -> Result<BuildResult, BuildFault> {
+    ) -> Result<BuildResult, BuildFault>
+        ensures answers { result ≢ Err BuildFault.Memory
+            → result ≡ build_answer (slice_get self.old.lines self.old.builds) outputs.now inputs.now }
+        ensures builds { result ≢ Err BuildFault.Memory → self.new.builds ≡ counted self.old.builds }
+        ensures lines { self.new.lines ≡ self.old.lines }
+        ensures same { result ≡ Err BuildFault.Memory → self.new ≡ self.old }
+        ensures steady { OnOk result (self.new.refusals ≡ self.old.refusals) }
+        ensures uncounted { result ≡ Err BuildFault.Memory → self.new.refusals ≡ self.old.refusals }
+        ensures later { self.old.refusals ≤ self.new.refusals }
+        ensures cause { result ≡ Err BuildFault.Refused → Rose self.old.refusals self.new.refusals }
+    {
         let line = self.lines.get().get(self.builds as usize);
         match build_answer(self.alloc, line, outputs, inputs) {
             Ok(Ok(built)) => {

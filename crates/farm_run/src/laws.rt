@@ -20,9 +20,10 @@ pub fn runs_are_one()
         → EachNext calm setup log events a → EachNext calm setup log events b → a ≡ b }
 {}
 
-/// Whatever the events, and whatever comes from outside, each core entry of a run is the core rule's; so after each front of its entries
-/// different reservations have different jobs, each open job has exactly one unended reservation, at a
-/// registration that stands, and no registration has a greater load than it has room for.
+/// Whatever the events, and whatever comes from outside, each core entry of a run is the core rule's; so
+/// after each front of its entries different reservations have different jobs, each open job has exactly one
+/// unended reservation, at a registration that stands, and no registration has a greater load than it has
+/// room for.
 pub fn runs_are_lawful()
     ensures { (w : Weather) (setup : Site) (events : List Event) (entries : List Entry)
         → setup.scheduler.count < 2 ^ 64 → EachNext w setup [] events entries → AreLawful setup entries }

@@ -20,6 +20,7 @@ mod lookup;
 mod pending;
 pub mod print;
 mod reports;
+mod room;
 pub mod run;
 mod serve;
 mod servers;

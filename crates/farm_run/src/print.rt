@@ -103,7 +103,8 @@ fn push_jobs<F: Folder + Drop, B: BuilderIncoming + Drop>(
 
 /// Writes the lines of jobs that a server holds.
 fn push_held(out: &mut String, addr: Addr, held: Held<'_>) -> Result<(), AllocError>
-    ensures { OnOk result (string_bytes out.new ≡ string_bytes out.old ++ flat_map (held_text addr) held.entry) }
+    ensures { OnOk result
+        (string_bytes out.new ≡ string_bytes out.old ++ flat_map (held_text addr) held.entry) }
 {
     for (job, tc) in held {
         let line = HeldLine { addr, job, tc };

@@ -1,12 +1,13 @@
 //! What follows the settlement of a build server's calls.
-ghost use Rattle.std.specs.Prelude.{◌≡◌, Some, None, Ok, Err, Result, drop, IfOk, IfErr, OnOk, option_copied};
+ghost use Rattle.std.specs.Prelude.{◌≡◌, Some, None, Ok, Err, Result, drop, IfOk, IfErr, OnOk, OnErr};
+ghost use Rattle.std.specs.Prelude.{option_copied};
 ghost use Rattle.build_server.specs.Builds.{built_of};
 ghost use Rattle.dist_types.specs.declared.outgoing.CallFault.{CallFault as Cause};
 ghost use Rattle.dist_types.specs.declared.results.UpdateJobStateResult.{UpdateJobStateResult as Accepted};
 ghost use Rattle.dist_types.specs.declared.results.HeartbeatServerResult.{HeartbeatServerResult as Heard};
 ghost use Rattle.farm_run.specs.Begun.{Keeps, completion_at};
 ghost use Rattle.farm_run.specs.Effects.{step_effect};
-ghost use Rattle.farm_run.specs.Passage.{Leaves};
+ghost use Rattle.farm_run.specs.Passage.{Leaves, StaysOwn};
 ghost use Rattle.farm_run.specs.Post.{outside_of};
 ghost use Rattle.farm_run.specs.Servers.{stepped};
 ghost use Rattle.farm_run.specs.Settled.{IsUpdated, IsHeard, unreported, running, ReadyEnds, StartedEnds};
@@ -122,6 +123,7 @@ fn end_ready<F: Folder + Drop, B: BuilderIncoming + Drop>(
     ensures after { IfOk result
         (λ x. now_of server.now station.new ≡ stepped x.step (now_of server.now station.old)) }
     ensures outside { IfOk result (λ x. Leaves x.step (outside_of station.old) (outside_of station.new)) }
+    ensures own { OnErr result (StaysOwn (outside_of station.old) (outside_of station.new)) }
     ensures still_well { OnOk result (IsWell server.now station.new) }
     ensures err { IfErr result (λ e. e ≡ fault.Memory) }
 {
@@ -171,7 +173,9 @@ fn end_started<F: Folder + Drop, B: BuilderIncoming + Drop>(
         m.effect.step ≡ Some p) m.effect m.pending) }
     ensures after { IfOk result
         (λ m. now_of server.now station.new ≡ stepped m.effect.step (now_of server.now station.old)) }
-    ensures outside { IfOk result (λ m. Leaves m.effect.step (outside_of station.old) (outside_of station.new)) }
+    ensures outside { IfOk result
+        (λ m. Leaves m.effect.step (outside_of station.old) (outside_of station.new)) }
+    ensures own { OnErr result (StaysOwn (outside_of station.old) (outside_of station.new)) }
     ensures still_well { OnOk result (IsWell server.now station.new) }
     ensures err { IfErr result (λ e. e ≡ fault.Memory) }
 {
@@ -373,7 +377,9 @@ pub fn go_on<F: Folder + Drop, B: BuilderIncoming + Drop>(
         m.effect.step ≡ Some p) m.effect m.pending) }
     ensures after { IfOk result
         (λ m. now_of server.now station.new ≡ stepped m.effect.step (now_of server.now station.old)) }
-    ensures outside { IfOk result (λ m. Leaves m.effect.step (outside_of station.old) (outside_of station.new)) }
+    ensures outside { IfOk result
+        (λ m. Leaves m.effect.step (outside_of station.old) (outside_of station.new)) }
+    ensures own { OnErr result (StaysOwn (outside_of station.old) (outside_of station.new)) }
     ensures still_well { OnOk result (IsWell server.now station.new) }
     ensures err { IfErr result (λ e. e ≡ fault.Memory) }
 {

@@ -1,6 +1,7 @@
 //! A farm, and its runs.
 ghost use Rattle.std.specs.Prelude.{◌≡◌, [], ◌<◌, ◌≤◌, ◌^◌, ℕ, List, length, take, slice_get, map, IfOk};
 ghost use Rattle.std.specs.Prelude.{IfErr, OnOk, OnErr, MatchOption, Some, true, false};
+ghost use Rattle.build_server.specs.Builds.{builder_of};
 ghost use Rattle.sched_core.specs.Job.{open_jobs};
 ghost use Rattle.sched_core.specs.Rows.{servers_of, jobs_of, held_by_id, held_part};
 ghost use Rattle.farm_script.specs.declared.fault.FarmFault.TheVariants as fault;
@@ -8,20 +9,23 @@ ghost use Rattle.farm_run.specs.declared.site.SiteServer.{SiteServer};
 ghost use Rattle.farm_run.specs.Builds.{AreBuilds, HasToken, HasWords};
 ghost use Rattle.farm_run.specs.Farm.{IsFarm, IsMadeSo, AreLawful, HasNext, acted, AddsNext, Steps, Runs};
 ghost use Rattle.farm_run.specs.Next.{IsRun};
+ghost use Rattle.farm_run.specs.Passage.{AreOwn};
 ghost use Rattle.farm_run.specs.Printed.{ids_given};
 ghost use Rattle.farm_run.specs.Reliable.{IsReliable};
 ghost use Rattle.farm_run.specs.Seen.{core_log};
 ghost use Rattle.farm_run.specs.Servers.{server_of};
 ghost use Rattle.farm_run.specs.Stations.{now_of, AreStations, HasApart};
 ghost use Rattle.farm_run.specs.Post.{outside_of};
+ghost use Rattle.farm_run.specs.Stops.{folders_in, builders_in, IsCutOff, AreHandedBack};
 ghost use Rattle.farm_run.specs.Ways.{way_of};
-ghost use Rattle.farm_run.specs.Weather.{Outside, free};
+ghost use Rattle.farm_run.specs.Weather.{Outside, calm, free};
 
 use crate::arrivals::{arrive, deliver, restart, send_beat};
 use crate::desk::Desk;
 use crate::entry::Entry;
 use crate::lookup::{delivery_at, is_inside};
 use crate::pending::{Made, Pending, idle, release, undo_last};
+use crate::room::Room;
 use crate::serve::{Arrival, Stamp};
 use crate::settle::Settlement;
 use crate::settlements::take_back;
@@ -45,13 +49,15 @@ struct Log {
     kept: Vec<Option<Pending>>,
 }
 
-/// A farm and the log of all that came to it. Contracts see how it was set up, the entries, and what is outside
-/// of its servers.
+/// A farm and the log of all that came to it. Contracts see how it was set up, the entries, and what is
+/// outside of its servers.
 pub struct Farm<F: Folder + Drop, B: BuilderIncoming + Drop> {
     desk: Desk,
     /// One for each server, in the order of the setup.
     stations: Vec<Station<F, B>>,
     log: Log,
+    /// For what is handed back.
+    room: Room<F, B>,
 }
 
 impl<F: Folder + Drop, B: BuilderIncoming + Drop> Model for Farm<F, B> {
@@ -61,7 +67,7 @@ impl<F: Folder + Drop, B: BuilderIncoming + Drop> Model for Farm<F, B> {
 
     ghost Value = { Farmed };
 
-    ghost use Rattle.farm_run.specs.Farm.{IsFarm};
+    ghost use Rattle.farm_run.specs.Stops.{IsWhole};
 
     ghost view = { λ f. record {
       setup = f.desk.setup;
@@ -69,8 +75,8 @@ impl<F: Folder + Drop, B: BuilderIncoming + Drop> Model for Farm<F, B> {
       outside = map outside_of f.stations.items;
     } };
 
-    ghost invariant = { λ f. IsFarm f.desk.setup f.desk.state f.log.entries.items f.log.kept.items
-        f.stations.items };
+    ghost invariant = { λ f. IsWhole f.desk.setup f.desk.state f.log.entries.items f.log.kept.items
+        f.stations.items f.room };
 }
 
 /// What is kept of calls that wait is undone.
@@ -80,14 +86,9 @@ impl<F: Folder + Drop, B: BuilderIncoming + Drop> Drop for Farm<F, B> {
             desk,
             stations: _,
             log,
+            room: _,
         } = self;
-        let Log { entries: _, kept } = log;
-        let Desk {
-            alloc: _,
-            setup: _,
-            state,
-        } = desk;
-        release(state, kept);
+        let _ = let_go(desk, log);
     }
 }
 
@@ -96,29 +97,15 @@ impl<F: Folder + Drop, B: BuilderIncoming + Drop> Drop for Farm<F, B> {
 pub struct Stopped<F: Folder + Drop, B: BuilderIncoming + Drop> {
     /// The entries of the events that were done whole.
     pub entries: Items<Entry>,
-    stations: Vec<Station<F, B>>,
+    /// The folder of each server, in the order of the setup.
+    pub folders: Vec<F>,
+    /// The builders that were handed in, in the order of the setup.
+    pub builders: Vec<B>,
 }
 
-impl<F: Folder + Drop, B: BuilderIncoming + Drop> Stopped<F, B> {
-    /// The folder of the last server that was not handed back yet, and its builder where that was handed in. It
-    /// takes no memory.
-    pub fn pop(&mut self) -> Option<(Option<F>, Option<B>)>
-        ensures entries { self.new.entries ≡ self.old.entries }
-    {
-        match self.stations.pop() {
-            None => None,
-            Some(station) => Some(station.into_parts()),
-        }
-    }
-}
-
-/// Stops a run: what is kept of calls that wait is undone, and the entries are handed back.
-fn stop<F: Folder + Drop, B: BuilderIncoming + Drop>(
-    desk: Desk,
-    stations: Vec<Station<F, B>>,
-    log: Log,
-) -> Stopped<F, B>
-    ensures { result.entries ≡ log.entries.items }
+/// Undoes what is kept of calls that wait, and lets all go but the entries.
+fn let_go(desk: Desk, log: Log) -> Vec<Entry>
+    ensures entries { result.items ≡ log.entries.items }
 {
     let Log { entries, kept } = log;
     let Desk {
@@ -127,26 +114,51 @@ fn stop<F: Folder + Drop, B: BuilderIncoming + Drop>(
         state,
     } = desk;
     release(state, kept);
+    entries
+}
+
+/// Stops a run: the entries, the folders and the builders are handed back. It takes no memory.
+fn stop<F: Folder + Drop, B: BuilderIncoming + Drop>(
+    desk: Desk,
+    stations: Vec<Station<F, B>>,
+    log: Log,
+    room: Room<F, B>,
+) -> Stopped<F, B>
+    requires room { length stations.items ≤ room }
+    ensures entries { result.entries ≡ log.entries.items }
+    ensures folders { map F.held result.folders.items ≡ folders_in (map outside_of stations.items) }
+    ensures builders { map (builder_of B.built B.refusals) result.builders.items
+        ≡ builders_in (map outside_of stations.items) }
+{
+    let entries = let_go(desk, log);
+    let (folders, builders) = room.fill(stations);
     Stopped {
         entries: Items::new(entries),
-        stations,
+        folders,
+        builders,
     }
 }
 
 impl<F: Folder + Drop, B: BuilderIncoming + Drop> Farm<F, B> {
-    /// A farm with no entries, over stations that were begun.
-    pub(crate) fn begun(alloc: Global, setup: Site, stations: Vec<Station<F, B>>) -> Self
+    /// A farm with no entries, over stations that were begun. Refused for want of memory alone.
+    pub(crate) fn begun(
+        alloc: Global,
+        setup: Site,
+        stations: Vec<Station<F, B>>,
+    ) -> Result<Self, FarmFault>
         requires apart { HasApart setup }
         requires stations { AreStations setup.servers [] stations.items }
-        ensures begun { result ≡ record {
+        ensures begun { IfOk result (λ farm. farm ≡ record {
           setup = setup;
           entries = [];
           outside = map outside_of stations.items;
-        } }
+        }) }
+        ensures err { IfErr result (λ e. e ≡ fault.Memory) }
     {
+        let room = Room::of(alloc, stations.len())?;
         has_count(setup.scheduler.count);
         let state = SchedState::with_job_ids(alloc, setup.scheduler.base, setup.scheduler.count);
-        Farm {
+        Ok(Farm {
             desk: Desk {
                 alloc,
                 setup,
@@ -157,7 +169,24 @@ impl<F: Folder + Drop, B: BuilderIncoming + Drop> Farm<F, B> {
                 entries: Vec::new(alloc),
                 kept: Vec::new(alloc),
             },
-        }
+            room,
+        })
+    }
+
+    /// The folder of each server and the builders that were handed in, in the order of the setup. It takes no
+    /// memory.
+    pub fn into_parts(self) -> (Vec<F>, Vec<B>)
+        ensures folders { map F.held result.0.items ≡ folders_in self.outside }
+        ensures builders { map (builder_of B.built B.refusals) result.1.items ≡ builders_in self.outside }
+    {
+        let Farm {
+            desk,
+            stations,
+            log,
+            room,
+        } = self;
+        let _ = let_go(desk, log);
+        room.fill(stations)
     }
 
     /// How it was set up.
@@ -219,21 +248,26 @@ impl<F: Folder + Drop, B: BuilderIncoming + Drop> Farm<F, B> {
     fn step(self, event: &Event) -> Result<Farm<F, B>, Stopped<F, B>>
         ensures ok { IfOk result (Steps self event.now) }
         ensures err { IfErr result (λ s. s.entries ≡ self.entries) }
+        ensures back { IfErr result (λ s. AreHandedBack self.outside (map F.held s.folders.items)
+            (map (builder_of B.built B.refusals) s.builders.items)) }
         ensures run { OnErr result (IsRun free self.setup self.entries) }
+        ensures calmly { OnErr result (AreOwn self.outside → IsRun calm self.setup self.entries) }
     {
         self.obey();
         let Farm {
             mut desk,
             mut stations,
             mut log,
+            room,
         } = self;
         if !advance(&mut desk, &mut stations, &mut log, event) {
-            return Err(stop(desk, stations, log));
+            return Err(stop(desk, stations, log, room));
         }
         Ok(Farm {
             desk,
             stations,
             log,
+            room,
         })
     }
 
@@ -241,6 +275,7 @@ impl<F: Folder + Drop, B: BuilderIncoming + Drop> Farm<F, B> {
     fn obey(&self)
         ensures fits { self.now.setup.scheduler.count < 2 ^ 64 }
         ensures run { IsRun free self.now.setup self.now.entries }
+        ensures calmly { AreOwn self.now.outside → IsRun calm self.now.setup self.now.entries }
     {
         let _ = self.log.entries.len();
     }
@@ -264,8 +299,8 @@ impl<F: Folder + Drop, B: BuilderIncoming + Drop> Farm<F, B> {
     /// Runs events in order. Stopped for want of memory alone, with the entries of the events that were
     /// done whole.
     pub fn run(self, events: &[Event]) -> Result<Farm<F, B>, Stopped<F, B>>
-        // One entry more for each event, each next over the entries before it in the weather that is outside of
-        // its server: what its folder and its builder were before the event and are after it.
+        // One entry more for each event, each next over the entries before it in the weather that is outside
+        // of its server: what its folder and its builder were before the event and are after it.
         ensures ok { IfOk result (Runs self events.now) }
         // After each front of the entries the books are those of a lawful scheduler: different reservations
         // have different jobs, each open job has exactly one unended reservation, at a registration that
@@ -279,14 +314,23 @@ impl<F: Folder + Drop, B: BuilderIncoming + Drop> Farm<F, B> {
         // An entry is replied to at most once; a request whose calls are granted gets the reply that its row
         // names; a restart lists what its opening gives.
         ensures reliable { IfOk result (λ farm. IsReliable free farm.setup farm.entries) }
-        // All hold also of the events before the one that memory ran out in.
+        // The same in calm weather, where the farm made its folders and builders itself, as `setup` does: a
+        // submission and a run come to what the rules say, and a restart lists the archives that were there.
+        ensures calmly { IfOk result
+            (λ farm. AreOwn self.outside → IsReliable calm farm.setup farm.entries) }
+        // All hold also of the events before the one that memory ran out in. The folders and builders are
+        // handed back as they were after those events, but at one server at most, which that one reached for.
         ensures err { IfErr result (λ s. (n : ℕ) × (n < length events.now)
             × ((outside : List Outside) × Runs self (take n events.now)
-            (record { setup = self.setup; entries = s.entries; outside = outside }))) }
+            (record { setup = self.setup; entries = s.entries; outside = outside })
+            × AreHandedBack outside (map F.held s.folders.items)
+            (map (builder_of B.built B.refusals) s.builders.items))) }
         ensures stopped_laws { IfErr result (λ s. AreLawful self.setup s.entries) }
         ensures stopped_builds { IfErr result (λ s. HasToken self.setup.scheduler.auth
             → AreBuilds self.setup s.entries) }
         ensures stopped_reliable { IfErr result (λ s. IsReliable free self.setup s.entries) }
+        ensures stopped_calmly { IfErr result
+            (λ s. AreOwn self.outside → IsReliable calm self.setup s.entries) }
     {
         let mut farm = self;
         farm.words();
@@ -311,6 +355,8 @@ fn made_of<F: Folder + Drop, B: BuilderIncoming + Drop>(
         (IsMadeSo desk.old.setup entries.now event.now (way_of desk.old.setup entries.now event.now.kind)
         kept.new.items stations.old.items stations.new.items) }
     ensures desk { IfOk result (λ m. desk.new ≡ acted desk.old m.effect.core) }
+    ensures cut { OnErr result
+        (IsCutOff (map outside_of stations.old.items) (map outside_of stations.new.items)) }
     ensures err { IfErr result (λ e. e ≡ fault.Memory) }
 {
     let at = event.at;
@@ -395,6 +441,8 @@ fn make<F: Folder + Drop, B: BuilderIncoming + Drop>(
     ensures farm { OnOk result
         (IsFarm desk.new.setup desk.new.state log.new.entries.items log.new.kept.items stations.new.items) }
     ensures same { OnErr result (log.new.entries.items ≡ log.old.entries.items) }
+    ensures cut { OnErr result
+        (IsCutOff (map outside_of stations.old.items) (map outside_of stations.new.items)) }
     ensures err { IfErr result (λ e. e ≡ fault.Memory) }
 {
     let copy = event.copy(desk.alloc)?;
@@ -430,6 +478,8 @@ fn advance<F: Folder + Drop, B: BuilderIncoming + Drop>(
     ensures farm { result ≡ true → IsFarm desk.new.setup desk.new.state log.new.entries.items
         log.new.kept.items stations.new.items }
     ensures same { result ≡ false → log.new.entries.items ≡ log.old.entries.items }
+    ensures cut { result ≡ false
+        → IsCutOff (map outside_of stations.old.items) (map outside_of stations.new.items) }
 {
     match make(desk, stations, log, event) {
         Ok(()) => true,

@@ -170,7 +170,7 @@ fn assign<F: Folder + Drop, B: BuilderIncoming + Drop>(
     ensures after { IfOk result
         (λ x. now_of server.now station.new ≡ stepped x.step (now_of server.now station.old)) }
     ensures still_well { OnOk result (IsWell server.now station.new) }
-    ensures outside { OnOk result (outside_of station.new ≡ outside_of station.old) }
+    ensures outside { outside_of station.new ≡ outside_of station.old }
     ensures err { IfErr result (λ e. e ≡ fault.Memory) }
 {
     match station.assign(server, job, tc) {
@@ -228,7 +228,7 @@ fn serve_asked<F: Folder + Drop, B: BuilderIncoming + Drop>(
     ensures after { IfOk result
         (λ m. now_of server.now station.new ≡ stepped m.effect.step (now_of server.now station.old)) }
     ensures still_well { OnOk result (IsWell server.now station.new) }
-    ensures outside { OnOk result (outside_of station.new ≡ outside_of station.old) }
+    ensures outside { outside_of station.new ≡ outside_of station.old }
     ensures err { IfErr result (λ e. e ≡ fault.Memory) }
 {
     match what {
@@ -284,7 +284,7 @@ pub fn serve_at<F: Folder + Drop, B: BuilderIncoming + Drop>(
     ensures after { IfOk result
         (λ m. now_of server.now station.new ≡ stepped m.effect.step (now_of server.now station.old)) }
     ensures still_well { OnOk result (IsWell server.now station.new) }
-    ensures outside { OnOk result (outside_of station.new ≡ outside_of station.old) }
+    ensures outside { outside_of station.new ≡ outside_of station.old }
     ensures err { IfErr result (λ e. e ≡ fault.Memory) }
 {
     let question = match server_asked(desk.alloc, arrival.bytes, station.authorizer()) {

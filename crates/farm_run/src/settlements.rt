@@ -1,17 +1,18 @@
 //! A call that comes back, by its reply or lost.
-ghost use Rattle.std.specs.Prelude.{◌≡◌, slice_get, IfOk, IfErr, OnOk, Some, None, option_copied};
+ghost use Rattle.std.specs.Prelude.{◌≡◌, slice_get, map, IfOk, IfErr, OnOk, OnErr, Some, None, option_copied};
 ghost use Rattle.farm_script.specs.declared.event.Event.{Event as Happening};
 ghost use Rattle.farm_script.specs.declared.fault.FarmFault.TheVariants as fault;
 ghost use Rattle.farm_run.specs.declared.site.SiteServer.{SiteServer as Site};
 ghost use Rattle.farm_run.specs.Begun.{Keeps, completion_at, completion_of};
 ghost use Rattle.farm_run.specs.Farm.{IsFarm, IsMadeSo, Stands, acted};
 ghost use Rattle.farm_run.specs.Next.{Follows};
-ghost use Rattle.farm_run.specs.Passage.{Leaves};
+ghost use Rattle.farm_run.specs.Passage.{Leaves, StaysOwn};
 ghost use Rattle.farm_run.specs.Post.{Post, outside_of};
 ghost use Rattle.farm_run.specs.Seen.{core_of};
 ghost use Rattle.farm_run.specs.Servers.{stepped, server_now};
 ghost use Rattle.farm_run.specs.Settled.{IsOwnBy, ReportsIn};
 ghost use Rattle.farm_run.specs.Stations.{now_of, IsWell, AreWell, AreStations, IsStepAt, HasApart};
+ghost use Rattle.farm_run.specs.Stops.{IsCutOff};
 ghost use Rattle.farm_run.specs.Ways.{way_of, to_call};
 ghost use Rattle.farm_run.specs.Weather.{Weather, weather_of};
 
@@ -47,6 +48,8 @@ pub(crate) fn report_at<F: Folder + Drop, B: BuilderIncoming + Drop>(
         back.now.brought.now back.now.root back.now.json (option_copied back.now.reply) told
         (Some (now_of s st)) m.effect) }
     ensures there { OnOk result ((st : Post) × (slice_get stations.old.items place ≡ Some st)) }
+    ensures cut { OnErr result
+        (IsCutOff (map outside_of stations.old.items) (map outside_of stations.new.items)) }
     ensures err { IfErr result (λ e. e ≡ fault.Memory) }
 {
     match desk.setup.servers.get().get(place) {
@@ -85,7 +88,9 @@ pub(crate) fn report_in<F: Folder + Drop, B: BuilderIncoming + Drop>(
         m.effect.step ≡ Some p) m.effect m.pending) }
     ensures after { IfOk result
         (λ m. now_of server.now station.new ≡ stepped m.effect.step (now_of server.now station.old)) }
-    ensures outside { IfOk result (λ m. Leaves m.effect.step (outside_of station.old) (outside_of station.new)) }
+    ensures outside { IfOk result
+        (λ m. Leaves m.effect.step (outside_of station.old) (outside_of station.new)) }
+    ensures own { OnErr result (StaysOwn (outside_of station.old) (outside_of station.new)) }
     ensures still_well { OnOk result (IsWell server.now station.new) }
     ensures err { IfErr result (λ e. e ≡ fault.Memory) }
 {
@@ -115,6 +120,8 @@ pub(crate) fn report<F: Folder + Drop, B: BuilderIncoming + Drop>(
         (λ m. Keeps (λ p. completion_at back.now.root back.now.json back.now.server back.now.life
         m.effect.step ≡ Some p) m.effect m.pending) }
     ensures core { IfOk result (λ m. m.effect.core ≡ None) }
+    ensures cut { OnErr result
+        (IsCutOff (map outside_of stations.old.items) (map outside_of stations.new.items)) }
     ensures err { IfErr result (λ e. e ≡ fault.Memory) }
 {
     match place_of(&desk.setup, back.server) {
@@ -148,6 +155,8 @@ pub(crate) fn go_on<F: Folder + Drop, B: BuilderIncoming + Drop>(
     ensures kept { IfOk result
         (λ m. Keeps (λ p. completion_of pending pending.ask m.effect.step ≡ Some p) m.effect m.pending) }
     ensures desk { IfOk result (λ m. desk.new ≡ acted desk.old m.effect.core) }
+    ensures cut { OnErr result
+        (IsCutOff (map outside_of stations.old.items) (map outside_of stations.new.items)) }
     ensures err { IfErr result (λ e. e ≡ fault.Memory) }
 {
     let Pending { root, json, ask } = pending;
@@ -197,6 +206,8 @@ pub(crate) fn take_back<F: Folder + Drop, B: BuilderIncoming + Drop>(
         → IsMadeSo desk.old.setup entries.now event (way_of desk.old.setup entries.now event.kind)
         kept.new.items stations.old.items stations.new.items m) }
     ensures desk { IfOk result (λ m. desk.new ≡ acted desk.old m.effect.core) }
+    ensures cut { OnErr result
+        (IsCutOff (map outside_of stations.old.items) (map outside_of stations.new.items)) }
     ensures err { IfErr result (λ e. e ≡ fault.Memory) }
 {
     match take_at(kept, settlement.call) {

@@ -1,7 +1,6 @@
 //! The stations of a farm's build servers.
-ghost use Rattle.std.specs.Prelude.{◌≡◌, ◌≢◌, ◌≤◌, [], true, false, not, codes, is_some, is_none, ◌&&◌, slice_get, Ok, Err};
-ghost use Rattle.std.specs.Prelude.{Some};
-ghost use Rattle.std.specs.Prelude.{IfOk, IfErr, OnOk, OnErr, MatchOption, None};
+ghost use Rattle.std.specs.Prelude.{◌≡◌, ◌≢◌, ◌≤◌, [], true, false, not, codes, is_some, is_none, ◌&&◌, ◌||◌};
+ghost use Rattle.std.specs.Prelude.{slice_get, IfOk, IfErr, OnOk, OnErr, MatchOption, Some, None, Ok, Err};
 ghost use Rattle.std.specs.Option.{option_map};
 ghost use Rattle.lru_disk_cache.specs.Archives.{opened_archives, IsInStep};
 ghost use Rattle.lru_disk_cache.specs.Entries.{total};
@@ -19,8 +18,8 @@ ghost use Rattle.farm_run.specs.Reliable.{reopened};
 ghost use Rattle.farm_run.specs.Served.{books_of, build_answer};
 ghost use Rattle.farm_run.specs.Servers.{server_begun, stepped};
 ghost use Rattle.farm_run.specs.Stations.{now_of, IsWell, BuildsBy};
-ghost use Rattle.farm_run.specs.Weather.{Stores, Works, Opens, weather_of, failed_after_submit, failed_after_run};
-ghost use Rattle.farm_run.specs.Weather.{order_of};
+ghost use Rattle.farm_run.specs.Weather.{Stores, Works, Opens, weather_of, failed_after_submit};
+ghost use Rattle.farm_run.specs.Weather.{failed_after_run, order_of};
 ghost use Rattle.farm_run.specs.declared.entry.StepKind.TheVariants as kinds;
 ghost use Rattle.farm_script.specs.declared.fault.FarmFault.TheVariants as fault;
 ghost use Rattle.build_server.specs.declared.fault.ServerFault.TheVariants as server_fault;
@@ -70,7 +69,7 @@ pub struct Station<F: Folder + Drop, B: BuilderIncoming + Drop> {
 }
 
 impl<F: Folder + Drop, B: BuilderIncoming + Drop> Model for Station<F, B> {
-    ghost use Rattle.std.specs.Prelude.{is_some};
+    ghost use Rattle.std.specs.Prelude.{is_some, ◌||◌, true};
     ghost use Rattle.std.specs.Option.{option_map};
     ghost use Rattle.build_server.specs.Builds.{builder_of};
     ghost use Rattle.std.specs.Prelude.{◌≡◌, None};
@@ -89,8 +88,9 @@ impl<F: Folder + Drop, B: BuilderIncoming + Drop> Model for Station<F, B> {
       builder = option_map (builder_of B.built B.refusals) st.builder;
     } };
 
-    // Where the farm made the builder, its folder tells its files.
-    ghost invariant = { λ st. st.builder ≡ None → IsTelling F.held };
+    // Where the farm made the builder, its folder tells its files; and it has its folder.
+    ghost invariant = { λ st. (st.builder ≡ None → IsTelling F.held)
+        × ((is_some st.state || is_some st.closed) ≡ true) };
 }
 
 /// A server that holds nothing, over what its folder has. Where that fails the folder is handed back.
@@ -145,20 +145,15 @@ fn open_again<F: Folder + Drop>(
 /// The same over the folder of a server that was shut.
 fn open_shut<F: Folder + Drop>(
     alloc: Global,
-    closed: Option<F>,
+    folder: F,
     capacity: u64,
-) -> Result<ServerState<F>, (Error, Option<F>)>
-    ensures opened { IfOk result
-        (IsReopened F.held false capacity (closed_over (option_map F.held closed))) }
-    ensures fails { IfErr result (λ e. OpenFails e.0 (closed_over (option_map F.held closed)).folder
-        (closed_over (option_map F.held e.1)).folder) }
+) -> Result<ServerState<F>, (Error, F)>
+    ensures opened { IfOk result (IsReopened F.held false capacity (closed_over (Some (F.held folder)))) }
+    ensures fails { IfErr result (λ e. OpenFails e.0 (F.held folder) (F.held e.1)) }
 {
-    let Some(folder) = closed else {
-        return Err((Error::Memory, None));
-    };
     match open(alloc, folder, capacity) {
         Ok(state) => Ok(state),
-        Err((error, folder)) => Err((error, Some(folder))),
+        Err(refused) => Err(refused),
     }
 }
 
@@ -168,20 +163,27 @@ fn open_over<F: Folder + Drop>(
     state: Option<ServerState<F>>,
     closed: Option<F>,
     capacity: u64,
-) -> Result<ServerState<F>, (Error, Option<F>)>
+) -> Result<ServerState<F>, (Error, F)>
+    requires there { (is_some state || is_some closed) ≡ true }
     requires at { is_some state ≡ true → ((shelf state (option_map F.held closed)).capacity ≡ capacity)
         × ((shelf state (option_map F.held closed)).path ≡ codes "tc") }
     ensures opened { IfOk result
         (IsReopened F.held (is_some state) capacity (shelf state (option_map F.held closed))) }
     ensures fails { IfErr result (λ e. OpenFails e.0 (shelf state (option_map F.held closed)).folder
-        (closed_over (option_map F.held e.1)).folder) }
+        (F.held e.1)) }
 {
     match state {
         Some(state) => match open_again(alloc, state, capacity) {
             Ok(state) => Ok(state),
-            Err((error, folder)) => Err((error, Some(folder))),
+            Err(refused) => Err(refused),
         },
-        None => open_shut(alloc, closed, capacity),
+        None => match closed {
+            Some(folder) => match open_shut(alloc, folder, capacity) {
+                Ok(state) => Ok(state),
+                Err(refused) => Err(refused),
+            },
+            None => unreachable!(),
+        },
     }
 }
 
@@ -303,7 +305,7 @@ fn build<B: BuilderIncoming + Drop>(
     ensures goes { IfOk result (λ done. BuildsBy server.now builds
         (option_map (builder_of B.built B.refusals) builder.old)
         (option_map (builder_of B.built B.refusals) builder.new) held run.now inputs.now done) }
-    ensures kept { builder.new ≡ None → builder.old ≡ None }
+    ensures kept { is_some builder.new ≡ is_some builder.old }
     ensures err { IfErr result (λ e. e ≡ fault.Memory) }
 {
     match builder {
@@ -426,7 +428,10 @@ impl<F: Folder + Drop, B: BuilderIncoming + Drop> Station<F, B> {
     }
 
     /// Its folder, and its builder where that was handed in.
-    pub fn into_parts(self) -> (Option<F>, Option<B>) {
+    pub fn into_parts(self) -> (F, Option<B>)
+        ensures folder { F.held result.0 ≡ self.state.folder }
+        ensures builder { option_map (builder_of B.built B.refusals) result.1 ≡ self.builder }
+    {
         let Station {
             life: _,
             nonce: _,
@@ -438,8 +443,11 @@ impl<F: Folder + Drop, B: BuilderIncoming + Drop> Station<F, B> {
             builder,
         } = self;
         match state {
-            Some(state) => (Some(state.into_cache().into_folder()), builder),
-            None => (closed, builder),
+            Some(state) => (state.into_cache().into_folder(), builder),
+            None => match closed {
+                Some(folder) => (folder, builder),
+                None => unreachable!(),
+            },
         }
     }
 
@@ -458,7 +466,7 @@ impl<F: Folder + Drop, B: BuilderIncoming + Drop> Station<F, B> {
               server = server.now.addr;
               kind = kinds.Assigned job tc (not a.need_toolchain);
             })) (now_of server.now self.old)) }
-        ensures outside { OnOk result (outside_of self.new ≡ outside_of self.old) }
+        ensures outside { outside_of self.new ≡ outside_of self.old }
         ensures still_well { OnOk result (IsWell server.now self.new) }
         ensures same { OnErr result (self.new ≡ self.old) }
     {
@@ -469,8 +477,8 @@ impl<F: Folder + Drop, B: BuilderIncoming + Drop> Station<F, B> {
         }
     }
 
-    /// Submits an archive under a job, after Ready was accepted. That a folder of the farm's own fails is told
-    /// as want of memory, which no farm meets.
+    /// Submits an archive under a job, after Ready was accepted. That a folder of the farm's own fails is
+    /// told as want of memory, which no farm meets.
     pub fn submit(
         &mut self,
         server: &SiteServer,
@@ -484,7 +492,7 @@ impl<F: Folder + Drop, B: BuilderIncoming + Drop> Station<F, B> {
         ensures after { IfOk result (λ o. now_of server.now self.new
             ≡ stepped (Some (record { server = server.now.addr; kind = kinds.Submitted job o }))
             (now_of server.now self.old)) }
-        ensures own { OnOk result (StaysOwn (outside_of self.old) (outside_of self.new)) }
+        ensures own { StaysOwn (outside_of self.old) (outside_of self.new) }
         ensures still_well { OnOk result (IsWell server.now self.new) }
         ensures err { IfErr result (λ e. e ≡ fault.Memory) }
     {
@@ -509,8 +517,8 @@ impl<F: Folder + Drop, B: BuilderIncoming + Drop> Station<F, B> {
         Ok(outcome)
     }
 
-    /// Takes a job out and builds it, after Started was accepted. That a folder of the farm's own fails is told
-    /// as want of memory, which no farm meets.
+    /// Takes a job out and builds it, after Started was accepted. That a folder of the farm's own fails is
+    /// told as want of memory, which no farm meets.
     pub fn run(
         &mut self,
         alloc: Global,
@@ -528,7 +536,7 @@ impl<F: Folder + Drop, B: BuilderIncoming + Drop> Station<F, B> {
               server = server.now.addr;
               kind = kinds.Ran job (ran_of done) (built_of done);
             })) (now_of server.now self.old)) }
-        ensures own { OnOk result (StaysOwn (outside_of self.old) (outside_of self.new)) }
+        ensures own { StaysOwn (outside_of self.old) (outside_of self.new) }
         ensures still_well { OnOk result (IsWell server.now self.new) }
         ensures err { IfErr result (λ e. e ≡ fault.Memory) }
     {
@@ -563,9 +571,9 @@ impl<F: Folder + Drop, B: BuilderIncoming + Drop> Station<F, B> {
         Ok(done)
     }
 
-    /// Starts again with that key and nonce: its next life, which holds nothing. It lists the archives that are
-    /// there; none where the opening fails by its folder. Refused for want of memory alone, as which a fault of
-    /// a folder of the farm's own is told.
+    /// Starts again with that key and nonce: its next life, which holds nothing. It lists the archives that
+    /// are there; none where the opening fails by its folder. Refused for want of memory alone, as which a
+    /// fault of a folder of the farm's own is told.
     pub fn restart(
         &mut self,
         alloc: Global,
@@ -578,7 +586,7 @@ impl<F: Folder + Drop, B: BuilderIncoming + Drop> Station<F, B> {
             (now_of server.now self.old) found) }
         ensures now { IfOk result (λ found. now_of server.now self.new
             ≡ reopened (now_of server.now self.old) key.now nonce found) }
-        ensures own { OnOk result (StaysOwn (outside_of self.old) (outside_of self.new)) }
+        ensures own { StaysOwn (outside_of self.old) (outside_of self.new) }
         ensures still_well { OnOk result (IsWell server.now self.new) }
         ensures err { IfErr result (λ e. e ≡ fault.Memory) }
     {
@@ -602,7 +610,7 @@ impl<F: Folder + Drop, B: BuilderIncoming + Drop> Station<F, B> {
                 Ok(Some(found))
             }
             Err((error, folder)) => {
-                self.closed = folder;
+                self.closed = Some(folder);
                 if !is_io(&error) || self.builder.is_none() {
                     return Err(FarmFault::Memory);
                 }

@@ -1,16 +1,16 @@
 -- Bytes are one reply at most, and begin with one head of a reply at most.
 use Rattle.std.proofs.Common.{◌≡◌, ℕ, ◌≤◌, true, List, length, drop, map, Option, Some, None, refl, arith, ap}
-use Rattle.std.proofs.Common.{sym, ◌∙◌, subst}
+use Rattle.std.proofs.Common.{sym, ◌∙◌, subst, [], append-nil}
 use Rattle.std.specs.Prelude.{unwrap_or}
 use Rattle.std.proofs.lemmas.List.{length-map}
 use Rattle.httparse.specs.declared.borrowed.Response as parsed
 use Rattle.httparse.specs.Borrowed.{HoldsSomeResponse, header_parts}
-use Rattle.httparse.specs.Grammar.{print_response, status_code}
-use Rattle.httparse.specs.Spans.{name_and_value}
+use Rattle.httparse.specs.Grammar.{print_response, status_code, ReadsResponse, NeverHasResponse}
+use Rattle.httparse.specs.Spans.{name_and_value, ResponseOverflows}
 use Rattle.httparse.proofs.GrammarLemmas.{response_unique}
 use Rattle.http_head.specs.declared.reply.Reply.{Reply}
 use Rattle.http_head.specs.Fields.{allows}
-use Rattle.http_head.specs.Head.{IsReply, IsNoReply, HasNoReplyHead, IsReplyHeld, HasStatus}
+use Rattle.http_head.specs.Head.{IsReply, IsNoReply, HasNoReplyHead, IsReplyHeld, HasStatus, ReplyOverflows}
 
 -- ---- the head that begins the bytes
 
@@ -73,3 +73,20 @@ one_reply bytes r q (h, x) (k, y) =
   where
     same_reply : (r q : Reply) → r.code ≡ q.code → r.headers ≡ q.headers → r.body ≡ q.body → r ≡ q
     same_reply r q a b c = λ i. record { code = a i; headers = b i; body = c i }
+
+-- ---- what the parser refuses
+
+pub never_opens : (bytes : List ℕ) → NeverHasResponse bytes → HasNoReplyHead bytes
+never_opens bytes never h rest y = never [] h rest
+    (subst (λ text. ReadsResponse text h rest) (sym (append-nil bytes)) y.reads)
+
+pub overflows : (bytes : List ℕ) (room : ℕ) → ResponseOverflows room bytes → ReplyOverflows room bytes
+overflows bytes room over h rest y = over [] h rest
+    (subst (λ text. ReadsResponse text h rest) (sym (append-nil bytes)) y.reads)
+
+-- a head that has no room within the limits is none
+pub none_over : (bytes : List ℕ) → ReplyOverflows 100 bytes → HasNoReplyHead bytes
+none_over bytes over h rest y =
+    let few = y.within.few in
+    let more = over h rest y in
+    omega (arith, few, more)

@@ -1,5 +1,5 @@
 -- What bytes are a request, what bytes are a reply, and what bytes are the head of one.
-use Rattle.std.specs.Prelude.{◌≡◌, ℕ, ◌≤◌, List, [], length, map, Option, Some, None, true}
+use Rattle.std.specs.Prelude.{◌≡◌, ℕ, ◌≤◌, ◌<◌, List, [], length, map, Option, Some, None, true}
 use Rattle.httparse.specs.declared.borrowed.Request as parsed
 use Rattle.httparse.specs.declared.borrowed.Response as parsed_reply
 use Rattle.httparse.specs.Borrowed.{HoldsRequest, HoldsResponse}
@@ -8,6 +8,8 @@ use Rattle.httparse.specs.Grammar.{print_response, status_code}
 use Rattle.httparse.specs.Spans.{name_and_value}
 use Rattle.http_head.specs.declared.error.HttpError.{HttpError}
 use Rattle.http_head.specs.declared.error.HttpError.TheVariants.{BadHead, Memory, ParseError}
+use Rattle.http_head.specs.declared.head.Parsed.{Parsed}
+use Rattle.http_head.specs.declared.head.Parsed.TheVariants.{Head, Nothing, Crowded}
 use Rattle.http_head.specs.declared.reply.Reply.{Reply}
 use Rattle.http_head.specs.declared.request.Request.{Request}
 use Rattle.http_head.specs.Fields.{body_length, allows}
@@ -61,10 +63,15 @@ pub record IsHeld (bytes : List ℕ) (p : parsed.Request) (len : ℕ) : Type 0 w
   pub inside : len ≤ length bytes
   pub within : IsWithin (length head.fields) (length (print_request head))
 
--- the parser holds a head of so many bytes, or none begins the bytes
-abbrev pub FindsHead : List ℕ → parsed.Request → Option ℕ → Type 0
-FindsHead bytes p (Some len) = IsHeld bytes p len
-FindsHead bytes p None = HasNoHead bytes
+-- each head that begins the bytes has more fields than there is room for
+abbrev pub Overflows : ℕ → List ℕ → Type 0
+Overflows room bytes = (h : RequestHead) (rest : List ℕ) → Opens bytes h rest → room < length h.fields
+
+-- the parser holds a head of so many bytes, or none begins the bytes, or none that has room
+abbrev pub FindsHead : ℕ → List ℕ → parsed.Request → Parsed → Type 0
+FindsHead room bytes p (Head len) = IsHeld bytes p len
+FindsHead room bytes p Nothing = HasNoHead bytes
+FindsHead room bytes p Crowded = Overflows room bytes
 
 -- ---- replies
 
@@ -105,10 +112,16 @@ pub record IsReplyHeld (bytes : List ℕ) (p : parsed_reply.Response) (len : ℕ
   pub inside : len ≤ length bytes
   pub within : IsWithin (length head.fields) (length (print_response head))
 
--- the parser holds the head of a reply of so many bytes, or none begins the bytes
-abbrev pub FindsReplyHead : List ℕ → parsed_reply.Response → Option ℕ → Type 0
-FindsReplyHead bytes p (Some len) = IsReplyHeld bytes p len
-FindsReplyHead bytes p None = HasNoReplyHead bytes
+-- each head of a reply that begins the bytes has more fields than there is room for
+abbrev pub ReplyOverflows : ℕ → List ℕ → Type 0
+ReplyOverflows room bytes = (h : ResponseHead) (rest : List ℕ) → OpensReply bytes h rest
+    → room < length h.fields
+
+-- the parser holds the head of a reply of so many bytes, or none begins the bytes, or none that has room
+abbrev pub FindsReplyHead : ℕ → List ℕ → parsed_reply.Response → Parsed → Type 0
+FindsReplyHead room bytes p (Head len) = IsReplyHeld bytes p len
+FindsReplyHead room bytes p Nothing = HasNoReplyHead bytes
+FindsReplyHead room bytes p Crowded = ReplyOverflows room bytes
 
 -- the status of the reply's head that begins the bytes, whatever it says of its body; or that none does
 abbrev pub HasStatus : List ℕ → Option ℕ → Type 0

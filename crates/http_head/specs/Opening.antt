@@ -3,8 +3,10 @@ use Rattle.std.specs.Prelude.{◌≡◌, ℕ, ◌≤◌, List, length, map, drop
 use Rattle.httparse.specs.Grammar.{RequestHead}
 use Rattle.httparse.specs.Spans.{name_and_value}
 use Rattle.http_head.specs.declared.opening.Head.{Head}
+use Rattle.http_head.specs.declared.opening.Opening.{Opening}
+use Rattle.http_head.specs.declared.opening.Opening.TheVariants.{Found, Nothing, Crowded}
 use Rattle.http_head.specs.Fields.{body_length}
-use Rattle.http_head.specs.Head.{Opens}
+use Rattle.http_head.specs.Head.{Opens, Overflows}
 
 -- the bytes are the head h and the rest, and the head announces a body of n bytes
 pub record Announces (bytes : List ℕ) (h : RequestHead) (rest : List ℕ) (n : ℕ) : Type 0 where
@@ -27,3 +29,9 @@ pub record IsOpening (bytes : List ℕ) (head : Head) (h : RequestHead) : Type 0
 abbrev pub FindsOpening : List ℕ → Option Head → Type 0
 FindsOpening bytes (Some head) = (h : RequestHead) × IsOpening bytes head h
 FindsOpening bytes None = AnnouncesNone bytes
+
+-- the same, or no head that has room begins the bytes
+abbrev pub FindsOpeningIn : ℕ → List ℕ → Opening → Type 0
+FindsOpeningIn room bytes (Found head) = FindsOpening bytes (Some head)
+FindsOpeningIn room bytes Nothing = AnnouncesNone bytes
+FindsOpeningIn room bytes Crowded = Overflows room bytes

@@ -1,15 +1,15 @@
 //! The heads of requests and replies (RFC 9112, sections 2 to 6, as the crate `httparse` reads them).
-ghost use Rattle.std.specs.Prelude.{◌≡◌, ◌≤◌, IfOk, IfErr, map, length, drop};
+ghost use Rattle.std.specs.Prelude.{◌≡◌, ◌≤◌, IfOk, IfErr, MatchOption, map, length, drop};
 ghost use Rattle.httparse.specs.Borrowed.{header_parts};
 ghost use Rattle.http_head.specs.Head.{IsRequest, Refuses, FindsHead, IsReply, RefusesReply, FindsReplyHead};
-ghost use Rattle.http_head.specs.Head.{HasStatus};
+ghost use Rattle.http_head.specs.Head.{HasStatus, Overflows, ReplyOverflows};
 
 use crate::error::HttpError;
 use crate::fields::{allows, is_body};
 use crate::reply::Reply;
 use crate::request::Request;
 use dist_types::text::{Bytes, Items, Text};
-use httparse::{EMPTY_HEADER, Header, Status};
+use httparse::{EMPTY_HEADER, Error, Header, Status};
 use std::alloc::{AllocError, Global};
 
 /// How many fields a head has at most.
@@ -18,40 +18,56 @@ pub const MAX_HEADERS: usize = 100;
 /// How many bytes a head has at most.
 pub const MAX_HEAD_BYTES: usize = 65536;
 
-/// Parses the request's head that begins the bytes, within the limits: how many bytes it has. None exactly
-/// where none begins them.
-pub(crate) fn parse_head<'b>(head: &mut httparse::Request<'_, 'b>, bytes: &'b [u8]) -> Option<usize>
-    requires { length head.now.headers.now ≡ 100 }
-    ensures { FindsHead bytes.now head.new result }
-{
-    let Ok(Status::Complete(len)) = head.parse(bytes) else {
-        return None;
-    };
-    if head.headers.len() > MAX_HEADERS {
-        return None;
-    }
-    if len > MAX_HEAD_BYTES {
-        return None;
-    }
-    Some(len)
+/// How many fields the room has that is tried first. Most heads have fewer, and a small room is soon made.
+pub(crate) const FEW_HEADERS: usize = 16;
+
+/// What a parse finds.
+#[derive(Clone, Copy, Drop)]
+pub(crate) enum Parsed {
+    /// A head of so many bytes.
+    Head(usize),
+    /// No head.
+    Nothing,
+    /// More fields than there is room for.
+    Crowded,
 }
 
-/// Parses the reply's head that begins the bytes, within the limits: how many bytes it has. None exactly
-/// where none begins them.
-fn parse_reply_head<'b>(head: &mut httparse::Response<'_, 'b>, bytes: &'b [u8]) -> Option<usize>
-    requires { length head.now.headers.now ≡ 100 }
-    ensures { FindsReplyHead bytes.now head.new result }
+/// Parses the request's head that begins the bytes, within the limits.
+pub(crate) fn parse_head<'b>(head: &mut httparse::Request<'_, 'b>, bytes: &'b [u8]) -> Parsed
+    ensures { FindsHead (length head.old.headers.now) bytes.now head.new result }
 {
-    let Ok(Status::Complete(len)) = head.parse(bytes) else {
-        return None;
+    let len = match head.parse(bytes) {
+        Ok(Status::Complete(len)) => len,
+        Ok(Status::Partial) => return Parsed::Nothing,
+        Err(Error::TooManyHeaders) => return Parsed::Crowded,
+        Err(_) => return Parsed::Nothing,
     };
     if head.headers.len() > MAX_HEADERS {
-        return None;
+        return Parsed::Nothing;
     }
     if len > MAX_HEAD_BYTES {
-        return None;
+        return Parsed::Nothing;
     }
-    Some(len)
+    Parsed::Head(len)
+}
+
+/// Parses the reply's head that begins the bytes, within the limits.
+fn parse_reply_head<'b>(head: &mut httparse::Response<'_, 'b>, bytes: &'b [u8]) -> Parsed
+    ensures { FindsReplyHead (length head.old.headers.now) bytes.now head.new result }
+{
+    let len = match head.parse(bytes) {
+        Ok(Status::Complete(len)) => len,
+        Ok(Status::Partial) => return Parsed::Nothing,
+        Err(Error::TooManyHeaders) => return Parsed::Crowded,
+        Err(_) => return Parsed::Nothing,
+    };
+    if head.headers.len() > MAX_HEADERS {
+        return Parsed::Nothing;
+    }
+    if len > MAX_HEAD_BYTES {
+        return Parsed::Nothing;
+    }
+    Parsed::Head(len)
 }
 
 pub(crate) fn copy_headers(
@@ -117,17 +133,21 @@ fn after(bytes: &[u8], len: usize) -> &[u8]
     &bytes[len..]
 }
 
-/// The request that the bytes are: a head, and exactly as many bytes after it as its one
-/// Content-Length says, or none. BadHead exactly where they are no request; else refused for want of
-/// memory alone.
-pub fn read_head(alloc: Global, bytes: &[u8]) -> Result<Request, HttpError>
-    ensures ok { IfOk result (IsRequest bytes.now) }
+/// The request that the bytes are, where its fields have room; None where they have none.
+fn read_in<'b>(
+    alloc: Global,
+    room: &mut [Header<'b>],
+    bytes: &'b [u8],
+) -> Result<Option<Request>, HttpError>
+    ensures ok { IfOk result
+        (λ request. MatchOption request (Overflows (length room.old) bytes.now) (IsRequest bytes.now)) }
     ensures err { IfErr result (Refuses bytes.now) }
 {
-    let mut room = [EMPTY_HEADER; MAX_HEADERS];
-    let mut head = httparse::Request::new(&mut room);
-    let Some(len) = parse_head(&mut head, bytes) else {
-        return Err(HttpError::BadHead);
+    let mut head = httparse::Request::new(room);
+    let len = match parse_head(&mut head, bytes) {
+        Parsed::Head(len) => len,
+        Parsed::Nothing => return Err(HttpError::BadHead),
+        Parsed::Crowded => return Ok(None),
     };
     let method = head.method.unwrap();
     let target = head.path.unwrap();
@@ -137,19 +157,52 @@ pub fn read_head(alloc: Global, bytes: &[u8]) -> Result<Request, HttpError>
         return Err(HttpError::BadHead);
     }
     let request = copy_request(alloc, method, target, headers, body)?;
-    Ok(request)
+    Ok(Some(request))
 }
 
-/// The reply that the bytes are: a head, and all bytes after it, which a Content-Length counts if
-/// there is one. ParseError exactly where they are no reply; else refused for want of memory alone.
-pub fn read_reply_head(alloc: Global, bytes: &[u8]) -> Result<Reply, HttpError>
-    ensures ok { IfOk result (IsReply bytes.now) }
-    ensures err { IfErr result (RefusesReply bytes.now) }
+/// The same with room for all fields.
+fn read_crowded(alloc: Global, bytes: &[u8]) -> Result<Request, HttpError>
+    ensures ok { IfOk result (IsRequest bytes.now) }
+    ensures err { IfErr result (Refuses bytes.now) }
 {
     let mut room = [EMPTY_HEADER; MAX_HEADERS];
-    let mut head = httparse::Response::new(&mut room);
-    let Some(len) = parse_reply_head(&mut head, bytes) else {
-        return Err(HttpError::ParseError);
+    match read_in(alloc, &mut room, bytes) {
+        Ok(Some(request)) => Ok(request),
+        Ok(None) => Err(HttpError::BadHead),
+        Err(e) => Err(e),
+    }
+}
+
+/// The request that the bytes are: a head, and exactly as many bytes after it as its one
+/// Content-Length says, or none. BadHead exactly where they are no request; else refused for want of
+/// memory alone.
+pub fn read_head(alloc: Global, bytes: &[u8]) -> Result<Request, HttpError>
+    ensures ok { IfOk result (IsRequest bytes.now) }
+    ensures err { IfErr result (Refuses bytes.now) }
+{
+    let mut room = [EMPTY_HEADER; FEW_HEADERS];
+    match read_in(alloc, &mut room, bytes) {
+        Ok(Some(request)) => Ok(request),
+        Ok(None) => read_crowded(alloc, bytes),
+        Err(e) => Err(e),
+    }
+}
+
+/// The reply that the bytes are, where its fields have room; None where they have none.
+fn read_reply_in<'b>(
+    alloc: Global,
+    room: &mut [Header<'b>],
+    bytes: &'b [u8],
+) -> Result<Option<Reply>, HttpError>
+    ensures ok { IfOk result
+        (λ reply. MatchOption reply (ReplyOverflows (length room.old) bytes.now) (IsReply bytes.now)) }
+    ensures err { IfErr result (RefusesReply bytes.now) }
+{
+    let mut head = httparse::Response::new(room);
+    let len = match parse_reply_head(&mut head, bytes) {
+        Parsed::Head(len) => len,
+        Parsed::Nothing => return Err(HttpError::ParseError),
+        Parsed::Crowded => return Ok(None),
     };
     let code = head.code.unwrap();
     let headers: &[Header<'_>] = head.headers;
@@ -158,7 +211,34 @@ pub fn read_reply_head(alloc: Global, bytes: &[u8]) -> Result<Reply, HttpError>
         return Err(HttpError::ParseError);
     }
     let reply = copy_reply(alloc, code, headers, body)?;
-    Ok(reply)
+    Ok(Some(reply))
+}
+
+/// The same with room for all fields.
+fn read_crowded_reply(alloc: Global, bytes: &[u8]) -> Result<Reply, HttpError>
+    ensures ok { IfOk result (IsReply bytes.now) }
+    ensures err { IfErr result (RefusesReply bytes.now) }
+{
+    let mut room = [EMPTY_HEADER; MAX_HEADERS];
+    match read_reply_in(alloc, &mut room, bytes) {
+        Ok(Some(reply)) => Ok(reply),
+        Ok(None) => Err(HttpError::ParseError),
+        Err(e) => Err(e),
+    }
+}
+
+/// The reply that the bytes are: a head, and all bytes after it, which a Content-Length counts if
+/// there is one. ParseError exactly where they are no reply; else refused for want of memory alone.
+pub fn read_reply_head(alloc: Global, bytes: &[u8]) -> Result<Reply, HttpError>
+    ensures ok { IfOk result (IsReply bytes.now) }
+    ensures err { IfErr result (RefusesReply bytes.now) }
+{
+    let mut room = [EMPTY_HEADER; FEW_HEADERS];
+    match read_reply_in(alloc, &mut room, bytes) {
+        Ok(Some(reply)) => Ok(reply),
+        Ok(None) => read_crowded_reply(alloc, bytes),
+        Err(e) => Err(e),
+    }
 }
 
 /// The status of the reply's head that begins the bytes, whatever it says of its body; None exactly where
@@ -168,6 +248,9 @@ pub fn status_of(bytes: &[u8]) -> Option<u16>
 {
     let mut room = [EMPTY_HEADER; MAX_HEADERS];
     let mut head = httparse::Response::new(&mut room);
-    let _len = parse_reply_head(&mut head, bytes)?;
-    head.code
+    match parse_reply_head(&mut head, bytes) {
+        Parsed::Head(_) => head.code,
+        Parsed::Nothing => None,
+        Parsed::Crowded => None,
+    }
 }

@@ -1,10 +1,10 @@
 //! The head that begins the bytes of a connection, by one parse.
-ghost use Rattle.std.specs.Prelude.{◌≡◌, IfOk, map};
+ghost use Rattle.std.specs.Prelude.{◌≡◌, IfOk, length, map};
 ghost use Rattle.httparse.specs.Borrowed.{header_parts};
-ghost use Rattle.http_head.specs.Opening.{FindsOpening};
+ghost use Rattle.http_head.specs.Opening.{FindsOpening, FindsOpeningIn};
 
 use crate::fields::read_body_length;
-use crate::head::{MAX_HEADERS, copy_headers, parse_head};
+use crate::head::{FEW_HEADERS, MAX_HEADERS, Parsed, copy_headers, parse_head};
 use dist_types::text::{Bytes, Items, Text};
 use httparse::{EMPTY_HEADER, Header};
 use std::alloc::{AllocError, Global};
@@ -22,6 +22,17 @@ pub struct Head {
     pub len: usize,
     /// How many bytes come after it.
     pub body_len: usize,
+}
+
+/// What is found in a room.
+#[derive(Drop)]
+enum Opening {
+    /// A head that announces a body.
+    Found(Head),
+    /// No such head.
+    Nothing,
+    /// More fields than there is room for.
+    Crowded,
 }
 
 fn copy_head(
@@ -49,23 +60,54 @@ fn copy_head(
     })
 }
 
+/// The head that begins the bytes, where its fields have room.
+fn opening_in<'b>(
+    alloc: Global,
+    room: &mut [Header<'b>],
+    bytes: &'b [u8],
+) -> Result<Opening, AllocError>
+    ensures { IfOk result (FindsOpeningIn (length room.old) bytes.now) }
+{
+    let mut head = httparse::Request::new(room);
+    let len = match parse_head(&mut head, bytes) {
+        Parsed::Head(len) => len,
+        Parsed::Nothing => return Ok(Opening::Nothing),
+        Parsed::Crowded => return Ok(Opening::Crowded),
+    };
+    let method = head.method.unwrap();
+    let target = head.path.unwrap();
+    let headers: &[Header<'_>] = head.headers;
+    let Some(body_len) = read_body_length(headers) else {
+        return Ok(Opening::Nothing);
+    };
+    let copy = copy_head(alloc, method, target, headers, len, body_len)?;
+    Ok(Opening::Found(copy))
+}
+
+/// The same with room for all fields.
+fn crowded_head(alloc: Global, bytes: &[u8]) -> Result<Option<Head>, AllocError>
+    ensures { IfOk result (FindsOpening bytes.now) }
+{
+    let mut room = [EMPTY_HEADER; MAX_HEADERS];
+    match opening_in(alloc, &mut room, bytes) {
+        Ok(Opening::Found(head)) => Ok(Some(head)),
+        Ok(Opening::Nothing) => Ok(None),
+        Ok(Opening::Crowded) => Ok(None),
+        Err(e) => Err(e),
+    }
+}
+
 /// The request's head that begins the bytes, within the limits of `read_head`, and how many bytes of a body
 /// it announces. None exactly where none begins them, or it announces no number. Refused for want of memory
 /// alone.
 pub fn head_of(alloc: Global, bytes: &[u8]) -> Result<Option<Head>, AllocError>
     ensures { IfOk result (FindsOpening bytes.now) }
 {
-    let mut room = [EMPTY_HEADER; MAX_HEADERS];
-    let mut head = httparse::Request::new(&mut room);
-    let Some(len) = parse_head(&mut head, bytes) else {
-        return Ok(None);
-    };
-    let method = head.method.unwrap();
-    let target = head.path.unwrap();
-    let headers: &[Header<'_>] = head.headers;
-    let Some(body_len) = read_body_length(headers) else {
-        return Ok(None);
-    };
-    let copy = copy_head(alloc, method, target, headers, len, body_len)?;
-    Ok(Some(copy))
+    let mut room = [EMPTY_HEADER; FEW_HEADERS];
+    match opening_in(alloc, &mut room, bytes) {
+        Ok(Opening::Found(head)) => Ok(Some(head)),
+        Ok(Opening::Nothing) => Ok(None),
+        Ok(Opening::Crowded) => crowded_head(alloc, bytes),
+        Err(e) => Err(e),
+    }
 }

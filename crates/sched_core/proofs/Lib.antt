@@ -2,6 +2,7 @@ pub mod AddressLemmas
 pub mod AllLemmas
 pub mod BookLemmas
 pub mod CallLemmas
+pub mod ChangeLemmas
 pub mod EndLemmas
 pub mod FactLemmas
 pub mod FreeLemmas
@@ -13,10 +14,14 @@ pub mod KeptLemmas
 pub mod LawfulLemmas
 pub mod LegalLemmas
 pub mod Lists
+pub mod LookLemmas
+pub mod MostLemmas
 pub mod OnceLemmas
 pub mod OwnLemmas
 pub mod PickLemmas
 pub mod PlaceLemmas
+pub mod RankedLemmas
+pub mod RegistrationLemmas
 pub mod RisingLemmas
 pub mod RoomLemmas
 pub mod RowLemmas

@@ -20,6 +20,7 @@ use Rattle.sched_core.specs.Pick.{pick, first_best, or_else, is_lighter, is_olde
 use Rattle.sched_core.specs.Pick.{has_room}
 use Rattle.sched_core.specs.Laws.{IsRule, IsLegal, AreDistinct, AreRising, IsFirst, IsFair, IsFairly}
 use Rattle.sched_core.specs.Laws.{IsFairEntry}
+use Rattle.sched_core.specs.Registrations.{HasCpus}
 use Rattle.sched_core.proofs.LegalLemmas.{core_of, legal_has}
 use Rattle.sched_core.proofs.AllLemmas.{true_false, is_false, all-weaker, all-both, all-append, all-filter}
 use Rattle.sched_core.proofs.AllLemmas.{all-map, all-unmap, own_only}
@@ -59,7 +60,8 @@ best_first P goes through one_way first (x ∷ rows) ok all rising = split (goes
         let fine : P best = best_has P goes x rows all.0 all.1 in (
           (
             is_false (goes first best)
-                (λ t. true_false (goes x best) (through x first best all.0 ok (one_way x first is) t) to.0.0),
+                (λ t. true_false (goes x best) (through x first best all.0 ok (one_way x first is) t)
+                to.0.0),
             λ h. absurd (true_false (goes best first) (through best x first fine all.0 to.0.0 is) h),
           ),
           (to.0, to.1),
@@ -108,7 +110,8 @@ lighter_through a x b pa px first second =
     lt_is (a.load * b.cpus) (b.load * a.cpus) (lt_of_mul-lt-mul_right x.cpus both_are)
 
 lighter_not : (a x : ServerRow) → is_lighter a x ≡ true → is_lighter x a ≡ false
-lighter_not a x e = let lt : a.load * x.cpus < x.load * a.cpus = lt_true (a.load * x.cpus) (x.load * a.cpus) e
+lighter_not a x e = let lt : a.load * x.cpus < x.load * a.cpus =
+    lt_true (a.load * x.cpus) (x.load * a.cpus) e
     in ge_is (x.load * a.cpus) (a.load * x.cpus) (omega (arith, lt))
 
 -- the same of older errors
@@ -124,9 +127,6 @@ older_through a x b pa px first second =
 older_not : (a x : ServerRow) → is_older a x ≡ true → is_older x a ≡ false
 older_not a x e = let lt : unwrap_or a.error 0 < unwrap_or x.error 0 = lt_true (unwrap_or a.error 0)
     (unwrap_or x.error 0) e in ge_is (unwrap_or x.error 0) (unwrap_or a.error 0) (omega (arith, lt))
-
-abbrev HasCpus : ServerRow → Type 0
-HasCpus row = 1 ≤ row.cpus
 
 all_unit : (rows : List ServerRow) → AllByRecursion (λ r. Unit {0}) rows
 all_unit [] = tt
@@ -200,6 +200,113 @@ pick_fair rows row ok rising e = by_list (filter is_faultless (roomy rows)) refl
               absurd (true_false (is_faultless row) faultless f);
         }) (roomy rows) light_all)
 
+-- a row that is first of all is the best
+first_only : (P : ServerRow → Type 0) (goes : ServerRow → ServerRow → Bool)
+    → ((a x b : ServerRow) → P a → P x → goes x a ≡ false → goes x b ≡ true → goes a b ≡ true)
+    → ((a x : ServerRow) → goes a x ≡ true → goes x a ≡ false)
+    → (rows : List ServerRow) (row : ServerRow) → AllByRecursion P rows → AreRising (map (λ r. r.reg) rows)
+    → ((Q : ServerRow → Type 0) → AllByRecursion Q rows → Q row)
+    → AllByRecursion (λ x. AllByRecursion (λ y. y.reg ≡ x.reg → y ≡ x) rows) rows
+    → AllByRecursion (IsFirst goes row) rows → first_best goes rows ≡ Some row
+first_only P goes through one_way rows row ok rising listed only first = split (first_best goes rows) refl
+  where
+    none : (rs : List ServerRow) → first_best goes rs ≡ None
+        → ((Q : ServerRow → Type 0) → AllByRecursion Q rs → Q row) → ⊥
+    none [] e has = has (λ r. ⊥) tt
+    none (r ∷ rs) e has = absurd cc
+
+    split : (o : Option ServerRow) → first_best goes rows ≡ o → o ≡ Some row
+    split None is = absurd (none rows is listed)
+    split (Some best) is =
+        let of_row : IsFirst goes best row =
+        listed (IsFirst goes best) (first_all P goes through one_way rows best ok rising is) in
+        let of_best : IsFirst goes row best = first_has (IsFirst goes row) goes rows best first is in
+        let le : best.reg ≤ row.reg = of_row.1 of_best.0 in
+        let ge : row.reg ≤ best.reg = of_best.1 of_row.0 in
+        let same : best.reg ≡ row.reg = omega (arith, le, ge) in
+        let only_row : AllByRecursion (λ y. y.reg ≡ row.reg → y ≡ row) rows =
+        listed (λ x. AllByRecursion (λ y. y.reg ≡ x.reg → y ≡ x) rows) only in
+        ap Some (first_has (λ y. y.reg ≡ row.reg → y ≡ row) goes rows best only_row is same)
+
+-- rows with rising numbers and one number are one
+rising_apart : (r : ServerRow) (rows : List ServerRow)
+    → AllByRecursion (λ m. r.reg < m) (map (λ r. r.reg) rows)
+    → AllByRecursion (λ y. y.reg ≡ r.reg → y ≡ r) rows × AllByRecursion (λ y. r.reg ≡ y.reg → r ≡ y) rows
+rising_apart r [] all = (tt, tt)
+rising_apart r (y ∷ rows) all =
+    let lt : r.reg < y.reg = all.0 in
+    let rest = rising_apart r rows all.1 in
+    (((λ e. absurd (omega (arith, lt, e))), rest.0), ((λ e. absurd (omega (arith, lt, e))), rest.1))
+
+pub rising_only : (rows : List ServerRow) → AreRising (map (λ r. r.reg) rows)
+    → AllByRecursion (λ x. AllByRecursion (λ y. y.reg ≡ x.reg → y ≡ x) rows) rows
+rising_only [] rising = tt
+rising_only (r ∷ rows) rising =
+    let apart = rising_apart r rows rising.0 in (
+      ((λ e. refl), apart.0),
+      all-both (λ x. r.reg ≡ x.reg → r ≡ x) (λ x. AllByRecursion (λ y. y.reg ≡ x.reg → y ≡ x) rows)
+          (λ x. AllByRecursion (λ y. y.reg ≡ x.reg → y ≡ x) (r ∷ rows))
+          (λ x own rest. (own, rest)) rows apart.1 (rising_only rows rising.1),
+    )
+
+-- a row with room and no error that is first of all such is the pick
+pub light_pick : (rows : List ServerRow) (row : ServerRow) → AllByRecursion HasCpus rows
+    → AreRising (map (λ r. r.reg) rows)
+    → ((Q : ServerRow → Type 0) → AllByRecursion Q rows → Q row) → has_room row ≡ true
+    → is_faultless row ≡ true
+    → AllByRecursion (λ r. has_room r ≡ true → is_faultless r ≡ true → IsFirst is_lighter row r) rows
+    → pick rows ≡ Some row
+light_pick rows row ok rising listed room free first = ap (λ o. or_else o (first_best is_older (roomy rows)))
+    (first_only HasCpus is_lighter lighter_through lighter_not (filter is_faultless (roomy rows)) row
+    (all-filter HasCpus HasCpus is_faultless (λ r h t. h) (roomy rows)
+    (all-filter HasCpus HasCpus has_room (λ r h t. h) rows ok))
+    free_rising there (rising_only (filter is_faultless (roomy rows)) free_rising)
+    (all-filter (λ r. is_faultless r ≡ true → IsFirst is_lighter row r)
+    (IsFirst is_lighter row) is_faultless (λ r h t. h t) (roomy rows)
+    (all-filter (λ r. has_room r ≡ true → is_faultless r ≡ true → IsFirst is_lighter row r)
+    (λ r. is_faultless r ≡ true → IsFirst is_lighter row r) has_room (λ r h t. h t) rows first)))
+  where
+    free_rising : AreRising (map (λ r. r.reg) (filter is_faultless (roomy rows)))
+    free_rising = rising-filter (λ r. r.reg) is_faultless (roomy rows)
+        (rising-filter (λ r. r.reg) has_room rows rising)
+
+    there : (Q : ServerRow → Type 0) → AllByRecursion Q (filter is_faultless (roomy rows)) → Q row
+    there Q all = listed (λ r. has_room r ≡ true → is_faultless r ≡ true → Q r)
+        (unfilter (λ r. is_faultless r ≡ true → Q r) has_room rows
+        (unfilter Q is_faultless (roomy rows) all)) room free
+
+-- nothing passes, nothing is left
+none_pass : (p : ServerRow → Bool) (rows : List ServerRow) → AllByRecursion (λ r. p r ≡ true → ⊥) rows
+    → filter p rows ≡ []
+none_pass p [] none = refl
+none_pass p (r ∷ rows) none = rw (is_false (p r) none.0) (none_pass p rows none.1)
+
+-- where each with room has an error, the row with room whose error is first of all is the pick
+pub old_pick : (rows : List ServerRow) (row : ServerRow) → AreRising (map (λ r. r.reg) rows)
+    → ((Q : ServerRow → Type 0) → AllByRecursion Q rows → Q row) → has_room row ≡ true
+    → AllByRecursion (λ r. has_room r ≡ true → is_faultless r ≡ true → ⊥) rows
+    → AllByRecursion (λ r. has_room r ≡ true → IsFirst is_older row r) rows → pick rows ≡ Some row
+old_pick rows row rising listed room faulty first =
+    ap (λ l. or_else (first_best is_lighter l) (first_best is_older (roomy rows)))
+    (none_pass is_faultless (roomy rows)
+    (all-filter (λ r. has_room r ≡ true → is_faultless r ≡ true → ⊥)
+    (λ r. is_faultless r ≡ true → ⊥) has_room (λ r h t. h t) rows faulty))
+    ∙ first_only (λ r. Unit {0}) is_older older_through older_not (roomy rows) row
+    (all_unit (roomy rows)) room_rising
+    (λ Q all. listed (λ r. has_room r ≡ true → Q r) (unfilter Q has_room rows all) room)
+    (rising_only (roomy rows) room_rising)
+    (all-filter (λ r. has_room r ≡ true → IsFirst is_older row r) (IsFirst is_older row) has_room
+    (λ r h t. h t) rows first)
+  where
+    room_rising : AreRising (map (λ r. r.reg) (roomy rows))
+    room_rising = rising-filter (λ r. r.reg) has_room rows rising
+
+-- where none has room there is no pick
+pub none_picked : (rows : List ServerRow) → AllByRecursion (λ r. has_room r ≡ true → ⊥) rows
+    → pick rows ≡ None
+none_picked rows full = ap (λ l. or_else (first_best is_lighter (filter is_faultless l))
+    (first_best is_older l)) (none_pass has_room rows full)
+
 -- none has room where none is picked
 no_pick : (rows : List ServerRow) → pick rows ≡ None → AllByRecursion (λ r. has_room r ≡ false) rows
 no_pick rows e = all-weaker (λ r. has_room r ≡ true → ⊥) (λ r. has_room r ≡ false)
@@ -246,12 +353,12 @@ fair_entry base count log (Undo job noted was_ended) ok rising distinct is = tt
 fair_entry base count log (Update server job state answer) ok rising distinct is = tt
 fair_entry base count log (Status pruned servers cpus n) ok rising distinct is = tt
 
-rows_positive : (log : List CoreEntry) → AllByRecursion (λ p. 1 ≤ p.1) (pairs log)
+pub rows_positive : (log : List CoreEntry) → AllByRecursion (λ p. 1 ≤ p.1) (pairs log)
     → AllByRecursion HasCpus (servers_of log)
 rows_positive log all = all-map HasCpus (row_of log) (standing log)
     (all-unmap (λ p. 1 ≤ p.1) view (standing log) all)
 
-rows_rising : (log : List CoreEntry) → AreRising (map (λ p. p.0) (pairs log))
+pub rows_rising : (log : List CoreEntry) → AreRising (map (λ p. p.0) (pairs log))
     → AreRising (map (λ r. r.reg) (servers_of log))
 rows_rising log rising =
     subst AreRising (map-map (λ p. p.0) view (standing log)

@@ -1,5 +1,6 @@
 -- What the scheduler keeps beside its log, and what one entry does to it.
-use Rattle.std.specs.Prelude.{◌≡◌, ◌≤◌, ◌<◌, ℕ, ◌+◌, ◌-◌, ◌^◌, List, [], ◌++◌, length, map, filter, Bool}
+use Rattle.std.specs.Prelude.{◌≡◌, ◌≤◌, ◌<◌, ℕ, ◌+◌, ◌-◌, ◌*◌, ◌^◌, max, List, [], ◌++◌, length, map}
+use Rattle.std.specs.Prelude.{filter, Bool}
 use Rattle.std.specs.Prelude.{true, false, not, ◌&&◌, ◌||◌, ◌==◌, nat_lt, Option, Some, None, if◌then◌else◌}
 use Rattle.std.specs.Prelude.{count_by, unwrap_or, option_to_list, min, vec_len, vec_capacity}
 use Rattle.std.specs.List.{AllByRecursion, find, list_any}
@@ -27,6 +28,7 @@ use Rattle.sched_core.specs.Rows.{servers_of, held_rows, open_rows, placed, held
 use Rattle.sched_core.specs.Rule.{place_at}
 use Rattle.sched_core.specs.Reservation.{is_booked}
 use Rattle.sched_core.specs.Laws.{IsLegal}
+use Rattle.sched_core.specs.Most.{most_standing}
 
 -- the rows of the registrations that stand
 
@@ -71,7 +73,8 @@ error_after e reg before = if notes_by e.kind reg then Some e.now
 abbrev pub one_more_if : Bool → ℕ → ℕ
 one_more_if more n = if more then min (2 ^ 64 - 1) (n + 1) else n
 
--- a row with its last sign, its load and its error after an entry that serves the registration of that number
+-- a row with its last sign, its load and its error after an entry that serves the registration of that
+-- number
 abbrev pub row_after : CoreEntry → Option ℕ → ServerRow → ServerRow
 row_after e served row = record row {
   seen = if renews_by e.kind row.server || is_this served row.reg then e.now else row.seen;
@@ -244,19 +247,25 @@ pub record Lists : Type 0 where
 abbrev pub no_lists : Lists
 no_lists = record { rows = []; held = []; jobs = []; open_ones = []; unspent = []; made = 0 }
 
--- What contracts see of the books: the lists, and whether there is room for one registration more, and for
--- one reservation more.
+-- What contracts see of the books: the lists, whether there is room for one registration more, and for one
+-- reservation more, and how many places the registrations stand in, with the least number above all of them.
 pub record Kept : Type 0 where
   pub lists : Lists
   pub has_row_room : Bool
   pub has_job_room : Bool
+  pub places : ℕ
+  pub top : ℕ
 
 -- the lists after an entry of this number
 
--- the rows: those that stay, with their loads, last signs and errors, and the one that is made
+-- the rows that stay, with their loads, last signs and errors
+abbrev pub settled : CoreEntry → List HeldRow → List OpenRow → List ServerRow → List ServerRow
+settled e held open_ones rows = map (row_after e (served_by e.kind open_ones))
+    (map (row_freed e.kind held) (filter (row_stays e.kind) rows))
+
+-- the rows: those that stay, and the one that is made
 abbrev pub rows_next : Lists → CoreEntry → ℕ → List ServerRow
-rows_next lists e number = map (row_after e (served_by e.kind lists.open_ones))
-    (map (row_freed e.kind lists.held) (filter (row_stays e.kind) lists.rows)) ++ option_to_list
+rows_next lists e number = settled e lists.held lists.open_ones lists.rows ++ option_to_list
     (row_by e.kind number e.now)
 
 -- the unended reservations: those that stay, with the states of their jobs, and the one that is made
@@ -326,7 +335,7 @@ IsOfUnspent other unspent = Unit {0}
 -- the plain vectors as lists
 abbrev pub lists_of : Vectors → Lists
 lists_of books = record {
-  rows = books.rows.items;
+  rows = books.rows.rows;
   held = books.held.items;
   jobs = books.jobs.items;
   open_ones = books.open_ones.items;
@@ -342,7 +351,7 @@ pub record HasJobRoom (books : Vectors) : Type 0 where
 
 -- whether there is room for one more registration
 abbrev pub has_row_room : Vectors → Bool
-has_row_room books = nat_lt (vec_len books.rows) (vec_capacity books.rows)
+has_row_room books = books.rows.places.has_left
 
 -- whether there is room for one more reservation, and for its job among the open ones
 abbrev pub has_job_room : Vectors → Bool
@@ -370,9 +379,13 @@ pub record AreBooks (books : Lists) (kept_keys : List (ℕ × List ℕ)) (log : 
   pub made : books.made ≡ length (bookings log)
 
 -- The books are the log's, and each entry of the log is the core rule's. The log has room for each unspent
--- reservation to be spent.
-pub record IsState (base count : ℕ) (lists : Lists) (kept_keys : List (ℕ × List ℕ)) (log : List CoreEntry)
+-- reservation to be spent. The registrations stand in no more places than twice the most that ever stood at
+-- one
+-- time, and their numbers are of the log.
+pub record IsState (base count : ℕ) (kept : Kept) (kept_keys : List (ℕ × List ℕ)) (log : List CoreEntry)
     (log_len log_capacity : ℕ) : Type 0 where
-  pub books : AreBooks lists kept_keys log
+  pub books : AreBooks kept.lists kept_keys log
   pub legal : IsLegal base count log
-  pub log_room : log_len + length lists.unspent ≤ log_capacity
+  pub log_room : log_len + length kept.lists.unspent ≤ log_capacity
+  pub top : kept.top ≤ length log
+  pub places : kept.places ≤ 2 * max 1 (most_standing log)

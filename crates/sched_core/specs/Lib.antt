@@ -13,6 +13,9 @@ pub mod Reap
 pub mod Advance
 pub mod Rule
 pub mod Calls
+pub mod Changes
+pub mod Registrations
+pub mod Most
 pub mod Laws
 pub mod Books
 pub mod Texts

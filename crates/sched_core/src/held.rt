@@ -11,8 +11,8 @@ ghost use Rattle.sched_core.specs.Books.{open_over, open_by, unspent_stays, unsp
 
 use crate::entry::{CoreKind, Reserved};
 use crate::kind::{begins, claims, closes, complete, frees, moves, spends};
+use crate::registrations::Registrations;
 use crate::rows::{HeldRow, JobRow, OpenRow, ServerRow};
-use crate::standing::row_numbered;
 use crate::vectors::UnspentRow;
 use dist_types::ids::{JobId, ServerId};
 use dist_types::results::JobState;
@@ -155,16 +155,16 @@ fn job_of(row: &Option<ServerRow>, number: u64, job: JobId, now: u64) -> Option<
 }
 
 /// The job that is reserved at a registration, with its address.
-fn job_at(rows: &[ServerRow], reg: u64, number: u64, job: JobId, now: u64) -> Option<JobRow>
-    ensures { result ≡ job_over (find (λ r. r.reg == reg) rows.now) number job now }
+fn job_at(rows: &Registrations, reg: u64, number: u64, job: JobId, now: u64) -> Option<JobRow>
+    ensures { result ≡ job_over (find (λ r. r.reg == reg) rows.now.rows) number job now }
 {
-    let row = row_numbered(rows, reg);
+    let row = rows.row(reg);
     job_of(&row, number, job, now)
 }
 
 /// The reservation that a reserve makes, with the address of its registration.
-fn job_reserved(reserved: &Reserved, rows: &[ServerRow], number: u64, now: u64) -> Option<JobRow>
-    ensures { result ≡ job_in reserved.now rows.now number now }
+fn job_reserved(reserved: &Reserved, rows: &Registrations, number: u64, now: u64) -> Option<JobRow>
+    ensures { result ≡ job_in reserved.now rows.now.rows number now }
 {
     match reserved {
         Reserved::Job { job, reg, .. } => job_at(rows, *reg, number, *job, now),
@@ -174,8 +174,8 @@ fn job_reserved(reserved: &Reserved, rows: &[ServerRow], number: u64, now: u64) 
 }
 
 /// The reservation that an entry of this number makes, with the address of its registration.
-pub fn job_made(kind: &CoreKind, rows: &[ServerRow], number: u64, now: u64) -> Option<JobRow>
-    ensures { result ≡ job_by kind.now rows.now number now }
+pub fn job_made(kind: &CoreKind, rows: &Registrations, number: u64, now: u64) -> Option<JobRow>
+    ensures { result ≡ job_by kind.now rows.now.rows number now }
 {
     match kind {
         CoreKind::Reserve(reserved) => job_reserved(reserved, rows, number, now),

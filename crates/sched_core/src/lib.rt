@@ -11,12 +11,16 @@
 pub mod answers;
 mod books;
 pub mod call;
+mod change;
+mod decide;
 pub mod entry;
 pub mod error;
 mod held;
 mod keys;
 pub mod kind;
 pub mod laws;
+mod places;
+mod registrations;
 pub mod reservation;
 pub mod rows;
 pub mod rules;

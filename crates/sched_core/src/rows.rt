@@ -1,7 +1,9 @@
 //! What is asked of the log, as rows.
 ghost use Rattle.std.specs.Prelude.{◌≡◌};
 ghost use Rattle.std.specs.Iterator.{YieldsFirst, item_count};
+ghost use Rattle.numbered_slots.specs.Slots.{rows_in};
 
+use crate::places::first_full;
 use dist_types::ids::{JobId, ServerId, ServerNonce};
 use dist_types::results::JobState;
 use std::marker::Model;
@@ -78,22 +80,23 @@ pub struct OpenRow {
 /// still to come.
 #[derive(Drop)]
 pub struct Servers<'a> {
-    rest: &'a [ServerRow],
+    rest: &'a [Option<ServerRow>],
 }
 
 impl<'a> Model for Servers<'a> {
     ghost use Rattle.std.specs.Prelude.{List};
+    ghost use Rattle.numbered_slots.specs.Slots.{rows_in};
     ghost use Rattle.sched_core.specs.declared.rows.ServerRow.{ServerRow};
 
     ghost Value = { List ServerRow };
 
-    ghost view = { λ s. s.rest.now };
+    ghost view = { λ s. rows_in s.rest.now };
 }
 
 impl<'a> Servers<'a> {
-    /// The rows of a slice.
-    pub(crate) fn new(rest: &'a [ServerRow]) -> Self
-        ensures rows { result ≡ rest.now }
+    /// The rows of the places.
+    pub(crate) fn new(rest: &'a [Option<ServerRow>]) -> Self
+        ensures rows { result ≡ rows_in rest.now }
     {
         Servers { rest }
     }
@@ -107,9 +110,10 @@ impl<'a> Iterator for Servers<'a> {
     ghost remaining = { item_count (λ s. s) };
 
     fn next(&mut self) -> Option<ServerRow> {
-        let (first, others) = self.rest.split_first()?;
-        self.rest = others;
-        Some(*first)
+        let place = first_full(self.rest)?;
+        let row = self.rest[place];
+        self.rest = &self.rest[place + 1..];
+        row
     }
 }
 

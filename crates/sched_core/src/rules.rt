@@ -27,7 +27,7 @@ const UNCLAIMED_READY_TIMEOUT: u64 = 60000;
 const UNCLAIMED_PENDING_TIMEOUT: u64 = 300000;
 
 /// A remembered error is forgotten where it is older, in milliseconds.
-const ERROR_TIMEOUT: u64 = 300000;
+pub(crate) const ERROR_TIMEOUT: u64 = 300000;
 
 // Which registration a reservation goes to.
 
@@ -39,7 +39,7 @@ fn has_capacity(load: u64, cpus: u64) -> bool
 }
 
 /// Whether the registration has room.
-fn is_roomy(row: &ServerRow) -> bool
+pub(crate) fn is_roomy(row: &ServerRow) -> bool
     ensures { result ≡ has_room row.now }
 {
     has_capacity(row.load, row.cpus)
@@ -341,7 +341,7 @@ pub fn noted_number(rows: &[ServerRow], server: Option<ServerId>) -> Option<u64>
 }
 
 /// The jobs that a heartbeat with this nonce reaps, where that registration stands at its address.
-fn reaped_there(
+pub(crate) fn reaped_there(
     alloc: Global,
     held: &[HeldRow],
     there: &Option<ServerRow>,
@@ -403,7 +403,7 @@ fn left_standing(pruned: &[u64], reg: Option<u64>) -> bool
 }
 
 /// How many open jobs are at none of the pruned registrations.
-fn jobs_left(pruned: &[u64], jobs: &[OpenRow]) -> u64
+pub(crate) fn jobs_left(pruned: &[u64], jobs: &[OpenRow]) -> u64
     ensures { result ≡ length (filter (λ o. is_left pruned.now o.reg) jobs.now) }
 {
     jobs.iter().filter(|o| left_standing(pruned, o.reg)).count() as u64

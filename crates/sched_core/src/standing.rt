@@ -2,16 +2,14 @@
 ghost use Rattle.std.specs.Prelude.{◌≡◌, ◌<◌, ◌≤◌, ◌+◌, ◌++◌, ◌∷◌, ◌||◌, ◌==◌, [], ◌-◌, ◌^◌, IfOk, IsSome};
 ghost use Rattle.std.specs.Prelude.{None, true, false, map, filter, find, length, min, sum_by};
 ghost use Rattle.std.specs.Prelude.{option_to_list, vec_len, vec_capacity, if◌then◌else◌};
-ghost use Rattle.sched_core.specs.Log.{is_this, same_job};
-ghost use Rattle.sched_core.specs.Standing.{renews_by};
+ghost use Rattle.sched_core.specs.Log.{same_job};
 ghost use Rattle.sched_core.specs.Prune.{is_expired, prune, left, at_address};
 ghost use Rattle.sched_core.specs.Rule.{replaced_by, says_new, counts_over, status_by};
-ghost use Rattle.sched_core.specs.Books.{row_by, row_after, row_stays, row_lowered, row_freed, place_if};
-ghost use Rattle.sched_core.specs.Books.{served_by, takes_by, one_more_if, error_after};
+ghost use Rattle.sched_core.specs.Books.{row_by, row_stays, row_lowered, row_freed, place_if};
+ghost use Rattle.sched_core.specs.Books.{one_more_if};
 
 use crate::entry::{CoreEntry, CoreKind};
-use crate::kind::{ends, forgives, frees, heard, is_number, notes, renews, takes};
-use crate::rows::{HeldRow, OpenRow, ServerRow};
+use crate::rows::{OpenRow, ServerRow};
 use crate::rules::open_job;
 use dist_types::ids::{JobId, ServerId, ServerNonce};
 use dist_types::results::SchedulerStatusResult;
@@ -22,7 +20,7 @@ use std::alloc::{AllocError, Global};
 pub const HEARTBEAT_TIMEOUT: u64 = 90000;
 
 /// Whether the last sign is too long ago.
-fn is_silent(row: &ServerRow, now: u64) -> bool
+pub fn is_silent(row: &ServerRow, now: u64) -> bool
     ensures { result ≡ is_expired now row.now }
 {
     now.saturating_sub(row.seen) > HEARTBEAT_TIMEOUT
@@ -55,71 +53,6 @@ pub fn row_at(rows: &[ServerRow], server: ServerId) -> Option<ServerRow>
     rows.iter().copied().find(|row| row.server == server)
 }
 
-/// The registration of that number.
-pub fn row_numbered(rows: &[ServerRow], reg: u64) -> Option<ServerRow>
-    ensures { result ≡ find (λ r. r.reg == reg) rows.now }
-{
-    rows.iter().copied().find(|row| row.reg == reg)
-}
-
-/// Takes out the registrations that an entry ends.
-pub fn end_rows(rows: &mut Vec<ServerRow>, kind: &CoreKind)
-    ensures items { rows.new.items ≡ filter (row_stays kind.now) rows.old.items }
-    ensures len { vec_len rows.new ≤ vec_len rows.old }
-    ensures capacity { vec_capacity rows.new ≡ vec_capacity rows.old }
-{
-    rows.retain(|row| !ends(kind, row.reg));
-}
-
-/// The row with one reservation less, where it is that registration's.
-fn lowered(row: ServerRow, reg: u64) -> ServerRow
-    ensures { result ≡ row_lowered reg row }
-{
-    if reg == row.reg {
-        ServerRow {
-            load: row.load.saturating_sub(1),
-            ..row
-        }
-    } else {
-        row
-    }
-}
-
-/// Takes one reservation from the load of a registration.
-fn lower(rows: &mut Vec<ServerRow>, reg: u64)
-    ensures items { rows.new.items ≡ map (row_lowered reg) rows.old.items }
-    ensures len { vec_len rows.new ≡ vec_len rows.old }
-    ensures capacity { vec_capacity rows.new ≡ vec_capacity rows.old }
-{
-    for row in rows.iter_mut() {
-        *row = lowered(*row, reg);
-    }
-}
-
-/// The same, where the reservation ended.
-fn lower_if(rows: &mut Vec<ServerRow>, freed: bool, reg: u64)
-    ensures freed { freed ≡ true → rows.new.items ≡ map (row_lowered reg) rows.old.items }
-    ensures kept { freed ≡ false → rows.new.items ≡ rows.old.items }
-    ensures len { vec_len rows.new ≡ vec_len rows.old }
-    ensures capacity { vec_capacity rows.new ≡ vec_capacity rows.old }
-{
-    if freed {
-        lower(rows, reg);
-    }
-}
-
-/// Takes the reservations that an entry ends from the loads of their registrations.
-pub fn free_rows(rows: &mut Vec<ServerRow>, held: &[HeldRow], kind: &CoreKind)
-    ensures items { rows.new.items ≡ map (row_freed kind.now held.now) rows.old.items }
-    ensures len { vec_len rows.new ≡ vec_len rows.old }
-    ensures capacity { vec_capacity rows.new ≡ vec_capacity rows.old }
-{
-    for h in held {
-        let freed = frees(kind, h.job, h.reg);
-        lower_if(rows, freed, h.reg);
-    }
-}
-
 /// The registration of an open job, if there is one.
 fn place_of(found: &Option<OpenRow>) -> Option<u64>
     ensures { result ≡ place_if found.now }
@@ -131,7 +64,7 @@ fn place_of(found: &Option<OpenRow>) -> Option<u64>
 }
 
 /// The registration of the open job of that id, where it counts.
-fn place_if_heard(heard: bool, open_ones: &[OpenRow], job: JobId) -> Option<u64>
+pub fn place_if_heard(heard: bool, open_ones: &[OpenRow], job: JobId) -> Option<u64>
     ensures { result ≡ (if heard then place_if (find (λ o. same_job o.job job) open_ones.now) else None) }
 {
     if heard {
@@ -142,76 +75,11 @@ fn place_if_heard(heard: bool, open_ones: &[OpenRow], job: JobId) -> Option<u64>
     }
 }
 
-/// The registration whose open job an entry names that counts as a sign.
-pub fn served(kind: &CoreKind, open_ones: &[OpenRow]) -> Option<u64>
-    ensures { result ≡ served_by kind.now open_ones.now }
-{
-    match kind {
-        CoreKind::Reserve(_) => None,
-        CoreKind::Commit { .. } => None,
-        CoreKind::Undo { .. } => None,
-        CoreKind::Beat { .. } => None,
-        CoreKind::Update { job, answer, .. } => place_if_heard(heard(*answer), open_ones, *job),
-        CoreKind::Status { .. } => None,
-    }
-}
-
-/// The moment of the last sign of a registration after an entry.
-fn seen_after(row: &ServerRow, step: &CoreEntry, served: Option<u64>) -> u64
-    ensures { result ≡ (if renews_by step.entry.now.kind row.now.server || is_this served row.now.reg then
-        step.entry.now.now else row.now.seen) }
-{
-    if renews(&step.kind, row.server) || is_number(served, row.reg) {
-        step.now
-    } else {
-        row.seen
-    }
-}
-
 /// One more, at most 2^64 - 1.
 pub fn one_more(more: bool, n: u64) -> u64
     ensures { result ≡ one_more_if more n }
 {
     if more { n.saturating_add(1) } else { n }
-}
-
-/// The remembered error of a registration after an entry.
-fn error_now(row: &ServerRow, step: &CoreEntry) -> Option<u64>
-    ensures { result ≡ error_after step.entry.now row.now.reg row.now.error }
-{
-    if notes(&step.kind, row.reg) {
-        Some(step.now)
-    } else if forgives(&step.kind, row.reg) {
-        None
-    } else {
-        row.error
-    }
-}
-
-/// The row of a registration after an entry.
-fn changed(row: &ServerRow, step: &CoreEntry, served: Option<u64>) -> ServerRow
-    ensures { result ≡ row_after step.entry.now served row.now }
-{
-    ServerRow {
-        reg: row.reg,
-        server: row.server,
-        cpus: row.cpus,
-        nonce: row.nonce,
-        seen: seen_after(row, step, served),
-        load: one_more(takes(&step.kind, row.reg), row.load),
-        error: error_now(row, step),
-    }
-}
-
-/// Gives the registrations their last sign, load and error after an entry.
-pub fn change_rows(rows: &mut Vec<ServerRow>, step: &CoreEntry, served: Option<u64>)
-    ensures items { rows.new.items ≡ map (row_after step.entry.now served) rows.old.items }
-    ensures len { vec_len rows.new ≡ vec_len rows.old }
-    ensures capacity { vec_capacity rows.new ≡ vec_capacity rows.old }
-{
-    for row in rows.iter_mut() {
-        *row = changed(row, step, served);
-    }
 }
 
 /// The registration that an entry of this number makes.

@@ -1,7 +1,10 @@
 //! The scheduler's state: its log, and what is kept of it.
-ghost use Rattle.std.specs.Prelude.{◌≡◌, ◌↔◌, ◌⊎◌, ◌<◌, ◌≤◌, ◌+◌, ◌^◌, ◌++◌, ◌∷◌, [], Err, Some, IfOk, IfErr};
+ghost use Rattle.std.specs.Prelude.{◌≡◌, ◌↔◌, ◌⊎◌, ◌<◌, ◌≤◌, ◌+◌, ◌^◌, ◌++◌, ◌∷◌, [], Err, Some, IfOk};
+ghost use Rattle.std.specs.Prelude.{IfErr};
 ghost use Rattle.std.specs.Prelude.{OnOk, OnErr, IsErrOf, length, map, true, if◌then◌else◌, option_to_list};
-ghost use Rattle.std.specs.Prelude.{vec_len, vec_capacity};
+ghost use Rattle.std.specs.Prelude.{◌*◌, ℕ, max, vec_len, vec_capacity};
+ghost use Rattle.sched_core.specs.Most.{most_standing, forgiven_count};
+ghost use Rattle.sched_core.specs.Registrations.{AreFew};
 ghost use Rattle.std.specs.List.{AllByRecursion};
 ghost use Rattle.sched_core.specs.Log.{Core, logged};
 ghost use Rattle.sched_core.specs.Standing.{address_of};
@@ -30,7 +33,9 @@ use dist_types::results::{
 };
 use dist_types::roles::JobAuthorizer;
 use std::alloc::{AllocError, Global};
-use std::marker::Model;
+use std::marker::{Brand, Model};
+use std::sync::ledger::{Blank, Ledger};
+use winner_tree::Steps;
 
 /// The most processors that a heartbeat may say.
 const MOST_CPUS: u64 = 4294967295;
@@ -57,7 +62,7 @@ impl<A: JobAuthorizer> Model for SchedState<A> {
 
     ghost view = { λ s. record { base = s.base; count = s.count; log = s.log.items } };
 
-    ghost invariant = { λ s. IsState s.base s.count s.books.lists s.keys.items s.log.items (vec_len s.log)
+    ghost invariant = { λ s. IsState s.base s.count s.books s.keys.items s.log.items (vec_len s.log)
         (vec_capacity s.log) };
 }
 
@@ -157,8 +162,29 @@ impl<A: JobAuthorizer> SchedState<A> {
         ensures refused { IfErr result (RefusesReserve (rule self.old (call.Reserve now)).kind) }
         ensures err { IfErr result (λ e. Leaves e self.old self.new (rule self.old (call.Reserve now))) }
     {
+        reserve_uncounted::<A, Brand>(self, now, Blank::new(1))
+    }
+
+    /// The same, with its looks at the trees of the books counted: where at most 2^h registrations ever
+    /// stood at one time it takes no more than 6h + 8, and as many again for each error that it forgets.
+    pub fn reserve_counted<L: Ledger>(
+        &mut self,
+        now: u64,
+        steps: &mut Steps<L>,
+    ) -> Result<Picked, SchedError>
+        // It appends the one entry that the core rule gives, and answers what that entry says.
+        ensures logged { OnOk result (self.new ≡ logged self.old (rule self.old (call.Reserve now))) }
+        ensures picked { IfOk result (IsPicked A.key_of A.token_for self.old.log
+            (rule self.old (call.Reserve now)).kind) }
+        ensures refused { IfErr result (RefusesReserve (rule self.old (call.Reserve now)).kind) }
+        ensures err { IfErr result (λ e. Leaves e self.old self.new (rule self.old (call.Reserve now))) }
+        ensures looks { (h : ℕ) → max 1 (most_standing self.old.log) ≤ 2 ^ h → steps.new ≤ steps.old +
+            (6 * h + 8) * (1 + forgiven_count (rule self.old (call.Reserve now)).kind) }
+    {
         let given = u128::from(self.count) + u128::from(self.books.made());
-        let reserved = self.books.reserved(self.alloc, now, self.base, given)?;
+        let reserved = self
+            .books
+            .reserved(self.alloc, now, self.base, given, steps)?;
         make_job_room(&mut self.books, &mut self.log)?;
         let made = spending::made(&self.books, &self.keys, &self.log, &reserved)?;
         let kind = CoreKind::Reserve(reserved);
@@ -171,6 +197,7 @@ impl<A: JobAuthorizer> SchedState<A> {
             &mut self.log,
             entry,
             None,
+            steps,
         );
         spending::answer(made)
     }
@@ -194,7 +221,7 @@ impl<A: JobAuthorizer> SchedState<A> {
         let kept = self.books.is_held(number, job);
         let kind = CoreKind::Commit { job, state, kept };
         let entry = CoreEntry { now, kind };
-        take(
+        take_uncounted::<A, Brand>(
             self.base,
             self.count,
             &mut self.books,
@@ -202,6 +229,7 @@ impl<A: JobAuthorizer> SchedState<A> {
             &mut self.log,
             entry,
             None,
+            Blank::new(1),
         );
         spending::committed(kept, alloc)
     }
@@ -227,7 +255,7 @@ impl<A: JobAuthorizer> SchedState<A> {
         let ended = self.books.is_held(number, job);
         let kind = CoreKind::Undo { job, noted, ended };
         let entry = CoreEntry { now, kind };
-        take(
+        take_uncounted::<A, Brand>(
             self.base,
             self.count,
             &mut self.books,
@@ -235,6 +263,7 @@ impl<A: JobAuthorizer> SchedState<A> {
             &mut self.log,
             entry,
             None,
+            Blank::new(1),
         );
         spending::undone(noted, ended)
     }
@@ -268,9 +297,9 @@ impl<A: JobAuthorizer> SchedState<A> {
             .books
             .beat(self.alloc, now, server, nonce, cpus, key.key())?;
         let is_new = entry.is_new_beat();
-        make_row_room(&mut self.books, &mut self.keys, &mut self.log)?;
+        make_row_room(self.alloc, &mut self.books, &mut self.keys, &mut self.log)?;
         let key = keys::key_made(is_new, self.log.len() as u64, key);
-        take(
+        take_uncounted::<A, Brand>(
             self.base,
             self.count,
             &mut self.books,
@@ -278,6 +307,7 @@ impl<A: JobAuthorizer> SchedState<A> {
             &mut self.log,
             entry,
             key,
+            Blank::new(1),
         );
         Ok(HeartbeatServerResult { is_new })
     }
@@ -310,7 +340,7 @@ impl<A: JobAuthorizer> SchedState<A> {
             answer,
         };
         let entry = CoreEntry { now, kind };
-        take(
+        take_uncounted::<A, Brand>(
             self.base,
             self.count,
             &mut self.books,
@@ -318,6 +348,7 @@ impl<A: JobAuthorizer> SchedState<A> {
             &mut self.log,
             entry,
             None,
+            Blank::new(1),
         );
         spending::updated(answer, state)
     }
@@ -334,7 +365,7 @@ impl<A: JobAuthorizer> SchedState<A> {
         let answer = self.books.counts(&pruned, now);
         let entry = standing::status_entry(now, pruned, answer);
         make_log_room(&self.books, &mut self.log)?;
-        take(
+        take_uncounted::<A, Brand>(
             self.base,
             self.count,
             &mut self.books,
@@ -342,6 +373,7 @@ impl<A: JobAuthorizer> SchedState<A> {
             &mut self.log,
             entry,
             None,
+            Blank::new(1),
         );
         Ok(answer)
     }
@@ -372,6 +404,8 @@ fn make_job_room(books: &mut Books, log: &mut Vec<CoreEntry>) -> Result<(), Allo
     ensures log_room { vec_len log.old + length books.old.lists.unspent ≤ vec_capacity log.old →
         vec_len log.new + length books.old.lists.unspent ≤ vec_capacity log.new }
     ensures room { OnOk result (books.new.has_job_room ≡ true) }
+    ensures top { books.new.top ≡ books.old.top }
+    ensures places { books.new.places ≡ books.old.places }
     ensures spare { OnOk result
         (vec_len log.new + length books.old.lists.unspent + 2 ≤ vec_capacity log.new) }
 {
@@ -381,6 +415,7 @@ fn make_job_room(books: &mut Books, log: &mut Vec<CoreEntry>) -> Result<(), Allo
 
 /// Makes room for what a heartbeat may add. Refused for want of memory alone; the lists stay.
 fn make_row_room<A: JobAuthorizer>(
+    alloc: Global,
     books: &mut Books,
     keys: &mut Vec<RegistrationKey<A>>,
     log: &mut Vec<CoreEntry>,
@@ -391,17 +426,19 @@ fn make_row_room<A: JobAuthorizer>(
     ensures log_room { vec_len log.old + length books.old.lists.unspent ≤ vec_capacity log.old →
         vec_len log.new + length books.old.lists.unspent ≤ vec_capacity log.new }
     ensures room { OnOk result (books.new.has_row_room ≡ true) }
+    ensures top { books.new.top ≤ books.old.top }
+    ensures places { books.new.places ≤ max books.old.places (2 * max 1 (length books.old.lists.rows)) }
     ensures keys_room { OnOk result (vec_len keys.new < vec_capacity keys.new) }
     ensures spare { OnOk result
         (vec_len log.new + length books.old.lists.unspent + 2 ≤ vec_capacity log.new) }
 {
-    books.make_row_room()?;
+    books.make_row_room(alloc)?;
     keys.reserve(1)?;
     make_log_room(books, log)
 }
 
 /// Takes the next entry into the books and the log. It takes no memory.
-fn take<A: JobAuthorizer>(
+fn take<A: JobAuthorizer, L: Ledger>(
     base: u64,
     count: u64,
     books: &mut Books,
@@ -409,8 +446,9 @@ fn take<A: JobAuthorizer>(
     log: &mut Vec<CoreEntry>,
     step: CoreEntry,
     key: Option<RegistrationKey<A>>,
+    steps: &mut Steps<L>,
 )
-    requires state { IsState base count books.old.lists keys.old.items log.old.items (vec_len log.old)
+    requires state { IsState base count books.old keys.old.items log.old.items (vec_len log.old)
         (vec_capacity log.old) }
     requires rule { IsRule (record { base = base; count = count; log = log.old.items }) step }
     requires key { key ≡ key_by step.kind (length log.old.items) }
@@ -420,12 +458,65 @@ fn take<A: JobAuthorizer>(
     requires keys_room { MayRegister step.kind → vec_len keys.old < vec_capacity keys.old }
     requires log_room { vec_len log.old + 1 +
         length (unspent_next books.old.lists step (length log.old.items)) ≤ vec_capacity log.old }
-    ensures state { IsState base count books.new.lists keys.new.items log.new.items (vec_len log.new)
+    ensures state { IsState base count books.new keys.new.items log.new.items (vec_len log.new)
         (vec_capacity log.new) }
     ensures log { log.new.items ≡ log.old.items ++ step ∷ [] }
+    ensures looks { (h : ℕ) → books.old.places ≤ 2 ^ h → AreFew step.kind h steps.old steps.new }
 {
-    books.absorb(&step, log.len() as u64);
+    books.absorb(&step, log.len() as u64, steps);
     keys::end_keys(keys, &step);
     standing::push_some(keys, key);
     standing::push_reserved(log, step);
+}
+
+/// The same, where nobody counts.
+fn take_uncounted<A: JobAuthorizer, L: Ledger>(
+    base: u64,
+    count: u64,
+    books: &mut Books,
+    keys: &mut Vec<RegistrationKey<A>>,
+    log: &mut Vec<CoreEntry>,
+    step: CoreEntry,
+    key: Option<RegistrationKey<A>>,
+    blank: Blank,
+)
+    requires name { blank.name ≡ L.name }
+    requires parts { blank.parts ≡ L.parts }
+    requires some { 0 < blank.parts }
+    requires state { IsState base count books.old keys.old.items log.old.items (vec_len log.old)
+        (vec_capacity log.old) }
+    requires rule { IsRule (record { base = base; count = count; log = log.old.items }) step }
+    requires key { key ≡ key_by step.kind (length log.old.items) }
+    requires row_room { MayRegister step.kind → books.old.has_row_room ≡ true }
+    requires job_room { MayReserve step.kind → books.old.has_job_room ≡ true }
+    requires spends { IsOfUnspent step.kind books.old.lists.unspent }
+    requires keys_room { MayRegister step.kind → vec_len keys.old < vec_capacity keys.old }
+    requires log_room { vec_len log.old + 1 +
+        length (unspent_next books.old.lists step (length log.old.items)) ≤ vec_capacity log.old }
+    ensures state { IsState base count books.new keys.new.items log.new.items (vec_len log.new)
+        (vec_capacity log.new) }
+    ensures log { log.new.items ≡ log.old.items ++ step ∷ [] }
+{
+    let mut steps = Steps::<L>::new(blank);
+    take(base, count, books, keys, log, step, key, &mut steps);
+}
+
+/// A reserve whose looks nobody counts.
+fn reserve_uncounted<A: JobAuthorizer, L: Ledger>(
+    state: &mut SchedState<A>,
+    now: u64,
+    blank: Blank,
+) -> Result<Picked, SchedError>
+    requires name { blank.name ≡ L.name }
+    requires parts { blank.parts ≡ L.parts }
+    requires some { 0 < blank.parts }
+    // It appends the one entry that the core rule gives, and answers what that entry says.
+    ensures logged { OnOk result (state.new ≡ logged state.old (rule state.old (call.Reserve now))) }
+    ensures picked { IfOk result (IsPicked A.key_of A.token_for state.old.log
+        (rule state.old (call.Reserve now)).kind) }
+    ensures refused { IfErr result (RefusesReserve (rule state.old (call.Reserve now)).kind) }
+    ensures err { IfErr result (λ e. Leaves e state.old state.new (rule state.old (call.Reserve now))) }
+{
+    let mut steps = Steps::<L>::new(blank);
+    state.reserve_counted(now, &mut steps)
 }

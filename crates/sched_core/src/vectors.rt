@@ -1,15 +1,21 @@
 //! The books as plain vectors, and what one entry does to them: one pass over each.
-ghost use Rattle.std.specs.Prelude.{◌≡◌, ◌<◌, ◌≤◌, ◌+◌, IsSome, length, option_to_list, vec_len};
+ghost use Rattle.std.specs.Prelude.{◌≡◌, ◌<◌, ◌≤◌, ◌+◌, ◌^◌, ℕ, true, length, option_to_list, vec_len};
 ghost use Rattle.std.specs.Prelude.{vec_capacity};
-ghost use Rattle.sched_core.specs.Books.{MayRegister, MayReserve, HasJobRoom, lists_of, rows_next, held_next};
+ghost use Rattle.sched_core.specs.Registrations.{AreFew, AreSoundRows};
+ghost use Rattle.sched_core.specs.Books.{MayRegister, MayReserve, HasJobRoom, lists_of, rows_next};
+ghost use Rattle.sched_core.specs.Books.{held_next};
 ghost use Rattle.sched_core.specs.Books.{jobs_next, open_next, unspent_next, made_next, open_by};
 
+use crate::change::{absorb_rows, push_row};
 use crate::entry::CoreEntry;
 use crate::held;
 use crate::kind::is_reservation;
-use crate::rows::{HeldRow, JobRow, OpenRow, ServerRow};
+use crate::registrations::Registrations;
+use crate::rows::{HeldRow, JobRow, OpenRow};
 use crate::standing::{self, push_some};
 use dist_types::ids::{JobId, ServerId};
+use std::sync::ledger::Ledger;
+use winner_tree::Steps;
 
 /// A reservation that is unspent.
 #[derive(Clone, Copy, Debug)]
@@ -27,8 +33,8 @@ pub struct UnspentRow {
 /// The answers to what is asked of the log.
 #[derive(Drop)]
 pub struct Vectors {
-    /// The registrations that stand, by rising number.
-    pub rows: Vec<ServerRow>,
+    /// The registrations that stand.
+    pub rows: Registrations,
     /// The unended reservations, in the order of their reserving.
     pub held: Vec<HeldRow>,
     /// The unended reservations, by rising job id.
@@ -42,12 +48,16 @@ pub struct Vectors {
 }
 
 /// Takes an entry of this number into the books. It takes no memory.
-pub fn absorb(books: &mut Vectors, step: &CoreEntry, number: u64)
-    requires row_room { MayRegister step.now.kind → vec_len books.old.rows < vec_capacity books.old.rows }
+pub fn absorb<L: Ledger>(books: &mut Vectors, step: &CoreEntry, number: u64, steps: &mut Steps<L>)
+    requires sound { AreSoundRows (rows_next (lists_of books.old) step.now number) }
+    requires above { books.old.rows.places.top ≤ number }
+    requires row_room { MayRegister step.now.kind → books.old.rows.places.has_left ≡ true }
     requires job_room { MayReserve step.now.kind → HasJobRoom books.old }
     requires open_room { vec_len books.old.open_ones + length
         (option_to_list (open_by step.now.kind books.old.jobs.items)) ≤ vec_capacity books.old.open_ones }
-    ensures rows { books.new.rows.items ≡ rows_next (lists_of books.old) step.entry.now number }
+    ensures rows { books.new.rows.rows ≡ rows_next (lists_of books.old) step.entry.now number }
+    ensures places { books.new.rows.places.count ≡ books.old.rows.places.count }
+    ensures top { books.new.rows.places.top ≤ number + 1 }
     ensures held { books.new.held.items ≡ held_next (lists_of books.old) step.entry.now number }
     ensures jobs { books.new.jobs.items ≡ jobs_next (lists_of books.old) step.entry.now number }
     ensures open_ones { books.new.open_ones.items ≡ open_next (lists_of books.old) step.entry.now }
@@ -56,22 +66,22 @@ pub fn absorb(books: &mut Vectors, step: &CoreEntry, number: u64)
     ensures open_len { vec_len books.new.open_ones ≤ vec_len books.old.open_ones +
         length (option_to_list (open_by step.entry.now.kind books.old.jobs.items)) }
     ensures open_capacity { vec_capacity books.old.open_ones ≤ vec_capacity books.new.open_ones }
+    ensures looks { (h : ℕ) → books.old.rows.places.count ≤ 2 ^ h →
+        AreFew step.entry.now.kind h steps.old steps.new }
 {
-    let served = standing::served(&step.kind, &books.open_ones);
-    let row = standing::row_made(step, number);
-    let held = held::held_made(&step.kind, number, step.now);
     let job = held::job_made(&step.kind, &books.rows, number, step.now);
     let open_one = held::open_made(&step.kind, &books.jobs);
     let unspent = held::unspent_made(&job);
 
-    standing::end_rows(&mut books.rows, &step.kind);
-    standing::free_rows(&mut books.rows, &books.held, &step.kind);
-    standing::change_rows(&mut books.rows, step, served);
-    push_some(&mut books.rows, row);
+    absorb_rows(&mut books.rows, &books.held, &books.open_ones, step, steps);
+    push_row(&mut books.rows, standing::row_made(step, number), steps);
 
     held::end_held(&mut books.held, &step.kind);
     held::move_held(&mut books.held, &step.kind);
-    push_some(&mut books.held, held);
+    push_some(
+        &mut books.held,
+        held::held_made(&step.kind, number, step.now),
+    );
 
     held::end_jobs(&mut books.jobs, &step.kind);
     held::move_jobs(&mut books.jobs, &step.kind);

@@ -1,3 +1,4 @@
 pub mod HeldLemmas
+pub mod HiredLemmas
 pub mod RepliedLemmas
 pub mod RequestedLemmas

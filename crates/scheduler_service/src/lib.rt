@@ -6,8 +6,8 @@
 //! `workers` runs one worker for each kit in a thread of its own. `checks` and `run_scheduler` are the
 //! system's side.
 //!
-//! The layers above use `serve_scheduler_connection`, `serve_scheduler_workers`, `Kit` and `serve_scheduler`,
-//! and of the definitions `IsReplied` and `IsDone`.
+//! The layers above use `serve_scheduler_connection`, `serve_scheduler_kits`, `serve_scheduler_workers`, `Kit`
+//! and `serve_scheduler`, and of the definitions `IsReplied` and `IsDone`.
 #![tactic(auto)]
 
 pub mod answer;

@@ -1,13 +1,13 @@
 //! Workers: each serves the connections of its kit in a thread of its own, and all come back.
 ghost use Rattle.std.specs.Prelude.{◌≡◌, ◌+◌, ◌<◌, ◌≤◌, [], List, ℕ, length, map, IfOk, OnOk, OnErr};
-ghost use Rattle.std.specs.Prelude.{slice_index_or, vec_len, vec_capacity};
+ghost use Rattle.std.specs.Prelude.{All, slice_index_or, vec_len, vec_capacity};
 ghost use Rattle.std.specs.List.{sum_by};
 ghost use Rattle.sched.specs.Outside.{moments};
 ghost use Rattle.sched.specs.Pass.{Told, fresh, count_of, held_of, Rises};
 ghost use Rattle.http_connections.specs.Tally.{Worked};
 ghost use Rattle.http_routes.specs.Route.{IsRouted};
 ghost use Rattle.scheduler_service.specs.Connection.{IsReplied};
-ghost use Rattle.scheduler_service.specs.Workers.{AreJoined, around};
+ghost use Rattle.scheduler_service.specs.Workers.{AreJoined, AreTakenBack, around};
 
 use crate::connection::serve_scheduler_connection;
 use dist_token::checks::{ClientAuthCheck, ServerAuthCheck};
@@ -20,8 +20,8 @@ use sched::pass::Pass;
 use sched::scheduler::Scheduler;
 use std::alloc::Global;
 use std::sync::Wait;
-use std::thread;
 use std::thread::Threads;
+use std::{mem, thread};
 
 /// What one worker has for its own.
 #[derive(Drop)]
@@ -148,52 +148,68 @@ fn work_all<
     );
 }
 
-/// A worker for each kit, each with a fresh pass of its own. Where memory ran out, the passes that were made
-/// are joined.
-fn hire<R: Wait, T: Tasks, D: Dialer + Drop, C: Clock + Drop, K: ClientAuthCheck + Drop>(
+/// Takes the passes in.
+fn join_all(scheduler: &Scheduler<JWTJobAuthorizer>, pass: &mut Pass, passes: Vec<Pass>)
+    ensures joined { Rises (sum_by held_of passes.items) (held_of pass.old) (held_of pass.new) }
+    ensures counted { Rises (sum_by count_of passes.items) (count_of pass.old) (count_of pass.new) }
+{
+    let _held = pass.held();
+    let _count = pass.count();
+    for theirs in passes {
+        scheduler.join(pass, theirs);
+    }
+}
+
+/// So many fresh passes, for which there is room. Where memory ran out, those that were made are joined.
+fn split_all<R: Wait>(
     rt: &R,
     scheduler: &Scheduler<JWTJobAuthorizer>,
     pass: &mut Pass,
-    kits: Vec<Kit<T, D, C, K>>,
-    mut workers: Vec<Worker<T, D, C, K>>,
-) -> Result<Vec<Worker<T, D, C, K>>, Memory>
-    requires room { vec_len workers + vec_len kits ≤ vec_capacity workers }
-    requires fresh { workers.items ≡ [] }
-    ensures kits { IfOk result (λ ws. map (λ w. w.kit) ws.items ≡ kits.items) }
-    ensures began { IfOk result (λ ws. map (λ w. w.pass) ws.items ≡ map (λ _. fresh) kits.items) }
-    ensures hold { IfOk result (λ ws. sum_by (λ w. held_of w.pass) ws.items ≡ length kits.items) }
+    number: usize,
+    mut passes: Vec<Pass>,
+) -> Result<Vec<Pass>, Memory>
+    requires room { vec_len passes + number ≤ vec_capacity passes }
+    requires none { passes.items ≡ [] }
+    ensures len { IfOk result (λ made. vec_len made ≡ number) }
+    ensures fresh { IfOk result (λ made. All (λ p. p ≡ fresh) made.items) }
     ensures same { OnOk result (pass.new ≡ pass.old) }
-    ensures joined { OnErr result ((n : ℕ) × Rises n (held_of pass.old) (held_of pass.new)) }
+    ensures left { OnErr result (AreTakenBack number pass.old pass.new) }
 {
-    for kit in kits {
+    let _held = pass.held();
+    let _count = pass.count();
+    for _ in 0..number {
         match scheduler.split(rt, pass) {
-            Ok(new) => workers.push_reserved(Worker { kit, pass: new }),
+            Ok(made) => passes.push_reserved(made),
             Err(_) => {
-                dismiss(scheduler, pass, workers);
+                join_all(scheduler, pass, passes);
                 return Err(Memory);
             }
         }
     }
-    Ok(workers)
+    Ok(passes)
 }
 
-/// Takes the passes of the workers in, and drops their kits.
-fn dismiss<T: Tasks, D: Dialer + Drop, C: Clock + Drop, K: ClientAuthCheck + Drop>(
-    scheduler: &Scheduler<JWTJobAuthorizer>,
-    pass: &mut Pass,
-    workers: Vec<Worker<T, D, C, K>>,
-)
-    ensures joined { Rises (sum_by (λ w. held_of w.pass) workers.items) (held_of pass.old)
-        (held_of pass.new) }
+/// A worker for each kit, each with one of the fresh passes, of which there are as many.
+fn hire<T: Tasks, D: Dialer + Drop, C: Clock + Drop, K: ClientAuthCheck + Drop>(
+    kits: Vec<Kit<T, D, C, K>>,
+    mut passes: Vec<Pass>,
+    mut workers: Vec<Worker<T, D, C, K>>,
+) -> Vec<Worker<T, D, C, K>>
+    requires room { vec_len workers + vec_len kits ≤ vec_capacity workers }
+    requires none { workers.items ≡ [] }
+    requires enough { vec_len passes ≡ vec_len kits }
+    requires fresh { All (λ p. p ≡ fresh) passes.items }
+    ensures kits { map (λ w. w.kit) result.items ≡ kits.items }
+    ensures began { map (λ w. w.pass) result.items ≡ map (λ _. fresh) kits.items }
+    ensures hold { sum_by (λ w. held_of w.pass) result.items ≡ length kits.items }
 {
-    let _held = pass.held();
-    for worker in workers {
-        let Worker {
-            kit: _,
-            pass: theirs,
-        } = worker;
-        scheduler.join(pass, theirs);
+    for kit in kits {
+        let Some(pass) = passes.pop() else {
+            unreachable!()
+        };
+        workers.push_reserved(Worker { kit, pass });
     }
+    workers
 }
 
 /// Takes the passes of the workers in, and gives their kits back.
@@ -201,11 +217,11 @@ fn gather<T: Tasks, D: Dialer + Drop, C: Clock + Drop, K: ClientAuthCheck + Drop
     scheduler: &Scheduler<JWTJobAuthorizer>,
     pass: &mut Pass,
     workers: Vec<Worker<T, D, C, K>>,
-    mut kits: Vec<Kit<T, D, C, K>>,
-) -> Vec<Kit<T, D, C, K>>
-    requires room { vec_len kits + vec_len workers ≤ vec_capacity kits }
-    requires fresh { kits.items ≡ [] }
-    ensures kits { result.items ≡ map (λ w. w.kit) workers.items }
+    kits: &mut Vec<Kit<T, D, C, K>>,
+)
+    requires room { vec_len kits.now + vec_len workers ≤ vec_capacity kits.now }
+    requires none { kits.now.items ≡ [] }
+    ensures kits { kits.new.items ≡ map (λ w. w.kit) workers.items }
     ensures joined { Rises (sum_by (λ w. held_of w.pass) workers.items) (held_of pass.old)
         (held_of pass.new) }
     ensures counted { Rises (sum_by (λ w. count_of w.pass) workers.items) (count_of pass.old)
@@ -218,15 +234,61 @@ fn gather<T: Tasks, D: Dialer + Drop, C: Clock + Drop, K: ClientAuthCheck + Drop
         scheduler.join(pass, theirs);
         kits.push_reserved(kit);
     }
-    kits
 }
 
-/// Runs a worker for each kit, and gives the kits back once all their connections were served. Each link that
-/// a kit gave came back once, in order, with what serving it did to the kit and to a pass of the worker's
-/// own, which counted nothing before the first; and none is left. These passes are joined: the pass then
-/// counts what they counted, and holds one more for each kit. A worker that gets no thread is run by the
-/// caller. Refused for want of memory alone, before any connection was taken: the passes that were made are
-/// then joined, and the kits dropped.
+/// Runs a worker for each kit, and returns once all their connections were served. Each link that a kit gave
+/// came back once, in order, with what serving it did to the kit and to a pass of the worker's own, which
+/// counted nothing before the first; and none is left. These passes are joined: the pass then counts what
+/// they counted, and holds one more for each kit. A worker that gets no thread is run by the caller. Refused
+/// for want of memory alone, before any link was taken: the kits are as they were, and the passes that were
+/// made are joined.
+pub fn serve_scheduler_kits<
+    R: Threads + Wait + Sync,
+    T: Tasks,
+    D: Dialer + Drop + Send,
+    C: Clock + Drop + Send,
+    K: ClientAuthCheck + Drop,
+    V: ServerAuthCheck + Sync,
+>(
+    rt: &R,
+    alloc: Global,
+    scheduler: &Scheduler<JWTJobAuthorizer>,
+    pass: &mut Pass,
+    kits: &mut Vec<Kit<T, D, C, K>>,
+    server: &V,
+) -> Result<(), Memory>
+    ensures len { length kits.new.items ≡ length kits.old.items }
+    ensures worked { OnOk result ((passes : List Told) × (length passes ≡ length kits.old.items)
+        × AreJoined passes pass.old pass.new
+        × ((i : ℕ) (d : _) (p : Told) → i < length kits.old.items
+        → Worked (λ peer. IsReplied (λ r. IsRouted K.may_answer K.shown (V.server_of server.now) r peer))
+        (λ l. record {
+          left = T.L.left l;
+          held = T.L.held l;
+          reads = T.L.Source.faults l;
+          writes = T.L.Sink.faults l;
+        })
+        (T.told (slice_index_or kits.old.items i d).tasks) (T.told (slice_index_or kits.new.items i d).tasks)
+        (around (moments C.moments C.last) D.asked D.faults fresh (slice_index_or kits.old.items i d))
+        (around (moments C.moments C.last) D.asked D.faults (slice_index_or passes i p) (slice_index_or kits.new.items i d)))) }
+    ensures holds { OnOk result (Rises (length kits.old.items) (held_of pass.old) (held_of pass.new)) }
+    ensures untaken { OnErr result (kits.new ≡ kits.old) }
+    ensures left { OnErr result (AreTakenBack (length kits.old.items) pass.old pass.new) }
+{
+    let number = kits.len();
+    let back = Vec::with_capacity(alloc, number)?;
+    let workers = Vec::with_capacity(alloc, number)?;
+    let passes = Vec::with_capacity(alloc, number)?;
+    let passes = split_all(rt, scheduler, pass, number, passes)?;
+    let given = mem::replace(kits, back);
+    let mut workers = hire(given, passes, workers);
+    work_all(rt, alloc, scheduler, server, &mut workers);
+    gather(scheduler, pass, workers, kits);
+    Ok(())
+}
+
+/// As `serve_scheduler_kits`, over kits that are given by value: they are given back, and dropped for want of
+/// memory.
 pub fn serve_scheduler_workers<
     R: Threads + Wait + Sync,
     T: Tasks,
@@ -239,7 +301,7 @@ pub fn serve_scheduler_workers<
     alloc: Global,
     scheduler: &Scheduler<JWTJobAuthorizer>,
     pass: &mut Pass,
-    kits: Vec<Kit<T, D, C, K>>,
+    mut kits: Vec<Kit<T, D, C, K>>,
     server: &V,
 ) -> Result<Vec<Kit<T, D, C, K>>, Memory>
     ensures len { IfOk result (λ back. length back.items ≡ length kits.items) }
@@ -257,10 +319,8 @@ pub fn serve_scheduler_workers<
         (around (moments C.moments C.last) D.asked D.faults fresh (slice_index_or kits.items i d))
         (around (moments C.moments C.last) D.asked D.faults (slice_index_or passes i p) (slice_index_or back.items i d)))) }
     ensures holds { OnOk result (Rises (length kits.items) (held_of pass.old) (held_of pass.new)) }
+    ensures left { OnErr result (AreTakenBack (length kits.items) pass.old pass.new) }
 {
-    let back = Vec::with_capacity(alloc, kits.len())?;
-    let workers = Vec::with_capacity(alloc, kits.len())?;
-    let mut workers = hire(rt, scheduler, pass, kits, workers)?;
-    work_all(rt, alloc, scheduler, server, &mut workers);
-    Ok(gather(scheduler, pass, workers, back))
+    serve_scheduler_kits(rt, alloc, scheduler, pass, &mut kits, server)?;
+    Ok(kits)
 }

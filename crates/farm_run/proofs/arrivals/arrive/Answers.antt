@@ -8,7 +8,8 @@ use Rattle.farm_run.specs.Farm.{acted}
 use Rattle.farm_run.specs.Stations.{now_of}
 use Rattle.farm_run.proofs.ServerLemmas.{place_found, station_there, are_well}
 use Rattle.farm_run.proofs.StandLemmas.{stands_same, stands_stepped}
-use Rattle.farm_run.proofs.RowLemmas.{answered_of, answered_reaches, scheduler_step, server_core, nobody_received}
+use Rattle.farm_run.proofs.RowLemmas.{answered_of, answered_reaches, scheduler_step, server_core}
+use Rattle.farm_run.proofs.RowLemmas.{nobody_received}
 use Rattle.farm_run.proofs.RowLemmas.{server_received, closed_received}
 use Rattle.farm_run.proofs.arrivals.arrive.Goals as goal
 
@@ -49,7 +50,8 @@ returns-in_ok-made-in-Some-clause-received g c =
     c.args.arrival.now.stamp.number c.args.arrival.now.stamp.at c.args.target
     c.args.arrival.now.peer c.args.arrival.now.bytes.now c.in-Some.place st.0 c.in_ok-made-in-Some.made f
     c.requires.stations st.1 (sym c.is_scheduler.ensures ∙ c.if-is_scheduler.false)
-    (sym (c.runs_at.ensures st.0 (ap (λ (xs : List Station). slice_get xs c.in-Some.place) c.deref.ensures.value ∙ st.1))
+    (sym (c.runs_at.ensures st.0 (ap (λ (xs : List Station). slice_get xs c.in-Some.place)
+    c.deref.ensures.value ∙ st.1))
     ∙ c.if-not-runs_at.false)
     (c.in_ok-made-in-Some.ensures.answered f.server st.0 f.there st.1)
     (c.in_ok-made-in-Some.ensures.kept f.server st.0 f.there st.1)
@@ -82,9 +84,11 @@ returns-in_ok-made-in-Some-clause-desk g c =
 
 pub returns-then-not-runs_at-clause-stations : goal.returns-then-not-runs_at-clause-stations
 returns-then-not-runs_at-clause-stations g c =
-    stands_same c.args.desk.now.setup c.args.entries.now c.args.stations.now.items c.whole-then-not-runs_at.result.effect
+    stands_same c.args.desk.now.setup c.args.entries.now c.args.stations.now.items
+    c.whole-then-not-runs_at.result.effect
     c.requires.stations
-    (ap (λ (m : Made). m.effect.step) c.whole-then-not-runs_at.ensures ∙ ap (λ (x : Effect). x.step) c.of_word-then-not-runs_at.ensures)
+    (ap (λ (m : Made). m.effect.step) c.whole-then-not-runs_at.ensures ∙ ap (λ (x : Effect). x.step)
+    c.of_word-then-not-runs_at.ensures)
 
 pub returns-then-not-runs_at-clause-received : goal.returns-then-not-runs_at-clause-received
 returns-then-not-runs_at-clause-received g c =
@@ -93,8 +97,11 @@ returns-then-not-runs_at-clause-received g c =
     c.in-Some.place f.server c.requires.stations f.there in
     closed_received c.args.desk.now.setup c.args.desk.now.state c.args.entries.now c.args.stations.now.items
     c.args.arrival.now.stamp.number c.args.arrival.now.stamp.at c.args.target
-    c.args.arrival.now.peer c.args.arrival.now.bytes.now c.in-Some.place st.0 c.whole-then-not-runs_at.result f
+    c.args.arrival.now.peer c.args.arrival.now.bytes.now c.in-Some.place st.0
+    c.whole-then-not-runs_at.result f
     c.requires.stations st.1 (sym c.is_scheduler.ensures ∙ c.if-is_scheduler.false)
-    (sym (c.runs_at.ensures st.0 (ap (λ (xs : List Station). slice_get xs c.in-Some.place) c.deref.ensures.value
+    (sym (c.runs_at.ensures st.0 (ap (λ (xs : List Station). slice_get xs c.in-Some.place)
+    c.deref.ensures.value
     ∙ st.1)) ∙ c.if-not-runs_at.true)
-    (c.whole-then-not-runs_at.ensures ∙ ap (λ (x : Effect). record { effect = x; pending = None }) c.of_word-then-not-runs_at.ensures)
+    (c.whole-then-not-runs_at.ensures ∙ ap (λ (x : Effect). record { effect = x; pending = None })
+    c.of_word-then-not-runs_at.ensures)

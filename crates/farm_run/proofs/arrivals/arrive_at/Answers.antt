@@ -1,11 +1,43 @@
-use Rattle.std.proofs.Common.{◌≡◌, ◌∙◌, List, length, set, refl, sym, subst, Some}
-use Rattle.std.specs.Prelude.{slice_get}
+use Rattle.std.proofs.Common.{◌≡◌, ◌∙◌, ap, List, length, set, refl, sym, subst, Some}
+use Rattle.std.specs.Prelude.{slice_get, is_some}
 use Rattle.std.proofs.lemmas.Option.{same_Some, slice_get_read}
 use Rattle.farm_run.specs.declared.site.SiteServer.{SiteServer as SetupServer}
-use Rattle.farm_run.specs.Post.{outside_of}
+use Rattle.farm_run.specs.Post.{Post, outside_of}
+use Rattle.farm_run.specs.Served.{IsServerAnswered}
+use Rattle.farm_run.specs.Stations.{now_of}
+use Rattle.farm_run.specs.Weather.{Outside}
+use Rattle.farm_run.proofs.CutLemmas.{cut_at, on_err}
 use Rattle.farm_run.proofs.RowLemmas.{kept_same, step_same}
 use Rattle.farm_run.proofs.StandLemmas.{leaves_same}
 use Rattle.farm_run.proofs.arrivals.arrive_at.Goals as goal
+
+pub returns-in_err-made-in-Some-get_mut-clause-cut : goal.returns-in_err-made-in-Some-get_mut-clause-cut
+returns-in_err-made-in-Some-get_mut-clause-cut g c =
+    on_err c.from_residual.result
+    (cut_at c.args.stations.now.items c.args.place c.in-Some-get_mut.station.now c.serve_at.new.station
+    (slice_get_read c.args.stations.now.items (length c.args.stations.now.items) c.args.place
+    c.in-Some-get_mut.station.now refl c.in-Some-get_mut.ensures.item.3.0 c.in-Some-get_mut.ensures.item.1)
+    (ap (λ (o : Outside). is_some o.builder) c.serve_at.ensures.outside))
+
+pub returns-in_ok-made-in-Some-get_mut-clause-answered :
+    goal.returns-in_ok-made-in-Some-get_mut-clause-answered
+returns-in_ok-made-in-Some-get_mut-clause-answered g c = λ s st at bt.
+    let there : slice_get c.args.desk.now.setup.servers c.args.place ≡ Some c.in-Some.server.now =
+    subst (λ (xs : List SetupServer). slice_get xs c.args.place ≡ Some c.in-Some.server.now)
+    c.get.ensures.items
+    (slice_get_read c.get.result.now (length c.get.result.now) c.args.place c.in-Some.server.now refl
+    c.in-Some.ensures.lookup.3.0 c.in-Some.ensures.lookup.1) in
+    let stands : slice_get c.args.stations.now.items c.args.place ≡ Some c.in-Some-get_mut.station.now =
+    slice_get_read c.args.stations.now.items (length c.args.stations.now.items) c.args.place
+    c.in-Some-get_mut.station.now refl c.in-Some-get_mut.ensures.item.3.0 c.in-Some-get_mut.ensures.item.1
+    in
+    subst (λ (x : SetupServer). IsServerAnswered c.args.desk.now.setup (now_of x st)
+    c.args.arrival.now.stamp.number c.args.arrival.now.bytes.now c.in_ok-made-in-Some-get_mut.made.effect)
+    (same_Some c.in-Some.server.now s (sym there ∙ at))
+    (subst (λ (x : Post). IsServerAnswered c.args.desk.now.setup (now_of c.in-Some.server.now x)
+    c.args.arrival.now.stamp.number c.args.arrival.now.bytes.now c.in_ok-made-in-Some-get_mut.made.effect)
+    (same_Some c.in-Some-get_mut.station.now st (sym stands ∙ bt))
+    c.in_ok-made-in-Some-get_mut.ensures.answered)
 
 pub returns-in_ok-made-in-Some-get_mut-clause-kept : goal.returns-in_ok-made-in-Some-get_mut-clause-kept
 returns-in_ok-made-in-Some-get_mut-clause-kept g c = λ s st at bt.

@@ -4,8 +4,18 @@ use Rattle.std.proofs.lemmas.Option.{slice_get_read}
 use Rattle.farm_run.specs.declared.site.SiteServer.{SiteServer as SetupServer}
 use Rattle.farm_run.specs.declared.pending.Made.{Made}
 use Rattle.farm_run.specs.Stations.{IsRestartedSo}
+use Rattle.farm_run.proofs.CutLemmas.{cut_at, on_err}
 use Rattle.farm_run.proofs.RowLemmas.{no_restart, restart_at}
 use Rattle.farm_run.proofs.arrivals.restart.Goals as goal
+
+pub returns-in_err-effect-in-Some-get_mut-clause-cut :
+    goal.returns-in_err-effect-in-Some-get_mut-clause-cut
+returns-in_err-effect-in-Some-get_mut-clause-cut g c =
+    on_err c.from_residual.result
+    (cut_at c.args.stations.now.items c.in-Some.place c.in-Some-get_mut.station.now c.restart_in.new.station
+    (slice_get_read c.args.stations.now.items (length c.args.stations.now.items) c.in-Some.place
+    c.in-Some-get_mut.station.now refl c.in-Some-get_mut.ensures.item.3.0 c.in-Some-get_mut.ensures.item.1)
+    c.in_err-effect-in-Some-get_mut.ensures.own)
 
 pub returns-in_ok-effect-in-Some-get_mut-clause-none : goal.returns-in_ok-effect-in-Some-get_mut-clause-none
 returns-in_ok-effect-in-Some-get_mut-clause-none g c = λ none.

@@ -1,6 +1,8 @@
-use Rattle.std.proofs.Common.{◌∙◌, [], List, Some, ap, map}
+use Rattle.std.proofs.Common.{◌∙◌, [], List, Some, ap, map, subst, sym}
 use Rattle.farm_script.specs.declared.setup.SetupScheduler.{SetupScheduler}
 use Rattle.farm_script.specs.declared.setup.SetupServer.{SetupServer}
+use Rattle.farm_run.specs.Farm.{Farmed}
+use Rattle.farm_run.specs.Passage.{AreOwn}
 use Rattle.farm_run.specs.Sites.{site_server}
 use Rattle.farm_run.proofs.BeginLemmas.{apart_own}
 use Rattle.farm_run.proofs.begin.setup.Goals as goal
@@ -11,3 +13,7 @@ begun-requires-clause-apart c =
     c.requires.apart (ap (λ (s : SetupScheduler). s.addr) c.in-Ok.ensures)
     (c.new.ensures.items ∙ c.in_ok-servers.ensures.sites
     ∙ ap (λ (ss : List SetupServer). map (site_server (Some [])) ss) c.get.ensures.items)
+
+pub returns-clause-own : goal.returns-clause-own
+returns-clause-own c =
+    subst AreOwn (sym (ap (λ (f : Farmed). f.outside) c.in_ok-farm.ensures.begun)) c.in_ok-servers.ensures.own

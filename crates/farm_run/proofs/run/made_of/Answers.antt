@@ -32,7 +32,8 @@ returns-in_ok-made-in-Request-clause-made g c =
     let s = c.args.desk.now.setup in
     let stand = c.in_ok-made-in-Request.ensures.stations c.args.event.now
     (λ a. ap (restart_by a) c.in-Request.is) in
-    received_made calm s c.args.desk.now.state c.args.entries.now c.args.kept.now.items c.args.stations.now.items
+    received_made calm s c.args.desk.now.state c.args.entries.now c.args.kept.now.items
+    c.args.stations.now.items
     c.arrive.new.stations.items c.args.event.now (length c.args.entries.now) c.args.event.now.at
     (way_to s c.args.entries.now c.in-Request.target c.in-Request.peer c.get.result.now)
     c.in_ok-made-in-Request.made c.requires.farm refl refl
@@ -47,7 +48,8 @@ returns-in_ok-made-in-Deliver-clause-made g c =
     let s = c.args.desk.now.setup in
     let stand = c.in_ok-made-in-Deliver.ensures.stations c.args.event.now
     (λ a. ap (restart_by a) c.in-Deliver.is) in
-    received_made calm s c.args.desk.now.state c.args.entries.now c.args.kept.now.items c.args.stations.now.items
+    received_made calm s c.args.desk.now.state c.args.entries.now c.args.kept.now.items
+    c.args.stations.now.items
     c.deliver.new.stations.items c.args.event.now (length c.args.entries.now) c.args.event.now.at
     (way_of s c.args.entries.now (kind.Deliver c.in-Deliver.call)) c.in_ok-made-in-Deliver.made
     c.requires.farm refl refl (ap (way_of s c.args.entries.now) c.in-Deliver.is)
@@ -68,7 +70,8 @@ returns-in_ok-made-in-Beat-clause-made g c =
     let m = c.in_ok-made-in-Beat.made in
     let stand = stands_same s c.args.entries.now c.args.stations.now.items m.effect c.requires.farm.stations
     c.in_ok-made-in-Beat.ensures.step c.args.event.now (λ a. ap (restart_by a) c.in-Beat.is) in
-    received_made calm s c.args.desk.now.state c.args.entries.now c.args.kept.now.items c.args.stations.now.items
+    received_made calm s c.args.desk.now.state c.args.entries.now c.args.kept.now.items
+    c.args.stations.now.items
     c.args.stations.now.items c.args.event.now (length c.args.entries.now) c.args.event.now.at
     (beat_way (server_now s c.args.entries.now c.in-Beat.server)) m c.requires.farm refl refl
     (ap (way_of s c.args.entries.now) c.in-Beat.is)

@@ -1,5 +1,8 @@
-use Rattle.std.proofs.Common.{ap}
+use Rattle.std.proofs.Common.{ap, map}
 use Rattle.farm_run.specs.declared.desk.Desk.{Desk}
+use Rattle.farm_run.specs.Effects.{entry_of}
+use Rattle.farm_run.specs.Post.{outside_of}
+use Rattle.farm_run.proofs.CutLemmas.{cut_moved}
 use Rattle.farm_run.proofs.MadeLemmas.{farm_next}
 use Rattle.farm_run.proofs.run.make.Goals as goal
 
@@ -18,3 +21,9 @@ returns-in-Ok-clause-farm g c =
     (rw (c.deref.ensures.value, c.reserve.ensures.items) at c.in_ok-made.ensures.made)
     (ap (λ (d : Desk). d.setup) c.in_ok-made.ensures.desk)
     (ap (λ (d : Desk). d.state) c.in_ok-made.ensures.desk))
+
+pub returns-in-Err-clause-cut : goal.returns-in-Err-clause-cut
+returns-in-Err-clause-cut g c =
+    let is = c.in_ok-made.ensures.made in
+    cut_moved c.args.desk.now.setup (entry_of c.args.event.now c.in_ok-made.made.effect) is.weather
+    (map outside_of c.args.stations.now.items) (map outside_of c.made_of.new.stations.items) is.moved

@@ -8,7 +8,8 @@ use Rattle.farm_run.proofs.servers.serve_at.Goals as goal
 
 pub returns-clause-answered : goal.returns-clause-answered
 returns-clause-answered g c =
-    let asks = subst (λ (k : List ℕ). IsServerAsked (job_verdict k) c.args.arrival.now.bytes.now c.in-Ok.question)
+    let asks = subst (λ (k : List ℕ). IsServerAsked (job_verdict k) c.args.arrival.now.bytes.now
+    c.in-Ok.question)
     c.authorizer.ensures c.in-Ok.ensures.ok in
     server_answered c.args.desk.now.setup (now_of c.args.server.now c.args.station.now)
     c.args.arrival.now.stamp.number c.args.arrival.now.bytes.now c.in-Ok.question c.serve_asked.result asks
@@ -16,7 +17,8 @@ returns-clause-answered g c =
 
 pub returns-clause-kept : goal.returns-clause-kept
 returns-clause-kept g c =
-    let asks = subst (λ (k : List ℕ). IsServerAsked (job_verdict k) c.args.arrival.now.bytes.now c.in-Ok.question)
+    let asks = subst (λ (k : List ℕ). IsServerAsked (job_verdict k) c.args.arrival.now.bytes.now
+    c.in-Ok.question)
     c.authorizer.ensures c.in-Ok.ensures.ok in
     server_kept c.args.desk.now.setup c.args.desk.now.state.log (now_of c.args.server.now c.args.station.now)
     c.args.arrival.now.stamp.number c.args.arrival.now.bytes.now c.in-Ok.question c.serve_asked.result asks

@@ -2,8 +2,31 @@ use Rattle.std.proofs.Common.{◌≡◌, ◌∙◌, List, length, set, refl, sym
 use Rattle.std.specs.Prelude.{slice_get, option_copied}
 use Rattle.std.proofs.lemmas.Option.{same_Some, slice_get_read}
 use Rattle.farm_run.specs.declared.site.SiteServer.{SiteServer as SetupServer}
+use Rattle.farm_run.specs.declared.pending.Pending.{Pending}
+use Rattle.farm_run.specs.Begun.{Keeps, completion_at}
+use Rattle.farm_run.proofs.CutLemmas.{cut_at, on_err}
 use Rattle.farm_run.proofs.RowLemmas.{report_same}
 use Rattle.farm_run.proofs.settlements.report_at.Goals as goal
+
+pub returns-in_err-made-in-Some-get_mut-clause-cut : goal.returns-in_err-made-in-Some-get_mut-clause-cut
+returns-in_err-made-in-Some-get_mut-clause-cut g c =
+    on_err c.from_residual.result
+    (cut_at c.args.stations.now.items c.args.place c.in-Some-get_mut.station.now c.report_in.new.station
+    (slice_get_read c.args.stations.now.items (length c.args.stations.now.items) c.args.place
+    c.in-Some-get_mut.station.now refl c.in-Some-get_mut.ensures.item.3.0 c.in-Some-get_mut.ensures.item.1)
+    c.in_err-made-in-Some-get_mut.ensures.own)
+
+pub returns-in_ok-made-in-Some-get_mut-clause-kept : goal.returns-in_ok-made-in-Some-get_mut-clause-kept
+returns-in_ok-made-in-Some-get_mut-clause-kept g c = λ s st at bt.
+    let there : slice_get c.args.desk.now.setup.servers c.args.place ≡ Some c.in-Some.server.now =
+    subst (λ (xs : List SetupServer). slice_get xs c.args.place ≡ Some c.in-Some.server.now)
+    c.get.ensures.items
+    (slice_get_read c.get.result.now (length c.get.result.now) c.args.place c.in-Some.server.now refl
+    c.in-Some.ensures.lookup.3.0 c.in-Some.ensures.lookup.1) in
+    let m = c.in_ok-made-in-Some-get_mut.made in
+    subst (λ (x : SetupServer). Keeps (λ (p : Pending). completion_at c.args.back.now.root
+    c.args.back.now.json x.addr c.args.back.now.life m.effect.step ≡ Some p) m.effect m.pending)
+    (same_Some c.in-Some.server.now s (sym there ∙ at)) c.in_ok-made-in-Some-get_mut.ensures.kept
 
 pub returns-in_ok-made-in-Some-get_mut-clause-step : goal.returns-in_ok-made-in-Some-get_mut-clause-step
 returns-in_ok-made-in-Some-get_mut-clause-step g c = λ s st at bt.

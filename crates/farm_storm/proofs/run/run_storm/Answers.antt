@@ -1,3 +1,5 @@
+use Rattle.std.proofs.Common.{◌≡◌, ℕ, subst, arith}
+use Rattle.farm_storm.specs.Summary.{IsStormed}
 use Rattle.farm_storm.proofs.StormLemmas.{more_run}
 use Rattle.farm_storm.proofs.run.run_storm.Goals as goal
 
@@ -5,3 +7,9 @@ pub loop-number-preserved : goal.loop-number-preserved
 loop-number-preserved c =
     more_run c.loop-number.number c.loop-number.farm c.in_ok-farm-2.farm c.loop-number.invariant
     c.in_ok-farm-2.ensures.ok
+
+pub returns-clause-ok : goal.returns-clause-ok
+returns-clause-ok c =
+    let all : c.loop-number.number ≡ c.args.count =
+    omega (arith, c.loop-number-test.false, c.loop-number.auto.number-end) in
+    subst (λ (n : ℕ). IsStormed n c.loop-number.farm) all c.loop-number.invariant

@@ -1,4 +1,5 @@
-use Rattle.std.proofs.Common.{◌≡◌, length, map, vec_capacity}
+use Rattle.std.proofs.Common.{◌≡◌, ◌+◌, length, map, vec_len, vec_capacity}
+use Rattle.std.specs.Prelude.{All}
 use Rattle.std.specs.List.{sum_by}
 use Rattle.sched.specs.Pass.{fresh, held_of}
 use Rattle.scheduler_service.proofs.workers.hire.Given as goal
@@ -9,5 +10,6 @@ invariant-loop-kit g l = record {
   began : map (λ w. w.pass) l.workers.items ≡ map (λ _. fresh) l.yielded;
   hold : sum_by (λ w. held_of w.pass) l.workers.items ≡ length l.yielded;
   room : vec_capacity l.workers ≡ vec_capacity l.initial.workers;
-  same : l.pass ≡ l.initial.pass;
+  enough : vec_len l.passes + length l.yielded ≡ vec_len l.initial.passes;
+  all : All (λ p. p ≡ fresh) l.passes.items;
 }

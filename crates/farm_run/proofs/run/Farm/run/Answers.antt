@@ -3,8 +3,9 @@ use Rattle.std.proofs.lemmas.List.{take_more}
 use Rattle.std.proofs.lemmas.Result.{err_from_is_err_and}
 use Rattle.farm_run.proofs.NextLemmas.{run_lawful}
 use Rattle.farm_run.proofs.ReliableLemmas.{run_reliable}
-use Rattle.farm_run.specs.Weather.{free}
-use Rattle.farm_run.proofs.FarmLemmas.{Runs-push, Runs-entries, Runs-is, Runs-builds, Runs-stopped}
+use Rattle.farm_run.specs.Weather.{calm, free}
+use Rattle.farm_run.proofs.FarmLemmas.{Runs-push, Runs-entries, Runs-is, Runs-own, Runs-calm, Runs-builds}
+use Rattle.farm_run.proofs.FarmLemmas.{Runs-stopped}
 use Rattle.farm_run.proofs.run.Farm.run.Goals as goal
 
 pub loop-event-preserved : goal.loop-event-preserved
@@ -27,6 +28,7 @@ returns-in_err-farm-clause-err g c =
         c.loop-event.farm.outside,
         Runs-entries c.args.self (take c.loop-event.event-index c.args.events.now) c.loop-event.farm
             c.in_err-farm.field-0.0.entries c.loop-event.invariant c.in_err-farm.ensures.err,
+        c.in_err-farm.ensures.back,
       ),
     )
 
@@ -59,6 +61,16 @@ returns-in_err-farm-clause-stopped_reliable g c =
     c.in_err-farm.ensures.run)
     )
 
+pub returns-in_err-farm-clause-stopped_calmly : goal.returns-in_err-farm-clause-stopped_calmly
+returns-in_err-farm-clause-stopped_calmly g c =
+    let p = err_from_is_err_and c.from_residual.result c.from_residual.ensures.1 in
+    rw (p.1, p.2) (λ own.
+    run_reliable calm c.args.self.setup c.in_err-farm.field-0.0.entries
+    (Runs-calm c.args.self (take c.loop-event.event-index c.args.events.now) c.loop-event.farm
+    c.in_err-farm.field-0.0.entries c.loop-event.invariant c.in_err-farm.ensures.err
+    c.in_err-farm.ensures.calmly own)
+    )
+
 pub returns-clause-laws : goal.returns-clause-laws
 returns-clause-laws g c = run_lawful c.loop-event.farm.setup c.loop-event.farm.entries c.obey.ensures.fits
     c.obey.ensures.run
@@ -69,4 +81,11 @@ returns-clause-builds g c =
     c.words.ensures.count c.words.ensures.words c.loop-event.invariant c.obey.ensures.run
 
 pub returns-clause-reliable : goal.returns-clause-reliable
-returns-clause-reliable g c = run_reliable free c.loop-event.farm.setup c.loop-event.farm.entries c.obey.ensures.run
+returns-clause-reliable g c =
+    run_reliable free c.loop-event.farm.setup c.loop-event.farm.entries c.obey.ensures.run
+
+pub returns-clause-calmly : goal.returns-clause-calmly
+returns-clause-calmly g c = λ own.
+    run_reliable calm c.loop-event.farm.setup c.loop-event.farm.entries (c.obey.ensures.calmly
+    (Runs-own c.args.self (take c.loop-event.event-index c.args.events.now) c.loop-event.farm
+    c.loop-event.invariant own))

@@ -12,6 +12,6 @@ returns-in-Ok-list-clause-opens g c =
     c.args.nonce
     (subst (λ (st : Post). IsWell c.args.server.now st) (sym c.self.view_is) c.requires.well)
     (rw (← c.take-state.ensures.value, ← c.take-closed.ensures.value) c.in-Ok.ensures.opened)
-    c.in-Ok-list.ensures (λ e. c.self.invariant (unmapped _ c.self.inside.builder e))
+    c.in-Ok-list.ensures (λ e. c.self.invariant.0 (unmapped _ c.self.inside.builder e))
     (subst (λ (st : Post). (is_none st.builder && not st.running) ≡ _) (sym c.self.view_is)
     (sym c.is_shut.ensures ∙ c.if-is_shut.false)))

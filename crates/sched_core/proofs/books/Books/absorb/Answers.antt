@@ -4,7 +4,7 @@ use Rattle.sched_core.proofs.VectorLemmas.{has_rooms, opened}
 use Rattle.sched_core.proofs.books.Books.absorb.Goals as goal
 
 pub invariant_of-self : goal.invariant_of-self
-invariant_of-self c =
+invariant_of-self g c =
     let old = c.self.inside.vectors in
     let new = c.absorb.new.books in
     let step = c.args.step.now in
@@ -14,3 +14,9 @@ invariant_of-self c =
     (rw (← c.self.view_is) at c.requires.spends)
     (λ may. (has_rooms old (rw (← c.self.view_is) at (c.requires.job_room may))).1) c.self.invariant
     c.absorb.ensures.open_len c.absorb.ensures.open_capacity)
+
+pub absorb-requires-clause-sound : goal.absorb-requires-clause-sound
+absorb-requires-clause-sound g c = rw (← c.self.view_is) at c.requires.sound
+
+pub absorb-requires-clause-above : goal.absorb-requires-clause-above
+absorb-requires-clause-above g c = rw (← c.self.view_is) at c.requires.above

@@ -43,8 +43,8 @@ returns-then-not-is_unspent-clause-answer g c =
       c.job_id-job.ensures.job,
     ) refl
 
-pub take-requires-clause-rule : goal.take-requires-clause-rule
-take-requires-clause-rule g c κs within =
+pub take_uncounted-requires-clause-rule : goal.take_uncounted-requires-clause-rule
+take_uncounted-requires-clause-rule g c κs within =
     let s = c.self.inside in
     let a = c.args in
     let number = c.number-number.result in
@@ -59,13 +59,13 @@ take-requires-clause-rule g c κs within =
       ap (λ b. record { now = a.now; kind = Commit job a.state b }) kept,
     )
 
-pub take-requires-clause-spends : goal.take-requires-clause-spends
-take-requires-clause-spends g c κs within =
+pub take_uncounted-requires-clause-spends : goal.take_uncounted-requires-clause-spends
+take_uncounted-requires-clause-spends g c κs within =
     spends_one c.self.inside.books.lists.unspent c.number-number.result c.job_id-job.result
     (sym c.is_unspent.ensures ∙ c.if-not-is_unspent.false)
 
-pub take-requires-clause-log_room : goal.take-requires-clause-log_room
-take-requires-clause-log_room g c κs within =
+pub take_uncounted-requires-clause-log_room : goal.take_uncounted-requires-clause-log_room
+take_uncounted-requires-clause-log_room g c κs within =
     let s = c.self.inside in
     let a = c.args in
     let number = c.number-number.result in
@@ -95,7 +95,7 @@ returns-clause-logged g c =
     ∙ ap (is_among (unended s.log.items) a.r.number) c.job_id-job.ensures.job in
     rw (
       ← c.self.view_is,
-      c.take.ensures.log,
+      c.take_uncounted.ensures.log,
       c.job_id-job.ensures.job,
       sym asked ∙ sym among ∙ sym listed
           ∙ c.if-not-is_unspent.false,
@@ -121,5 +121,6 @@ returns-clause-answer g c =
     (c.committed.ensures
     ∙ ap (λ x. if c.is_held-kept.result then committed.Kept x else committed.Dropped x.job_id)
     c.into_alloc-alloc.ensures.alloc
-    ∙ ap (λ b. if b then committed.Kept (record { auth = a.r.auth; job_id = a.r.job; server_id = a.r.server })
+    ∙ ap (λ b. if b then committed.Kept
+    (record { auth = a.r.auth; job_id = a.r.job; server_id = a.r.server })
     else committed.Dropped a.r.job) kept_r)

@@ -4,10 +4,12 @@ use Rattle.sched_core.specs.Laws.{IsRule}
 use Rattle.sched_core.specs.declared.call.Call.TheVariants as call
 use Rattle.sched_core.proofs.LegalLemmas.{core_of}
 use Rattle.sched_core.proofs.BookLemmas.{log_room-one}
+use Rattle.std.proofs.Common.{refl, arith}
+use Rattle.sched_core.proofs.MostLemmas.{still_state}
 use Rattle.sched_core.proofs.state.SchedState.status.Goals as goal
 
-pub take-requires-clause-rule : goal.take-requires-clause-rule
-take-requires-clause-rule g c κs within =
+pub take_uncounted-requires-clause-rule : goal.take_uncounted-requires-clause-rule
+take_uncounted-requires-clause-rule g c κs within =
     let s = c.self.inside in
     let entry = rw (
       c.in_ok-pruned.ensures,
@@ -18,20 +20,30 @@ take-requires-clause-rule g c κs within =
     subst (λ l. IsRule (core_of s.base s.count l) c.status_entry-entry.result)
     (sym c.in_ok-make_log_room.ensures.log) (call.Status c.args.now, tt, entry)
 
-pub take-requires-clause-spends : goal.take-requires-clause-spends
-take-requires-clause-spends g c κs within = rw c.status_entry-entry.ensures tt
+pub take_uncounted-requires-clause-spends : goal.take_uncounted-requires-clause-spends
+take_uncounted-requires-clause-spends g c κs within = rw c.status_entry-entry.ensures tt
 
-pub take-requires-clause-row_room : goal.take-requires-clause-row_room
-take-requires-clause-row_room g c κs within = rw c.status_entry-entry.ensures (λ may. absurd may)
+pub take_uncounted-requires-clause-row_room : goal.take_uncounted-requires-clause-row_room
+take_uncounted-requires-clause-row_room g c κs within = rw c.status_entry-entry.ensures (λ may. absurd may)
 
-pub take-requires-clause-job_room : goal.take-requires-clause-job_room
-take-requires-clause-job_room g c κs within = rw c.status_entry-entry.ensures (λ may. absurd may)
+pub take_uncounted-requires-clause-job_room : goal.take_uncounted-requires-clause-job_room
+take_uncounted-requires-clause-job_room g c κs within = rw c.status_entry-entry.ensures (λ may. absurd may)
 
-pub take-requires-clause-keys_room : goal.take-requires-clause-keys_room
-take-requires-clause-keys_room g c κs within = rw c.status_entry-entry.ensures (λ may. absurd may)
+pub take_uncounted-requires-clause-keys_room : goal.take_uncounted-requires-clause-keys_room
+take_uncounted-requires-clause-keys_room g c κs within = rw c.status_entry-entry.ensures (λ may. absurd may)
 
-pub take-requires-clause-log_room : goal.take-requires-clause-log_room
-take-requires-clause-log_room g c κs within =
+pub take_uncounted-requires-clause-log_room : goal.take_uncounted-requires-clause-log_room
+take_uncounted-requires-clause-log_room g c κs within =
     log_room-one c.self.inside.books.lists c.status_entry-entry.result (length c.make_log_room.new.log.items)
     (vec_len c.make_log_room.new.log) (vec_capacity c.make_log_room.new.log)
     c.in_ok-make_log_room.ensures.spare
+
+pub take_uncounted-requires-clause-state : goal.take_uncounted-requires-clause-state
+take_uncounted-requires-clause-state g c κs within =
+    let s = c.self.inside in
+    still_state s.base s.count s.books s.books s.keys.items s.keys.items s.log.items
+    c.make_log_room.new.log.items
+    (vec_len s.log) (vec_capacity s.log) (vec_len c.make_log_room.new.log)
+    (vec_capacity c.make_log_room.new.log)
+    c.self.invariant refl refl c.in_ok-make_log_room.ensures.log c.in_ok-make_log_room.ensures.log_room
+    (omega arith) (omega arith)

@@ -42,8 +42,8 @@ returns-then-not-is_unspent-clause-answer g c =
     ∙ ap (is_among (unspent s.log.items) a.r.number) c.job_id-job.ensures.job in
     rw (← c.self.view_is, sym asked ∙ sym among ∙ sym listed ∙ c.if-not-is_unspent.true) refl
 
-pub take-requires-clause-rule : goal.take-requires-clause-rule
-take-requires-clause-rule g c κs within =
+pub take_uncounted-requires-clause-rule : goal.take_uncounted-requires-clause-rule
+take_uncounted-requires-clause-rule g c κs within =
     let s = c.self.inside in
     let a = c.args in
     let number = c.number-number.result in
@@ -73,13 +73,13 @@ take-requires-clause-rule g c κs within =
           }) gone,
     )
 
-pub take-requires-clause-spends : goal.take-requires-clause-spends
-take-requires-clause-spends g c κs within =
+pub take_uncounted-requires-clause-spends : goal.take_uncounted-requires-clause-spends
+take_uncounted-requires-clause-spends g c κs within =
     spends_one c.self.inside.books.lists.unspent c.number-number.result c.job_id-job.result
     (sym c.is_unspent.ensures ∙ c.if-not-is_unspent.false)
 
-pub take-requires-clause-log_room : goal.take-requires-clause-log_room
-take-requires-clause-log_room g c κs within =
+pub take_uncounted-requires-clause-log_room : goal.take_uncounted-requires-clause-log_room
+take_uncounted-requires-clause-log_room g c κs within =
     let s = c.self.inside in
     let a = c.args in
     let number = c.number-number.result in
@@ -120,7 +120,13 @@ returns-clause-logged g c =
     (option_and_then (address_of s.log.items) (place_at s.log.items n))) c.number-number.ensures.number in
     let gone_r = gone ∙ ap (λ n. is_among (unended s.log.items) n job) c.number-number.ensures.number
     ∙ ap (is_among (unended s.log.items) a.r.number) c.job_id-job.ensures.job in
-    rw (← c.self.view_is, c.take.ensures.log, c.job_id-job.ensures.job, sym asked ∙ sym among ∙ owned)
+    rw (
+      ← c.self.view_is,
+      c.take_uncounted.ensures.log,
+      c.job_id-job.ensures.job,
+      sym asked ∙ sym among
+          ∙ owned,
+    )
     (ap (λ n. logged (core_of s.base s.count s.log.items) (undo_by n c.is_held-ended.result a.now a.r.job))
     noted_r
     ∙ ap (λ b. logged (core_of s.base s.count s.log.items)

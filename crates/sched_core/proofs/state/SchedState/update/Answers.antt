@@ -11,10 +11,12 @@ use Rattle.sched_core.specs.declared.call.Call.TheVariants as call
 use Rattle.sched_core.proofs.LegalLemmas.{core_of}
 use Rattle.sched_core.proofs.BookLemmas.{log_room-one}
 use Rattle.sched_core.proofs.StateLemmas.{on_ok, verdict_leaves}
+use Rattle.std.proofs.Common.{refl, arith}
+use Rattle.sched_core.proofs.MostLemmas.{still_state}
 use Rattle.sched_core.proofs.state.SchedState.update.Goals as goal
 
-pub take-requires-clause-rule : goal.take-requires-clause-rule
-take-requires-clause-rule g c κs within =
+pub take_uncounted-requires-clause-rule : goal.take_uncounted-requires-clause-rule
+take_uncounted-requires-clause-rule g c κs within =
     let s = c.self.inside in
     let a = c.args in
     let step : CoreEntry = record {
@@ -29,8 +31,8 @@ take-requires-clause-rule g c κs within =
       ap (λ r. record { now = a.now; kind = Update a.server a.job a.state r }) answer,
     )
 
-pub take-requires-clause-log_room : goal.take-requires-clause-log_room
-take-requires-clause-log_room g c κs within = log_room-one c.self.inside.books.lists
+pub take_uncounted-requires-clause-log_room : goal.take_uncounted-requires-clause-log_room
+take_uncounted-requires-clause-log_room g c κs within = log_room-one c.self.inside.books.lists
     (record {
       now = c.args.now;
       kind = Update c.args.server c.args.job c.args.state c.answer_by-answer.result;
@@ -43,7 +45,7 @@ returns-clause-logged g c =
     let a = c.args in
     let answer : c.answer_by-answer.result ≡ advance (open_rows s.log.items) a.server a.job a.state =
     rw (c.open_job-found.ensures, c.self.invariant.books.open_ones) at c.answer_by-answer.ensures in
-    rw (← c.self.view_is, c.take.ensures.log, c.in_ok-make_log_room.ensures.log)
+    rw (← c.self.view_is, c.take_uncounted.ensures.log, c.in_ok-make_log_room.ensures.log)
     (on_ok c.updated.result _
     (ap (λ r. logged (core_of s.base s.count s.log.items)
     (record { now = a.now; kind = Update a.server a.job a.state r })) answer))
@@ -62,7 +64,17 @@ returns-clause-err g c =
     let a = c.args in
     let answer : c.answer_by-answer.result ≡ advance (open_rows s.log.items) a.server a.job a.state =
     rw (c.open_job-found.ensures, c.self.invariant.books.open_ones) at c.answer_by-answer.ensures in
-    rw (c.updated.ensures, ← c.self.view_is, c.take.ensures.log, c.in_ok-make_log_room.ensures.log)
+    rw (c.updated.ensures, ← c.self.view_is, c.take_uncounted.ensures.log, c.in_ok-make_log_room.ensures.log)
     (verdict_leaves c.answer_by-answer.result a.state (core_of s.base s.count s.log.items) _ _
     (ap (λ r. logged (core_of s.base s.count s.log.items)
     (record { now = a.now; kind = Update a.server a.job a.state r })) answer))
+
+pub take_uncounted-requires-clause-state : goal.take_uncounted-requires-clause-state
+take_uncounted-requires-clause-state g c κs within =
+    let s = c.self.inside in
+    still_state s.base s.count s.books s.books s.keys.items s.keys.items s.log.items
+    c.make_log_room.new.log.items
+    (vec_len s.log) (vec_capacity s.log) (vec_len c.make_log_room.new.log)
+    (vec_capacity c.make_log_room.new.log)
+    c.self.invariant refl refl c.in_ok-make_log_room.ensures.log c.in_ok-make_log_room.ensures.log_room
+    (omega arith) (omega arith)

@@ -1,0 +1,48 @@
+-- What a reserve costs in looks.
+use Rattle.std.proofs.Common.{◌≡◌, ◌≤◌, ℕ, suc, ◌+◌, ◌*◌, ◌^◌, length, max, ap, ◌∙◌, arith}
+use Rattle.std.proofs.Math.Nat.{pow-suc}
+use Rattle.sched_core.specs.declared.entry.Reserved.{Reserved}
+use Rattle.sched_core.specs.declared.entry.Reserved.TheVariants.{Job, NoRoom, Spent}
+use Rattle.sched_core.specs.Registrations.{forgiven_in, reserve_looks, decide_looks}
+
+-- the sum of both parts, where there are at most 2^(h + 1) places
+sum_of : (h k first second third : ℕ) → second ≤ first + (2 * (h + 1) * k + 3)
+    → third ≤ second + (2 * k + 1) * (2 * (h + 1) + 1) → third ≤ first + (6 * h + 8) * (1 + k)
+sum_of h k first second third one two = omega (arith, one, two)
+
+decided : (h k first second : ℕ) → second ≤ first + (2 * (h + 1) * k + 3)
+    → second ≤ first + (6 * h + 8) * (1 + k)
+decided h k first second one = omega (arith, one)
+
+little : (h first second : ℕ) → second ≤ first + 2 → second ≤ first + (6 * h + 8) * (1 + 0)
+little h first second one = omega (arith, one)
+
+-- deciding alone is within the bound
+pub decide_bound : (reserved : Reserved) (h first second : ℕ)
+    → second ≤ first + decide_looks reserved (h + 1)
+    → second ≤ first + (6 * h + 8) * (1 + length (forgiven_in reserved))
+decide_bound (Job job reg forgiven) h first second one = decided h (length forgiven) first second one
+decide_bound (NoRoom n) h first second one = little h first second one
+decide_bound Spent h first second one = little h first second one
+
+-- and so is the whole
+pub reserve_bound : (reserved : Reserved) (h first second third : ℕ)
+    → second ≤ first + decide_looks reserved (h + 1)
+    → third ≤ second + reserve_looks reserved (h + 1)
+    → third ≤ first + (6 * h + 8) * (1 + length (forgiven_in reserved))
+reserve_bound (Job job reg forgiven) h first second third one two =
+    sum_of h (length forgiven) first second third one two
+reserve_bound (NoRoom n) h first second third one two = little h first third (omega (arith, one, two))
+reserve_bound Spent h first second third one two = little h first third (omega (arith, one, two))
+
+-- the places are at most twice the power
+pub twice_power : (places most h : ℕ) → places ≤ 2 * max 1 most → max 1 most ≤ 2 ^ h → places ≤ 2 ^ (h + 1)
+twice_power places most h few fits =
+    let twice : 2 ^ (h + 1) ≡ 2 * 2 ^ h = ap (λ n. 2 ^ n) (one_more h) ∙ double h in
+    omega (arith, few, fits, twice)
+  where
+    one_more : (n : ℕ) → n + 1 ≡ suc n
+    one_more n = omega arith
+
+    double : (n : ℕ) → 2 ^ suc n ≡ 2 * 2 ^ n
+    double n = let p = pow-suc 2 n in omega (arith, p)

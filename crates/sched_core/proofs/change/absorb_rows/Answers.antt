@@ -1,0 +1,26 @@
+use Rattle.std.proofs.Common.{◌∙◌}
+use Rattle.sched_core.proofs.ChangeLemmas.{reserve_whole}
+use Rattle.sched_core.proofs.change.absorb_rows.Goals as goal
+
+pub returns-in-Reserve-clause-rows : goal.returns-in-Reserve-clause-rows
+returns-in-Reserve-clause-rows g c =
+    c.reserve.ensures.rows ∙ reserve_whole c.args.step.now c.args.held.now c.args.open_ones.now
+    c.args.rows.now.rows c.in-Reserve.reserved c.in-Reserve.is
+
+pub returns-in-Reserve-clause-looks : goal.returns-in-Reserve-clause-looks
+returns-in-Reserve-clause-looks g c = rw c.in-Reserve.is (λ h le. c.reserve.ensures.looks h le)
+
+pub returns-in-Commit-clause-looks : goal.returns-in-Commit-clause-looks
+returns-in-Commit-clause-looks g c = rw c.in-Commit.is (λ h le. tt)
+
+pub returns-in-Undo-clause-looks : goal.returns-in-Undo-clause-looks
+returns-in-Undo-clause-looks g c = rw c.in-Undo.is (λ h le. tt)
+
+pub returns-in-Beat-clause-looks : goal.returns-in-Beat-clause-looks
+returns-in-Beat-clause-looks g c = rw c.in-Beat.is (λ h le. tt)
+
+pub returns-in-Update-clause-looks : goal.returns-in-Update-clause-looks
+returns-in-Update-clause-looks g c = rw c.in-Update.is (λ h le. tt)
+
+pub returns-in-Status-clause-looks : goal.returns-in-Status-clause-looks
+returns-in-Status-clause-looks g c = rw c.in-Status.is (λ h le. tt)

@@ -1,0 +1,93 @@
+//! What a call decides over the registrations that stand.
+ghost use Rattle.std.specs.Prelude.{◌≡◌, ◌≤◌, ◌<◌, ◌+◌, ◌^◌, ℕ, IfOk, length, filter};
+ghost use Rattle.sched_core.specs.Pick.{pick, forgiven};
+ghost use Rattle.sched_core.specs.Prune.{prune};
+ghost use Rattle.sched_core.specs.Rule.{noted_over, reserved_at, counts_over};
+ghost use Rattle.sched_core.specs.Registrations.{decide_looks};
+
+use crate::entry::Reserved;
+use crate::registrations::Registrations;
+use crate::rows::OpenRow;
+use crate::rules::jobs_left;
+use dist_types::ids::{JobId, ServerId};
+use dist_types::results::SchedulerStatusResult;
+use dist_types::text::Items;
+use std::alloc::{AllocError, Global};
+use std::sync::ledger::{Blank, Ledger};
+use winner_tree::Steps;
+
+/// The number of the registration that stands at an address, if there is one.
+pub fn noted(rows: &Registrations, server: Option<ServerId>) -> Option<u64>
+    ensures { result ≡ noted_over rows.now.rows server }
+{
+    match server {
+        Some(server) => {
+            let row = rows.at(server)?;
+            Some(row.reg)
+        }
+        None => None,
+    }
+}
+
+/// The registrations that are silent for too long. Refused for want of memory alone.
+pub fn pruned<L: Ledger>(
+    alloc: Global,
+    rows: &Registrations,
+    now: u64,
+    blank: Blank,
+) -> Result<Vec<u64>, AllocError>
+    requires name { blank.name ≡ L.name }
+    requires parts { blank.parts ≡ L.parts }
+    requires some { 0 < blank.parts }
+    ensures { IfOk result (λ v. v.items ≡ prune now rows.now.rows) }
+{
+    let mut steps = Steps::<L>::new(blank);
+    rows.pruned(alloc, now, &mut steps)
+}
+
+/// The numbers of a status that prunes those registrations.
+pub fn counts(
+    rows: &Registrations,
+    jobs: &[OpenRow],
+    pruned: &[u64],
+    now: u64,
+) -> SchedulerStatusResult
+    requires { pruned.now ≡ prune now rows.now.rows }
+    ensures { result ≡ counts_over rows.now.rows jobs.now now }
+{
+    SchedulerStatusResult {
+        num_servers: (rows.len() - pruned.len()) as u64,
+        num_cpus: rows.cpus_left(now),
+        in_progress: jobs_left(pruned, jobs),
+    }
+}
+
+/// What becomes of a reserve, where so many ids were given before. Refused for want of memory alone. Errors
+/// are looked for only where a job is reserved.
+pub fn reserved<L: Ledger>(
+    alloc: Global,
+    rows: &Registrations,
+    now: u64,
+    base: u64,
+    given: u128,
+    steps: &mut Steps<L>,
+) -> Result<Reserved, AllocError>
+    requires fits { given < 2 ^ 66 }
+    ensures reserved { IfOk result (λ r. r ≡ reserved_at (pick rows.now.rows) rows.now.rows now base given) }
+    ensures looks { (h : ℕ) → rows.now.places.count ≤ 2 ^ h → steps.new ≤ steps.old + decide_looks
+        (reserved_at (pick rows.now.rows) rows.now.rows now base given) h }
+{
+    let Some(row) = rows.pick(steps) else {
+        return Ok(Reserved::NoRoom(rows.len() as u64));
+    };
+    if given == u128::from(u64::MAX) {
+        return Ok(Reserved::Spent);
+    }
+    let numbers = rows.forgiven(alloc, now, steps)?;
+    let job = JobId(((u128::from(base) + given) % 18446744073709551616) as u64);
+    Ok(Reserved::Job {
+        job,
+        reg: row.reg,
+        forgiven: Items::new(numbers),
+    })
+}

@@ -1,0 +1,6 @@
+pub mod BoardLemmas
+pub mod EarlyLemmas
+pub mod MatchLemmas
+pub mod OpenLemmas
+pub mod PlainLemmas
+pub mod TreeLemmas

@@ -1,0 +1,4 @@
+pub mod KeyLaws
+pub mod Keys
+pub mod Matches
+pub mod Winner
