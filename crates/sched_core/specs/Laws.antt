@@ -21,7 +21,7 @@ use Rattle.sched_core.specs.Job.{Committed, commits, open_jobs, moves_of}
 use Rattle.sched_core.specs.Pick.{has_room, is_faultless, is_lighter, is_older}
 use Rattle.sched_core.specs.Rows.{servers_of, job_row, jobs_of}
 use Rattle.sched_core.specs.Advance.{follows}
-use Rattle.sched_core.specs.Rule.{rule, IsCall, begins}
+use Rattle.sched_core.specs.Rule.{rule, IsCall, is_initial}
 
 -- the entry is the rule's for some call
 abbrev pub IsRule : Core → CoreEntry → Type 0
@@ -82,7 +82,7 @@ IsChain from (to ∷ states) = (follows from to ≡ true) × IsChain to states
 
 -- the states of a committed job begin with pending or ready, and leave none out from there on
 abbrev pub HasOrder : Committed → Type 0
-HasOrder c = (begins c.state ≡ true) × IsChain c.state (moves_of c)
+HasOrder c = (is_initial c.state ≡ true) × IsChain c.state (moves_of c)
 
 -- the job has exactly one unended reservation, and its registration stands
 abbrev pub IsHeldOnce : List CoreEntry → JobId → Type 0

@@ -148,16 +148,16 @@ rule s (call.Update now server job state) = update_over (open_rows s.log) now se
 rule s (call.Status now) = status_over (servers_of s.log) (open_rows s.log) now
 
 -- a job is committed pending or ready
-abbrev pub begins : JobState → Bool
-begins Pending = true
-begins Ready = true
-begins other = false
+abbrev pub is_initial : JobState → Bool
+is_initial Pending = true
+is_initial Ready = true
+is_initial other = false
 
 -- the calls that make an entry: a commit or an undo of an unspent reservation, a commit to pending or ready,
 -- a heartbeat with 1 to 4294967295 processors
 abbrev pub IsCall : Core → Call → Type 0
 IsCall s (call.Commit now number job state) = (is_among (unspent s.log) number job ≡ true)
-    × (begins state ≡ true)
+    × (is_initial state ≡ true)
 IsCall s (call.Undo now number job) = is_among (unspent s.log) number job ≡ true
 IsCall s (call.Beat now server nonce cpus key) = (1 ≤ cpus) × (cpus ≤ 4294967295)
 IsCall s other = Unit {0}
