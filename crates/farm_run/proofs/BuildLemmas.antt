@@ -37,7 +37,7 @@ use Rattle.sched_core.proofs.AllLemmas.{or_true, same_job-refl}
 use Rattle.http_head.specs.Head.{IsRequest}
 use Rattle.http_head.specs.declared.request.Request.{Request}
 use Rattle.http_routes.specs.Admission.{equal_admission}
-use Rattle.http_routes.specs.Calls.{IsAnswer}
+use Rattle.http_routes.specs.CallReply.{IsAnswer}
 use Rattle.http_routes.specs.InOrder.{NamesJob}
 use Rattle.http_routes.specs.Message.{message_in}
 use Rattle.http_routes.specs.Place.{run_job, submit_job, assign_job, of_job}

@@ -8,7 +8,7 @@ use Rattle.http_routes.specs.Admission.{equal_admission}
 use Rattle.http_routes.specs.Asked.{IsAskedUnder}
 use Rattle.http_routes.specs.Fault.{fault_response_of}
 use Rattle.sched_core.specs.Texts.{no_room_text}
-use Rattle.http_routes.specs.Written.{assign_request_text}
+use Rattle.http_routes.specs.Requests.{assign_request_text}
 use Rattle.http_routes.specs.declared.fault.RouteFault.TheVariants as fault
 use Rattle.http_routes.specs.declared.route.Asked.{Asked}
 use Rattle.http_routes.specs.declared.route.SchedRouted.{SchedRouted}

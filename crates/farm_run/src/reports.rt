@@ -35,7 +35,7 @@ use dist_types::results::{
 };
 use dist_wire::run::RunJobHttpRequest;
 use farm_script::fault::FarmFault;
-use http_routes::calls::answer;
+use http_routes::call_reply::answer;
 use http_routes::fault::{BuildFailure, RouteFault};
 use http_routes::replies::{to_fault, to_run, to_submission, want_of_memory};
 use http_routes::reply::Response;

@@ -48,7 +48,7 @@ use http_routes::replies::{
 };
 use http_routes::reply::Response;
 use http_routes::route::{Asked, SchedRouted};
-use http_routes::written::assign_request;
+use http_routes::requests::assign_request;
 use sched_core::answers::Picked;
 use sched_core::entry::CoreEntry;
 use sched_core::error::SchedError;

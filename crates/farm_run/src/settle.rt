@@ -14,7 +14,7 @@ use dist_token::job_token::JWTJobAuthorizer;
 use dist_types::outgoing::CallFault;
 use dist_types::results::AssignJobResult;
 use farm_script::fault::FarmFault;
-use http_routes::calls::assigned;
+use http_routes::call_reply::assigned;
 use http_routes::fault::RouteFault;
 use http_routes::replies::{to_commit, to_fault, want_of_memory};
 use sched_core::reservation::Reservation;

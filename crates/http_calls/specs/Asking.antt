@@ -11,7 +11,7 @@ use Rattle.dist_types.specs.declared.addr.Addr.TheVariants.{V4, V6}
 use Rattle.dist_types.specs.declared.dialer.Asked.{Asked}
 use Rattle.dist_types.specs.declared.dialer.AskFault.{AskFault}
 use Rattle.dist_types.specs.declared.dialer.AskFault.TheVariants.{Failed, Memory as OutOfMemory}
-use Rattle.http_routes.specs.Calls.{IsToldBy}
+use Rattle.http_routes.specs.CallReply.{IsToldBy}
 use Rattle.http_calls.specs.declared.error.CallError.{CallError}
 use Rattle.http_calls.specs.declared.error.CallError.TheVariants.{LinkFault, Memory}
 use Rattle.http_calls.specs.Reply.{ReplyRefused}

@@ -3,7 +3,7 @@ use Rattle.std.specs.Prelude.{◌≡◌, ℕ, List, Option, Result, Ok, Err, Mat
 use Rattle.std.specs.Borrow.{Bor}
 use Rattle.dist_types.specs.declared.fault.Failed.{Failed}
 use Rattle.http_head.specs.declared.error.HttpError.TheVariants as http
-use Rattle.http_routes.specs.Calls.{IsToldBy}
+use Rattle.http_routes.specs.CallReply.{IsToldBy}
 use Rattle.http_calls.specs.declared.error.CallError.{CallError}
 use Rattle.http_calls.specs.declared.error.CallError.TheVariants.{ParseError, Status, LinkFault, Memory}
 

@@ -15,8 +15,8 @@ use Rattle.http_head.specs.declared.error.HttpError.TheVariants.{BadHead, WrongC
 use Rattle.http_head.specs.declared.error.HttpError.TheVariants.{BadRealIp, NoRoute, Unauthorised, Status}
 use Rattle.http_head.specs.declared.error.HttpError.TheVariants.{Memory}
 use Rattle.http_head.specs.declared.reply.Reply.{Reply}
-use Rattle.http_routes.specs.Calls.{told_by, IsToldBy, Reads, IsReplyFault, answer_by, IsAnswer, assigned_by}
-use Rattle.http_routes.specs.Calls.{IsAssigned}
+use Rattle.http_routes.specs.CallReply.{told_by, IsToldBy, Reads, IsReplyFault, answer_by, IsAnswer, assigned_by}
+use Rattle.http_routes.specs.CallReply.{IsAssigned}
 use Rattle.http_head.specs.Head.{IsReply}
 use Rattle.http_routes.specs.Message.{BeginsWith, begins_in}
 use Rattle.http_routes.specs.Steps.{unless_none}

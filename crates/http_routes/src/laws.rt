@@ -29,7 +29,7 @@ ghost use Rattle.http_routes.specs.declared.route.SchedRouted.TheVariants.{Alloc
 ghost use Rattle.http_routes.specs.declared.server_route.ServerAsked.{ServerAsked};
 ghost use Rattle.http_routes.specs.declared.server_route.ServerRouted.TheVariants as server;
 ghost use Rattle.http_routes.specs.Asked.{IsAskedUnder};
-ghost use Rattle.http_routes.specs.Calls.{IsToldBy, IsAnswer, IsAssigned};
+ghost use Rattle.http_routes.specs.CallReply.{IsToldBy, IsAnswer, IsAssigned};
 ghost use Rattle.http_routes.specs.InOrder.{InForm, IsAllocation, IsHeartbeat, IsUpdate, IsStatus};
 ghost use Rattle.http_routes.specs.InOrder.{IsAssignment, IsSubmission, IsRun};
 ghost use Rattle.http_routes.specs.Message.{BeginsWith};
@@ -38,8 +38,8 @@ ghost use Rattle.http_routes.specs.Refusal.{refusal_response};
 ghost use Rattle.http_routes.specs.Refused.{IsRefused, IsServerRefused};
 ghost use Rattle.http_routes.specs.Reply.{body_of, reply_text};
 ghost use Rattle.http_routes.specs.ServerRoute.{body_at, IsServerAsked, AsksAssign, AsksSubmit, AsksRun};
-ghost use Rattle.http_routes.specs.Written.{alloc_with, status_with, heartbeat_with, state_with, assign_with};
-ghost use Rattle.http_routes.specs.Written.{submit_with, run_with, CanGo};
+ghost use Rattle.http_routes.specs.Requests.{alloc_with, status_with, heartbeat_with, state_with, assign_with};
+ghost use Rattle.http_routes.specs.Requests.{submit_with, run_with, CanGo};
 
 use dist_wire::message::Message;
 

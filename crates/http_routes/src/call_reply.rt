@@ -1,6 +1,6 @@
 //! What the reply to a call says.
 ghost use Rattle.std.specs.Prelude.{◌≡◌, IfOk, IfErr, true};
-ghost use Rattle.http_routes.specs.Calls.{told_by, Reads, IsAnswer, begun, IsAssigned};
+ghost use Rattle.http_routes.specs.CallReply.{told_by, Reads, IsAnswer, begun, IsAssigned};
 ghost use Rattle.http_routes.specs.Steps.{IsHttpAnswer};
 ghost use Rattle.sched_core.specs.Rule.{is_initial};
 
@@ -14,7 +14,7 @@ use sched_core::texts::is_initial;
 use std::alloc::Global;
 
 /// The message of a reply.
-#[tactic(auto, unfolding(crate::specs::Calls::told_by))]
+#[tactic(auto, unfolding(crate::specs::CallReply::told_by))]
 fn told_by<M: Message>(alloc: Global, reply: Reply) -> Result<M, HttpError>
     ensures { IsHttpAnswer (told_by M.at reply) result }
 {
