@@ -11,6 +11,7 @@ use Rattle.std.proofs.lemmas.List.Sorted.{IsPermutation-append_left, IsPermutati
 use Rattle.dist_types.specs.declared.addr.Addr.{Addr}
 use Rattle.dist_types.specs.declared.addr.Addr.TheVariants.{V4}
 use Rattle.dist_types.specs.declared.ids.JobId.{JobId}
+use Rattle.sched_core.specs.declared.start.Start.{Start}
 use Rattle.sched_core.proofs.Lists.{map-map}
 use Rattle.sched_core.specs.declared.entry.CoreEntry.{CoreEntry}
 use Rattle.sched_core.specs.declared.rows.HeldRow.{HeldRow}
@@ -156,18 +157,18 @@ jobs_sorted log all =
     ∙ sym (sorted-map (λ h. h.job.0) (λ j. j.job.0) (with_address log) (λ h. refl) (held_rows log))
     ∙ ap (sorted_into (λ j. j.job.0) []) (sym (full_rows log (unended log) all))
 
-pub legal_jobs : (base count : ℕ) (log : List CoreEntry) → count < 2 ^ 64 → IsLegal base count log
+pub legal_jobs : (start : Start) (log : List CoreEntry) → start.count < 2 ^ 64 → IsLegal start log
     → AreJobRows log (jobs_of log)
-legal_jobs base count log fits legal =
+legal_jobs start log fits legal =
     let all : AllByRecursion (λ b. HasAddress log b.reg) (unended log) =
-    addressed log (legal_standing base count log fits legal) in
+    addressed log (legal_standing start log fits legal) in
     let rows : List JobRow = filter_map (job_row log) (unended log) in
     let made : rows ≡ map (with_address log) (held_rows log) = full_rows log (unended log) all in
     let ids : map (λ j. j.job) rows ≡ map (λ b. b.job) (unended log) = ap (map (λ j. j.job)) made
     ∙ map-map (λ j. j.job) (with_address log) (held_rows log) ∙ map-map (λ h. h.job) held_of (unended log)
     in
     let apart : AreDistinct (map (λ j. j.job) rows) = subst AreDistinct (sym ids)
-    (distinct-filter (λ b. b.job) is_unended (bookings log) (legal_distinct base count log fits legal)) in
+    (distinct-filter (λ b. b.job) is_unended (bookings log) (legal_distinct start log fits legal)) in
     let sorted : List JobRow = sorted_into (λ j. j.job.0) [] rows in
     let order : IsPermutation rows sorted = permutation-sorted (λ j. j.job.0) [] rows in
     let many : length rows ≡ length (unended log) = ap length made ∙ length-map (held_rows log)

@@ -2,6 +2,7 @@
 use Rattle.std.proofs.Common.{◌≡◌, ℕ, ◌+◌, ◌*◌, ◌≤◌, List, [], ◌∷◌, ◌++◌, map, length, max, ap}
 use Rattle.std.proofs.Common.{◌∙◌, sym, subst, arith}
 use Rattle.std.proofs.lemmas.List.{map-append, length-map}
+use Rattle.sched_core.specs.declared.start.Start.{Start}
 use Rattle.sched_core.specs.declared.entry.CoreEntry.{CoreEntry}
 use Rattle.sched_core.specs.Cuts.{Cut, cuts}
 use Rattle.sched_core.specs.Standing.{standing}
@@ -42,15 +43,15 @@ most_grows log e = subst (λ fs. most_standing log ≤ greatest
     (greatest_left (map (λ front. length (standing front)) (fronts log)) (counted (log ++ e ∷ []) ∷ [])))
 
 -- room changes nothing of what the state is
-pub still_state : (base count : ℕ) (old new : Kept) (keys new_keys : List (ℕ × List ℕ))
+pub still_state : (start : Start) (old new : Kept) (keys new_keys : List (ℕ × List ℕ))
     (log new_log : List CoreEntry)
-    (len capacity new_len new_capacity : ℕ) → IsState base count old keys log len capacity
+    (len capacity new_len new_capacity : ℕ) → IsState start old keys log len capacity
     → new.lists ≡ old.lists
     → new_keys ≡ keys → new_log ≡ log
     → (len + length old.lists.unspent ≤ capacity → new_len + length old.lists.unspent ≤ new_capacity)
     → new.top ≤ old.top → new.places ≤ max old.places (2 * max 1 (length old.lists.rows))
-    → IsState base count new new_keys new_log new_len new_capacity
-still_state base count old new keys new_keys log new_log len capacity new_len new_capacity is lists
+    → IsState start new new_keys new_log new_len new_capacity
+still_state start old new keys new_keys log new_log len capacity new_len new_capacity is lists
     same_keys same_log room top
     places =
     let rows : length old.lists.rows ≡ length (standing log) =

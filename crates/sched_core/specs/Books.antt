@@ -7,6 +7,7 @@ use Rattle.std.specs.List.{AllByRecursion, find, list_any}
 use Rattle.std.specs.Option.{option_map}
 use Rattle.dist_types.specs.declared.ids.JobId.{JobId}
 use Rattle.dist_types.specs.declared.results.JobState.{JobState}
+use Rattle.sched_core.specs.declared.start.Start.{Start}
 use Rattle.sched_core.specs.declared.entry.CoreEntry.{CoreEntry}
 use Rattle.sched_core.specs.declared.entry.CoreKind.{CoreKind}
 use Rattle.sched_core.specs.declared.entry.CoreKind.TheVariants.{Beat, Reserve, Commit, Undo, Update}
@@ -382,10 +383,10 @@ pub record AreBooks (books : Lists) (kept_keys : List (ℕ × List ℕ)) (log : 
 -- reservation to be spent. The registrations stand in no more places than twice the most that ever stood at
 -- one
 -- time, and their numbers are of the log.
-pub record IsState (base count : ℕ) (kept : Kept) (kept_keys : List (ℕ × List ℕ)) (log : List CoreEntry)
+pub record IsState (start : Start) (kept : Kept) (kept_keys : List (ℕ × List ℕ)) (log : List CoreEntry)
     (log_len log_capacity : ℕ) : Type 0 where
   pub books : AreBooks kept.lists kept_keys log
-  pub legal : IsLegal base count log
+  pub legal : IsLegal start log
   pub log_room : log_len + length kept.lists.unspent ≤ log_capacity
   pub top : kept.top ≤ length log
   pub places : kept.places ≤ 2 * max 1 (most_standing log)

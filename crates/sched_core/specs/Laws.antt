@@ -3,6 +3,7 @@ use Rattle.std.specs.Prelude.{◌≡◌, ◌≢◌, ◌≤◌, ◌<◌, ℕ, ◌
 use Rattle.std.specs.Prelude.{true, false, ◌==◌, count_by}
 use Rattle.std.specs.List.{AllByRecursion, list_any, filter_map}
 use Rattle.std.specs.List.Sorted.{IsPermutation}
+use Rattle.sched_core.specs.declared.start.Start.{Start}
 use Rattle.sched_core.specs.Cuts.{cuts, cuts_behind}
 use Rattle.dist_types.specs.declared.ids.JobId.{JobId}
 use Rattle.dist_types.specs.declared.results.JobState.{JobState}
@@ -28,18 +29,18 @@ abbrev pub IsRule : Core → CoreEntry → Type 0
 IsRule s e = (call : Call) × IsCall s call × (e ≡ rule s call)
 
 -- the same, behind a front of entries
-abbrev pub IsLegalBehind : ℕ → ℕ → List CoreEntry → List CoreEntry → Type 0
-IsLegalBehind base count front log =
-    AllByRecursion (λ c. IsRule (record { base = base; count = count; log = c.before }) c.at)
+abbrev pub IsLegalBehind : Start → List CoreEntry → List CoreEntry → Type 0
+IsLegalBehind start front log =
+    AllByRecursion (λ c. IsRule (record { start = start; log = c.before }) c.at)
     (cuts_behind front log)
 
 -- each entry is the rule's over the entries before it
-abbrev pub IsLegal : ℕ → ℕ → List CoreEntry → Type 0
-IsLegal base count log = IsLegalBehind base count [] log
+abbrev pub IsLegal : Start → List CoreEntry → Type 0
+IsLegal start log = IsLegalBehind start [] log
 
--- it holds of each legal log, whatever the first id is, and how many ids were given before
+-- it holds of each legal log, wherever its ids begin
 abbrev pub InEachLegalLog : (List CoreEntry → Type 0) → Type 0
-InEachLegalLog Holds = (base count : ℕ) (log : List CoreEntry) → count < 2 ^ 64 → IsLegal base count log
+InEachLegalLog Holds = (start : Start) (log : List CoreEntry) → start.count < 2 ^ 64 → IsLegal start log
     → Holds log
 
 -- no job stands twice among those

@@ -137,7 +137,8 @@ status_over rows jobs now = status_by now (prune now rows) (counts_over rows job
 
 -- the entry that a call makes
 abbrev pub rule : Core → Call → CoreEntry
-rule s (call.Reserve now) = reserve_over (servers_of s.log) now s.base (s.count + length (bookings s.log))
+rule s (call.Reserve now) =
+    reserve_over (servers_of s.log) now s.start.base (s.start.count + length (bookings s.log))
 rule s (call.Commit now number job state) = commit_by (is_among (unended s.log) number job) now job state
 rule s (call.Undo now number job) =
     undo_by (noted_over (servers_of s.log) (option_and_then (address_of s.log) (place_at s.log number)))

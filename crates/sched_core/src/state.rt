@@ -26,6 +26,7 @@ use crate::error::SchedError;
 use crate::keys::{self, RegistrationKey};
 use crate::reservation::Reservation;
 use crate::rows::{Jobs, Servers};
+use crate::start::Start;
 use crate::{rules, spending, standing};
 use dist_types::ids::{JobId, ServerId, ServerNonce};
 use dist_types::results::{
@@ -45,8 +46,7 @@ const MOST_CPUS: u64 = 4294967295;
 #[derive(Drop)]
 pub struct SchedState<A: JobAuthorizer> {
     alloc: Global,
-    base: u64,
-    count: u64,
+    start: Start,
     books: Books,
     keys: Vec<RegistrationKey<A>>,
     log: Vec<CoreEntry>,
@@ -60,16 +60,16 @@ impl<A: JobAuthorizer> Model for SchedState<A> {
 
     ghost use Rattle.sched_core.specs.Books.{IsState};
 
-    ghost view = { λ s. record { base = s.base; count = s.count; log = s.log.items } };
+    ghost view = { λ s. record { start = s.start; log = s.log.items } };
 
-    ghost invariant = { λ s. IsState s.base s.count s.books s.keys.items s.log.items (vec_len s.log)
+    ghost invariant = { λ s. IsState s.start s.books s.keys.items s.log.items (vec_len s.log)
         (vec_capacity s.log) };
 }
 
 impl<A: JobAuthorizer> SchedState<A> {
     /// A scheduler with an empty log, whose first job has the id `base`. It takes no memory.
     pub fn new(alloc: Global, base: u64) -> Self
-        ensures empty { result ≡ record { base = base; count = 0; log = [] } }
+        ensures empty { result ≡ record { start = record { base = base; count = 0 }; log = [] } }
     {
         SchedState::with_job_ids(alloc, base, 0)
     }
@@ -77,12 +77,11 @@ impl<A: JobAuthorizer> SchedState<A> {
     /// A scheduler with an empty log, which goes on where `count` jobs were reserved before: its next
     /// job has the id `base + count`, modulo 2^64. It takes no memory.
     pub fn with_job_ids(alloc: Global, base: u64, count: u64) -> Self
-        ensures empty { result ≡ record { base = base; count = count; log = [] } }
+        ensures empty { result ≡ record { start = record { base = base; count = count }; log = [] } }
     {
         SchedState {
             alloc,
-            base,
-            count,
+            start: Start { base, count },
             books: Books::new(alloc),
             keys: Vec::new(alloc),
             log: Vec::new(alloc),
@@ -91,16 +90,16 @@ impl<A: JobAuthorizer> SchedState<A> {
 
     /// The id of the first job.
     pub fn base(&self) -> u64
-        ensures base { result ≡ self.now.base }
+        ensures base { result ≡ self.now.start.base }
     {
-        self.base
+        self.start.base
     }
 
     /// How many jobs were reserved before the log begins.
     pub fn count(&self) -> u64
-        ensures count { result ≡ self.now.count }
+        ensures count { result ≡ self.now.start.count }
     {
-        self.count
+        self.start.count
     }
 
     /// How many reservations the log makes: one for each id that was given since it began. It takes no
@@ -122,12 +121,12 @@ impl<A: JobAuthorizer> SchedState<A> {
     /// legal logs hold of it. It takes no memory.
     pub fn history(&self) -> &[CoreEntry]
         ensures log { result.now ≡ self.now.log }
-        ensures legal { IsLegal self.now.base self.now.count self.now.log }
-        ensures count { self.now.count < 2 ^ 64 }
+        ensures legal { IsLegal self.now.start self.now.log }
+        ensures count { self.now.start.count < 2 ^ 64 }
         ensures lawful { IsLawful self.now.log }
     {
         let log = self.log.as_slice();
-        lawful(self.base, self.count, log);
+        lawful(self.start, log);
         log
     }
 
@@ -181,17 +180,16 @@ impl<A: JobAuthorizer> SchedState<A> {
         ensures looks { (h : ℕ) → max 1 (most_standing self.old.log) ≤ 2 ^ h → steps.new ≤ steps.old +
             (6 * h + 8) * (1 + forgiven_count (rule self.old (call.Reserve now)).kind) }
     {
-        let given = u128::from(self.count) + u128::from(self.books.made());
+        let given = u128::from(self.start.count) + u128::from(self.books.made());
         let reserved = self
             .books
-            .reserved(self.alloc, now, self.base, given, steps)?;
+            .reserved(self.alloc, now, self.start.base, given, steps)?;
         make_job_room(&mut self.books, &mut self.log)?;
         let made = spending::made(&self.books, &self.keys, &self.log, &reserved)?;
         let kind = CoreKind::Reserve(reserved);
         let entry = CoreEntry { now, kind };
         take(
-            self.base,
-            self.count,
+            self.start,
             &mut self.books,
             &mut self.keys,
             &mut self.log,
@@ -222,8 +220,7 @@ impl<A: JobAuthorizer> SchedState<A> {
         let kind = CoreKind::Commit { job, state, kept };
         let entry = CoreEntry { now, kind };
         take_uncounted::<A, Brand>(
-            self.base,
-            self.count,
+            self.start,
             &mut self.books,
             &mut self.keys,
             &mut self.log,
@@ -256,8 +253,7 @@ impl<A: JobAuthorizer> SchedState<A> {
         let kind = CoreKind::Undo { job, noted, ended };
         let entry = CoreEntry { now, kind };
         take_uncounted::<A, Brand>(
-            self.base,
-            self.count,
+            self.start,
             &mut self.books,
             &mut self.keys,
             &mut self.log,
@@ -300,8 +296,7 @@ impl<A: JobAuthorizer> SchedState<A> {
         make_row_room(self.alloc, &mut self.books, &mut self.keys, &mut self.log)?;
         let key = keys::key_made(is_new, self.log.len() as u64, key);
         take_uncounted::<A, Brand>(
-            self.base,
-            self.count,
+            self.start,
             &mut self.books,
             &mut self.keys,
             &mut self.log,
@@ -341,8 +336,7 @@ impl<A: JobAuthorizer> SchedState<A> {
         };
         let entry = CoreEntry { now, kind };
         take_uncounted::<A, Brand>(
-            self.base,
-            self.count,
+            self.start,
             &mut self.books,
             &mut self.keys,
             &mut self.log,
@@ -366,8 +360,7 @@ impl<A: JobAuthorizer> SchedState<A> {
         let entry = standing::status_entry(now, pruned, answer);
         make_log_room(&self.books, &mut self.log)?;
         take_uncounted::<A, Brand>(
-            self.base,
-            self.count,
+            self.start,
             &mut self.books,
             &mut self.keys,
             &mut self.log,
@@ -380,9 +373,9 @@ impl<A: JobAuthorizer> SchedState<A> {
 }
 
 /// A legal log is lawful.
-fn lawful(base: u64, count: u64, log: &[CoreEntry])
-    ensures count { count < 2 ^ 64 }
-    ensures lawful { IsLegal base count log.now → IsLawful log.now }
+fn lawful(start: Start, log: &[CoreEntry])
+    ensures count { start.count < 2 ^ 64 }
+    ensures lawful { IsLegal start log.now → IsLawful log.now }
 {}
 
 /// Makes room in the log for one more entry, beside those that spend the reservations, and for one
@@ -439,8 +432,7 @@ fn make_row_room<A: JobAuthorizer>(
 
 /// Takes the next entry into the books and the log. It takes no memory.
 fn take<A: JobAuthorizer, L: Ledger>(
-    base: u64,
-    count: u64,
+    start: Start,
     books: &mut Books,
     keys: &mut Vec<RegistrationKey<A>>,
     log: &mut Vec<CoreEntry>,
@@ -448,9 +440,9 @@ fn take<A: JobAuthorizer, L: Ledger>(
     key: Option<RegistrationKey<A>>,
     steps: &mut Steps<L>,
 )
-    requires state { IsState base count books.old keys.old.items log.old.items (vec_len log.old)
+    requires state { IsState start books.old keys.old.items log.old.items (vec_len log.old)
         (vec_capacity log.old) }
-    requires rule { IsRule (record { base = base; count = count; log = log.old.items }) step }
+    requires rule { IsRule (record { start = start; log = log.old.items }) step }
     requires key { key ≡ key_by step.kind (length log.old.items) }
     requires row_room { MayRegister step.kind → books.old.has_row_room ≡ true }
     requires job_room { MayReserve step.kind → books.old.has_job_room ≡ true }
@@ -458,7 +450,7 @@ fn take<A: JobAuthorizer, L: Ledger>(
     requires keys_room { MayRegister step.kind → vec_len keys.old < vec_capacity keys.old }
     requires log_room { vec_len log.old + 1 +
         length (unspent_next books.old.lists step (length log.old.items)) ≤ vec_capacity log.old }
-    ensures state { IsState base count books.new keys.new.items log.new.items (vec_len log.new)
+    ensures state { IsState start books.new keys.new.items log.new.items (vec_len log.new)
         (vec_capacity log.new) }
     ensures log { log.new.items ≡ log.old.items ++ step ∷ [] }
     ensures looks { (h : ℕ) → books.old.places ≤ 2 ^ h → AreFew step.kind h steps.old steps.new }
@@ -471,8 +463,7 @@ fn take<A: JobAuthorizer, L: Ledger>(
 
 /// The same, where nobody counts.
 fn take_uncounted<A: JobAuthorizer, L: Ledger>(
-    base: u64,
-    count: u64,
+    start: Start,
     books: &mut Books,
     keys: &mut Vec<RegistrationKey<A>>,
     log: &mut Vec<CoreEntry>,
@@ -483,9 +474,9 @@ fn take_uncounted<A: JobAuthorizer, L: Ledger>(
     requires name { blank.name ≡ L.name }
     requires parts { blank.parts ≡ L.parts }
     requires some { 0 < blank.parts }
-    requires state { IsState base count books.old keys.old.items log.old.items (vec_len log.old)
+    requires state { IsState start books.old keys.old.items log.old.items (vec_len log.old)
         (vec_capacity log.old) }
-    requires rule { IsRule (record { base = base; count = count; log = log.old.items }) step }
+    requires rule { IsRule (record { start = start; log = log.old.items }) step }
     requires key { key ≡ key_by step.kind (length log.old.items) }
     requires row_room { MayRegister step.kind → books.old.has_row_room ≡ true }
     requires job_room { MayReserve step.kind → books.old.has_job_room ≡ true }
@@ -493,12 +484,12 @@ fn take_uncounted<A: JobAuthorizer, L: Ledger>(
     requires keys_room { MayRegister step.kind → vec_len keys.old < vec_capacity keys.old }
     requires log_room { vec_len log.old + 1 +
         length (unspent_next books.old.lists step (length log.old.items)) ≤ vec_capacity log.old }
-    ensures state { IsState base count books.new keys.new.items log.new.items (vec_len log.new)
+    ensures state { IsState start books.new keys.new.items log.new.items (vec_len log.new)
         (vec_capacity log.new) }
     ensures log { log.new.items ≡ log.old.items ++ step ∷ [] }
 {
     let mut steps = Steps::<L>::new(blank);
-    take(base, count, books, keys, log, step, key, &mut steps);
+    take(start, books, keys, log, step, key, &mut steps);
 }
 
 /// A reserve whose looks nobody counts.

@@ -18,11 +18,11 @@ absorb-requires-clause-sound g c =
     let books : AreBooks (lists_next lists a.step (length log))
     (filter (key_stays a.step) a.keys.now.items ++ option_to_list (key_by a.step.kind (length log)))
     (log ++ a.step ∷ []) =
-    absorbed a.base a.count lists a.keys.now.items _ log a.step c.ranges.count.fits c.requires.state.books
+    absorbed a.start lists a.keys.now.items _ log a.step c.ranges.start.count.fits c.requires.state.books
     c.requires.state.legal c.requires.rule refl in
     subst (λ n. AreSoundRows (rows_next lists a.step n)) (sym number)
-    (subst AreSoundRows (sym books.rows) (sound_rows a.base a.count (log ++ a.step ∷ []) c.ranges.count.fits
-    (legal-push a.base a.count [] log a.step c.requires.state.legal c.requires.rule)))
+    (subst AreSoundRows (sym books.rows) (sound_rows a.start (log ++ a.step ∷ []) c.ranges.start.count.fits
+    (legal-push a.start [] log a.step c.requires.state.legal c.requires.rule)))
 
 pub absorb-requires-clause-above : goal.absorb-requires-clause-above
 absorb-requires-clause-above g c =
@@ -54,10 +54,10 @@ returns-clause-state g c =
         c.end_keys.ensures.items,
         c.requires.key,
         does,
-      ) (absorbed a.base a.count a.books.now.lists a.keys.now.items _ log a.step
-          c.ranges.count.fits c.requires.state.books c.requires.state.legal c.requires.rule refl);
+      ) (absorbed a.start a.books.now.lists a.keys.now.items _ log a.step
+          c.ranges.start.count.fits c.requires.state.books c.requires.state.legal c.requires.rule refl);
       legal = rw c.push_reserved.ensures.items
-          (legal-push a.base a.count [] log a.step c.requires.state.legal c.requires.rule);
+          (legal-push a.start [] log a.step c.requires.state.legal c.requires.rule);
       log_room = omega (arith, spent, len, capacity, log_room);
       top = rw c.push_reserved.ensures.items (omega (arith, longer, number, top));
       places = rw c.push_reserved.ensures.items (omega (arith, places, few, grown));

@@ -15,7 +15,7 @@ take_uncounted-requires-clause-rule g c κs within =
     c.in_ok-entry.ensures in
     let some : 1 ≤ a.cpus = omega arith in
     let few : a.cpus ≤ 4294967295 = omega arith in
-    subst (λ l. IsRule (core_of s.base s.count l) c.in_ok-entry.entry)
+    subst (λ l. IsRule (core_of s.start l) c.in_ok-entry.entry)
     (sym c.in_ok-make_row_room.ensures.log)
     (call.Beat a.now a.server a.nonce a.cpus (g.A.JobAuthorizer.key_of a.key), (some, few), entry)
 
@@ -34,7 +34,7 @@ take_uncounted-requires-clause-log_room g c κs within = rw c.in_ok-make_row_roo
 pub take_uncounted-requires-clause-state : goal.take_uncounted-requires-clause-state
 take_uncounted-requires-clause-state g c κs within =
     let s = c.self.inside in
-    still_state s.base s.count s.books c.make_row_room.new.books s.keys.items c.make_row_room.new.keys.items
+    still_state s.start s.books c.make_row_room.new.books s.keys.items c.make_row_room.new.keys.items
     s.log.items
     c.make_row_room.new.log.items (vec_len s.log) (vec_capacity s.log) (vec_len c.make_row_room.new.log)
     (vec_capacity c.make_row_room.new.log) c.self.invariant c.in_ok-make_row_room.ensures.lists
@@ -45,7 +45,7 @@ take_uncounted-requires-clause-state g c κs within =
 pub invariant_of-self : goal.invariant_of-self
 invariant_of-self g c =
     let s = c.self.inside in
-    still_state s.base s.count s.books c.make_row_room.new.books s.keys.items c.make_row_room.new.keys.items
+    still_state s.start s.books c.make_row_room.new.books s.keys.items c.make_row_room.new.keys.items
     s.log.items c.make_row_room.new.log.items (vec_len s.log) (vec_capacity s.log)
     (vec_len c.make_row_room.new.log) (vec_capacity c.make_row_room.new.log) c.self.invariant
     c.make_row_room.ensures.lists c.make_row_room.ensures.keys c.make_row_room.ensures.log

@@ -100,7 +100,7 @@ returns-clause-logged g c =
       sym asked ∙ sym among ∙ sym listed
           ∙ c.if-not-is_unspent.false,
     )
-    (ap (λ b. logged (core_of s.base s.count s.log.items) (commit_by b a.now a.r.job a.state)) kept_r)
+    (ap (λ b. logged (core_of s.start s.log.items) (commit_by b a.now a.r.job a.state)) kept_r)
 
 pub returns-clause-answer : goal.returns-clause-answer
 returns-clause-answer g c =

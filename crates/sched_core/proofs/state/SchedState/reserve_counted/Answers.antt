@@ -17,7 +17,7 @@ use Rattle.sched_core.proofs.state.SchedState.reserve_counted.Goals as goal
 pub made-requires-2-clause-stands : goal.made-requires-2-clause-stands
 made-requires-2-clause-stands g c κs within =
     rw (c.in_ok-make_job_room.ensures.lists, c.in_ok-reserved.ensures.reserved)
-    (reserved_row c.self.inside.books.lists.rows c.args.now c.self.inside.base _)
+    (reserved_row c.self.inside.books.lists.rows c.args.now c.self.inside.start.base _)
 
 pub take-requires-clause-rule : goal.take-requires-clause-rule
 take-requires-clause-rule g c κs within =
@@ -30,7 +30,7 @@ take-requires-clause-rule g c κs within =
       c.self.invariant.books.rows,
       c.self.invariant.books.made,
     ) at c.in_ok-reserved.ensures.reserved in
-    subst (λ l. IsRule (core_of s.base s.count l) step) (sym c.in_ok-make_job_room.ensures.log)
+    subst (λ l. IsRule (core_of s.start l) step) (sym c.in_ok-make_job_room.ensures.log)
     (call.Reserve c.args.now, tt, ap (λ r. record { now = c.args.now; kind = Reserve r }) reserved)
 
 pub take-requires-clause-log_room : goal.take-requires-clause-log_room
@@ -43,7 +43,7 @@ take-requires-clause-log_room g c κs within = rw c.in_ok-make_job_room.ensures.
 pub take-requires-clause-state : goal.take-requires-clause-state
 take-requires-clause-state g c κs within =
     let s = c.self.inside in
-    still_state s.base s.count s.books c.make_job_room.new.books s.keys.items s.keys.items s.log.items
+    still_state s.start s.books c.make_job_room.new.books s.keys.items s.keys.items s.log.items
     c.make_job_room.new.log.items (vec_len s.log) (vec_capacity s.log) (vec_len c.make_job_room.new.log)
     (vec_capacity c.make_job_room.new.log) c.self.invariant c.in_ok-make_job_room.ensures.lists refl
     c.in_ok-make_job_room.ensures.log c.in_ok-make_job_room.ensures.log_room

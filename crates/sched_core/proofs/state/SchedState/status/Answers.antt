@@ -17,7 +17,7 @@ take_uncounted-requires-clause-rule g c κs within =
       c.self.invariant.books.rows,
       c.self.invariant.books.open_ones,
     ) at c.status_entry-entry.ensures in
-    subst (λ l. IsRule (core_of s.base s.count l) c.status_entry-entry.result)
+    subst (λ l. IsRule (core_of s.start l) c.status_entry-entry.result)
     (sym c.in_ok-make_log_room.ensures.log) (call.Status c.args.now, tt, entry)
 
 pub take_uncounted-requires-clause-spends : goal.take_uncounted-requires-clause-spends
@@ -41,7 +41,7 @@ take_uncounted-requires-clause-log_room g c κs within =
 pub take_uncounted-requires-clause-state : goal.take_uncounted-requires-clause-state
 take_uncounted-requires-clause-state g c κs within =
     let s = c.self.inside in
-    still_state s.base s.count s.books s.books s.keys.items s.keys.items s.log.items
+    still_state s.start s.books s.books s.keys.items s.keys.items s.log.items
     c.make_log_room.new.log.items
     (vec_len s.log) (vec_capacity s.log) (vec_len c.make_log_room.new.log)
     (vec_capacity c.make_log_room.new.log)

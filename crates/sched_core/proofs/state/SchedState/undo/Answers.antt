@@ -127,9 +127,9 @@ returns-clause-logged g c =
       sym asked ∙ sym among
           ∙ owned,
     )
-    (ap (λ n. logged (core_of s.base s.count s.log.items) (undo_by n c.is_held-ended.result a.now a.r.job))
+    (ap (λ n. logged (core_of s.start s.log.items) (undo_by n c.is_held-ended.result a.now a.r.job))
     noted_r
-    ∙ ap (λ b. logged (core_of s.base s.count s.log.items)
+    ∙ ap (λ b. logged (core_of s.start s.log.items)
     (undo_by (noted_over (servers_of s.log.items)
     (option_and_then (address_of s.log.items) (place_at s.log.items a.r.number))) b a.now a.r.job))
     gone_r)

@@ -25,7 +25,7 @@ take_uncounted-requires-clause-rule g c κs within =
     } in
     let answer : c.answer_by-answer.result ≡ advance (open_rows s.log.items) a.server a.job a.state =
     rw (c.open_job-found.ensures, c.self.invariant.books.open_ones) at c.answer_by-answer.ensures in
-    subst (λ l. IsRule (core_of s.base s.count l) step) (sym c.in_ok-make_log_room.ensures.log) (
+    subst (λ l. IsRule (core_of s.start l) step) (sym c.in_ok-make_log_room.ensures.log) (
       call.Update a.now a.server a.job a.state,
       tt,
       ap (λ r. record { now = a.now; kind = Update a.server a.job a.state r }) answer,
@@ -47,7 +47,7 @@ returns-clause-logged g c =
     rw (c.open_job-found.ensures, c.self.invariant.books.open_ones) at c.answer_by-answer.ensures in
     rw (← c.self.view_is, c.take_uncounted.ensures.log, c.in_ok-make_log_room.ensures.log)
     (on_ok c.updated.result _
-    (ap (λ r. logged (core_of s.base s.count s.log.items)
+    (ap (λ r. logged (core_of s.start s.log.items)
     (record { now = a.now; kind = Update a.server a.job a.state r })) answer))
 
 pub returns-clause-answer : goal.returns-clause-answer
@@ -65,14 +65,14 @@ returns-clause-err g c =
     let answer : c.answer_by-answer.result ≡ advance (open_rows s.log.items) a.server a.job a.state =
     rw (c.open_job-found.ensures, c.self.invariant.books.open_ones) at c.answer_by-answer.ensures in
     rw (c.updated.ensures, ← c.self.view_is, c.take_uncounted.ensures.log, c.in_ok-make_log_room.ensures.log)
-    (verdict_leaves c.answer_by-answer.result a.state (core_of s.base s.count s.log.items) _ _
-    (ap (λ r. logged (core_of s.base s.count s.log.items)
+    (verdict_leaves c.answer_by-answer.result a.state (core_of s.start s.log.items) _ _
+    (ap (λ r. logged (core_of s.start s.log.items)
     (record { now = a.now; kind = Update a.server a.job a.state r })) answer))
 
 pub take_uncounted-requires-clause-state : goal.take_uncounted-requires-clause-state
 take_uncounted-requires-clause-state g c κs within =
     let s = c.self.inside in
-    still_state s.base s.count s.books s.books s.keys.items s.keys.items s.log.items
+    still_state s.start s.books s.books s.keys.items s.keys.items s.log.items
     c.make_log_room.new.log.items
     (vec_len s.log) (vec_capacity s.log) (vec_len c.make_log_room.new.log)
     (vec_capacity c.make_log_room.new.log)
