@@ -29,8 +29,9 @@ use Rattle.sched_core.specs.Reservation.{Booking, booked_by, booked_at, is_unend
 use Rattle.sched_core.specs.Reservation.{claims_by, is_claimed, spends_by, frees_by}
 use Rattle.sched_core.specs.Job.{Committed, committed_by, committed_at, commits, moves_by, moves_of}
 use Rattle.sched_core.specs.Job.{state_now, state_of, is_open, open_jobs, place_of}
-use Rattle.sched_core.specs.Rows.{row_of, servers_of, held_of, held_rows, placed, sorted_into, held_by_id}
-use Rattle.sched_core.specs.Rows.{held_part, open_of, open_rows}
+use Rattle.sched_core.specs.Rows.{row_of, servers_of, held_of, held_rows, placed, sorted_into}
+use Rattle.sched_core.specs.Rows.{open_of, open_rows}
+use Rattle.sched_core.specs.Books.{held_by_id, held_part}
 use Rattle.sched_core.specs.Cuts.{seen}
 use Rattle.sched_core.specs.Rule.{begins, place_at}
 use Rattle.sched_core.specs.Books.{begins_by, state_after, held_stays, held_after, held_by, job_stays}

@@ -11,7 +11,7 @@ ghost use Rattle.sched_core.specs.Standing.{address_of};
 ghost use Rattle.sched_core.specs.Reservation.{bookings, unspent};
 ghost use Rattle.sched_core.specs.Job.{open_jobs};
 ghost use Rattle.sched_core.specs.Rule.{rule, says_new_entry, counts_of, is_among, begins};
-ghost use Rattle.sched_core.specs.Rows.{servers_of, jobs_of, held_by_id, held_part};
+ghost use Rattle.sched_core.specs.Rows.{servers_of, jobs_of, job_row, unended_by_id};
 ghost use Rattle.sched_core.specs.Answers.{Leaves, IsPicked, RefusesReserve, committed_by, undo_answer};
 ghost use Rattle.sched_core.specs.Answers.{updated_by};
 ghost use Rattle.sched_core.specs.Laws.{IsLegal, IsLawful, IsRule};
@@ -142,7 +142,7 @@ impl<A: JobAuthorizer> SchedState<A> {
     pub fn jobs(&self) -> Jobs<'_>
         ensures jobs { result ≡ jobs_of self.now.log }
         // None is left out: each is at a registration that has an address.
-        ensures all { map held_part result ≡ held_by_id self.now.log }
+        ensures all { map Some result ≡ map (job_row self.now.log) (unended_by_id self.now.log) }
     {
         self.books.jobs()
     }

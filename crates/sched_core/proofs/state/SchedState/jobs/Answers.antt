@@ -1,4 +1,4 @@
-use Rattle.sched_core.proofs.StateLemmas.{jobs_are}
+use Rattle.sched_core.proofs.StateLemmas.{jobs_all, jobs_are}
 use Rattle.sched_core.proofs.state.SchedState.jobs.Goals as goal
 
 pub returns-clause-jobs : goal.returns-clause-jobs
@@ -6,4 +6,11 @@ returns-clause-jobs g c =
     let s = c.self.inside in
     rw (← c.self.view_is, c.jobs.ensures.jobs)
     (jobs_are s.log.items s.books.lists.jobs c.self.invariant.books.jobs
+    c.self.invariant.books.jobs_placed)
+
+pub returns-clause-all : goal.returns-clause-all
+returns-clause-all g c =
+    let s = c.self.inside in
+    rw (← c.self.view_is, c.jobs.ensures.jobs)
+    (jobs_all s.log.items s.books.lists.jobs c.self.invariant.books.jobs
     c.self.invariant.books.jobs_placed)
