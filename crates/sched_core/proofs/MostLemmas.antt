@@ -1,5 +1,5 @@
 -- The most registrations that stood at one time: no less than stand now, and never less later.
-use Rattle.std.proofs.Common.{◌≡◌, ℕ, ◌+◌, ◌*◌, ◌≤◌, List, [], ◌∷◌, ◌++◌, map, length, max, ap}
+use Rattle.std.proofs.Common.{◌≡◌, ℕ, ◌+◌, ◌*◌, ◌≤◌, List, [], ◌∷◌, ◌++◌, map, length, max, ap, refl}
 use Rattle.std.proofs.Common.{◌∙◌, sym, subst, arith}
 use Rattle.std.proofs.lemmas.List.{map-append, length-map}
 use Rattle.sched_core.specs.declared.start.Start.{Start}
@@ -67,3 +67,12 @@ still_state start old new keys new_keys log new_log len capacity new_len new_cap
       top = omega (arith, top, top_few);
       places = omega (arith, rows, here, few, places);
     })
+
+-- and so does room in the log alone
+pub roomy_log : (start : Start) (kept : Kept) (keys : List (ℕ × List ℕ)) (log new_log : List CoreEntry)
+    (len capacity new_len new_capacity : ℕ) → IsState start kept keys log len capacity → new_log ≡ log
+    → (len + length kept.lists.unspent ≤ capacity → new_len + length kept.lists.unspent ≤ new_capacity)
+    → IsState start kept keys new_log new_len new_capacity
+roomy_log start kept keys log new_log len capacity new_len new_capacity is same_log room =
+    still_state start kept kept keys keys log new_log len capacity new_len new_capacity is refl refl same_log
+    room (omega arith) (omega arith)
