@@ -20,7 +20,6 @@ use Rattle.sched_core.proofs.StateLemmas.{spent_among, held_among, spent_address
 -- a reservation of a number and a job, under the names that its parts have in a call
 module _ (log : List CoreEntry) (number : ℕ) (job : JobId) (n : ℕ) (j : JobId) (numbered : number ≡ n)
     (of_job : job ≡ j) where
-
   -- whether it is unspent
   pub own_is : (us : List UnspentRow) (found : Bool)
       → found ≡ list_any (λ u. (u.number == number) && same_job u.job job) us

@@ -33,9 +33,9 @@ take_uncounted-requires-clause-keys_room g c κs within = rw c.status_entry-entr
 
 pub take_uncounted-requires-clause-log_room : goal.take_uncounted-requires-clause-log_room
 take_uncounted-requires-clause-log_room g c κs within =
-    log_room-one c.self.inside.journal.books.lists c.status_entry-entry.result (length c.make_log_room.new.log.items)
-    (vec_len c.make_log_room.new.log) (vec_capacity c.make_log_room.new.log)
-    c.in_ok-make_log_room.ensures.spare
+    log_room-one c.self.inside.journal.books.lists c.status_entry-entry.result
+    (length c.make_log_room.new.log.items) (vec_len c.make_log_room.new.log)
+    (vec_capacity c.make_log_room.new.log) c.in_ok-make_log_room.ensures.spare
 
 pub take_uncounted-requires-clause-state : goal.take_uncounted-requires-clause-state
 take_uncounted-requires-clause-state g c κs within =

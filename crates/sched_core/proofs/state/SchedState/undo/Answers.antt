@@ -48,8 +48,8 @@ take_uncounted-requires-clause-rule g c κs within =
       own ∙ c.if-not-is_unspent.false,
       ap (λ n. undo_by n c.is_held-ended.result a.now c.job_id-job.result) noted
           ∙ ap (λ b. undo_by (noted_over (servers_of s.journal.log.items)
-              (option_and_then (address_of s.journal.log.items)
-              (place_at s.journal.log.items c.number-number.result))) b a.now c.job_id-job.result) gone,
+          (option_and_then (address_of s.journal.log.items)
+          (place_at s.journal.log.items c.number-number.result))) b a.now c.job_id-job.result) gone,
     )
 
 pub take_uncounted-requires-clause-spends : goal.take_uncounted-requires-clause-spends
