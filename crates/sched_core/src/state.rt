@@ -190,6 +190,7 @@ impl<A: JobAuthorizer> SchedState<A> {
     {
         let given = u128::from(self.start.count) + u128::from(self.journal.books.made());
         let reserved = self
+            .journal
             .books
             .reserved(self.alloc, now, self.start.base, given, steps)?;
         make_job_room(&mut self.journal.books, &mut self.journal.log)?;
@@ -279,6 +280,7 @@ impl<A: JobAuthorizer> SchedState<A> {
             return Err(SchedError::BadCpus(cpus));
         }
         let entry = self
+            .journal
             .books
             .beat(self.alloc, now, server, nonce, cpus, key.key())?;
         let is_new = entry.is_new_beat();
