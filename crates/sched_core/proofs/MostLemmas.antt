@@ -62,6 +62,7 @@ still_state start old new keys new_keys log new_log len capacity new_len new_cap
     let roomy = room is.log_room in
     rw (lists, same_keys, same_log) (record {
       books = is.books;
+      fits = is.fits;
       legal = is.legal;
       log_room = roomy;
       top = omega (arith, top, top_few);

@@ -411,11 +411,11 @@ pub record AreBooks (books : Lists) (kept_keys : List (ℕ × List ℕ)) (log : 
 
 -- The books are the log's, and each entry of the log is the core rule's. The log has room for each unspent
 -- reservation to be spent. The registrations stand in no more places than twice the most that ever stood at
--- one
--- time, and their numbers are of the log.
+-- one time, and their numbers are of the log.
 pub record IsState (start : Start) (kept : Kept) (kept_keys : List (ℕ × List ℕ)) (log : List CoreEntry)
     (log_len log_capacity : ℕ) : Type 0 where
   pub books : AreBooks kept.lists kept_keys log
+  pub fits : start.count < 2 ^ 64
   pub legal : IsLegal start log
   pub log_room : log_len + length kept.lists.unspent ≤ log_capacity
   pub top : kept.top ≤ length log

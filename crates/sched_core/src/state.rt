@@ -24,6 +24,7 @@ use crate::books::Books;
 use crate::entry::{CoreEntry, CoreKind};
 use crate::error::SchedError;
 use crate::keys::{self, RegistrationKey};
+use crate::laws::legal_logs_are_lawful;
 use crate::reservation::Reservation;
 use crate::rows::{Jobs, Servers};
 use crate::start::Start;
@@ -133,9 +134,8 @@ impl<A: JobAuthorizer> SchedState<A> {
         ensures count { self.now.start.count < 2 ^ 64 }
         ensures lawful { IsLawful self.now.log }
     {
-        let log = self.journal.log.as_slice();
-        lawful(self.start, log);
-        log
+        legal_logs_are_lawful();
+        self.journal.log.as_slice()
     }
 
     /// The registrations that stand, by rising number, as the whole log gives them. It takes no
@@ -343,12 +343,6 @@ impl<A: JobAuthorizer> SchedState<A> {
         Ok(answer)
     }
 }
-
-/// A legal log is lawful.
-fn lawful(start: Start, log: &[CoreEntry])
-    ensures count { start.count < 2 ^ 64 }
-    ensures lawful { IsLegal start log.now → IsLawful log.now }
-{}
 
 /// Makes room in the log for one more entry, beside those that spend the reservations, and for one
 /// reservation more. Refused for want of memory alone; the entries stay.

@@ -18,10 +18,10 @@ absorb-requires-clause-sound g c =
     let books : AreBooks (lists_next lists a.step (length log))
     (filter (key_stays a.step) a.journal.now.keys.items ++ option_to_list (key_by a.step.kind (length log)))
     (log ++ a.step ∷ []) =
-    absorbed a.start lists a.journal.now.keys.items _ log a.step c.ranges.start.count.fits
+    absorbed a.start lists a.journal.now.keys.items _ log a.step c.requires.state.fits
     c.requires.state.books c.requires.state.legal c.requires.rule refl in
     subst (λ n. AreSoundRows (rows_next lists a.step n)) (sym number)
-    (subst AreSoundRows (sym books.rows) (sound_rows a.start (log ++ a.step ∷ []) c.ranges.start.count.fits
+    (subst AreSoundRows (sym books.rows) (sound_rows a.start (log ++ a.step ∷ []) c.requires.state.fits
     (legal-push a.start [] log a.step c.requires.state.legal c.requires.rule)))
 
 pub absorb-requires-clause-above : goal.absorb-requires-clause-above
@@ -56,7 +56,8 @@ returns-clause-state g c =
         c.requires.key,
         does,
       ) (absorbed a.start a.journal.now.books.lists a.journal.now.keys.items _ log a.step
-          c.ranges.start.count.fits c.requires.state.books c.requires.state.legal c.requires.rule refl);
+          c.requires.state.fits c.requires.state.books c.requires.state.legal c.requires.rule refl);
+      fits = c.requires.state.fits;
       legal = rw c.push_reserved.ensures.items
           (legal-push a.start [] log a.step c.requires.state.legal c.requires.rule);
       log_room = omega (arith, spent, len, capacity, log_room);
