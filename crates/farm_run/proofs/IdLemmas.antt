@@ -1,5 +1,5 @@
 -- How many ids are given.
-use Rattle.std.proofs.Common.{ℕ, ◌+◌, ◌<◌, ◌^◌, List, length, arith}
+use Rattle.std.proofs.Common.{◌+◌, ◌<◌, ◌^◌, List, length, arith}
 use Rattle.std.proofs.lemmas.List.{length-map}
 use Rattle.sched_core.specs.declared.start.Start.{Start}
 use Rattle.sched_core.specs.declared.entry.CoreEntry.{CoreEntry}

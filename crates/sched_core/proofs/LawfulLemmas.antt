@@ -1,5 +1,5 @@
 -- Each legal log is lawful.
-use Rattle.std.proofs.Common.{ℕ, ◌<◌, ◌^◌, List}
+use Rattle.std.proofs.Common.{◌<◌, ◌^◌, List}
 use Rattle.sched_core.specs.declared.start.Start.{Start}
 use Rattle.sched_core.specs.declared.entry.CoreEntry.{CoreEntry}
 use Rattle.sched_core.specs.Laws.{IsLegal, IsLawful}
