@@ -8,6 +8,7 @@ use Rattle.std.specs.List.{list_any}
 use Rattle.std.proofs.lemmas.Bool.{false≢true}
 use Rattle.std.proofs.lemmas.List.{length-map}
 use Rattle.dist_types.specs.declared.ids.JobId.{JobId}
+use Rattle.sched_core.specs.declared.start.Start.{Start}
 use Rattle.sched_core.specs.declared.entry.CoreEntry.{CoreEntry}
 use Rattle.sched_core.specs.declared.entry.CoreKind.{CoreKind}
 use Rattle.sched_core.specs.declared.entry.CoreKind.TheVariants.{Beat, Reserve, Commit, Undo, Update, Status}
@@ -64,35 +65,35 @@ made-absorb log e small =
     ∙ ap (λ n. length (bookings log) + n) (one_booked e.kind (length log) e.now) in
     one_more_is (is_booked e.kind) (length (bookings log)) (omega (arith, more, small)) ∙ sym more
 
-few_bookings : (base count : ℕ) (log : List CoreEntry) → count < 2 ^ 64 → IsLegal base count log
+few_bookings : (start : Start) (log : List CoreEntry) → start.count < 2 ^ 64 → IsLegal start log
     → length (bookings log) < 2 ^ 64
-few_bookings base count log fits legal =
-    let ids : HasIds base count (jobs log) = legal_ids base count log fits legal in
+few_bookings start log fits legal =
+    let ids : HasIds start (jobs log) = legal_ids start log fits legal in
     let small = ids.fits in
     let same : length (jobs log) ≡ length (bookings log) = length-map (bookings log) (λ b. b.job) in
     omega (arith, small, same)
 
 -- the lists after an entry are the longer log's
-pub absorbed : (base count : ℕ) (old : Lists) (old_keys new_keys : List (ℕ × List ℕ)) (log : List CoreEntry)
-    (e : CoreEntry) → count < 2 ^ 64 → AreBooks old old_keys log → IsLegal base count log
-    → IsRule (core_of base count log) e →
+pub absorbed : (start : Start) (old : Lists) (old_keys new_keys : List (ℕ × List ℕ)) (log : List CoreEntry)
+    (e : CoreEntry) → start.count < 2 ^ 64 → AreBooks old old_keys log → IsLegal start log
+    → IsRule (core_of start log) e →
     new_keys ≡ filter (key_stays e) old_keys ++ option_to_list (key_by e.kind (length log))
     → AreBooks (lists_next old e (length log)) new_keys (log ++ e ∷ [])
-absorbed base count old old_keys new_keys log e fits books legal rule_is keys =
-    let is : Facts (core_of base count log) e.kind = facts (core_of base count log) e rule_is in
-    let at : IsAtRowBy e.kind (servers_of log) = at_row_by (core_of base count log) e.kind is in
-    let fit : Fits base count log = legal_fits base count log fits legal in
-    let small : length (bookings (log ++ e ∷ [])) < 2 ^ 64 = few_bookings base count (log ++ e ∷ []) fits
-    (legal-push base count [] log e legal rule_is) in
+absorbed start old old_keys new_keys log e fits books legal rule_is keys =
+    let is : Facts (core_of start log) e.kind = facts (core_of start log) e rule_is in
+    let at : IsAtRowBy e.kind (servers_of log) = at_row_by (core_of start log) e.kind is in
+    let fit : Fits start log = legal_fits start log fits legal in
+    let small : length (bookings (log ++ e ∷ [])) < 2 ^ 64 = few_bookings start (log ++ e ∷ []) fits
+    (legal-push start [] log e legal rule_is) in
     record {
       rows = rw (books.rows, books.open_ones, books.held)
-          (rows-absorb base count log e fit.sound fit.room is
-          (legal_errors base count log fits legal (length log) (omega arith)) small);
+          (rows-absorb start log e fit.sound fit.room is
+          (legal_errors start log fits legal (length log) (omega arith)) small);
       keys = keys ∙ keys-absorb old_keys log e books.keys;
       held = rw books.held (sym (held_rows-push log e));
       jobs = rw books.rows (jobs-absorb old.jobs log e at books.jobs);
       jobs_placed = rw books.rows (jobs_placed-absorb old.jobs log e at books.jobs_placed);
-      open_ones = open-absorb base count old.open_ones old.jobs log e fit.sound is books.jobs
+      open_ones = open-absorb start old.open_ones old.jobs log e fit.sound is books.jobs
           books.jobs_placed books.open_ones;
       unspent = rw books.rows (unspent-absorb old.unspent log e at books.unspent);
       unspent_placed = rw books.rows (unspent_placed-absorb old.unspent log e at books.unspent_placed);

@@ -26,6 +26,7 @@ pub mod rows;
 pub mod rules;
 mod spending;
 mod standing;
+pub mod start;
 pub mod state;
 pub mod texts;
 mod vectors;

@@ -8,4 +8,4 @@ pub returns : goal.returns
 returns g c =
     let s = c.self.inside in
     rw (← c.self.view_is) (c.open_count.ensures ∙ ap length c.self.invariant.books.open_ones
-    ∙ length-map (open_jobs s.log.items) (open_of s.log.items))
+    ∙ length-map (open_jobs s.journal.log.items) (open_of s.journal.log.items))

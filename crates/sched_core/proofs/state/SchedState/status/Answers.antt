@@ -4,8 +4,7 @@ use Rattle.sched_core.specs.Laws.{IsRule}
 use Rattle.sched_core.specs.declared.call.Call.TheVariants as call
 use Rattle.sched_core.proofs.LegalLemmas.{core_of}
 use Rattle.sched_core.proofs.BookLemmas.{log_room-one}
-use Rattle.std.proofs.Common.{refl, arith}
-use Rattle.sched_core.proofs.MostLemmas.{still_state}
+use Rattle.sched_core.proofs.MostLemmas.{roomy_log}
 use Rattle.sched_core.proofs.state.SchedState.status.Goals as goal
 
 pub take_uncounted-requires-clause-rule : goal.take_uncounted-requires-clause-rule
@@ -17,7 +16,7 @@ take_uncounted-requires-clause-rule g c κs within =
       c.self.invariant.books.rows,
       c.self.invariant.books.open_ones,
     ) at c.status_entry-entry.ensures in
-    subst (λ l. IsRule (core_of s.base s.count l) c.status_entry-entry.result)
+    subst (λ l. IsRule (core_of s.start l) c.status_entry-entry.result)
     (sym c.in_ok-make_log_room.ensures.log) (call.Status c.args.now, tt, entry)
 
 pub take_uncounted-requires-clause-spends : goal.take_uncounted-requires-clause-spends
@@ -34,16 +33,14 @@ take_uncounted-requires-clause-keys_room g c κs within = rw c.status_entry-entr
 
 pub take_uncounted-requires-clause-log_room : goal.take_uncounted-requires-clause-log_room
 take_uncounted-requires-clause-log_room g c κs within =
-    log_room-one c.self.inside.books.lists c.status_entry-entry.result (length c.make_log_room.new.log.items)
-    (vec_len c.make_log_room.new.log) (vec_capacity c.make_log_room.new.log)
-    c.in_ok-make_log_room.ensures.spare
+    log_room-one c.self.inside.journal.books.lists c.status_entry-entry.result
+    (length c.make_log_room.new.log.items) (vec_len c.make_log_room.new.log)
+    (vec_capacity c.make_log_room.new.log) c.in_ok-make_log_room.ensures.spare
 
 pub take_uncounted-requires-clause-state : goal.take_uncounted-requires-clause-state
 take_uncounted-requires-clause-state g c κs within =
-    let s = c.self.inside in
-    still_state s.base s.count s.books s.books s.keys.items s.keys.items s.log.items
-    c.make_log_room.new.log.items
-    (vec_len s.log) (vec_capacity s.log) (vec_len c.make_log_room.new.log)
-    (vec_capacity c.make_log_room.new.log)
-    c.self.invariant refl refl c.in_ok-make_log_room.ensures.log c.in_ok-make_log_room.ensures.log_room
-    (omega arith) (omega arith)
+    let j = c.self.inside.journal in
+    roomy_log c.self.inside.start j.books j.keys.items j.log.items c.make_log_room.new.log.items
+    (vec_len j.log) (vec_capacity j.log) (vec_len c.make_log_room.new.log)
+    (vec_capacity c.make_log_room.new.log) c.self.invariant c.in_ok-make_log_room.ensures.log
+    c.in_ok-make_log_room.ensures.log_room
