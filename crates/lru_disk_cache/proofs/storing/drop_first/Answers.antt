@@ -1,6 +1,6 @@
 use Rattle.std.proofs.Common.{ap}
 use Rattle.lru_disk_cache.proofs.Standing.{first_dropped, first_others, first_kept}
-use Rattle.lru_disk_cache.proofs.steps.drop_first.Goals as goal
+use Rattle.lru_disk_cache.proofs.storing.drop_first.Goals as goal
 
 pub returns-clause-stands : goal.returns-clause-stands
 returns-clause-stands g c =

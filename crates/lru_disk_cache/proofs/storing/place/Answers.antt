@@ -4,7 +4,7 @@ use Rattle.lru_disk_cache.specs.Disk.{Stands, ButThese}
 use Rattle.lru_disk_cache.specs.Entries.{Listed}
 use Rattle.lru_disk_cache.proofs.Renames.{renamed, Carried}
 use Rattle.lru_disk_cache.proofs.Trims.{undone}
-use Rattle.lru_disk_cache.proofs.steps.place.Goals as goal
+use Rattle.lru_disk_cache.proofs.storing.place.Goals as goal
 
 pub returns-in-Ok-rename-clause-stands : goal.returns-in-Ok-rename-clause-stands
 returns-in-Ok-rename-clause-stands g c =

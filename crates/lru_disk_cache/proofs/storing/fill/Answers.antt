@@ -6,7 +6,7 @@ use Rattle.lru_disk_cache.proofs.Fills.{from_kept, content_after, outside_listed
 use Rattle.lru_disk_cache.proofs.Fills.{left_err, listed_untouched, fill_untouched}
 use Rattle.lru_disk_cache.proofs.Standing.{stands_removed, avoids_removed, avoids_end, keeps_then, end_all}
 use Rattle.lru_disk_cache.proofs.Trims.{absent_end}
-use Rattle.lru_disk_cache.proofs.steps.fill.Goals as goal
+use Rattle.lru_disk_cache.proofs.storing.fill.Goals as goal
 
 pub make_room-requires : goal.make_room-requires
 make_room-requires g c =

@@ -1,6 +1,6 @@
 use Rattle.std.proofs.Common.{◌∙◌, refl, ap, Err}
 use Rattle.lru_disk_cache.proofs.CallLemmas.{removed_others, gone_ok, taken_ok, taken_missing}
-use Rattle.lru_disk_cache.proofs.steps.remove_at.Goals as goal
+use Rattle.lru_disk_cache.proofs.storing.remove_at.Goals as goal
 
 pub returns-in-Ok-clause-others : goal.returns-in-Ok-clause-others
 returns-in-Ok-clause-others g c =

@@ -1,5 +1,5 @@
 use Rattle.lru_disk_cache.proofs.Reserving.{added_others, added_there}
-use Rattle.lru_disk_cache.proofs.steps.add_to.Goals as goal
+use Rattle.lru_disk_cache.proofs.storing.add_to.Goals as goal
 
 pub returns-in-Ok-clause-others : goal.returns-in-Ok-clause-others
 returns-in-Ok-clause-others g c = added_others c.args.path.now c.args.bytes.now c.append.result

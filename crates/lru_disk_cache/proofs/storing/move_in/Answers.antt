@@ -3,7 +3,7 @@ use Rattle.lru_disk_cache.proofs.CallLemmas.{left_same}
 use Rattle.lru_disk_cache.proofs.Fills.{stands_kept, same_keeps, same_outside, same_untouched, same_sized}
 use Rattle.lru_disk_cache.proofs.Fills.{same_content, same_kept, same_left, outside_then, untouched_then}
 use Rattle.lru_disk_cache.proofs.Fills.{on_err}
-use Rattle.lru_disk_cache.proofs.steps.move_in.Goals as goal
+use Rattle.lru_disk_cache.proofs.storing.move_in.Goals as goal
 
 pub fill-requires-clause-stands : goal.fill-requires-clause-stands
 fill-requires-clause-stands g c =

@@ -1,7 +1,7 @@
 use Rattle.lru_disk_cache.specs.Held.{Never}
 use Rattle.lru_disk_cache.proofs.CallLemmas.{left_same, same_at, at_then}
 use Rattle.lru_disk_cache.proofs.Fills.{wrote, wrote_others}
-use Rattle.lru_disk_cache.proofs.steps.write_temp.Goals as goal
+use Rattle.lru_disk_cache.proofs.storing.write_temp.Goals as goal
 
 pub returns-in_err-make_parents-clause-others : goal.returns-in_err-make_parents-clause-others
 returns-in_err-make_parents-clause-others g c =

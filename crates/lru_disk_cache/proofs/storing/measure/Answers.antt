@@ -1,6 +1,6 @@
 use Rattle.lru_disk_cache.specs.Held.{Lacks}
 use Rattle.lru_disk_cache.proofs.Reserving.{files_left, held_left}
-use Rattle.lru_disk_cache.proofs.steps.measure.Goals as goal
+use Rattle.lru_disk_cache.proofs.storing.measure.Goals as goal
 
 pub returns-in-Ok-clause-same : goal.returns-in-Ok-clause-same
 returns-in-Ok-clause-same g c = held_left (Lacks c.args.path.now) c.in-Ok.size

@@ -3,7 +3,7 @@ use Rattle.lru_disk_cache.proofs.Fills.{keeps_temp, stands_kept, under_temp, und
 use Rattle.lru_disk_cache.proofs.Fills.{temp_avoided, temp_untouched, untouched_then, untouched_listed}
 use Rattle.lru_disk_cache.proofs.Fills.{both_keep, still_found}
 use Rattle.lru_disk_cache.proofs.Standing.{end_all}
-use Rattle.lru_disk_cache.proofs.steps.announce.Goals as goal
+use Rattle.lru_disk_cache.proofs.storing.announce.Goals as goal
 
 pub make_room-requires : goal.make_room-requires
 make_room-requires g c =

@@ -1,6 +1,6 @@
 use Rattle.std.proofs.Common.{ap}
 use Rattle.lru_disk_cache.proofs.CallLemmas.{touched_same, read_same, same_then, content_before, fetch_counts}
-use Rattle.lru_disk_cache.proofs.steps.fetch.Goals as goal
+use Rattle.lru_disk_cache.proofs.storing.fetch.Goals as goal
 
 pub returns-in_err-touch-clause-others : goal.returns-in_err-touch-clause-others
 returns-in_err-touch-clause-others g c =

@@ -3,7 +3,7 @@ use Rattle.lru_disk_cache.proofs.Fills.{temp_apart, temp_avoided, keeps_temp, st
 use Rattle.lru_disk_cache.proofs.Fills.{under_both, kept_behind, left_behind, content_written, on_err}
 use Rattle.lru_disk_cache.proofs.Fills.{temp_untouched, store_untouched}
 use Rattle.std.specs.Option.{option_map}
-use Rattle.lru_disk_cache.proofs.steps.store.Goals as goal
+use Rattle.lru_disk_cache.proofs.storing.store.Goals as goal
 
 pub returns-in_err-write_temp-clause-stands : goal.returns-in_err-write_temp-clause-stands
 returns-in_err-write_temp-clause-stands g c =

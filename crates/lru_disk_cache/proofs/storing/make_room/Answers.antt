@@ -3,7 +3,7 @@ use Rattle.lru_disk_cache.specs.Entries.{total}
 use Rattle.lru_disk_cache.proofs.Exactly.{still_made, all_made}
 use Rattle.lru_disk_cache.proofs.Standing.{drops_more}
 use Rattle.lru_disk_cache.proofs.Trims.{trim_fits}
-use Rattle.lru_disk_cache.proofs.steps.make_room.Goals as goal
+use Rattle.lru_disk_cache.proofs.storing.make_room.Goals as goal
 
 pub loop-folder-preserved : goal.loop-folder-preserved
 loop-folder-preserved g c =

@@ -2,7 +2,7 @@
 use Rattle.std.proofs.Common.{◌≡◌, length}
 use Rattle.std.specs.Option.{option_map}
 use Rattle.lru_disk_cache.specs.Disk.{Drops, dropped, without_each}
-use Rattle.lru_disk_cache.proofs.steps.make_room.Given as goal
+use Rattle.lru_disk_cache.proofs.storing.make_room.Given as goal
 
 abbrev pub invariant-loop-folder : goal.invariant-loop-folder
 invariant-loop-folder g l =
