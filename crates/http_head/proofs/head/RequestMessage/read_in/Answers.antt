@@ -1,6 +1,6 @@
 use Rattle.std.proofs.lemmas.Result.{err_from_is_err_and}
 use Rattle.http_head.proofs.HeadLemmas.{is_request, no_request}
-use Rattle.http_head.proofs.head.read_in.Goals as goal
+use Rattle.http_head.proofs.head.RequestMessage.read_in.Goals as goal
 
 pub returns-then-not-is_body-clause-err : goal.returns-then-not-is_body-clause-err
 returns-then-not-is_body-clause-err c =

@@ -1,7 +1,7 @@
 use Rattle.std.proofs.Common.{sym, ◌∙◌}
 use Rattle.std.proofs.lemmas.Result.{err_from_is_err_and}
 use Rattle.http_head.proofs.ReplyLemmas.{is_reply, no_reply}
-use Rattle.http_head.proofs.head.read_reply_in.Goals as goal
+use Rattle.http_head.proofs.head.ReplyMessage.read_in.Goals as goal
 
 pub returns-then-not-allows-clause-err : goal.returns-then-not-allows-clause-err
 returns-then-not-allows-clause-err c =
