@@ -1,5 +1,4 @@
 use Rattle.std.proofs.Common.{◌<◌, ◌-◌, length, is_some, refl, sym, ap, ◌∙◌, arith}
-use Rattle.lru_metered.specs.Index.{hash_of}
 use Rattle.lru_metered.specs.Listing.{pairs_of}
 use Rattle.lru_metered.proofs.PartLemmas.{last-there}
 use Rattle.lru_metered.proofs.SeenLemmas.{held-at, last-place}
@@ -21,14 +20,11 @@ item-requires g c =
 
 pub returns : goal.returns
 returns g c =
-    let t = c.self.invariant in let nodes = c.self.inside.nodes in let heads = c.self.inside.heads.items in
-    let eq = g.K.PartialEq.eq in let law = g.met.K.Eq.laws in
-    let hash = λ (l : g.row.K.Denot). hash_of g.S.BuildHasher g.S.Hasher.Hasher c.self.inside.hasher
-    (g.K.Hash.hash_input l) in
+    let t = c.self.invariant in let nodes = c.self.inside.nodes in
     let n = length (pairs_of nodes) in
     let some : 0 < n = omega (arith, c.requires, ap length c.self.view_is) in
     let there = last-place nodes t.full n c.unwrap-at.result refl some
     (sym c.last.ensures ∙ c.unwrap-at.ensures) in
     let e = c.item.result.now in
-    rw (← c.self.view_is) (value-there eq hash law nodes heads t c.unwrap-at.result e e c.item.ensures refl
+    rw (← c.self.view_is) (value-there _ _ g.met.K.Eq.laws nodes _ t c.unwrap-at.result e e c.item.ensures refl
     refl (n - 1) there)
