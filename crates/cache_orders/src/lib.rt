@@ -13,10 +13,10 @@ mod entries;
 #[cfg(test)]
 mod names;
 #[cfg(test)]
+mod orders;
+#[cfg(test)]
 mod plain_cache;
 #[cfg(test)]
 mod plain_folder;
 #[cfg(test)]
 mod runs;
-#[cfg(test)]
-mod steps;
