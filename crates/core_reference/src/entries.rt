@@ -53,7 +53,9 @@ fn reserve(
     now: u64,
 ) -> Result<CoreEntry, AllocError>
     ensures { IfOk result (λ e. e ≡ rule (record {
-        start = record { base = base; count = count }; log = log.now }) (call.Reserve now)) }
+      start = record { base = base; count = count };
+      log = log.now;
+    }) (call.Reserve now)) }
 {
     let rows = servers(alloc, log)?;
     let given = u128::from(count) + u128::from(reservation_count(log));
@@ -166,7 +168,9 @@ pub fn rule(
     asked: &Call,
 ) -> Result<CoreEntry, AllocError>
     ensures rule { IfOk result (λ e. e ≡ rule (record {
-        start = record { base = base; count = count }; log = log.now }) asked.now) }
+      start = record { base = base; count = count };
+      log = log.now;
+    }) asked.now) }
 {
     match asked {
         Call::Reserve { now } => reserve(alloc, base, count, log, *now),

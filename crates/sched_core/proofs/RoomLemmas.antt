@@ -185,7 +185,7 @@ added : (start : Start) (log : List CoreEntry) (k : CoreKind) (number now : ℕ)
     (pairs log)
 added start log (Reserve (Job job reg forgiven)) number now distinct is old =
     all-both (HasLoadRoom log) (λ p. (reg == p.0) ≡ true → nat_lt (load_of log p.0) (p.1 + 1 + p.1 / 8)
-        ≡ true)
+    ≡ true)
     (λ p. load_of log p.0 + extra
     (Some (record { number = number; now = now; job = job; reg = reg; later = [] })) p.0 ≤ p.1 + 1 + p.1 /
     8)

@@ -47,7 +47,7 @@ returns-clause-ok g c =
     let t = temp_found c.self.inside.root c.in-Some.temp.now c.args.entry.now c.self.inside.pending
     c.self.invariant.reserved (sym c.in-Some.ensures.temp) in
     subst (λ s. OnOk c.add_to.result (BecameBy
-        (appended (entry_path s.disk c.args.entry.now) c.args.bytes.now)
+    (appended (entry_path s.disk c.args.entry.now) c.args.bytes.now)
     (g.F.Folder.held s.folder).files (g.F.Folder.held c.add_to.new.folder).files)) c.self.view_is
     (subst (λ p. OnOk c.add_to.result
     (BecameBy (appended p c.args.bytes.now) (g.F.Folder.held c.self.inside.folder).files
