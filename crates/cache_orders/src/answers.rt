@@ -1,4 +1,5 @@
 //! What calls answer, and where two caches differ.
+ghost use Rattle.std.specs.Prelude.{◌≡◌, OnOk};
 
 use lru_disk_cache::Error;
 use std::alloc::AllocError;
@@ -64,7 +65,9 @@ impl Difference {
 }
 
 /// Two answers are one.
-pub fn agree(given: Answer, wanted: Answer) -> Result<(), Difference> {
+pub fn agree(given: Answer, wanted: Answer) -> Result<(), Difference>
+    ensures one { OnOk result (given ≡ wanted) }
+{
     if given == wanted {
         return Ok(());
     }

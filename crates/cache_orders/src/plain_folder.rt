@@ -1,4 +1,5 @@
 //! The plain folder: files by place, least recent first, one of whose calls fails.
+ghost use Rattle.std.specs.Prelude.{◌≡◌, ◌≤◌, true};
 
 use crate::names::Place;
 use lru_disk_cache::fault::FolderFault;
@@ -30,7 +31,9 @@ impl Failing {
     }
 
     /// Whether so many calls may have failed: a call that finds no file does not fail behind that.
-    pub fn allows(self, faults: u64) -> bool {
+    pub fn allows(self, faults: u64) -> bool
+        ensures few { result ≡ true → faults ≤ 1 }
+    {
         match self {
             Failing::Never => faults == 0,
             Failing::Before(_) => faults == 1,

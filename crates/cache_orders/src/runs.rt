@@ -1,5 +1,6 @@
 //! The orders: each without faults, and with each call of the folder in turn failing before what it does and
 //! behind it; and an opening at the end of each, in which none fails.
+ghost use Rattle.std.specs.Prelude.{◌≡◌, OnOk};
 
 use crate::answers::{Answer, Difference, agree, done};
 use crate::calls::{given, wanted};
@@ -141,7 +142,9 @@ fn put<F: Folder + Drop>(
     same(folder.write(place.path(), bytes), plain.write(place, bytes))
 }
 
-fn same(given: Result<(), FolderFault>, wanted: Result<(), FolderFault>) -> Result<(), Difference> {
+fn same(given: Result<(), FolderFault>, wanted: Result<(), FolderFault>) -> Result<(), Difference>
+    ensures one { OnOk result (given ≡ wanted) }
+{
     if given == wanted {
         return Ok(());
     }
