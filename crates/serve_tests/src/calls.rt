@@ -32,11 +32,12 @@ pub struct Desk {
 
 /// A scheduler whose first job has the id `base`, over a dialer with this reply.
 pub fn desk(alloc: Global, base: u64, reply: &[u8]) -> Result<Desk, Fail> {
+    let dialer = dialer(alloc, reply)?;
     let (scheduler, pass) = TestScheduler::new(alloc, base)?;
     Ok(Desk {
         scheduler,
         pass,
-        dialer: dialer(alloc, reply)?,
+        dialer,
     })
 }
 
