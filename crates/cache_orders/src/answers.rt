@@ -71,9 +71,7 @@ impl Difference {
 }
 
 /// Two answers are one.
-pub fn agree(given: Answer, wanted: Answer) -> Result<(), Difference>
-    ensures one { OnOk result (given ≡ wanted) }
-{
+pub fn agree(given: Answer, wanted: Answer) -> Result<(), Difference> {
     if given == wanted {
         return Ok(());
     }
