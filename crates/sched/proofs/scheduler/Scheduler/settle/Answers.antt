@@ -2,11 +2,11 @@ use Rattle.std.proofs.Common.{refl, sym, ◌∙◌}
 use Rattle.sched.proofs.CourseLemmas.{gave_back}
 use Rattle.sched.proofs.scheduler.Scheduler.settle.Goals as goal
 
-pub returns-else-begins : goal.returns-else-begins
-returns-else-begins g c =
+pub returns-else-is_initial : goal.returns-else-is_initial
+returns-else-is_initial g c =
     rw c.in-Ok.is
     (gave_back _ _ _ _ _ _ _ _ c.undo-undone.ensures.counted c.undo-undone.ensures.read
-    (sym c.begins.ensures ∙ c.if-begins.false, refl))
+    (sym c.is_initial.ensures ∙ c.if-is_initial.false, refl))
 
 pub returns-in-Err : goal.returns-in-Err
 returns-in-Err g c =
