@@ -1,8 +1,7 @@
 //! `Following`: rows by their ids.
-ghost use Rattle.std.specs.Prelude.{◌≡◌, ◌≤◌, ◌<◌, ◌+◌, ◌%◌, ◌^◌, ◌==◌, [], ◌∷◌, ◌++◌, true, Some, None, OnOk};
-ghost use Rattle.std.specs.Prelude.{MatchOption, length, map, find, if◌then◌else◌, slice_index_or};
-ghost use Rattle.std.specs.List.{AllByRecursion};
-ghost use Rattle.following_rows.specs.Following.{AreFollowing, IsPlace, IsNowhere};
+ghost use Rattle.std.specs.Prelude.{◌≡◌, ◌<◌, ◌+◌, ◌%◌, ◌^◌, [], ◌∷◌, ◌++◌, true, OnOk, MatchOption};
+ghost use Rattle.std.specs.Prelude.{length, slice_index_or, slice_set};
+ghost use Rattle.following_rows.specs.Following.{AreFollowing, IsPlace, IsNowhere, HasNone, IsRowOf, IsPlaceOf};
 
 use crate::identified::Identified;
 use std::alloc::{AllocError, Global};
@@ -32,7 +31,7 @@ impl<T: Identified> Model for Following<T> {
 }
 
 /// The place that a row of that id has, if there is one.
-fn place_of<T: Identified>(rows: &[T], first: u64, id: u64) -> Option<usize>
+fn place_in<T: Identified>(rows: &[T], first: u64, id: u64) -> Option<usize>
     ensures { MatchOption result (IsNowhere (length rows.now) first id) (IsPlace (length rows.now) first id) }
 {
     let place = id.wrapping_sub(first) as usize;
@@ -86,28 +85,40 @@ impl<T: Identified> Following<T> {
         &self.rows
     }
 
+    /// The place of the row of that id, if there is one.
+    pub fn place_of(&self, id: u64) -> Option<usize>
+        ensures { MatchOption result (HasNone T.id_of self.now.rows id) (IsPlaceOf T.id_of self.now.rows id) }
+    {
+        place_in(&self.rows, self.first, id)
+    }
+
+    /// The row in a place.
+    pub fn at(&self, place: usize) -> T
+        requires { place < length self.now.rows }
+        ensures { (d : T) → result ≡ slice_index_or self.now.rows place d }
+    {
+        read_at(&self.rows, place)
+    }
+
     /// The row of that id, of which there is no other.
     pub fn get(&self, id: u64) -> Option<T>
-        ensures row { result ≡ find (λ r. T.id_of r == id) self.now.rows }
-        ensures only { MatchOption result (Unit {0})
-            (λ row. AllByRecursion (λ r. (T.id_of r == id) ≡ true → r ≡ row) self.now.rows) }
+        ensures { MatchOption result (HasNone T.id_of self.now.rows id) (IsRowOf T.id_of self.now.rows id) }
     {
-        match place_of(&self.rows, self.first, id) {
+        match place_in(&self.rows, self.first, id) {
             Some(place) => Some(read_at(&self.rows, place)),
             None => None,
         }
     }
 
-    /// Puts a row where the one of its id is. Nothing changes where there is none.
-    pub fn put(&mut self, row: T)
-        ensures rows { self.new.rows ≡ map (λ r. if T.id_of r == T.id_of row then row else r) self.old.rows }
+    /// Puts a row in the place of one with the same id.
+    pub fn put(&mut self, place: usize, row: T)
+        requires within { place < length self.old.rows }
+        requires same { (d : T) → T.id_of (slice_index_or self.old.rows place d) ≡ T.id_of row }
+        ensures rows { self.new.rows ≡ slice_set self.old.rows place row }
         ensures first { self.new.first ≡ self.old.first }
         ensures room { self.new.has_room ≡ self.old.has_room }
     {
-        match place_of(&self.rows, self.first, row.id()) {
-            Some(place) => self.rows[place] = row,
-            None => (),
-        }
+        self.rows[place] = row;
     }
 
     /// Makes room for one row more. Refused for want of memory alone; the rows stay.
@@ -125,6 +136,7 @@ impl<T: Identified> Following<T> {
         requires follows { T.id_of row ≡ (self.old.first + length self.old.rows) % 2 ^ 64 }
         ensures rows { self.new.rows ≡ self.old.rows ++ row ∷ [] }
         ensures first { self.new.first ≡ self.old.first }
+        ensures few { length self.new.rows < 2 ^ 63 }
     {
         match self.rows.push(row) {
             Ok(()) => (),

@@ -1,6 +1,6 @@
 use Rattle.std.proofs.Common.{◌-◌, ◌+◌, ◌%◌, ◌^◌, arith}
 use Rattle.following_rows.proofs.FollowLemmas.{apart_from}
-use Rattle.following_rows.proofs.followed.place_of.Goals as goal
+use Rattle.following_rows.proofs.followed.place_in.Goals as goal
 
 pub returns-else-place-rows : goal.returns-else-place-rows
 returns-else-place-rows g c =
