@@ -9,6 +9,8 @@
 #![tactic(auto)]
 
 pub mod answers;
+mod booked;
+mod bookings;
 mod books;
 pub mod call;
 mod change;
@@ -28,6 +30,5 @@ mod spending;
 mod standing;
 pub mod state;
 pub mod texts;
-mod vectors;
 
 pub use standing::HEARTBEAT_TIMEOUT;
