@@ -1,6 +1,6 @@
 -- The reservations as they are kept: what is asked of the row of a job, what an entry does to one row or to those
 -- that may be unended, and what is counted.
-use Rattle.std.proofs.Common.{◌≡◌, ℕ, zero, suc, ◌+◌, ◌%◌, ◌^◌, ◌<◌, ◌≤◌, List, [], ◌∷◌, ◌++◌, Bool, true, false, cond}
+use Rattle.std.proofs.Common.{◌≡◌, ℕ, zero, suc, ◌+◌, ◌-◌, ◌%◌, ◌^◌, ◌<◌, ◌≤◌, List, [], ◌∷◌, ◌++◌, Bool, true, false, cond}
 use Rattle.std.proofs.Common.{not, ◌&&◌, ◌||◌, map, filter, length, get_or, set, take, drop, Option, Some, None, refl}
 use Rattle.std.proofs.Common.{ap, ◌∙◌, sym, subst, arith, append-nil, length-append, eq-eqb, eqb-true, sum_by}
 use Rattle.std.specs.Prelude.{◌==◌, option_to_list, unwrap_or, find, if◌then◌else◌, MatchOption, IsSome, is_some}
@@ -8,7 +8,7 @@ use Rattle.std.specs.List.{AllByRecursion, list_any, filter_map, cons_option}
 use Rattle.std.specs.Option.{option_map}
 use Rattle.std.proofs.lemmas.Bool.{false≢true}
 use Rattle.std.proofs.lemmas.List.{map-append, append_assoc, length-map, length-set, take_more, drop_more, take-append-drop}
-use Rattle.std.proofs.lemmas.List.{get_or_default, length-take}
+use Rattle.std.proofs.lemmas.List.{get_or_default, length-take, length-drop}
 use Rattle.std.proofs.lemmas.List.Elements.{filter-append, filter_map-append}
 use Rattle.std.proofs.lemmas.List.Sums.{sum_by-cons, sum_by-set, sum_by_push, sum_by_more_le}
 use Rattle.dist_types.specs.declared.addr.Addr.{Addr}
@@ -206,11 +206,15 @@ sweep-length k bs now i is =
     ∙ length-append (take i bs) (drop i bs) in
     omega (arith, whole, front, both)
 
-pub sweep-more : (k : CoreKind) (bs now new : List BookedRow) (i : ℕ) (d : BookedRow) → i < length bs
+one_of : (bs : List BookedRow) (i : ℕ) → i < length bs → BookedRow
+one_of [] i lt = absurd (omega (arith, lt))
+one_of (b ∷ bs) i lt = b
+
+swept : (k : CoreKind) (bs now new : List BookedRow) (i : ℕ) (d : BookedRow) → i < length bs
     → now ≡ map (booked_after k) (take i bs) ++ drop i bs
     → ((d : BookedRow) → new ≡ set now i (booked_after k (get_or now i d)))
     → new ≡ map (booked_after k) (take (i + 1) bs) ++ drop (i + 1) bs
-sweep-more k bs now new i d lt so_far does =
+swept k bs now new i d lt so_far does =
     let front : List BookedRow = map (booked_after k) (take i bs) in
     let rest : List BookedRow = drop (i + 1) bs in
     let row : BookedRow = get_or bs i d in
@@ -224,6 +228,12 @@ sweep-more k bs now new i d lt so_far does =
     ∙ sym (append_assoc front (booked_after k row ∷ []) rest)
     ∙ ap (λ l. l ++ rest) (sym (map-append (booked_after k) (take i bs) (row ∷ []))
     ∙ ap (map (booked_after k)) (sym (take_more bs i d lt)))
+
+pub sweep-more : (k : CoreKind) (bs now new : List BookedRow) (i : ℕ) → i < length bs
+    → now ≡ map (booked_after k) (take i bs) ++ drop i bs
+    → ((d : BookedRow) → new ≡ set now i (booked_after k (get_or now i d)))
+    → new ≡ map (booked_after k) (take (i + 1) bs) ++ drop (i + 1) bs
+sweep-more k bs now new i lt so_far does = swept k bs now new i (one_of bs i lt) lt so_far does
 
 take_past : {X : Type 0} (xs : List X) (i : ℕ) → length xs ≤ i → take i xs ≡ xs
 take_past [] zero le = refl
@@ -244,11 +254,22 @@ sweep-end k bs now i le is = is ∙ ap (λ l. map (booked_after k) l ++ drop i b
 
 -- the ended ones at the front
 
+ended_none : (n : ℕ) → AreEnded (take n [])
+ended_none zero = tt
+ended_none (suc n) = tt
+
+ended_both : (bs : List BookedRow) (i j n : ℕ) → n ≡ i + j → AreEnded (take i bs) → AreEnded (take j (drop i bs))
+    → AreEnded (take n bs)
+ended_both [] i j n is front behind = ended_none n
+ended_both (b ∷ bs) zero j n is front behind =
+    subst (λ m. AreEnded (take m (b ∷ bs))) (let same : j ≡ n = omega (arith, is) in same) behind
+ended_both (b ∷ bs) (suc i) j zero is front behind = absurd (omega (arith, is))
+ended_both (b ∷ bs) (suc i) j (suc n) is front behind =
+    (front.0, ended_both bs i j n (omega (arith, is)) front.1 behind)
+
 pub ended_more : (bs : List BookedRow) (i j : ℕ) → AreEnded (take i bs) → AreEnded (take j (drop i bs))
     → AreEnded (take (i + j) bs)
-ended_more [] i j front behind = tt
-ended_more (b ∷ bs) zero j front behind = behind
-ended_more (b ∷ bs) (suc i) j front behind = (front.0, ended_more bs i j front.1 behind)
+ended_more bs i j front behind = ended_both bs i j (i + j) refl front behind
 
 ended_held : (bs : List BookedRow) → AreEnded bs → held_view bs ≡ []
 ended_held [] ended = refl
@@ -275,6 +296,25 @@ live_held bs i ended = ap (λ l. l ++ held_view (drop i bs)) (sym (ended_held (t
 pub live_open : (bs : List BookedRow) (i : ℕ) → AreEnded (take i bs) → open_view (drop i bs) ≡ open_view bs
 live_open bs i ended = ap (λ l. l ++ open_view (drop i bs)) (sym (ended_open (take i bs) ended))
     ∙ sym (filter_map-append open_part_of (take i bs) (drop i bs)) ∙ ap open_view (take-append-drop i bs)
+
+-- the rest of a list, as a slice of it
+pub rest_is : {X : Type 0} (xs : List X) (n : ℕ) → take (length xs - n) (drop n xs) ≡ drop n xs
+rest_is xs n = let behind = length-drop n xs in take_past (drop n xs) (length xs - n) (omega (arith, behind))
+
+pub counted_ended : (bs : List BookedRow) (open_ones unspent n more : ℕ) → AreCounted bs open_ones unspent n
+    → more ≤ length (take (length bs - n) (drop n bs)) → AreEnded (take more (take (length bs - n) (drop n bs)))
+    → AreCounted bs open_ones unspent (n + more)
+counted_ended bs open_ones unspent n more is le ended =
+    let few = ap length (rest_is bs n) in
+    let behind = length-drop n bs in
+    let within = is.within in
+    record {
+      few = is.few;
+      open_are = is.open_are;
+      unspent_are = is.unspent_are;
+      within = omega (arith, le, few, behind, within);
+      ended_are = ended_more bs n more is.ended_are (subst (λ l. AreEnded (take more l)) (rest_is bs n) ended);
+    }
 
 -- what is asked of the reservation of a job
 
@@ -501,15 +541,15 @@ few_unspent_rows bs open_ones unspent ended is =
 pub some_open : (bs : List BookedRow) (open_ones unspent ended i : ℕ) (b : BookedRow)
     → AreCounted bs open_ones unspent ended → i < length bs → b ≡ get_or bs i b
     → is_some (open_part_of b) ≡ true → 0 < open_ones
-some_open bs open_ones unspent ended i b is lt at yes =
+some_open bs open_ones unspent ended i b is lt at so =
     let are = is.open_are in let sum = open_sum bs in let less = sum_by_more_le open_size bs i b lt in
-    let here : open_size (get_or bs i b) ≡ 1 = ap open_size (sym at) ∙ ap size yes in omega (arith, are, sum, less, here)
+    let here : open_size (get_or bs i b) ≡ 1 = ap open_size (sym at) ∙ ap size so in omega (arith, are, sum, less, here)
 
 pub some_unspent : (bs : List BookedRow) (open_ones unspent ended i : ℕ) (b : BookedRow)
     → AreCounted bs open_ones unspent ended → i < length bs → b ≡ get_or bs i b → b.unspent ≡ true → 0 < unspent
-some_unspent bs open_ones unspent ended i b is lt at yes =
+some_unspent bs open_ones unspent ended i b is lt at so =
     let are = is.unspent_are in let sum = unspent_sum bs in let less = sum_by_more_le unspent_size bs i b lt in
-    let here : unspent_size (get_or bs i b) ≡ 1 = ap unspent_size (sym at) ∙ ap size yes in
+    let here : unspent_size (get_or bs i b) ≡ 1 = ap unspent_size (sym at) ∙ ap size so in
     omega (arith, are, sum, less, here)
 
 ended_set : (bs : List BookedRow) (n i : ℕ) (new : BookedRow) → AreEnded (take n bs)
@@ -643,3 +683,7 @@ held_here bs i b lt is up so_far = record {
 pub held_nowhere : (bs : List BookedRow) (i : ℕ) → length bs ≤ i → job_view bs ≡ job_view (drop i bs)
     → job_view bs ≡ []
 held_nowhere bs i le so_far = so_far ∙ ap job_view (drop_past bs i le)
+
+pub none_of_length : (ns : List ℕ) → (length ns == 0) ≡ true → ns ≡ []
+none_of_length [] e = refl
+none_of_length (n ∷ ns) e = let none = eqb-true (length (n ∷ ns)) 0 e in absurd (omega (arith, none))

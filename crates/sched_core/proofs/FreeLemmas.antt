@@ -87,23 +87,27 @@ freed_next kind bs b first rows new so_far freed kept = split (freed_booked kind
         (row_freed kind (held_view bs) r)) (sym t) ∙ freed_row kind bs b r) first
 
 -- one turn of a pass over reservations
-pub freed-more : (kind : CoreKind) (bs : List BookedRow) (i : ℕ) (d : BookedRow)
-    (first rows new : List ServerRow) → i < length bs → rows ≡ map (row_freed kind (held_view (take i bs))) first →
-    (freed_booked kind (get_or bs i d) ≡ true → new ≡ map (row_lowered (get_or bs i d).reg) rows)
-    → (freed_booked kind (get_or bs i d) ≡ false → new ≡ rows)
+pub freed-more : (kind : CoreKind) (bs : List BookedRow) (i : ℕ) (b : BookedRow)
+    (first rows new : List ServerRow) → i < length bs → b ≡ get_or bs i b
+    → rows ≡ map (row_freed kind (held_view (take i bs))) first →
+    (freed_booked kind b ≡ true → new ≡ map (row_lowered b.reg) rows)
+    → (freed_booked kind b ≡ false → new ≡ rows)
     → new ≡ map (row_freed kind (held_view (take (i + 1) bs))) first
-freed-more kind bs i d first rows new within so_far freed kept =
-    freed_next kind (take i bs) (get_or bs i d) first rows new so_far freed kept
-    ∙ ap (λ l. map (row_freed kind (held_view l)) first) (sym (take_more bs i d within))
+freed-more kind bs i b first rows new within is so_far freed kept =
+    freed_next kind (take i bs) b first rows new so_far freed kept
+    ∙ ap (λ l. map (row_freed kind (held_view l)) first)
+    (ap (λ c. take i bs ++ c ∷ []) is ∙ sym (take_more bs i b within))
 
 -- no reservation is freed
 freed_none : (kind : CoreKind) (reg : ℕ) (held : List HeldRow)
     → AllByRecursion (λ h. frees_by kind h.job h.reg ≡ false) held → freed_at kind held reg ≡ 0
 freed_none kind reg [] all = refl
 freed_none kind reg (h ∷ held) all =
-    sum_by-cons (λ x. cond (frees_by kind x.job x.reg && (x.reg == reg)) 1 0) h held
-    ∙ ap (λ t. cond (t && (h.reg == reg)) 1 0 + freed_at kind held reg) all.0
-    ∙ freed_none kind reg held all.1
+    let more = sum_by-cons (λ x. cond (frees_by kind x.job x.reg && (x.reg == reg)) 1 0) h held in
+    let here : ◌≡◌ {A = ℕ} (cond (frees_by kind h.job h.reg && (h.reg == reg)) 1 0) 0 =
+    ap (λ t. cond {A = ℕ} (t && (h.reg == reg)) 1 0) all.0 in
+    let rest = freed_none kind reg held all.1 in
+    omega (arith, more, here, rest)
 
 pub none_freed : (kind : CoreKind) (held : List HeldRow) (rows : List ServerRow)
     → AllByRecursion (λ h. frees_by kind h.job h.reg ≡ false) held → rows ≡ map (row_freed kind held) rows

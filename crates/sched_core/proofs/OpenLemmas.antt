@@ -206,7 +206,7 @@ quiet_part k b state true true frees spends begin move none other ends moves =
     hidden false = refl
 quiet_part k b None false true frees spends begin move none other ends moves = rw none (hidden (not frees))
   where
-    hidden : (f : Bool) → cond (f && true) None None ≡ None {A = OpenRow}
+    hidden : (f : Bool) → cond {A = Option OpenRow} (f && true) None None ≡ None
     hidden true = refl
     hidden false = refl
 quiet_part k b (Some s) false true frees spends begin move none other ends moves =

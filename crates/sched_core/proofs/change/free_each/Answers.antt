@@ -13,8 +13,8 @@ loop-b-init g c = (
 
 pub loop-b-preserved : goal.loop-b-preserved
 loop-b-preserved g c = (
-  freed-more c.args.kind.now c.args.bookings.now c.loop-b.b-index _ c.args.rows.now.rows
-      c.loop-b.rows.rows c.lower_if.new.rows.rows c.loop-b-test.true c.loop-b.invariant.0
+  freed-more c.args.kind.now c.args.bookings.now c.loop-b.b-index c.b-item.result c.args.rows.now.rows
+      c.loop-b.rows.rows c.lower_if.new.rows.rows c.loop-b-test.true c.b-item.is c.loop-b.invariant.0
       (λ t. c.lower_if.ensures.freed (c.freed.ensures ∙ t))
       (λ t. c.lower_if.ensures.kept (c.freed.ensures ∙ t)),
   c.lower_if.ensures.places
