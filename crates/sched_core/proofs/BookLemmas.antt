@@ -4,7 +4,7 @@ use Rattle.std.proofs.Common.{◌≡◌, ℕ, ◌+◌, ◌^◌, ◌<◌, ◌≤�
 use Rattle.std.proofs.Common.{◌||◌, map, filter, length, Option, Some, None, refl, ap, ◌∙◌, sym, subst, arith}
 use Rattle.std.proofs.Common.{append-nil, length-append}
 use Rattle.std.proofs.Common.{◌-◌, ◌%◌, min, sum_by}
-use Rattle.std.specs.Prelude.{◌==◌, option_to_list, if◌then◌else◌, IfSome}
+use Rattle.std.specs.Prelude.{◌==◌, option_to_list, if◌then◌else◌, IfSome, IsSome}
 use Rattle.std.specs.List.{AllByRecursion, list_any, find}
 use Rattle.std.specs.Option.{option_map}
 use Rattle.std.proofs.lemmas.Bool.{false≢true}
@@ -26,7 +26,7 @@ use Rattle.sched_core.specs.Prune.{prune, left}
 use Rattle.sched_core.specs.Rule.{place_at, is_left, counts_over}
 use Rattle.sched_core.specs.Laws.{IsRule, IsLegal, AreDistinct}
 use Rattle.sched_core.specs.Books.{Lists, AreBooks, IsBookedAt, key_stays, key_by, unspent_stays, unspent_by}
-use Rattle.sched_core.specs.Books.{job_over, job_by, lists_next, unspent_next, SpendsOne, place_if, served_by}
+use Rattle.sched_core.specs.Books.{job_over, job_by, lists_next, unspent_next, SpendsOne, MayReserve, place_if, served_by}
 use Rattle.sched_core.specs.Books.{held_stays, held_after, held_by, booked_after, booked_by}
 use Rattle.sched_core.specs.Books.{place_of_unspent, place_of_booking}
 use Rattle.sched_core.specs.Booked.{UnspentRow, AreReordered, booked_new, job_part_of, held_view, job_view}
@@ -213,6 +213,8 @@ absorbed base count old old_keys new_keys log e fits books legal rule_is keys =
           (legal_errors base count log fits legal (length log) (omega arith)) small);
       keys = keys ∙ keys-absorb old_keys log e books.keys;
       jobs = rw books.rows same_jobs;
+      made = rw books.rows (made_are (map (booked_after e.kind) bs
+          ++ option_to_list (booked_by e.kind (servers_of log) (length log) e.now)) (log ++ e ∷ []) same_jobs);
       apart = rw books.rows (subst AreDistinct (sym same_jobs) (legal_distinct base count (log ++ e ∷ []) fits
           (legal-push base count [] log e legal rule_is)));
       held = rw books.rows (held_next e.kind bs made
@@ -233,6 +235,16 @@ absorbed base count old old_keys new_keys log e fits books legal rule_is keys =
     }
 
 -- room
+
+-- where a reservation is made, the entry is a reserve's
+pub made_reserves : (k : CoreKind) (rows : List ServerRow) (number now : ℕ) → IsSome (booked_by k rows number now)
+    → MayReserve k
+made_reserves (Reserve r) rows number now some = tt
+made_reserves (Beat server nonce cpus key pruned reaped replaced is_new) rows number now some = absurd (false≢true some)
+made_reserves (Commit job state kept) rows number now some = absurd (false≢true some)
+made_reserves (Undo job noted was_ended) rows number now some = absurd (false≢true some)
+made_reserves (Update server job state answer) rows number now some = absurd (false≢true some)
+made_reserves (Status pruned servers cpus n) rows number now some = absurd (false≢true some)
 
 pub at_most_one : {X : Type 0} (o : Option X) → length (option_to_list o) ≤ 1
 at_most_one None = omega arith

@@ -196,7 +196,7 @@ quiet_part k b state unspent false frees spends begin move none other ends moves
 quiet_part k b state true true frees spends begin move none other ends moves =
     rw other (hidden (not frees))
   where
-    hidden : (f : Bool) → cond (f && false) (option_map (λ s. record {
+    hidden : (f : Bool) → cond {A = Option OpenRow} (f && false) (option_map (λ s. record {
       job = b.job;
       reg = Some b.reg;
       server = Some b.server;
@@ -212,12 +212,12 @@ quiet_part k b None false true frees spends begin move none other ends moves = r
 quiet_part k b (Some s) false true frees spends begin move none other ends moves =
     rw (none, ends, moves) (kept (not (closes_by k b.job (Some b.reg))))
   where
-    kept : (f : Bool) → cond (f && true) (Some (record {
+    kept : (f : Bool) → cond {A = Option OpenRow} (f && true) (Some (record {
       job = b.job;
       reg = Some b.reg;
       server = Some b.server;
       state = unwrap_or (moves_by k b.job) s;
-    })) None ≡ cond f (Some (record {
+    })) None ≡ cond {A = Option OpenRow} f (Some (record {
       job = b.job;
       reg = Some b.reg;
       server = Some b.server;
@@ -241,7 +241,7 @@ undo_part : (k : CoreKind) (b : BookedRow) → b.unspent ≡ true → (b.unended
     → open_part_of (booked_after k b) ≡ kept_open k (open_part_of b)
 undo_part k b free ended = rw (free, ended) (hidden b.unended)
   where
-    hidden : (u : Bool) → None ≡ kept_open k (cond (u && false) (option_map (λ s. record {
+    hidden : (u : Bool) → None ≡ kept_open k (cond {A = Option OpenRow} (u && false) (option_map (λ s. record {
       job = b.job;
       reg = Some b.reg;
       server = Some b.server;

@@ -326,6 +326,7 @@ pub record AreBooks (books : Lists) (kept_keys : List (ℕ × List ℕ)) (log : 
   pub rows : books.rows ≡ servers_of log
   pub keys : kept_keys ≡ keys_of log
   pub jobs : map (λ b. b.job) books.booked ≡ map (λ b. b.job) (bookings log)
+  pub made : length books.booked ≡ length (bookings log)
   pub apart : AreDistinct (map (λ b. b.job) books.booked)
   pub held : held_view books.booked ≡ held_rows log
   pub unspent : map place_of_unspent (unspent_view books.booked) ≡ map place_of_booking (unspent log)

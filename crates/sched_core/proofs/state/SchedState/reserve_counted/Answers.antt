@@ -5,7 +5,7 @@ use Rattle.sched_core.specs.declared.entry.CoreKind.TheVariants.{Reserve}
 use Rattle.sched_core.specs.Laws.{IsRule}
 use Rattle.sched_core.specs.declared.call.Call.TheVariants as call
 use Rattle.sched_core.proofs.LegalLemmas.{core_of}
-use Rattle.sched_core.proofs.BookLemmas.{log_room-one, made_are}
+use Rattle.sched_core.proofs.BookLemmas.{log_room-one}
 use Rattle.sched_core.proofs.StateLemmas.{reserved_row}
 use Rattle.std.proofs.Common.{◌≤◌, ◌+◌, ◌*◌, ◌^◌, refl, arith}
 use Rattle.sched_core.specs.Most.{most_standing}
@@ -28,7 +28,7 @@ take-requires-clause-rule g c κs within =
       c.from-2.ensures,
       c.made.ensures,
       c.self.invariant.books.rows,
-      made_are c.self.inside.books.lists.booked c.self.inside.log.items c.self.invariant.books.jobs,
+      c.self.invariant.books.made,
     ) at c.in_ok-reserved.ensures.reserved in
     subst (λ l. IsRule (core_of s.base s.count l) step) (sym c.in_ok-make_job_room.ensures.log)
     (call.Reserve c.args.now, tt, ap (λ r. record { now = c.args.now; kind = Reserve r }) reserved)
@@ -59,7 +59,7 @@ returns-in_err-reserved-clause-looks g c = rw (← c.self.view_is) (λ h fits.
       c.from-2.ensures,
       c.made.ensures,
       c.self.invariant.books.rows,
-      made_are c.self.inside.books.lists.booked c.self.inside.log.items c.self.invariant.books.jobs,
+      c.self.invariant.books.made,
     )
     at c.reserved.ensures.looks in
     decide_bound _ h c.args.steps.now c.reserved.new.steps
@@ -73,7 +73,7 @@ returns-in_err-make_job_room-clause-looks g c = rw (← c.self.view_is) (λ h fi
       c.from-2.ensures,
       c.made.ensures,
       c.self.invariant.books.rows,
-      made_are c.self.inside.books.lists.booked c.self.inside.log.items c.self.invariant.books.jobs,
+      c.self.invariant.books.made,
     )
     at c.reserved.ensures.looks in
     decide_bound _ h c.args.steps.now c.reserved.new.steps
@@ -87,7 +87,7 @@ returns-in_err-made-clause-looks g c = rw (← c.self.view_is) (λ h fits.
       c.from-2.ensures,
       c.made.ensures,
       c.self.invariant.books.rows,
-      made_are c.self.inside.books.lists.booked c.self.inside.log.items c.self.invariant.books.jobs,
+      c.self.invariant.books.made,
     )
     at c.reserved.ensures.looks in
     decide_bound _ h c.args.steps.now c.reserved.new.steps
@@ -101,7 +101,7 @@ returns-clause-looks g c = rw (← c.self.view_is) (λ h fits.
       c.from-2.ensures,
       c.made.ensures,
       c.self.invariant.books.rows,
-      made_are c.self.inside.books.lists.booked c.self.inside.log.items c.self.invariant.books.jobs,
+      c.self.invariant.books.made,
     )
     at c.reserved.ensures.looks in
     let is = rw (
@@ -109,7 +109,7 @@ returns-clause-looks g c = rw (← c.self.view_is) (λ h fits.
       c.from-2.ensures,
       c.made.ensures,
       c.self.invariant.books.rows,
-      made_are c.self.inside.books.lists.booked c.self.inside.log.items c.self.invariant.books.jobs,
+      c.self.invariant.books.made,
     )
     at c.in_ok-reserved.ensures.reserved in
     let small : s.books.places ≤ 2 ^ (h + 1) =

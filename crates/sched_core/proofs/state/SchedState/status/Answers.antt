@@ -1,8 +1,9 @@
-use Rattle.std.proofs.Common.{◌≡◌, length, ◌∙◌, sym, subst}
+use Rattle.std.proofs.Common.{◌≡◌, length, ap, ◌∙◌, sym, subst}
 use Rattle.std.specs.Prelude.{vec_len, vec_capacity}
 use Rattle.sched_core.specs.Laws.{IsRule}
 use Rattle.sched_core.specs.declared.call.Call.TheVariants as call
 use Rattle.sched_core.proofs.LegalLemmas.{core_of}
+use Rattle.sched_core.specs.Log.{logged}
 use Rattle.sched_core.specs.Rows.{servers_of, open_rows}
 use Rattle.sched_core.specs.Rule.{counts_over}
 use Rattle.sched_core.proofs.BookLemmas.{log_room-one, counts_are}
@@ -43,3 +44,18 @@ take_uncounted-requires-clause-state g c κs within =
     (vec_capacity c.make_log_room.new.log)
     c.self.invariant refl refl c.in_ok-make_log_room.ensures.log c.in_ok-make_log_room.ensures.log_room
     refl (omega arith) (omega arith)
+
+pub returns-clause-logged : goal.returns-clause-logged
+returns-clause-logged g c =
+    let s = c.self.inside in
+    let counts : c.counts-answer.result ≡ counts_over (servers_of s.log.items) (open_rows s.log.items) c.args.now =
+    c.counts-answer.ensures ∙ counts_are s.books.lists s.keys.items s.log.items c.args.now c.self.invariant.books in
+    let entry = rw (c.in_ok-pruned.ensures, counts, c.self.invariant.books.rows) at c.status_entry-entry.ensures in
+    rw (← c.self.view_is, c.take_uncounted.ensures.log, c.in_ok-make_log_room.ensures.log)
+    (ap (logged (core_of s.base s.count s.log.items)) entry)
+
+pub returns-clause-answer : goal.returns-clause-answer
+returns-clause-answer g c =
+    let s = c.self.inside in
+    rw (← c.self.view_is) (c.counts-answer.ensures
+    ∙ counts_are s.books.lists s.keys.items s.log.items c.args.now c.self.invariant.books)
