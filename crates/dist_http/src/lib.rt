@@ -21,7 +21,7 @@ pub use http_head::error::HttpError;
 pub use http_head::head::read_head;
 pub use http_head::request::Request;
 pub use http_head::word::Word;
-pub use http_routes::calls::read_reply;
+pub use http_routes::call_reply::read_reply;
 pub use http_routes::err_json::ErrJson;
 pub use http_routes::refusal::RouilleBincodeError;
 pub use http_routes::reply::{Response, bincode_response, prepare_response};

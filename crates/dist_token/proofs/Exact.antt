@@ -22,7 +22,7 @@ use Rattle.dist_token.specs.Verdict.{Parts, three, parts_of, bytes_of, value_of,
 use Rattle.dist_token.specs.Verdict.{and_then, mac_test, header_test, said, shape_test, tested, job_claims}
 use Rattle.dist_token.specs.Verdict.{match_test, job_verdict, server_claims, server_test, server_verdict}
 use Rattle.dist_types.specs.declared.addr.Addr.{Addr}
-use Rattle.dist_token.specs.Accepted.{Says, IsTokenFor, IsServerTokenFor}
+use Rattle.dist_token.specs.Accepted.{IsSignedClaims, IsTokenFor, IsServerTokenFor}
 use Rattle.dist_token.proofs.Inversions.{and_then-ok, ok_or-ok, option_and_then-some, passes_if, tested-ok}
 use Rattle.dist_token.proofs.Inversions.{three-some}
 use Rattle.dist_token.proofs.Dotless.{parts_of_last, parts_of_more}
@@ -71,7 +71,7 @@ mac_is key p x bytes h =
     part_is p.mac m.0 bytes (ok_or-ok (bytes_of p.mac) (BadToken Mac) m.0 m.1) ∙ ap encoded equal
 
 pub tested-to_says : (key token : List ℕ) (value : Data) → IsBytes token → tested key token ≡ Ok value
-    → Says key token value
+    → IsSignedClaims key token value
 tested-to_says key token value bytes h =
     let a = and_then-ok (shape_test token) (λ p. and_then (mac_test key p) (λ _. said p)) value h in
     let p = a.0 in
@@ -109,7 +109,7 @@ dotless part rest value h e =
 equal_bytes : (xs : List ℕ) → bytes_eq xs xs ≡ true
 equal_bytes xs = (bytes_eq-Decides xs xs).1 refl
 
-pub says-to_tested : (key token : List ℕ) (value : Data) → IsBytes token → Says key token value
+pub says-to_tested : (key token : List ℕ) (value : Data) → IsBytes token → IsSignedClaims key token value
     → tested key token ≡ Ok value
 says-to_tested key token value bytes s =
     let signed = signed_text s.header s.claims in

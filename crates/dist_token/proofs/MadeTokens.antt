@@ -11,7 +11,7 @@ use Rattle.std.proofs.lemmas.Fmt.{IsAscii-decimal}
 use Rattle.std.proofs.lemmas.Slice.Eq.{bytes_eq-Decides}
 use Rattle.serde_json.specs.Data.{Data}
 use Rattle.serde_json.specs.Read.{read}
-use Rattle.dist_types.specs.Answers.{Gives}
+use Rattle.dist_types.specs.Answers.{IsTokenAnswer}
 use Rattle.dist_types.specs.declared.token_error.TokenError.{TokenError}
 use Rattle.dist_types.specs.declared.token_error.TokenError.TheVariants.{BadToken, BadMac, MismatchedClaims}
 use Rattle.dist_types.specs.declared.token_error.TokenError.TheVariants.{FixedMismatch, ForwardRefused}
@@ -117,7 +117,7 @@ only_memory LinkFault h = absurd (h (λ e. cc))
 only_memory Memory h = refl
 
 -- an answer that its definition accepts is no refusal
-pub accepts : (verdict answer : Result ⊤ TokenError) → Gives (λ x. x) verdict answer → verdict ≡ Ok tt
+pub accepts : (verdict answer : Result ⊤ TokenError) → IsTokenAnswer (λ x. x) verdict answer → verdict ≡ Ok tt
     → IsOkUnless answer Memory
 accepts verdict (Ok x) h ok = tt
 accepts verdict (Err e) h ok = only_memory e (λ other. let no = sym ok ∙ h other in cc)

@@ -8,7 +8,7 @@ use Rattle.dist_token.specs.Verdict.{value_of, is_hs256, job_claims, server_clai
 
 -- the token is a header that says HS256, claims that say the value, and the MAC of the two under
 -- the key, joined by dots
-pub record Says (key token : List ℕ) (value : Data) : Type 0 where
+pub record IsSignedClaims (key token : List ℕ) (value : Data) : Type 0 where
   pub header : List ℕ
   pub claims : List ℕ
   pub says : Data
@@ -20,12 +20,12 @@ pub record Says (key token : List ℕ) (value : Data) : Type 0 where
 -- and the value is an object of no expiry and this job alone
 pub record IsTokenFor (key : List ℕ) (id : ℕ) (token : List ℕ) : Type 0 where
   pub value : Data
-  pub is_signed : Says key token value
+  pub is_signed : IsSignedClaims key token value
   pub claims : job_claims value ≡ Some (0, id)
 
 -- and the value is an object of any expiry and this server alone
 pub record IsServerTokenFor (key : List ℕ) (server : Addr) (token : List ℕ) : Type 0 where
   pub value : Data
-  pub is_signed : Says key token value
+  pub is_signed : IsSignedClaims key token value
   pub expiry : ℕ
   pub claims : server_claims value ≡ Some (expiry, server)

@@ -1,7 +1,7 @@
 //! The tokens of jobs.
 ghost use Rattle.std.specs.Prelude.{◌≡◌, IfOk, Ok, OnOk, string_bytes};
 ghost use Rattle.serde_json.specs.View.{view};
-ghost use Rattle.dist_types.specs.Answers.{Gives};
+ghost use Rattle.dist_types.specs.Answers.{IsTokenAnswer};
 ghost use Rattle.dist_token.specs.Token.{token_text, job_claims_text};
 ghost use Rattle.dist_token.specs.Verdict.{job_claims, job_said, job_verdict};
 ghost use Rattle.dist_token.specs.Views.{parts_view};
@@ -100,7 +100,7 @@ fn job_claims(claims: &Value) -> Option<(u64, u64)>
 
 // Accepts the claims of a token for a job as JSON, or says by which test they are refused.
 fn read_job(alloc: Global, parts: &TokenParts<'_>, id: u64) -> Result<(), TokenError>
-    ensures { Gives (λ x. x) (job_said id (parts_view parts.now)) result }
+    ensures { IsTokenAnswer (λ x. x) (job_said id (parts_view parts.now)) result }
 {
     let claims = said(alloc, parts)?;
     let Some((exp, job)) = job_claims(&claims) else {
@@ -115,7 +115,7 @@ fn read_job(alloc: Global, parts: &TokenParts<'_>, id: u64) -> Result<(), TokenE
 
 // The same. What is written as in the token that is made for the job is not read.
 fn claims_test(alloc: Global, parts: &TokenParts<'_>, id: u64) -> Result<(), TokenError>
-    ensures { Gives (λ x. x) (job_said id (parts_view parts.now)) result }
+    ensures { IsTokenAnswer (λ x. x) (job_said id (parts_view parts.now)) result }
 {
     let claims = claims_for(alloc, id)?;
     if is_written(alloc, parts, claims.as_bytes())? {
@@ -126,7 +126,7 @@ fn claims_test(alloc: Global, parts: &TokenParts<'_>, id: u64) -> Result<(), Tok
 
 // Accepts a token for a job under a key, or says by which test it is refused.
 fn verify_job(alloc: Global, key: &[u8], id: u64, token: &str) -> Result<(), TokenError>
-    ensures { Gives (λ x. x) (job_verdict key.now id token.now) result }
+    ensures { IsTokenAnswer (λ x. x) (job_verdict key.now id token.now) result }
 {
     let Some(parts) = parts_of(token) else {
         return Err(TokenError::BadToken(Part::Shape));

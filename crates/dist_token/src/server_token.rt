@@ -3,7 +3,7 @@ ghost use Rattle.std.specs.Prelude.{◌≡◌, IfOk, Ok, OnOk, Some, string_byte
 ghost use Rattle.std.specs.Result.{result_ok};
 ghost use Rattle.serde_json.specs.View.{view};
 ghost use Rattle.dist_types.specs.Addr.{addr_text, IsAddr};
-ghost use Rattle.dist_types.specs.Answers.{Gives};
+ghost use Rattle.dist_types.specs.Answers.{IsTokenAnswer};
 ghost use Rattle.dist_token.specs.Token.{token_text, server_claims_text, plain_text};
 ghost use Rattle.dist_token.specs.Verdict.{address_in, server_test, server_verdict, extracted, plain_server};
 
@@ -46,7 +46,7 @@ fn server_test(claims: &Value) -> Result<ServerId, TokenError>
 
 // The server that a token is accepted for under a key.
 fn server_under(alloc: Global, key: &[u8], token: &str) -> Result<ServerId, TokenError>
-    ensures { Gives (λ server. server) (server_verdict key.now token.now) result }
+    ensures { IsTokenAnswer (λ server. server) (server_verdict key.now token.now) result }
 {
     let claims = tested(alloc, key, token)?;
     server_test(&claims)
@@ -74,7 +74,7 @@ pub fn dangerous_insecure_extract_jwt_server_token(
     alloc: Global,
     server_token: &str,
 ) -> Result<ServerId, TokenError>
-    ensures { Gives (λ server. server) (extracted server_token.now) result }
+    ensures { IsTokenAnswer (λ server. server) (extracted server_token.now) result }
 {
     let claims = untested(alloc, server_token)?;
     server_test(&claims)

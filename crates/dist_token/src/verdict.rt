@@ -1,7 +1,7 @@
 //! The tests that every signed token passes, in their order.
 ghost use Rattle.std.specs.Prelude.{◌≡◌, ok_or};
 ghost use Rattle.serde_json.specs.View.{view};
-ghost use Rattle.dist_types.specs.Answers.{Gives};
+ghost use Rattle.dist_types.specs.Answers.{IsTokenAnswer};
 ghost use Rattle.dist_types.specs.declared.token_error.TokenError.TheVariants.{BadToken};
 ghost use Rattle.dist_types.specs.declared.token_error.Part.TheVariants.{Claims};
 ghost use Rattle.dist_token.specs.Verdict.{value_of, are_two, is_hs256, mac_test, header_test, said, tested};
@@ -20,7 +20,7 @@ use std::alloc::Global;
 /// Whether the third part is the MAC of the first two.
 pub fn mac_test(alloc: Global, key: &[u8], parts: &TokenParts<'_>) -> Result<(), TokenError>
     requires { parts.now.signed.now ≡ signed_text parts.now.header.now parts.now.claims.now }
-    ensures { Gives (λ x. x) (mac_test key.now (parts_view parts.now)) result }
+    ensures { IsTokenAnswer (λ x. x) (mac_test key.now (parts_view parts.now)) result }
 {
     let Some(mac) = bytes_of(alloc, parts.mac)? else {
         return Err(TokenError::BadToken(Part::Mac));
@@ -43,7 +43,7 @@ fn is_hs256(header: &Value) -> bool
 
 // Whether the first part says the algorithm.
 fn header_test(alloc: Global, parts: &TokenParts<'_>) -> Result<(), TokenError>
-    ensures { Gives (λ x. x) (header_test (parts_view parts.now)) result }
+    ensures { IsTokenAnswer (λ x. x) (header_test (parts_view parts.now)) result }
 {
     if is_made_header(parts.header) {
         return Ok(());
@@ -62,7 +62,7 @@ fn header_test(alloc: Global, parts: &TokenParts<'_>) -> Result<(), TokenError>
 
 // What the second part says.
 fn claims_value(alloc: Global, parts: &TokenParts<'_>) -> Result<Value, TokenError>
-    ensures { Gives view (ok_or (value_of parts.now.claims.now) (BadToken Claims)) result }
+    ensures { IsTokenAnswer view (ok_or (value_of parts.now.claims.now) (BadToken Claims)) result }
 {
     match value_of(alloc, parts.claims)? {
         Some(claims) => Ok(claims),
@@ -72,7 +72,7 @@ fn claims_value(alloc: Global, parts: &TokenParts<'_>) -> Result<Value, TokenErr
 
 /// What the claims say, where the header passes.
 pub fn said(alloc: Global, parts: &TokenParts<'_>) -> Result<Value, TokenError>
-    ensures { Gives view (said (parts_view parts.now)) result }
+    ensures { IsTokenAnswer view (said (parts_view parts.now)) result }
 {
     header_test(alloc, parts)?;
     claims_value(alloc, parts)
@@ -80,7 +80,7 @@ pub fn said(alloc: Global, parts: &TokenParts<'_>) -> Result<Value, TokenError>
 
 /// What the claims of a token say, where its parts, its MAC and its header pass.
 pub fn tested(alloc: Global, key: &[u8], token: &str) -> Result<Value, TokenError>
-    ensures { Gives view (tested key.now token.now) result }
+    ensures { IsTokenAnswer view (tested key.now token.now) result }
 {
     let Some(parts) = parts_of(token) else {
         return Err(TokenError::BadToken(Part::Shape));
@@ -91,7 +91,7 @@ pub fn tested(alloc: Global, key: &[u8], token: &str) -> Result<Value, TokenErro
 
 /// The same without the tests of the MAC.
 pub fn untested(alloc: Global, token: &str) -> Result<Value, TokenError>
-    ensures { Gives view (untested token.now) result }
+    ensures { IsTokenAnswer view (untested token.now) result }
 {
     let Some(parts) = parts_of(token) else {
         return Err(TokenError::BadToken(Part::Shape));

@@ -1,6 +1,6 @@
 //! The roles that the scheduler and its servers are given: who makes and accepts the tokens of jobs.
 ghost use Rattle.std.specs.Prelude.{◌≡◌, ℕ, List, IfOk, OnOk, Ok, Result, ⊤, string_bytes};
-ghost use Rattle.dist_types.specs.Answers.{Gives};
+ghost use Rattle.dist_types.specs.Answers.{IsTokenAnswer};
 ghost use Rattle.dist_types.specs.declared.token_error.TokenError.{TokenError as Refusal};
 
 use crate::fault::Memory;
@@ -33,5 +33,5 @@ pub trait JobAuthorizer: Send + Drop {
 
     /// Accepts a token for a job, or says why not.
     fn verify_token(&self, job_id: JobId, token: &str) -> Result<(), TokenError>
-        ensures { Gives (λ x. x) (verdict self.now job_id.0 token.now) result };
+        ensures { IsTokenAnswer (λ x. x) (verdict self.now job_id.0 token.now) result };
 }

@@ -19,7 +19,7 @@ use Rattle.farm_config.specs.declared.files.NamedFile.{NamedFile}
 use Rattle.farm_words.specs.declared.command.AuthSubcommand.{AuthSubcommand}
 use Rattle.farm_words.specs.declared.command.Command.{Command}
 use Rattle.farm_words.specs.declared.command.Command.TheVariants.{Farm, Storm, Auth, Scheduler, Server}
-use Rattle.farm_words.specs.Asked.{Asked, farm, random, token_under, token_of, scheduler, server, storm}
+use Rattle.farm_words.specs.Asked.{Invocation, farm, random, token_under, token_of, scheduler, server, storm}
 use Rattle.farm_words.specs.Asked.{asked_by}
 use Rattle.farm_words.specs.Parsed.{OverFiles, command_in}
 use Rattle.farm.specs.Command.{fault_status, Side, Serving, Called, Moment, IsFarmRun}
@@ -123,7 +123,7 @@ memory_out (Scheduler config) met before after long h =
 memory_out (Server config) met before after long h =
     absurd (no_start (server_call config) met before.serve after.serve long h.0)
 
-memory_unparsed : (what : Asked) (met : FarmFault) (before after : Moment) → IsLong met
+memory_unparsed : (what : Invocation) (met : FarmFault) (before after : Moment) → IsLong met
     → IsUnparsed what (Err met) before after → IsUnparsed what (Err Memory) before after
 memory_unparsed what (BadConfig (Key key)) before after long h = (h.0.1.0, h.1)
 memory_unparsed what (BadConfig Missing) before after long h = absurd long
@@ -142,7 +142,7 @@ usage_is_short : (met : FarmFault) → (met ≡ Usage) ⊎ (met ≡ Memory) → 
 usage_is_short met (inl e) long = subst (λ (f : FarmFault). IsLong f) e long
 usage_is_short met (inr e) long = subst (λ (f : FarmFault). IsLong f) e long
 
-memory_done : (what : Option Asked) (met : FarmFault) (before after : Moment) → IsLong met
+memory_done : (what : Option Invocation) (met : FarmFault) (before after : Moment) → IsLong met
     → IsDoneBy what (Err met) before after → IsDoneBy what (Err Memory) before after
 memory_done None met before after long h = absurd (usage_is_short met h.0 long)
 memory_done (Some what) met before after long (inl h) = inl (memory_unparsed what met before after long h)
@@ -202,21 +202,21 @@ farm_unparsed ReadFault before after h = absurd h.0
 farm_unparsed WriteFault before after h = absurd h.0
 farm_unparsed ServeFault before after h = absurd h.0
 
-farm_done : (what : Option Asked) (before after : Moment) → what ≡ Some farm
+farm_done : (what : Option Invocation) (before after : Moment) → what ≡ Some farm
     → IsDoneBy what (Ok tt) before after → IsFarmRun (Ok tt) before.input after.input before.out after.out
 farm_done what before after e done =
-    by_cases (subst (λ (w : Option Asked). IsDoneBy w (Ok tt) before after) e done)
+    by_cases (subst (λ (w : Option Invocation). IsDoneBy w (Ok tt) before after) e done)
   where
     by_cases : IsDoneBy (Some farm) (Ok tt) before after
         → IsFarmRun (Ok tt) before.input after.input before.out after.out
     by_cases (inl h) = absurd h
     by_cases (inr h) = farm_worked (Ok tt) before after h
 
-farm_fault : (what : Option Asked) (f : FarmFault) (before after : Moment) → what ≡ Some farm
+farm_fault : (what : Option Invocation) (f : FarmFault) (before after : Moment) → what ≡ Some farm
     → IsDoneBy what (Err f) before after
     → (f ≡ Memory) ⊎ IsFarmRun (Err f) before.input after.input before.out after.out
 farm_fault what f before after e done =
-    by_cases (subst (λ (w : Option Asked). IsDoneBy w (Err f) before after) e done)
+    by_cases (subst (λ (w : Option Invocation). IsDoneBy w (Err f) before after) e done)
   where
     by_cases : IsDoneBy (Some farm) (Err f) before after → (f ≡ Memory)
         ⊎ IsFarmRun (Err f) before.input after.input before.out after.out
@@ -372,7 +372,7 @@ input_out (Auth auth) f answer before after h is four five = ap (λ (s : Side). 
 input_out (Scheduler config) f answer before after h is four five = ap (λ (s : Side). s.faults) h.1
 input_out (Server config) f answer before after h is four five = ap (λ (s : Side). s.faults) h.1
 
-input_fault : (what : Option Asked) (f : FarmFault) (answer : ℕ) (before after : Moment)
+input_fault : (what : Option Invocation) (f : FarmFault) (answer : ℕ) (before after : Moment)
     → IsDoneBy what (Err f) before after → answer ≡ fault_status f
     → answer ≢ 4 → answer ≢ 5 → after.input.faults ≡ before.input.faults
 input_fault None f answer before after h is four five = ap (λ (s : Side). s.faults) h.1.input
@@ -380,7 +380,7 @@ input_fault (Some what) f answer before after (inl h) is four five = ap (λ (s :
 input_fault (Some what) f answer before after (inr h) is four five =
     input_out h.command f answer before after h.carried_out is four five
 
-input_done : (what : Option Asked) (before after : Moment) → IsDoneBy what (Ok tt) before after
+input_done : (what : Option Invocation) (before after : Moment) → IsDoneBy what (Ok tt) before after
     → after.input.faults ≡ before.input.faults
 input_done None before after h = absurd h.0
 input_done (Some what) before after (inl h) = absurd h
@@ -452,7 +452,7 @@ out_out (Auth auth) f answer before after h is five =
 out_out (Scheduler config) f answer before after h is five = ap (λ (s : Side). s.faults) h.2
 out_out (Server config) f answer before after h is five = ap (λ (s : Side). s.faults) h.2
 
-out_fault : (what : Option Asked) (f : FarmFault) (answer : ℕ) (before after : Moment)
+out_fault : (what : Option Invocation) (f : FarmFault) (answer : ℕ) (before after : Moment)
     → IsDoneBy what (Err f) before after → answer ≡ fault_status f
     → answer ≢ 5 → after.out.faults ≡ before.out.faults
 out_fault None f answer before after h is five = ap (λ (s : Side). s.faults) h.1.out
@@ -460,7 +460,7 @@ out_fault (Some what) f answer before after (inl h) is five = ap (λ (s : Side).
 out_fault (Some what) f answer before after (inr h) is five =
     out_out h.command f answer before after h.carried_out is five
 
-out_done : (what : Option Asked) (before after : Moment) → IsDoneBy what (Ok tt) before after
+out_done : (what : Option Invocation) (before after : Moment) → IsDoneBy what (Ok tt) before after
     → after.out.faults ≡ before.out.faults
 out_done None before after h = absurd h.0
 out_done (Some what) before after (inl h) = absurd h
@@ -509,7 +509,7 @@ serve_out (Scheduler config) f answer before after h is seven =
 serve_out (Server config) f answer before after h is seven =
     serve_started (server_call config) f answer before.serve after.serve h.0 is seven
 
-serve_fault : (what : Option Asked) (f : FarmFault) (answer : ℕ) (before after : Moment)
+serve_fault : (what : Option Invocation) (f : FarmFault) (answer : ℕ) (before after : Moment)
     → IsDoneBy what (Err f) before after → answer ≡ fault_status f
     → answer ≢ 7 → after.serve.faults ≡ before.serve.faults
 serve_fault None f answer before after h is seven = ap (λ (s : Serving). s.faults) h.1.serve
@@ -517,7 +517,7 @@ serve_fault (Some what) f answer before after (inl h) is seven = ap (λ (s : Ser
 serve_fault (Some what) f answer before after (inr h) is seven =
     serve_out h.command f answer before after h.carried_out is seven
 
-serve_done : (what : Option Asked) (before after : Moment) → IsDoneBy what (Ok tt) before after
+serve_done : (what : Option Invocation) (before after : Moment) → IsDoneBy what (Ok tt) before after
     → after.serve.faults ≡ before.serve.faults
 serve_done None before after h = absurd h.0
 serve_done (Some what) before after (inl h) = absurd h
@@ -585,7 +585,7 @@ storm_of zero c e x a n named = inl refl
 storm_of (suc k) c e x a n named =
     let t = a.told (omega arith) in
     storm_done n t.0 (suc k) c.before c.after e x
-    (subst (λ (w : Option Asked). IsDoneBy w (Err t.0) c.before c.after) named t.1) t.2
+    (subst (λ (w : Option Invocation). IsDoneBy w (Err t.0) c.before c.after) named t.1) t.2
 
 -- ---- words that name no command, and words that do
 
@@ -606,11 +606,11 @@ pub no_command_of : (answer : ℕ) (c : Called) (e x : Side) → IsAnswered answ
     → (answer ≡ 2) ⊎ ((answer ≡ 3) ⊎ (answer ≡ 5))
 no_command_of zero c e x a none =
     let d : IsDoneBy None (Ok tt) c.before c.after =
-    subst (λ (w : Option Asked). IsDoneBy w (Ok tt) c.before c.after) none (a.done refl).0 in absurd d.0
+    subst (λ (w : Option Invocation). IsDoneBy w (Ok tt) c.before c.after) none (a.done refl).0 in absurd d.0
 no_command_of (suc k) c e x a none =
     let t = a.told (omega arith) in
     let d : IsDoneBy None (Err t.0) c.before c.after =
-    subst (λ (w : Option Asked). IsDoneBy w (Err t.0) c.before c.after) none t.1 in
+    subst (λ (w : Option Invocation). IsDoneBy w (Err t.0) c.before c.after) none t.1 in
     usage_status t.0 (suc k) e x d.0 t.2
 
 two_is : (f : FarmFault) → 2 ≡ fault_status f → f ≡ Usage
@@ -631,24 +631,24 @@ no_usage_out (Auth auth) before after h = h.0
 no_usage_out (Scheduler config) before after h = h.0
 no_usage_out (Server config) before after h = h.0
 
-no_usage : (what : Asked) (before after : Moment) → IsDoneBy (Some what) (Err Usage) before after → ⊥
+no_usage : (what : Invocation) (before after : Moment) → IsDoneBy (Some what) (Err Usage) before after → ⊥
 no_usage what before after (inl h) = h.0
 no_usage what before after (inr h) = no_usage_out h.command before after h.carried_out
 
-pub command_of : (answer : ℕ) (c : Called) (e x : Side) → IsAnswered answer c e x → (what : Asked)
+pub command_of : (answer : ℕ) (c : Called) (e x : Side) → IsAnswered answer c e x → (what : Invocation)
     → asked_by c.words ≡ Some what → answer ≢ 2
 command_of zero c e x a what named two = omega (arith, two)
 command_of (suc k) c e x a what named two =
     let t = a.told (omega arith) in
     let o = own t.0 (suc k) e x t.2 (λ five. omega (arith, two, five)) in
     let d : IsDoneBy (Some what) (Err t.0) c.before c.after =
-    subst (λ (w : Option Asked). IsDoneBy w (Err t.0) c.before c.after) named t.1 in
+    subst (λ (w : Option Invocation). IsDoneBy w (Err t.0) c.before c.after) named t.1 in
     no_usage what c.before c.after (subst (λ (f : FarmFault). IsDoneBy (Some what) (Err f) c.before c.after)
     (two_is t.0 (sym two ∙ o.0)) d)
 
 -- ---- configurations with a fault
 
-clash : (what : Asked) (told : List NamedFile) (files : Option (List NamedFile)) (command : Command)
+clash : (what : Invocation) (told : List NamedFile) (files : Option (List NamedFile)) (command : Command)
     (cause : ConfigCause) → files ≡ Some told
     → command_in what told ≡ Err cause → OverFiles what files (λ t. command_in what t ≡ Ok command) → ⊥
 clash farm told files command cause there bad good = let e = bad in absurd cc
@@ -671,7 +671,7 @@ clash (server path) told files command cause there bad good =
     let e = sym bad ∙ here in absurd cc
 clash (storm n) told files command cause there bad good = let e = bad in absurd cc
 
-bad_status : (what : Asked) (f : FarmFault) (answer : ℕ) (before after : Moment) (e x : Side)
+bad_status : (what : Invocation) (f : FarmFault) (answer : ℕ) (before after : Moment) (e x : Side)
     → IsUnparsed what (Err f) before after → IsTold f answer e x
     → (answer ≡ 6) ⊎ ((answer ≡ 3) ⊎ (answer ≡ 5))
 bad_status what f answer before after e x h (inr t) = inr (inr t.0)
@@ -685,14 +685,14 @@ bad_status what ReadFault answer before after e x h (inl t) = absurd h.0
 bad_status what WriteFault answer before after e x h (inl t) = absurd h.0
 bad_status what ServeFault answer before after e x h (inl t) = absurd h.0
 
-not_done : (what : Asked) (told : List NamedFile) (cause : ConfigCause) (before after : Moment)
+not_done : (what : Invocation) (told : List NamedFile) (cause : ConfigCause) (before after : Moment)
     → before.files ≡ Some told → command_in what told ≡ Err cause
     → IsDoneBy (Some what) (Ok tt) before after → ⊥
 not_done what told cause before after there bad (inl h) = h
 not_done what told cause before after there bad (inr h) =
     clash what told before.files h.command cause there bad h.parsed.1
 
-fault_bad : (what : Asked) (f : FarmFault) (answer : ℕ) (told : List NamedFile) (cause : ConfigCause)
+fault_bad : (what : Invocation) (f : FarmFault) (answer : ℕ) (told : List NamedFile) (cause : ConfigCause)
     (before after : Moment) (e x : Side) → before.files ≡ Some told
     → command_in what told ≡ Err cause → IsDoneBy (Some what) (Err f) before after → IsTold f answer e x
     → (answer ≡ 6) ⊎ ((answer ≡ 3) ⊎ (answer ≡ 5))
@@ -703,24 +703,25 @@ fault_bad what f answer told cause before after e x there bad (inr h) said =
 
 configured_by : (answer : ℕ) (c : Called) (e x : Side) → IsAnswered answer c e x → (told : List NamedFile)
     → c.before.files ≡ Some told
-    → (what : Asked) (cause : ConfigCause) → asked_by c.words ≡ Some what → command_in what told ≡ Err cause
+    → (what : Invocation) (cause : ConfigCause) → asked_by c.words ≡ Some what → command_in what told
+        ≡ Err cause
     → (answer ≡ 6) ⊎ ((answer ≡ 3) ⊎ (answer ≡ 5))
 configured_by zero c e x a told there what cause named bad =
     absurd (not_done what told cause c.before c.after there bad
-    (subst (λ (w : Option Asked). IsDoneBy w (Ok tt) c.before c.after) named (a.done refl).0))
+    (subst (λ (w : Option Invocation). IsDoneBy w (Ok tt) c.before c.after) named (a.done refl).0))
 configured_by (suc k) c e x a told there what cause named bad =
     let t = a.told (omega arith) in
     fault_bad what t.0 (suc k) told cause c.before c.after e x there bad
-    (subst (λ (w : Option Asked). IsDoneBy w (Err t.0) c.before c.after) named t.1) t.2
+    (subst (λ (w : Option Invocation). IsDoneBy w (Err t.0) c.before c.after) named t.1) t.2
 
 pub configured_of : (answer : ℕ) (c : Called) (e x : Side) → IsAnswered answer c e x
-    → IfSome c.before.files (λ told. (what : Asked) (cause : ConfigCause)
+    → IfSome c.before.files (λ told. (what : Invocation) (cause : ConfigCause)
     → asked_by c.words ≡ Some what → command_in what told ≡ Err cause → (answer ≡ 6)
     ⊎ ((answer ≡ 3) ⊎ (answer ≡ 5)))
 configured_of answer c e x a = by_files c.before.files refl
   where
     by_files : (o : Option (List NamedFile)) → c.before.files ≡ o
-        → IfSome o (λ told. (what : Asked) (cause : ConfigCause)
+        → IfSome o (λ told. (what : Invocation) (cause : ConfigCause)
         → asked_by c.words ≡ Some what → command_in what told ≡ Err cause → (answer ≡ 6)
         ⊎ ((answer ≡ 3) ⊎ (answer ≡ 5)))
     by_files None is = tt

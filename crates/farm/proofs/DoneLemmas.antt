@@ -5,7 +5,7 @@ use Rattle.farm_script.specs.declared.fault.FarmFault.{FarmFault}
 use Rattle.farm_script.specs.declared.fault.FarmFault.TheVariants.{Usage, Memory}
 use Rattle.farm_words.specs.declared.command.Command.{Command}
 use Rattle.farm_words.specs.declared.command.Command.TheVariants.{Farm, Storm, Auth, Scheduler, Server}
-use Rattle.farm_words.specs.Asked.{Asked}
+use Rattle.farm_words.specs.Asked.{Invocation}
 use Rattle.farm_words.specs.Parsed.{IsParsed}
 use Rattle.farm.specs.Command.{Moment, moment, IsCarriedOut, IsUntouched, IsDoneBy}
 
@@ -21,7 +21,8 @@ carried_out_at (Scheduler config) result before after h = h
 carried_out_at (Server config) result before after h = h
 
 -- a command was parsed and carried out
-pub done_parsed : (o : Option Asked) (command : Command) (result : Result ⊤ FarmFault) (before after : Moment)
+pub done_parsed : (o : Option Invocation) (command : Command) (result : Result ⊤ FarmFault)
+    (before after : Moment)
     → (o ≡ None → (◌≡◌ {A = Result Command FarmFault} (Ok command) (Err Usage))
     ⊎ (◌≡◌ {A = Result Command FarmFault} (Ok command) (Err Memory)))
     → IfSome o (λ what. IsParsed what (Ok command) before.files before.file_faults after.file_faults)
@@ -41,7 +42,7 @@ usage_is f (inl e) = inl cc
 usage_is f (inr e) = inr cc
 
 -- no command was parsed
-pub done_unparsed : (o : Option Asked) (f : FarmFault) (before after : Moment)
+pub done_unparsed : (o : Option Invocation) (f : FarmFault) (before after : Moment)
     → (o ≡ None → (◌≡◌ {A = Result Command FarmFault} (Err f) (Err Usage))
     ⊎ (◌≡◌ {A = Result Command FarmFault} (Err f) (Err Memory)))
     → (o ≡ None → after.file_faults ≡ before.file_faults)

@@ -19,7 +19,7 @@ use Rattle.farm_config.specs.declared.files.NamedFile.{NamedFile}
 use Rattle.farm_words.specs.declared.command.Command.{Command}
 use Rattle.farm_words.specs.declared.command.Command.TheVariants as command
 use Rattle.farm_words.specs.declared.command.AuthSubcommand.{AuthSubcommand}
-use Rattle.farm_words.specs.Asked.{Asked, asked_by}
+use Rattle.farm_words.specs.Asked.{Invocation, asked_by}
 use Rattle.farm_words.specs.Parsed.{IsParsed}
 use Rattle.farm_auth.specs.Line.{auth_line, stream_left}
 use Rattle.farm_run.specs.RunText.{IsRunText}
@@ -190,13 +190,13 @@ pub record IsUntouched (before after : Moment) : Type 0 where
   pub serve : after.serve ≡ before.serve
 
 -- no command is there: the words' own fault is told
-abbrev pub IsUnparsed : Asked → Result ⊤ FarmFault → Moment → Moment → Type 0
+abbrev pub IsUnparsed : Invocation → Result ⊤ FarmFault → Moment → Moment → Type 0
 IsUnparsed what (Ok x) before after = ⊥
 IsUnparsed what (Err f) before after = IsParsed what (Err f) before.files before.file_faults after.file_faults
     × IsUntouched before after
 
 -- The command that is asked for over the files was carried out, or met a fault.
-pub record IsWorked (what : Asked) (result : Result ⊤ FarmFault) (before after : Moment) : Type 0 where
+pub record IsWorked (what : Invocation) (result : Result ⊤ FarmFault) (before after : Moment) : Type 0 where
   pub command : Command
   pub parsed : IsParsed what (Ok command) before.files before.file_faults after.file_faults
   pub carried_out : IsCarriedOut command result before after
@@ -208,7 +208,7 @@ IsUsage (Err f) = (f ≡ Usage) ⊎ (f ≡ Memory)
 
 -- The words are judged first. Where they stand in no row that is the fault, unless memory ran out, and
 -- nothing was touched. Else the configuration that they name is read, and then the command is carried out.
-abbrev pub IsDoneBy : Option Asked → Result ⊤ FarmFault → Moment → Moment → Type 0
+abbrev pub IsDoneBy : Option Invocation → Result ⊤ FarmFault → Moment → Moment → Type 0
 IsDoneBy None result before after = IsUsage result × IsUntouched before after
     × (after.file_faults ≡ before.file_faults)
 IsDoneBy (Some what) result before after = IsUnparsed what result before after

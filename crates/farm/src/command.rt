@@ -11,7 +11,7 @@ ghost use Rattle.farm_script.specs.FirstFaulty.{IsFirstFaulty, IsFaultless};
 ghost use Rattle.farm_script.specs.declared.fault.FarmFault.{FarmFault as Fault};
 ghost use Rattle.farm_script.specs.declared.fault.FarmFault.TheVariants as fault;
 ghost use Rattle.farm_script.specs.declared.fault.ConfigCause.{ConfigCause as Cause};
-ghost use Rattle.farm_words.specs.Asked.{Asked, asked_by, farm, storm};
+ghost use Rattle.farm_words.specs.Asked.{Invocation, asked_by, farm, storm};
 ghost use Rattle.farm_words.specs.Parsed.{command_in};
 ghost use Rattle.farm.specs.Command.{IsFarmRun, IsAuthRun, IsStarted, IsCarriedOut, moment, IsDone, IsTold};
 ghost use Rattle.farm.specs.Command.{IsAnswered};
@@ -245,9 +245,9 @@ pub fn dist_main<S: Source, K: Sink, E: Sink, D: Files, R: Rng, N: Serve>(
     // not 2.
     ensures no_command { asked_by (map string_bytes words.now) ≡ None
         → (result ≡ 2) ⊎ (result ≡ 3) ⊎ (result ≡ 5) }
-    ensures command { (what : Asked) → asked_by (map string_bytes words.now) ≡ Some what → result ≢ 2 }
+    ensures command { (what : Invocation) → asked_by (map string_bytes words.now) ≡ Some what → result ≢ 2 }
     // Where the configuration that the words name has a fault it is 6, without want of memory.
-    ensures configured { IfSome (D.files files.old) (λ told. (what : Asked) (cause : Cause)
+    ensures configured { IfSome (D.files files.old) (λ told. (what : Invocation) (cause : Cause)
         → asked_by (map string_bytes words.now) ≡ Some what → command_in what told ≡ Err cause
         → (result ≡ 6) ⊎ (result ≡ 3) ⊎ (result ≡ 5)) }
     // What serves fails in no status but 7, or 5 where errs failed.

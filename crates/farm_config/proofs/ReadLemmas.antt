@@ -7,7 +7,7 @@ use Rattle.farm_config.specs.declared.cause.ConfigFault.{ConfigFault}
 use Rattle.farm_config.specs.declared.cause.ConfigFault.TheVariants.{Cause, Memory}
 use Rattle.farm_config.specs.declared.files.NamedFile.{NamedFile}
 use Rattle.farm_config.specs.Files.{file_at}
-use Rattle.farm_config.specs.Told.{Gives}
+use Rattle.farm_config.specs.Told.{IsConfigAnswer}
 use Rattle.farm_config.specs.Reading.{of_file, says, of_bytes, IsFileFault, IsRead}
 
 -- what a file's bytes are told to be, so its bytes in the files
@@ -42,7 +42,7 @@ fault_there reads c name (Some told) h =
 pub read_from : {A : Type 0} (reads : List ℕ → Result A ConfigCause) (answer : Result A ConfigFault)
     (bytes name : List ℕ) (files : Option (List NamedFile)) (before after : ℕ)
     → (after ≡ before) × IfSome files (λ told. says of_bytes name told ≡ Ok bytes)
-    → Gives (λ x. x) (reads bytes) answer
+    → IsConfigAnswer (λ x. x) (reads bytes) answer
     → IsRead (λ x. x) answer (says reads name) files before after
 read_from reads (Ok x) bytes name files before after found gives =
     (found.0, there reads bytes name files _ found.1 gives)

@@ -19,13 +19,14 @@ IsOfBytes NotToml = Unit {0}
 IsOfBytes (Key key) = Unit {0}
 
 -- the fault is the verdict's, or want of memory
-abbrev pub Tells : {U : Type 0} → ConfigFault → Result U ConfigCause → Type 0
-Tells (Cause c) verdict = (verdict ≡ Err c) × IsOfBytes c
-Tells Memory verdict = Unit {0}
+abbrev pub IsConfigFault : {U : Type 0} → ConfigFault → Result U ConfigCause → Type 0
+IsConfigFault (Cause c) verdict = (verdict ≡ Err c) × IsOfBytes c
+IsConfigFault Memory verdict = Unit {0}
 
 -- the answer, seen through a view, is the verdict, unless memory ran out
-abbrev pub Gives : {T U : Type 0} → (T → U) → Result U ConfigCause → Result T ConfigFault → Type 0
-Gives seen verdict answer = MatchResult answer (λ x. verdict ≡ Ok (seen x)) (λ e. Tells e verdict)
+abbrev pub IsConfigAnswer : {T U : Type 0} → (T → U) → Result U ConfigCause → Result T ConfigFault → Type 0
+IsConfigAnswer seen verdict answer = MatchResult answer (λ x. verdict ≡ Ok (seen x))
+    (λ e. IsConfigFault e verdict)
 
 -- what was found at a key, or that key is the bad one
 abbrev pub needed : {A : Type 0} → List ℕ → Option A → Result A ConfigCause

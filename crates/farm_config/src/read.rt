@@ -3,7 +3,7 @@ ghost use Rattle.std.specs.Prelude.{◌≡◌, ⊤, map, option_map, Err};
 ghost use Rattle.toml.specs.View.{table_view};
 ghost use Rattle.toml.specs.Data.{get_member};
 ghost use Rattle.farm_config.specs.Reading.{of_bytes, says, IsRead};
-ghost use Rattle.farm_config.specs.Told.{Gives, Tells, needed};
+ghost use Rattle.farm_config.specs.Told.{IsConfigAnswer, IsConfigFault, needed};
 ghost use Rattle.farm_config.specs.Profile.{known, address_or, scheduler_in, server_in, text_in, document_in};
 ghost use Rattle.farm_config.specs.Profile.{table_in, scheduler_config_in, server_config_in};
 
@@ -25,7 +25,7 @@ pub const TOOLCHAIN_CACHE_SIZE: u64 = 10_737_418_240;
 
 /// What was found at a key, or that key as the bad one.
 fn needed<T>(alloc: Global, key: &str, found: Option<T>) -> Result<T, ConfigFault>
-    ensures { Gives (λ x. x) (needed key.now found) result }
+    ensures { IsConfigAnswer (λ x. x) (needed key.now found) result }
 {
     match found {
         Some(value) => Ok(value),
@@ -34,7 +34,7 @@ fn needed<T>(alloc: Global, key: &str, found: Option<T>) -> Result<T, ConfigFaul
 }
 
 fn bad_key(alloc: Global, key: &str) -> ConfigFault
-    ensures { Tells {U = ⊤} result (Err (ConfigCause.Key key.now)) }
+    ensures { IsConfigFault {U = ⊤} result (Err (ConfigCause.Key key.now)) }
 {
     match Text::of(alloc, key) {
         Ok(key) => ConfigFault::Cause(ConfigCause::Key(key)),
@@ -43,7 +43,7 @@ fn bad_key(alloc: Global, key: &str) -> ConfigFault
 }
 
 fn known(alloc: Global, keys: &[&str], table: &Table) -> Result<(), ConfigFault>
-    ensures { Gives (λ x. x) (known (map (λ key. key.now) keys.now) (table_view table.now)) result }
+    ensures { IsConfigAnswer (λ x. x) (known (map (λ key. key.now) keys.now) (table_view table.now)) result }
 {
     match least_unknown(table, keys) {
         Some(key) => Err(bad_key(alloc, key)),
@@ -63,7 +63,7 @@ fn address_or(other: Addr, table: &Table, key: &str) -> Option<Addr>
 
 #[tactic(auto, unfolding(crate::specs::Profile::scheduler_in))]
 fn scheduler_in(alloc: Global, table: &Table) -> Result<SchedulerConfig, ConfigFault>
-    ensures { Gives (λ x. x) (scheduler_in (table_view table.now)) result }
+    ensures { IsConfigAnswer (λ x. x) (scheduler_in (table_view table.now)) result }
 {
     known(alloc, &["public_addr", "client_auth", "server_auth"], table)?;
     let public_addr = needed(alloc, "public_addr", address_at(table, "public_addr"))?;
@@ -90,7 +90,7 @@ const SERVER_KEYS: [&str; 7] = [
 
 #[tactic(auto, unfolding(crate::specs::Profile::server_in))]
 fn server_in(alloc: Global, table: &Table) -> Result<ServerConfig, ConfigFault>
-    ensures { Gives (λ x. x) (server_in (table_view table.now)) result }
+    ensures { IsConfigAnswer (λ x. x) (server_in (table_view table.now)) result }
 {
     known(alloc, &SERVER_KEYS, table)?;
     needed(alloc, "builder", builder_at(table, "builder"))?;
@@ -117,7 +117,7 @@ fn server_in(alloc: Global, table: &Table) -> Result<ServerConfig, ConfigFault>
 
 /// The table that a text is as TOML.
 fn document_in(alloc: Global, text: &str) -> Result<Table, ConfigFault>
-    ensures { Gives table_view (document_in text.now) result }
+    ensures { IsConfigAnswer table_view (document_in text.now) result }
 {
     match toml::table_from_str(alloc, text) {
         Ok(table) => Ok(table),
@@ -143,7 +143,7 @@ fn text_in(bytes: &[u8]) -> Option<&str>
 
 /// The table that the bytes of a file are.
 fn table_in(alloc: Global, bytes: &[u8]) -> Result<Table, ConfigFault>
-    ensures { Gives table_view (table_in bytes.now) result }
+    ensures { IsConfigAnswer table_view (table_in bytes.now) result }
 {
     match text_in(bytes) {
         Some(text) => document_in(alloc, text),
@@ -153,7 +153,7 @@ fn table_in(alloc: Global, bytes: &[u8]) -> Result<Table, ConfigFault>
 
 /// The configuration of a scheduler that bytes say, or why they say none.
 pub fn scheduler_config_in(alloc: Global, bytes: &[u8]) -> Result<SchedulerConfig, ConfigFault>
-    ensures { Gives (λ x. x) (scheduler_config_in bytes.now) result }
+    ensures { IsConfigAnswer (λ x. x) (scheduler_config_in bytes.now) result }
 {
     let table = table_in(alloc, bytes)?;
     scheduler_in(alloc, &table)
@@ -161,7 +161,7 @@ pub fn scheduler_config_in(alloc: Global, bytes: &[u8]) -> Result<SchedulerConfi
 
 /// The configuration of a build server that bytes say, or why they say none.
 pub fn server_config_in(alloc: Global, bytes: &[u8]) -> Result<ServerConfig, ConfigFault>
-    ensures { Gives (λ x. x) (server_config_in bytes.now) result }
+    ensures { IsConfigAnswer (λ x. x) (server_config_in bytes.now) result }
 {
     let table = table_in(alloc, bytes)?;
     server_in(alloc, &table)

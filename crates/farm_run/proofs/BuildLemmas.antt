@@ -37,7 +37,7 @@ use Rattle.sched_core.proofs.AllLemmas.{or_true, same_job-refl}
 use Rattle.http_head.specs.Head.{IsRequest}
 use Rattle.http_head.specs.declared.request.Request.{Request}
 use Rattle.http_routes.specs.Admission.{equal_admission}
-use Rattle.http_routes.specs.Calls.{IsAnswer}
+use Rattle.http_routes.specs.CallReply.{IsAnswer}
 use Rattle.http_routes.specs.InOrder.{NamesJob}
 use Rattle.http_routes.specs.Message.{message_in}
 use Rattle.http_routes.specs.Place.{run_job, submit_job, assign_job, of_job}
@@ -85,7 +85,7 @@ use Rattle.farm_run.specs.declared.pending.Ask.TheVariants.{Assign, Report}
 use Rattle.farm_run.specs.declared.pending.Pending.{Pending}
 use Rattle.farm_run.specs.declared.pending.Told.{Told}
 use Rattle.farm_run.specs.declared.pending.Told.TheVariants as told
-use Rattle.farm_run.specs.Answers.{hears, allocated, answer_to}
+use Rattle.farm_run.specs.Answers.{hears, alloc_effect, answer_to}
 use Rattle.farm_run.specs.Begun.{IsMadeBy, IsCallOf, completion_by, completion_of}
 use Rattle.farm_run.specs.Builds.{SettlesCall, build_by, IsBuild, AreBuiltOnce, IsRunRequest, IsStart}
 use Rattle.farm_run.specs.Builds.{IsTaken, IsStarted, AreStarted, AreBuilds, HasToken, HasWords}
@@ -193,10 +193,10 @@ abbrev built_in : Option Step → Option (Addr × JobId)
 built_in None = None
 built_in (Some step) = option_map (λ j. (step.server, j)) (build_by step.kind)
 
-abbrev Tells : Effect → Addr → JobId → Type 0
-Tells x server job = ◌≡◌ {A = Option (Addr × JobId)} (built_in x.step) (Some (server, job))
+abbrev IsBuildOf : Effect → Addr → JobId → Type 0
+IsBuildOf x server job = ◌≡◌ {A = Option (Addr × JobId)} (built_in x.step) (Some (server, job))
 
-quiet : (x : Effect) (server : Addr) (job : JobId) (y : Effect) → Tells x server job → x ≡ y
+quiet : (x : Effect) (server : Addr) (job : JobId) (y : Effect) → IsBuildOf x server job → x ≡ y
     → built_in y.step ≡ None → ⊥
 quiet x server job y tells same none =
     let no : ◌≡◌ {A = Option (Addr × JobId)} None (Some (server, job)) = sym none
@@ -218,12 +218,12 @@ ran_told addr server j job (outcome.Refused tc) e = let p = same_Some _ _ e
 -- where nothing is held nothing is built
 started_told : (setup : Setup) (s : ServerNow) (server : Addr) (j job : JobId) (went : Outcome)
     (o : Option (List ℕ)) → IsFree o went
-    → Tells (running setup s.setup.addr j went) server job → (tc : List ℕ)
+    → IsBuildOf (running setup s.setup.addr j went) server job → (tc : List ℕ)
     × (o ≡ Some tc) × (s.setup.addr ≡ server) × (j ≡ job)
 started_told setup s server j job went None f e =
-    absurd (none_told (subst (λ (d : Outcome). Tells (running setup s.setup.addr j d) server job) f e))
+    absurd (none_told (subst (λ (d : Outcome). IsBuildOf (running setup s.setup.addr j d) server job) f e))
   where
-    none_told : Tells (running setup s.setup.addr j outcome.None) server job → ⊥
+    none_told : IsBuildOf (running setup s.setup.addr j outcome.None) server job → ⊥
     none_told h = cc
 started_told setup s server j job went (Some tc) f e =
     let p = ran_told s.setup.addr server j job went e in
@@ -250,7 +250,7 @@ assignment_quiet s root json at t (Ok a) = refl
 assignment_quiet s root json at t (Err f) = refl
 
 allocated_quiet : (s : Core) (number : ℕ) (json : Bool) (tc : List ℕ) (made : CoreEntry) (k : CoreKind)
-    → built_in (allocated s number json tc made k).step ≡ None
+    → built_in (alloc_effect s number json tc made k).step ≡ None
 allocated_quiet s number json tc made (core.Reserve (Job job reg forgiven)) = refl
 allocated_quiet s number json tc made (core.Reserve (NoRoom standing)) = refl
 allocated_quiet s number json tc made (core.Reserve Spent) = refl
@@ -311,7 +311,7 @@ not_off true h = refl
 not_off false h = absurd (false≢true (sym h))
 
 module _ (setup : Setup) (log : List Entry) (at n : ℕ) (reply : Option (List ℕ)) (x : Effect) (server : Addr)
-    (job : JobId) (tells : Tells x server job) where
+    (job : JobId) (tells : IsBuildOf x server job) where
   module _ (p : Pending) (of_call : IsCallOf setup log n p) where
     module _ (addr : Addr) (life : ℕ) (s : ServerNow) (now : server_now setup log addr ≡ Some s) where
       by_answer : s.life ≡ life → (j : JobId) (run : RunJobHttpRequest) (place : ℕ)
@@ -378,7 +378,7 @@ module _ (setup : Setup) (log : List Entry) (at n : ℕ) (reply : Option (List �
   settled_ended (Some w) h = by_ask h.0 h.1 h.0.ask refl h.2
 
 way_ended : (setup : Setup) (log : List Entry) (at : ℕ) (way : Way) (x : Effect) (server : Addr) (job : JobId)
-    → Tells x server job → IsMade free setup log at way x
+    → IsBuildOf x server job → IsMade free setup log at way x
     → (n : ℕ) × (reply : Option (List ℕ)) × (way ≡ to_call n reply) × Ended setup log n reply x server job
 way_ended setup log at (to_call n reply) x server job tells h =
     (n, reply, refl, settled_ended setup log at n reply x server job tells (waiting_at log n) h)
@@ -899,7 +899,7 @@ module _ (setup : Setup) (events : List Event) (entries : List Entry) (fits : se
       → IsBuild e server job → Full b server job
   full b e server job there build =
       let (x, made, is) = next b e there in
-      let tells : Tells x server job =
+      let tells : IsBuildOf x server job =
       ap built_in (sym (ap (λ (y : Entry). y.step) is) ∙ build.there)
       ∙ ap (option_map (λ (j : JobId). let p : Addr × JobId = (build.step.server, j) in p)) build.builds
       ∙ ap (λ (a : Addr). let p : Addr × JobId = (a, job) in Some p) build.at in

@@ -27,16 +27,16 @@ use Rattle.farm_run.specs.Settled.{ReadyEnds, StartedEnds, Reports, Lives, Repor
 use Rattle.farm_run.specs.Ways.{Way, way_of, brought_at, to_nothing, to_nobody, to_scheduler, to_server}
 use Rattle.farm_run.specs.Ways.{to_call}
 use Rattle.farm_run.specs.Ways.{to_beat, to_restart}
-use Rattle.farm_run.specs.Weather.{Outside, Weather, calm, free, between, Asked, Works, IsFree, books_in}
+use Rattle.farm_run.specs.Weather.{Outside, Weather, calm, free, between, IsOrdered, Works, IsFree, books_in}
 
-asked_none : (x y : Option Builder) (order : Order) (o : Outcome) → Asked x y taken.None order o
+asked_none : (x y : Option Builder) (order : Order) (o : Outcome) → IsOrdered x y taken.None order o
     → o ≡ outcome.None
 asked_none None y order o h = absurd h
 asked_none (Some b) None order o h = absurd h
 asked_none (Some b) (Some c) order o h = let e = h.1 in cc
 
 found_none : (a b : Outside) (s : ServerNow) (order : Order) (o : Outcome) (t : Taken)
-    → Finds None (books_in s a) (books_in s b) t → Asked a.builder b.builder t order o → o ≡ outcome.None
+    → Finds None (books_in s a) (books_in s b) t → IsOrdered a.builder b.builder t order o → o ≡ outcome.None
 found_none a b s order o taken.None finds h = asked_none a.builder b.builder order o h
 found_none a b s order o (taken.Unlisted tc) finds h = absurd finds
 found_none a b s order o (taken.Folder tc) finds h = absurd finds

@@ -19,7 +19,7 @@ use Rattle.sched_core.proofs.AddressLemmas.{same_self}
 use Rattle.http_head.specs.Head.{IsReply}
 use Rattle.http_head.specs.declared.reply.Reply.{Reply as HttpReply}
 use Rattle.http_routes.specs.Admission.{equal_admission}
-use Rattle.http_routes.specs.Calls.{IsAnswer}
+use Rattle.http_routes.specs.CallReply.{IsAnswer}
 use Rattle.http_routes.specs.Replies.{update_reply}
 use Rattle.http_routes.specs.Reply.{reply_text}
 use Rattle.http_routes.specs.declared.route.Asked.{Asked}

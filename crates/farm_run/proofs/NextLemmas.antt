@@ -19,7 +19,7 @@ use Rattle.sched_core.specs.Log.{Core}
 use Rattle.sched_core.specs.Pick.{pick}
 use Rattle.sched_core.specs.Reservation.{bookings, spends_by}
 use Rattle.sched_core.specs.Rows.{servers_of}
-use Rattle.sched_core.specs.Rule.{rule, reserve_at, begins}
+use Rattle.sched_core.specs.Rule.{rule, reserve_at, is_initial}
 use Rattle.sched_core.specs.Ticket.{Ticket}
 use Rattle.sched_core.specs.Laws.{IsLegal}
 use Rattle.sched_core.specs.declared.call.Call.TheVariants as call
@@ -62,7 +62,7 @@ use Rattle.http_routes.specs.declared.server_route.ServerRouted.TheVariants as s
 use Rattle.farm_run.specs.Servers.{ServerNow, server_now, is_over}
 use Rattle.farm_run.specs.Served.{assigned, served, books_of}
 use Rattle.farm_run.specs.declared.pending.Pending.{Pending}
-use Rattle.farm_run.specs.Answers.{hears, allocated, answer_to}
+use Rattle.farm_run.specs.Answers.{hears, alloc_effect, answer_to}
 use Rattle.farm_run.specs.Begun.{IsMadeBy, IsCallOf, completion_by, completion_of}
 use Rattle.farm_run.specs.Calls.{call_at, delivery_at, settles_by, is_void, settled_at, waiting_at}
 use Rattle.farm_run.specs.Effects.{entry_of, effect_of, word_effect}
@@ -90,7 +90,7 @@ reserve_spends (Some row) rows now base given j = refl
 
 -- a reserve has its core entry
 allocated_core : (s : Core) (number : ℕ) (json : Bool) (tc : List ℕ) (made : CoreEntry) (k : CoreKind)
-    → (allocated s number json tc made k).core ≡ Some made
+    → (alloc_effect s number json tc made k).core ≡ Some made
 allocated_core s number json tc made (core.Reserve (Job job reg forgiven)) = refl
 allocated_core s number json tc made (core.Reserve (NoRoom standing)) = refl
 allocated_core s number json tc made (core.Reserve Spent) = refl
@@ -155,7 +155,7 @@ word_adds setup log event word x is = subst (λ (y : Effect). Adds setup log (en
 -- ---- what a settlement adds
 
 outcome_begins : (reply : Option (List ℕ)) (a : AssignJobResult) → IsOutcome reply (Ok a)
-    → begins a.state ≡ true
+    → is_initial a.state ≡ true
 outcome_begins None a is = absurd cc
 outcome_begins (Some bytes) a is = begins_assigned bytes a is
 

@@ -9,7 +9,7 @@ use Rattle.build_server.specs.Builds.{Builder}
 use Rattle.farm_script.specs.declared.event.Event.{Event}
 use Rattle.farm_run.specs.declared.site.Site.{Site as Setup}
 use Rattle.farm_run.specs.declared.entry.Entry.{Entry}
-use Rattle.farm_run.specs.Farm.{AddsNext, Steps}
+use Rattle.farm_run.specs.Farm.{AddsNext, StepsTo}
 use Rattle.farm_run.specs.Next.{IsNext, EachNext, IsRun}
 use Rattle.farm_run.specs.Passage.{reached, StaysOwn, AreOwn, IsStill, Moves, IsMoved, Passage}
 use Rattle.farm_run.specs.Weather.{Outside, Weather, calm, free, weather_by}
@@ -134,7 +134,7 @@ passage-push setup log old (v ∷ vs) [] mid new event w e p next moved = absurd
 -- one entry more is a step of the farm
 pub step_of : (setup next : Setup) (old new : List Entry) (event : Event) (before after : List Outside)
     → AddsNext setup old event new before after → next ≡ setup
-    → Steps (record { setup = setup; entries = old; outside = before }) event
+    → StepsTo (record { setup = setup; entries = old; outside = before }) event
     (record { setup = next; entries = new; outside = after })
 step_of setup next old new event before after (w, e, is, moved, more) same = (
   w,

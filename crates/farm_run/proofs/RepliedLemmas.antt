@@ -51,7 +51,7 @@ use Rattle.farm_run.specs.declared.pending.Ask.TheVariants.{Assign, Report}
 use Rattle.farm_run.specs.declared.pending.Pending.{Pending}
 use Rattle.farm_run.specs.declared.pending.Told.{Told}
 use Rattle.farm_run.specs.declared.pending.Told.TheVariants as told
-use Rattle.farm_run.specs.Answers.{hears, update_by, allocated, answer_to}
+use Rattle.farm_run.specs.Answers.{hears, update_by, alloc_effect, answer_to}
 use Rattle.farm_run.specs.Begun.{IsBegunBy, IsMadeBy, IsCallOf, completion_by, completion_at, completion_of}
 use Rattle.farm_run.specs.Builds.{SettlesCall}
 use Rattle.farm_run.specs.Calls.{is_void, waiting_at}
@@ -76,25 +76,26 @@ use Rattle.farm_run.proofs.SettleLemmas.{settled_once}
 
 -- ---- what an effect says: no reply, or one to that entry, and no call beside it
 
-abbrev pub Says : ℕ → Effect → Type 0
-Says n x = (x.reply ≡ None) ⊎ ((x.call ≡ None) × ((r : Reply) → x.reply ≡ Some r → r.to ≡ n))
+abbrev pub RepliesOnly : ℕ → Effect → Type 0
+RepliesOnly n x = (x.reply ≡ None) ⊎ ((x.call ≡ None) × ((r : Reply) → x.reply ≡ Some r → r.to ≡ n))
 
 says_reply : (n : ℕ) (c : Option CoreEntry) (response : Response)
-    → Says n (reply_effect c (reply_to n response))
+    → RepliesOnly n (reply_effect c (reply_to n response))
 says_reply n c response =
     inr (refl, λ r e. sym (ap (λ (y : Reply). y.to) (same_Some (reply_to n response) r e)))
 
 says_step : (n : ℕ) (addr : Addr) (kind : StepKind) (response : Response)
-    → Says n (step_reply_effect addr kind (reply_to n response))
+    → RepliesOnly n (step_reply_effect addr kind (reply_to n response))
 says_step n addr kind response =
     inr (refl, λ r e. sym (ap (λ (y : Reply). y.to) (same_Some (reply_to n response) r e)))
 
-either_says : (n : ℕ) (b : Bool) (x y : Effect) → Says n x → Says n y → Says n (cond b x y)
+either_says : (n : ℕ) (b : Bool) (x y : Effect) → RepliesOnly n x → RepliesOnly n y → RepliesOnly n
+    (cond b x y)
 either_says n true x y h k = h
 either_says n false x y h k = k
 
 allocated_says : (s : Core) (number : ℕ) (json : Bool) (tc : List ℕ) (made : CoreEntry) (k : CoreKind)
-    → Says number (allocated s number json tc made k)
+    → RepliesOnly number (alloc_effect s number json tc made k)
 allocated_says s number json tc made (core.Reserve (Job job reg forgiven)) = inl refl
 allocated_says s number json tc made (core.Reserve (NoRoom standing)) = says_reply number (Some made)
     (alloc_response json (alloc.Fail (no_room_text standing)))
@@ -112,7 +113,7 @@ allocated_says s number json tc made (core.Status pruned servers cpus jobs) = sa
     (fault_response_of fault.IdsSpent)
 
 answer_says : (s : Core) (number at : ℕ) (json : Bool) (what : SchedRouted)
-    → Says number (answer_to s number at json what)
+    → RepliesOnly number (answer_to s number at json what)
 answer_says s number at json (asked.Alloc tc) = allocated_says s number json tc (rule s (call.Reserve at))
     (rule s (call.Reserve at)).kind
 answer_says s number at json (asked.Beat server beat) =
@@ -132,14 +133,14 @@ answer_says s number at json asked.Status =
 answer_says s number at json (asked.Done response) = says_reply number None response
 
 assigned_says : (addr : Addr) (number : ℕ) (json : Bool) (job : JobId) (tc : List ℕ)
-    (r : Result AssignJobResult ServerFault) → Says number (assigned addr number json job tc r)
+    (r : Result AssignJobResult ServerFault) → RepliesOnly number (assigned addr number json job tc r)
 assigned_says addr number json job tc (Ok a) =
     says_step number addr (step.Assigned job tc (not a.need_toolchain)) (assign_response json a)
 assigned_says addr number json job tc (Err e) =
     says_reply number None (fault_response_of (fault.AlreadyAssigned job))
 
 served_says : (setup : Setup) (s : ServerNow) (number : ℕ) (json : Bool) (what : ServerRouted)
-    → Says number (served setup s number json what)
+    → RepliesOnly number (served setup s number json what)
 served_says setup s number json (server_asked.Assign job tc) = assigned_says s.setup.addr number json job tc
     (assign_verdict (books_of s) job tc)
 served_says setup s number json (server_asked.Submit job) = inl refl
@@ -149,13 +150,13 @@ served_says setup s number json (server_asked.Done response) = says_reply number
 -- ---- what follows on a settlement
 
 unreported_says : (root : ℕ) (addr : Addr) (job : JobId) (f : CallFault)
-    → Says root (step_reply_effect addr (step.Unreported job)
+    → RepliesOnly root (step_reply_effect addr (step.Unreported job)
     (reply_to root (fault_response_of (fault.UpdateFailed f))))
 unreported_says root addr job f = says_step root addr (step.Unreported job)
     (fault_response_of (fault.UpdateFailed f))
 
 assignment_says : (s : Core) (root : ℕ) (json : Bool) (at : ℕ) (t : Ticket)
-    (r : Result AssignJobResult CallFault) → Says root (assignment_end s root json at t r)
+    (r : Result AssignJobResult CallFault) → RepliesOnly root (assignment_end s root json at t r)
 assignment_says s root json at t (Ok a) =
     let made = rule s (call.Commit at t.number t.job a.state) in
     says_reply root (Some made) (commit_response json a.need_toolchain (committed_by true made.kind t))
@@ -164,18 +165,18 @@ assignment_says s root json at t (Err f) =
     says_reply root (Some made) (fault_response_of (fault.AssignFailed (undone_by made.kind) f))
 
 complete_says : (addr : Addr) (root : ℕ) (json : Bool) (job : JobId) (outcome : Outcome)
-    (r : Result UpdateJobStateResult CallFault) → Says root (complete_end addr root json job outcome r)
+    (r : Result UpdateJobStateResult CallFault) → RepliesOnly root (complete_end addr root json job outcome r)
 complete_says addr root json job outcome (Ok u) = says_step root addr (step.Finished job)
     (ended_response json (run_answer outcome))
 complete_says addr root json job outcome (Err f) = unreported_says root addr job f
 
 -- an effect that is one which says so
-moved : (n : ℕ) (x y : Effect) → x ≡ y → Says n y → Says n x
-moved n x y e h = subst (Says n) (sym e) h
+moved : (n : ℕ) (x y : Effect) → x ≡ y → RepliesOnly n y → RepliesOnly n x
+moved n x y e h = subst (RepliesOnly n) (sym e) h
 
 ready_says : (s : ServerNow) (root : ℕ) (json : Bool) (job : JobId) (archive : List ℕ)
     (r : Result UpdateJobStateResult CallFault) (x : Effect) → ReadyEnds free s root json job archive r x
-    → Says root x
+    → RepliesOnly root x
 ready_says s root json job archive (Ok u) x is =
     moved root x (submission s.setup.addr root json job is.0) is.2
     (says_step root s.setup.addr (step.Submitted job is.0) (submit_response json (submit_result is.0)))
@@ -184,18 +185,18 @@ ready_says s root json job archive (Err f) x is =
 
 started_says : (setup : Setup) (s : ServerNow) (root : ℕ) (job : JobId) (run : RunJobHttpRequest)
     (inputs : List ℕ) (r : Result UpdateJobStateResult CallFault) (x : Effect)
-    → StartedEnds free setup s root job run inputs r x → Says root x
+    → StartedEnds free setup s root job run inputs r x → RepliesOnly root x
 started_says setup s root job run inputs (Ok u) x is = inl (ap (λ (y : Effect). y.reply) is.2)
 started_says setup s root job run inputs (Err f) x is =
     moved root x (unreported s.setup.addr root job f) is (unreported_says root s.setup.addr job f)
 
-opened_says : (n : ℕ) (s : ServerNow) (o : Option Archives) → Says n (opened_effect s o)
+opened_says : (n : ℕ) (s : ServerNow) (o : Option Archives) → RepliesOnly n (opened_effect s o)
 opened_says n s None = inl refl
 opened_says n s (Some list) = inl refl
 
 reports_says : (setup : Setup) (s : ServerNow) (bytes : List ℕ) (root : ℕ) (json : Bool)
     (reply : Option (List ℕ)) (t : Told) (x : Effect) → Reports free setup s bytes root json reply t x
-    → Says root x
+    → RepliesOnly root x
 reports_says setup s bytes root json reply (told.Ready job at) x is =
     ready_says s root json job (drop at bytes) is.0 x is.2
 reports_says setup s bytes root json reply (told.Started job run at) x is =
@@ -207,19 +208,19 @@ reports_says setup s bytes root json reply told.Heartbeat x is = inl (ap (λ (y 
 
 lives_says : (setup : Setup) (life : ℕ) (s : ServerNow) (bytes : List ℕ) (root : ℕ) (json : Bool)
     (reply : Option (List ℕ)) (t : Told) (over : Bool) (x : Effect)
-    → Lives free setup life s bytes root json reply t over x → Says root x
+    → Lives free setup life s bytes root json reply t over x → RepliesOnly root x
 lives_says setup life s bytes root json reply t true x is = inl (ap (λ (y : Effect). y.reply) is)
 lives_says setup life s bytes root json reply t false x is = reports_says setup s bytes root json reply t x is
 
 report_says : (setup : Setup) (life : ℕ) (bytes : List ℕ) (root : ℕ) (json : Bool) (reply : Option (List ℕ))
     (t : Told) (o : Option ServerNow) (x : Effect) → ReportsIn free setup life bytes root json reply t o x
-    → Says root x
+    → RepliesOnly root x
 report_says setup life bytes root json reply t None x is = inl (ap (λ (y : Effect). y.reply) is)
 report_says setup life bytes root json reply t (Some s) x is = lives_says setup life s bytes root json reply t
     (is_over life s) x is
 
 goes_says : (setup : Setup) (log : List Entry) (at root : ℕ) (json : Bool) (reply : Option (List ℕ))
-    (ask : Ask) (x : Effect) → GoesOn free setup log at root json reply ask x → Says root x
+    (ask : Ask) (x : Effect) → GoesOn free setup log at root json reply ask x → RepliesOnly root x
 goes_says setup log at root json reply (Assign t) x is =
     moved root x (assignment_end (core_of setup log) root json at t is.0) is.2
     (assignment_says (core_of setup log) root json at t is.0)
@@ -228,7 +229,7 @@ goes_says setup log at root json reply (Report server life t) x is =
 
 -- what an event does that settles no call
 served_says_so : (setup : Setup) (s : Core) (number at : ℕ) (way : Way) (x : Effect)
-    → IsServed free setup s number at way x → Says number x
+    → IsServed free setup s number at way x → RepliesOnly number x
 served_says_so setup s number at (to_scheduler peer bytes) x is =
     moved number x (answer_to s number at is.0.json is.0.what) is.2
     (answer_says s number at is.0.json is.0.what)
@@ -397,7 +398,7 @@ module _ (setup : Setup) (events : List Event) (entries : List Entry)
     said : x.reply ≡ Some r
     said = sym (ap (λ (y : Entry). y.reply) is) ∙ replies
 
-    spoken : (n : ℕ) → Says n x → (e.call ≡ None) × (r.to ≡ n)
+    spoken : (n : ℕ) → RepliesOnly n x → (e.call ≡ None) × (r.to ≡ n)
     spoken n (inl none) = absurd (let no : None ≡ Some r = sym none ∙ said in cc)
     spoken n (inr h) = (ap (λ (y : Entry). y.call) is ∙ h.0, h.1 r said)
 

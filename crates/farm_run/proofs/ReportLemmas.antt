@@ -24,7 +24,7 @@ use Rattle.http_routes.specs.declared.reply.Response.TheVariants.{Binary, Server
 use Rattle.http_routes.specs.declared.route.SchedRouted.TheVariants.{Update}
 use Rattle.http_routes.specs.Asked.{IsAskedUnder}
 use Rattle.http_routes.specs.Admission.{equal_admission}
-use Rattle.http_routes.specs.Calls.{told_by, answer_by, IsAnswer}
+use Rattle.http_routes.specs.CallReply.{told_by, answer_by, IsAnswer}
 use Rattle.http_routes.specs.ErrJson.{err_text}
 use Rattle.http_routes.specs.Fault.{fault_text}
 use Rattle.http_routes.specs.ReadBack.{seen}
@@ -36,7 +36,7 @@ use Rattle.dist_wire.specs.CodecLaws.{wide32}
 use Rattle.dist_wire.specs.MessageLaws.{update_codec}
 use Rattle.dist_wire.specs.Reading.{update_at}
 use Rattle.dist_wire.specs.Written.{state_bytes, update_text}
-use Rattle.http_routes.specs.Written.{post_with, state_with, state_request_text, CanGo}
+use Rattle.http_routes.specs.Requests.{post_with, state_with, state_request_text, CanGo}
 use Rattle.http_routes.proofs.BackLemmas.{read_back}
 use Rattle.http_routes.proofs.ToldLemmas.{addr_visible, states_read_back}
 use Rattle.farm_run.specs.declared.site.Site.{Site as Setup}

@@ -45,7 +45,7 @@ use Rattle.farm_run.specs.declared.pending.Pending.{Pending}
 use Rattle.farm_run.specs.declared.pending.Told.{Told}
 use Rattle.farm_run.specs.declared.pending.Told.TheVariants as told
 use Rattle.farm_run.specs.Post.{Post as Station, outside_of}
-use Rattle.farm_run.specs.Answers.{hears, allocated, answer_to, IsAnswered}
+use Rattle.farm_run.specs.Answers.{hears, alloc_effect, answer_to, IsAnswered}
 use Rattle.farm_run.specs.Begun.{IsBegunBy, Keeps}
 use Rattle.farm_run.specs.Effects.{word_effect, entry_of}
 use Rattle.farm_run.specs.Farm.{IsFarm, IsReceived, IsMadeSo}
@@ -55,7 +55,7 @@ use Rattle.http_routes.specs.declared.server_route.ServerAsked.{ServerAsked}
 use Rattle.farm_run.specs.Servers.{ServerNow, stepped, server_of, server_at, server_now, is_over}
 use Rattle.farm_run.specs.Settled.{ReadyEnds, StartedEnds, complete_end, Reports, Lives, ReportsIn}
 use Rattle.farm_run.specs.Weather.{Weather, calm, weather_of, opened_effect}
-use Rattle.farm_run.specs.Passage.{reached_in, reached, Leaves, Moves, IsMoved}
+use Rattle.farm_run.specs.Passage.{reached_in, reached, LeavesOutside, Moves, IsMoved}
 use Rattle.farm_run.proofs.StandLemmas.{get_map, set_map}
 use Rattle.lru_disk_cache.specs.Archives.{Archives}
 use Rattle.farm_script.specs.declared.event.EventKind.{EventKind}
@@ -329,7 +329,7 @@ report_there w setup log sts life bytes root json reply t addr place st x f are 
 -- ---- what the scheduler does has no step
 
 allocated_step : (seen : Core) (number : ℕ) (json : Bool) (tc : List ℕ) (made : CoreEntry) (k : CoreKind)
-    → (allocated seen number json tc made k).step ≡ None
+    → (alloc_effect seen number json tc made k).step ≡ None
 allocated_step seen number json tc made (core.Reserve (reserve.Job job reg forgiven)) = refl
 allocated_step seen number json tc made (core.Reserve (reserve.NoRoom standing)) = refl
 allocated_step seen number json tc made (core.Reserve reserve.Spent) = refl
@@ -423,7 +423,7 @@ kept_same setup log number bytes m server s station st es et is =
 pub step_same : (place : ℕ) (x : Option Step) (sts new : List Station) (server s : SetupServer)
     (station st after : Station) → server ≡ s → station ≡ st → new ≡ set sts place after
     → now_of server after ≡ stepped x (now_of server station) → IsWell server after
-    → Leaves x (outside_of station) (outside_of after)
+    → LeavesOutside x (outside_of station) (outside_of after)
     → IsStepAt s place st x sts new
 step_same place x sts new server s station st after es et put now well leaves =
     let is : IsStepAt server place station x sts new =
@@ -443,7 +443,7 @@ pub report_same : (setup : Setup) (place life : ℕ) (bytes : List ℕ) (root : 
     (reply : Option (List ℕ)) (t : Told) (x : Effect) (sts new : List Station) (server s : SetupServer)
     (station st after : Station) → server ≡ s → station ≡ st → new ≡ set sts place after
     → now_of server after ≡ stepped x.step (now_of server station) → IsWell server after
-    → Leaves x.step (outside_of station) (outside_of after)
+    → LeavesOutside x.step (outside_of station) (outside_of after)
     → ReportsIn (weather_of (outside_of station) (outside_of after)) setup life bytes root json reply t
     (Some (now_of server station)) x
     → IsReported setup place life bytes root json reply t x sts new s st

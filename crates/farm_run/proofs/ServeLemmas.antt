@@ -39,7 +39,7 @@ use Rattle.farm_script.specs.declared.fault.FarmFault.{FarmFault}
 use Rattle.farm_run.specs.declared.pending.Made.{Made}
 use Rattle.farm_run.specs.declared.pending.Pending.{Pending}
 use Rattle.http_routes.specs.Replies.{alloc_response, update_response, update_reply, commit_response}
-use Rattle.farm_run.specs.Answers.{Asks, allocated}
+use Rattle.farm_run.specs.Answers.{Asks, alloc_effect}
 use Rattle.farm_run.specs.Begun.{IsAssignment, IsBegunBy, Keeps}
 use Rattle.farm_run.specs.Effects.{reply_effect, reply_to}
 use Rattle.farm_run.specs.Farm.{with_core}
@@ -117,7 +117,7 @@ no_room_by : {A : Type 0} (key_of : A → List ℕ) (token_for : A → ℕ → L
     (json : Bool) (tc : List ℕ) (made : CoreEntry) (standing : ℕ) (k : CoreKind)
     → IsPicked key_of token_for s.log k (picked.NoRoom standing)
     → reply_effect (Some made) (reply_to number (alloc_response json (alloc.Fail (no_room_text standing))))
-    ≡ allocated s number json tc made k
+    ≡ alloc_effect s number json tc made k
 no_room_by key_of token_for s number json tc made standing (core.Reserve (NoRoom n)) is =
     ap (λ (m : ℕ). reply_effect (Some made)
     (reply_to number (alloc_response json (alloc.Fail (no_room_text m))))) is
@@ -138,7 +138,7 @@ pub no_room_told : {A : Type 0} (key_of : A → List ℕ) (token_for : A → ℕ
     → IsPicked key_of token_for s.log made.kind (picked.NoRoom standing) → new ≡ logged s made
     → slice_get new.log (length new.log - 1) ≡ Some x
     → e ≡ reply_effect (Some x) (reply_to number (alloc_response json (alloc.Fail (no_room_text standing))))
-    → e ≡ allocated s number json tc made made.kind
+    → e ≡ alloc_effect s number json tc made made.kind
 no_room_told key_of token_for s new number json tc made x standing e is log at same =
     same ∙ ap (λ (y : CoreEntry).
     reply_effect (Some y) (reply_to number (alloc_response json (alloc.Fail (no_room_text standing)))))
@@ -148,11 +148,11 @@ no_room_told key_of token_for s new number json tc made x standing e is log at s
 pub spent_told : (s new : Core) (number : ℕ) (json : Bool) (tc : List ℕ) (made x : CoreEntry) (e : Effect)
     → made.kind ≡ core.Reserve Spent → new ≡ logged s made → slice_get new.log (length new.log - 1) ≡ Some x
     → e ≡ reply_effect (Some x) (reply_to number (fault_response_of fault.IdsSpent))
-    → e ≡ allocated s number json tc made made.kind
+    → e ≡ alloc_effect s number json tc made made.kind
 spent_told s new number json tc made x e is log at same =
     same ∙ ap (λ (y : CoreEntry). reply_effect (Some y) (reply_to number (fault_response_of fault.IdsSpent)))
     (last_is s new made x log at)
-    ∙ ap (allocated s number json tc made) (sym is)
+    ∙ ap (alloc_effect s number json tc made) (sym is)
 
 -- ---- what was asked
 

@@ -19,7 +19,8 @@ use Rattle.farm_run.specs.declared.entry.StepKind.{StepKind}
 use Rattle.farm_run.specs.declared.entry.StepKind.TheVariants as kinds
 use Rattle.farm_run.specs.Effects.{entry_of}
 use Rattle.farm_run.specs.Farm.{Stands}
-use Rattle.farm_run.specs.Passage.{reaches, reached_in, reached, LeavesTo, Leaves, AreOwn, Moves, IsMoved}
+use Rattle.farm_run.specs.Passage.{reaches, reached_in, reached, LeavesTo, LeavesOutside, AreOwn, Moves}
+use Rattle.farm_run.specs.Passage.{IsMoved}
 use Rattle.farm_run.specs.Post.{Post as Station, outside_of}
 use Rattle.farm_run.specs.Servers.{restart_by}
 use Rattle.farm_run.specs.Stations.{AreStations, IsStepAt, HasApart}
@@ -56,7 +57,7 @@ leaves_to : (o : Option Addr) (old new : Outside) → new ≡ old → LeavesTo o
 leaves_to None old new same = same
 leaves_to (Some addr) old new same = ap (λ (x : Outside). is_some x.builder) same
 
-pub leaves_same : (step : Option Step) (old new : Outside) → new ≡ old → Leaves step old new
+pub leaves_same : (step : Option Step) (old new : Outside) → new ≡ old → LeavesOutside step old new
 leaves_same step old new same = leaves_to (reached_in step) old new same
 
 -- ---- events that restart nothing

@@ -49,7 +49,7 @@ use Rattle.farm_run.specs.Servers.{builds_after_run}
 use Rattle.farm_run.specs.Stations.{now_of, IsOpen, IsWell, BuildsBy}
 use Rattle.farm_run.specs.Weather.{Outside, weather_by, weather_of, failed_after_submit, failed_after_run}
 use Rattle.farm_run.specs.Weather.{Stores}
-use Rattle.farm_run.specs.Weather.{books_in, Asked, order_of, Works, Opens, opened_effect}
+use Rattle.farm_run.specs.Weather.{books_in, IsOrdered, order_of, Works, Opens, opened_effect}
 
 -- a step of the server itself
 pub own_step : (s : ServerNow) (k : StepKind) → stepped (Some (record { server = s.setup.addr; kind = k })) s
@@ -352,7 +352,7 @@ module _ (s : SetupServer) (st : Station) (new : Books) (builder : Option Builde
       by_builder (Some b) e = record {
         taken = t;
         finds = finds_at s st new (outside_of after) (held_for job st.state.held) t refl is.taken.finds;
-        asked = subst (λ (x : Option Builder). Asked x builder t (order_of run inputs) went) (sym e)
+        asked = subst (λ (x : Option Builder). IsOrdered x builder t (order_of run inputs) went) (sym e)
             (subst (λ (x : Option Builder). BuildsBy s st.builds x builder t run inputs went) e is.asked);
         failed = is.fails;
       }

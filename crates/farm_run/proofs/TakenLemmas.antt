@@ -20,10 +20,10 @@ use Rattle.farm_run.proofs.ServerLemmas.{server-push, server_setup}
 -- ---- tables
 
 -- a toolchain that is held for a job
-abbrev Holds : JobId → Table → Type 0
-Holds job table = (tc : List ℕ) × (held_for job table ≡ Some tc)
+abbrev IsHeldFor : JobId → Table → Type 0
+IsHeldFor job table = (tc : List ℕ) × (held_for job table ≡ Some tc)
 
-held_cons : (job : JobId) (h : JobId × List ℕ) (hs : Table) → Holds job hs → Holds job (h ∷ hs)
+held_cons : (job : JobId) (h : JobId × List ℕ) (hs : Table) → IsHeldFor job hs → IsHeldFor job (h ∷ hs)
 held_cons job h hs holds = by_test (is_job job h.0)
   where
     by_test : (b : Bool) → (tc : List ℕ) × (cond b (Some h.1) (held_for job hs) ≡ Some tc)
@@ -31,51 +31,51 @@ held_cons job h hs holds = by_test (is_job job h.0)
     by_test false = holds
 
 -- what is held beside a job that was placed was held
-held_placed : (job j : JobId) (tc : List ℕ) (table : Table) → Holds job (placed j tc table)
-    → (is_job job j ≡ true) ⊎ Holds job table
+held_placed : (job j : JobId) (tc : List ℕ) (table : Table) → IsHeldFor job (placed j tc table)
+    → (is_job job j ≡ true) ⊎ IsHeldFor job table
 held_placed job j tc [] holds = by_test (is_job job j) refl holds
   where
     by_test : (b : Bool) → is_job job j ≡ b → (t : List ℕ) × (cond b (Some tc) None ≡ Some t)
-        → (is_job job j ≡ true) ⊎ Holds job []
+        → (is_job job j ≡ true) ⊎ IsHeldFor job []
     by_test true is h = inl is
     by_test false is h = inr h
 held_placed job j tc (h ∷ hs) holds = by_order (nat_lt j.0 h.0.0) holds (held_placed job j tc hs)
   where
     at_first : (b : Bool) → is_job job j ≡ b → (t : List ℕ)
-        × (cond b (Some tc) (held_for job (h ∷ hs)) ≡ Some t) → (is_job job j ≡ true) ⊎ Holds job (h ∷ hs)
+        × (cond b (Some tc) (held_for job (h ∷ hs)) ≡ Some t) → (is_job job j ≡ true) ⊎ IsHeldFor job (h ∷ hs)
     at_first true is k = inl is
     at_first false is k = inr k
 
-    more : (is_job job j ≡ true) ⊎ Holds job hs → (is_job job j ≡ true) ⊎ Holds job (h ∷ hs)
+    more : (is_job job j ≡ true) ⊎ IsHeldFor job hs → (is_job job j ≡ true) ⊎ IsHeldFor job (h ∷ hs)
     more (inl is) = inl is
     more (inr k) = inr (held_cons job h hs k)
 
     later : (b : Bool) → is_job job h.0 ≡ b → (t : List ℕ)
         × (cond b (Some h.1) (held_for job (placed j tc hs)) ≡ Some t)
-        → (Holds job (placed j tc hs) → (is_job job j ≡ true) ⊎ Holds job hs)
-        → (is_job job j ≡ true) ⊎ Holds job (h ∷ hs)
+        → (IsHeldFor job (placed j tc hs) → (is_job job j ≡ true) ⊎ IsHeldFor job hs)
+        → (is_job job j ≡ true) ⊎ IsHeldFor job (h ∷ hs)
     later true is k rest = inr (h.1, ap (λ (c : Bool). cond c (Some h.1) (held_for job hs)) is)
     later false is k rest = more (rest k)
 
-    by_order : (b : Bool) → Holds job (cond b ((j, tc) ∷ h ∷ hs) (h ∷ placed j tc hs))
-        → (Holds job (placed j tc hs) → (is_job job j ≡ true) ⊎ Holds job hs) → (is_job job j ≡ true)
-        ⊎ Holds job (h ∷ hs)
+    by_order : (b : Bool) → IsHeldFor job (cond b ((j, tc) ∷ h ∷ hs) (h ∷ placed j tc hs))
+        → (IsHeldFor job (placed j tc hs) → (is_job job j ≡ true) ⊎ IsHeldFor job hs) → (is_job job j ≡ true)
+        ⊎ IsHeldFor job (h ∷ hs)
     by_order true k rest = at_first (is_job job j) refl k
     by_order false k rest = later (is_job job h.0) refl k rest
 
 -- what is held without a job was held
-held_without : (job j : JobId) (table : Table) → Holds job (without_job j table) → Holds job table
+held_without : (job j : JobId) (table : Table) → IsHeldFor job (without_job j table) → IsHeldFor job table
 held_without job j [] holds = holds
 held_without job j (h ∷ hs) holds = by_kept (not (is_job j h.0)) holds (held_without job j hs)
   where
     at_first : (b : Bool) → is_job job h.0 ≡ b → (t : List ℕ)
         × (cond b (Some h.1) (held_for job (without_job j hs)) ≡ Some t)
-        → (Holds job (without_job j hs) → Holds job hs) → Holds job (h ∷ hs)
+        → (IsHeldFor job (without_job j hs) → IsHeldFor job hs) → IsHeldFor job (h ∷ hs)
     at_first true is k rest = (h.1, ap (λ (c : Bool). cond c (Some h.1) (held_for job hs)) is)
     at_first false is k rest = held_cons job h hs (rest k)
 
-    by_kept : (b : Bool) → Holds job (cond b (h ∷ without_job j hs) (without_job j hs))
-        → (Holds job (without_job j hs) → Holds job hs) → Holds job (h ∷ hs)
+    by_kept : (b : Bool) → IsHeldFor job (cond b (h ∷ without_job j hs) (without_job j hs))
+        → (IsHeldFor job (without_job j hs) → IsHeldFor job hs) → IsHeldFor job (h ∷ hs)
     by_kept true k rest = at_first (is_job job h.0) refl k rest
     by_kept false k rest = held_cons job h hs (rest k)
 
@@ -108,14 +108,14 @@ step_life (Some step) s = by_test (same_addr step.server s.setup.addr)
     by_test false = refl
 
 -- what is held behind a step was held before, or is what the step takes
-step_held : (step : Option Step) (s : ServerNow) (job : JobId) → Holds job (stepped step s).held
-    → Takes step s.setup.addr job ⊎ Holds job s.held
+step_held : (step : Option Step) (s : ServerNow) (job : JobId) → IsHeldFor job (stepped step s).held
+    → Takes step s.setup.addr job ⊎ IsHeldFor job s.held
 step_held None s job holds = inr holds
 step_held (Some step) s job holds = by_test (same_addr step.server s.setup.addr) refl holds
   where
     placed_here : (j : JobId) (tc : List ℕ) (ready : Bool) → step.kind ≡ kinds.Assigned j tc ready
-        → step.server ≡ s.setup.addr → (is_job job j ≡ true) ⊎ Holds job s.held
-        → Takes (Some step) s.setup.addr job ⊎ Holds job s.held
+        → step.server ≡ s.setup.addr → (is_job job j ≡ true) ⊎ IsHeldFor job s.held
+        → Takes (Some step) s.setup.addr job ⊎ IsHeldFor job s.held
     placed_here j tc ready is own (inr k) = inr k
     placed_here j tc ready is own (inl same) =
         let one : j ≡ job = same_number job j same in
@@ -130,8 +130,9 @@ step_held (Some step) s job holds = by_test (same_addr step.server s.setup.addr)
               });
         })
 
-    by_kind : (k : StepKind) → step.kind ≡ k → step.server ≡ s.setup.addr → Holds job (kind_after k s).held
-        → Takes (Some step) s.setup.addr job ⊎ Holds job s.held
+    by_kind : (k : StepKind) → step.kind ≡ k → step.server ≡ s.setup.addr → IsHeldFor job
+        (kind_after k s).held
+        → Takes (Some step) s.setup.addr job ⊎ IsHeldFor job s.held
     by_kind (kinds.Heard as_what) is own h = inr h
     by_kind (kinds.Assigned j tc ready) is own h = placed_here j tc ready is own
         (held_placed job j tc s.held h)
@@ -142,8 +143,8 @@ step_held (Some step) s job holds = by_test (same_addr step.server s.setup.addr)
     by_kind (kinds.Opened archives) is own h = inr h
 
     by_test : (b : Bool) → same_addr step.server s.setup.addr ≡ b
-        → Holds job (cond b (kind_after step.kind s) s).held → Takes (Some step) s.setup.addr job
-        ⊎ Holds job s.held
+        → IsHeldFor job (cond b (kind_after step.kind s) s).held → Takes (Some step) s.setup.addr job
+        ⊎ IsHeldFor job s.held
     by_test true is h = by_kind step.kind refl (same_is step.server s.setup.addr is) h
     by_test false is h = inr h
 
@@ -171,18 +172,18 @@ take_some {X = X} (y ∷ ys) zero x e = ap (λ (z : X). z ∷ []) (same_Some y x
 take_some (y ∷ ys) (suc n) x e = ap (λ (zs : List _). y ∷ zs) (take_some ys n x e)
 
 after_held : (s : ServerNow) (r : Option (List ℕ × ℕ)) (step : Option Step) (job : JobId)
-    → Holds job (stepped step (restarted r s)).held
-    → Takes step s.setup.addr job ⊎ (Holds job s.held × ((stepped step (restarted r s)).life ≡ s.life))
+    → IsHeldFor job (stepped step (restarted r s)).held
+    → Takes step s.setup.addr job ⊎ (IsHeldFor job s.held × ((stepped step (restarted r s)).life ≡ s.life))
 after_held s None step job h = by_step (step_held step s job h)
   where
-    by_step : Takes step s.setup.addr job ⊎ Holds job s.held → Takes step s.setup.addr job
-        ⊎ (Holds job s.held × ((stepped step s).life ≡ s.life))
+    by_step : Takes step s.setup.addr job ⊎ IsHeldFor job s.held → Takes step s.setup.addr job
+        ⊎ (IsHeldFor job s.held × ((stepped step s).life ≡ s.life))
     by_step (inl t) = inl t
     by_step (inr k) = inr (k, step_life step s)
 after_held s (Some p) step job h = by_step (step_held step (restarted (Some p) s) job h)
   where
-    by_step : Takes step s.setup.addr job ⊎ Holds job [] → Takes step s.setup.addr job
-        ⊎ (Holds job s.held × ((stepped step (restarted (Some p) s)).life ≡ s.life))
+    by_step : Takes step s.setup.addr job ⊎ IsHeldFor job [] → Takes step s.setup.addr job
+        ⊎ (IsHeldFor job s.held × ((stepped step (restarted (Some p) s)).life ≡ s.life))
     by_step (inl t) = inl t
     by_step (inr k) = let none : None ≡ Some k.0 = k.1 in absurd cc
 
@@ -205,7 +206,7 @@ held_took s log (suc n) job tc e = by_entry (slice_get log n) refl (held_took s 
         (restarted (restart_by (server_of s (take n log)).setup.addr x.event.kind) (server_of s (take n log)))
         → ((t : List ℕ) → held_for job (server_of s (take n log)).held ≡ Some t → Took s log n job)
         → Takes x.step (server_of s (take n log)).setup.addr job
-        ⊎ (Holds job (server_of s (take n log)).held
+        ⊎ (IsHeldFor job (server_of s (take n log)).held
         × ((stepped x.step (restarted (restart_by (server_of s (take n log)).setup.addr x.event.kind)
         (server_of s (take n log)))).life ≡ (server_of s (take n log)).life))
         → Took s log (suc n) job

@@ -29,7 +29,7 @@ use Rattle.dist_wire.specs.declared.run.RunJobHttpRequest.{RunJobHttpRequest}
 use Rattle.farm_run.specs.declared.entry.StepKind.TheVariants as kinds
 use Rattle.farm_run.specs.declared.pending.Told.{Told}
 use Rattle.farm_run.specs.declared.pending.Told.TheVariants as told
-use Rattle.http_routes.specs.Calls.{told_by, assigned_by, answer_by, IsAssigned, IsAnswer}
+use Rattle.http_routes.specs.CallReply.{told_by, assigned_by, answer_by, IsAssigned, IsAnswer}
 use Rattle.farm_run.specs.declared.site.Site.{Site as Setup}
 use Rattle.farm_run.specs.declared.entry.Effect.{Effect}
 use Rattle.farm_run.specs.declared.entry.Entry.{Entry}

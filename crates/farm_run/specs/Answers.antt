@@ -8,7 +8,7 @@ use Rattle.http_routes.specs.Admission.{equal_admission}
 use Rattle.http_routes.specs.Asked.{IsAskedUnder}
 use Rattle.http_routes.specs.Fault.{fault_response_of}
 use Rattle.sched_core.specs.Texts.{no_room_text}
-use Rattle.http_routes.specs.Written.{assign_request_text}
+use Rattle.http_routes.specs.Requests.{assign_request_text}
 use Rattle.http_routes.specs.declared.fault.RouteFault.TheVariants as fault
 use Rattle.http_routes.specs.declared.route.Asked.{Asked}
 use Rattle.http_routes.specs.declared.route.SchedRouted.{SchedRouted}
@@ -40,8 +40,8 @@ abbrev pub hears : ℕ → Bool
 hears cpus = nat_le 1 cpus && nat_le cpus 4294967295
 
 -- a heartbeat
-abbrev pub heard : Core → ℕ → ℕ → Bool → Addr → HeartbeatServerHttpRequest → Effect
-heard core number at json server beat =
+abbrev pub heard_effect : Core → ℕ → ℕ → Bool → Addr → HeartbeatServerHttpRequest → Effect
+heard_effect core number at json server beat =
     let made = rule core (call.Beat at server beat.server_nonce beat.num_cpus beat.jwt_key) in
     if hears beat.num_cpus then reply_effect (Some made)
     (reply_to number (heard_response json (record { is_new = says_new_entry made })))
@@ -53,21 +53,21 @@ update_by (core.Update server job state answer) = answer
 update_by other = Unknown
 
 -- a reserve: the call that asks the picked server to take the job, or the reply where none is picked
-abbrev pub allocated : Core → ℕ → Bool → List ℕ → CoreEntry → CoreKind → Effect
-allocated seen number json tc made (core.Reserve (Job job reg forgiven)) =
+abbrev pub alloc_effect : Core → ℕ → Bool → List ℕ → CoreEntry → CoreKind → Effect
+alloc_effect seen number json tc made (core.Reserve (Job job reg forgiven)) =
     call_effect (Some made) (option_map (assign_call tc)
     (ticket_by seen.log (core.Reserve (Job job reg forgiven))))
-allocated seen number json tc made (core.Reserve (NoRoom standing)) = reply_effect (Some made)
+alloc_effect seen number json tc made (core.Reserve (NoRoom standing)) = reply_effect (Some made)
     (reply_to number (alloc_response json (alloc.Fail (no_room_text standing))))
-allocated seen number json tc made other = reply_effect (Some made)
+alloc_effect seen number json tc made other = reply_effect (Some made)
     (reply_to number (fault_response_of fault.IdsSpent))
 
 -- what is asked by the entry of that number at that moment: the core entry that the rule gives, and a reply
 -- or a call that says the same
 abbrev pub answer_to : Core → ℕ → ℕ → Bool → SchedRouted → Effect
 answer_to core number at json (asked.Alloc tc) = let made = rule core (call.Reserve at)
-    in allocated core number json tc made made.kind
-answer_to core number at json (asked.Beat server beat) = heard core number at json server beat
+    in alloc_effect core number json tc made made.kind
+answer_to core number at json (asked.Beat server beat) = heard_effect core number at json server beat
 answer_to core number at json (asked.Update server job state) =
     let made = rule core (call.Update at server job state) in
     reply_effect (Some made) (reply_to number (update_reply json (update_by made.kind) server job state))

@@ -158,8 +158,8 @@ AddsNext setup old event new before after = (w : Weather) × (e : Entry) × IsNe
     × IsMoved setup e w before after × (new ≡ old ++ e ∷ [])
 
 -- one event makes its entry
-abbrev pub Steps : Farmed → Event → Farmed → Type 0
-Steps old event new = (w : Weather) × (e : Entry) × IsNext w old.setup old.entries event e
+abbrev pub StepsTo : Farmed → Event → Farmed → Type 0
+StepsTo old event new = (w : Weather) × (e : Entry) × IsNext w old.setup old.entries event e
     × IsMoved old.setup e w old.outside new.outside × (new ≡ with_entries old (e ∷ []) new.outside)
 
 -- the farm has one more entry for each of the events, each next over those before it

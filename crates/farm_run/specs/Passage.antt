@@ -68,8 +68,8 @@ LeavesTo None old new = new ≡ old
 LeavesTo (Some addr) old new = StaysOwn old new
 
 -- what a step leaves outside of its server
-abbrev pub Leaves : Option Step → Outside → Outside → Type 0
-Leaves step old new = LeavesTo (reached_in step) old new
+abbrev pub LeavesOutside : Option Step → Outside → Outside → Type 0
+LeavesOutside step old new = LeavesTo (reached_in step) old new
 
 -- the farm made all its builders, and its folders in memory
 abbrev pub AreOwn : List Outside → Type 0

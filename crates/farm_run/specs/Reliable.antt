@@ -12,7 +12,7 @@ use Rattle.dist_types.specs.declared.results.UpdateJobStateResult.{UpdateJobStat
 use Rattle.dist_wire.specs.declared.run.RunJobHttpRequest.{RunJobHttpRequest}
 use Rattle.http_head.specs.Head.{IsReply}
 use Rattle.http_head.specs.declared.reply.Reply.{Reply as HttpReply}
-use Rattle.http_routes.specs.Calls.{IsAssigned}
+use Rattle.http_routes.specs.CallReply.{IsAssigned}
 use Rattle.http_routes.specs.Replies.{commit_response, submit_response}
 use Rattle.http_routes.specs.declared.reply.Response.{Response}
 use Rattle.http_routes.specs.declared.route.SchedRouted.TheVariants as asked

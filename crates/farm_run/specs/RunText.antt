@@ -4,7 +4,7 @@ use Rattle.farm_script.specs.declared.setup.Setup.{Setup}
 use Rattle.farm_script.specs.declared.event.Event.{Event}
 use Rattle.farm_script.specs.Script.{script}
 use Rattle.farm_script.specs.FirstFaulty.{IsFaultless}
-use Rattle.farm_script.specs.Spelled.{Says}
+use Rattle.farm_script.specs.Spelled.{SpellsScript}
 use Rattle.farm_run.specs.declared.entry.Entry.{Entry}
 use Rattle.farm_run.specs.Builds.{AreBuilds}
 use Rattle.farm_run.specs.Next.{EachNext}
@@ -24,7 +24,7 @@ pub record IsRunText (bytes text : List ℕ) : Type 0 where
   pub events : List Event
   pub entries : List Entry
   pub fine : IsFaultless bytes
-  pub says : Says bytes setup events
+  pub says : SpellsScript bytes setup events
   pub each : EachNext calm (site_of setup) [] events entries
   pub lawful : AreLawful (site_of setup) entries
   pub builds : AreBuilds (site_of setup) entries

@@ -14,7 +14,7 @@ use Rattle.dist_wire.specs.declared.heartbeat.HeartbeatServerHttpRequest.{Heartb
 use Rattle.http_routes.specs.Fault.{fault_response_of}
 use Rattle.http_routes.specs.Replies.{assign_response}
 use Rattle.http_routes.specs.ServerRoute.{IsServerAsked}
-use Rattle.http_routes.specs.Written.{state_request_text, heartbeat_request_text}
+use Rattle.http_routes.specs.Requests.{state_request_text, heartbeat_request_text}
 use Rattle.http_routes.specs.declared.fault.RouteFault.TheVariants as fault
 use Rattle.http_routes.specs.declared.server_route.ServerAsked.{ServerAsked}
 use Rattle.http_routes.specs.declared.server_route.ServerRouted.{ServerRouted}

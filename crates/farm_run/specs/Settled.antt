@@ -12,7 +12,7 @@ use Rattle.dist_types.specs.declared.results.RunJobResult.{RunJobResult}
 use Rattle.dist_types.specs.declared.results.UpdateJobStateResult.{UpdateJobStateResult}
 use Rattle.dist_wire.specs.Reading.{update_at, heard_at}
 use Rattle.dist_wire.specs.declared.run.RunJobHttpRequest.{RunJobHttpRequest}
-use Rattle.http_routes.specs.Calls.{IsAssigned, IsAnswer}
+use Rattle.http_routes.specs.CallReply.{IsAssigned, IsAnswer}
 use Rattle.http_routes.specs.Fault.{fault_response_of}
 use Rattle.http_routes.specs.Replies.{commit_response, submit_response, run_response}
 use Rattle.http_routes.specs.declared.fault.RouteFault.TheVariants as fault

@@ -8,11 +8,11 @@ use Rattle.farm_run.specs.declared.site.SiteServer.{SiteServer as SetupServer}
 use Rattle.farm_run.specs.declared.entry.Entry.{Entry}
 use Rattle.farm_run.specs.declared.entry.Step.{Step}
 use Rattle.farm_run.specs.declared.entry.Effect.{Effect}
-use Rattle.farm_run.specs.Passage.{StaysOwn, Leaves}
+use Rattle.farm_run.specs.Passage.{StaysOwn, LeavesOutside}
 use Rattle.farm_run.specs.Post.{Post as Station, outside_of}
 use Rattle.farm_run.specs.Servers.{ServerNow, restarted, stepped, server_of}
 use Rattle.farm_run.specs.Served.{build_answer}
-use Rattle.farm_run.specs.Weather.{Opens, weather_of, opened_effect, Asked, order_of}
+use Rattle.farm_run.specs.Weather.{Opens, weather_of, opened_effect, IsOrdered, order_of}
 use Rattle.build_server.specs.Builds.{Builder, outcome_by}
 use Rattle.build_server.specs.declared.run.Outcome.{Outcome}
 use Rattle.build_server.specs.declared.run.Taken.{Taken}
@@ -49,7 +49,7 @@ abbrev pub BuildsBy : SetupServer → ℕ → Option Builder → Option Builder 
     → Outcome → Type 0
 BuildsBy s n None new t run inputs o = (new ≡ None)
     × (outcome_by t (build_answer (slice_get s.builder n) run.outputs inputs) ≡ Ok o)
-BuildsBy s n (Some old) new t run inputs o = Asked (Some old) new t (order_of run inputs) o
+BuildsBy s n (Some old) new t run inputs o = IsOrdered (Some old) new t (order_of run inputs) o
 
 -- a station is the server after those entries
 pub record IsStation (s : SetupServer) (log : List Entry) (st : Station) : Type 0 where
@@ -74,7 +74,7 @@ pub record IsStepAt (s : SetupServer) (place : ℕ) (st : Station) (step : Optio
   pub is : new ≡ set old place after
   pub now : now_of s after ≡ stepped step (now_of s st)
   pub well : IsWell s after
-  pub outside : Leaves step (outside_of st) (outside_of after)
+  pub outside : LeavesOutside step (outside_of st) (outside_of after)
 
 -- A server starts again with that key and nonce, by an opening that comes to what is found in the weather
 -- that is outside of it.

@@ -81,10 +81,10 @@ books_in s a = record {
 }
 
 -- the builder was asked so
-abbrev pub Asked : Option Builder → Option Builder → Taken → Order → Outcome → Type 0
-Asked None new taken order o = ⊥
-Asked (Some old) None taken order o = ⊥
-Asked (Some old) (Some new) taken order o = Builds taken order old new (Ok o)
+abbrev pub IsOrdered : Option Builder → Option Builder → Taken → Order → Outcome → Type 0
+IsOrdered None new taken order o = ⊥
+IsOrdered (Some old) None taken order o = ⊥
+IsOrdered (Some old) (Some new) taken order o = Builds taken order old new (Ok o)
 
 abbrev pub order_of : RunJobHttpRequest → List ℕ → Order
 order_of run inputs = record { command = run.command; outputs = run.outputs; inputs = inputs }
@@ -94,7 +94,7 @@ pub record Worked (a b : Outside) (s : ServerNow) (found : Option (List ℕ)) (o
     (o : Outcome) : Type 0 where
   pub taken : Taken
   pub finds : Finds found (books_in s a) (books_in s b) taken
-  pub asked : Asked a.builder b.builder taken order o
+  pub asked : IsOrdered a.builder b.builder taken order o
   pub failed : b.failed ≡ failed_after_run (ran_of o) a.failed
 
 -- where nothing is held there is nothing to build

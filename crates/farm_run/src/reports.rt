@@ -7,7 +7,7 @@ ghost use Rattle.dist_types.specs.declared.results.UpdateJobStateResult.{UpdateJ
 ghost use Rattle.dist_types.specs.declared.results.HeartbeatServerResult.{HeartbeatServerResult as Heard};
 ghost use Rattle.farm_run.specs.Begun.{Keeps, completion_at};
 ghost use Rattle.farm_run.specs.Effects.{step_effect};
-ghost use Rattle.farm_run.specs.Passage.{Leaves, StaysOwn};
+ghost use Rattle.farm_run.specs.Passage.{LeavesOutside, StaysOwn};
 ghost use Rattle.farm_run.specs.Post.{outside_of};
 ghost use Rattle.farm_run.specs.Servers.{stepped};
 ghost use Rattle.farm_run.specs.Settled.{IsUpdated, IsHeard, unreported, running, ReadyEnds, StartedEnds};
@@ -35,7 +35,7 @@ use dist_types::results::{
 };
 use dist_wire::run::RunJobHttpRequest;
 use farm_script::fault::FarmFault;
-use http_routes::calls::answer;
+use http_routes::call_reply::answer;
 use http_routes::fault::{BuildFailure, RouteFault};
 use http_routes::replies::{to_fault, to_run, to_submission, want_of_memory};
 use http_routes::reply::Response;
@@ -122,7 +122,8 @@ fn end_ready<F: Folder + Drop, B: BuilderIncoming + Drop>(
     ensures silent { IfOk result (λ x. x.call ≡ None) }
     ensures after { IfOk result
         (λ x. now_of server.now station.new ≡ stepped x.step (now_of server.now station.old)) }
-    ensures outside { IfOk result (λ x. Leaves x.step (outside_of station.old) (outside_of station.new)) }
+    ensures outside { IfOk result (λ x. LeavesOutside x.step (outside_of station.old)
+        (outside_of station.new)) }
     ensures own { OnErr result (StaysOwn (outside_of station.old) (outside_of station.new)) }
     ensures still_well { OnOk result (IsWell server.now station.new) }
     ensures err { IfErr result (λ e. e ≡ fault.Memory) }
@@ -174,7 +175,7 @@ fn end_started<F: Folder + Drop, B: BuilderIncoming + Drop>(
     ensures after { IfOk result
         (λ m. now_of server.now station.new ≡ stepped m.effect.step (now_of server.now station.old)) }
     ensures outside { IfOk result
-        (λ m. Leaves m.effect.step (outside_of station.old) (outside_of station.new)) }
+        (λ m. LeavesOutside m.effect.step (outside_of station.old) (outside_of station.new)) }
     ensures own { OnErr result (StaysOwn (outside_of station.old) (outside_of station.new)) }
     ensures still_well { OnOk result (IsWell server.now station.new) }
     ensures err { IfErr result (λ e. e ≡ fault.Memory) }
@@ -378,7 +379,7 @@ pub fn go_on<F: Folder + Drop, B: BuilderIncoming + Drop>(
     ensures after { IfOk result
         (λ m. now_of server.now station.new ≡ stepped m.effect.step (now_of server.now station.old)) }
     ensures outside { IfOk result
-        (λ m. Leaves m.effect.step (outside_of station.old) (outside_of station.new)) }
+        (λ m. LeavesOutside m.effect.step (outside_of station.old) (outside_of station.new)) }
     ensures own { OnErr result (StaysOwn (outside_of station.old) (outside_of station.new)) }
     ensures still_well { OnOk result (IsWell server.now station.new) }
     ensures err { IfErr result (λ e. e ≡ fault.Memory) }

@@ -7,7 +7,7 @@ ghost use Rattle.sched_core.specs.Rows.{servers_of, jobs_of, held_by_id, held_pa
 ghost use Rattle.farm_script.specs.declared.fault.FarmFault.TheVariants as fault;
 ghost use Rattle.farm_run.specs.declared.site.SiteServer.{SiteServer};
 ghost use Rattle.farm_run.specs.Builds.{AreBuilds, HasToken, HasWords};
-ghost use Rattle.farm_run.specs.Farm.{IsFarm, IsMadeSo, AreLawful, HasNext, acted, AddsNext, Steps, Runs};
+ghost use Rattle.farm_run.specs.Farm.{IsFarm, IsMadeSo, AreLawful, HasNext, acted, AddsNext, StepsTo, Runs};
 ghost use Rattle.farm_run.specs.Next.{IsRun};
 ghost use Rattle.farm_run.specs.Passage.{AreOwn};
 ghost use Rattle.farm_run.specs.Printed.{ids_given};
@@ -246,7 +246,7 @@ impl<F: Folder + Drop, B: BuilderIncoming + Drop> Farm<F, B> {
     /// One event.
     #[tactic(auto, using(crate::proofs::PassageLemmas::step_of))]
     fn step(self, event: &Event) -> Result<Farm<F, B>, Stopped<F, B>>
-        ensures ok { IfOk result (Steps self event.now) }
+        ensures ok { IfOk result (StepsTo self event.now) }
         ensures err { IfErr result (λ s. s.entries ≡ self.entries) }
         ensures back { IfErr result (λ s. AreHandedBack self.outside (map F.held s.folders.items)
             (map (builder_of B.built B.refusals) s.builders.items)) }

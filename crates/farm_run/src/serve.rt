@@ -13,7 +13,8 @@ ghost use Rattle.std.specs.Result.{result_ok};
 ghost use Rattle.dist_token.specs.Verdict.{server_verdict};
 ghost use Rattle.http_routes.specs.Admission.{equal_admission};
 ghost use Rattle.http_routes.specs.Asked.{IsAskedUnder};
-ghost use Rattle.farm_run.specs.Answers.{Asks, hears, heard, update_by, assign_call, answer_to, IsAnswered};
+ghost use Rattle.farm_run.specs.Answers.{Asks, hears, heard_effect, update_by, assign_call, answer_to};
+ghost use Rattle.farm_run.specs.Answers.{IsAnswered};
 ghost use Rattle.farm_run.specs.Begun.{IsAssignment, IsBegunBy, Keeps};
 ghost use Rattle.farm_run.specs.Effects.{reply_effect, call_effect, reply_to};
 ghost use Rattle.farm_run.specs.Farm.{with_core, acted};
@@ -47,7 +48,7 @@ use http_routes::replies::{
 };
 use http_routes::reply::Response;
 use http_routes::route::{Asked, SchedRouted};
-use http_routes::written::assign_request;
+use http_routes::requests::assign_request;
 use sched_core::answers::Picked;
 use sched_core::entry::CoreEntry;
 use sched_core::error::SchedError;
@@ -188,7 +189,7 @@ fn hear(
     server: ServerId,
     beat: HeartbeatServerHttpRequest,
 ) -> Result<Effect, FarmFault>
-    ensures made { IfOk result (λ x. x ≡ heard state.old stamp.number stamp.at json server beat) }
+    ensures made { IfOk result (λ x. x ≡ heard_effect state.old stamp.number stamp.at json server beat) }
     ensures core { IfOk result (λ x. state.new ≡ with_core state.old x.core) }
     ensures err { IfErr result (λ e. e ≡ fault.Memory) }
 {

@@ -3,7 +3,7 @@ ghost use Rattle.std.specs.Prelude.{◌≡◌, IfOk, IfErr, true, Result, Ok, Er
 ghost use Rattle.dist_types.specs.declared.outgoing.CallFault.{CallFault as Cause};
 ghost use Rattle.dist_types.specs.declared.results.AssignJobResult.{AssignJobResult as Answer};
 ghost use Rattle.sched_core.specs.Reservation.{unspent};
-ghost use Rattle.sched_core.specs.Rule.{is_among, begins};
+ghost use Rattle.sched_core.specs.Rule.{is_among, is_initial};
 ghost use Rattle.farm_run.specs.Farm.{with_core};
 ghost use Rattle.farm_run.specs.Settled.{IsOutcome, assignment_end};
 ghost use Rattle.farm_script.specs.declared.fault.FarmFault.TheVariants as fault;
@@ -14,7 +14,7 @@ use dist_token::job_token::JWTJobAuthorizer;
 use dist_types::outgoing::CallFault;
 use dist_types::results::AssignJobResult;
 use farm_script::fault::FarmFault;
-use http_routes::calls::assigned;
+use http_routes::call_reply::assigned;
 use http_routes::fault::RouteFault;
 use http_routes::replies::{to_commit, to_fault, want_of_memory};
 use sched_core::reservation::Reservation;
@@ -46,7 +46,7 @@ fn outcome(
     reply: Option<&[u8]>,
 ) -> Result<Result<AssignJobResult, CallFault>, FarmFault>
     ensures assigned { IfOk result (IsOutcome (option_copied reply.entry)) }
-    ensures begins { IfOk result (λ r. IfOk r (λ a. begins a.state ≡ true)) }
+    ensures begins { IfOk result (λ r. IfOk r (λ a. is_initial a.state ≡ true)) }
     ensures err { IfErr result (λ e. e ≡ fault.Memory) }
 {
     match reply {
@@ -67,7 +67,7 @@ fn commit(
     assigned: AssignJobResult,
 ) -> Result<Effect, FarmFault>
     requires own { is_among (unspent state.old.log) reservation.number reservation.job ≡ true }
-    requires begins { begins assigned.state ≡ true }
+    requires begins { is_initial assigned.state ≡ true }
     ensures made { IfOk result (λ x. x ≡ assignment_end state.old turn.root turn.json turn.at reservation
         (Ok assigned)) }
     ensures core { IfOk result (λ x. state.new ≡ with_core state.old x.core) }

@@ -6,7 +6,7 @@ ghost use Rattle.farm_run.specs.declared.site.SiteServer.{SiteServer as Site};
 ghost use Rattle.farm_run.specs.Begun.{Keeps, completion_at, completion_of};
 ghost use Rattle.farm_run.specs.Farm.{IsFarm, IsMadeSo, Stands, acted};
 ghost use Rattle.farm_run.specs.Next.{Follows};
-ghost use Rattle.farm_run.specs.Passage.{Leaves, StaysOwn};
+ghost use Rattle.farm_run.specs.Passage.{LeavesOutside, StaysOwn};
 ghost use Rattle.farm_run.specs.Post.{Post, outside_of};
 ghost use Rattle.farm_run.specs.Seen.{core_of};
 ghost use Rattle.farm_run.specs.Servers.{stepped, server_now};
@@ -89,7 +89,7 @@ pub(crate) fn report_in<F: Folder + Drop, B: BuilderIncoming + Drop>(
     ensures after { IfOk result
         (λ m. now_of server.now station.new ≡ stepped m.effect.step (now_of server.now station.old)) }
     ensures outside { IfOk result
-        (λ m. Leaves m.effect.step (outside_of station.old) (outside_of station.new)) }
+        (λ m. LeavesOutside m.effect.step (outside_of station.old) (outside_of station.new)) }
     ensures own { OnErr result (StaysOwn (outside_of station.old) (outside_of station.new)) }
     ensures still_well { OnOk result (IsWell server.now station.new) }
     ensures err { IfErr result (λ e. e ≡ fault.Memory) }

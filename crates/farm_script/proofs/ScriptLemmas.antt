@@ -9,7 +9,7 @@ use Rattle.farm_script.specs.declared.fault.FarmFault.TheVariants.{Usage, BadLin
 use Rattle.farm_script.specs.declared.fault.FarmFault.TheVariants.{ScopedAddress, ReadFault, WriteFault}
 use Rattle.farm_script.specs.declared.fault.FarmFault.TheVariants.{BadConfig, ServeFault, Memory}
 use Rattle.farm_script.specs.Pieces.{pieces, piece_len}
-use Rattle.farm_script.specs.Script.{Read, take_line, and_then, finished, script_from, Tells}
+use Rattle.farm_script.specs.Script.{Read, take_line, and_then, finished, script_from, IsScriptFault}
 use Rattle.farm_script.proofs.PieceLemmas.{pieces_first}
 
 abbrev pub Done : Type 0
@@ -33,7 +33,7 @@ line_step number room r s bs front back n total some is front-is back-is e so_fa
     (λ t. script_from (number + 1) (room - length front) t (pieces back))) e) ∙ so_far
 
 tells_then : {A B : Type 0} (f : FarmFault) (a : Result A FarmFault) (b : Result B FarmFault)
-    → (a ≡ Err f → b ≡ Err f) → Tells f a → Tells f b
+    → (a ≡ Err f → b ≡ Err f) → IsScriptFault f a → IsScriptFault f b
 tells_then Usage a b h e = h e
 tells_then (BadLine n) a b h e = h e
 tells_then (DuplicateAddress n) a b h e = h e
@@ -46,8 +46,8 @@ tells_then Memory a b h e = tt
 
 pub line_stop : (fault : FarmFault) (number room : ℕ) (r : Read) (bs front back : List ℕ) (n : ℕ)
     (total : Done) → 0 < length bs → n ≡ piece_len bs → front ≡ take n bs → back ≡ drop n bs
-    → Tells fault (take_line number room r front) → script_from number room r (pieces bs) ≡ total
-    → Tells fault total
+    → IsScriptFault fault (take_line number room r front) → script_from number room r (pieces bs) ≡ total
+    → IsScriptFault fault total
 line_stop fault number room r bs front back n total some is front-is back-is e so_far =
     tells_then fault (take_line number room r front) total
     (λ is_err. sym so_far ∙ first_line number room r bs front back n some is front-is back-is
@@ -56,7 +56,8 @@ line_stop fault number room r bs front back n total some is front-is back-is e s
     e
 
 -- what is told is the fault that reading gives, unless memory ran out
-pub told : {B : Type 0} (f : FarmFault) (b : Result B FarmFault) → Tells f b → (f ≡ Memory) ⊎ (b ≡ Err f)
+pub told : {B : Type 0} (f : FarmFault) (b : Result B FarmFault) → IsScriptFault f b → (f ≡ Memory)
+    ⊎ (b ≡ Err f)
 told Usage b e = inr e
 told (BadLine n) b e = inr e
 told (DuplicateAddress n) b e = inr e

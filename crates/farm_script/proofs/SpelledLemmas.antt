@@ -17,9 +17,9 @@ use Rattle.farm_script.specs.Grammar.{HasKeyLength}
 use Rattle.farm_script.specs.Place.{scheduler_in, server_in, event_in}
 use Rattle.farm_script.specs.Setups.{AreApart, IsSetup}
 use Rattle.farm_script.specs.Script.{Read, take_line, and_then, finished_with, script_from, script}
-use Rattle.farm_script.specs.Script.{nothing_read, Tells, GivesScript}
+use Rattle.farm_script.specs.Script.{nothing_read, IsScriptFault, IsScriptAnswer}
 use Rattle.farm_script.specs.FirstFaulty.{IsFirstFaulty, IsFaultless}
-use Rattle.farm_script.specs.Spelled.{with_answers, EachLine, Says}
+use Rattle.farm_script.specs.Spelled.{with_answers, EachLine, SpellsScript}
 use Rattle.farm_script.proofs.LineLemmas.{one_value}
 use Rattle.farm_script.proofs.MatchLemmas.{Matches}
 use Rattle.farm_script.proofs.ScriptLemmas.{told}
@@ -90,7 +90,7 @@ finished_parts number r (Some s) x is e =
     let same : made ≡ x = cc in
     subst (IsFinished r) same (record { scheduler = is; servers = refl; events = refl })
 
-pub script_says : (bytes : List ℕ) (x : Setup × List Event) → script bytes ≡ Ok x → Says bytes x.0 x.1
+pub script_says : (bytes : List ℕ) (x : Setup × List Event) → script bytes ≡ Ok x → SpellsScript bytes x.0 x.1
 script_says bytes x e =
     let rest = rest_from [] [] 1 67108864 nothing_read (pieces bytes) x at_start e in
     let parts = finished_parts rest.number rest.end rest.end.scheduler x refl rest.finish in
@@ -144,7 +144,8 @@ one_setup : (s t : Setup) → s.scheduler ≡ t.scheduler → s.servers ≡ t.se
 one_setup s t e f = ap (λ (x : SetupScheduler). setup_with x s.servers) e
     ∙ ap (λ (xs : List SetupServer). setup_with t.scheduler xs) f
 
-pub one_script : (bytes : List ℕ) (s t : Setup) (es fs : List Event) → Says bytes s es → Says bytes t fs
+pub one_script : (bytes : List ℕ) (s t : Setup) (es fs : List Event) → SpellsScript bytes s es
+    → SpellsScript bytes t fs
     → (s ≡ t) × (es ≡ fs)
 one_script bytes s t es fs p q =
     let same = one_each (pieces bytes) p.lines q.lines p.each q.each in
@@ -159,7 +160,7 @@ one_script bytes s t es fs p q =
 
 read_says : (bytes : List ℕ) (setup : Setup) (events : List Event) (r : Result (Setup × List Event) FarmFault)
     → script bytes ≡ r
-    → IsFaultless bytes → Says bytes setup events → script bytes ≡ Ok (setup, events)
+    → IsFaultless bytes → SpellsScript bytes setup events → script bytes ≡ Ok (setup, events)
 read_says bytes setup events (Err f) is none says = absurd (none f ((first_faulty bytes f).0 is))
 read_says bytes setup events (Ok x) is none says =
     let same = one_script bytes x.0 setup x.1 events (script_says bytes x is) says in
@@ -173,7 +174,7 @@ none_faulty_where bytes x e f first =
 
 -- a script is read exactly where no line is faulty, as what its lines spell
 pub script_is_said : (bytes : List ℕ) (setup : Setup) (events : List Event)
-    → (script bytes ≡ Ok (setup, events)) ↔ (IsFaultless bytes × Says bytes setup events)
+    → (script bytes ≡ Ok (setup, events)) ↔ (IsFaultless bytes × SpellsScript bytes setup events)
 script_is_said bytes setup events = (
   λ e. (none_faulty_where bytes (setup, events) e, script_says bytes (setup, events) e),
   λ p. read_says bytes setup events (script bytes) refl p.0 p.1,
@@ -182,21 +183,21 @@ script_is_said bytes setup events = (
 -- ---- what the reader answers
 
 pub read_said : {X : Type 0} (view : X → Setup × List Event) (r : Result X FarmFault) (bytes : List ℕ)
-    → GivesScript view r (script bytes) → IfOk r (λ x. Says bytes (view x).0 (view x).1)
+    → IsScriptAnswer view r (script bytes) → IfOk r (λ x. SpellsScript bytes (view x).0 (view x).1)
 read_said view (Ok x) bytes e = script_says bytes (view x) e
 read_said view (Err f) bytes e = tt
 
 pub read_setup : {X : Type 0} (view : X → Setup × List Event) (r : Result X FarmFault) (bytes : List ℕ)
-    → GivesScript view r (script bytes) → IfOk r (λ x. IsSetup (view x).0)
+    → IsScriptAnswer view r (script bytes) → IfOk r (λ x. IsSetup (view x).0)
 read_setup view (Ok x) bytes e = script_setup bytes (view x) e
 read_setup view (Err f) bytes e = tt
 
-pub told_faulty : (f : FarmFault) (bytes : List ℕ) → Tells f (script bytes) → (f ≡ fault.Memory)
+pub told_faulty : (f : FarmFault) (bytes : List ℕ) → IsScriptFault f (script bytes) → (f ≡ fault.Memory)
     ⊎ IsFirstFaulty bytes f
 told_faulty f bytes e = elim
     (told f (script bytes) e) [ inl m ↦ inl m | inr is ↦ inr ((first_faulty bytes f).0 is) ]
 
 pub read_faulty : {X : Type 0} (view : X → Setup × List Event) (r : Result X FarmFault) (bytes : List ℕ)
-    → GivesScript view r (script bytes) → IfErr r (λ f. (f ≡ fault.Memory) ⊎ IsFirstFaulty bytes f)
+    → IsScriptAnswer view r (script bytes) → IfErr r (λ f. (f ≡ fault.Memory) ⊎ IsFirstFaulty bytes f)
 read_faulty view (Ok x) bytes e = tt
 read_faulty view (Err f) bytes e = told_faulty f bytes e

@@ -9,6 +9,6 @@ Fails faults.Memory read = Unit {0}
 Fails faults.Bad read = read ≡ None
 
 -- What a function returned, seen by view, is what reading gives, unless memory ran out.
-abbrev pub Gives : {X Y : Type 0} → (X → Y) → Result X LineFault → Option Y → Type 0
-Gives view (Ok x) read = read ≡ Some (view x)
-Gives view (Err e) read = Fails e read
+abbrev pub IsLineAnswer : {X Y : Type 0} → (X → Y) → Result X LineFault → Option Y → Type 0
+IsLineAnswer view (Ok x) read = read ≡ Some (view x)
+IsLineAnswer view (Err e) read = Fails e read

@@ -117,11 +117,11 @@ abbrev pub script : List ℕ → Result (Setup × List Event) FarmFault
 script bytes = script_from 1 67108864 nothing_read (pieces bytes)
 
 -- a fault is the one that reading gives, unless memory ran out
-abbrev pub Tells : {Y : Type 0} → FarmFault → Result Y FarmFault → Type 0
-Tells fault.Memory read = Unit {0}
-Tells f read = read ≡ Err f
+abbrev pub IsScriptFault : {Y : Type 0} → FarmFault → Result Y FarmFault → Type 0
+IsScriptFault fault.Memory read = Unit {0}
+IsScriptFault f read = read ≡ Err f
 
 -- What a function returned, seen by view, is what reading a script gives, unless memory ran out.
-abbrev pub GivesScript : {X Y : Type 0} → (X → Y) → Result X FarmFault → Result Y FarmFault → Type 0
-GivesScript view (Ok x) read = read ≡ Ok (view x)
-GivesScript view (Err f) read = Tells f read
+abbrev pub IsScriptAnswer : {X Y : Type 0} → (X → Y) → Result X FarmFault → Result Y FarmFault → Type 0
+IsScriptAnswer view (Ok x) read = read ≡ Ok (view x)
+IsScriptAnswer view (Err f) read = IsScriptFault f read

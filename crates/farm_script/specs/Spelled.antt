@@ -35,7 +35,7 @@ EachLine (p ∷ ps) [] = ⊥
 
 -- The script's lines spell values, of which one is the scheduler, others are the servers, each with the
 -- answers of its builder, and others are the events, in order.
-pub record Says (bytes : List ℕ) (setup : Setup) (events : List Event) : Type 0 where
+pub record SpellsScript (bytes : List ℕ) (setup : Setup) (events : List Event) : Type 0 where
   pub lines : List Line
   pub each : EachLine (pieces bytes) lines
   pub scheduler_is : filter_map scheduler_in lines ≡ setup.scheduler ∷ []

@@ -1,6 +1,6 @@
 //! The fields of a line, each read from one word.
 ghost use Rattle.std.specs.Prelude.{◌≡◌};
-ghost use Rattle.farm_script.specs.Reading.{Gives};
+ghost use Rattle.farm_script.specs.Reading.{IsLineAnswer};
 ghost use Rattle.farm_script.specs.Words.{field};
 ghost use Rattle.farm_script.specs.Fields.{append_digit, digits_on, number_at, below_zero, from_zero};
 ghost use Rattle.farm_script.specs.Fields.{code_at, addr_at, any_addr_at, host_at, is_token, token_at};
@@ -15,7 +15,7 @@ use hex::FromHexError;
 use std::alloc::Global;
 
 fn appended(n: u64, b: u8) -> Result<u64, LineFault>
-    ensures { Gives (λ x. x) result (append_digit n b) }
+    ensures { IsLineAnswer (λ x. x) result (append_digit n b) }
 {
     if !b.is_ascii_digit() {
         return Err(LineFault::Bad);
@@ -31,7 +31,7 @@ fn appended(n: u64, b: u8) -> Result<u64, LineFault>
 
 #[tactic(auto, using(crate::proofs::DigitLemmas::digits_done))]
 fn digits(word: &[u8]) -> Result<u64, LineFault>
-    ensures { Gives (λ x. x) result (digits_on 0 word.now) }
+    ensures { IsLineAnswer (λ x. x) result (digits_on 0 word.now) }
 {
     let mut n = 0u64;
     for b in word {
@@ -42,7 +42,7 @@ fn digits(word: &[u8]) -> Result<u64, LineFault>
 
 /// A number in decimal without leading zeros, at most 2^64 - 1.
 pub fn number(word: &[u8]) -> Result<u64, LineFault>
-    ensures { Gives (λ x. x) result (number_at word.now) }
+    ensures { IsLineAnswer (λ x. x) result (number_at word.now) }
 {
     if word.is_empty() || (word.len() > 1 && word[0] == 48) {
         return Err(LineFault::Bad);
@@ -51,7 +51,7 @@ pub fn number(word: &[u8]) -> Result<u64, LineFault>
 }
 
 fn negative(n: u64) -> Result<i32, LineFault>
-    ensures { Gives (λ x. x) result (below_zero n) }
+    ensures { IsLineAnswer (λ x. x) result (below_zero n) }
 {
     if n < 1 || n > 2_147_483_648 {
         return Err(LineFault::Bad);
@@ -60,7 +60,7 @@ fn negative(n: u64) -> Result<i32, LineFault>
 }
 
 fn positive(n: u64) -> Result<i32, LineFault>
-    ensures { Gives (λ x. x) result (from_zero n) }
+    ensures { IsLineAnswer (λ x. x) result (from_zero n) }
 {
     if n > 2_147_483_647 {
         return Err(LineFault::Bad);
@@ -71,7 +71,7 @@ fn positive(n: u64) -> Result<i32, LineFault>
 /// An exit code in decimal, without leading zeros, with a dash before it where it is below 0.
 #[tactic(auto, unfolding(crate::specs::Fields::code_at))]
 pub fn code(word: &[u8]) -> Result<i32, LineFault>
-    ensures { Gives (λ x. x) result (code_at word.now) }
+    ensures { IsLineAnswer (λ x. x) result (code_at word.now) }
 {
     match word {
         [] => Err(LineFault::Bad),
@@ -88,7 +88,7 @@ pub fn code(word: &[u8]) -> Result<i32, LineFault>
 
 /// An address.
 pub fn addr(word: &[u8]) -> Result<Addr, LineFault>
-    ensures { Gives (λ x. x) result (addr_at word.now) }
+    ensures { IsLineAnswer (λ x. x) result (addr_at word.now) }
 {
     if !all_visible(word) {
         return Err(LineFault::Bad);
@@ -101,7 +101,7 @@ pub fn addr(word: &[u8]) -> Result<Addr, LineFault>
 
 /// An address, or `0.0.0.0:0` for one with a scope.
 fn any_addr(word: &[u8]) -> Result<Addr, LineFault>
-    ensures { Gives (λ x. x) result (any_addr_at word.now) }
+    ensures { IsLineAnswer (λ x. x) result (any_addr_at word.now) }
 {
     if !all_visible(word) {
         return Err(LineFault::Bad);
@@ -118,7 +118,7 @@ fn any_addr(word: &[u8]) -> Result<Addr, LineFault>
 
 /// An address, which may have a scope where those are taken.
 pub fn host(scopes: Scopes, word: &[u8]) -> Result<Addr, LineFault>
-    ensures { Gives (λ x. x) result (host_at scopes word.now) }
+    ensures { IsLineAnswer (λ x. x) result (host_at scopes word.now) }
 {
     match scopes {
         Scopes::Refused => addr(word),
@@ -134,7 +134,7 @@ fn is_token(word: &[u8]) -> bool
 
 /// A token, which is 1 to 1,024 visible bytes.
 pub fn token(alloc: Global, word: &[u8]) -> Result<Text, LineFault>
-    ensures { Gives (λ x. x) result (token_at word.now) }
+    ensures { IsLineAnswer (λ x. x) result (token_at word.now) }
 {
     if !is_token(word) {
         return Err(LineFault::Bad);
@@ -145,7 +145,7 @@ pub fn token(alloc: Global, word: &[u8]) -> Result<Text, LineFault>
 
 /// Bytes as pairs of hex digits of either case, or `-` for none.
 pub fn hex(alloc: Global, word: &[u8]) -> Result<Bytes, LineFault>
-    ensures { Gives (λ x. x) result (hex_at word.now) }
+    ensures { IsLineAnswer (λ x. x) result (hex_at word.now) }
 {
     if word == b"-".as_slice() {
         return Ok(Bytes::new(Vec::new(alloc)));
@@ -161,7 +161,7 @@ pub fn hex(alloc: Global, word: &[u8]) -> Result<Bytes, LineFault>
 }
 
 fn as_key(bytes: Bytes) -> Result<Bytes, LineFault>
-    ensures { Gives (λ x. x) result (as_key bytes) }
+    ensures { IsLineAnswer (λ x. x) result (as_key bytes) }
 {
     let length = bytes.get().len();
     if length < 1 || length > 1024 {
@@ -172,14 +172,14 @@ fn as_key(bytes: Bytes) -> Result<Bytes, LineFault>
 
 /// A key, which is hex of 1 to 1,024 bytes.
 pub fn key(alloc: Global, word: &[u8]) -> Result<Bytes, LineFault>
-    ensures { Gives (λ x. x) result (key_at word.now) }
+    ensures { IsLineAnswer (λ x. x) result (key_at word.now) }
 {
     let bytes = hex(alloc, word)?;
     as_key(bytes)
 }
 
 fn as_name(bytes: Bytes) -> Result<Text, LineFault>
-    ensures { Gives (λ x. x) result (as_name bytes) }
+    ensures { IsLineAnswer (λ x. x) result (as_name bytes) }
 {
     match String::from_utf8(bytes.into_inner()) {
         Ok(text) => Ok(Text::new(text)),
@@ -189,7 +189,7 @@ fn as_name(bytes: Bytes) -> Result<Text, LineFault>
 
 /// A name, which is hex of bytes in UTF-8.
 pub fn name(alloc: Global, word: &[u8]) -> Result<Text, LineFault>
-    ensures { Gives (λ x. x) result (name_at word.now) }
+    ensures { IsLineAnswer (λ x. x) result (name_at word.now) }
 {
     let bytes = hex(alloc, word)?;
     as_name(bytes)
@@ -197,7 +197,7 @@ pub fn name(alloc: Global, word: &[u8]) -> Result<Text, LineFault>
 
 /// An address and the space behind it.
 pub fn addr_field(text: &[u8]) -> Result<(Addr, &[u8]), LineFault>
-    ensures { Gives (λ x. (x.0, x.1.now)) result (field addr_at text.now) }
+    ensures { IsLineAnswer (λ x. (x.0, x.1.now)) result (field addr_at text.now) }
 {
     let (word, rest) = first_word(text)?;
     let value = addr(word)?;
@@ -206,7 +206,7 @@ pub fn addr_field(text: &[u8]) -> Result<(Addr, &[u8]), LineFault>
 
 /// A number and the space behind it.
 pub fn number_field(text: &[u8]) -> Result<(u64, &[u8]), LineFault>
-    ensures { Gives (λ x. (x.0, x.1.now)) result (field number_at text.now) }
+    ensures { IsLineAnswer (λ x. (x.0, x.1.now)) result (field number_at text.now) }
 {
     let (word, rest) = first_word(text)?;
     let value = number(word)?;
@@ -215,7 +215,7 @@ pub fn number_field(text: &[u8]) -> Result<(u64, &[u8]), LineFault>
 
 /// A token and the space behind it.
 pub fn token_field(alloc: Global, text: &[u8]) -> Result<(Text, &[u8]), LineFault>
-    ensures { Gives (λ x. (x.0, x.1.now)) result (field token_at text.now) }
+    ensures { IsLineAnswer (λ x. (x.0, x.1.now)) result (field token_at text.now) }
 {
     let (word, rest) = first_word(text)?;
     let value = token(alloc, word)?;
@@ -224,7 +224,7 @@ pub fn token_field(alloc: Global, text: &[u8]) -> Result<(Text, &[u8]), LineFaul
 
 /// An address and the space behind it, which may have a scope where those are taken.
 pub fn host_field(scopes: Scopes, text: &[u8]) -> Result<(Addr, &[u8]), LineFault>
-    ensures { Gives (λ x. (x.0, x.1.now)) result (field (host_at scopes) text.now) }
+    ensures { IsLineAnswer (λ x. (x.0, x.1.now)) result (field (host_at scopes) text.now) }
 {
     let (word, rest) = first_word(text)?;
     let value = host(scopes, word)?;
@@ -233,7 +233,7 @@ pub fn host_field(scopes: Scopes, text: &[u8]) -> Result<(Addr, &[u8]), LineFaul
 
 /// An exit code and the space behind it.
 pub fn code_field(text: &[u8]) -> Result<(i32, &[u8]), LineFault>
-    ensures { Gives (λ x. (x.0, x.1.now)) result (field code_at text.now) }
+    ensures { IsLineAnswer (λ x. (x.0, x.1.now)) result (field code_at text.now) }
 {
     let (word, rest) = first_word(text)?;
     let value = code(word)?;
@@ -242,7 +242,7 @@ pub fn code_field(text: &[u8]) -> Result<(i32, &[u8]), LineFault>
 
 /// Bytes in hex and the space behind them.
 pub fn hex_field(alloc: Global, text: &[u8]) -> Result<(Bytes, &[u8]), LineFault>
-    ensures { Gives (λ x. (x.0, x.1.now)) result (field hex_at text.now) }
+    ensures { IsLineAnswer (λ x. (x.0, x.1.now)) result (field hex_at text.now) }
 {
     let (word, rest) = first_word(text)?;
     let value = hex(alloc, word)?;
@@ -251,7 +251,7 @@ pub fn hex_field(alloc: Global, text: &[u8]) -> Result<(Bytes, &[u8]), LineFault
 
 /// A key and the space behind it.
 pub fn key_field(alloc: Global, text: &[u8]) -> Result<(Bytes, &[u8]), LineFault>
-    ensures { Gives (λ x. (x.0, x.1.now)) result (field key_at text.now) }
+    ensures { IsLineAnswer (λ x. (x.0, x.1.now)) result (field key_at text.now) }
 {
     let (word, rest) = first_word(text)?;
     let value = key(alloc, word)?;

@@ -4,7 +4,7 @@ ghost use Rattle.farm_script.specs.Lines.{line_at};
 ghost use Rattle.farm_script.specs.Grammar.{Spells};
 ghost use Rattle.farm_script.specs.Script.{script};
 ghost use Rattle.farm_script.specs.FirstFaulty.{IsFirstFaulty, IsFaultless};
-ghost use Rattle.farm_script.specs.Spelled.{Says};
+ghost use Rattle.farm_script.specs.Spelled.{SpellsScript};
 ghost use Rattle.farm_script.specs.declared.setup.Setup.{Setup};
 ghost use Rattle.farm_script.specs.declared.lines.Line.{Line};
 ghost use Rattle.farm_script.specs.declared.lines.Scopes.{Scopes};
@@ -24,5 +24,5 @@ pub fn first_faulty_lines_are_named()
 /// A script is read as a setup and events exactly where no line of it is faulty and its lines say them.
 pub fn scripts_are_spelled()
     ensures { (bytes : List ℕ) (setup : Setup) (events : List Event)
-        → (script bytes ≡ Ok (setup, events)) ↔ (IsFaultless bytes × Says bytes setup events) }
+        → (script bytes ≡ Ok (setup, events)) ↔ (IsFaultless bytes × SpellsScript bytes setup events) }
 {}

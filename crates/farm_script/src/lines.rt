@@ -1,7 +1,7 @@
 //! What a line of a script says.
 ghost use Rattle.std.specs.Prelude.{◌≡◌};
 ghost use Rattle.std.specs.Option.{option_map};
-ghost use Rattle.farm_script.specs.Reading.{Gives};
+ghost use Rattle.farm_script.specs.Reading.{IsLineAnswer};
 ghost use Rattle.farm_script.specs.Lines.{auth_at, scheduler_at, server_at, output_at, outputs_behind};
 ghost use Rattle.farm_script.specs.Lines.{listed_at, answer_line_at, builder_at, request_at, answer_at};
 ghost use Rattle.farm_script.specs.Lines.{restart_at, kind_behind, kind_at, event_at, said_at, line_at};
@@ -53,7 +53,7 @@ pub enum Line {
 /// How build servers prove who they are.
 #[tactic(auto, unfolding(crate::specs::Lines::auth_at))]
 fn auth(alloc: Global, text: &[u8]) -> Result<SetupAuth, LineFault>
-    ensures { Gives (λ x. x) result (auth_at text.now) }
+    ensures { IsLineAnswer (λ x. x) result (auth_at text.now) }
 {
     match text.strip_prefix(b"plain ".as_slice()) {
         Some(rest) => {
@@ -71,7 +71,7 @@ fn auth(alloc: Global, text: &[u8]) -> Result<SetupAuth, LineFault>
 /// What stands behind the word `scheduler`.
 #[tactic(auto, unfolding(crate::specs::Lines::scheduler_at))]
 fn scheduler(alloc: Global, scopes: Scopes, text: &[u8]) -> Result<SetupScheduler, LineFault>
-    ensures { Gives (λ x. x) result (scheduler_at scopes text.now) }
+    ensures { IsLineAnswer (λ x. x) result (scheduler_at scopes text.now) }
 {
     let (addr, rest) = host_field(scopes, text)?;
     let rest = strip(rest, b"base ")?;
@@ -93,7 +93,7 @@ fn scheduler(alloc: Global, scopes: Scopes, text: &[u8]) -> Result<SetupSchedule
 /// What stands behind the word `server`.
 #[tactic(auto, unfolding(crate::specs::Lines::server_at))]
 fn server(alloc: Global, scopes: Scopes, text: &[u8]) -> Result<SetupServer, LineFault>
-    ensures { Gives (λ x. x) result (server_at scopes text.now) }
+    ensures { IsLineAnswer (λ x. x) result (server_at scopes text.now) }
 {
     let (addr, rest) = host_field(scopes, text)?;
     let rest = strip(rest, b"cpus ")?;
@@ -117,7 +117,7 @@ fn server(alloc: Global, scopes: Scopes, text: &[u8]) -> Result<SetupServer, Lin
 /// The name and the bytes of an output, and what stands behind the space behind them, where there is one.
 #[tactic(auto, unfolding(crate::specs::Lines::output_at))]
 fn output(alloc: Global, text: &[u8]) -> Result<((Text, Bytes), Option<&[u8]>), LineFault>
-    ensures { Gives (λ x. (x.0, option_map (λ rest. rest.now) x.1)) result (output_at text.now) }
+    ensures { IsLineAnswer (λ x. (x.0, option_map (λ rest. rest.now) x.1)) result (output_at text.now) }
 {
     let (word, rest) = first_word(text)?;
     let name = name(alloc, word)?;
@@ -128,7 +128,8 @@ fn output(alloc: Global, text: &[u8]) -> Result<((Text, Bytes), Option<&[u8]>), 
 
 /// The outputs that stand behind a space, where there is one.
 fn outputs(alloc: Global, behind: Option<&[u8]>) -> Result<Vec<(Text, Bytes)>, LineFault>
-    ensures { Gives (λ x. x.items) result (outputs_behind (option_map (λ rest. rest.now) behind.entry)) }
+    ensures { IsLineAnswer (λ x. x.items) result
+        (outputs_behind (option_map (λ rest. rest.now) behind.entry)) }
 {
     let mut outputs = Vec::new(alloc);
     let mut left = behind;
@@ -147,7 +148,7 @@ fn outputs(alloc: Global, behind: Option<&[u8]>) -> Result<Vec<(Text, Bytes)>, L
 /// What stands behind the word `ok`.
 #[tactic(auto, unfolding(crate::specs::Lines::listed_at))]
 fn listed(alloc: Global, text: &[u8]) -> Result<BuilderLine, LineFault>
-    ensures { Gives (λ x. x) result (listed_at text.now) }
+    ensures { IsLineAnswer (λ x. x) result (listed_at text.now) }
 {
     let (code, rest) = code_field(text)?;
     let (stdout, rest) = hex_field(alloc, rest)?;
@@ -165,7 +166,7 @@ fn listed(alloc: Global, text: &[u8]) -> Result<BuilderLine, LineFault>
 /// An answer of a builder.
 #[tactic(auto, unfolding(crate::specs::Lines::answer_line_at))]
 fn answer_line(alloc: Global, text: &[u8]) -> Result<BuilderLine, LineFault>
-    ensures { Gives (λ x. x) result (answer_line_at text.now) }
+    ensures { IsLineAnswer (λ x. x) result (answer_line_at text.now) }
 {
     if text == b"refuse".as_slice() {
         return Ok(BuilderLine::Refuse);
@@ -177,7 +178,7 @@ fn answer_line(alloc: Global, text: &[u8]) -> Result<BuilderLine, LineFault>
 /// What stands behind the word `builder`. Its address has no scope, since it names an earlier server.
 #[tactic(auto, unfolding(crate::specs::Lines::builder_at))]
 fn builder(alloc: Global, text: &[u8]) -> Result<SetupLine, LineFault>
-    ensures { Gives (λ x. x) result (builder_at text.now) }
+    ensures { IsLineAnswer (λ x. x) result (builder_at text.now) }
 {
     let (addr, rest) = addr_field(text)?;
     let answer = answer_line(alloc, rest)?;
@@ -187,7 +188,7 @@ fn builder(alloc: Global, text: &[u8]) -> Result<SetupLine, LineFault>
 /// What stands behind the word `request`.
 #[tactic(auto, unfolding(crate::specs::Lines::request_at))]
 fn request(alloc: Global, scopes: Scopes, text: &[u8]) -> Result<EventKind, LineFault>
-    ensures { Gives (λ x. x) result (request_at scopes text.now) }
+    ensures { IsLineAnswer (λ x. x) result (request_at scopes text.now) }
 {
     let (target, rest) = host_field(scopes, text)?;
     let (peer, rest) = host_field(scopes, rest)?;
@@ -202,7 +203,7 @@ fn request(alloc: Global, scopes: Scopes, text: &[u8]) -> Result<EventKind, Line
 /// What stands behind the word `answer`.
 #[tactic(auto, unfolding(crate::specs::Lines::answer_at))]
 fn answer(alloc: Global, text: &[u8]) -> Result<EventKind, LineFault>
-    ensures { Gives (λ x. x) result (answer_at text.now) }
+    ensures { IsLineAnswer (λ x. x) result (answer_at text.now) }
 {
     let (call, rest) = number_field(text)?;
     let bytes = hex(alloc, rest)?;
@@ -212,7 +213,7 @@ fn answer(alloc: Global, text: &[u8]) -> Result<EventKind, LineFault>
 /// What stands behind the word `restart`.
 #[tactic(auto, unfolding(crate::specs::Lines::restart_at))]
 fn restart(alloc: Global, scopes: Scopes, text: &[u8]) -> Result<EventKind, LineFault>
-    ensures { Gives (λ x. x) result (restart_at scopes text.now) }
+    ensures { IsLineAnswer (λ x. x) result (restart_at scopes text.now) }
 {
     let (server, rest) = host_field(scopes, text)?;
     let rest = strip(rest, b"key ")?;
@@ -233,7 +234,7 @@ fn kind_behind(
     word: &[u8],
     text: &[u8],
 ) -> Result<EventKind, LineFault>
-    ensures { Gives (λ x. x) result (kind_behind scopes word.now text.now) }
+    ensures { IsLineAnswer (λ x. x) result (kind_behind scopes word.now text.now) }
 {
     if word == b"request".as_slice() {
         return request(alloc, scopes, text);
@@ -266,7 +267,7 @@ fn kind_behind(
 /// What happens, behind its moment.
 #[tactic(auto, unfolding(crate::specs::Lines::kind_at))]
 fn kind(alloc: Global, scopes: Scopes, text: &[u8]) -> Result<EventKind, LineFault>
-    ensures { Gives (λ x. x) result (kind_at scopes text.now) }
+    ensures { IsLineAnswer (λ x. x) result (kind_at scopes text.now) }
 {
     let (word, rest) = first_word(text)?;
     kind_behind(alloc, scopes, word, rest)
@@ -275,7 +276,7 @@ fn kind(alloc: Global, scopes: Scopes, text: &[u8]) -> Result<EventKind, LineFau
 /// A moment, and what happens at it.
 #[tactic(auto, unfolding(crate::specs::Lines::event_at))]
 fn event(alloc: Global, scopes: Scopes, text: &[u8]) -> Result<Event, LineFault>
-    ensures { Gives (λ x. x) result (event_at scopes text.now) }
+    ensures { IsLineAnswer (λ x. x) result (event_at scopes text.now) }
 {
     let (at, rest) = number_field(text)?;
     let kind = kind(alloc, scopes, rest)?;
@@ -285,7 +286,7 @@ fn event(alloc: Global, scopes: Scopes, text: &[u8]) -> Result<Event, LineFault>
 /// What a line says that is not skipped.
 #[tactic(auto, unfolding(crate::specs::Lines::said_at))]
 fn said(alloc: Global, scopes: Scopes, text: &[u8]) -> Result<Line, LineFault>
-    ensures { Gives (λ x. x) result (said_at scopes text.now) }
+    ensures { IsLineAnswer (λ x. x) result (said_at scopes text.now) }
 {
     if let Some(rest) = text.strip_prefix(b"scheduler ".as_slice()) {
         let scheduler = scheduler(alloc, scopes, rest)?;
@@ -306,7 +307,7 @@ fn said(alloc: Global, scopes: Scopes, text: &[u8]) -> Result<Line, LineFault>
 /// What a line says, without its end. A line with a scoped address is read only where those are taken.
 #[tactic(auto, unfolding(crate::specs::Lines::line_at))]
 pub fn read_line(alloc: Global, scopes: Scopes, text: &[u8]) -> Result<Line, LineFault>
-    ensures { Gives (λ x. x) result (line_at scopes text.now) }
+    ensures { IsLineAnswer (λ x. x) result (line_at scopes text.now) }
 {
     match text {
         [] => Ok(Line::Skip),

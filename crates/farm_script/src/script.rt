@@ -5,10 +5,10 @@ ghost use Rattle.dist_types.specs.Addr.{same_addr};
 ghost use Rattle.farm_script.specs.Lines.{line_at};
 ghost use Rattle.farm_script.specs.Place.{misplaced, duplicate, has_addr};
 ghost use Rattle.farm_script.specs.FirstFaulty.{IsFirstFaulty};
-ghost use Rattle.farm_script.specs.Spelled.{Says};
+ghost use Rattle.farm_script.specs.Spelled.{SpellsScript};
 ghost use Rattle.farm_script.specs.Setups.{IsSetup};
 ghost use Rattle.farm_script.specs.Script.{read_of, before, answered, with_line, onto, fault_of, fits};
-ghost use Rattle.farm_script.specs.Script.{take_line, finished, script, Tells, GivesScript};
+ghost use Rattle.farm_script.specs.Script.{take_line, finished, script, IsScriptFault, IsScriptAnswer};
 ghost use Rattle.farm_script.specs.declared.fault.FarmFault.TheVariants as fault;
 ghost use Rattle.farm_script.specs.declared.lines.Scopes.TheVariants.{Taken};
 
@@ -206,7 +206,7 @@ fn with_line(alloc: Global, reading: Reading, line: Line) -> Result<Reading, All
 /// What was read, with what a line of this number says, where it stands in its place and its address is
 /// new.
 fn onto(alloc: Global, number: u64, reading: Reading, line: Line) -> Result<Reading, FarmFault>
-    ensures { GivesScript read_of result (onto number (read_of reading) line) }
+    ensures { IsScriptAnswer read_of result (onto number (read_of reading) line) }
 {
     if is_misplaced(&reading, &line) {
         return Err(FarmFault::BadLine(number));
@@ -253,7 +253,7 @@ fn with_piece(
     reading: Reading,
     piece: &[u8],
 ) -> Result<Reading, FarmFault>
-    ensures exact { GivesScript read_of result (take_line number room (read_of reading) piece.now) }
+    ensures exact { IsScriptAnswer read_of result (take_line number room (read_of reading) piece.now) }
     ensures number { OnOk result (number ≤ MAX_LINES) }
     ensures room { OnOk result (length piece.now ≤ room) }
 {
@@ -268,7 +268,7 @@ fn with_piece(
 }
 
 fn finish(number: u64, reading: Reading) -> Result<(Setup, Vec<Event>), FarmFault>
-    ensures { GivesScript (λ x. (x.0, x.1.items)) result (finished number (read_of reading)) }
+    ensures { IsScriptAnswer (λ x. (x.0, x.1.items)) result (finished number (read_of reading)) }
 {
     let Reading {
         scheduler,
@@ -287,9 +287,9 @@ fn finish(number: u64, reading: Reading) -> Result<(Setup, Vec<Event>), FarmFaul
 /// The setup and the events of a script, or its first faulty line: BadLine, ScopedAddress or
 /// DuplicateAddress with its number, counted from 1. Memory comes for want of memory alone.
 pub fn read_script(alloc: Global, bytes: &[u8]) -> Result<(Setup, Vec<Event>), FarmFault>
-    ensures exact { GivesScript (λ x. (x.0, x.1.items)) result (script bytes.now) }
+    ensures exact { IsScriptAnswer (λ x. (x.0, x.1.items)) result (script bytes.now) }
     // What is read is what the lines say, of which none is faulty.
-    ensures says { IfOk result (λ x. Says bytes.now x.0 x.1.items) }
+    ensures says { IfOk result (λ x. SpellsScript bytes.now x.0 x.1.items) }
     // What is told is the first faulty line with its cause, unless memory ran out.
     ensures faulty { IfErr result (λ f. (f ≡ fault.Memory) ⊎ IsFirstFaulty bytes.now f) }
     // The addresses differ, the servers are at most 1,000, and keys and tokens have their lengths.

@@ -2,7 +2,7 @@
 ghost use Rattle.std.specs.Prelude.{◌≡◌, ◌==◌, position, true};
 ghost use Rattle.std.specs.List.{list_all};
 ghost use Rattle.std.specs.Option.{option_map};
-ghost use Rattle.farm_script.specs.Reading.{Gives};
+ghost use Rattle.farm_script.specs.Reading.{IsLineAnswer};
 ghost use Rattle.farm_script.specs.Words.{first_word, next_word, strip, is_visible};
 
 use crate::fault::LineFault;
@@ -16,7 +16,7 @@ fn space_at(text: &[u8]) -> Option<usize>
 
 /// What stands before the first space, and what stands behind it.
 pub fn first_word(text: &[u8]) -> Result<(&[u8], &[u8]), LineFault>
-    ensures { Gives (λ x. (x.0.now, x.1.now)) result (first_word text.now) }
+    ensures { IsLineAnswer (λ x. (x.0.now, x.1.now)) result (first_word text.now) }
 {
     match space_at(text) {
         None => Err(LineFault::Bad),
@@ -36,7 +36,7 @@ pub fn next_word(text: &[u8]) -> (&[u8], Option<&[u8]>)
 
 /// What stands behind a prefix.
 pub fn strip<'a>(text: &'a [u8], prefix: &[u8]) -> Result<&'a [u8], LineFault>
-    ensures { Gives (λ x. x.now) result (strip prefix.now text.entry.now) }
+    ensures { IsLineAnswer (λ x. x.now) result (strip prefix.now text.entry.now) }
 {
     match text.strip_prefix(prefix) {
         None => Err(LineFault::Bad),

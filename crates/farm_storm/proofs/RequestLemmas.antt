@@ -7,7 +7,7 @@ use Rattle.dist_wire.specs.Written.{bytes_text}
 use Rattle.http_head.specs.WrittenRequest.{request_text}
 use Rattle.http_head.specs.declared.written_request.Method.TheVariants.{Get}
 use Rattle.http_routes.specs.RunHead.{run_body}
-use Rattle.http_routes.specs.Written.{post_with, alloc_with, submit_with, run_with, status_with}
+use Rattle.http_routes.specs.Requests.{post_with, alloc_with, submit_with, run_with, status_with}
 use Rattle.farm_storm.specs.Storm.{storm_run}
 
 pub alloc_is : (scheduler : Addr) (token tc bytes target host body : List ℕ)

@@ -7,7 +7,7 @@ use Rattle.dist_types.specs.declared.addr.Addr.TheVariants.{V4, V6}
 use Rattle.farm_script.specs.Setups.{AreApart}
 use Rattle.farm_script.specs.declared.event.Event.{Event}
 use Rattle.farm_run.specs.declared.entry.Entry.{Entry}
-use Rattle.farm_run.specs.Farm.{Farmed, with_entries, Runs, Steps}
+use Rattle.farm_run.specs.Farm.{Farmed, with_entries, Runs, StepsTo}
 use Rattle.farm_run.specs.declared.site.Site.{Site}
 use Rattle.farm_run.specs.Next.{IsNext, EachNext}
 use Rattle.farm_run.specs.Passage.{reached, AreOwn, IsMoved, Passage}
@@ -72,18 +72,19 @@ begun_run farm is none own = record {
 }
 
 -- a run of one event is its step
-pub one_step : (old : Farmed) (event : Event) (new : Farmed) → Runs old (event ∷ []) new → Steps old event new
+pub one_step : (old : Farmed) (event : Event) (new : Farmed) → Runs old (event ∷ []) new
+    → StepsTo old event new
 one_step old event new run = by_entries run.0 run.1 run.2
   where
     by_entries : (es : List Entry)
         → Passage old.setup old.entries old.outside (event ∷ []) es new.outside
-        → new ≡ with_entries old es new.outside → Steps old event new
+        → new ≡ with_entries old es new.outside → StepsTo old event new
     by_entries [] p is = absurd p
     by_entries (e ∷ []) (w, mid, next, moved, rest) is =
         (w, e, next, subst (λ (o : List Outside). IsMoved old.setup e w old.outside o) (sym rest) moved, is)
     by_entries (e ∷ f ∷ es) (w, mid, next, moved, rest) is = absurd rest
 
-pub more_run : (n : ℕ) (farm new : Farmed) → IsStormed n farm → Steps farm (event_of n (deed_at n)) new
+pub more_run : (n : ℕ) (farm new : Farmed) → IsStormed n farm → StepsTo farm (event_of n (deed_at n)) new
     → IsStormed (n + 1) new
 more_run n farm new run (w, e, next, moved, is) =
     let event = event_of n (deed_at n) in

@@ -3,7 +3,7 @@ ghost use Rattle.std.specs.Prelude.{◌≡◌, IfOk, string_bytes};
 ghost use Rattle.http_head.specs.WrittenRequest.{request_text};
 ghost use Rattle.http_routes.specs.RunHead.{run_body};
 ghost use Rattle.dist_types.specs.Addr.{addr_text};
-ghost use Rattle.http_routes.specs.Written.{post_with, alloc_with, submit_with, run_with, status_with};
+ghost use Rattle.http_routes.specs.Requests.{post_with, alloc_with, submit_with, run_with, status_with};
 ghost use Rattle.farm_storm.specs.Storm as spec;
 ghost use Rattle.farm_storm.specs.Storm.{token_of, storm_run};
 
@@ -69,7 +69,7 @@ fn token_of(alloc: Global, job: u64) -> Result<String, Memory>
 }
 
 /// A request for a job to the scheduler at that address, under a client's token.
-#[tactic(auto, unfolding(http_routes::specs::Written::alloc_with))]
+#[tactic(auto, unfolding(http_routes::specs::Requests::alloc_with))]
 fn alloc_at(alloc: Global, scheduler: Addr, token: &str, tc: &Toolchain) -> Result<Bytes, Memory>
     ensures { IfOk result (λ bytes. bytes
         ≡ request_text (alloc_with (addr_text scheduler) token.now tc.now)) }
@@ -94,7 +94,7 @@ pub fn alloc_request(alloc: Global, round: u64) -> Result<Bytes, Memory>
 }
 
 /// The request that brings an archive to the server at that address, under the job's token.
-#[tactic(auto, unfolding(http_routes::specs::Written::submit_with))]
+#[tactic(auto, unfolding(http_routes::specs::Requests::submit_with))]
 fn submit_at(
     alloc: Global,
     server: Addr,
@@ -158,7 +158,7 @@ fn run_body(alloc: Global, inputs: &[u8]) -> Result<Vec<u8>, Memory>
 }
 
 /// The request to run a job with those inputs at the server at that address, under the job's token.
-#[tactic(auto, unfolding(http_routes::specs::Written::run_with))]
+#[tactic(auto, unfolding(http_routes::specs::Requests::run_with))]
 fn run_at(
     alloc: Global,
     server: Addr,
@@ -189,7 +189,7 @@ pub fn run_request(alloc: Global, job: u64) -> Result<Bytes, Memory>
 }
 
 /// A status request to the scheduler at that address.
-#[tactic(auto, unfolding(http_routes::specs::Written::status_with))]
+#[tactic(auto, unfolding(http_routes::specs::Requests::status_with))]
 fn status_at(alloc: Global, scheduler: Addr) -> Result<Bytes, Memory>
     ensures { IfOk result (λ bytes. bytes ≡ request_text (status_with (addr_text scheduler))) }
 {

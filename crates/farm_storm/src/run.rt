@@ -1,6 +1,6 @@
 //! The run of the storm.
 ghost use Rattle.std.specs.Prelude.{◌≡◌, [], IfOk, IfErr, OnErr, string_bytes};
-ghost use Rattle.farm_run.specs.Farm.{Steps};
+ghost use Rattle.farm_run.specs.Farm.{StepsTo};
 ghost use Rattle.farm_script.specs.declared.fault.FarmFault.TheVariants as fault;
 ghost use Rattle.farm_storm.specs.Places.{deed_at};
 ghost use Rattle.farm_storm.specs.Storm.{event_of};
@@ -36,7 +36,7 @@ fn next(
     farm: Farm<MemFolder, FarmBuilder>,
     number: u64,
 ) -> Result<Farm<MemFolder, FarmBuilder>, FarmFault>
-    ensures ok { IfOk result (Steps farm (event_of number (deed_at number))) }
+    ensures ok { IfOk result (StepsTo farm (event_of number (deed_at number))) }
     ensures err { IfErr result (λ e. e ≡ fault.Memory) }
 {
     let event = match event_at(alloc, number) {

@@ -385,15 +385,15 @@ Related names pairs (Some id) rs pending = (is_among names id ≡ true) × (rs �
 abbrev state : Pairs → Option Text → State
 state pairs waiting = record { pairs = pairs; waiting = waiting }
 
-abbrev Holds : List Text → List Text → Type 0
-Holds names words = (pairs : Pairs) (waiting : Option Text) (rs : List Row)
+abbrev AgreesFrom : List Text → List Text → Type 0
+AgreesFrom names words = (pairs : Pairs) (waiting : Option Text) (rs : List Row)
     (pending : Option (Text × List Text))
     → Related names pairs waiting rs pending
     → Agrees (faults names (at rs pending (wait waiting)) words)
     (pairs_from names (state pairs waiting) words)
     (found names (at rs pending (wait waiting)) words)
 
-ended_holds : (names : List Text) → Holds names []
+ended_holds : (names : List Text) → AgreesFrom names []
 ended_holds names pairs None rs pending r = at_end names (at rs pending idle) (Some pairs)
     (subst (λ f. Agrees (or_else f []) (Some pairs) (settled_rows (rules names) pending rs)) (sym (r.0))
     (r.1))
@@ -405,7 +405,7 @@ ended_holds names pairs (Some id) rs pending r = at_end names (at rs pending (op
         ∙ use_none id rs
 
 module _ (names : List Text) (word : Text) (words : List Text) (dashes : bytes_eq word (45 ∷ 45 ∷ []) ≡ false)
-    (m : list_all may_stand words ≡ true) (next : Holds names words) where
+    (m : list_all may_stand words ≡ true) (next : AgreesFrom names words) where
   abbrev Goal : Pairs → Option Text → List Row → Option (Text × List Text) → Type 0
   Goal pairs waiting rs pending = Agrees (faults names (at rs pending (wait waiting)) (word ∷ words))
       (pairs_from names (state pairs waiting) (word ∷ words))
@@ -579,11 +579,11 @@ module _ (names : List Text) (word : Text) (words : List Text) (dashes : bytes_e
       (subst (λ x. Goal pairs (Some id) (rows pairs) x) (sym (r.2))
       (value_comes id pairs (has_option id pairs) (r.0) l s v refl))
 
-  word_holds : Kind word → Holds names (word ∷ words)
+  word_holds : Kind word → AgreesFrom names (word ∷ words)
   word_holds k pairs None rs pending r = idle_holds pairs rs pending k r
   word_holds k pairs (Some id) rs pending r = waits_holds id pairs rs pending k r
 
-holds : (names words : List Text) → list_all may_stand words ≡ true → Holds names words
+holds : (names words : List Text) → list_all may_stand words ≡ true → AgreesFrom names words
 holds names [] m = ended_holds names
 holds names (word ∷ words) m = let first = first_of_two (may_stand word) (list_all may_stand words) m in
     let later = second_of_two (may_stand word) (list_all may_stand words) m in

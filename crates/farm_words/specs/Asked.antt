@@ -8,19 +8,19 @@ use Rattle.dist_types.specs.declared.addr.Addr.{Addr}
 use Rattle.farm_words.specs.Options.{Said, options_in}
 
 -- what is asked for
-pub data Asked : Type 0 where
+pub data Invocation : Type 0 where
   -- the run of a script
-  farm : Asked
+  farm : Invocation
   -- so many random bytes in base64url
-  random : ℕ → Asked
+  random : ℕ → Invocation
   -- the token of a server under a key in base64url, or under that of the file of this name
-  token_under : Addr → List ℕ → Asked
-  token_of : Addr → List ℕ → Asked
+  token_under : Addr → List ℕ → Invocation
+  token_of : Addr → List ℕ → Invocation
   -- a scheduler, or a build server, of the file of this name
-  scheduler : List ℕ → Asked
-  server : List ℕ → Asked
+  scheduler : List ℕ → Invocation
+  server : List ℕ → Invocation
   -- the storm of so many events
-  storm : ℕ → Asked
+  storm : ℕ → Invocation
 
 -- a number of bits: an optional plus and at least one digit, a multiple of 8 from 64 to 4096
 abbrev pub is_length : ℕ → Bool
@@ -38,16 +38,16 @@ events_in text = if is_plain text && nat_le (digits_value 10 text) 100000 then S
 
 -- ---- rows, by what stands behind the words of the command
 
-abbrev pub farm_row : List (List ℕ) → Option Asked
+abbrev pub farm_row : List (List ℕ) → Option Invocation
 farm_row [] = Some farm
 farm_row (word ∷ words) = None
 
-abbrev pub storm_row : List (List ℕ) → Option Asked
+abbrev pub storm_row : List (List ℕ) → Option Invocation
 storm_row [] = None
 storm_row (word ∷ []) = option_map storm (events_in word)
 storm_row (word ∷ next ∷ words) = None
 
-abbrev pub key_row : List (List ℕ) → Option Asked
+abbrev pub key_row : List (List ℕ) → Option Invocation
 key_row [] = Some (random 32)
 key_row (word ∷ words) = None
 
@@ -56,7 +56,7 @@ shared_length None = Some 256
 shared_length (Some text) = bits_in text
 
 -- no option but the number of bits
-abbrev pub shared_by : Said → Option Asked
+abbrev pub shared_by : Said → Option Invocation
 shared_by said =
     if is_some said.server then None
     else if is_some said.secret_key then None
@@ -64,17 +64,17 @@ shared_by said =
     else option_map (λ bits. random (bits / 8)) (shared_length said.bits)
 
 -- exactly one source of the key
-abbrev pub keyed : Addr → Option (List ℕ) → Option (List ℕ) → Option Asked
+abbrev pub keyed : Addr → Option (List ℕ) → Option (List ℕ) → Option Invocation
 keyed address None None = None
 keyed address (Some key) None = Some (token_under address key)
 keyed address None (Some path) = Some (token_of address path)
 keyed address (Some key) (Some path) = None
 
-abbrev pub token_for : Option (List ℕ) → Option (List ℕ) → Option (List ℕ) → Option Asked
+abbrev pub token_for : Option (List ℕ) → Option (List ℕ) → Option (List ℕ) → Option Invocation
 token_for None key path = None
 token_for (Some text) key path = option_and_then (λ address. keyed address key path) (addr_in text)
 
-abbrev pub token_by : Said → Option Asked
+abbrev pub token_by : Said → Option Invocation
 token_by said = if is_some said.bits then None else token_for said.server said.secret_key said.config
 
 -- no option but the file
@@ -85,7 +85,7 @@ file_of said =
     else if is_some said.secret_key then None
     else said.config
 
-abbrev pub auth_row : List (List ℕ) → Option Asked
+abbrev pub auth_row : List (List ℕ) → Option Invocation
 auth_row [] = None
 auth_row (word ∷ words) =
     if bytes_eq word (codes "generate-jwt-hs256-key") then key_row words
@@ -94,7 +94,7 @@ auth_row (word ∷ words) =
     (options_in words)
     else None
 
-abbrev pub command_row : List (List ℕ) → Option Asked
+abbrev pub command_row : List (List ℕ) → Option Invocation
 command_row [] = None
 command_row (word ∷ words) =
     if bytes_eq word (codes "farm") then farm_row words
@@ -106,6 +106,6 @@ command_row (word ∷ words) =
     else None
 
 -- the first word is the program's name
-abbrev pub asked_by : List (List ℕ) → Option Asked
+abbrev pub asked_by : List (List ℕ) → Option Invocation
 asked_by [] = None
 asked_by (name ∷ words) = command_row words

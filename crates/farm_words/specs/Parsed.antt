@@ -15,7 +15,7 @@ use Rattle.farm_config.specs.Reading.{says, IsFileFault}
 use Rattle.farm_words.specs.declared.command.Command.{Command}
 use Rattle.farm_words.specs.declared.command.Command.TheVariants.{Auth, Scheduler, Server, Farm, Storm}
 use Rattle.farm_words.specs.declared.command.AuthSubcommand.TheVariants.{Base64, JwtHS256ServerToken}
-use Rattle.farm_words.specs.Asked.{Asked, farm, random, token_under, token_of, scheduler, server, storm}
+use Rattle.farm_words.specs.Asked.{Invocation, farm, random, token_under, token_of, scheduler, server, storm}
 
 -- the token of a server under the signing key of a scheduler, which has one
 abbrev pub signed : Addr → ServerAuth → Result Command ConfigCause
@@ -24,7 +24,7 @@ signed address auth.Insecure = Err (Key (codes "server_auth"))
 signed address (auth.Token shared) = Err (Key (codes "server_auth"))
 
 -- the command that is asked for, over files
-abbrev pub command_in : Asked → List NamedFile → Result Command ConfigCause
+abbrev pub command_in : Invocation → List NamedFile → Result Command ConfigCause
 command_in farm files = Ok Farm
 command_in (random n) files = Ok (Auth (Base64 n))
 command_in (token_under address key) files = Ok (Auth (JwtHS256ServerToken key address))
@@ -36,7 +36,7 @@ command_in (storm n) files = Ok (Storm n)
 
 -- what is said over the files that a command reads, where they are told; over none for a command that reads
 -- none
-abbrev pub OverFiles : Asked → Option (List NamedFile) → (List NamedFile → Type 0) → Type 0
+abbrev pub OverFiles : Invocation → Option (List NamedFile) → (List NamedFile → Type 0) → Type 0
 OverFiles farm files says = says []
 OverFiles (random n) files says = says []
 OverFiles (token_under address key) files says = says []
@@ -46,7 +46,7 @@ OverFiles (server path) files says = IfSome files says
 OverFiles (storm n) files says = says []
 
 -- a command that reads a file
-abbrev pub ReadsFile : Asked → Type 0
+abbrev pub ReadsFile : Invocation → Type 0
 ReadsFile farm = ⊥
 ReadsFile (random n) = ⊥
 ReadsFile (token_under address key) = ⊥
@@ -57,7 +57,7 @@ ReadsFile (storm n) = ⊥
 
 -- The answer is the command that is asked for over the files, and reading did not fail; or its file has a
 -- fault, which is told; or memory ran out.
-abbrev pub IsParsed : Asked → Result Command FarmFault → Option (List NamedFile) → ℕ → ℕ → Type 0
+abbrev pub IsParsed : Invocation → Result Command FarmFault → Option (List NamedFile) → ℕ → ℕ → Type 0
 IsParsed asked (Ok command) files before after = (after ≡ before)
     × OverFiles asked files (λ told. command_in asked told ≡ Ok command)
 IsParsed asked (Err (BadConfig cause)) files before after = ReadsFile asked

@@ -1,10 +1,10 @@
 -- What is asked for, as the Rust enum holds it.
-use Rattle.farm_words.specs.Asked.{Asked, farm, random, token_under, token_of, scheduler, server, storm}
+use Rattle.farm_words.specs.Asked.{Invocation, farm, random, token_under, token_of, scheduler, server, storm}
 use Rattle.farm_words.specs.declared.asked.Asked as code
 use Rattle.farm_words.specs.declared.asked.Asked.TheVariants.{Farm, Random, TokenUnder, TokenOf, Scheduler}
 use Rattle.farm_words.specs.declared.asked.Asked.TheVariants.{Server, Storm}
 
-abbrev pub asked_of : code.Asked → Asked
+abbrev pub asked_of : code.Asked → Invocation
 asked_of Farm = farm
 asked_of (Random n) = random n
 asked_of (TokenUnder address key) = token_under address key.now

@@ -23,7 +23,7 @@ use Rattle.http_routes.specs.declared.admission.Admission.TheVariants.{Admitted}
 use Rattle.http_routes.specs.declared.route.SchedRouted.TheVariants.{Alloc, Beat, Update, Status}
 use Rattle.http_routes.specs.Asked.{IsAskedUnder}
 use Rattle.http_routes.specs.ServerRoute.{AsksSubmit, AsksRun}
-use Rattle.http_routes.specs.Written.{submit_with, run_with}
+use Rattle.http_routes.specs.Requests.{submit_with, run_with}
 use Rattle.http_routes.proofs.ToldLemmas.{addr_visible, allocations_read_back, statuses_read_back}
 use Rattle.http_routes.proofs.ToldLemmas.{heartbeats_read_back, states_read_back, submissions_read_back}
 use Rattle.http_routes.proofs.ToldLemmas.{runs_read_back}

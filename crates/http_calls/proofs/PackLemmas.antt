@@ -12,7 +12,7 @@ use Rattle.dist_wire.specs.Written.{run_text}
 use Rattle.dist_wire.specs.declared.run.RunJobHttpRequest.{RunJobHttpRequest}
 use Rattle.http_head.specs.WrittenRequest.{request_text}
 use Rattle.http_routes.specs.RunHead.{run_body}
-use Rattle.http_routes.specs.Written.{post_with, run_with}
+use Rattle.http_routes.specs.Requests.{post_with, run_with}
 use Rattle.path_pkg.specs.Append.{Appends}
 use Rattle.http_calls.specs.Asking.{Asks, dialed_host}
 use Rattle.http_calls.specs.Calls.{run_request}

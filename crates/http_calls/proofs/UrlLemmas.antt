@@ -27,7 +27,7 @@ use Rattle.dist_wire.specs.Written.{state_bytes}
 use Rattle.http_head.specs.declared.written_request.Method.TheVariants.{Post}
 use Rattle.http_head.specs.declared.written_request.WrittenRequest.{WrittenRequest}
 use Rattle.http_head.specs.WrittenRequest.{is_visible}
-use Rattle.http_routes.specs.Written.{state_with}
+use Rattle.http_routes.specs.Requests.{state_with}
 use Rattle.http_head.proofs.FieldLemmas.{digits}
 use Rattle.http_head.proofs.LineLemmas.{all_pass, weaker}
 use Rattle.http_head.proofs.WrittenRequestLemmas.{ascii_text}

@@ -11,7 +11,7 @@ use Rattle.dist_types.specs.declared.addr.Addr.TheVariants.{V4, V6}
 use Rattle.dist_types.specs.declared.dialer.Asked.{Asked}
 use Rattle.dist_types.specs.declared.dialer.AskFault.{AskFault}
 use Rattle.dist_types.specs.declared.dialer.AskFault.TheVariants.{Failed, Memory as OutOfMemory}
-use Rattle.http_routes.specs.Calls.{Tells}
+use Rattle.http_routes.specs.CallReply.{IsToldBy}
 use Rattle.http_calls.specs.declared.error.CallError.{CallError}
 use Rattle.http_calls.specs.declared.error.CallError.TheVariants.{LinkFault, Memory}
 use Rattle.http_calls.specs.Reply.{ReplyRefused}
@@ -24,7 +24,7 @@ dialed_host (V6 groups port) = codes "[" ++ ipv6_text groups ++ codes "]"
 -- what the answer to a row is: what its reply says; LinkFault exactly where the dialer failed
 abbrev pub AnswersRow : {M : Type 0} → (List ℕ → Option (M × List ℕ)) → Result (List ℕ) AskFault
     → Result M CallError → Type 0
-AnswersRow {M} at (Ok reply) answer = MatchResult answer (λ m. Tells {M = M} at reply (Ok m))
+AnswersRow {M} at (Ok reply) answer = MatchResult answer (λ m. IsToldBy {M = M} at reply (Ok m))
     (ReplyRefused {M = M} at reply)
 AnswersRow at (Err Failed) answer = answer ≡ Err LinkFault
 AnswersRow at (Err OutOfMemory) answer = answer ≡ Err Memory

@@ -9,8 +9,8 @@ use Rattle.dist_wire.specs.declared.run.RunJobHttpRequest.{RunJobHttpRequest}
 use Rattle.http_head.specs.declared.written_request.WrittenRequest.{WrittenRequest}
 use Rattle.url.specs.Parts.{Parts}
 use Rattle.http_routes.specs.Builder.{host_of}
-use Rattle.http_routes.specs.Written.{alloc_with, status_with, heartbeat_with, state_with, submit_with}
-use Rattle.http_routes.specs.Written.{run_with}
+use Rattle.http_routes.specs.Requests.{alloc_with, status_with, heartbeat_with, state_with, submit_with}
+use Rattle.http_routes.specs.Requests.{run_with}
 use Rattle.http_calls.specs.declared.error.CallError.{CallError}
 use Rattle.http_calls.specs.declared.error.CallError.TheVariants.{BadBase, Memory}
 use Rattle.http_calls.specs.Urls.{IsHttp}

@@ -6,7 +6,7 @@ use crate::error::CallError;
 use dist_types::fault::Failed;
 use dist_wire::message::Message;
 use http_head::error::HttpError;
-use http_routes::calls::read_reply;
+use http_routes::call_reply::read_reply;
 use std::alloc::Global;
 
 /// The answer of a call to which that came: LinkFault exactly where nothing came, else what the reply says.

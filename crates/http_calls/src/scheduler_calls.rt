@@ -5,7 +5,7 @@ ghost use Rattle.dist_wire.specs.Written as spelling;
 ghost use Rattle.http_head.specs.declared.written_request.Method.TheVariants.{Get};
 ghost use Rattle.http_head.specs.WrittenRequest.{request_text};
 ghost use Rattle.http_routes.specs.Builder.{target_of, host_of};
-ghost use Rattle.http_routes.specs.Written.{post_with};
+ghost use Rattle.http_routes.specs.Requests.{post_with};
 ghost use Rattle.url.specs.Parts.{IsValid};
 ghost use Rattle.http_calls.specs.Calls.{RefusesBase, alloc_request, status_request, state_request};
 ghost use Rattle.http_calls.specs.Calls.{heartbeat_request};
@@ -59,7 +59,7 @@ fn posted<M: Message>(
 }
 
 /// The bytes of a request for a job.
-#[tactic(auto, using(crate::proofs::UrlLemmas::target_at), unfolding(http_routes::specs::Written::alloc_with))]
+#[tactic(auto, using(crate::proofs::UrlLemmas::target_at), unfolding(http_routes::specs::Requests::alloc_with))]
 pub(crate) fn alloc_text(
     alloc: Global,
     base: &Url,
@@ -94,7 +94,7 @@ fn built_get(alloc: Global, url: &Url) -> Result<Bytes, HttpError>
 }
 
 /// The bytes of a request for the status.
-#[tactic(auto, using(crate::proofs::UrlLemmas::target_at), unfolding(http_routes::specs::Written::status_with))]
+#[tactic(auto, using(crate::proofs::UrlLemmas::target_at), unfolding(http_routes::specs::Requests::status_with))]
 pub(crate) fn status_text(alloc: Global, base: &Url) -> Result<Bytes, CallError>
     ensures text { IfOk result (λ bytes. bytes ≡ request_text (status_request base.now)) }
     ensures http { OnOk result (IsHttp base.now) }
@@ -109,7 +109,7 @@ pub(crate) fn status_text(alloc: Global, base: &Url) -> Result<Bytes, CallError>
 }
 
 /// The bytes of the report of a job's state.
-#[tactic(auto, using(crate::proofs::UrlLemmas::target_at), unfolding(http_routes::specs::Written::state_with))]
+#[tactic(auto, using(crate::proofs::UrlLemmas::target_at), unfolding(http_routes::specs::Requests::state_with))]
 pub(crate) fn state_text(
     alloc: Global,
     base: &Url,
@@ -128,7 +128,7 @@ pub(crate) fn state_text(
 }
 
 /// The bytes of a heartbeat.
-#[tactic(auto, using(crate::proofs::UrlLemmas::target_at), unfolding(http_routes::specs::Written::heartbeat_with))]
+#[tactic(auto, using(crate::proofs::UrlLemmas::target_at), unfolding(http_routes::specs::Requests::heartbeat_with))]
 pub(crate) fn heartbeat_text(
     alloc: Global,
     base: &Url,

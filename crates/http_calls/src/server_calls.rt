@@ -10,7 +10,7 @@ ghost use Rattle.dist_wire.specs.Written as spelling;
 ghost use Rattle.http_head.specs.WrittenRequest.{request_text, IsToken, IsWithinLimits};
 ghost use Rattle.http_routes.specs.RunHead.{run_body};
 ghost use Rattle.http_routes.specs.ServerRoute.{AsksSubmit, AsksRun};
-ghost use Rattle.http_routes.specs.Written.{post_with, submit_with, run_with};
+ghost use Rattle.http_routes.specs.Requests.{post_with, submit_with, run_with};
 ghost use Rattle.http_calls.specs.Client.{PacksBody, PacksRequest, first_of};
 
 use crate::builder::{RequestBuilder, ReqwestRequestBuilderExt};
@@ -68,7 +68,7 @@ fn posted(target: String, host: String, token: &str, body: Bytes) -> Result<Byte
 }
 
 /// The bytes of the request that brings a job's archive.
-#[tactic(auto, unfolding(http_routes::specs::Written::submit_with))]
+#[tactic(auto, unfolding(http_routes::specs::Requests::submit_with))]
 fn submit_text(
     alloc: Global,
     server: ServerId,
@@ -198,7 +198,7 @@ pub(crate) fn packed_request(
 }
 
 /// The bytes of the request to run a job.
-#[tactic(auto, unfolding(http_routes::specs::Written::run_with))]
+#[tactic(auto, unfolding(http_routes::specs::Requests::run_with))]
 fn run_text(
     alloc: Global,
     server: ServerId,

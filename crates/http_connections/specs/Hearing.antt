@@ -4,7 +4,7 @@ use Rattle.dist_types.specs.declared.dialer.AskFault.{AskFault}
 use Rattle.dist_types.specs.declared.dialer.AskFault.TheVariants.{Failed, Memory}
 use Rattle.dist_types.specs.declared.outgoing.CallFault.{CallFault}
 use Rattle.dist_types.specs.declared.outgoing.CallFault.TheVariants.{Lost, Memory as OutOfMemory}
-use Rattle.http_routes.specs.Calls.{IsAnswer}
+use Rattle.http_routes.specs.CallReply.{IsAnswer}
 
 -- what is heard of a dialer's answer: what the reply says, unless memory ran out; a call that failed is lost
 abbrev pub Hears : {M : Type 0} → (List ℕ → Option (M × List ℕ)) → Result (List ℕ) AskFault

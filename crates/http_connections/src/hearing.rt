@@ -1,10 +1,10 @@
 //! What the reply to a call says.
 ghost use Rattle.std.specs.Prelude.{◌≡◌, ◌≢◌, Err};
-ghost use Rattle.http_routes.specs.Calls.{IsAnswer};
+ghost use Rattle.http_routes.specs.CallReply.{IsAnswer};
 
 use dist_types::outgoing::CallFault;
 use dist_wire::message::Message;
-use http_routes::calls::answer;
+use http_routes::call_reply::answer;
 use std::alloc::Global;
 
 /// What the reply to a call says; Memory where memory ran out.

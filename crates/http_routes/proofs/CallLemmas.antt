@@ -6,7 +6,7 @@ use Rattle.std.proofs.lemmas.List.{get_or-append-add}
 use Rattle.httparse.specs.Grammar.{print_response}
 use Rattle.dist_types.specs.declared.outgoing.CallFault.{CallFault}
 use Rattle.dist_types.specs.declared.outgoing.CallFault.TheVariants.{BadState}
-use Rattle.sched_core.specs.Rule.{begins}
+use Rattle.sched_core.specs.Rule.{is_initial}
 use Rattle.dist_types.specs.declared.results.AssignJobResult.{AssignJobResult}
 use Rattle.dist_wire.specs.Codec.{IsBytes, IsCodec}
 use Rattle.dist_wire.specs.Reading.{assign_at}
@@ -15,8 +15,8 @@ use Rattle.http_head.specs.declared.error.HttpError.TheVariants.{BadHead, WrongC
 use Rattle.http_head.specs.declared.error.HttpError.TheVariants.{BadRealIp, NoRoute, Unauthorised, Status}
 use Rattle.http_head.specs.declared.error.HttpError.TheVariants.{Memory}
 use Rattle.http_head.specs.declared.reply.Reply.{Reply}
-use Rattle.http_routes.specs.Calls.{told_by, Tells, Reads, IsReplyFault, answer_by, IsAnswer, assigned_by}
-use Rattle.http_routes.specs.Calls.{IsAssigned}
+use Rattle.http_routes.specs.CallReply.{told_by, IsToldBy, Reads, IsReplyFault, answer_by, IsAnswer, assigned_by}
+use Rattle.http_routes.specs.CallReply.{IsAssigned}
 use Rattle.http_head.specs.Head.{IsReply}
 use Rattle.http_routes.specs.Message.{BeginsWith, begins_in}
 use Rattle.http_routes.specs.Steps.{unless_none}
@@ -26,7 +26,7 @@ use Rattle.http_routes.proofs.StepLemmas.{from_none}
 
 module _ {M : Type 0} (at : List ℕ → Option (M × List ℕ)) (bytes : List ℕ) where
   -- the bytes say one thing
-  pub one_telling : (a b : Result M HttpError) → Tells at bytes a → Tells at bytes b → a ≡ b
+  pub one_telling : (a b : Result M HttpError) → IsToldBy at bytes a → IsToldBy at bytes b → a ≡ b
   one_telling a b (inl (r, x, e)) (inl (q, y, f)) = e ∙ (ap (told_by at) (one_reply bytes r q x y) ∙ sym f)
   one_telling a b (inl (r, x, e)) (inr (none, f)) = absurd (none r x)
   one_telling a b (inr (none, e)) (inl (q, y, f)) = absurd (none q y)
@@ -44,7 +44,7 @@ one_assignment bytes a b (s, x, e) (t, y, f) = e
 
 -- what bytes say is no message for one of three reasons
 pub told_fault : {M : Type 0} (at : List ℕ → Option (M × List ℕ)) (bytes : List ℕ) (e : HttpError)
-    → Tells at bytes (Err e) → IsReplyFault e
+    → IsToldBy at bytes (Err e) → IsReplyFault e
 unfolding told_by
 told_fault {M = M} at bytes e (inr (none, h)) = let same : ParseError ≡ e =
     cc in subst (λ (d : HttpError). IsReplyFault d) same (tt {0})
@@ -82,17 +82,18 @@ none_other {M = M} at bytes r e d reads is same other =
     by_kind Memory h o = o
 
 -- an answer that is taken tells a state that an assignment may tell
-pub begins_assigned : (bytes : List ℕ) (a : AssignJobResult) → IsAssigned bytes (Ok a) → begins a.state ≡ true
+pub begins_assigned : (bytes : List ℕ) (a : AssignJobResult) → IsAssigned bytes (Ok a) → is_initial a.state
+    ≡ true
 begins_assigned bytes a (told, x, e) = by_told told e
   where
-    by_test : (answer : AssignJobResult) (b : Bool) → begins answer.state ≡ b
-        → Ok a ≡ cond b (Ok answer) (Err (BadState answer.state)) → begins a.state ≡ true
+    by_test : (answer : AssignJobResult) (b : Bool) → is_initial answer.state ≡ b
+        → Ok a ≡ cond b (Ok answer) (Err (BadState answer.state)) → is_initial a.state ≡ true
     by_test answer true is h = let same : answer ≡ a =
-        cc in subst (λ (r : AssignJobResult). begins r.state ≡ true) same is
+        cc in subst (λ (r : AssignJobResult). is_initial r.state ≡ true) same is
     by_test answer false is h = absurd cc
 
-    by_told : (t : Result AssignJobResult HttpError) → Ok a ≡ assigned_by t → begins a.state ≡ true
-    by_told (Ok answer) h = by_test answer (begins answer.state) refl h
+    by_told : (t : Result AssignJobResult HttpError) → Ok a ≡ assigned_by t → is_initial a.state ≡ true
+    by_told (Ok answer) h = by_test answer (is_initial answer.state) refl h
     by_told (Err d) h = absurd cc
 
 body_fits : (bytes : List ℕ) (r : Reply) → IsBytes bytes → IsReply bytes r → IsBytes r.body
@@ -125,14 +126,15 @@ module _ {M : Type 0} (Spells : M → List ℕ → Type 0) (at : List ℕ → Op
   unfolding told_by
   tell r m code b = let read = begins_read Spells at codec r.body m b in rw (code, read) refl
 
-  pub replies_told : (bytes : List ℕ) (m : M) → IsBytes bytes → Tells at bytes (Ok m)
+  pub replies_told : (bytes : List ℕ) (m : M) → IsBytes bytes → IsToldBy at bytes (Ok m)
       ↔ ((r : Reply) × IsReply bytes r × (r.code ≡ 200) × BeginsWith Spells r.body m)
   replies_told bytes m fits = (to, from)
     where
-      to : Tells at bytes (Ok m) → (r : Reply) × IsReply bytes r × (r.code ≡ 200) × BeginsWith Spells r.body m
+      to : IsToldBy at bytes (Ok m) → (r : Reply) × IsReply bytes r × (r.code ≡ 200)
+          × BeginsWith Spells r.body m
       to (inl (r, x, e)) = let t = told r m (body_fits bytes r fits x) (sym e) in (r, x, t.0, t.1)
       to (inr (none, e)) = absurd cc
 
       from : ((r : Reply) × IsReply bytes r × (r.code ≡ 200) × BeginsWith Spells r.body m)
-          → Tells at bytes (Ok m)
+          → IsToldBy at bytes (Ok m)
       from (r, x, code, b) = inl (r, x, sym (tell r m code b))

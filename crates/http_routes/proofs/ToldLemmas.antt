@@ -46,8 +46,8 @@ use Rattle.http_routes.specs.Place.{job_of}
 use Rattle.http_routes.specs.RunHead.{run_body}
 use Rattle.http_routes.specs.Sender.{IsAdmitted, IsFrom, ShowsJob, Shows}
 use Rattle.http_routes.specs.ServerRoute.{body_at, AsksAssign, AsksSubmit, AsksRun}
-use Rattle.http_routes.specs.Written.{post_with, alloc_with, status_with, heartbeat_with, state_with}
-use Rattle.http_routes.specs.Written.{assign_with, submit_with, run_with, CanGo}
+use Rattle.http_routes.specs.Requests.{post_with, alloc_with, status_with, heartbeat_with, state_with}
+use Rattle.http_routes.specs.Requests.{assign_with, submit_with, run_with, CanGo}
 use Rattle.http_routes.proofs.PlaceLemmas.{no_query, written_job, job_named}
 use Rattle.http_routes.proofs.RouteLemmas.{asked_by, allocation_is, heartbeat_is, update_is, status_is}
 use Rattle.http_routes.proofs.RunHeadLemmas.{body_read_back, inputs_behind}

@@ -10,8 +10,8 @@ pub mod RunHead
 pub mod Fault
 pub mod Refusal
 pub mod Replies
-pub mod Written
-pub mod Calls
+pub mod Requests
+pub mod CallReply
 pub mod Route
 pub mod ServerRoute
 pub mod Asked

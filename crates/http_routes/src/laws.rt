@@ -13,7 +13,7 @@ ghost use Rattle.dist_wire.specs.Spelling.{SpellsToolchain, SpellsHeartbeat, Spe
 ghost use Rattle.dist_wire.specs.Written.{bytes_text, heartbeat_text, run_text};
 ghost use Rattle.dist_wire.specs.declared.heartbeat.HeartbeatServerHttpRequest.{HeartbeatServerHttpRequest};
 ghost use Rattle.dist_wire.specs.declared.run.RunJobHttpRequest.{RunJobHttpRequest};
-ghost use Rattle.sched_core.specs.Rule.{begins};
+ghost use Rattle.sched_core.specs.Rule.{is_initial};
 ghost use Rattle.http_head.specs.declared.reply.Reply.{Reply};
 ghost use Rattle.http_head.specs.declared.request.Request.{Request};
 ghost use Rattle.http_head.specs.Head.{IsRequest, IsNoRequest, IsReply};
@@ -29,7 +29,7 @@ ghost use Rattle.http_routes.specs.declared.route.SchedRouted.TheVariants.{Alloc
 ghost use Rattle.http_routes.specs.declared.server_route.ServerAsked.{ServerAsked};
 ghost use Rattle.http_routes.specs.declared.server_route.ServerRouted.TheVariants as server;
 ghost use Rattle.http_routes.specs.Asked.{IsAskedUnder};
-ghost use Rattle.http_routes.specs.Calls.{Tells, IsAnswer, IsAssigned};
+ghost use Rattle.http_routes.specs.CallReply.{IsToldBy, IsAnswer, IsAssigned};
 ghost use Rattle.http_routes.specs.InOrder.{InForm, IsAllocation, IsHeartbeat, IsUpdate, IsStatus};
 ghost use Rattle.http_routes.specs.InOrder.{IsAssignment, IsSubmission, IsRun};
 ghost use Rattle.http_routes.specs.Message.{BeginsWith};
@@ -38,8 +38,8 @@ ghost use Rattle.http_routes.specs.Refusal.{refusal_response};
 ghost use Rattle.http_routes.specs.Refused.{IsRefused, IsServerRefused};
 ghost use Rattle.http_routes.specs.Reply.{body_of, reply_text};
 ghost use Rattle.http_routes.specs.ServerRoute.{body_at, IsServerAsked, AsksAssign, AsksSubmit, AsksRun};
-ghost use Rattle.http_routes.specs.Written.{alloc_with, status_with, heartbeat_with, state_with, assign_with};
-ghost use Rattle.http_routes.specs.Written.{submit_with, run_with, CanGo};
+ghost use Rattle.http_routes.specs.Requests.{alloc_with, status_with, heartbeat_with, state_with, assign_with};
+ghost use Rattle.http_routes.specs.Requests.{submit_with, run_with, CanGo};
 
 use dist_wire::message::Message;
 
@@ -158,7 +158,7 @@ pub fn server_replies_at_once()
 /// begins.
 pub fn replies_told<M: Message>()
     ensures { (bytes : List ℕ) (m : M) → IsBytes bytes
-        → Tells M.at bytes (Ok m) ↔ ((r : Reply) × IsReply bytes r × (r.code ≡ 200)
+        → IsToldBy M.at bytes (Ok m) ↔ ((r : Reply) × IsReply bytes r × (r.code ≡ 200)
         × BeginsWith M.spells r.body m) }
 {}
 
@@ -176,7 +176,7 @@ pub fn one_assignment()
 
 /// An answer to an assignment that is taken tells a state that an assignment may tell.
 pub fn assignments_begin()
-    ensures { (bytes : List ℕ) (a : AssignJobResult) → IsAssigned bytes (Ok a) → begins a.state ≡ true }
+    ensures { (bytes : List ℕ) (a : AssignJobResult) → IsAssigned bytes (Ok a) → is_initial a.state ≡ true }
 {}
 
 /// The text of an address has no control byte and no space, so it can stand in a head.

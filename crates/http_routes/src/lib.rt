@@ -16,7 +16,7 @@
 pub mod admission;
 pub mod asked;
 pub mod builder;
-pub mod calls;
+pub mod call_reply;
 pub mod err_json;
 pub mod error;
 pub mod fault;
@@ -30,6 +30,6 @@ pub mod route;
 mod run_head;
 mod sender;
 pub mod server_route;
-pub mod written;
+pub mod requests;
 
 pub use http_head::{head, request};

@@ -4,9 +4,9 @@ use dist_types::ids::{JobId, ServerId};
 use dist_types::outgoing::CallFault;
 use dist_types::results::{AssignJobResult, JobState, UpdateJobStateResult};
 use dist_types::toolchain::Toolchain;
-use http_routes::calls::{assigned, read_reply};
+use http_routes::call_reply::{assigned, read_reply};
 use http_routes::error::HttpError;
-use http_routes::written::assign_request;
+use http_routes::requests::assign_request;
 use std::alloc::Global;
 use std::test::Fail;
 

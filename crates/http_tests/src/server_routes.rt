@@ -10,7 +10,7 @@ use dist_wire::heartbeat::HeartbeatServerHttpRequest;
 use http_routes::asked::{asked_of_checks, asked_under};
 use http_routes::route::SchedRouted;
 use http_routes::server_route::{ServerRouted, server_asked};
-use http_routes::written::{assign_request, heartbeat_request, state_request};
+use http_routes::requests::{assign_request, heartbeat_request, state_request};
 use std::alloc::Global;
 use std::process::Abort;
 use std::test::Fail;

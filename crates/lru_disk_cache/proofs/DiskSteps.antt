@@ -7,7 +7,7 @@ use Rattle.std.specs.Map.{keys_of, lookup}
 use Rattle.std.specs.Option.{option_map}
 use Rattle.std.specs.Str.{bytes_eq}
 use Rattle.lru_disk_cache.specs.Files.{Files, file_at, size_at, put, without, touched, appended}
-use Rattle.lru_disk_cache.specs.Held.{Held, Became, Made}
+use Rattle.lru_disk_cache.specs.Held.{Held, Became, BecameBy}
 use Rattle.lru_disk_cache.specs.Key.{is_key, temp_name}
 use Rattle.lru_disk_cache.specs.Entries.{Entries}
 use Rattle.lru_disk_cache.specs.Disk.{AllKeys, Avoids, IsTemp, dropped, files_placed, files_stored, stored}
@@ -29,7 +29,7 @@ use Rattle.lru_disk_cache.proofs.Reserving.{listed_key, own_path}
 use Rattle.lru_disk_cache.proofs.Standing.{found_sized}
 
 -- what a change of the files makes of the keys among them
-made_step : (f : Files → Files) (e : Disk) (old new : Held) → Made f old.files new.files
+made_step : (f : Files → Files) (e : Disk) (old new : Held) → BecameBy f old.files new.files
     → ((x : Files) → old.files ≡ Some x → keys_in e.root (f x) ≡ e.entries) → DiskInStep new e
 made_step f e old new made h files told =
     let w = became_from (λ a b. b ≡ f a) old.files new.files files (made_is f old.files new.files made) told
@@ -39,7 +39,7 @@ made_step f e old new made h files told =
 pub step_stored : (d e : Disk) (old new : Held) (key bytes : List ℕ) → AllKeys d.entries → is_key key ≡ true
     → IsDistinct bytes_eq (keys_of d.entries) → e ≡ inserted d key (length bytes)
     → (temp : List ℕ) × IsTemp d.root temp
-    × Made (files_stored d.root temp (d.root ++ key) bytes
+    × BecameBy (files_stored d.root temp (d.root ++ key) bytes
     (dropped (room_beside d (length bytes)) (without_key key d.entries))) old.files new.files
     → DiskInStep old d → DiskInStep new e
 step_stored d e old new key bytes keys fit distinct is exact h =
@@ -67,7 +67,7 @@ number_in (Some n) h = (n, refl)
 
 pub step_touched : (d e : Disk) (old new : Held) (key : List ℕ) → IsStore old d
     → IsDistinct bytes_eq (keys_of d.entries) → IsSome (lookup (bytes_eq key) d.entries) → e ≡ looked_up d key
-    → Made (touched (d.root ++ key)) old.files new.files → DiskInStep old d → DiskInStep new e
+    → BecameBy (touched (d.root ++ key)) old.files new.files → DiskInStep old d → DiskInStep new e
 step_touched d e old new key stands distinct found is made h =
     let n = number_in (lookup (bytes_eq key) d.entries) found in
     subst (DiskInStep new) (sym is) (made_step (touched (d.root ++ key)) (looked_up d key) old new made
@@ -78,7 +78,7 @@ step_touched d e old new key stands distinct found is made h =
     n.1 distinct (h x told)))
 
 pub step_removed : (d e : Disk) (old new : Held) (key : List ℕ) → IsDistinct bytes_eq (keys_of d.entries)
-    → e ≡ removed d key → Made (without (d.root ++ key)) old.files new.files → DiskInStep old d
+    → e ≡ removed d key → BecameBy (without (d.root ++ key)) old.files new.files → DiskInStep old d
     → DiskInStep new e
 step_removed d e old new key distinct is made h =
     subst (DiskInStep new) (sym is) (made_step (without (d.root ++ key)) (removed d key) old new made
@@ -86,7 +86,7 @@ step_removed d e old new key distinct is made h =
 
 pub step_prepared : (d e : Disk) (old new : Held) (entry : AddEntry) (m size : ℕ) → m < 2 ^ 64
     → entry.number ≡ m → entry.size ≡ size → IsDistinct bytes_eq (keys_of d.entries) → e ≡ prepared d entry
-    → Made (files_prepared d.root (entry_path d entry) (dropped (room_beside d size) d.entries)) old.files
+    → BecameBy (files_prepared d.root (entry_path d entry) (dropped (room_beside d size) d.entries)) old.files
     new.files → DiskInStep old d → DiskInStep new e
 step_prepared d e old new entry m size below number_is size_is distinct is made h =
     let none : is_key (temp_name entry.number) ≡ false = ap (λ n. is_key (temp_name n)) number_is
@@ -101,7 +101,7 @@ step_prepared d e old new entry m size below number_is size_is distinct is made 
 
 pub step_appended : {T E : Type 0} (result : Result T E) (d : Disk) (old new : Held) (path bytes : List ℕ)
     (n : ℕ) → path ≡ d.root ++ temp_name n → n < 2 ^ 64
-    → OnOk result (Made (appended path bytes) old.files new.files) → DiskInStep old d
+    → OnOk result (BecameBy (appended path bytes) old.files new.files) → DiskInStep old d
     → OnOk result (DiskInStep new d)
 step_appended (Err e) d old new path bytes n is below made h = tt
 step_appended (Ok x) d old new path bytes n is below made h =
@@ -133,7 +133,7 @@ pending_known root e (r ∷ rs) all h = by (is_of e r) refl h (pending_known roo
 pub step_committed : (d e : Disk) (old new : Held) (entry : AddEntry) → IsStore old d
     → IsDistinct bytes_eq (keys_of d.entries) → is_pending entry d.pending ≡ true
     → (n : ℕ) × HasSize d entry old n × (commit_verdict d entry n ≡ Ok (tt {0})) × (e ≡ committed d entry n)
-    × Made (files_placed d.root (entry_path d entry) (d.root ++ entry.key)
+    × BecameBy (files_placed d.root (entry_path d entry) (d.root ++ entry.key)
     (dropped (room_for d entry n) (without_key entry.key d.entries))) old.files new.files
     → DiskInStep old d → DiskInStep new e
 step_committed d e old new entry stands distinct pending ok h =
@@ -153,7 +153,7 @@ step_committed d e old new entry stands distinct pending ok h =
 pub step_moved : (d e : Disk) (old new : Held) (key path : List ℕ) → is_key key ≡ true
     → Avoids d.root path d.entries → IsDistinct bytes_eq (keys_of d.entries)
     → (n : ℕ) × IsSized path old n × (insert_verdict d key n ≡ Ok (tt {0})) × (e ≡ inserted d key n)
-    × Made (files_placed d.root path (d.root ++ key)
+    × BecameBy (files_placed d.root path (d.root ++ key)
     (dropped (room_beside d n) (without_key key d.entries))) old.files new.files
     → DiskInStep old d → DiskInStep new e
 step_moved d e old new key path fit avoids distinct ok h =

@@ -8,7 +8,7 @@ use Rattle.std.proofs.lemmas.Slice.Eq.{bytes_eq-Decides}
 use Rattle.lru_disk_cache.proofs.Became.{became_map, became_same, became_then}
 use Rattle.lru_disk_cache.proofs.Lookups.{without_other, without_same}
 use Rattle.lru_disk_cache.specs.Files.{Files, file_at, put, without, moved, touched, PartWritten, DoneOrNot}
-use Rattle.lru_disk_cache.specs.Held.{Held, Lacks, Never, Became, Made, Changes}
+use Rattle.lru_disk_cache.specs.Held.{Held, Lacks, Never, Became, BecameBy, Changes}
 use Rattle.lru_disk_cache.specs.declared.fault.FolderFault.{FolderFault}
 use Rattle.lru_disk_cache.specs.declared.fault.FolderFault.TheVariants.{Missing, Failed, Memory}
 use Rattle.lru_disk_cache.specs.Entries.{Entries, Listed, total}
@@ -16,70 +16,73 @@ use Rattle.lru_disk_cache.specs.Disk.{Counts, OnlyRemoved, ButAt, ButUnder, Same
 
 -- ---- functions on told files
 
-pub made_then : (f g : Files → Files) (one two three : Option Files) → Made f one two → Made g two three
-    → Made (λ x. g (f x)) one three
+pub made_then : (f g : Files → Files) (one two three : Option Files) → BecameBy f one two
+    → BecameBy g two three
+    → BecameBy (λ x. g (f x)) one three
 made_then f g one two three a b = b ∙ (ap (option_map g) a ∙ by one)
   where
     by : (o : Option Files) → option_map g (option_map f o) ≡ option_map (λ x. g (f x)) o
     by None = refl
     by (Some x) = refl
 
-pub made_same : (o : Option Files) → Made (λ x. x) o o
+pub made_same : (o : Option Files) → BecameBy (λ x. x) o o
 made_same None = refl
 made_same (Some x) = refl
 
-pub made_as : (f g : Files → Files) (old new : Option Files) → ((x : Files) → f x ≡ g x) → Made f old new
-    → Made g old new
+pub made_as : (f g : Files → Files) (old new : Option Files) → ((x : Files) → f x ≡ g x) → BecameBy f old new
+    → BecameBy g old new
 made_as f g None new same h = h
 made_as f g (Some x) new same h = h ∙ ap Some (same x)
 
 pub made_from : (f : Files → Files) (old new : Option Files) → Became (λ a b. b ≡ f a) old new
-    → Made f old new
+    → BecameBy f old new
 made_from f None new h = h
 made_from f (Some x) new h = h.1 ∙ ap Some h.2
 
-pub made_is : (f : Files → Files) (old new : Option Files) → Made f old new → Became (λ a b. b ≡ f a) old new
+pub made_is : (f : Files → Files) (old new : Option Files) → BecameBy f old new → Became
+    (λ a b. b ≡ f a) old new
 made_is f None new h = h
 made_is f (Some x) new h = (f x, h, refl)
 
 -- what a call that succeeds makes of them
 pub made_of : {T : Type 0} (lacking : Files → Type 0) (done : Files → Files) (part : Files → Files → Type 0)
     (result : Result T FolderFault) (old new : Held) → Changes lacking done part result old new
-    → OnOk result (Made done old.files new.files)
+    → OnOk result (BecameBy done old.files new.files)
 made_of lacking done part (Ok x) old new h = ap (λ k. k.files) h.0
 made_of lacking done part (Err e) old new h = tt
 
 pub made_put : (path at bytes : List ℕ) (result : Result (Unit {0}) FolderFault) (old new : Held) → path ≡ at
     → Changes Never (put path bytes) (PartWritten path bytes) result old new
-    → OnOk result (Made (put at bytes) old.files new.files)
+    → OnOk result (BecameBy (put at bytes) old.files new.files)
 made_put path at bytes result old new is h =
-    subst (λ p. OnOk result (Made (put p bytes) old.files new.files)) is
+    subst (λ p. OnOk result (BecameBy (put p bytes) old.files new.files)) is
     (made_of Never (put path bytes) (PartWritten path bytes) result old new h)
 
 pub made_moved : (source from to path : List ℕ) (result : Result (Unit {0}) FolderFault) (old new : Held)
     → source ≡ from → to ≡ path → Changes (Lacks source) (moved source to)
-    (DoneOrNot (moved source to)) result old new → OnOk result (Made (moved from path) old.files new.files)
+    (DoneOrNot (moved source to)) result old new → OnOk result
+        (BecameBy (moved from path) old.files new.files)
 made_moved source from to path result old new is at h =
-    let P : List ℕ → List ℕ → Type 0 = λ a b. OnOk result (Made (moved a b) old.files new.files) in
+    let P : List ℕ → List ℕ → Type 0 = λ a b. OnOk result (BecameBy (moved a b) old.files new.files) in
     subst (λ b. P from b) at
     (subst (λ a. P a to) is (made_of (Lacks source) (moved source to) (DoneOrNot (moved source to)) result
     old new h))
 
 pub made_touched : (path at : List ℕ) (result : Result (Unit {0}) FolderFault) (old new : Held) → path ≡ at
     → Changes (Lacks path) (touched path) (DoneOrNot (touched path)) result old new
-    → OnOk result (Made (touched at) old.files new.files)
+    → OnOk result (BecameBy (touched at) old.files new.files)
 made_touched path at result old new is h =
-    subst (λ p. OnOk result (Made (touched p) old.files new.files)) is
+    subst (λ p. OnOk result (BecameBy (touched p) old.files new.files)) is
     (made_of (Lacks path) (touched path) (DoneOrNot (touched path)) result old new h)
 
 pub ok_then : {T : Type 0} (f g : Files → Files) (result : Result T FolderFault)
-    (one two three : Option Files) → Made f one two → OnOk result (Made g two three)
-    → OnOk result (Made (λ x. g (f x)) one three)
+    (one two three : Option Files) → BecameBy f one two → OnOk result (BecameBy g two three)
+    → OnOk result (BecameBy (λ x. g (f x)) one three)
 ok_then f g (Ok x) one two three a b = made_then f g one two three a b
 ok_then f g (Err e) one two three a b = tt
 
 pub ok_as : {T : Type 0} (f g : Files → Files) (result : Result T FolderFault) (old new : Option Files)
-    → ((x : Files) → f x ≡ g x) → OnOk result (Made f old new) → OnOk result (Made g old new)
+    → ((x : Files) → f x ≡ g x) → OnOk result (BecameBy f old new) → OnOk result (BecameBy g old new)
 ok_as f g (Ok x) old new same h = made_as f g old new same h
 ok_as f g (Err e) old new same h = tt
 
@@ -109,16 +112,16 @@ none_dropped limit (e ∷ es) fits = ap (λ b. cond b [] (e ∷ dropped limit es
 pub first_made : (root key : List ℕ) (n : ℕ) (es : Entries) (result : Result (Unit {0}) FolderFault)
     (old new : Held) → Some (key, n) ≡ slice_get es 0
     → OnOk result (Became (λ f g. g ≡ without (root ++ key) f) old.files new.files)
-    → OnOk result (Made (without_each root (take 1 es)) old.files new.files)
+    → OnOk result (BecameBy (without_each root (take 1 es)) old.files new.files)
 first_made root key n [] result old new is h = absurd (true≢false (ap is_some is))
 first_made root key n (e ∷ es) (Err x) old new is h = tt
 first_made root key n (e ∷ es) (Ok x) old new is h =
     let same : key ≡ e.0 = let pair : (key, n) ≡ e = cc in ap (λ p. p.0) pair in
-    subst (λ k. Made (without (root ++ k)) old.files new.files) same
+    subst (λ k. BecameBy (without (root ++ k)) old.files new.files) same
     (made_from (without (root ++ key)) old.files new.files h)
 
 pub none_made : (root : List ℕ) (es : Entries) (held : Held) → None ≡ slice_get es 0
-    → Made (without_each root (take 1 es)) held.files held.files
+    → BecameBy (without_each root (take 1 es)) held.files held.files
 none_made root [] held is = made_same held.files
 none_made root (e ∷ es) held is = absurd (true≢false (sym (ap is_some is)))
 
@@ -127,7 +130,7 @@ pub still_made : (root : List ℕ) (limit : ℕ) (first one two : Listed) (start
     → limit < total one.entries → two ≡ record one { entries = drop 1 one.entries }
     → option_map (without_each root (dropped limit one.entries)) old ≡ option_map
     (without_each root (dropped limit first.entries)) start
-    → Made (without_each root (take 1 one.entries)) old new
+    → BecameBy (without_each root (take 1 one.entries)) old new
     → option_map (without_each root (dropped limit two.entries)) new ≡ option_map
     (without_each root (dropped limit first.entries)) start
 still_made root limit first one two start old new over is so_far step =
@@ -148,7 +151,8 @@ still_made root limit first one two start old new over is so_far step =
 
 pub all_made : (root : List ℕ) (limit : ℕ) (first last : Entries) (start now : Option Files)
     → total last ≤ limit → option_map (without_each root (dropped limit last)) now ≡ option_map
-    (without_each root (dropped limit first)) start → Made (without_each root (dropped limit first)) start now
+    (without_each root (dropped limit first)) start → BecameBy
+        (without_each root (dropped limit first)) start now
 all_made root limit first last start now fits h =
     sym (by now) ∙ (ap (λ l. option_map (without_each root l) now) (sym (none_dropped limit last fits)) ∙ h)
   where

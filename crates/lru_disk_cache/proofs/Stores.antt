@@ -7,7 +7,7 @@ use Rattle.std.specs.Map.{lookup, remove_entry}
 use Rattle.std.specs.Str.{bytes_eq}
 use Rattle.lru_metered.proofs.Lookups.{size-others, total-promoted}
 use Rattle.lru_disk_cache.specs.Files.{file_at}
-use Rattle.lru_disk_cache.specs.Held.{Held, Holds, Became, Made}
+use Rattle.lru_disk_cache.specs.Held.{Held, Holds, Became, BecameBy}
 use Rattle.lru_disk_cache.specs.declared.fault.FolderFault.{FolderFault}
 use Rattle.lru_disk_cache.specs.Entries.{Entries, Listed, total, sizes, promoted_key, IsEnd}
 use Rattle.lru_disk_cache.specs.Disk.{Stands, ButAt, SameAt, IsTemp, Left, staying, stored, dropped}
@@ -212,19 +212,19 @@ pub stored_exact : {F : Type 0} (held : F → Held) (folder : F) (d : Disk) (now
     (from path own key bytes : List ℕ) (limit : ℕ)
     → (let whole : Store F = record { disk = d; folder = folder } in whole ≡ now) → IsTemp d.root from
     → path ≡ d.root ++ key → own ≡ key → limit ≡ room_beside now.disk (length bytes)
-    → Made (files_stored d.root from path bytes (dropped limit (without_key own d.entries)))
+    → BecameBy (files_stored d.root from path bytes (dropped limit (without_key own d.entries)))
     (held folder).files new.files
     → (temp : List ℕ) × IsTemp now.disk.root temp
-    × Made (files_stored now.disk.root temp (now.disk.root ++ key) bytes
+    × BecameBy (files_stored now.disk.root temp (now.disk.root ++ key) bytes
     (dropped (room_beside now.disk (length bytes)) (without_key key now.disk.entries)))
     (held now.folder).files new.files
 stored_exact {F} held folder d now new from path own key bytes limit view temp path_is own_is limit_is made =
     let P : List ℕ → List ℕ → ℕ → Type 0 = λ p k n.
-    Made (files_stored d.root from p bytes (dropped n (without_key k d.entries)))
+    BecameBy (files_stored d.root from p bytes (dropped n (without_key k d.entries)))
     (held folder).files new.files in
     let Q : Store F → Type 0 = λ s. limit ≡ room_beside s.disk (length bytes)
     → (temp : List ℕ) × IsTemp s.disk.root temp
-    × Made (files_stored s.disk.root temp (s.disk.root ++ key) bytes
+    × BecameBy (files_stored s.disk.root temp (s.disk.root ++ key) bytes
     (dropped (room_beside s.disk (length bytes)) (without_key key s.disk.entries)))
     (held s.folder).files new.files in
     subst Q view (λ l. (

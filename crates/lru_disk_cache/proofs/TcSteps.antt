@@ -11,7 +11,7 @@ use Rattle.std.proofs.lemmas.Slice.Eq.{bytes_eq-Decides}
 use Rattle.lru_metered.proofs.Lookups.{others-none}
 use Rattle.lru_disk_cache.specs.Files.{Files, file_at, front, touched, without}
 use Rattle.lru_disk_cache.specs.Key.{is_key, temp_name}
-use Rattle.lru_disk_cache.specs.Held.{Held, Holds, Became, Made, Lacks}
+use Rattle.lru_disk_cache.specs.Held.{Held, Holds, Became, BecameBy, Lacks}
 use Rattle.lru_disk_cache.specs.declared.error.Error.{Error}
 use Rattle.lru_disk_cache.specs.declared.error.Error.TheVariants.{FileTooLarge, FileNotInCache, Io}
 use Rattle.lru_disk_cache.specs.declared.error.Error.TheVariants.{PendingSpace, BadKey, NotPending}
@@ -360,7 +360,7 @@ stored_fails id key bytes d e old new (Err WriterRefused) fit is keys none archi
 
 -- ---- in step
 
-told_then : (P : Files → Type 0) (f : Files → Files) (old new : Held) → Made f old.files new.files
+told_then : (P : Files → Type 0) (f : Files → Files) (old new : Held) → BecameBy f old.files new.files
     → ((x : Files) → old.files ≡ Some x → P (f x)) → Holds new P
 told_then P f old new made h = λ files told.
     let w = became_from (λ a b. b ≡ f a) old.files new.files files (made_is f old.files new.files made) told
@@ -375,7 +375,7 @@ pub stored_in_step : (id key bytes : List ℕ) (d e : Disk) (old new : Held) (re
     → is_id id ≡ true → key ≡ archive_key id → id_of bytes ≡ id → IsKeyed old d
     → IsDistinct bytes_eq (keys_of (unkeyed d.entries)) → OnOk result (e ≡ inserted d key (length bytes))
     → OnOk result ((temp : List ℕ) × IsTemp d.root temp
-    × Made (files_stored d.root temp (d.root ++ key) bytes
+    × BecameBy (files_stored d.root temp (d.root ++ key) bytes
     (dropped (room_beside d (length bytes)) (without_key key d.entries))) old.files new.files)
     → IsInStep d.path old (unkeyed d.entries) → OnOk result (IsInStep e.path new (unkeyed e.entries))
 stored_in_step id key bytes d e old new (Err x) fit is digest h distinct ok exact in_step = tt
@@ -403,7 +403,7 @@ pub looked_in_step : {T : Type 0} (id key : List ℕ) (d e : Disk) (old new : He
     → is_id id ≡ true → key ≡ archive_key id → IsKeyed old d
     → IsDistinct bytes_eq (keys_of (unkeyed d.entries)) → OnOk result (e ≡ looked_up d key)
     → OnOk result (IsSome (lookup (bytes_eq key) d.entries))
-    → OnOk result (Made (touched (d.root ++ key)) old.files new.files)
+    → OnOk result (BecameBy (touched (d.root ++ key)) old.files new.files)
     → IsInStep d.path old (unkeyed d.entries) → OnOk result (IsInStep e.path new (unkeyed e.entries))
 looked_in_step id key d e old new (Err x) fit is h distinct ok found exact in_step = tt
 looked_in_step id key d e old new (Ok x) fit is h distinct ok found exact in_step =
@@ -422,7 +422,7 @@ pub removed_in_step : (id key : List ℕ) (d e : Disk) (old new : Held) (result 
     → is_id id ≡ true → key ≡ archive_key id → IsKeyed old d
     → IsDistinct bytes_eq (keys_of (unkeyed d.entries)) → OnOk result (e ≡ removed d key)
     → OnOk result (IsSome (lookup (bytes_eq key) d.entries)
-    → Made (without (d.root ++ key)) old.files new.files)
+    → BecameBy (without (d.root ++ key)) old.files new.files)
     → OnOk result (lookup (bytes_eq key) d.entries ≡ None → new ≡ old)
     → IsInStep d.path old (unkeyed d.entries) → OnOk result (IsInStep e.path new (unkeyed e.entries))
 removed_in_step id key d e old new (Err x) fit is h distinct ok exact same in_step = tt

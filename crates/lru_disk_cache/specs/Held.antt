@@ -41,5 +41,5 @@ Changes lacking done part (Err Failed) old new =
 Changes lacking done part (Err Memory) old new = Became part old.files new.files × (old.faults ≤ new.faults)
 
 -- the files became exactly what this makes of them
-abbrev pub Made : (Files → Files) → Option Files → Option Files → Type 0
-Made done old new = new ≡ option_map done old
+abbrev pub BecameBy : (Files → Files) → Option Files → Option Files → Type 0
+BecameBy done old new = new ≡ option_map done old

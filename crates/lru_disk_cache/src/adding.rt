@@ -2,7 +2,7 @@
 ghost use Rattle.std.specs.Prelude.{◌≡◌, ◌+◌, ◌++◌, ◌≤◌, ◌⊎◌, [], true, Some, Ok, Err, IfOk, IfErr, OnOk};
 ghost use Rattle.std.specs.Prelude.{OnErr};
 ghost use Rattle.lru_disk_cache.specs.Files.{file_at, without, appended, PartAppended};
-ghost use Rattle.lru_disk_cache.specs.Held.{Holds, Became, Made, Lacks};
+ghost use Rattle.lru_disk_cache.specs.Held.{Holds, Became, BecameBy, Lacks};
 ghost use Rattle.lru_disk_cache.specs.Key.{is_key};
 ghost use Rattle.lru_disk_cache.specs.Disk.{ButAt, ButUnder, Keeps, dropped, files_placed, without_key};
 ghost use Rattle.lru_disk_cache.specs.Reserved.{held_size, is_pending, without_number, IsLeastFree};
@@ -46,7 +46,7 @@ impl<F: Folder> LruDiskCache<F> {
         ensures others { Became (ButUnder self.old.disk.root) (F.held self.old.folder).files
             (F.held self.new.folder).files }
         ensures exact { IfOk result
-            (λ e. Made (files_prepared self.old.disk.root (entry_path self.old.disk e)
+            (λ e. BecameBy (files_prepared self.old.disk.root (entry_path self.old.disk e)
             (dropped (room_beside self.old.disk size) self.old.disk.entries)) (F.held self.old.folder).files
             (F.held self.new.folder).files) }
         ensures steady { OnOk result ((F.held self.new.folder).faults ≡ (F.held self.old.folder).faults) }
@@ -84,7 +84,7 @@ impl<F: Folder> LruDiskCache<F> {
     /// number, key and size, which leaves all as it was; then as `Error::Io` or for want of memory, which
     /// leave a front of the bytes added.
     pub fn write_entry(&mut self, entry: &LruDiskCacheAddEntry, bytes: &[u8]) -> Result<()>
-        ensures ok { OnOk result (Made (appended (entry_path self.old.disk entry.now) bytes.now)
+        ensures ok { OnOk result (BecameBy (appended (entry_path self.old.disk entry.now) bytes.now)
             (F.held self.old.folder).files (F.held self.new.folder).files) }
         ensures pending { OnOk result (is_pending entry.now self.old.disk.pending ≡ true) }
         ensures part { OnErr result (Became (PartAppended (entry_path self.old.disk entry.now) bytes.now)
@@ -126,7 +126,7 @@ impl<F: Folder> LruDiskCache<F> {
         ensures ok { OnOk result ((n : _) × HasSize self.old.disk entry (F.held self.old.folder) n
             × (commit_verdict self.old.disk entry n ≡ Ok tt)
             × (self.new.disk ≡ committed self.old.disk entry n)
-            × Made (files_placed self.old.disk.root (entry_path self.old.disk entry)
+            × BecameBy (files_placed self.old.disk.root (entry_path self.old.disk entry)
             (self.old.disk.root ++ entry.key)
             (dropped (room_for self.old.disk entry n) (without_key entry.key self.old.disk.entries)))
             (F.held self.old.folder).files (F.held self.new.folder).files) }
@@ -254,7 +254,7 @@ impl<F: Folder> LruDiskCache<F> {
         ensures ok { OnOk result ((n : _) × HasSize self.old.disk entry.now (F.held self.old.folder) n
             × (commit_verdict self.old.disk entry.now n ≡ Ok tt)
             × (self.new.disk ≡ committed self.old.disk entry.now n)
-            × Made (files_placed self.old.disk.root (entry_path self.old.disk entry.now)
+            × BecameBy (files_placed self.old.disk.root (entry_path self.old.disk entry.now)
             (self.old.disk.root ++ entry.now.key)
             (dropped (room_for self.old.disk entry.now n) (without_key entry.now.key self.old.disk.entries)))
             (F.held self.old.folder).files (F.held self.new.folder).files) }

@@ -6,7 +6,7 @@ ghost use Rattle.std.specs.List.{IsDistinct};
 ghost use Rattle.std.specs.Map.{keys_of, lookup};
 ghost use Rattle.std.specs.Str.{bytes_eq};
 ghost use Rattle.lru_disk_cache.specs.Files.{file_at, front, touched, without};
-ghost use Rattle.lru_disk_cache.specs.Held.{Holds, Became, Made, Lacks};
+ghost use Rattle.lru_disk_cache.specs.Held.{Holds, Became, BecameBy, Lacks};
 ghost use Rattle.lru_disk_cache.specs.Key.{is_key, temp_name};
 ghost use Rattle.lru_disk_cache.specs.Entries.{total, IsTable};
 ghost use Rattle.lru_disk_cache.specs.Opened.{InStep, Shows};
@@ -216,7 +216,7 @@ impl<F: Folder> LruDiskCache<F> {
         ensures reserved { Became (KeepsReserved self.old.disk.pending) (F.held self.old.folder).files
             (F.held self.new.folder).files }
         ensures exact { OnOk result ((temp : List ℕ) × IsTemp self.old.disk.root temp
-            × Made (files_stored self.old.disk.root temp (self.old.disk.root ++ key.now) bytes.now
+            × BecameBy (files_stored self.old.disk.root temp (self.old.disk.root ++ key.now) bytes.now
             (dropped (room_beside self.old.disk (length bytes.now))
             (without_key key.now self.old.disk.entries))) (F.held self.old.folder).files
             (F.held self.new.folder).files) }
@@ -264,7 +264,7 @@ impl<F: Folder> LruDiskCache<F> {
             (F.held self.new.folder)) }
         ensures others { Became SameAt (F.held self.old.folder).files (F.held self.new.folder).files }
         ensures exact { OnOk result
-            (Made (touched (self.old.disk.root ++ key.now)) (F.held self.old.folder).files
+            (BecameBy (touched (self.old.disk.root ++ key.now)) (F.held self.old.folder).files
             (F.held self.new.folder).files) }
         ensures steady { OnOk result ((F.held self.new.folder).faults ≡ (F.held self.old.folder).faults) }
         ensures later { (F.held self.old.folder).faults ≤ (F.held self.new.folder).faults }
@@ -307,7 +307,7 @@ impl<F: Folder> LruDiskCache<F> {
         ensures reserved { Became (KeepsReserved self.old.disk.pending) (F.held self.old.folder).files
             (F.held self.new.folder).files }
         ensures exact { OnOk result (IsSome (lookup (bytes_eq key.now) self.old.disk.entries)
-            → Made (without (self.old.disk.root ++ key.now)) (F.held self.old.folder).files
+            → BecameBy (without (self.old.disk.root ++ key.now)) (F.held self.old.folder).files
             (F.held self.new.folder).files) }
         ensures same { OnOk result (lookup (bytes_eq key.now) self.old.disk.entries ≡ None
             → F.held self.new.folder ≡ F.held self.old.folder) }

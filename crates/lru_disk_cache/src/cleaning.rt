@@ -6,7 +6,7 @@ ghost use Rattle.std.specs.Map.{keys_of};
 ghost use Rattle.std.specs.Str.{bytes_eq};
 ghost use Rattle.dist_types.specs.Toolchain.{is_lower_hex};
 ghost use Rattle.lru_disk_cache.specs.Files.{file_at, front, without};
-ghost use Rattle.lru_disk_cache.specs.Held.{Holds, Became, Made, Lacks};
+ghost use Rattle.lru_disk_cache.specs.Held.{Holds, Became, BecameBy, Lacks};
 ghost use Rattle.lru_disk_cache.specs.Disk.{Counts};
 ghost use Rattle.lru_disk_cache.specs.Archives.{is_id, archive_key};
 ghost use Rattle.lru_disk_cache.specs.Cleaned.{found_of, under, is_sound, Cleaned, is_archive_key};

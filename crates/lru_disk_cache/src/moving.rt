@@ -6,7 +6,7 @@ ghost use Rattle.std.specs.Map.{lookup};
 ghost use Rattle.std.specs.Option.{option_map};
 ghost use Rattle.std.specs.Str.{bytes_eq};
 ghost use Rattle.lru_disk_cache.specs.Files.{file_at, touched};
-ghost use Rattle.lru_disk_cache.specs.Held.{Holds, Became, Made};
+ghost use Rattle.lru_disk_cache.specs.Held.{Holds, Became, BecameBy};
 ghost use Rattle.lru_disk_cache.specs.Key.{names_temporary};
 ghost use Rattle.lru_disk_cache.specs.Disk.{Avoids, ButUnderAnd, ButUnder, Keeps, SameAt, dropped};
 ghost use Rattle.lru_disk_cache.specs.Disk.{files_placed, without_key};
@@ -41,7 +41,7 @@ impl<F: Folder> LruDiskCache<F> {
         ensures ok { OnOk result ((n : _) × IsSized path.now (F.held self.old.folder) n
             × (insert_verdict self.old.disk key.now n ≡ Ok tt)
             × (self.new.disk ≡ inserted self.old.disk key.now n)
-            × Made (files_placed self.old.disk.root path.now (self.old.disk.root ++ key.now)
+            × BecameBy (files_placed self.old.disk.root path.now (self.old.disk.root ++ key.now)
             (dropped (room_beside self.old.disk n) (without_key key.now self.old.disk.entries)))
             (F.held self.old.folder).files (F.held self.new.folder).files) }
         ensures content { OnOk result
@@ -143,7 +143,7 @@ impl<F: Folder> LruDiskCache<F> {
             (F.held self.new.folder)) }
         ensures others { Became SameAt (F.held self.old.folder).files (F.held self.new.folder).files }
         ensures exact { OnOk result
-            (Made (touched (self.old.disk.root ++ key.now)) (F.held self.old.folder).files
+            (BecameBy (touched (self.old.disk.root ++ key.now)) (F.held self.old.folder).files
             (F.held self.new.folder).files) }
         ensures steady { OnOk result ((F.held self.new.folder).faults ≡ (F.held self.old.folder).faults) }
         ensures later { (F.held self.old.folder).faults ≤ (F.held self.new.folder).faults }

@@ -6,7 +6,7 @@ ghost use Rattle.std.specs.Map.{lookup};
 ghost use Rattle.std.specs.Str.{bytes_eq};
 ghost use Rattle.lru_disk_cache.specs.Files.{file_at, size_at, put, without, moved, touched, appended};
 ghost use Rattle.lru_disk_cache.specs.Files.{PartAppended};
-ghost use Rattle.lru_disk_cache.specs.Held.{Holds, Became, Made, Lacks};
+ghost use Rattle.lru_disk_cache.specs.Held.{Holds, Became, BecameBy, Lacks};
 ghost use Rattle.lru_disk_cache.specs.Key.{is_key};
 ghost use Rattle.lru_disk_cache.specs.Entries.{total, trim, IsEnd, IsTable};
 ghost use Rattle.lru_disk_cache.specs.Adding.{files_prepared, CallFails};
@@ -77,7 +77,7 @@ pub(crate) fn measure<F: Folder>(folder: &mut F, path: &str) -> error::Result<u6
 
 /// Adds bytes at the end of a file.
 pub(crate) fn add_to<F: Folder>(folder: &mut F, path: &str, bytes: &[u8]) -> error::Result<()>
-    ensures ok { OnOk result (Made (appended path.now bytes.now) (F.held folder.old).files
+    ensures ok { OnOk result (BecameBy (appended path.now bytes.now) (F.held folder.old).files
         (F.held folder.new).files) }
     ensures part { OnErr result (Became (PartAppended path.now bytes.now) (F.held folder.old).files
         (F.held folder.new).files) }
@@ -122,7 +122,7 @@ fn drop_first<F: Folder>(folder: &mut F, table: &mut Table, root: &Text) -> Resu
     ensures kept { Became (Keeps root.now table.new.entries) (F.held folder.old).files
         (F.held folder.new).files }
     ensures exact { OnOk result
-        (Made (without_each root.now (take 1 table.old.entries)) (F.held folder.old).files
+        (BecameBy (without_each root.now (take 1 table.old.entries)) (F.held folder.old).files
         (F.held folder.new).files) }
     ensures counts { Counts result (F.held folder.old) (F.held folder.new) }
 {
@@ -143,7 +143,7 @@ pub(crate) fn make_room<F: Folder>(
     ensures ok { OnOk result (table.new.entries ≡ trim limit table.old.entries) }
     ensures fits { OnOk result (total table.new.entries ≤ limit) }
     ensures drops { Drops root.now limit table.old table.new (F.held folder.old) (F.held folder.new) }
-    ensures exact { OnOk result (Made (without_each root.now (dropped limit table.old.entries))
+    ensures exact { OnOk result (BecameBy (without_each root.now (dropped limit table.old.entries))
         (F.held folder.old).files (F.held folder.new).files) }
     ensures counts { Counts result (F.held folder.old) (F.held folder.new) }
 {
@@ -187,7 +187,7 @@ pub(crate) fn place<F: Folder>(
         (F.held folder.old).files (F.held folder.new).files }
     ensures kept { Became (Keeps root.now table.old.entries) (F.held folder.old).files
         (F.held folder.new).files }
-    ensures exact { OnOk result (Made (moved arrival.now.from arrival.now.path) (F.held folder.old).files
+    ensures exact { OnOk result (BecameBy (moved arrival.now.from arrival.now.path) (F.held folder.old).files
         (F.held folder.new).files) }
     ensures counts { Counts result (F.held folder.old) (F.held folder.new) }
 {
@@ -214,7 +214,7 @@ pub(crate) fn write_temp<F: Folder>(
         (Holds (F.held folder.new) (λ files. file_at files temp.now ≡ Some bytes.now)) }
     ensures others { Became (ButAt temp.now) (F.held folder.old).files (F.held folder.new).files }
     ensures exact { OnOk result
-        (Made (put temp.now bytes.now) (F.held folder.old).files (F.held folder.new).files) }
+        (BecameBy (put temp.now bytes.now) (F.held folder.old).files (F.held folder.new).files) }
     ensures counts { Counts result (F.held folder.old) (F.held folder.new) }
 {
     folder.make_parents(path.get())?;
@@ -257,7 +257,7 @@ pub(crate) fn fill<F: Folder>(
     ensures left { OnErr result (Became (Keeps root.now table.new.entries) (F.held folder.old).files
         (F.held folder.new).files) }
     ensures exact { OnOk result
-        (Made (files_placed root.now arrival.now.from arrival.now.path
+        (BecameBy (files_placed root.now arrival.now.from arrival.now.path
         (dropped arrival.now.limit (without_key arrival.now.key table.old.entries))) (F.held folder.old).files
         (F.held folder.new).files) }
     ensures counts { Counts result (F.held folder.old) (F.held folder.new) }
@@ -302,7 +302,7 @@ pub(crate) fn store<F: Folder>(
     ensures left { OnErr result (Became (Keeps root.now table.new.entries) (F.held folder.old).files
         (F.held folder.new).files) }
     ensures exact { OnOk result
-        (Made (files_stored root.now arrival.now.from arrival.now.path bytes.now
+        (BecameBy (files_stored root.now arrival.now.from arrival.now.path bytes.now
         (dropped arrival.now.limit (without_key arrival.now.key table.old.entries))) (F.held folder.old).files
         (F.held folder.new).files) }
     ensures counts { Counts result (F.held folder.old) (F.held folder.new) }
@@ -334,7 +334,7 @@ pub(crate) fn announce<F: Folder>(
     ensures kept { Became (Keeps root.now table.new.entries) (F.held folder.old).files
         (F.held folder.new).files }
     ensures exact { OnOk result
-        (Made (files_prepared root.now arrival.now.from (dropped arrival.now.limit table.old.entries))
+        (BecameBy (files_prepared root.now arrival.now.from (dropped arrival.now.limit table.old.entries))
         (F.held folder.old).files (F.held folder.new).files) }
     ensures counts { Counts result (F.held folder.old) (F.held folder.new) }
 {
@@ -378,7 +378,7 @@ pub(crate) fn move_in<F: Folder>(
     ensures left { OnErr result (Became (Keeps root.now table.new.entries) (F.held folder.old).files
         (F.held folder.new).files) }
     ensures exact { OnOk result
-        (Made (files_placed root.now arrival.now.from arrival.now.path
+        (BecameBy (files_placed root.now arrival.now.from arrival.now.path
         (dropped arrival.now.limit (without_key arrival.now.key table.old.entries))) (F.held folder.old).files
         (F.held folder.new).files) }
     ensures counts { Counts result (F.held folder.old) (F.held folder.new) }
@@ -394,7 +394,7 @@ pub(crate) fn fetch<F: Folder>(folder: &mut F, path: &Text) -> Result<Vec<u8>, F
         (λ v. Holds (F.held folder.old) (λ files. file_at files path.now ≡ Some v.items)) }
     ensures others { Became SameAt (F.held folder.old).files (F.held folder.new).files }
     ensures exact { OnOk result
-        (Made (touched path.now) (F.held folder.old).files (F.held folder.new).files) }
+        (BecameBy (touched path.now) (F.held folder.old).files (F.held folder.new).files) }
     ensures counts { Counts result (F.held folder.old) (F.held folder.new) }
 {
     folder.touch(path.get())?;

@@ -3,7 +3,7 @@ use Rattle.std.proofs.Common.{◌≡◌, ℕ, zero, suc, ◌-◌, ◌<◌, List,
 use Rattle.std.proofs.Common.{false, Result, Ok, Err, refl, sym, ap, ◌∙◌, arith}
 use Rattle.std.proofs.Math.Seq.{take-append_seam}
 use Rattle.std.proofs.lemmas.List.{length-append}
-use Rattle.path_pkg.specs.Fault.{Gives}
+use Rattle.path_pkg.specs.Fault.{IsPackAnswer}
 use Rattle.path_pkg.specs.Told.{Nodes}
 use Rattle.path_pkg.specs.Tree.{is_link}
 use Rattle.path_pkg.specs.Path.{steps_of}
@@ -126,7 +126,7 @@ goes_on (suc n) t r s s2 s3 s0 step name todo rest next todo0 popped is moved me
 
 -- an answer of the same verdict
 pub gives_same : {T U : Type 0} (seen : T → U) (a b : Result U PackError) (answer : Result T PackError)
-    → a ≡ b → Gives seen a answer → Gives seen b answer
+    → a ≡ b → IsPackAnswer seen a answer → IsPackAnswer seen b answer
 gives_same seen a b (Ok x) e h = sym e ∙ h
 gives_same seen a b (Err x) e h = λ d. sym e ∙ h d
 

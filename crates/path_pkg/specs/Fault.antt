@@ -1,5 +1,6 @@
 -- The refusals of packing.
 use Rattle.std.specs.Prelude.{◌≡◌, Bool, true, false, Result, Ok, Err}
+use Rattle.dist_types.specs.Answers.{AnswersWhere}
 use Rattle.dist_types.specs.Cause.{Rose}
 use Rattle.path_pkg.specs.Told.{Told, Refused}
 use Rattle.path_pkg.specs.declared.fault.TreeFault.{TreeFault}
@@ -31,9 +32,8 @@ is_simplify_error Packs.Memory = true
 is_simplify_error _ = false
 
 -- the answer, seen through a view, is the verdict, unless the outside failed or memory ran out
-abbrev pub Gives : {T U : Type 0} → (T → U) → Result U PackError → Result T PackError → Type 0
-Gives seen verdict (Ok x) = verdict ≡ Ok (seen x)
-Gives seen verdict (Err e) = is_decided e ≡ true → verdict ≡ Err e
+abbrev pub IsPackAnswer : {T U : Type 0} → (T → U) → Result U PackError → Result T PackError → Type 0
+IsPackAnswer seen verdict answer = AnswersWhere (λ e. is_decided e ≡ true) seen verdict answer
 
 -- the cause of a refusal: one count of the tree rose and the other stayed; all else leaves the tree as it was
 abbrev pub PackCause : PackError → Told → Told → Type 0

@@ -1,7 +1,7 @@
 //! What each call adds to a package, asked of a tree.
 ghost use Rattle.std.specs.Prelude.{◌≡◌, ◌↔◌, true, false, map, string_bytes, Err, IfOk, IfErr};
 ghost use Rattle.std.specs.List.{list_all};
-ghost use Rattle.path_pkg.specs.Fault.{is_decided, is_simplify_error, Gives, PackLeavesTree};
+ghost use Rattle.path_pkg.specs.Fault.{is_decided, is_simplify_error, IsPackAnswer, PackLeavesTree};
 ghost use Rattle.path_pkg.specs.Path.{is_absolute};
 ghost use Rattle.path_pkg.specs.Records.{record_fits, is_wanted, unwanted, then_checked, added, is_packed};
 ghost use Rattle.path_pkg.specs.Records.{found, onto, all_found, found_at, contents_records};
@@ -68,7 +68,7 @@ fn records_to<T: Links>(
     what: Packed,
 ) -> Result<Vec<Record>, PackError>
     ensures records { WhereTold (T.told tree.old)
-        (λ t. Gives (λ v. v.items) (then_checked what (simplified true t path.now)) result) }
+        (λ t. IsPackAnswer (λ v. v.items) (then_checked what (simplified true t path.now)) result) }
     ensures reasons { IfErr result (λ e. ¬ (e ≡ PackError.NotAbsolute)) }
     ensures fit { IfOk result (λ v. list_all record_fits v.items ≡ true) }
     ensures leaves { PackLeavesTree result (T.told tree.old) (T.told tree.new) }
@@ -90,7 +90,8 @@ pub(crate) fn added<T: Tree>(
     path: &str,
     what: Packed,
 ) -> Result<Vec<Record>, PackError>
-    ensures records { WhereTold (T.told tree.old) (λ t. Gives (λ v. v.items) (added what t path.now) result) }
+    ensures records { WhereTold (T.told tree.old)
+        (λ t. IsPackAnswer (λ v. v.items) (added what t path.now) result) }
     ensures not_absolute { (result ≡ Err PackError.NotAbsolute) ↔ (is_absolute path.now ≡ false) }
     ensures fit { IfOk result (λ v. list_all record_fits v.items ≡ true) }
     ensures leaves { PackLeavesTree result (T.told tree.old) (T.told tree.new) }
@@ -134,7 +135,8 @@ fn is_packed<T: Tree>(tree: &mut T, path: &str) -> Result<bool, PackError>
 /// What a path in a directory adds.
 #[tactic(auto, using(crate::proofs::FaultLemmas::untouched), unfolding(crate::specs::Records::found))]
 fn found<T: Tree>(alloc: Global, tree: &mut T, path: &str) -> Result<Vec<Record>, PackError>
-    ensures records { WhereTold (T.told tree.old) (λ t. Gives (λ v. v.items) (found t path.now) result) }
+    ensures records { WhereTold (T.told tree.old)
+        (λ t. IsPackAnswer (λ v. v.items) (found t path.now) result) }
     ensures reasons { IfErr result (λ e. is_simplify_error e ≡ true) }
     ensures leaves { PackLeavesTree result (T.told tree.old) (T.told tree.new) }
 {
@@ -159,7 +161,8 @@ fn all_found<T: Tree>(
     paths: &[String],
 ) -> Result<Vec<Record>, PackError>
     ensures records { WhereTold (T.told tree.old)
-        (λ t. Gives (λ v. v.items) (onto before.items (all_found t (map string_bytes paths.now))) result) }
+        (λ t. IsPackAnswer (λ v. v.items) (onto before.items
+            (all_found t (map string_bytes paths.now))) result) }
     ensures reasons { IfErr result (λ e. is_simplify_error e ≡ true) }
     ensures leaves { PackLeavesTree result (T.told tree.old) (T.told tree.new) }
 {
@@ -181,7 +184,7 @@ pub(crate) fn contents<T: Tree>(
     path: &str,
 ) -> Result<Vec<Record>, PackError>
     ensures records { WhereTold (T.told tree.old)
-        (λ t. Gives (λ v. v.items) (contents_records t path.now) result) }
+        (λ t. IsPackAnswer (λ v. v.items) (contents_records t path.now) result) }
     ensures not_absolute { (result ≡ Err PackError.NotAbsolute) ↔ (is_absolute path.now ≡ false) }
     ensures fit { IfOk result (λ v. list_all record_fits v.items ≡ true) }
     ensures leaves { PackLeavesTree result (T.told tree.old) (T.told tree.new) }
@@ -206,7 +209,7 @@ fn contents_at<T: Tree>(
     place: &Place,
 ) -> Result<Vec<Record>, PackError>
     ensures records { WhereTold (T.told tree.old)
-        (λ t. Gives (λ v. v.items) (found_at t (spot_of place.now)) result) }
+        (λ t. IsPackAnswer (λ v. v.items) (found_at t (spot_of place.now)) result) }
     ensures reasons { IfErr result (λ e. ¬ (e ≡ PackError.NotAbsolute)) }
     ensures fit { IfOk result (λ v. list_all record_fits v.items ≡ true) }
     ensures leaves { PackLeavesTree result (T.told tree.old) (T.told tree.new) }

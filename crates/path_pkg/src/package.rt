@@ -1,7 +1,7 @@
 //! Packages of directories, files and links.
 ghost use Rattle.std.specs.Prelude.{◌≡◌, ◌↔◌, ◌++◌, [], true, false, codes, Err, OnErr, IfErr, OnOk};
 ghost use Rattle.std.specs.List.{list_all};
-ghost use Rattle.path_pkg.specs.Fault.{Gives, PackLeavesTree};
+ghost use Rattle.path_pkg.specs.Fault.{IsPackAnswer, PackLeavesTree};
 ghost use Rattle.path_pkg.specs.Outline.{written_order, PutsPackage};
 ghost use Rattle.path_pkg.specs.Path.{is_absolute};
 ghost use Rattle.path_pkg.specs.Records.{record_fits, onto, added, contents_records};
@@ -51,7 +51,7 @@ impl ToolchainPackageBuilder {
     /// Adds the directory `/tmp`.
     pub fn add_common<T: Tree>(&mut self, tree: &mut T) -> Result<(), PackError>
         ensures records { WhereTold (T.told tree.old)
-            (λ t. Gives (λ _. self.new) (onto self.old (added Dir t (codes "/tmp"))) result) }
+            (λ t. IsPackAnswer (λ _. self.new) (onto self.old (added Dir t (codes "/tmp"))) result) }
         ensures absolute { IfErr result (λ e. ¬ (e ≡ PackError.NotAbsolute)) }
         ensures err { OnErr result (self.new ≡ self.old) }
         ensures leaves { PackLeavesTree result (T.told tree.old) (T.told tree.new) }
@@ -65,7 +65,7 @@ impl ToolchainPackageBuilder {
     /// 65,535 bytes.
     pub fn add_dir<T: Tree>(&mut self, tree: &mut T, path: &str) -> Result<(), PackError>
         ensures records { WhereTold (T.told tree.old)
-            (λ t. Gives (λ _. self.new) (onto self.old (added Dir t path.now)) result) }
+            (λ t. IsPackAnswer (λ _. self.new) (onto self.old (added Dir t path.now)) result) }
         ensures not_absolute { (result ≡ Err PackError.NotAbsolute) ↔ (is_absolute path.now ≡ false) }
         ensures err { OnErr result (self.new ≡ self.old) }
         ensures leaves { PackLeavesTree result (T.told tree.old) (T.told tree.new) }
@@ -82,7 +82,7 @@ impl ToolchainPackageBuilder {
     /// Adds a file and the links on its way, and is refused as `add_dir`, with NotFile in place of NotDir.
     pub fn add_file<T: Tree>(&mut self, tree: &mut T, path: &str) -> Result<(), PackError>
         ensures records { WhereTold (T.told tree.old)
-            (λ t. Gives (λ _. self.new) (onto self.old (added File t path.now)) result) }
+            (λ t. IsPackAnswer (λ _. self.new) (onto self.old (added File t path.now)) result) }
         ensures not_absolute { (result ≡ Err PackError.NotAbsolute) ↔ (is_absolute path.now ≡ false) }
         ensures err { OnErr result (self.new ≡ self.old) }
         ensures leaves { PackLeavesTree result (T.told tree.old) (T.told tree.new) }
@@ -100,7 +100,7 @@ impl ToolchainPackageBuilder {
     /// way, and skips all else. It is refused as `add_dir`, and then adds nothing.
     pub fn add_dir_contents<T: Tree>(&mut self, tree: &mut T, path: &str) -> Result<(), PackError>
         ensures records { WhereTold (T.told tree.old)
-            (λ t. Gives (λ _. self.new) (onto self.old (contents_records t path.now)) result) }
+            (λ t. IsPackAnswer (λ _. self.new) (onto self.old (contents_records t path.now)) result) }
         ensures not_absolute { (result ≡ Err PackError.NotAbsolute) ↔ (is_absolute path.now ≡ false) }
         ensures err { OnErr result (self.new ≡ self.old) }
         ensures leaves { PackLeavesTree result (T.told tree.old) (T.told tree.new) }

@@ -1,7 +1,7 @@
 //! What a package is made of.
 ghost use Rattle.std.specs.Prelude.{◌≡◌, ◌++◌, true, IfOk, IfErr, OnOk};
 ghost use Rattle.std.specs.List.{list_all};
-ghost use Rattle.path_pkg.specs.Fault.{Gives};
+ghost use Rattle.path_pkg.specs.Fault.{IsPackAnswer};
 ghost use Rattle.path_pkg.specs.Path.{joined};
 ghost use Rattle.path_pkg.specs.Place.{spot_of};
 ghost use Rattle.path_pkg.specs.Records.{unrooted, record_fits, record_of, own_record, link_records};
@@ -66,7 +66,7 @@ fn all_fit(records: &[Record]) -> bool
 
 /// The records, unless one is too long.
 pub(crate) fn checked(records: Vec<Record>) -> Result<Vec<Record>, PackError>
-    ensures records { Gives (λ v. v.items) (checked records.items) result }
+    ensures records { IsPackAnswer (λ v. v.items) (checked records.items) result }
     ensures fit { IfOk result (λ v. list_all record_fits v.items ≡ true) }
     ensures err { IfErr result (λ e. e ≡ PackError.PathTooLong) }
 {

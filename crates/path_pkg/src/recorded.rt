@@ -4,7 +4,7 @@ ghost use Rattle.std.specs.Cmp.Lexicographic.{slice_cmp};
 ghost use Rattle.std.specs.List.Sorted.{IsStrictlySortedBy};
 ghost use Rattle.std.specs.Option.{option_map, is_some};
 ghost use Rattle.std.specs.Ordering.{nat_cmp};
-ghost use Rattle.path_pkg.specs.Fault.{is_simplify_error, Gives, PackLeavesTree};
+ghost use Rattle.path_pkg.specs.Fault.{is_simplify_error, IsPackAnswer, PackLeavesTree};
 ghost use Rattle.path_pkg.specs.Recorded.{recorded, recorded_with, IsSameMap};
 ghost use Rattle.path_pkg.specs.Simplified.{simplified, simple_path};
 ghost use Rattle.path_pkg.specs.Told.{WhereTold};
@@ -87,7 +87,7 @@ fn simplify_recorded<T: Links>(
     links: &mut BTreeMap<String, String>,
 ) -> Result<String, PackError>
     ensures simplified { WhereTold (T.told tree.old)
-        (λ t. Gives string_bytes (simple_path true t path.now) result) }
+        (λ t. IsPackAnswer string_bytes (simple_path true t path.now) result) }
     ensures links { OnOk result
         (WhereTold (T.told tree.old)
         (λ t. pairs_of links.new.entries ≡ recorded_with (pairs_of links.old.entries)
@@ -126,7 +126,8 @@ impl SimplifyPath<'_> {
         path: &str,
     ) -> Result<String, PackError>
         ensures simplified { WhereTold (T.told tree.old)
-            (λ t. Gives string_bytes (simple_path (is_some (recorded self.old.resolved_symlinks)) t path.now)
+            (λ t. IsPackAnswer string_bytes (simple_path
+                (is_some (recorded self.old.resolved_symlinks)) t path.now)
             result) }
         ensures links { OnOk result
             (WhereTold (T.told tree.old)

@@ -1,6 +1,6 @@
 //! Paths made simple: without empty parts, `.` and `..`, and with recording without links.
 ghost use Rattle.std.specs.Prelude.{◌≡◌, ◌++◌, ◌∷◌, [], ℕ, true, false, IfOk, IfErr, OnOk, string_bytes};
-ghost use Rattle.path_pkg.specs.Fault.{is_decided, is_simplify_error, Gives, PackLeavesTree};
+ghost use Rattle.path_pkg.specs.Fault.{is_decided, is_simplify_error, IsPackAnswer, PackLeavesTree};
 ghost use Rattle.path_pkg.specs.Path.{steps_of};
 ghost use Rattle.path_pkg.specs.Place.{spot_of};
 ghost use Rattle.path_pkg.specs.Simplified.{is_met, link_target, taken, simplified, simple_path};
@@ -117,7 +117,7 @@ fn take<T: LinkLookup>(
     todo: VecDeque<Step>,
 ) -> Result<Place, PackError>
     ensures taken { WhereTold (T.told tree.old)
-        (λ t. Gives spot_of (taken left t recording (spot_of place) todo.items) result) }
+        (λ t. IsPackAnswer spot_of (taken left t recording (spot_of place) todo.items) result) }
     ensures reasons { IfErr result (λ e. is_simplify_error e ≡ true) }
     ensures leaves { PackLeavesTree result (T.told tree.old) (T.told tree.new) }
 {
@@ -156,7 +156,7 @@ pub(crate) fn simplified<T: LinkLookup>(
     path: &str,
 ) -> Result<Place, PackError>
     ensures simplified { WhereTold (T.told tree.old)
-        (λ t. Gives spot_of (simplified recording t path.now) result) }
+        (λ t. IsPackAnswer spot_of (simplified recording t path.now) result) }
     ensures reasons { IfErr result (λ e. is_simplify_error e ≡ true) }
     ensures leaves { PackLeavesTree result (T.told tree.old) (T.told tree.new) }
 {
@@ -170,7 +170,7 @@ pub(crate) fn simplified<T: LinkLookup>(
 #[tactic(auto, using(crate::proofs::FaultLemmas::untouched))]
 pub fn simplify_path<T: Links>(alloc: Global, tree: &mut T, path: &str) -> Result<String, PackError>
     ensures simplified { WhereTold (T.told tree.old)
-        (λ t. Gives string_bytes (simple_path false t path.now) result) }
+        (λ t. IsPackAnswer string_bytes (simple_path false t path.now) result) }
     ensures reasons { IfErr result (λ e. is_simplify_error e ≡ true) }
     ensures leaves { PackLeavesTree result (T.told tree.old) (T.told tree.new) }
 {

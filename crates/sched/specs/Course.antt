@@ -7,7 +7,7 @@ use Rattle.dist_types.specs.declared.outgoing.CallFault.TheVariants as call
 use Rattle.dist_types.specs.declared.results.AssignJobResult.{AssignJobResult}
 use Rattle.dist_types.specs.declared.results.AllocJobResult.{AllocJobResult}
 use Rattle.dist_types.specs.declared.results.AllocJobResult.TheVariants.{Success, Fail}
-use Rattle.sched_core.specs.Rule.{begins}
+use Rattle.sched_core.specs.Rule.{is_initial}
 use Rattle.sched_core.specs.Texts.{no_room_text, dropped_text}
 use Rattle.sched_core.specs.Ticket.{Ticket}
 use Rattle.sched_core.specs.declared.answers.Undone.{Undone}
@@ -61,10 +61,11 @@ fault_after u cause = AssignFailed u cause
 -- what the reservation's spending answers, by what its server answered
 abbrev pub Settles : Ticket → Result AssignJobResult CallFault → Spending → Result AllocJobResult SchedFault
     → Type 0
-Settles r (Ok x) kept answer = (begins x.state ≡ true) × (answer ≡ Ok (Success (alloc_of r) x.need_toolchain))
-Settles r (Ok x) dropped answer = (begins x.state ≡ true) × FailsWith (dropped_text r.job) answer
-Settles r (Ok x) foreign answer = (begins x.state ≡ true) × FailsWith (dropped_text r.job) answer
-Settles r (Ok x) (undone u) answer = (begins x.state ≡ false)
+Settles r (Ok x) kept answer = (is_initial x.state ≡ true)
+    × (answer ≡ Ok (Success (alloc_of r) x.need_toolchain))
+Settles r (Ok x) dropped answer = (is_initial x.state ≡ true) × FailsWith (dropped_text r.job) answer
+Settles r (Ok x) foreign answer = (is_initial x.state ≡ true) × FailsWith (dropped_text r.job) answer
+Settles r (Ok x) (undone u) answer = (is_initial x.state ≡ false)
     × (answer ≡ Err (AssignFailed u (call.BadState x.state)))
 Settles r (Err fault) (undone u) answer = answer ≡ Err (fault_after u fault)
 Settles r (Err fault) kept answer = ⊥
@@ -72,11 +73,11 @@ Settles r (Err fault) dropped answer = ⊥
 Settles r (Err fault) foreign answer = ⊥
 
 -- what the course answers
-abbrev pub Tells : Course → Result AllocJobResult SchedFault → Type 0
-Tells unmade answer = answer ≡ Err Memory
-Tells spent answer = answer ≡ Err (Core IdsSpent)
-Tells (full standing) answer = FailsWith (no_room_text standing) answer
-Tells (asked r heard spending) answer = Settles r heard spending answer
+abbrev pub IsCourseAnswer : Course → Result AllocJobResult SchedFault → Type 0
+IsCourseAnswer unmade answer = answer ≡ Err Memory
+IsCourseAnswer spent answer = answer ≡ Err (Core IdsSpent)
+IsCourseAnswer (full standing) answer = FailsWith (no_room_text standing) answer
+IsCourseAnswer (asked r heard spending) answer = Settles r heard spending answer
 
 -- the requester was called exactly where a job was reserved
 abbrev pub Asks : (Assigned → Asked → Type 0) → Course → List ℕ → Requests → Requests → Type 0
@@ -100,7 +101,7 @@ pub record IsAllocation (says : Assigned → Asked → Type 0) (tc : List ℕ) (
     pub counted : Counted (entries_of course) old new
     pub read : Reads course clock ticked
     pub asks : Asks says course tc before after
-    pub told : Tells course answer
+    pub told : IsCourseAnswer course answer
 
 -- its second half: the reservation was spent
 pub record IsSettled (r : Ticket) (heard : Result AssignJobResult CallFault) (old new : Told)

@@ -1,7 +1,7 @@
 //! What the lock holds: the state, and a byte for each pass that was made.
 ghost use Rattle.std.specs.Prelude.{◌≡◌, ◌+◌, ◌↔◌, ◌⊎◌, ◌<◌, Err, OnOk, OnErr, IfOk, IfErr, IsErrOf, true};
 ghost use Rattle.sched_core.specs.Reservation.{unspent};
-ghost use Rattle.sched_core.specs.Rule.{rule, says_new_entry, counts_of, is_among, begins};
+ghost use Rattle.sched_core.specs.Rule.{rule, says_new_entry, counts_of, is_among, is_initial};
 ghost use Rattle.sched_core.specs.Answers.{IsPicked, RefusesReserve, committed_by, undo_answer, updated_by};
 ghost use Rattle.sched_core.specs.declared.call.Call.TheVariants as call;
 ghost use Rattle.sched.specs.Desk.{Seen, after_call, logs, logs_commit, logs_undo, IsAbout, more_than};
@@ -60,7 +60,7 @@ impl<A: JobAuthorizer> Desk<A> {
 
     /// Spends a reservation whose server took the job. Foreign changes nothing.
     pub fn commit(&mut self, now: u64, r: Reservation, state: JobState) -> Committed
-        requires begins { begins state ≡ true }
+        requires begins { is_initial state ≡ true }
         ensures logged { self.new
             ≡ after_call (logs_commit result) self.old (call.Commit now r.number r.job state) }
         ensures answer { result ≡ committed_by (is_among (unspent self.old.core.log) r.number r.job)

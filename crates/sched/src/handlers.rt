@@ -1,6 +1,6 @@
 //! The four calls that the running scheduler answers, over its turns alone.
 ghost use Rattle.std.specs.Prelude.{◌≡◌, Ok, true};
-ghost use Rattle.sched_core.specs.Rule.{begins};
+ghost use Rattle.sched_core.specs.Rule.{is_initial};
 ghost use Rattle.sched.specs.Course.{IsAllocation, IsSettled};
 ghost use Rattle.sched.specs.Heard.{IsHeard, IsUpdated, IsCounted};
 ghost use Rattle.sched.specs.Outside.{moments, requests};
@@ -20,7 +20,7 @@ use dist_types::roles::JobAuthorizer;
 use dist_types::toolchain::Toolchain;
 use sched_core::answers::{Committed, Picked};
 use sched_core::reservation::Reservation;
-use sched_core::texts::begins;
+use sched_core::texts::is_initial;
 use std::sync::Wait;
 
 impl<A: JobAuthorizer> Scheduler<A> {
@@ -33,7 +33,7 @@ impl<A: JobAuthorizer> Scheduler<A> {
         r: Reservation,
         taken: AssignJobResult,
     ) -> Result<AllocJobResult, SchedFault>
-        requires begins { begins taken.state ≡ true }
+        requires begins { is_initial taken.state ≡ true }
         ensures { IsSettled r (Ok taken) pass.old pass.new
             (moments C.moments C.last clock.old) (moments C.moments C.last clock.new) result }
     {
@@ -61,7 +61,7 @@ impl<A: JobAuthorizer> Scheduler<A> {
     {
         match heard {
             Ok(taken) => {
-                if begins(taken.state) {
+                if is_initial(taken.state) {
                     return self.keep(rt, pass, clock, r, taken);
                 }
                 let undone = self.undo(rt, pass, clock, r);

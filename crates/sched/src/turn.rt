@@ -1,7 +1,7 @@
 //! Turns: each takes the lock, reads the clock, makes one call of the desk, lets go, and counts the
 //! entry that the call made.
 ghost use Rattle.std.specs.Prelude.{◌≡◌, ◌↔◌, ◌⊎◌, ◌<◌, Err, IfErr, IfSome, true};
-ghost use Rattle.sched_core.specs.Rule.{begins};
+ghost use Rattle.sched_core.specs.Rule.{is_initial};
 ghost use Rattle.sched.specs.Desk.{logs_error, entries_if, logs, logs_commit, logs_undo, IsAbout};
 ghost use Rattle.sched.specs.Heard.{AnswersUpdate};
 ghost use Rattle.sched.specs.Outside.{IsRead, moments};
@@ -92,7 +92,7 @@ impl<A: JobAuthorizer> Scheduler<A> {
         r: Reservation,
         state: JobState,
     ) -> Committed
-        requires begins { begins state ≡ true }
+        requires begins { is_initial state ≡ true }
         ensures counted { Counted (entries_if (logs_commit result)) pass.old pass.new }
         ensures read { IsRead (moments C.moments C.last clock.old) (moments C.moments C.last clock.new) }
         ensures about { IsAbout r result }

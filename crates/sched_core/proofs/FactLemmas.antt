@@ -19,7 +19,7 @@ use Rattle.sched_core.specs.Pick.{pick, first_best, or_else, is_lighter, is_olde
 use Rattle.sched_core.specs.Pick.{has_room, forgiven}
 use Rattle.sched_core.specs.Prune.{prune, left, at_address}
 use Rattle.sched_core.specs.Advance.{advance}
-use Rattle.sched_core.specs.Rule.{rule, IsCall, is_among, begins, reserve_at, reaped_by, replaced_by}
+use Rattle.sched_core.specs.Rule.{rule, IsCall, is_among, is_initial, reserve_at, reaped_by, replaced_by}
 use Rattle.sched_core.specs.Rule.{says_new}
 use Rattle.sched_core.specs.Laws.{IsRule}
 use Rattle.sched_core.proofs.AllLemmas.{or_true, all-weaker, all-filter}
@@ -57,7 +57,7 @@ abbrev pub Facts : Core → CoreKind → Type 0
 Facts s (Reserve (Job job reg forgiven)) = JobFacts s job reg
 Facts s (Reserve (NoRoom n)) = (pick (servers_of s.log) ≡ None) × (n ≡ length (servers_of s.log))
 Facts s (Reserve Spent) = Unit {0}
-Facts s (Commit job state kept) = SpendFacts s job kept × (begins state ≡ true)
+Facts s (Commit job state kept) = SpendFacts s job kept × (is_initial state ≡ true)
 Facts s (Undo job noted ended) = SpendFacts s job ended
 Facts s (Beat server nonce cpus key pruned reaped replaced is_new) =
     BeatFacts s server nonce cpus pruned reaped replaced is_new

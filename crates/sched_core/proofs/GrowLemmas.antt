@@ -119,9 +119,9 @@ pub record Numbered {X : Type 0} (make : Cut CoreEntry → Option X) (number : X
       → number x ≡ length log
 
 -- what is seen of the one of that number
-abbrev pub asked : {X B : Type 0} → (Cut CoreEntry → Option X) → (X → ℕ) → (X → B) → List CoreEntry → ℕ
+abbrev pub seen_of : {X B : Type 0} → (Cut CoreEntry → Option X) → (X → ℕ) → (X → B) → List CoreEntry → ℕ
     → Option B
-asked make number view log n = newest None (map view (lasting make (λ x. number x == n) log))
+seen_of make number view log n = newest None (map view (lasting make (λ x. number x == n) log))
 
 pub and_true : (b : Bool) → b ≡ (b && true)
 and_true true = refl
@@ -134,14 +134,14 @@ option_map-same (Some b) = refl
 pub asked-push : {X B : Type 0} (make : Cut CoreEntry → Option X) (number : X → ℕ) (view : X → B)
     (numbered : Numbered make number) → ((e : CoreEntry) (x : X) → view (numbered.grow e x) ≡ view x)
     → (log : List CoreEntry) (e : CoreEntry) (n : ℕ) →
-    asked make number view (log ++ e ∷ []) n ≡ newer
+    seen_of make number view (log ++ e ∷ []) n ≡ newer
     (option_and_then (seen (λ x. number x == n) view) (make (end_cut log e)))
-    (asked make number view log n)
+    (seen_of make number view log n)
 asked-push make number view numbered keeps log e n =
     newest-grown make numbered.grow (λ x. number x == n) view true (λ b. b) log e (numbered.made e)
     (λ x. ap (λ m. m == n) (numbered.same e x) ∙ and_true (number x == n)) (λ x h. keeps e x)
     ∙ ap (newer (option_and_then (seen (λ x. number x == n) view) (make (end_cut log e))))
-    (option_map-same (asked make number view log n))
+    (option_map-same (seen_of make number view log n))
 
 none_other : {X B : Type 0} (number : X → ℕ) (view : X → B) (n m : ℕ) (o : Option X)
     → ((x : X) → o ≡ Some x → number x ≡ m) → (m == n) ≡ false
@@ -154,21 +154,22 @@ none_other number view n m (Some x) is other = ap (λ b. cond b (Some (view x)) 
 pub asked-other : {X B : Type 0} (make : Cut CoreEntry → Option X) (number : X → ℕ) (view : X → B)
     (numbered : Numbered make number) → ((e : CoreEntry) (x : X) → view (numbered.grow e x) ≡ view x)
     → (log : List CoreEntry) (e : CoreEntry) (n : ℕ) → (length log == n) ≡ false →
-    asked make number view (log ++ e ∷ []) n ≡ asked make number view log n
+    seen_of make number view (log ++ e ∷ []) n ≡ seen_of make number view log n
 asked-other make number view numbered keeps log e n other =
     asked-push make number view numbered keeps log e n
-    ∙ ap (λ o. newer o (asked make number view log n))
+    ∙ ap (λ o. newer o (seen_of make number view log n))
     (none_other number view n (length log) (make (end_cut log e)) (numbered.at_end log e) other)
 
 -- there is none beyond the log
 pub asked-beyond : {X B : Type 0} (make : Cut CoreEntry → Option X) (number : X → ℕ) (view : X → B)
     (numbered : Numbered make number) → ((e : CoreEntry) (x : X) → view (numbered.grow e x) ≡ view x)
-    → (log : List CoreEntry) (n : ℕ) → length log ≤ n → asked make number view log n ≡ None
+    → (log : List CoreEntry) (n : ℕ) → length log ≤ n → seen_of make number view log n ≡ None
 asked-beyond make number view numbered keeps log =
-    grow_has (λ l. (n : ℕ) → length l ≤ n → asked make number view l n ≡ None) (λ n le. refl) step log
+    grow_has (λ l. (n : ℕ) → length l ≤ n → seen_of make number view l n ≡ None) (λ n le. refl) step log
   where
-    step : (l : List CoreEntry) (e : CoreEntry) → ((n : ℕ) → length l ≤ n → asked make number view l n ≡ None)
-        → (n : ℕ) → length (l ++ e ∷ []) ≤ n → asked make number view (l ++ e ∷ []) n ≡ None
+    step : (l : List CoreEntry) (e : CoreEntry)
+        → ((n : ℕ) → length l ≤ n → seen_of make number view l n ≡ None)
+        → (n : ℕ) → length (l ++ e ∷ []) ≤ n → seen_of make number view (l ++ e ∷ []) n ≡ None
     step l e before n le =
         let longer : length (l ++ e ∷ []) ≡ length l + 1 = length-append l (e ∷ []) in
         let other : (length l == n) ≡ false = is_false (length l == n)
@@ -178,7 +179,7 @@ asked-beyond make number view numbered keeps log =
 -- so what there is lies within
 pub asked-within : {X B : Type 0} (make : Cut CoreEntry → Option X) (number : X → ℕ) (view : X → B)
     (numbered : Numbered make number) → ((e : CoreEntry) (x : X) → view (numbered.grow e x) ≡ view x)
-    → (log : List CoreEntry) (n : ℕ) (b : B) → asked make number view log n ≡ Some b → n < length log
+    → (log : List CoreEntry) (n : ℕ) (b : B) → seen_of make number view log n ≡ Some b → n < length log
 asked-within make number view numbered keeps log n b is = split (nat_lt n (length log)) refl
   where
     split : (t : Bool) → nat_lt n (length log) ≡ t → n < length log
@@ -189,8 +190,8 @@ asked-within make number view numbered keeps log n b is = split (nat_lt n (lengt
 -- and stays
 pub asked-stays : {X B : Type 0} (make : Cut CoreEntry → Option X) (number : X → ℕ) (view : X → B)
     (numbered : Numbered make number) → ((e : CoreEntry) (x : X) → view (numbered.grow e x) ≡ view x)
-    → (log : List CoreEntry) (e : CoreEntry) (n : ℕ) (b : B) → asked make number view log n ≡ Some b
-    → asked make number view (log ++ e ∷ []) n ≡ Some b
+    → (log : List CoreEntry) (e : CoreEntry) (n : ℕ) (b : B) → seen_of make number view log n ≡ Some b
+    → seen_of make number view (log ++ e ∷ []) n ≡ Some b
 asked-stays make number view numbered keeps log e n b is =
     let within : n < length log = asked-within make number view numbered keeps log n b is in
     asked-other make number view numbered keeps log e n
@@ -201,12 +202,12 @@ asked-stays make number view numbered keeps log e n b is =
 pub asked-new : {X B : Type 0} (make : Cut CoreEntry → Option X) (number : X → ℕ) (view : X → B)
     (numbered : Numbered make number) → ((e : CoreEntry) (x : X) → view (numbered.grow e x) ≡ view x)
     → (log : List CoreEntry) (e : CoreEntry) (x : X) → make (end_cut log e) ≡ Some x
-    → asked make number view (log ++ e ∷ []) (number x) ≡ Some (view x)
+    → seen_of make number view (log ++ e ∷ []) (number x) ≡ Some (view x)
 asked-new make number view numbered keeps log e x is =
     asked-push make number view numbered keeps log e (number x)
     ∙ ap (λ o. newer (option_and_then (seen (λ y. number y == number x) view) o)
-    (asked make number view log (number x))) is
-    ∙ ap (λ b. newer (cond b (Some (view x)) None) (asked make number view log (number x)))
+    (seen_of make number view log (number x))) is
+    ∙ ap (λ b. newer (cond b (Some (view x)) None) (seen_of make number view log (number x)))
     (eq-eqb (number x) (number x) refl)
 
 -- maps that agree

@@ -31,7 +31,7 @@ use Rattle.sched_core.specs.Job.{state_now, state_of, is_open, open_jobs, place_
 use Rattle.sched_core.specs.Rows.{row_of, servers_of, held_of, held_rows}
 use Rattle.sched_core.specs.Rows.{held_part, open_of, open_rows}
 use Rattle.sched_core.specs.Cuts.{seen}
-use Rattle.sched_core.specs.Rule.{begins, place_at}
+use Rattle.sched_core.specs.Rule.{is_initial, place_at}
 use Rattle.sched_core.specs.Books.{begins_by, state_after, held_stays, held_after, held_by}
 use Rattle.sched_core.specs.Books.{job_over, job_by, open_stays, open_after, open_over}
 use Rattle.sched_core.specs.Books.{open_by, unspent_stays, unspent_by, place_of_unspent, place_of_booking}
@@ -384,7 +384,7 @@ open_at base count log sound = all-weaker (λ c. IsOpenAt log (step.bare_commit 
 -- a job that a commit keeps is among those that are reserved
 abbrev IsKeptOf : List CoreEntry → CoreKind → List JobRow → Type 0
 IsKeptOf log (Commit job state true) jobs = (list_any (λ j. same_job j.job job) jobs ≡ true)
-    × (begins state ≡ true)
+    × (is_initial state ≡ true)
 IsKeptOf log other jobs = Unit {0}
 
 abbrev IsJobPlaced : List CoreEntry → JobRow → Type 0
@@ -421,7 +421,7 @@ new_open log now (Commit job state true) jobs all kept = by_state state kept.1
         (sym same)
         ∙ ap (λ o. option_to_list (open_over o s)) (sym at.1)
 
-    by_state : (s : JobState) → begins s ≡ true → map (open_of (log ++ e s ∷ []))
+    by_state : (s : JobState) → is_initial s ≡ true → map (open_of (log ++ e s ∷ []))
         (filter is_open (option_to_list (committed_by (Commit job s true) log []))) ≡ option_to_list
         (open_by (Commit job s true) jobs)
     by_state Pending h = row Pending

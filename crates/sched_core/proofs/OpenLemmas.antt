@@ -23,7 +23,7 @@ use Rattle.sched_core.specs.Standing.{ends_by}
 use Rattle.sched_core.specs.Reservation.{spends_by, frees_by, undoes_by, reaps_by, completes_by}
 use Rattle.sched_core.specs.Job.{moves_by, closes_by}
 use Rattle.sched_core.specs.Laws.{AreDistinct}
-use Rattle.sched_core.specs.Rule.{begins}
+use Rattle.sched_core.specs.Rule.{is_initial}
 use Rattle.sched_core.specs.Books.{begins_by, open_stays, open_after, open_over, open_by, booked_after}
 use Rattle.sched_core.specs.Booked.{AreReordered, booked_new, job_part_of, open_part_of, job_view, open_view}
 use Rattle.sched_core.proofs.AllLemmas.{true_false, is_false, same_job-sym, same_job-trans, all-weaker, all-unmap}
@@ -426,7 +426,7 @@ own_row job (b ∷ bs) apart some = split (same_job b.job job) refl some (own_ro
 -- the reservations of the job that an entry spends are unspent, and it says whether they are unended
 abbrev pub AreSpentBy : CoreKind → List BookedRow → Type 0
 AreSpentBy (Commit job state kept) bs = AllByRecursion (λ b. same_job b.job job ≡ true → IsSpent kept b) bs
-    × (list_any (λ b. same_job b.job job) bs ≡ true) × (begins state ≡ true)
+    × (list_any (λ b. same_job b.job job) bs ≡ true) × (is_initial state ≡ true)
 AreSpentBy (Undo job noted says) bs = AllByRecursion (λ b. same_job b.job job ≡ true → IsSpent says b) bs
 AreSpentBy other bs = Unit {0}
 
@@ -477,7 +477,7 @@ open_next (Commit job state true) bs os o apart spent same =
     (by_state state spent.2 (job_view (at.1.front ++ row ∷ at.1.rest)))
     (subst (λ l. AreReordered (open_view l) os) at.1.are same))
   where
-    by_state : (s : JobState) → begins s ≡ true → (jobs : List JobRow)
+    by_state : (s : JobState) → is_initial s ≡ true → (jobs : List JobRow)
         → open_by (Commit job s true) jobs ≡ open_over (find (λ j. same_job j.job job) jobs) s
     by_state Pending h jobs = refl
     by_state Ready h jobs = refl

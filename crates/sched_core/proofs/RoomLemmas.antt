@@ -109,15 +109,15 @@ pairs-push log e =
     ∙ ap (λ ps. ps ++ option_to_list (option_map view (registered_at (end_cut log e))))
     (map-same (λ p. p) (λ p. refl) (filter (pair_stays e) (pairs log)))
 
-abbrev Holds : List CoreEntry → ℕ × ℕ → Type 0
-Holds log p = load_of log p.0 ≤ p.1 + 1 + p.1 / 8
+abbrev HasLoadRoom : List CoreEntry → ℕ × ℕ → Type 0
+HasLoadRoom log p = load_of log p.0 ≤ p.1 + 1 + p.1 / 8
 
 pub record Roomy (log : List CoreEntry) : Type 0 where
   pub below : AllByRecursion (λ p. p.0 < length log) (pairs log)
   pub distinct : AreDistinct (map (λ p. num p.0) (pairs log))
   pub rising : AreRising (map (λ p. p.0) (pairs log))
   pub positive : AllByRecursion (λ p. 1 ≤ p.1) (pairs log)
-  pub bounded : AllByRecursion (Holds log) (pairs log)
+  pub bounded : AllByRecursion (HasLoadRoom log) (pairs log)
 
 -- what a new registration has
 abbrev NewPair : List CoreEntry → ℕ × ℕ → Type 0
@@ -179,36 +179,38 @@ extra o reg = count_by (λ (b : Booking). b.reg == reg) (option_to_list o)
 -- a new reservation adds at most one, and one only where there is room
 added : (base count : ℕ) (log : List CoreEntry) (k : CoreKind) (number now : ℕ)
     → AreDistinct (map (λ p. num p.0) (pairs log)) → Facts (core_of base count log) k
-    → AllByRecursion (Holds log) (pairs log)
+    → AllByRecursion (HasLoadRoom log) (pairs log)
     → AllByRecursion (λ p. load_of log p.0 + extra (booked_by k number now []) p.0 ≤ p.1 + 1 + p.1 / 8)
     (pairs log)
 added base count log (Reserve (Job job reg forgiven)) number now distinct is old =
-    all-both (Holds log) (λ p. (reg == p.0) ≡ true → nat_lt (load_of log p.0) (p.1 + 1 + p.1 / 8) ≡ true)
+    all-both (HasLoadRoom log) (λ p. (reg == p.0) ≡ true → nat_lt (load_of log p.0) (p.1 + 1 + p.1 / 8)
+        ≡ true)
     (λ p. load_of log p.0 + extra
     (Some (record { number = number; now = now; job = job; reg = reg; later = [] })) p.0 ≤ p.1 + 1 + p.1 /
     8)
     (λ p le room. one p le (reg == p.0) room) (pairs log) old (picked_room base count log job reg distinct is)
   where
-    one : (p : ℕ × ℕ) → Holds log p → (b : Bool)
+    one : (p : ℕ × ℕ) → HasLoadRoom log p → (b : Bool)
         → (b ≡ true → nat_lt (load_of log p.0) (p.1 + 1 + p.1 / 8) ≡ true)
         → load_of log p.0 + (0 + cond b 1 0) ≤ p.1 + 1 + p.1 / 8
     one p le true room = let lt : load_of log p.0 < p.1 + 1 + p.1 / 8 = lt_true (load_of log p.0)
         (p.1 + 1 + p.1 / 8) (room refl) in omega (arith, lt)
     one p le false room = omega (arith, le)
-added base count log (Reserve (NoRoom n)) number now distinct is old = all-weaker (Holds log)
+added base count log (Reserve (NoRoom n)) number now distinct is old = all-weaker (HasLoadRoom log)
     (λ p. load_of log p.0 + 0 ≤ p.1 + 1 + p.1 / 8) (λ p le. omega (arith, le)) (pairs log) old
-added base count log (Reserve Spent) number now distinct is old = all-weaker (Holds log)
+added base count log (Reserve Spent) number now distinct is old = all-weaker (HasLoadRoom log)
     (λ p. load_of log p.0 + 0 ≤ p.1 + 1 + p.1 / 8) (λ p le. omega (arith, le)) (pairs log) old
 added base count log (Beat server nonce cpus key pruned reaped replaced is_new) number now distinct is old =
-    all-weaker (Holds log) (λ p. load_of log p.0 + 0 ≤ p.1 + 1 + p.1 / 8) (λ p le. omega (arith, le))
+    all-weaker (HasLoadRoom log) (λ p. load_of log p.0 + 0 ≤ p.1 + 1 + p.1 / 8) (λ p le. omega (arith, le))
     (pairs log) old
-added base count log (Commit job state kept) number now distinct is old = all-weaker (Holds log)
+added base count log (Commit job state kept) number now distinct is old = all-weaker (HasLoadRoom log)
     (λ p. load_of log p.0 + 0 ≤ p.1 + 1 + p.1 / 8) (λ p le. omega (arith, le)) (pairs log) old
-added base count log (Undo job noted was_ended) number now distinct is old = all-weaker (Holds log)
+added base count log (Undo job noted was_ended) number now distinct is old = all-weaker (HasLoadRoom log)
     (λ p. load_of log p.0 + 0 ≤ p.1 + 1 + p.1 / 8) (λ p le. omega (arith, le)) (pairs log) old
-added base count log (Update server job state answer) number now distinct is old = all-weaker (Holds log)
+added base count log (Update server job state answer) number now distinct is old = all-weaker
+    (HasLoadRoom log)
     (λ p. load_of log p.0 + 0 ≤ p.1 + 1 + p.1 / 8) (λ p le. omega (arith, le)) (pairs log) old
-added base count log (Status pruned servers cpus n) number now distinct is old = all-weaker (Holds log)
+added base count log (Status pruned servers cpus n) number now distinct is old = all-weaker (HasLoadRoom log)
     (λ p. load_of log p.0 + 0 ≤ p.1 + 1 + p.1 / 8) (λ p le. omega (arith, le)) (pairs log) old
 
 -- nothing is reserved yet at the number of the next entry
@@ -298,11 +300,11 @@ roomy-step base count log e sound room rule_is =
           (all-step (λ p. 1 ≤ p.1) (λ p. 1 ≤ p.1) (pair_stays e) made (λ p h t. h)
           (all-weaker (NewPair log) (λ p. 1 ≤ p.1) (λ p h. h.1) (option_to_list made) new)
           (pairs log) room.positive);
-      bounded = subst (AllByRecursion (Holds next)) (sym (pairs-push log e))
+      bounded = subst (AllByRecursion (HasLoadRoom next)) (sym (pairs-push log e))
           (all-step (λ p. load_of log p.0 + count_by (λ b. b.reg == p.0) (option_to_list (booked log e))
-          ≤ p.1 + 1 + p.1 / 8) (Holds next) (pair_stays e) made
+          ≤ p.1 + 1 + p.1 / 8) (HasLoadRoom next) (pair_stays e) made
           (λ p le t. let step = load-step log e p.0 in omega (arith, le, step))
-          (all-both (NewPair log) (λ p. booked log e ≡ None) (Holds next)
+          (all-both (NewPair log) (λ p. booked log e ≡ None) (HasLoadRoom next)
           (λ p h none.
           let step : load_of next (length log) ≤ load_of log (length log) + count_by
           (λ b. b.reg == length log) (option_to_list (booked log e)) = load-step log e (length log) in
@@ -335,5 +337,5 @@ legal_fits base count log fits legal = legal_has base count (Fits base count)
 
 pub legal_bounded : (base count : ℕ) (log : List CoreEntry) → count < 2 ^ 64 → IsLegal base count log
     → AllByRecursion (IsBounded log) (standing log)
-legal_bounded base count log fits legal = all-unmap (Holds log) view (standing log)
+legal_bounded base count log fits legal = all-unmap (HasLoadRoom log) view (standing log)
     (legal_fits base count log fits legal).room.bounded

@@ -49,13 +49,14 @@ pub record IsTicket {A : Type 0} (key_of : A → List ℕ) (token_for : A → �
 
 -- what a reserve makes: the reservation, or as many registrations without room, or nothing where the ids are
 -- spent
-abbrev pub IsMade : {A : Type 0} → (A → List ℕ) → (A → ℕ → List ℕ) → List CoreEntry → Reserved → Option Picked
+abbrev pub IsReservedAs : {A : Type 0} → (A → List ℕ) → (A → ℕ → List ℕ) → List CoreEntry → Reserved
+    → Option Picked
     → Type 0
-IsMade key_of token_for log (Job job reg forgiven) (Some (picked.Reserved r)) =
+IsReservedAs key_of token_for log (Job job reg forgiven) (Some (picked.Reserved r)) =
     IsTicket key_of token_for log job reg r
-IsMade key_of token_for log (NoRoom standing) (Some (picked.NoRoom n)) = n ≡ standing
-IsMade key_of token_for log Spent None = Unit {0}
-IsMade key_of token_for log reserved other = ⊥
+IsReservedAs key_of token_for log (NoRoom standing) (Some (picked.NoRoom n)) = n ≡ standing
+IsReservedAs key_of token_for log Spent None = Unit {0}
+IsReservedAs key_of token_for log reserved other = ⊥
 
 -- what a reserve answers that made this
 abbrev pub picked_or_spent : Option Picked → Result Picked SchedError
@@ -65,7 +66,7 @@ picked_or_spent (Some p) = Ok p
 -- what a reserve picks, by its entry
 abbrev pub IsPicked : {A : Type 0} → (A → List ℕ) → (A → ℕ → List ℕ) → List CoreEntry → CoreKind → Picked
     → Type 0
-IsPicked key_of token_for log (Reserve reserved) p = IsMade key_of token_for log reserved (Some p)
+IsPicked key_of token_for log (Reserve reserved) p = IsReservedAs key_of token_for log reserved (Some p)
 IsPicked key_of token_for log other p = ⊥
 
 -- how a reserve is refused, by its entry: the ids are spent exactly where it says so

@@ -3,7 +3,7 @@ ghost use Rattle.std.specs.Prelude.{◌≡◌, ◌==◌, Some, IfOk, IfErr, true
 ghost use Rattle.std.specs.List.{list_any};
 ghost use Rattle.sched_core.specs.Standing.{address_of};
 ghost use Rattle.sched_core.specs.Rows.{servers_of};
-ghost use Rattle.sched_core.specs.Answers.{IsTicket, IsMade, picked_or_spent, unended_by, verdict};
+ghost use Rattle.sched_core.specs.Answers.{IsTicket, IsReservedAs, picked_or_spent, unended_by, verdict};
 ghost use Rattle.sched_core.specs.Books.{keys_of, IsAtRow};
 ghost use Rattle.sched_core.specs.declared.answers.Committed.TheVariants as committed;
 ghost use Rattle.sched_core.specs.declared.answers.Undone.TheVariants as undone;
@@ -61,7 +61,7 @@ pub fn made<A: JobAuthorizer>(
     requires rows { books.now.lists.rows ≡ servers_of log.now }
     requires keys { keys.now ≡ keys_of log.now }
     requires stands { IsAtRow reserved.now books.now.lists.rows }
-    ensures made { IfOk result (IsMade A.key_of A.token_for log.now reserved.now) }
+    ensures made { IfOk result (IsReservedAs A.key_of A.token_for log.now reserved.now) }
     ensures memory { IfErr result (λ e. e ≡ SchedError.Memory) }
 {
     match reserved {

@@ -10,7 +10,7 @@ ghost use Rattle.sched_core.specs.Log.{Core, logged};
 ghost use Rattle.sched_core.specs.Standing.{address_of};
 ghost use Rattle.sched_core.specs.Reservation.{bookings, unspent};
 ghost use Rattle.sched_core.specs.Job.{open_jobs};
-ghost use Rattle.sched_core.specs.Rule.{rule, says_new_entry, counts_of, is_among, begins};
+ghost use Rattle.sched_core.specs.Rule.{rule, says_new_entry, counts_of, is_among, is_initial};
 ghost use Rattle.sched_core.specs.Rows.{servers_of, jobs_of, held_by_id, held_part};
 ghost use Rattle.sched_core.specs.Answers.{Leaves, IsPicked, RefusesReserve, committed_by, undo_answer};
 ghost use Rattle.sched_core.specs.Answers.{updated_by};
@@ -207,7 +207,7 @@ impl<A: JobAuthorizer> SchedState<A> {
     /// Ready where the reservation is unended, else drops it. Foreign comes exactly where this state has
     /// no unspent reservation of that number and job; it changes nothing. It takes no memory.
     pub fn commit(&mut self, now: u64, r: Reservation, state: JobState) -> Committed
-        requires begins { begins state ≡ true }
+        requires begins { is_initial state ≡ true }
         ensures logged { self.new ≡ (if is_among (unspent self.old.log) r.number r.job then
             logged self.old (rule self.old (call.Commit now r.number r.job state)) else self.old) }
         ensures answer { result ≡ committed_by (is_among (unspent self.old.log) r.number r.job)

@@ -1,6 +1,6 @@
 //! Why no job was allocated, in words, and whether a job may begin in a state.
 ghost use Rattle.std.specs.Prelude.{◌≡◌, IfOk};
-ghost use Rattle.sched_core.specs.Rule.{begins};
+ghost use Rattle.sched_core.specs.Rule.{is_initial};
 ghost use Rattle.sched_core.specs.Texts.{no_room_text, dropped_text};
 
 use dist_types::fault::Memory;
@@ -10,8 +10,8 @@ use dist_types::text::Text;
 use std::alloc::Global;
 
 /// Whether a job may be committed in that state: it is Pending or Ready.
-pub fn begins(state: JobState) -> bool
-    ensures { result ≡ begins state }
+pub fn is_initial(state: JobState) -> bool
+    ensures { result ≡ is_initial state }
 {
     match state {
         JobState::Pending => true,

@@ -12,7 +12,7 @@ use Rattle.http_routes.specs.declared.reply.Response.{Response}
 use Rattle.http_routes.specs.declared.route.SchedRouted.{SchedRouted}
 use Rattle.sched_core.specs.declared.answers.Undone.{Undone}
 use Rattle.sched_core.specs.declared.error.SchedError.TheVariants as error
-use Rattle.sched.specs.Course.{Course, FailsWith, Tells, fault_after}
+use Rattle.sched.specs.Course.{Course, FailsWith, IsCourseAnswer, fault_after}
 use Rattle.sched.specs.Course as course
 use Rattle.sched.specs.Heard.{RefusesUpdate}
 use Rattle.sched.specs.Outside.{Moments, IsRead}
@@ -56,7 +56,7 @@ after undone (call.BadState state) = tt {0}
 after undone call.Memory = tt {0}
 
 pub allocated_tellable : (c : Course) (answer : Result AllocJobResult SchedFault) (e : SchedFault)
-    → answer ≡ Err e → Tells c answer → IsTellable e
+    → answer ≡ Err e → IsCourseAnswer c answer → IsTellable e
 allocated_tellable course.unmade answer e is told = same_fault e Memory (sym is ∙ told) (tt {0})
 allocated_tellable course.spent answer e is told = same_fault e (Core error.IdsSpent) (sym is ∙ told) (tt {0})
 allocated_tellable (course.full standing) answer e is told = fails _ answer e is told

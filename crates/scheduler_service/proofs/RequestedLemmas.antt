@@ -12,8 +12,8 @@ use Rattle.dist_types.specs.declared.outgoing.CallFault.{CallFault}
 use Rattle.dist_types.specs.declared.outgoing.CallFault.TheVariants.{Memory}
 use Rattle.dist_types.specs.declared.results.AssignJobResult.{AssignJobResult}
 use Rattle.dist_wire.specs.Reading.{assign_at}
-use Rattle.http_routes.specs.Calls.{IsAnswer}
-use Rattle.http_routes.specs.Written.{assign_request_text}
+use Rattle.http_routes.specs.CallReply.{IsAnswer}
+use Rattle.http_routes.specs.Requests.{assign_request_text}
 use Rattle.scheduler_service.specs.Requested.{host_text, port_of, IsAskedFor, lent_of}
 
 one_more : (old new : Option (List Asked)) (a : Asked) (Is : Asked → Type 0) → Recorded a old new → Is a

@@ -79,8 +79,8 @@ pub record AsksNobody (old new : Means) : Type 0 where
   pub faults : new.faults ≡ old.faults
 
 -- a requester over the dialer, as a handler sees it
-abbrev pub asking : ℕ → Means → Requests
-asking name m = record { rows = None; faults = m.faults; lent = lent_of name m.asked }
+abbrev pub requests_over : ℕ → Means → Requests
+requests_over name m = record { rows = None; faults = m.faults; lent = lent_of name m.asked }
 
 -- ---- the four calls, each with the answer that its reply tells
 
@@ -106,8 +106,8 @@ pub record IsCountedAndTold (json : Bool) (old new : Told) (clock ticked : Momen
 pub record IsAllocatedAndTold (json : Bool) (tc : List ℕ) (old new : Means) (reply : Response) : Type 0 where
   pub name : ℕ
   pub answer : Result AllocJobResult SchedFault
-  pub allocated : IsAllocation IsAskedFor tc old.pass new.pass old.clock new.clock (asking name old)
-      (asking name new) answer
+  pub allocated : IsAllocation IsAskedFor tc old.pass new.pass old.clock new.clock (requests_over name old)
+      (requests_over name new) answer
   pub told : Replies (alloc_response json) fault_of answer reply
 
 -- What is asked of the scheduler is done, and the reply tells its answer; what its route answered changes

@@ -7,7 +7,7 @@ use Rattle.dist_types.specs.declared.addr.Addr.{Addr}
 use Rattle.dist_types.specs.declared.addr.Addr.TheVariants.{V4, V6}
 use Rattle.dist_types.specs.declared.dialer.Asked.{Asked}
 use Rattle.dist_wire.specs.Reading.{assign_at}
-use Rattle.http_routes.specs.Written.{assign_request_text}
+use Rattle.http_routes.specs.Requests.{assign_request_text}
 use Rattle.http_connections.specs.Hearing.{Hears}
 
 -- the text of an address without its port, eight groups in brackets

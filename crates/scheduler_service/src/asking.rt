@@ -8,7 +8,7 @@ use dist_types::outgoing::{CallFault, SchedulerOutgoing};
 use dist_types::results::AssignJobResult;
 use dist_types::toolchain::Toolchain;
 use http_connections::hearing::heard;
-use http_routes::written::assign_request;
+use http_routes::requests::assign_request;
 use std::alloc::Global;
 
 /// Asks build servers through a dialer. It tells no record of its own: the dialer's is the record.

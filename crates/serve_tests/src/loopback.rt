@@ -10,7 +10,7 @@ use dist_types::fault::Failed;
 use dist_types::results::SchedulerStatusResult;
 use dist_types::tcp::TcpDialer;
 use http_connections::stream::LimitedNet;
-use http_routes::calls::answer;
+use http_routes::call_reply::answer;
 use rand_core::SeedableRng;
 use rand_xoshiro::SplitMix64;
 use std::alloc::Global;

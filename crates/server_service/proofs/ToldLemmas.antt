@@ -14,8 +14,8 @@ use Rattle.dist_types.specs.declared.results.UpdateJobStateResult.{UpdateJobStat
 use Rattle.dist_wire.specs.Reading.{update_at, heard_at}
 use Rattle.dist_wire.specs.declared.heartbeat.HeartbeatServerHttpRequest.{HeartbeatServerHttpRequest}
 use Rattle.http_head.specs.WrittenRequest.{request_text}
-use Rattle.http_routes.specs.Calls.{IsAnswer}
-use Rattle.http_routes.specs.Written.{state_with, heartbeat_with}
+use Rattle.http_routes.specs.CallReply.{IsAnswer}
+use Rattle.http_routes.specs.Requests.{state_with, heartbeat_with}
 use Rattle.http_connections.specs.Hearing.{Hears}
 use Rattle.server_service.specs.Heartbeat.{Heard, IsBeatOf, IsBeaten}
 use Rattle.server_service.specs.Replied.{Dialing}

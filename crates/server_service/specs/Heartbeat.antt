@@ -9,7 +9,7 @@ use Rattle.dist_types.specs.declared.results.HeartbeatServerResult.{HeartbeatSer
 use Rattle.dist_wire.specs.Reading.{heard_at}
 use Rattle.dist_wire.specs.declared.heartbeat.HeartbeatServerHttpRequest.{HeartbeatServerHttpRequest}
 use Rattle.http_head.specs.WrittenRequest.{request_text}
-use Rattle.http_routes.specs.Written.{heartbeat_with}
+use Rattle.http_routes.specs.Requests.{heartbeat_with}
 use Rattle.http_connections.specs.Hearing.{Hears}
 use Rattle.server_service.specs.Replied.{Dialing}
 use Rattle.server_service.specs.Told.{host_at, lent_of}

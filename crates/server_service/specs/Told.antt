@@ -7,7 +7,7 @@ use Rattle.dist_types.specs.Outgoing.{Updated, Lent, Peer}
 use Rattle.dist_types.specs.declared.dialer.Asked.{Asked}
 use Rattle.dist_wire.specs.Reading.{update_at}
 use Rattle.http_head.specs.WrittenRequest.{request_text}
-use Rattle.http_routes.specs.Written.{state_with}
+use Rattle.http_routes.specs.Requests.{state_with}
 use Rattle.http_connections.specs.Hearing.{Hears}
 
 -- the scheduler at a base, under a server's token

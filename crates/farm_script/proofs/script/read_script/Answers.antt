@@ -1,6 +1,6 @@
 use Rattle.std.proofs.Common.{◌≡◌, ◌<◌, length, subst, arith}
 use Rattle.std.proofs.lemmas.Bool.Decides.{nat_tests}
-use Rattle.farm_script.specs.Script.{read_of, script, Tells, GivesScript}
+use Rattle.farm_script.specs.Script.{read_of, script, IsScriptFault, IsScriptAnswer}
 use Rattle.farm_script.proofs.SpelledLemmas.{read_said, read_setup, told_faulty, read_faulty}
 use Rattle.farm_script.proofs.ScriptLemmas.{Done, line_step, line_stop, at_end}
 use Rattle.farm_script.proofs.script.read_script.Goals as goal
@@ -8,7 +8,7 @@ use Rattle.farm_script.proofs.script.read_script.Goals as goal
 pub returns-in-Err : goal.returns-in-Err
 returns-in-Err c =
     let some : 0 < length c.loop-rest.rest.now = grind (arith, nat_tests) in
-    let told : Tells c.in-Err.fault (script c.args.bytes.now) =
+    let told : IsScriptFault c.in-Err.fault (script c.args.bytes.now) =
     line_stop c.in-Err.fault c.loop-rest.number c.loop-rest.room
     (read_of c.loop-rest.reading) c.loop-rest.rest.now c.split_at.result.0.now c.split_at.result.1.now
     c.first_len.result (script c.args.bytes.now)
@@ -22,7 +22,7 @@ gives c =
     let none : length c.loop-rest.rest.now ≡ 0 = grind (arith, nat_tests) in
     let e = at_end c.loop-rest.number c.loop-rest.room (read_of c.loop-rest.reading) c.loop-rest.rest.now
     (script c.args.bytes.now) none c.loop-rest.invariant.same in
-    subst (λ (done : Done). GivesScript (λ x. (x.0, x.1.items)) c.finish.result done) e c.finish.ensures
+    subst (λ (done : Done). IsScriptAnswer (λ x. (x.0, x.1.items)) c.finish.result done) e c.finish.ensures
 
 pub loop-rest-preserved : goal.loop-rest-preserved
 loop-rest-preserved c =

@@ -3,7 +3,7 @@ use Rattle.dist_wire.specs.Written.{state_bytes}
 use Rattle.url.specs.Parts.{Parts}
 use Rattle.http_head.specs.WrittenRequest.{request_text}
 use Rattle.http_routes.specs.Builder.{target_of, host_of}
-use Rattle.http_routes.specs.Written.{post_with}
+use Rattle.http_routes.specs.Requests.{post_with}
 use Rattle.http_calls.proofs.UrlLemmas.{state_written}
 use Rattle.http_calls.proofs.scheduler_calls.state_text.Goals as goal
 

@@ -1,6 +1,6 @@
 use Rattle.std.proofs.Common.{◌∙◌}
 use Rattle.http_head.specs.WrittenRequest.{request_text}
-use Rattle.http_routes.specs.Written.{post_with, run_with}
+use Rattle.http_routes.specs.Requests.{post_with, run_with}
 use Rattle.http_calls.proofs.server_calls.run_text.Goals as goal
 
 pub returns-clause-text : goal.returns-clause-text

@@ -1,6 +1,6 @@
 use Rattle.std.proofs.Common.{◌≡◌, true, false, IfErr, OnOk, OnErr, refl, sym, subst}
 use Rattle.lru_disk_cache.specs.Files.{appended, PartAppended}
-use Rattle.lru_disk_cache.specs.Held.{Became, Made}
+use Rattle.lru_disk_cache.specs.Held.{Became, BecameBy}
 use Rattle.lru_disk_cache.specs.Disk.{ButAt, Keeps}
 use Rattle.lru_disk_cache.specs.Reserved.{IsReserved, KeepsReserved, is_pending, without_number}
 use Rattle.lru_disk_cache.specs.Adding.{entry_path, WriteFails}
@@ -51,10 +51,11 @@ pub returns-clause-ok : goal.returns-clause-ok
 returns-clause-ok g c =
     let t = temp_found c.self.inside.root c.in-Some.temp.now c.args.entry.now c.self.inside.pending
     c.self.invariant.reserved (sym c.in-Some.ensures.temp) in
-    subst (λ s. OnOk c.add_to.result (Made (appended (entry_path s.disk c.args.entry.now) c.args.bytes.now)
+    subst (λ s. OnOk c.add_to.result (BecameBy
+        (appended (entry_path s.disk c.args.entry.now) c.args.bytes.now)
     (g.F.Folder.held s.folder).files (g.F.Folder.held c.add_to.new.folder).files)) c.self.view_is
     (subst (λ p. OnOk c.add_to.result
-    (Made (appended p c.args.bytes.now) (g.F.Folder.held c.self.inside.folder).files
+    (BecameBy (appended p c.args.bytes.now) (g.F.Folder.held c.self.inside.folder).files
     (g.F.Folder.held c.add_to.new.folder).files)) t.0 c.add_to.ensures.ok)
 
 pub returns-clause-pending : goal.returns-clause-pending

@@ -1,8 +1,8 @@
 //! The requests that the scheduler and its build servers write to each other.
 ghost use Rattle.std.specs.Prelude.{◌≡◌, IfOk, IfErr, string_bytes};
 ghost use Rattle.http_head.specs.WrittenRequest.{request_text};
-ghost use Rattle.http_routes.specs.Written.{post_with, assign_request_text, state_request_text};
-ghost use Rattle.http_routes.specs.Written.{heartbeat_request_text};
+ghost use Rattle.http_routes.specs.Requests.{post_with, assign_request_text, state_request_text};
+ghost use Rattle.http_routes.specs.Requests.{heartbeat_request_text};
 
 use crate::builder::{RequestBuilder, ReqwestRequestBuilderExt};
 use crate::error::HttpError;
@@ -35,7 +35,7 @@ fn posted<M: Message>(
 
 /// The request that asks a server to take a job, under the job's token and with its toolchain. Refused for
 /// want of memory alone.
-#[tactic(auto, unfolding(crate::specs::Written::assign_with))]
+#[tactic(auto, unfolding(crate::specs::Requests::assign_with))]
 pub fn assign_request(
     alloc: Global,
     server: ServerId,
@@ -54,7 +54,7 @@ pub fn assign_request(
 
 /// The report of a job's state to the scheduler at that address, under a server's token. Refused for want of
 /// memory alone.
-#[tactic(auto, unfolding(crate::specs::Written::state_with))]
+#[tactic(auto, unfolding(crate::specs::Requests::state_with))]
 pub fn state_request(
     alloc: Global,
     scheduler: Addr,
@@ -72,7 +72,7 @@ pub fn state_request(
 }
 
 /// A heartbeat to the scheduler at that address, under a server's token. Refused for want of memory alone.
-#[tactic(auto, unfolding(crate::specs::Written::heartbeat_with))]
+#[tactic(auto, unfolding(crate::specs::Requests::heartbeat_with))]
 pub fn heartbeat_request(
     alloc: Global,
     scheduler: Addr,

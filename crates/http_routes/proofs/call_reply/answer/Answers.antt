@@ -1,5 +1,5 @@
 use Rattle.http_routes.proofs.CallLemmas.{none_other}
-use Rattle.http_routes.proofs.calls.answer.Goals as goal
+use Rattle.http_routes.proofs.call_reply.answer.Goals as goal
 
 pub unreachable-requires : goal.unreachable-requires
 unreachable-requires g c =

@@ -4,7 +4,7 @@ use Rattle.dist_types.specs.declared.outgoing.CallFault.{CallFault}
 use Rattle.dist_types.specs.declared.outgoing.CallFault.TheVariants as call
 use Rattle.dist_types.specs.declared.results.AssignJobResult.{AssignJobResult}
 use Rattle.dist_wire.specs.Reading.{assign_at}
-use Rattle.sched_core.specs.Rule.{begins}
+use Rattle.sched_core.specs.Rule.{is_initial}
 use Rattle.http_head.specs.declared.error.HttpError.{HttpError}
 use Rattle.http_head.specs.declared.error.HttpError.TheVariants.{ParseError, Status, Memory}
 use Rattle.http_head.specs.declared.reply.Reply.{Reply}
@@ -18,14 +18,14 @@ told_by at r = if r.code == 200 then unless_none ParseError (begins_in at r.body
     else Err (Status r.code r.body)
 
 -- what the bytes say, as a reply or as none
-abbrev pub Tells : {M : Type 0} → (List ℕ → Option (M × List ℕ)) → List ℕ → Result M HttpError → Type 0
-Tells at bytes told =
+abbrev pub IsToldBy : {M : Type 0} → (List ℕ → Option (M × List ℕ)) → List ℕ → Result M HttpError → Type 0
+IsToldBy at bytes told =
     ((r : Reply) × IsReply bytes r × (told ≡ told_by at r)) ⊎ (IsNoReply bytes × (told ≡ Err ParseError))
 
 -- the answer is what the bytes say, unless memory ran out
 abbrev pub Reads : {M : Type 0} → (List ℕ → Option (M × List ℕ)) → List ℕ → Result M HttpError → Type 0
-Reads at bytes answer = MatchResult answer (λ m. Tells at bytes (Ok m))
-    (λ e. ¬ (e ≡ Memory) → Tells at bytes (Err e))
+Reads at bytes answer = MatchResult answer (λ m. IsToldBy at bytes (Ok m))
+    (λ e. ¬ (e ≡ Memory) → IsToldBy at bytes (Err e))
 
 -- why a reply tells no message: it is no reply, or holds none, or its status is another
 abbrev pub IsReplyFault : HttpError → Type 0
@@ -45,11 +45,12 @@ answer_by (Err e) = Err (call_fault e)
 
 -- what the bytes of the reply to a call say
 abbrev pub IsAnswer : {M : Type 0} → (List ℕ → Option (M × List ℕ)) → List ℕ → Result M CallFault → Type 0
-IsAnswer {M} at bytes answer = (told : Result M HttpError) × Tells at bytes told × (answer ≡ answer_by told)
+IsAnswer {M} at bytes answer = (told : Result M HttpError) × IsToldBy at bytes told
+    × (answer ≡ answer_by told)
 
 -- the answer to an assignment, if its state is one that an assignment may tell
 abbrev pub begun : AssignJobResult → Result AssignJobResult CallFault
-begun answer = if begins answer.state then Ok answer else Err (call.BadState answer.state)
+begun answer = if is_initial answer.state then Ok answer else Err (call.BadState answer.state)
 
 -- the answer to an assignment, by what its reply says
 abbrev pub assigned_by : Result AssignJobResult HttpError → Result AssignJobResult CallFault
@@ -58,5 +59,5 @@ assigned_by (Err e) = Err (call_fault e)
 
 -- what the bytes of the reply to an assignment say
 abbrev pub IsAssigned : List ℕ → Result AssignJobResult CallFault → Type 0
-IsAssigned bytes answer = (told : Result AssignJobResult HttpError) × Tells assign_at bytes told
+IsAssigned bytes answer = (told : Result AssignJobResult HttpError) × IsToldBy assign_at bytes told
     × (answer ≡ assigned_by told)

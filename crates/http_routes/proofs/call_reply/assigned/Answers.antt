@@ -1,6 +1,6 @@
 use Rattle.dist_wire.specs.Reading.{assign_at}
 use Rattle.http_routes.proofs.CallLemmas.{none_other}
-use Rattle.http_routes.proofs.calls.assigned.Goals as goal
+use Rattle.http_routes.proofs.call_reply.assigned.Goals as goal
 
 pub unreachable-requires : goal.unreachable-requires
 unreachable-requires c =

@@ -1,8 +1,8 @@
 //! What the reply to a call says.
 ghost use Rattle.std.specs.Prelude.{◌≡◌, IfOk, IfErr, true};
-ghost use Rattle.http_routes.specs.Calls.{told_by, Reads, IsAnswer, begun, IsAssigned};
-ghost use Rattle.http_routes.specs.Steps.{Gives};
-ghost use Rattle.sched_core.specs.Rule.{begins};
+ghost use Rattle.http_routes.specs.CallReply.{told_by, Reads, IsAnswer, begun, IsAssigned};
+ghost use Rattle.http_routes.specs.Steps.{IsHttpAnswer};
+ghost use Rattle.sched_core.specs.Rule.{is_initial};
 
 use crate::error::{HttpError, of_wire};
 use crate::head::read_reply_head;
@@ -10,13 +10,13 @@ use crate::reply::Reply;
 use dist_types::outgoing::CallFault;
 use dist_types::results::AssignJobResult;
 use dist_wire::message::Message;
-use sched_core::texts::begins;
+use sched_core::texts::is_initial;
 use std::alloc::Global;
 
 /// The message of a reply.
-#[tactic(auto, unfolding(crate::specs::Calls::told_by))]
+#[tactic(auto, unfolding(crate::specs::CallReply::told_by))]
 fn told_by<M: Message>(alloc: Global, reply: Reply) -> Result<M, HttpError>
-    ensures { Gives (told_by M.at reply) result }
+    ensures { IsHttpAnswer (told_by M.at reply) result }
 {
     if reply.code != 200 {
         return Err(HttpError::Status(reply.code, reply.body));
@@ -60,9 +60,9 @@ pub fn answer<M: Message>(alloc: Global, reply: &[u8]) -> Result<Result<M, CallF
 
 fn begun(answer: AssignJobResult) -> Result<AssignJobResult, CallFault>
     ensures begun { result ≡ begun answer }
-    ensures begins { IfOk result (λ a. begins a.state ≡ true) }
+    ensures begins { IfOk result (λ a. is_initial a.state ≡ true) }
 {
-    if begins(answer.state) {
+    if is_initial(answer.state) {
         Ok(answer)
     } else {
         Err(CallFault::BadState(answer.state))
@@ -77,7 +77,7 @@ pub fn assigned(
     reply: &[u8],
 ) -> Result<Result<AssignJobResult, CallFault>, HttpError>
     ensures ok { IfOk result (IsAssigned reply.now) }
-    ensures begins { IfOk result (λ answer. IfOk answer (λ a. begins a.state ≡ true)) }
+    ensures begins { IfOk result (λ answer. IfOk answer (λ a. is_initial a.state ≡ true)) }
     ensures err { IfErr result (λ e. e ≡ HttpError.Memory) }
 {
     match read_reply(alloc, reply) {

@@ -1,13 +1,13 @@
 use Rattle.std.proofs.Common.{◌∙◌}
-use Rattle.dist_wire.specs.Written.{state_bytes}
+use Rattle.dist_wire.specs.Written.{heartbeat_text}
 use Rattle.http_head.specs.WrittenRequest.{request_text}
-use Rattle.http_routes.specs.Written.{post_with, state_with}
-use Rattle.http_routes.proofs.written.state_request.Goals as goal
+use Rattle.http_routes.specs.Requests.{post_with, heartbeat_with}
+use Rattle.http_routes.proofs.requests.heartbeat_request.Goals as goal
 
 pub returns-clause-ok : goal.returns-clause-ok
-unfolding state_with
+unfolding heartbeat_with
 returns-clause-ok c =
     c.in_ok-bytes.ensures.ok
     ∙ (λ i. request_text
     (post_with (c.in_ok-target.ensures.ok i) (c.in_ok-host.ensures.ok i) c.args.token.now
-    (state_bytes c.args.state)))
+    (heartbeat_text c.args.beat.now)))
