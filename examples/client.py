@@ -76,7 +76,10 @@ def post(address, path, token, body, as_json):
     headers = {"Authorization": "Bearer " + token, "Content-Type": "application/octet-stream"}
     if as_json:
         headers["Accept"] = "application/json"
-    connection.request("POST", path, body, headers)
+    try:
+        connection.request("POST", path, body, headers)
+    except (BrokenPipeError, ConnectionResetError):
+        pass  # a refusal may come before all was sent
     reply = connection.getresponse()
     data = reply.read()
     if reply.status != 200:

@@ -1,7 +1,7 @@
 //! Runs: a job that was taken out, its one build, and its end.
 ghost use Rattle.std.specs.Prelude.{◌≡◌};
 ghost use Rattle.std.specs.Option.{option_copied};
-ghost use Rattle.build_server.specs.Builds.{Builds, BuildsIn, builder_of, is_due, outcome_by, ran_of};
+ghost use Rattle.build_server.specs.Builds.{Builds, builder_of, is_due, outcome_by, ran_of};
 ghost use Rattle.build_server.specs.Builds.{built_of, ended, run_answer, complete_of};
 
 use crate::fault::{BuildCause, ServerFault, Update, fault_of};
@@ -97,26 +97,6 @@ fn done(outcome: Outcome) -> RunDone
     RunDone { outcome }
 }
 
-/// One build in an archive that was read.
-fn build_in<B: BuilderIncoming>(
-    tc: Toolchain,
-    archive: Bytes,
-    builder: &mut B,
-    command: &CompileCommand,
-    outputs: &[Text],
-    inputs: &[u8],
-) -> Result<RunDone, (RunHeld, Memory)>
-    ensures { BuildsIn tc archive
-        (record { command = command.now; outputs = outputs.now; inputs = inputs.now })
-        (builder_of B.built B.refusals builder.old) (builder_of B.built B.refusals builder.new) result }
-{
-    match builder.run_build(&tc, archive.get(), command, outputs, inputs) {
-        Ok(built) => Ok(done(Outcome::Built(tc, built))),
-        Err(BuildFault::Refused) => Ok(done(Outcome::Refused(tc))),
-        Err(BuildFault::Memory) => Err((held(Taken::Read(tc, archive)), Memory)),
-    }
-}
-
 impl RunHeld {
     /// A job that was taken out.
     pub(crate) fn new(taken: Taken) -> Self
@@ -143,7 +123,13 @@ impl RunHeld {
             Taken::None => Ok(done(Outcome::None)),
             Taken::Unlisted(tc) => Ok(done(Outcome::Unlisted(tc))),
             Taken::Folder(tc) => Ok(done(Outcome::Folder(tc))),
-            Taken::Read(tc, archive) => build_in(tc, archive, builder, command, outputs, inputs),
+            Taken::Read(tc, archive) => {
+                match builder.run_build(&tc, archive.get(), command, outputs, inputs) {
+                    Ok(built) => Ok(done(Outcome::Built(tc, built))),
+                    Err(BuildFault::Refused) => Ok(done(Outcome::Refused(tc))),
+                    Err(BuildFault::Memory) => Err((held(Taken::Read(tc, archive)), Memory)),
+                }
+            }
         }
     }
 

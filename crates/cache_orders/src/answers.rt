@@ -1,6 +1,8 @@
 //! What calls answer, and where two caches differ.
+ghost use Rattle.std.specs.Prelude.{◌≡◌, OnOk};
 
 use lru_disk_cache::Error;
+use lru_disk_cache::fault::FolderFault;
 use std::alloc::AllocError;
 
 /// The answer of a call.
@@ -43,10 +45,15 @@ pub fn copied(bytes: Result<Vec<u8>, AllocError>) -> Answer {
 /// Where the cache and the model differ.
 #[derive(Clone, Copy)]
 pub enum Difference {
+    /// In an answer.
     Answers,
+    /// In the lists of keys.
     Lists,
+    /// In the files, or in the count of faults.
     Files,
+    /// A call did not fail that was to.
     Faults,
+    /// No memory was left to tell.
     Memory,
 }
 
@@ -69,4 +76,17 @@ pub fn agree(given: Answer, wanted: Answer) -> Result<(), Difference> {
         return Ok(());
     }
     Err(Difference::Answers)
+}
+
+/// Two answers of a folder are one.
+pub fn same(
+    given: Result<(), FolderFault>,
+    wanted: Result<(), FolderFault>,
+) -> Result<(), Difference>
+    ensures one { OnOk result (given ≡ wanted) }
+{
+    if given != wanted {
+        return Err(Difference::Answers);
+    }
+    Ok(())
 }

@@ -2,8 +2,8 @@
 
 use crate::answers::{Answer, content, copied, done};
 use crate::names::{Key, Place};
+use crate::orders::{Call, Step};
 use crate::plain_cache::PlainCache;
-use crate::steps::{Call, Step};
 use lru_disk_cache::folder::Folder;
 use lru_disk_cache::{LruDiskCache, ReadSeek, WriteFault};
 use std::alloc::{AllocError, Global};

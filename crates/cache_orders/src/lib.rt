@@ -1,22 +1,20 @@
 //! Generated orders of calls on a disk cache, beside a plain model of it: a list of keys, and files by path.
-//! Tests alone; nothing above uses this crate.
+//! Tests alone; nothing above uses this crate. What compares, and the plain folder, stand outside the tests, so
+//! that edits of them are tried.
 #![tactic(auto)]
 
-#[cfg(test)]
-mod answers;
+pub mod answers;
 #[cfg(test)]
 mod calls;
 #[cfg(test)]
 mod compare;
 #[cfg(test)]
 mod entries;
+pub mod names;
 #[cfg(test)]
-mod names;
+mod orders;
 #[cfg(test)]
 mod plain_cache;
-#[cfg(test)]
-mod plain_folder;
+pub mod plain_folder;
 #[cfg(test)]
 mod runs;
-#[cfg(test)]
-mod steps;

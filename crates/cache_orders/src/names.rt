@@ -9,10 +9,15 @@ pub const ROOT: &str = "c";
 /// A key, or a text that is none.
 #[derive(Clone, Copy, PartialEq, Eq)]
 pub enum Key {
+    /// `a`.
     First,
+    /// `b/c`.
     Second,
+    /// `d`.
     Third,
+    /// `e/f/g`.
     Fourth,
+    /// A text that leads out of its directory.
     Bad,
 }
 
@@ -44,9 +49,13 @@ impl Key {
 /// directory of the cache.
 #[derive(Clone, Copy, PartialEq, Eq)]
 pub enum Place {
+    /// Of a key.
     Of(Key),
+    /// A temporary one, by its number.
     Temporary(u64),
+    /// One that is too large to be listed.
     TooLarge,
+    /// One outside the directory of the cache.
     Outside,
 }
 

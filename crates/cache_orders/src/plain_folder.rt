@@ -1,4 +1,5 @@
 //! The plain folder: files by place, least recent first, one of whose calls fails.
+ghost use Rattle.std.specs.Prelude.{◌≡◌, ◌≤◌, true};
 
 use crate::names::Place;
 use lru_disk_cache::fault::FolderFault;
@@ -7,8 +8,11 @@ use std::alloc::Global;
 /// The call of a folder that fails: none, the one of this number before it does anything, or behind it.
 #[derive(Clone, Copy, PartialEq, Eq)]
 pub enum Failing {
+    /// None.
     Never,
+    /// The call of this number, before it does anything.
     Before(u64),
+    /// The call of this number, behind what it does.
     Behind(u64),
 }
 
@@ -30,7 +34,9 @@ impl Failing {
     }
 
     /// Whether so many calls may have failed: a call that finds no file does not fail behind that.
-    pub fn allows(self, faults: u64) -> bool {
+    pub fn allows(self, faults: u64) -> bool
+        ensures few { result ≡ true → faults ≤ 1 }
+    {
         match self {
             Failing::Never => faults == 0,
             Failing::Before(_) => faults == 1,
@@ -42,7 +48,9 @@ impl Failing {
 /// A file.
 #[derive(Drop)]
 pub struct File {
+    /// Where it lies.
     pub place: Place,
+    /// What it holds.
     pub bytes: Vec<u8>,
 }
 
@@ -50,13 +58,17 @@ pub struct File {
 #[derive(Drop)]
 pub struct PlainFolder {
     alloc: Global,
+    /// The files.
     pub files: Vec<File>,
+    /// How many calls there were.
     pub calls: u64,
+    /// How many failed.
     pub faults: u64,
     failing: Failing,
 }
 
 impl PlainFolder {
+    /// A folder of no file, one of whose calls is to fail.
     pub fn new(alloc: Global, failing: Failing) -> Self {
         PlainFolder {
             alloc,
@@ -118,6 +130,7 @@ impl PlainFolder {
         self.end(number)
     }
 
+    /// The content of a file.
     pub fn read(&mut self, place: Place) -> Result<Vec<u8>, FolderFault> {
         let number = self.begin()?;
         let bytes = self.content(place)?;
@@ -125,11 +138,13 @@ impl PlainFolder {
         Ok(bytes)
     }
 
+    /// How many bytes a file has.
     pub fn size(&mut self, place: Place) -> Result<u64, FolderFault> {
         let bytes = self.read(place)?;
         Ok(bytes.len() as u64)
     }
 
+    /// A file has this content, in place of that of one which was there.
     pub fn write(&mut self, place: Place, bytes: &[u8]) -> Result<(), FolderFault> {
         let number = self.begin()?;
         let bytes = Vec::from_slice(self.alloc, bytes)?;
@@ -137,6 +152,7 @@ impl PlainFolder {
         self.end(number)
     }
 
+    /// A file has these bytes more.
     pub fn append(&mut self, place: Place, bytes: &[u8]) -> Result<(), FolderFault> {
         let number = self.begin()?;
         let mut whole = self.content(place)?;
@@ -145,6 +161,7 @@ impl PlainFolder {
         self.end(number)
     }
 
+    /// A file lies elsewhere, in place of one that lay there.
     pub fn rename(&mut self, from: Place, to: Place) -> Result<(), FolderFault> {
         let number = self.begin()?;
         let bytes = self.content(from)?;
@@ -153,6 +170,7 @@ impl PlainFolder {
         self.end(number)
     }
 
+    /// A file is the most recent.
     pub fn touch(&mut self, place: Place) -> Result<(), FolderFault> {
         self.rename(place, place)
     }

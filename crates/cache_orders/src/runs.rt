@@ -1,14 +1,14 @@
 //! The orders: each without faults, and with each call of the folder in turn failing before what it does and
 //! behind it; and an opening at the end of each, in which none fails.
 
-use crate::answers::{Answer, Difference, agree, done};
+use crate::answers::{Answer, Difference, agree, done, same};
 use crate::calls::{given, wanted};
 use crate::compare::{same_files, same_list};
 use crate::entries::{Plan, add_around};
 use crate::names::{CAPACITY, Key, Place, ROOT};
+use crate::orders::{Call, Step, letters};
 use crate::plain_cache::PlainCache;
 use crate::plain_folder::{Failing, PlainFolder};
-use crate::steps::{Call, Step, letters};
 use lru_disk_cache::LruDiskCache;
 use lru_disk_cache::calls::Calls;
 use lru_disk_cache::fault::FolderFault;
@@ -139,13 +139,6 @@ fn put<F: Folder + Drop>(
 ) -> Result<(), Difference> {
     same(folder.make_parents(place.path()), plain.nothing())?;
     same(folder.write(place.path(), bytes), plain.write(place, bytes))
-}
-
-fn same(given: Result<(), FolderFault>, wanted: Result<(), FolderFault>) -> Result<(), Difference> {
-    if given == wanted {
-        return Ok(());
-    }
-    Err(Difference::Answers)
 }
 
 /// The first steps of an order over a folder, and an opening behind them. Gives how many calls of the folder

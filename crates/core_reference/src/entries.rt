@@ -52,8 +52,10 @@ fn reserve(
     log: &[CoreEntry],
     now: u64,
 ) -> Result<CoreEntry, AllocError>
-    ensures { IfOk result (λ e. e ≡ rule (record { base = base; count = count; log = log.now })
-        (call.Reserve now)) }
+    ensures { IfOk result (λ e. e ≡ rule (record {
+      start = record { base = base; count = count };
+      log = log.now;
+    }) (call.Reserve now)) }
 {
     let rows = servers(alloc, log)?;
     let given = u128::from(count) + u128::from(reservation_count(log));
@@ -165,8 +167,10 @@ pub fn rule(
     log: &[CoreEntry],
     asked: &Call,
 ) -> Result<CoreEntry, AllocError>
-    ensures rule { IfOk result (λ e. e ≡ rule (record { base = base; count = count; log = log.now })
-        asked.now) }
+    ensures rule { IfOk result (λ e. e ≡ rule (record {
+      start = record { base = base; count = count };
+      log = log.now;
+    }) asked.now) }
 {
     match asked {
         Call::Reserve { now } => reserve(alloc, base, count, log, *now),

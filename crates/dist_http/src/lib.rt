@@ -6,6 +6,7 @@
 
 pub mod http;
 pub mod real_serve;
+pub mod starts;
 
 pub use dist_config::config::{ClientAuth, SchedulerConfig, ServerAuth, ServerConfig};
 pub use http_calls::alloc_call::AllocCall;

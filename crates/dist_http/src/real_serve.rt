@@ -1,11 +1,15 @@
 //! The system's own: what serves by listeners and workers.
-ghost use Rattle.std.specs.Prelude.{◌≡◌, None};
+ghost use Rattle.std.specs.Prelude.{◌≡◌, ◌≤◌, None, OnOk, OnErr};
+ghost use Rattle.dist_types.specs.Cause.{Rose};
+ghost use Rattle.dist_types.specs.Content.{Recorded, KeptOrRecorded};
+ghost use Rattle.dist_config.specs.Serve.{scheduler_call, server_call};
+ghost use Rattle.dist_http.specs.Starts.{left_of};
 
+use crate::starts::Starts;
 use dist_config::config::{SchedulerConfig, ServerConfig};
 use dist_config::serve::Serve;
 use dist_types::fault::{Failed, raise};
 use http_connections::start::{Start, StartFault};
-use http_connections::stream::LINK_TIMEOUT_MS;
 use rand_core::Rng;
 
 /// A start of a scheduler.
@@ -21,10 +25,8 @@ pub type ServerCall = Box<dyn Fn(&ServerConfig, Start) -> Result<(), StartFault>
 pub struct RealServe<G> {
     scheduler: SchedulerCall,
     server: ServerCall,
-    random: G,
-    cpus: u64,
-    limit: Option<u64>,
-    timeout_ms: u64,
+    /// What its starts are given.
+    pub starts: Starts<G>,
     faults: u64,
     ghost schedules: { SchedulerCall.IsAlwaysCallable scheduler },
     ghost serves: { ServerCall.IsAlwaysCallable server },
@@ -36,69 +38,43 @@ impl<G> RealServe<G> {
     pub fn new(scheduler: SchedulerCall, server: ServerCall, random: G, cpus: u64) -> Self
         requires schedules { SchedulerCall.IsAlwaysCallable scheduler }
         requires serves { ServerCall.IsAlwaysCallable server }
+        ensures starts { result.starts
+            ≡ record { random = random; cpus = cpus; limit = None; timeout_ms = 30000 } }
     {
-        RealServe {
-            scheduler,
-            server,
-            random,
-            cpus,
-            limit: None,
-            timeout_ms: LINK_TIMEOUT_MS,
-            faults: 0,
-        }
+        RealServe::with_starts(scheduler, server, Starts::new(random, cpus))
     }
 
-    /// The same, but that its listener ends after so many connections where a number is given, and that each
-    /// fails where it waits longer than so many milliseconds, of which there is at least one, for a byte to
-    /// come or to go.
-    pub fn with_limits(
-        scheduler: SchedulerCall,
-        server: ServerCall,
-        random: G,
-        cpus: u64,
-        limit: Option<u64>,
-        timeout_ms: u64,
-    ) -> Self
+    /// The same, with these starts. It takes no memory.
+    pub fn with_starts(scheduler: SchedulerCall, server: ServerCall, starts: Starts<G>) -> Self
         requires schedules { SchedulerCall.IsAlwaysCallable scheduler }
         requires serves { ServerCall.IsAlwaysCallable server }
+        ensures starts { result.starts ≡ starts }
     {
         RealServe {
             scheduler,
             server,
-            random,
-            cpus,
-            limit,
-            timeout_ms,
+            starts,
             faults: 0,
         }
     }
 }
 
-impl<G: Rng> RealServe<G> {
-    /// What one start is given, with a word and a key that are drawn for it.
-    fn start(&mut self) -> Start
-        ensures faults { self.new.faults ≡ self.old.faults }
-    {
-        let word = self.random.next_u64();
-        let mut key = [0u8; 32];
-        self.random.fill_bytes(&mut key);
-        Start {
-            word,
-            key,
-            cpus: self.cpus,
-            limit: self.limit,
-            timeout_ms: self.timeout_ms,
-        }
-    }
-}
-
+/// Each call draws one start.
 impl<G: Rng> Serve for RealServe<G> {
     ghost calls = { λ _. None };
 
     ghost faults = { λ s. s.faults };
 
-    fn scheduler(&mut self, config: &SchedulerConfig) -> Result<(), Failed> {
-        let start = self.start();
+    fn scheduler(&mut self, config: &SchedulerConfig) -> Result<(), Failed>
+        ensures ok { OnOk result (Recorded (scheduler_call config.now result) None None) }
+        ensures failed { OnErr result (KeptOrRecorded (scheduler_call config.now result) None None) }
+        ensures steady { OnOk result (self.new.faults ≡ self.old.faults) }
+        ensures later { self.old.faults ≤ self.new.faults }
+        ensures cause { OnErr result (Rose self.old.faults self.new.faults) }
+
+        ensures drawn { G.stream self.new.starts.random ≡ left_of (G.stream self.old.starts.random) }
+    {
+        let start = self.starts.draw();
         match (self.scheduler)(config, start) {
             Ok(()) => Ok(()),
             Err(_) => {
@@ -108,8 +84,16 @@ impl<G: Rng> Serve for RealServe<G> {
         }
     }
 
-    fn server(&mut self, config: &ServerConfig) -> Result<(), Failed> {
-        let start = self.start();
+    fn server(&mut self, config: &ServerConfig) -> Result<(), Failed>
+        ensures ok { OnOk result (Recorded (server_call config.now result) None None) }
+        ensures failed { OnErr result (KeptOrRecorded (server_call config.now result) None None) }
+        ensures steady { OnOk result (self.new.faults ≡ self.old.faults) }
+        ensures later { self.old.faults ≤ self.new.faults }
+        ensures cause { OnErr result (Rose self.old.faults self.new.faults) }
+
+        ensures drawn { G.stream self.new.starts.random ≡ left_of (G.stream self.old.starts.random) }
+    {
+        let start = self.starts.draw();
         match (self.server)(config, start) {
             Ok(()) => Ok(()),
             Err(_) => {

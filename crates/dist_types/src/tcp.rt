@@ -125,7 +125,9 @@ fn connect_fault(kind: ErrorKind) -> AskFault
     AskFault::Failed
 }
 
-/// One request and its reply, over a connection of its own. A reply past 2,147,483,648 bytes is a fault.
+/// One request and its reply, over a connection of its own. A peer that refuses a request may reply before it
+/// has all of it, and take no more: so the reply is read also where the request was not written whole, and
+/// there is a fault where none came. A reply past 2,147,483,648 bytes is a fault.
 fn fetch<N: Net>(
     alloc: Global,
     net: &N,
@@ -139,8 +141,9 @@ fn fetch<N: Net>(
         Ok(stream) => TcpLink::new(stream),
         Err(e) => return Err(connect_fault(e.kind())),
     };
-    write_all(&mut link, request)?;
+    let sent = write_all(&mut link, request);
     match read_whole(alloc, &mut link, MAX_REPLY) {
+        Ok(reply) if sent.is_err() && reply.is_empty() => Err(AskFault::Failed),
         Ok(reply) => Ok(reply),
         Err(ReadError::Memory) => Err(AskFault::Memory),
         Err(ReadError::Failed) => Err(AskFault::Failed),

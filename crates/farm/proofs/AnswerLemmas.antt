@@ -704,7 +704,7 @@ fault_bad what f answer told cause before after e x there bad (inr h) said =
 configured_by : (answer : ℕ) (c : Called) (e x : Side) → IsAnswered answer c e x → (told : List NamedFile)
     → c.before.files ≡ Some told
     → (what : Invocation) (cause : ConfigCause) → asked_by c.words ≡ Some what → command_in what told
-        ≡ Err cause
+    ≡ Err cause
     → (answer ≡ 6) ⊎ ((answer ≡ 3) ⊎ (answer ≡ 5))
 configured_by zero c e x a told there what cause named bad =
     absurd (not_done what told cause c.before c.after there bad

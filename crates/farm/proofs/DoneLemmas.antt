@@ -7,12 +7,12 @@ use Rattle.farm_words.specs.declared.command.Command.{Command}
 use Rattle.farm_words.specs.declared.command.Command.TheVariants.{Farm, Storm, Auth, Scheduler, Server}
 use Rattle.farm_words.specs.Asked.{Invocation}
 use Rattle.farm_words.specs.Parsed.{IsParsed}
-use Rattle.farm.specs.Command.{Moment, moment, IsCarriedOut, IsUntouched, IsDoneBy}
+use Rattle.farm.specs.Command.{Moment, fileless, IsCarriedOut, IsUntouched, IsDoneBy}
 
 -- what is carried out looks at no file
 pub carried_out_at : (command : Command) (result : Result ⊤ FarmFault) (before after : Moment)
-    → IsCarriedOut command result (moment before.input before.out before.random before.serve)
-    (moment after.input after.out after.random after.serve)
+    → IsCarriedOut command result (fileless before.input before.out before.random before.serve)
+    (fileless after.input after.out after.random after.serve)
     → IsCarriedOut command result before after
 carried_out_at Farm result before after h = h
 carried_out_at (Storm n) result before after h = h

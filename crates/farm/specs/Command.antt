@@ -72,16 +72,28 @@ pub record Moment : Type 0 where
   pub random : Stream
   pub serve : Serving
 
--- the same where no file is read
-abbrev pub moment : Side → Side → Stream → Serving → Moment
-moment input out random serve = record {
+-- a side, by what it tells
+abbrev pub side : {A : Type 0} → (A → Option (List ℕ)) → (A → ℕ) → A → Side
+side content faults a = record { content = content a; faults = faults a }
+
+-- what serves, by what it tells
+abbrev pub serving : {A : Type 0} → (A → Option (List ServeCall)) → (A → ℕ) → A → Serving
+serving calls faults a = record { calls = calls a; faults = faults a }
+
+-- the moment at which these are found
+abbrev pub moment : Side → Side → Option (List NamedFile) → ℕ → Stream → Serving → Moment
+moment input out files file_faults random serve = record {
   input = input;
   out = out;
-  files = None;
-  file_faults = 0;
+  files = files;
+  file_faults = file_faults;
   random = random;
   serve = serve;
 }
+
+-- the same where no file is read
+abbrev pub fileless : Side → Side → Stream → Serving → Moment
+fileless input out random serve = moment input out None 0 random serve
 
 -- a call of the command: its words, and what it meets, before and after it
 pub record Called : Type 0 where

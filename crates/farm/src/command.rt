@@ -13,8 +13,8 @@ ghost use Rattle.farm_script.specs.declared.fault.FarmFault.TheVariants as fault
 ghost use Rattle.farm_script.specs.declared.fault.ConfigCause.{ConfigCause as Cause};
 ghost use Rattle.farm_words.specs.Asked.{Invocation, asked_by, farm, storm};
 ghost use Rattle.farm_words.specs.Parsed.{command_in};
-ghost use Rattle.farm.specs.Command.{IsFarmRun, IsAuthRun, IsStarted, IsCarriedOut, moment, IsDone, IsTold};
-ghost use Rattle.farm.specs.Command.{IsAnswered};
+ghost use Rattle.farm.specs.Command.{IsFarmRun, IsAuthRun, IsStarted, IsCarriedOut, IsDone, IsTold};
+ghost use Rattle.farm.specs.Command.{IsAnswered, fileless, moment, serving, side};
 
 use crate::report::report;
 use crate::script_run::run_of;
@@ -54,10 +54,8 @@ fn read_input<S: Source>(alloc: Global, input: &mut S) -> Result<Vec<u8>, FarmFa
 /// Reads a script and writes the text of its run.
 fn run_farm<S: Source, K: Sink>(alloc: Global, input: &mut S, out: &mut K) -> Result<(), FarmFault>
     ensures run { IsFarmRun result
-        (record { content = S.left input.old; faults = S.faults input.old })
-        (record { content = S.left input.new; faults = S.faults input.new })
-        (record { content = K.held out.old; faults = K.faults out.old })
-        (record { content = K.held out.new; faults = K.faults out.new }) }
+        (side S.left S.faults input.old) (side S.left S.faults input.new)
+        (side K.held K.faults out.old) (side K.held K.faults out.new) }
 {
     let bytes = match read_input(alloc, input) {
         Ok(bytes) => bytes,
@@ -81,8 +79,7 @@ fn run_auth<K: Sink, R: Rng>(
     out: &mut K,
 ) -> Result<(), FarmFault>
     ensures run { IsAuthRun auth.now result (R.stream random.old) (R.stream random.new)
-        (record { content = K.held out.old; faults = K.faults out.old })
-        (record { content = K.held out.new; faults = K.faults out.new }) }
+        (side K.held K.faults out.old) (side K.held K.faults out.new) }
 {
     let line = match auth_line(alloc, auth, random) {
         Ok(line) => line,
@@ -97,8 +94,7 @@ fn run_auth<K: Sink, R: Rng>(
 /// Hands a scheduler's configuration on.
 fn start_scheduler<N: Serve>(config: SchedulerConfig, serve: &mut N) -> Result<(), FarmFault>
     ensures started { IsStarted (scheduler_call config) result
-        (record { calls = N.calls serve.old; faults = N.faults serve.old })
-        (record { calls = N.calls serve.new; faults = N.faults serve.new }) }
+        (serving N.calls N.faults serve.old) (serving N.calls N.faults serve.new) }
 {
     match Scheduler::new(config).start(serve) {
         Ok(()) => Ok(()),
@@ -109,8 +105,7 @@ fn start_scheduler<N: Serve>(config: SchedulerConfig, serve: &mut N) -> Result<(
 /// Hands a build server's configuration on.
 fn start_server<N: Serve>(config: ServerConfig, serve: &mut N) -> Result<(), FarmFault>
     ensures started { IsStarted (server_call config) result
-        (record { calls = N.calls serve.old; faults = N.faults serve.old })
-        (record { calls = N.calls serve.new; faults = N.faults serve.new }) }
+        (serving N.calls N.faults serve.old) (serving N.calls N.faults serve.new) }
 {
     match Server::new(config).start(serve) {
         Ok(()) => Ok(()),
@@ -128,12 +123,10 @@ fn carry_out<S: Source, K: Sink, R: Rng, N: Serve>(
     serve: &mut N,
 ) -> Result<(), FarmFault>
     ensures done { IsCarriedOut command result
-        (moment (record { content = S.left input.old; faults = S.faults input.old })
-        (record { content = K.held out.old; faults = K.faults out.old }) (R.stream random.old)
-        (record { calls = N.calls serve.old; faults = N.faults serve.old }))
-        (moment (record { content = S.left input.new; faults = S.faults input.new })
-        (record { content = K.held out.new; faults = K.faults out.new }) (R.stream random.new)
-        (record { calls = N.calls serve.new; faults = N.faults serve.new })) }
+        (fileless (side S.left S.faults input.old) (side K.held K.faults out.old) (R.stream random.old)
+        (serving N.calls N.faults serve.old))
+        (fileless (side S.left S.faults input.new) (side K.held K.faults out.new) (R.stream random.new)
+        (serving N.calls N.faults serve.new)) }
 {
     match command {
         Command::Farm => run_farm(alloc, input, out),
@@ -156,22 +149,10 @@ fn run_words<S: Source, K: Sink, D: Files, R: Rng, N: Serve>(
 ) -> Result<(), FarmFault>
     ensures done { IsDone result (record {
       words = map string_bytes words.now;
-      before = record {
-        input = record { content = S.left input.old; faults = S.faults input.old };
-        out = record { content = K.held out.old; faults = K.faults out.old };
-        files = D.files files.old;
-        file_faults = D.faults files.old;
-        random = R.stream random.old;
-        serve = record { calls = N.calls serve.old; faults = N.faults serve.old };
-      };
-      after = record {
-        input = record { content = S.left input.new; faults = S.faults input.new };
-        out = record { content = K.held out.new; faults = K.faults out.new };
-        files = D.files files.new;
-        file_faults = D.faults files.new;
-        random = R.stream random.new;
-        serve = record { calls = N.calls serve.new; faults = N.faults serve.new };
-      };
+      before = moment (side S.left S.faults input.old) (side K.held K.faults out.old) (D.files files.old)
+          (D.faults files.old) (R.stream random.old) (serving N.calls N.faults serve.old);
+      after = moment (side S.left S.faults input.new) (side K.held K.faults out.new) (D.files files.new)
+          (D.faults files.new) (R.stream random.new) (serving N.calls N.faults serve.new);
     }) }
     ensures kept { D.files files.new ≡ D.files files.old }
 {
@@ -202,25 +183,11 @@ pub fn dist_main<S: Source, K: Sink, E: Sink, D: Files, R: Rng, N: Serve>(
     // it is 5, errs failed and has a front of that text.
     ensures answered { IsAnswered result (record {
       words = map string_bytes words.now;
-      before = record {
-        input = record { content = S.left input.old; faults = S.faults input.old };
-        out = record { content = K.held out.old; faults = K.faults out.old };
-        files = D.files files.old;
-        file_faults = D.faults files.old;
-        random = R.stream random.old;
-        serve = record { calls = N.calls serve.old; faults = N.faults serve.old };
-      };
-      after = record {
-        input = record { content = S.left input.new; faults = S.faults input.new };
-        out = record { content = K.held out.new; faults = K.faults out.new };
-        files = D.files files.new;
-        file_faults = D.faults files.new;
-        random = R.stream random.new;
-        serve = record { calls = N.calls serve.new; faults = N.faults serve.new };
-      };
-    })
-        (record { content = E.held errs.old; faults = E.faults errs.old })
-        (record { content = E.held errs.new; faults = E.faults errs.new }) }
+      before = moment (side S.left S.faults input.old) (side K.held K.faults out.old) (D.files files.old)
+          (D.faults files.old) (R.stream random.old) (serving N.calls N.faults serve.old);
+      after = moment (side S.left S.faults input.new) (side K.held K.faults out.new) (D.files files.new)
+          (D.faults files.new) (R.stream random.new) (serving N.calls N.faults serve.new);
+    }) (side E.held E.faults errs.old) (side E.held E.faults errs.new) }
     // There is no other status.
     ensures statuses { result ≤ 7 }
     // No file changes.
@@ -291,36 +258,19 @@ pub fn run_command_line<S: Source, K: Sink, E: Sink, D: Files, R: Rng, N: Serve>
     // What `dist_main` answers of these words, unless memory ran out before.
     ensures given { IfOk given (λ args. IsAnswered result (record {
       words = map string_bytes (into_iter_items args);
-      before = record {
-        input = record { content = S.left input.old; faults = S.faults input.old };
-        out = record { content = K.held out.old; faults = K.faults out.old };
-        files = D.files files.old;
-        file_faults = D.faults files.old;
-        random = R.stream random.old;
-        serve = record { calls = N.calls serve.old; faults = N.faults serve.old };
-      };
-      after = record {
-        input = record { content = S.left input.new; faults = S.faults input.new };
-        out = record { content = K.held out.new; faults = K.faults out.new };
-        files = D.files files.new;
-        file_faults = D.faults files.new;
-        random = R.stream random.new;
-        serve = record { calls = N.calls serve.new; faults = N.faults serve.new };
-      };
-    })
-        (record { content = E.held errs.old; faults = E.faults errs.old })
-        (record { content = E.held errs.new; faults = E.faults errs.new })
+      before = moment (side S.left S.faults input.old) (side K.held K.faults out.old) (D.files files.old)
+          (D.faults files.old) (R.stream random.old) (serving N.calls N.faults serve.old);
+      after = moment (side S.left S.faults input.new) (side K.held K.faults out.new) (D.files files.new)
+          (D.faults files.new) (R.stream random.new) (serving N.calls N.faults serve.new);
+    }) (side E.held E.faults errs.old) (side E.held E.faults errs.new)
         ⊎ ((input.new ≡ input.old) × (out.new ≡ out.old) × (files.new ≡ files.old)
         × (random.new ≡ random.old) × (serve.new ≡ serve.old) × IsTold fault.Memory result
-        (record { content = E.held errs.old; faults = E.faults errs.old })
-        (record { content = E.held errs.new; faults = E.faults errs.new }))) }
+        (side E.held E.faults errs.old) (side E.held E.faults errs.new))) }
     // Where the system gave no words, memory ran out, or a word is not UTF-8.
     ensures memory { IfErr given (λ e. error_kind e ≡ ErrorKind.OutOfMemory → IsTold fault.Memory result
-        (record { content = E.held errs.old; faults = E.faults errs.old })
-        (record { content = E.held errs.new; faults = E.faults errs.new })) }
+        (side E.held E.faults errs.old) (side E.held E.faults errs.new)) }
     ensures usage { IfErr given (λ e. error_kind e ≢ ErrorKind.OutOfMemory → IsTold fault.Usage result
-        (record { content = E.held errs.old; faults = E.faults errs.old })
-        (record { content = E.held errs.new; faults = E.faults errs.new })) }
+        (side E.held E.faults errs.old) (side E.held E.faults errs.new)) }
     ensures untouched { OnErr given ((input.new ≡ input.old) × (out.new ≡ out.old) × (files.new ≡ files.old)
         × (random.new ≡ random.old) × (serve.new ≡ serve.old)) }
 {

@@ -3,6 +3,7 @@ ghost use Rattle.std.specs.Prelude.{◌≡◌, IfOk, IfSome, IfNone, string_byte
 ghost use Rattle.farm_script.specs.declared.fault.FarmFault.{FarmFault as Fault};
 ghost use Rattle.farm_script.specs.declared.fault.FarmFault.TheVariants as faults;
 ghost use Rattle.farm.specs.Command.{fault_text, fault_status, IsSaid, IsTold, IsLong, StandsFor, IsReported};
+ghost use Rattle.farm.specs.Command.{side};
 
 use dist_types::sink::{Sink, write_all};
 use farm_script::fault::{ConfigCause, FarmFault};
@@ -27,8 +28,7 @@ const MEMORY: &[u8] = b"sccache-dist: out of memory\n";
 /// Writes a text on errs, and answers its status, or 5 where errs failed.
 fn say<E: Sink>(errs: &mut E, text: &[u8], status: u8) -> u8
     ensures said { IsSaid text.now status result
-        (record { content = E.held errs.old; faults = E.faults errs.old })
-        (record { content = E.held errs.new; faults = E.faults errs.new }) }
+        (side E.held E.faults errs.old) (side E.held E.faults errs.new) }
 {
     match write_all(errs, text) {
         Ok(()) => status,
@@ -102,8 +102,7 @@ fn memory_text() -> &'static [u8]
 /// Tells want of memory.
 fn tell_memory<E: Sink>(errs: &mut E) -> u8
     ensures told { IsTold faults.Memory result
-        (record { content = E.held errs.old; faults = E.faults errs.old })
-        (record { content = E.held errs.new; faults = E.faults errs.new }) }
+        (side E.held E.faults errs.old) (side E.held E.faults errs.new) }
 {
     say(errs, memory_text(), 3)
 }
@@ -113,8 +112,7 @@ fn tell_memory<E: Sink>(errs: &mut E) -> u8
 fn tell_long<E: Sink>(alloc: Global, fault: &FarmFault, errs: &mut E) -> u8
     requires { IsLong fault.now }
     ensures told { (told : Fault) × StandsFor fault.now told × IsTold told result
-        (record { content = E.held errs.old; faults = E.faults errs.old })
-        (record { content = E.held errs.new; faults = E.faults errs.new }) }
+        (side E.held E.faults errs.old) (side E.held E.faults errs.new) }
 {
     match long_text(alloc, fault) {
         Ok(text) => say(errs, text.as_bytes(), status_of(fault)),
@@ -125,8 +123,7 @@ fn tell_long<E: Sink>(alloc: Global, fault: &FarmFault, errs: &mut E) -> u8
 /// Tells a fault, or want of memory where memory runs out for its text.
 fn tell<E: Sink>(alloc: Global, fault: &FarmFault, errs: &mut E) -> u8
     ensures told { (told : Fault) × StandsFor fault.now told × IsTold told result
-        (record { content = E.held errs.old; faults = E.faults errs.old })
-        (record { content = E.held errs.new; faults = E.faults errs.new }) }
+        (side E.held E.faults errs.old) (side E.held E.faults errs.new) }
 {
     match short_text(fault) {
         Some(text) => say(errs, text, status_of(fault)),
@@ -139,8 +136,7 @@ fn tell<E: Sink>(alloc: Global, fault: &FarmFault, errs: &mut E) -> u8
 /// for its text.
 pub fn report<E: Sink>(alloc: Global, done: Result<(), FarmFault>, errs: &mut E) -> u8
     ensures reported { IsReported done result
-        (record { content = E.held errs.old; faults = E.faults errs.old })
-        (record { content = E.held errs.new; faults = E.faults errs.new }) }
+        (side E.held E.faults errs.old) (side E.held E.faults errs.new) }
 {
     match done {
         Ok(()) => 0,

@@ -1,5 +1,5 @@
 //! The storm, and its summary on the output.
-ghost use Rattle.farm.specs.Command.{IsStormRun};
+ghost use Rattle.farm.specs.Command.{IsStormRun, side};
 
 use dist_types::sink::{Sink, write_all};
 use farm_script::fault::FarmFault;
@@ -9,8 +9,7 @@ use std::alloc::Global;
 /// Writes the summary of the storm of so many events.
 pub fn run_storm<K: Sink>(alloc: Global, count: u64, out: &mut K) -> Result<(), FarmFault>
     ensures run { IsStormRun count result
-        (record { content = K.held out.old; faults = K.faults out.old })
-        (record { content = K.held out.new; faults = K.faults out.new }) }
+        (side K.held K.faults out.old) (side K.held K.faults out.new) }
 {
     let text = match storm_text(alloc, count) {
         Ok(text) => text,

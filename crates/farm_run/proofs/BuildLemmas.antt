@@ -92,7 +92,7 @@ use Rattle.farm_run.specs.Builds.{IsTaken, IsStarted, AreStarted, AreBuilds, Has
 use Rattle.farm_run.specs.Calls.{call_at, delivered_by, delivery_at, settles_by, is_void, waiting_at}
 use Rattle.farm_run.specs.Effects.{word_effect, effect_of, entry_of}
 use Rattle.farm_run.specs.Next.{GoesOn, IsSettled, IsMade, IsNext, EachNext, IsRun}
-use Rattle.farm_run.specs.Seen.{core_log, core_of, serves}
+use Rattle.farm_run.specs.Seen.{ids_start, core_log, core_of, serves}
 use Rattle.farm_run.specs.Served.{assigned, served, told_of, books_of, state_call}
 use Rattle.farm_run.specs.Weather.{free, IsFree, opened_effect}
 use Rattle.lru_disk_cache.specs.Archives.{Archives}
@@ -784,7 +784,7 @@ module _ (setup : Setup) (events : List Event) (entries : List Entry) (fits : se
   next : (n : ℕ) (e : Entry) → slice_get entries n ≡ Some e → IsNext free setup (take n entries) e.event e
   next n e there = next_at free setup [] events entries n e each there
 
-  legal : (n : ℕ) → IsLegal setup.scheduler.base setup.scheduler.count (core_log (take n entries))
+  legal : (n : ℕ) → IsLegal (ids_start setup) (core_log (take n entries))
   legal n = (runs_lawful setup events entries fits each n).legal
 
   starts : (d n : ℕ) (server : Addr) (job : JobId) (s : Start setup entries d n server job)
@@ -799,7 +799,7 @@ module _ (setup : Setup) (events : List Event) (entries : List Entry) (fits : se
     delivers = s.delivers;
     at = s.made.now;
     accepts = s.core ∙ (λ i. Some (record { now = s.made.now; kind = s.kind i }));
-    was = was_ready setup.scheduler.base setup.scheduler.count (core_log (take d entries)) s.made job fits
+    was = was_ready (ids_start setup) (core_log (take d entries)) s.made job fits
         (legal d) s.is_rule (starts d n server job s);
   }
 
@@ -914,7 +914,7 @@ module _ (setup : Setup) (events : List Event) (entries : List Entry) (fits : se
   no_two : (c d m n : ℕ) (s t : Addr) (job : JobId) → Start setup entries c m s job
       → Start setup entries d n t job → c < d → ⊥
   no_two c d m n s t job a b less =
-      once setup.scheduler.base setup.scheduler.count (core_log (take d entries)) b.made job fits
+      once (ids_start setup) (core_log (take d entries)) b.made job fits
       (legal d) b.is_rule (starts d n t job b)
       (core_among (λ (k : CoreEntry). starts_by k.kind job) entries c d a.entry a.made less a.there a.core
       (starts c m s job a))

@@ -8,6 +8,7 @@ pub mod FreeLemmas
 pub mod GrantLemmas
 pub mod HexLemmas
 pub mod IdLemmas
+pub mod LineLemmas
 pub mod MadeLemmas
 pub mod NextLemmas
 pub mod NumberLemmas

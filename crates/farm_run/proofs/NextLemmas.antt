@@ -14,6 +14,7 @@ use Rattle.dist_types.specs.declared.ids.JobId.{JobId}
 use Rattle.dist_types.specs.declared.outgoing.CallFault.{CallFault}
 use Rattle.dist_types.specs.declared.results.AssignJobResult.{AssignJobResult}
 use Rattle.dist_types.proofs.AddrLemmas.{bind_some}
+use Rattle.sched_core.specs.declared.start.Start.{Start}
 use Rattle.sched_core.proofs.Lists.{end_cut}
 use Rattle.sched_core.specs.Log.{Core}
 use Rattle.sched_core.specs.Pick.{pick}
@@ -68,7 +69,7 @@ use Rattle.farm_run.specs.Calls.{call_at, delivery_at, settles_by, is_void, sett
 use Rattle.farm_run.specs.Effects.{entry_of, effect_of, word_effect}
 use Rattle.farm_run.specs.Farm.{IsSound, IsLawful, AreLawful}
 use Rattle.farm_run.specs.Next.{GoesOn, IsSettled, IsMade, IsNext, EachNext, IsRun}
-use Rattle.farm_run.specs.Seen.{core_log, core_of}
+use Rattle.farm_run.specs.Seen.{ids_start, core_log, core_of}
 use Rattle.farm_run.specs.Settled.{IsOutcome, assignment_end, ReadyEnds, StartedEnds, complete_end, Reports}
 use Rattle.farm_run.specs.Settled.{ReportsIn, Lives}
 use Rattle.farm_run.specs.Weather.{free, opened_effect}
@@ -115,8 +116,8 @@ answer_adds setup log event number at json (asked.Alloc tc) =
       made = made;
       core = allocated_core s number json tc made made.kind;
       rule = (call.Reserve at, tt, refl);
-      spends = reserve_spends (pick (servers_of s.log)) (servers_of s.log) at s.base
-          (s.count + length (bookings s.log));
+      spends = reserve_spends (pick (servers_of s.log)) (servers_of s.log) at s.start.base
+          (s.start.count + length (bookings s.log));
     }))
 answer_adds setup log event number at json (asked.Beat server beat) =
     elim (cases_Bool (hears beat.num_cpus)) [
@@ -463,14 +464,14 @@ sound_run setup log (v ∷ vs) (x ∷ xs) fits sound each =
 sound_run setup log [] (x ∷ xs) fits sound each = absurd each
 sound_run setup log (v ∷ vs) [] fits sound each = absurd each
 
-lawful : (base count : ℕ) (log : List CoreEntry) → count < 2 ^ 64 → IsLegal base count log
-    → IsLawful base count log
-lawful base count log fits legal = record {
+lawful : (start : Start) (log : List CoreEntry) → start.count < 2 ^ 64 → IsLegal start log
+    → IsLawful start log
+lawful start log fits legal = record {
   legal = legal;
-  ids = legal_distinct base count log fits legal;
-  held = legal_once base count log fits legal;
-  states = (legal_all base count log fits legal).order;
-  loads = legal_bounded base count log fits legal;
+  ids = legal_distinct start log fits legal;
+  held = legal_once start log fits legal;
+  states = (legal_all start log fits legal).order;
+  loads = legal_bounded start log fits legal;
 }
 
 -- the core log of a front is a front of the core log
@@ -482,9 +483,9 @@ front_log n entries = ap core_log (sym (take-append-drop n entries)) ∙ filter_
 pub are_lawful : (setup : Setup) (entries : List Entry) → setup.scheduler.count < 2 ^ 64
     → IsSound setup entries → AreLawful setup entries
 are_lawful setup entries fits sound = λ n.
-    lawful setup.scheduler.base setup.scheduler.count (core_log (take n entries)) fits
-    (legal_front setup.scheduler.base setup.scheduler.count (core_log (take n entries))
-    (core_log (drop n entries)) (subst (IsLegal setup.scheduler.base setup.scheduler.count)
+    lawful (ids_start setup) (core_log (take n entries)) fits
+    (legal_front (ids_start setup) (core_log (take n entries))
+    (core_log (drop n entries)) (subst (IsLegal (ids_start setup))
     (front_log n entries) sound.legal))
 
 pub runs_lawful : (setup : Setup) (events : List Event) (entries : List Entry)

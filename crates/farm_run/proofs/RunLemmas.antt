@@ -1,16 +1,17 @@
 -- One more entry, and one more event.
-use Rattle.std.proofs.Common.{◌≡◌, ℕ, List, [], ◌∷◌, ◌++◌, map, Option, Some, None, refl, ap, ◌∙◌, sym, subst}
+use Rattle.std.proofs.Common.{◌≡◌, List, [], ◌∷◌, ◌++◌, map, Option, Some, None, refl, ap, ◌∙◌, sym, subst}
 use Rattle.std.proofs.Common.{append_assoc, append-nil}
 use Rattle.std.specs.Prelude.{option_to_list}
 use Rattle.std.specs.List.{cons_option}
 use Rattle.std.proofs.lemmas.List.Elements.{filter_map-append}
+use Rattle.sched_core.specs.declared.start.Start.{Start}
 use Rattle.sched_core.specs.declared.entry.CoreEntry.{CoreEntry}
 use Rattle.farm_script.specs.declared.event.Event.{Event}
 use Rattle.farm_run.specs.declared.entry.Entry.{Entry}
 use Rattle.farm_run.specs.declared.site.Site.{Site as Setup}
 use Rattle.farm_run.specs.Farm.{with_core}
 use Rattle.farm_run.specs.Next.{IsNext, EachNext, IsRun}
-use Rattle.farm_run.specs.Seen.{core_log, core_of}
+use Rattle.farm_run.specs.Seen.{ids_start, core_log, core_of}
 use Rattle.farm_run.specs.Weather.{Weather}
 
 one_core : {X : Type 0} (o : Option X) → cons_option o [] ≡ option_to_list o
@@ -22,24 +23,22 @@ pub core_log-push : (log : List Entry) (e : Entry)
 core_log-push log e = filter_map-append (λ d. d.core) log (e ∷ []) ∙ ap (λ cs. core_log log ++ cs)
     (one_core e.core)
 
-with_option : (base count : ℕ) (log : List CoreEntry) (o : Option CoreEntry)
-    → with_core (record { base = base; count = count; log = log }) o ≡ record {
-      base = base;
-      count = count;
+with_option : (start : Start) (log : List CoreEntry) (o : Option CoreEntry)
+    → with_core (record { start = start; log = log }) o ≡ record {
+      start = start;
       log = log ++ option_to_list o;
     }
-with_option base count log None = ap (λ (l : List CoreEntry). record { base = base; count = count; log = l })
+with_option start log None = ap (λ (l : List CoreEntry). record { start = start; log = l })
     (sym (append-nil log))
-with_option base count log (Some e) = refl
+with_option start log (Some e) = refl
 
 -- the scheduler with an entry's core entry is that of the log with the entry
 pub core_of-push : (setup : Setup) (log : List Entry) (e : Entry)
     → with_core (core_of setup log) e.core ≡ core_of setup (log ++ e ∷ [])
 core_of-push setup log e =
-    with_option setup.scheduler.base setup.scheduler.count (core_log log) e.core
+    with_option (ids_start setup) (core_log log) e.core
     ∙ ap (λ (l : List CoreEntry). record {
-      base = setup.scheduler.base;
-      count = setup.scheduler.count;
+      start = ids_start setup;
       log = l;
     }) (sym (core_log-push log e))
 

@@ -24,7 +24,7 @@ use Rattle.sched_core.proofs.LegalLemmas.{legal-push}
 use Rattle.farm_run.specs.declared.site.Site.{Site as Setup}
 use Rattle.farm_run.specs.declared.entry.Entry.{Entry}
 use Rattle.farm_run.specs.Calls.{settled_at, waiting_at}
-use Rattle.farm_run.specs.Seen.{core_log, core_of}
+use Rattle.farm_run.specs.Seen.{ids_start, core_log, core_of}
 use Rattle.farm_run.specs.Tickets.{ticket_by, ticket_of, ticket_at}
 use Rattle.farm_run.specs.Farm.{IsSound}
 use Rattle.farm_script.proofs.WordLemmas.{guard_off}
@@ -159,7 +159,7 @@ old_own setup log e n w t fits sound (inr (inr x)) waits is off =
     let own = sound.own n w t waits is in
     let spent = sound.own x.number x.waits x.ticket x.waiting x.reserved in
     let other : same_job x.ticket.job t.job ≡ false = is_false (same_job x.ticket.job t.job) (λ same.
-    let one = one_number setup.scheduler.base setup.scheduler.count (core_log log) x.ticket.number t.number
+    let one = one_number (ids_start setup) (core_log log) x.ticket.number t.number
     x.ticket.job t.job fits sound.legal spent own (same_job-sym x.ticket.job t.job same) in
     let place = one_place log x.number n x.ticket t x.reserved is one in
     true_false (settled_at n (end_cut log e))
@@ -180,15 +180,15 @@ last_own setup log e w t (inr (inr x)) waits is = let none : None ≡ Some w =
     sym (ap (λ (o : Option _). o >>= λ c. Some e) x.call) ∙ waits in absurd cc
 
 legal_next : (setup : Setup) (log : List Entry) (e : Entry) → IsSound setup log → Adds setup log e
-    → IsLegal setup.scheduler.base setup.scheduler.count (core_log (log ++ e ∷ []))
-legal_next setup log e sound (inl x) = subst (IsLegal setup.scheduler.base setup.scheduler.count)
+    → IsLegal (ids_start setup) (core_log (log ++ e ∷ []))
+legal_next setup log e sound (inl x) = subst (IsLegal (ids_start setup))
     (sym (core_with log e None x.core ∙ append-nil (core_log log))) sound.legal
 legal_next setup log e sound (inr (inl x)) =
-    subst (IsLegal setup.scheduler.base setup.scheduler.count) (sym (core_with log e (Some x.made) x.core))
-    (legal-push setup.scheduler.base setup.scheduler.count [] (core_log log) x.made sound.legal x.rule)
+    subst (IsLegal (ids_start setup)) (sym (core_with log e (Some x.made) x.core))
+    (legal-push (ids_start setup) [] (core_log log) x.made sound.legal x.rule)
 legal_next setup log e sound (inr (inr x)) =
-    subst (IsLegal setup.scheduler.base setup.scheduler.count) (sym (core_with log e (Some x.made) x.core))
-    (legal-push setup.scheduler.base setup.scheduler.count [] (core_log log) x.made sound.legal x.rule)
+    subst (IsLegal (ids_start setup)) (sym (core_with log e (Some x.made) x.core))
+    (legal-push (ids_start setup) [] (core_log log) x.made sound.legal x.rule)
 
 -- one more entry
 pub sound-step : (setup : Setup) (log : List Entry) (e : Entry) → setup.scheduler.count < 2 ^ 64

@@ -1,5 +1,5 @@
 -- A job is accepted as started at most once, and was ready before.
-use Rattle.std.proofs.Common.{◌≡◌, ℕ, ◌<◌, ◌^◌, Bool, true, false, cond, ◌&&◌, ◌||◌, List, [], ◌∷◌, ◌++◌, map}
+use Rattle.std.proofs.Common.{◌≡◌, ◌<◌, ◌^◌, Bool, true, false, cond, ◌&&◌, ◌||◌, List, [], ◌∷◌, ◌++◌, map}
 use Rattle.std.proofs.Common.{Option, Some, None, refl, ap, ◌∙◌, sym, subst}
 use Rattle.std.specs.Prelude.{option_to_list, if◌then◌else◌}
 use Rattle.std.specs.List.{AllByRecursion, list_any, find}
@@ -9,6 +9,7 @@ use Rattle.dist_types.specs.declared.addr.Addr.{Addr}
 use Rattle.dist_types.specs.declared.ids.JobId.{JobId}
 use Rattle.dist_types.specs.declared.results.JobState.{JobState}
 use Rattle.dist_types.specs.declared.results.JobState.TheVariants.{Pending, Ready, Started, Complete}
+use Rattle.sched_core.specs.declared.start.Start.{Start}
 use Rattle.sched_core.specs.declared.entry.CoreEntry.{CoreEntry}
 use Rattle.sched_core.specs.declared.entry.CoreKind.{CoreKind}
 use Rattle.sched_core.specs.declared.entry.CoreKind.TheVariants.{Beat, Reserve, Commit, Undo, Update, Status}
@@ -87,9 +88,9 @@ abbrev startable : JobId → Committed → Bool
 startable j c = same_job c.job j && follows (state_now c) Started
 
 -- what an entry starts is an open job that can be started
-start_open : (base count : ℕ) (log : List CoreEntry) (k : CoreKind) (j : JobId)
-    → Facts (core_of base count log) k → starts_by k j ≡ true → list_any (startable j) (open_jobs log) ≡ true
-start_open base count log (Update server job state answer) j is t =
+start_open : (start : Start) (log : List CoreEntry) (k : CoreKind) (j : JobId)
+    → Facts (core_of start log) k → starts_by k j ≡ true → list_any (startable j) (open_jobs log) ≡ true
+start_open start log (Update server job state answer) j is t =
     let front = and_left (is_started state && is_accepted answer) (same_job job j) t in
     let same : job ≡ j = same_job-eq job j
     (and_right (is_started state && is_accepted answer) (same_job job j) t) in
@@ -100,12 +101,12 @@ start_open base count log (Update server job state answer) j is t =
     (subst (λ (i : JobId). list_any (λ c. same_job c.job i && follows (state_now c) state)
     (open_jobs log) ≡ true) same
     (accepted_job log server job state (ap is_accepted (sym is) ∙ accepted)))
-start_open base count log (Reserve r) j is t = absurd (false≢true t)
-start_open base count log (Commit job state kept) j is t = absurd (false≢true t)
-start_open base count log (Undo job noted ended) j is t = absurd (false≢true t)
-start_open base count log (Beat server nonce cpus key pruned reaped replaced is_new) j is t =
+start_open start log (Reserve r) j is t = absurd (false≢true t)
+start_open start log (Commit job state kept) j is t = absurd (false≢true t)
+start_open start log (Undo job noted ended) j is t = absurd (false≢true t)
+start_open start log (Beat server nonce cpus key pruned reaped replaced is_new) j is t =
     absurd (false≢true t)
-start_open base count log (Status pruned servers cpus n) j is t = absurd (false≢true t)
+start_open start log (Status pruned servers cpus n) j is t = absurd (false≢true t)
 
 -- an entry that starts a job moves it
 start_moves : (k : CoreKind) (j : JobId) → starts_by k j ≡ true → moves_by k j ≡ Some Started
@@ -164,9 +165,9 @@ pushed log e p q step any =
     (list_any-map q (grown_commit e) (commits log) ∙ any-weaker p (λ c. q (grown_commit e c)) step
     (commits log) any)
 
-moved-step : (base count : ℕ) (log : List CoreEntry) (e : CoreEntry) → AreMoved log
-    → IsRule (core_of base count log) e → AreMoved (log ++ e ∷ [])
-moved-step base count log e moved is = λ j t. by_test j (list_any (starts j) log) refl
+moved-step : (start : Start) (log : List CoreEntry) (e : CoreEntry) → AreMoved log
+    → IsRule (core_of start log) e → AreMoved (log ++ e ∷ [])
+moved-step start log e moved is = λ j t. by_test j (list_any (starts j) log) refl
     (sym (list_any-push (starts j) log e) ∙ t)
   where
     by_test : (j : JobId) (b : Bool) → list_any (starts j) log ≡ b
@@ -177,11 +178,11 @@ moved-step base count log e moved is = λ j t. by_test j (list_any (starts j) lo
         let on : starts j e ≡ true = ap (λ (b : Bool). b || starts j e) (sym off) ∙ t in
         pushed log e (startable j) (has_started j) (new_started e j on)
         (any-all (startable j) is_open (commits log)
-        (start_open base count log e.kind j (facts (core_of base count log) e is) on))
+        (start_open start log e.kind j (facts (core_of start log) e is) on))
 
-are_moved : (base count : ℕ) (log : List CoreEntry) → IsLegal base count log → AreMoved log
-are_moved base count log legal = legal_has base count AreMoved (λ j t. absurd (false≢true t))
-    (moved-step base count) log legal
+are_moved : (start : Start) (log : List CoreEntry) → IsLegal start log → AreMoved log
+are_moved start log legal = legal_has start AreMoved (λ j t. absurd (false≢true t))
+    (moved-step start) log legal
 
 -- ---- the order of states
 
@@ -228,18 +229,18 @@ all_unit (c ∷ cs) = (tt, all_unit cs)
 
 -- ---- one more entry, which starts a job
 
-module _ (base count : ℕ) (log : List CoreEntry) (e : CoreEntry) (j : JobId) (fits : count < 2 ^ 64)
-    (legal : IsLegal base count log) (is : IsRule (core_of base count log) e)
+module _ (start : Start) (log : List CoreEntry) (e : CoreEntry) (j : JobId) (fits : start.count < 2 ^ 64)
+    (legal : IsLegal start log) (is : IsRule (core_of start log) e)
     (on : starts_by e.kind j ≡ true) where
   there : list_any (startable j) (commits log) ≡ true
   there = any-all (startable j) is_open (commits log)
-      (start_open base count log e.kind j (facts (core_of base count log) e is) on)
+      (start_open start log e.kind j (facts (core_of start log) e is) on)
 
   -- each commit of the job can be started
   each : AllByRecursion (λ c. same_job c.job j ≡ true → follows (state_now c) Started ≡ true) (commits log)
   each =
       each_same (λ c. c.job) (λ c. follows (state_now c) Started) j (commits log)
-      (legal_all base count log fits legal).committed
+      (legal_all start log fits legal).committed
       (any-kept (λ c. Unit {0}) (startable j) (λ c. same_job c.job j) (λ c. follows (state_now c) Started)
       (λ c u h. (
         and_left (same_job c.job j) (follows (state_now c) Started) h,
@@ -254,8 +255,8 @@ module _ (base count : ℕ) (log : List CoreEntry) (e : CoreEntry) (j : JobId) (
       (has_started j) (commits log)
       (all-both HasOrder (λ c. same_job c.job j ≡ true → follows (state_now c) Started ≡ true)
       (λ c. HasOrder c × (same_job c.job j ≡ true → follows (state_now c) Started ≡ true))
-      (λ c a b. (a, b)) (commits log) (legal_all base count log fits legal).order each)
-      (are_moved base count log legal j before) in
+      (λ c a b. (a, b)) (commits log) (legal_all start log fits legal).order each)
+      (are_moved start log legal j before) in
       let same = and_left (same_job c.0.job j) (list_any is_started (moves_of c.0)) c.2 in
       let past = chain_started c.0.state (moves_of c.0) c.1.0.1
       (and_right (same_job c.0.job j) (list_any is_started (moves_of c.0)) c.2) in
@@ -264,7 +265,7 @@ module _ (base count : ℕ) (log : List CoreEntry) (e : CoreEntry) (j : JobId) (
   -- it was ready
   pub was_ready : state_of j log ≡ Some Ready
   was_ready =
-      let one = only (λ c. c.job) j (commits log) (legal_all base count log fits legal).committed
+      let one = only (λ c. c.job) j (commits log) (legal_all start log fits legal).committed
       (any-weaker (startable j) (λ c. same_job c.job j)
       (λ c h. and_left (same_job c.job j) (follows (state_now c) Started) h) (commits log) there) in
       let all : AllByRecursion (λ c. follows (state_now c) Started ≡ true) (one.0 ∷ []) =

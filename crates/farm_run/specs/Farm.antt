@@ -3,6 +3,7 @@ use Rattle.std.specs.Prelude.{◌≡◌, ℕ, ◌^◌, ◌<◌, List, [], ◌∷
 use Rattle.std.specs.Prelude.{Option, Some, None}
 use Rattle.std.specs.List.{AllByRecursion}
 use Rattle.dist_types.specs.Addr.{◌>>=◌}
+use Rattle.sched_core.specs.declared.start.Start.{Start}
 use Rattle.sched_core.specs.Log.{Core, logged}
 use Rattle.sched_core.specs.Reservation.{bookings, unspent}
 use Rattle.sched_core.specs.Job.{commits, open_jobs}
@@ -25,7 +26,7 @@ use Rattle.farm_run.specs.Calls.{waiting_at}
 use Rattle.farm_run.specs.Effects.{entry_of}
 use Rattle.farm_run.specs.Next.{IsServed, IsMade, IsNext, IsRun}
 use Rattle.farm_run.specs.Passage.{IsMoved, Passage}
-use Rattle.farm_run.specs.Seen.{core_log, core_of}
+use Rattle.farm_run.specs.Seen.{ids_start, core_log, core_of}
 use Rattle.farm_run.specs.Servers.{restart_by}
 use Rattle.farm_run.specs.Stations.{AreStations, HasApart}
 use Rattle.farm_run.specs.Tickets.{ticket_at}
@@ -114,7 +115,7 @@ acted desk made = record desk { state = with_core desk.state made }
 
 -- the core log is legal, and the reservation of each call that waits is unspent
 pub record IsSound (setup : Setup) (log : List Entry) : Type 0 where
-  pub legal : IsLegal setup.scheduler.base setup.scheduler.count (core_log log)
+  pub legal : IsLegal (ids_start setup) (core_log log)
   pub own : (n : ℕ) (w : Entry) (t : Ticket) → waiting_at log n ≡ Some w → ticket_at log n ≡ Some t
       → is_among (unspent (core_log log)) t.number t.job ≡ true
 
@@ -122,8 +123,8 @@ pub record IsSound (setup : Setup) (log : List Entry) : Type 0 where
 -- each open job has exactly one unended reservation, at a registration that stands, the states of a committed
 -- job begin with pending or ready and leave none out from there on, and a registration with c processors has
 -- a load of at most c + 1 + c/8.
-pub record IsLawful (base count : ℕ) (log : List CoreEntry) : Type 0 where
-  pub legal : IsLegal base count log
+pub record IsLawful (start : Start) (log : List CoreEntry) : Type 0 where
+  pub legal : IsLegal start log
   pub ids : AreDistinct (map (λ b. b.job) (bookings log))
   pub held : AllByRecursion (λ c. IsHeldOnce log c.job) (open_jobs log)
   pub states : AllByRecursion HasOrder (commits log)
@@ -131,7 +132,7 @@ pub record IsLawful (base count : ℕ) (log : List CoreEntry) : Type 0 where
 
 -- after each front of the entries
 abbrev pub AreLawful : Setup → List Entry → Type 0
-AreLawful setup entries = (n : ℕ) → IsLawful setup.scheduler.base setup.scheduler.count
+AreLawful setup entries = (n : ℕ) → IsLawful (ids_start setup)
     (core_log (take n entries))
 
 -- each event, whatever it is, has a next entry in calm weather

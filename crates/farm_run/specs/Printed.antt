@@ -9,9 +9,9 @@ use Rattle.dist_types.specs.declared.addr.Addr.{Addr}
 use Rattle.dist_types.specs.Ids.{state_text}
 use Rattle.dist_types.specs.declared.ids.JobId.{JobId}
 use Rattle.dist_types.specs.declared.results.JobState.{JobState}
-use Rattle.sched_core.specs.Reservation.{bookings}
-use Rattle.sched_core.specs.Rows.{servers_of, held_by_id}
-use Rattle.sched_core.specs.declared.rows.HeldRow.{HeldRow}
+use Rattle.sched_core.specs.Reservation.{Booking, bookings, is_claimed}
+use Rattle.sched_core.specs.Job.{state_of}
+use Rattle.sched_core.specs.Rows.{servers_of, unended_by_id}
 use Rattle.sched_core.specs.declared.rows.ServerRow.{ServerRow}
 use Rattle.sched_core.specs.declared.entry.CoreEntry.{CoreEntry}
 use Rattle.sched_core.specs.declared.entry.CoreKind.{CoreKind}
@@ -251,11 +251,15 @@ abbrev pub claim_text : Bool → List ℕ
 claim_text true = codes "claimed"
 claim_text false = codes "unclaimed"
 
+-- the line of a job that is reserved at a registration, how far it is and whether its build has begun
+abbrev pub job_line : JobId → ℕ → Option JobState → Bool → List ℕ
+job_line job reg state claimed =
+    codes "job " ⧺ decimal job.0 ⧺ codes " reg " ⧺ decimal reg ⧺ codes " " ⧺ stage_text state ⧺ codes " "
+    ⧺ claim_text claimed ⧺ codes "\n"
+
 -- the line of a reservation that is unended
-abbrev pub job_text : HeldRow → List ℕ
-job_text h =
-    codes "job " ⧺ decimal h.job.0 ⧺ codes " reg " ⧺ decimal h.reg ⧺ codes " " ⧺ stage_text h.state
-    ⧺ codes " " ⧺ claim_text h.claimed ⧺ codes "\n"
+abbrev pub job_text : Booking → List ℕ
+job_text b = job_line b.job b.reg (state_of b.job b.later) (is_claimed b)
 
 -- how many ids are given after the whole log: those before the script, and one for each job that was reserved
 abbrev pub ids_given : SetupScheduler → List CoreEntry → ℕ
@@ -279,7 +283,7 @@ server_text s = flat_map (held_text s.setup.addr) s.held ++ flat_map
 -- rising id, and what each server keeps, in the order of the setup
 abbrev pub standing_text : Setup → List Entry → List ℕ
 standing_text setup entries =
-    flat_map row_text (servers_of (core_log entries)) ++ flat_map job_text (held_by_id (core_log entries))
+    flat_map row_text (servers_of (core_log entries)) ++ flat_map job_text (unended_by_id (core_log entries))
     ++ flat_map (λ s. server_text (server_of s entries)) setup.servers ++ codes "end\n"
 
 -- the ids, and what stands

@@ -6,6 +6,7 @@ use Rattle.dist_types.specs.Addr.{addr_text}
 use Rattle.dist_types.specs.declared.addr.Addr.{Addr}
 use Rattle.dist_token.specs.Token.{plain_text, token_text, server_claims_text}
 use Rattle.dist_token.specs.Verdict.{plain_server, server_verdict}
+use Rattle.sched_core.specs.declared.start.Start.{Start}
 use Rattle.sched_core.specs.Log.{Core}
 use Rattle.sched_core.specs.declared.entry.CoreEntry.{CoreEntry}
 use Rattle.farm_run.specs.declared.site.Site.{Site as Setup}
@@ -17,9 +18,13 @@ use Rattle.farm_run.specs.declared.entry.Entry.{Entry}
 abbrev pub core_log : List Entry → List CoreEntry
 core_log log = filter_map (λ e. e.core) log
 
+-- where the ids of the scheduler begin
+abbrev pub ids_start : Setup → Start
+ids_start setup = record { base = setup.scheduler.base; count = setup.scheduler.count }
+
 -- what the scheduler has seen, where the entries are these
 abbrev pub core_of : Setup → List Entry → Core
-core_of setup log = record { base = setup.scheduler.base; count = setup.scheduler.count; log = core_log log }
+core_of setup log = record { start = ids_start setup; log = core_log log }
 
 -- the server that a token which is shown is accepted for, if it is accepted: all build servers have one
 -- token, or each has its own under a key

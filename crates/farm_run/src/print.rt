@@ -6,7 +6,7 @@ ghost use Rattle.farm_run.specs.Printed.{entry_text, entries_text, core_count, r
 ghost use Rattle.farm_run.specs.Printed.{kept_archive_text, server_text, books_text, standing_text, run_text};
 ghost use Rattle.farm_run.specs.Servers.{server_of};
 ghost use Rattle.farm_run.specs.Seen.{core_log};
-ghost use Rattle.sched_core.specs.Rows.{held_by_id};
+ghost use Rattle.sched_core.specs.Rows.{unended_by_id};
 ghost use Rattle.farm_script.specs.declared.fault.FarmFault.TheVariants as fault;
 
 use crate::entry::Entry;
@@ -92,7 +92,7 @@ fn push_jobs<F: Folder + Drop, B: BuilderIncoming + Drop>(
     farm: &Farm<F, B>,
 ) -> Result<(), AllocError>
     ensures { OnOk result (string_bytes out.new ≡ string_bytes out.old ++ flat_map job_text
-        (held_by_id (core_log farm.now.entries))) }
+        (unended_by_id (core_log farm.now.entries))) }
 {
     for row in farm.jobs() {
         let line = JobLine(row);

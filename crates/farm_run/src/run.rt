@@ -3,7 +3,7 @@ ghost use Rattle.std.specs.Prelude.{◌≡◌, [], ◌<◌, ◌≤◌, ◌^◌, 
 ghost use Rattle.std.specs.Prelude.{IfErr, OnOk, OnErr, MatchOption, Some, true, false};
 ghost use Rattle.build_server.specs.Builds.{builder_of};
 ghost use Rattle.sched_core.specs.Job.{open_jobs};
-ghost use Rattle.sched_core.specs.Rows.{servers_of, jobs_of, held_by_id, held_part};
+ghost use Rattle.sched_core.specs.Rows.{servers_of, jobs_of, job_row, unended_by_id};
 ghost use Rattle.farm_script.specs.declared.fault.FarmFault.TheVariants as fault;
 ghost use Rattle.farm_run.specs.declared.site.SiteServer.{SiteServer};
 ghost use Rattle.farm_run.specs.Builds.{AreBuilds, HasToken, HasWords};
@@ -213,7 +213,9 @@ impl<F: Folder + Drop, B: BuilderIncoming + Drop> Farm<F, B> {
     /// The reservations that are unended, by rising id. It takes no memory.
     pub fn jobs(&self) -> Jobs<'_>
         ensures rows { result ≡ jobs_of (core_log self.now.entries) }
-        ensures all { map held_part result ≡ held_by_id (core_log self.now.entries) }
+        // None is left out: each is at a registration that has an address.
+        ensures all { map Some result ≡ map (job_row (core_log self.now.entries))
+            (unended_by_id (core_log self.now.entries)) }
     {
         self.desk.state.jobs()
     }

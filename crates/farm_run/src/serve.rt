@@ -47,8 +47,8 @@ use http_routes::replies::{
     no_room, to_allocation, to_fault, to_heartbeat, to_status, to_update, want_of_memory,
 };
 use http_routes::reply::Response;
-use http_routes::route::{Asked, SchedRouted};
 use http_routes::requests::assign_request;
+use http_routes::route::{Asked, SchedRouted};
 use sched_core::answers::Picked;
 use sched_core::entry::CoreEntry;
 use sched_core::error::SchedError;

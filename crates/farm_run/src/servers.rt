@@ -34,8 +34,8 @@ use farm_script::fault::FarmFault;
 use farm_script::setup::SetupAuth;
 use http_routes::fault::RouteFault;
 use http_routes::replies::{to_assignment, to_fault, want_of_memory};
-use http_routes::server_route::{ServerAsked, ServerRouted, server_asked};
 use http_routes::requests::{heartbeat_request, state_request};
+use http_routes::server_route::{ServerAsked, ServerRouted, server_asked};
 use lru_disk_cache::folder::Folder;
 use std::alloc::Global;
 

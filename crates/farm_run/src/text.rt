@@ -6,8 +6,7 @@ ghost use Rattle.farm_run.specs.Printed.{kept_text, ended_text, reserved_text, a
 ghost use Rattle.farm_run.specs.Printed.{core_line, heard_text, ready_text, archive_text, archives_text};
 ghost use Rattle.farm_run.specs.Printed.{ids_text, submitted_text, ran_text, held_text, kept_archive_text};
 ghost use Rattle.farm_run.specs.Printed.{step_text, step_line, call_line, reply_line, word_line, row_text};
-ghost use Rattle.farm_run.specs.Printed.{stage_text, claim_text, job_text};
-ghost use Rattle.sched_core.specs.Rows.{held_part};
+ghost use Rattle.farm_run.specs.Printed.{stage_text, claim_text, job_line};
 
 use crate::entry::{EntryWord, HeardAs, OutCall, Reply, Step, StepKind};
 use build_server::run::Ran;
@@ -631,7 +630,7 @@ fn claim_word(claimed: bool) -> &'static str
 pub struct JobLine(pub JobRow);
 
 impl fmt::Display for JobLine {
-    ghost output = { λ x. Some (job_text (held_part x.0)) };
+    ghost output = { λ x. Some (job_line x.0.job x.0.reg x.0.state x.0.claimed) };
 
     fn fmt<W: fmt::Write>(&self, f: &mut fmt::Formatter<W>) -> fmt::Result {
         let row = &self.0;

@@ -1,4 +1,7 @@
 //! The connections that a listener of the system accepts, as tasks.
+ghost use Rattle.std.specs.Prelude.{◌≡◌};
+ghost use Rattle.http_connections.specs.Socket.{addr_of};
+
 use crate::served::Served;
 use crate::start::Start;
 use crate::stream::{BufferedStream, LimitedNet, accepted_link};
@@ -30,7 +33,9 @@ pub struct Accepting<'a, R: Clock> {
 }
 
 /// An address as the system takes it.
-pub fn socket_addr(addr: Addr) -> SocketAddr {
+pub fn socket_addr(addr: Addr) -> SocketAddr
+    ensures { addr_of result ≡ addr }
+{
     match addr {
         Addr::V4(octets, port) => SocketAddr::new(IpAddr::V4(Ipv4Addr::from_octets(octets)), port),
         Addr::V6(groups, port) => {
@@ -40,7 +45,9 @@ pub fn socket_addr(addr: Addr) -> SocketAddr {
 }
 
 /// An address as the system has it.
-fn addr_of(peer: SocketAddr) -> Addr {
+fn addr_of(peer: SocketAddr) -> Addr
+    ensures { result ≡ addr_of peer }
+{
     match peer {
         SocketAddr::V4(peer) => Addr::V4(peer.ip().octets(), peer.port()),
         SocketAddr::V6(peer) => Addr::V6(peer.ip().segments(), peer.port()),

@@ -6,20 +6,16 @@ ghost use Rattle.http_head.specs.Head.{HasStatus, Overflows, ReplyOverflows};
 
 use crate::error::HttpError;
 use crate::fields::{allows, is_body};
+pub use crate::message::MAX_HEADERS;
+use crate::message::{Message, read};
 use crate::reply::Reply;
 use crate::request::Request;
 use dist_types::text::{Bytes, Items, Text};
 use httparse::{EMPTY_HEADER, Error, Header, Status};
 use std::alloc::{AllocError, Global};
 
-/// How many fields a head has at most.
-pub const MAX_HEADERS: usize = 100;
-
 /// How many bytes a head has at most.
 pub const MAX_HEAD_BYTES: usize = 65536;
-
-/// How many fields the room has that is tried first. Most heads have fewer, and a small room is soon made.
-pub(crate) const FEW_HEADERS: usize = 16;
 
 /// What a parse finds.
 #[derive(Clone, Copy, Drop)]
@@ -133,43 +129,70 @@ fn after(bytes: &[u8], len: usize) -> &[u8]
     &bytes[len..]
 }
 
-/// The request that the bytes are, where its fields have room; None where they have none.
-fn read_in<'b>(
-    alloc: Global,
-    room: &mut [Header<'b>],
-    bytes: &'b [u8],
-) -> Result<Option<Request>, HttpError>
-    ensures ok { IfOk result
-        (λ request. MatchOption request (Overflows (length room.old) bytes.now) (IsRequest bytes.now)) }
-    ensures err { IfErr result (Refuses bytes.now) }
-{
-    let mut head = httparse::Request::new(room);
-    let len = match parse_head(&mut head, bytes) {
-        Parsed::Head(len) => len,
-        Parsed::Nothing => return Err(HttpError::BadHead),
-        Parsed::Crowded => return Ok(None),
-    };
-    let method = head.method.unwrap();
-    let target = head.path.unwrap();
-    let headers: &[Header<'_>] = head.headers;
-    let body = after(bytes, len);
-    if !is_body(headers, body) {
-        return Err(HttpError::BadHead);
+impl Message for Request {
+    ghost is = { IsRequest };
+
+    ghost overflows = { Overflows };
+
+    ghost refuses = { Refuses };
+
+    fn read_in<'b>(
+        alloc: Global,
+        room: &mut [Header<'b>],
+        bytes: &'b [u8],
+    ) -> Result<Option<Request>, HttpError> {
+        let mut head = httparse::Request::new(room);
+        let len = match parse_head(&mut head, bytes) {
+            Parsed::Head(len) => len,
+            Parsed::Nothing => return Err(HttpError::BadHead),
+            Parsed::Crowded => return Ok(None),
+        };
+        let method = head.method.unwrap();
+        let target = head.path.unwrap();
+        let headers: &[Header<'_>] = head.headers;
+        let body = after(bytes, len);
+        if !is_body(headers, body) {
+            return Err(HttpError::BadHead);
+        }
+        let request = copy_request(alloc, method, target, headers, body)?;
+        Ok(Some(request))
     }
-    let request = copy_request(alloc, method, target, headers, body)?;
-    Ok(Some(request))
+
+    fn refusal() -> HttpError {
+        HttpError::BadHead
+    }
 }
 
-/// The same with room for all fields.
-fn read_crowded(alloc: Global, bytes: &[u8]) -> Result<Request, HttpError>
-    ensures ok { IfOk result (IsRequest bytes.now) }
-    ensures err { IfErr result (Refuses bytes.now) }
-{
-    let mut room = [EMPTY_HEADER; MAX_HEADERS];
-    match read_in(alloc, &mut room, bytes) {
-        Ok(Some(request)) => Ok(request),
-        Ok(None) => Err(HttpError::BadHead),
-        Err(e) => Err(e),
+impl Message for Reply {
+    ghost is = { IsReply };
+
+    ghost overflows = { ReplyOverflows };
+
+    ghost refuses = { RefusesReply };
+
+    fn read_in<'b>(
+        alloc: Global,
+        room: &mut [Header<'b>],
+        bytes: &'b [u8],
+    ) -> Result<Option<Reply>, HttpError> {
+        let mut head = httparse::Response::new(room);
+        let len = match parse_reply_head(&mut head, bytes) {
+            Parsed::Head(len) => len,
+            Parsed::Nothing => return Err(HttpError::ParseError),
+            Parsed::Crowded => return Ok(None),
+        };
+        let code = head.code.unwrap();
+        let headers: &[Header<'_>] = head.headers;
+        let body = after(bytes, len);
+        if !allows(headers, body) {
+            return Err(HttpError::ParseError);
+        }
+        let reply = copy_reply(alloc, code, headers, body)?;
+        Ok(Some(reply))
+    }
+
+    fn refusal() -> HttpError {
+        HttpError::ParseError
     }
 }
 
@@ -180,51 +203,7 @@ pub fn read_head(alloc: Global, bytes: &[u8]) -> Result<Request, HttpError>
     ensures ok { IfOk result (IsRequest bytes.now) }
     ensures err { IfErr result (Refuses bytes.now) }
 {
-    let mut room = [EMPTY_HEADER; FEW_HEADERS];
-    match read_in(alloc, &mut room, bytes) {
-        Ok(Some(request)) => Ok(request),
-        Ok(None) => read_crowded(alloc, bytes),
-        Err(e) => Err(e),
-    }
-}
-
-/// The reply that the bytes are, where its fields have room; None where they have none.
-fn read_reply_in<'b>(
-    alloc: Global,
-    room: &mut [Header<'b>],
-    bytes: &'b [u8],
-) -> Result<Option<Reply>, HttpError>
-    ensures ok { IfOk result
-        (λ reply. MatchOption reply (ReplyOverflows (length room.old) bytes.now) (IsReply bytes.now)) }
-    ensures err { IfErr result (RefusesReply bytes.now) }
-{
-    let mut head = httparse::Response::new(room);
-    let len = match parse_reply_head(&mut head, bytes) {
-        Parsed::Head(len) => len,
-        Parsed::Nothing => return Err(HttpError::ParseError),
-        Parsed::Crowded => return Ok(None),
-    };
-    let code = head.code.unwrap();
-    let headers: &[Header<'_>] = head.headers;
-    let body = after(bytes, len);
-    if !allows(headers, body) {
-        return Err(HttpError::ParseError);
-    }
-    let reply = copy_reply(alloc, code, headers, body)?;
-    Ok(Some(reply))
-}
-
-/// The same with room for all fields.
-fn read_crowded_reply(alloc: Global, bytes: &[u8]) -> Result<Reply, HttpError>
-    ensures ok { IfOk result (IsReply bytes.now) }
-    ensures err { IfErr result (RefusesReply bytes.now) }
-{
-    let mut room = [EMPTY_HEADER; MAX_HEADERS];
-    match read_reply_in(alloc, &mut room, bytes) {
-        Ok(Some(reply)) => Ok(reply),
-        Ok(None) => Err(HttpError::ParseError),
-        Err(e) => Err(e),
-    }
+    read(alloc, bytes)
 }
 
 /// The reply that the bytes are: a head, and all bytes after it, which a Content-Length counts if
@@ -233,12 +212,7 @@ pub fn read_reply_head(alloc: Global, bytes: &[u8]) -> Result<Reply, HttpError>
     ensures ok { IfOk result (IsReply bytes.now) }
     ensures err { IfErr result (RefusesReply bytes.now) }
 {
-    let mut room = [EMPTY_HEADER; FEW_HEADERS];
-    match read_reply_in(alloc, &mut room, bytes) {
-        Ok(Some(reply)) => Ok(reply),
-        Ok(None) => read_crowded_reply(alloc, bytes),
-        Err(e) => Err(e),
-    }
+    read(alloc, bytes)
 }
 
 /// The status of the reply's head that begins the bytes, whatever it says of its body; None exactly where

@@ -16,6 +16,7 @@ pub mod error;
 pub mod fields;
 pub mod head;
 pub mod laws;
+mod message;
 pub mod opening;
 pub mod reply;
 pub mod request;

@@ -4,7 +4,8 @@ ghost use Rattle.httparse.specs.Borrowed.{header_parts};
 ghost use Rattle.http_head.specs.Opening.{FindsOpening, FindsOpeningIn};
 
 use crate::fields::read_body_length;
-use crate::head::{FEW_HEADERS, MAX_HEADERS, Parsed, copy_headers, parse_head};
+use crate::head::{Parsed, copy_headers, parse_head};
+use crate::message::{FEW_HEADERS, MAX_HEADERS};
 use dist_types::text::{Bytes, Items, Text};
 use httparse::{EMPTY_HEADER, Header};
 use std::alloc::{AllocError, Global};

@@ -26,10 +26,10 @@ mod place;
 pub mod refusal;
 pub mod replies;
 pub mod reply;
+pub mod requests;
 pub mod route;
 mod run_head;
 mod sender;
 pub mod server_route;
-pub mod requests;
 
 pub use http_head::{head, request};

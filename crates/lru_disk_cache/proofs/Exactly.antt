@@ -61,7 +61,7 @@ made_put path at bytes result old new is h =
 pub made_moved : (source from to path : List ℕ) (result : Result (Unit {0}) FolderFault) (old new : Held)
     → source ≡ from → to ≡ path → Changes (Lacks source) (moved source to)
     (DoneOrNot (moved source to)) result old new → OnOk result
-        (BecameBy (moved from path) old.files new.files)
+    (BecameBy (moved from path) old.files new.files)
 made_moved source from to path result old new is at h =
     let P : List ℕ → List ℕ → Type 0 = λ a b. OnOk result (BecameBy (moved a b) old.files new.files) in
     subst (λ b. P from b) at
@@ -152,7 +152,7 @@ still_made root limit first one two start old new over is so_far step =
 pub all_made : (root : List ℕ) (limit : ℕ) (first last : Entries) (start now : Option Files)
     → total last ≤ limit → option_map (without_each root (dropped limit last)) now ≡ option_map
     (without_each root (dropped limit first)) start → BecameBy
-        (without_each root (dropped limit first)) start now
+    (without_each root (dropped limit first)) start now
 all_made root limit first last start now fits h =
     sym (by now) ∙ (ap (λ l. option_map (without_each root l) now) (sym (none_dropped limit last fits)) ∙ h)
   where

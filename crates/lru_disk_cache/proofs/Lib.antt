@@ -33,3 +33,5 @@ pub mod Reserving
 pub mod Moves
 pub mod KeySteps
 pub mod DiskSteps
+pub mod Insides
+pub mod Others

@@ -16,7 +16,7 @@ use crate::entry::LruDiskCacheAddEntry;
 use crate::error::{Error, Result, io};
 use crate::fault::FolderFault;
 use crate::folder::Folder;
-use crate::steps::{add_to, announce, fill, measure, remove_at};
+use crate::storing::{add_to, announce, fill, measure, remove_at};
 use dist_types::text::Text;
 
 impl<F: Folder> LruDiskCache<F> {

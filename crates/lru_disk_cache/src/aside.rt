@@ -9,7 +9,7 @@ use crate::cache::LruDiskCache;
 use crate::error;
 use crate::fault::FolderFault;
 use crate::folder::Folder;
-use crate::steps::measure;
+use crate::storing::measure;
 
 impl<F: Folder> LruDiskCache<F> {
     ghost use Rattle.lru_disk_cache.specs.Store.{IsStore};

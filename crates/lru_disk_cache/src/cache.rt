@@ -21,7 +21,7 @@ use crate::key::{is_key, path_of, temp_path};
 use crate::opening::open;
 use crate::reservations::Reservations;
 use crate::rows::front_of;
-use crate::steps::{Arrival, fetch, remove_file, store};
+use crate::storing::{Arrival, fetch, remove_file, store};
 use crate::table::Table;
 use dist_types::text::Text;
 use lru_metered::Iter;

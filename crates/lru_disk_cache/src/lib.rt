@@ -35,7 +35,7 @@ mod real_order;
 pub mod reliable_folder;
 mod reservations;
 mod rows;
-mod steps;
+mod storing;
 mod table;
 mod tc_cache;
 

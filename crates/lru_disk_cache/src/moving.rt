@@ -18,7 +18,7 @@ use crate::error::{Error, Result, WriteFault, io};
 use crate::folder::Folder;
 use crate::key::{is_key, path_of};
 use crate::reading::Opened;
-use crate::steps::move_in;
+use crate::storing::move_in;
 use dist_types::text::Text;
 use std::alloc::Global;
 

@@ -14,7 +14,7 @@ ghost use Rattle.lru_disk_cache.specs.Opened.{stripped, keyed, kept, opened, Sho
 use crate::fault::FolderFault;
 use crate::folder::{Folder, Found};
 use crate::key::is_key;
-use crate::steps::remove_file;
+use crate::storing::remove_file;
 use crate::table::Table;
 use dist_types::text::Text;
 use std::alloc::Global;

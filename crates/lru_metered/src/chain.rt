@@ -7,12 +7,12 @@ ghost use Rattle.slab.specs.Slab.{get, ContainsKey, HasRoomFor, Updates, slab_le
 ghost use Rattle.lru_metered.specs.Chain.{Changes, links, items_of, with_ends, with_previous, with_next};
 ghost use Rattle.lru_metered.specs.Chain.{without, Joins, first_or, last_or};
 
-use crate::steps::Steps;
 use slab::Slab;
 use std::alloc::{AllocError, AllocFailed, Allocator, Global};
 use std::marker::Model;
 use std::mem;
 use std::sync::ledger::Ledger;
+use steps::Steps;
 
 /// An item, and the keys of the nodes before it and after it.
 #[derive(Drop)]

@@ -21,7 +21,6 @@ mod iter;
 pub mod laws;
 mod listing;
 mod meter;
-mod steps;
 mod table;
 mod uncounted;
 

@@ -4,9 +4,9 @@ ghost use Rattle.slab.specs.Slab.{ContainsKey};
 ghost use Rattle.lru_metered.specs.Chain.{without};
 
 use crate::chain::Chain;
-use crate::steps::Steps;
 use std::marker::Brand;
 use std::sync::ledger::{Blank, Ledger};
+use steps::Steps;
 
 // Each call on a ledger that the blank opens.
 fn append_on<T, L: Ledger>(chain: &mut Chain<T>, at: usize, blank: Blank)

@@ -162,7 +162,7 @@ fn all_found<T: Tree>(
 ) -> Result<Vec<Record>, PackError>
     ensures records { WhereTold (T.told tree.old)
         (λ t. IsPackAnswer (λ v. v.items) (onto before.items
-            (all_found t (map string_bytes paths.now))) result) }
+        (all_found t (map string_bytes paths.now))) result) }
     ensures reasons { IfErr result (λ e. is_simplify_error e ≡ true) }
     ensures leaves { PackLeavesTree result (T.told tree.old) (T.told tree.new) }
 {

@@ -127,7 +127,7 @@ impl SimplifyPath<'_> {
     ) -> Result<String, PackError>
         ensures simplified { WhereTold (T.told tree.old)
             (λ t. IsPackAnswer string_bytes (simple_path
-                (is_some (recorded self.old.resolved_symlinks)) t path.now)
+            (is_some (recorded self.old.resolved_symlinks)) t path.now)
             result) }
         ensures links { OnOk result
             (WhereTold (T.told tree.old)

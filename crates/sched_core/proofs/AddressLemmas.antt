@@ -12,6 +12,7 @@ use Rattle.std.proofs.lemmas.List.{map-append}
 use Rattle.dist_types.specs.declared.addr.Addr.{Addr}
 use Rattle.dist_types.specs.declared.addr.Addr.TheVariants.{V4, V6}
 use Rattle.dist_types.specs.Addr.{same_addr}
+use Rattle.sched_core.specs.declared.start.Start.{Start}
 use Rattle.sched_core.proofs.Lists.{map-map, map-same, end_cut}
 use Rattle.sched_core.specs.declared.entry.CoreEntry.{CoreEntry}
 use Rattle.sched_core.specs.declared.entry.CoreKind.{CoreKind}
@@ -147,36 +148,36 @@ abbrev AreApart : List (ℕ × Addr) → Type 0
 AreApart ps = AreDifferent (map (λ p. p.1) ps)
 
 -- the addresses after an entry of this kind
-apart_after : (base count : ℕ) (log : List CoreEntry) (now : ℕ) (k : CoreKind) (at : CoreEntry)
-    → Facts (core_of base count log) k → AreDifferent (map (λ r. r.server) (servers_of log))
+apart_after : (start : Start) (log : List CoreEntry) (now : ℕ) (k : CoreKind) (at : CoreEntry)
+    → Facts (core_of start log) k → AreDifferent (map (λ r. r.server) (servers_of log))
     → (ps : List (ℕ × Addr)) → AreApart ps →
     ((server : Addr) → AllByRecursion (λ r. not (ends_by k r.reg) ≡ true → server ≢ r.server) (servers_of log)
     → AllByRecursion (λ p. server ≢ p.1) ps)
     → AreApart (ps ++ option_to_list (option_map view (registered_by k now log at [])))
-apart_after base count log now (Beat server nonce cpus key pruned reaped replaced true) at is apart ps old
+apart_after start log now (Beat server nonce cpus key pruned reaped replaced true) at is apart ps old
     away =
     subst AreDifferent (sym (map-append (λ p. p.1) ps ((length log, server) ∷ [])))
     (different-push (map (λ p. p.1) ps) server old
     (all-map (λ a. server ≢ a) (λ p. p.1) ps
     (away server (vacated is.now nonce server (servers_of log) pruned replaced apart is.pruned_are
     is.replaced_is (sym is.says)))))
-apart_after base count log now (Beat server nonce cpus key pruned reaped replaced false) at is apart ps old
+apart_after start log now (Beat server nonce cpus key pruned reaped replaced false) at is apart ps old
     away = subst AreApart (sym (append-nil ps)) old
-apart_after base count log now (Reserve r) at is apart ps old away = subst AreApart (sym (append-nil ps)) old
-apart_after base count log now (Commit job state kept) at is apart ps old away =
+apart_after start log now (Reserve r) at is apart ps old away = subst AreApart (sym (append-nil ps)) old
+apart_after start log now (Commit job state kept) at is apart ps old away =
     subst AreApart (sym (append-nil ps)) old
-apart_after base count log now (Undo job noted was_ended) at is apart ps old away =
+apart_after start log now (Undo job noted was_ended) at is apart ps old away =
     subst AreApart (sym (append-nil ps)) old
-apart_after base count log now (Update server job state answer) at is apart ps old away =
+apart_after start log now (Update server job state answer) at is apart ps old away =
     subst AreApart (sym (append-nil ps)) old
-apart_after base count log now (Status pruned servers cpus n) at is apart ps old away =
+apart_after start log now (Status pruned servers cpus n) at is apart ps old away =
     subst AreApart (sym (append-nil ps)) old
 
-apart-step : (base count : ℕ) (log : List CoreEntry) (e : CoreEntry) → AreApart (addresses log)
-    → IsRule (core_of base count log) e → AreApart (addresses (log ++ e ∷ []))
-apart-step base count log e old rule_is =
+apart-step : (start : Start) (log : List CoreEntry) (e : CoreEntry) → AreApart (addresses log)
+    → IsRule (core_of start log) e → AreApart (addresses (log ++ e ∷ []))
+apart-step start log e old rule_is =
     subst AreApart (sym (addresses-push log e))
-    (apart_after base count log e.now e.kind e (facts (core_of base count log) e rule_is)
+    (apart_after start log e.now e.kind e (facts (core_of start log) e rule_is)
     (subst AreDifferent (map-map (λ p. p.1) view (standing log)
     ∙ sym (map-map (λ r. r.server) (row_of log) (standing log))) old)
     (filter (address_stays e) (addresses log))
@@ -187,7 +188,7 @@ apart-step base count log e old rule_is =
     (all-unmap (λ r. not (ends_by e.kind r.reg) ≡ true → server ≢ r.server) (row_of log)
     (standing log) away))))
 
-pub legal_apart : (base count : ℕ) (log : List CoreEntry) → IsLegal base count log
+pub legal_apart : (start : Start) (log : List CoreEntry) → IsLegal start log
     → AreDifferent (map (λ g. g.server) (standing log))
-legal_apart base count log legal = subst AreDifferent (map-map (λ p. p.1) view (standing log))
-    (legal_has base count (λ l. AreApart (addresses l)) tt (apart-step base count) log legal)
+legal_apart start log legal = subst AreDifferent (map-map (λ p. p.1) view (standing log))
+    (legal_has start (λ l. AreApart (addresses l)) tt (apart-step start) log legal)

@@ -11,6 +11,7 @@ use Rattle.std.proofs.lemmas.Bool.{false≢true}
 use Rattle.std.proofs.lemmas.List.{length-map}
 use Rattle.dist_types.specs.declared.ids.JobId.{JobId}
 use Rattle.sched_core.specs.declared.booked.BookedRow.{BookedRow}
+use Rattle.sched_core.specs.declared.start.Start.{Start}
 use Rattle.sched_core.specs.declared.entry.CoreEntry.{CoreEntry}
 use Rattle.sched_core.specs.declared.entry.CoreKind.{CoreKind}
 use Rattle.sched_core.specs.declared.entry.CoreKind.TheVariants.{Beat, Reserve, Commit, Undo, Update, Status}
@@ -21,7 +22,8 @@ use Rattle.sched_core.specs.declared.rows.OpenRow.{OpenRow}
 use Rattle.sched_core.specs.Log.{Core, same_job}
 use Rattle.sched_core.specs.Standing.{is_heard, address_of}
 use Rattle.sched_core.specs.Reservation.{bookings, unspent}
-use Rattle.sched_core.specs.Rows.{servers_of, held_rows, open_rows, held_part, held_by_id, sorted_into}
+use Rattle.sched_core.specs.Rows.{servers_of, held_rows, open_rows, sorted_into}
+use Rattle.sched_core.specs.Books.{held_part, held_by_id}
 use Rattle.sched_core.specs.Prune.{prune, left}
 use Rattle.sched_core.specs.Rule.{place_at, is_left, counts_over}
 use Rattle.sched_core.specs.Laws.{IsRule, IsLegal, AreDistinct}
@@ -61,33 +63,33 @@ at_row_by s (Undo job noted was_ended) is = tt
 at_row_by s (Update server job state answer) is = tt
 at_row_by s (Status pruned servers cpus n) is = tt
 
-pub few_bookings : (base count : ℕ) (log : List CoreEntry) → count < 2 ^ 64 → IsLegal base count log
+pub few_bookings : (start : Start) (log : List CoreEntry) → start.count < 2 ^ 64 → IsLegal start log
     → length (bookings log) < 2 ^ 64
-few_bookings base count log fits legal =
-    let ids : HasIds base count (jobs log) = legal_ids base count log fits legal in
+few_bookings start log fits legal =
+    let ids : HasIds start (jobs log) = legal_ids start log fits legal in
     let small = ids.fits in
     let same : length (jobs log) ≡ length (bookings log) = length-map (bookings log) (λ b. b.job) in
     omega (arith, small, same)
 
 -- the reservations of the job that a legal entry spends
-spent_by : (base count : ℕ) (bs : List BookedRow) (log : List CoreEntry) (k : CoreKind)
+spent_by : (start : Start) (bs : List BookedRow) (log : List CoreEntry) (k : CoreKind)
     → AreDistinct (map (λ b. b.job) bs) → held_view bs ≡ held_rows log
     → map place_of_unspent (unspent_view bs) ≡ map place_of_booking (unspent log)
-    → Facts (core_of base count log) k → AreSpentBy k bs
-spent_by base count bs log (Commit job state kept) apart held free is =
+    → Facts (core_of start log) k → AreSpentBy k bs
+spent_by start bs log (Commit job state kept) apart held free is =
     let some = spent_among (unspent_view bs) log is.0.number job free ∙ is.0.unspent in (
       spent_rows bs is.0.number job kept apart some
           (is.0.says_held ∙ sym (held_among (held_view bs) log is.0.number job held)),
       any_spent bs is.0.number job some,
       is.1,
     )
-spent_by base count bs log (Undo job noted says) apart held free is =
+spent_by start bs log (Undo job noted says) apart held free is =
     spent_rows bs is.number job says apart (spent_among (unspent_view bs) log is.number job free ∙ is.unspent)
     (is.says_held ∙ sym (held_among (held_view bs) log is.number job held))
-spent_by base count bs log (Reserve r) apart held free is = tt
-spent_by base count bs log (Beat server nonce cpus key pruned reaped replaced is_new) apart held free is = tt
-spent_by base count bs log (Update server job state answer) apart held free is = tt
-spent_by base count bs log (Status pruned servers cpus n) apart held free is = tt
+spent_by start bs log (Reserve r) apart held free is = tt
+spent_by start bs log (Beat server nonce cpus key pruned reaped replaced is_new) apart held free is = tt
+spent_by start bs log (Update server job state answer) apart held free is = tt
+spent_by start bs log (Status pruned servers cpus n) apart held free is = tt
 
 -- an open job is found in the books as in the log
 pub open_found : (books : Lists) (keys : List (ℕ × List ℕ)) (log : List CoreEntry) (job : JobId)
@@ -117,14 +119,14 @@ pub made_are : (bs : List BookedRow) (log : List CoreEntry)
 made_are bs log is = sym (length-map bs (λ b. b.job)) ∙ ap length is ∙ length-map (bookings log) (λ b. b.job)
 
 -- the job of a new reservation has the id after that of the last
-pub next_follows : (base count first : ℕ) (books : Lists) (keys : List (ℕ × List ℕ)) (log : List CoreEntry)
-    (e : CoreEntry) (number : ℕ) → AreBooks books keys log → IsRule (core_of base count log) e
-    → first ≡ (base + count) % 2 ^ 64
+pub next_follows : (start : Start) (first : ℕ) (books : Lists) (keys : List (ℕ × List ℕ)) (log : List CoreEntry)
+    (e : CoreEntry) (number : ℕ) → AreBooks books keys log → IsRule (core_of start log) e
+    → first ≡ (start.base + start.count) % 2 ^ 64
     → IfSome (booked_by e.kind books.rows number e.now) (λ b. b.job.0 ≡ (first + length books.booked) % 2 ^ 64)
-next_follows base count first books keys log e number is rule_is begins_at =
-    by_kind e.kind (facts (core_of base count log) e rule_is)
+next_follows start first books keys log e number is rule_is begins_at =
+    by_kind e.kind (facts (core_of start log) e rule_is)
   where
-    sum : (m n given : ℕ) → m ≡ (base + count) % 2 ^ 64 → n ≡ given → (base + (count + given)) % 2 ^ 64
+    sum : (m n given : ℕ) → m ≡ (start.base + start.count) % 2 ^ 64 → n ≡ given → (start.base + (start.count + given)) % 2 ^ 64
         ≡ (m + n) % 2 ^ 64
     sum m n given from same = omega (arith, from, same)
 
@@ -134,7 +136,7 @@ next_follows base count first books keys log e number is rule_is begins_at =
     at job id None = tt
     at job id (Some row) = id
 
-    by_kind : (k : CoreKind) → Facts (core_of base count log) k
+    by_kind : (k : CoreKind) → Facts (core_of start log) k
         → IfSome (booked_by k books.rows number e.now) (λ b. b.job.0 ≡ (first + length books.booked) % 2 ^ 64)
     by_kind (Reserve (Job job reg forgiven)) f = at job (f.id ∙ sum first (length books.booked)
         (length (bookings log)) begins_at (made_are books.booked log is.jobs))
@@ -184,17 +186,17 @@ by_id_addressed log bs all = sorted-all (λ j. address_of log j.reg ≡ Some j.s
     (jobs_addressed log bs all)
 
 -- the lists after an entry are the longer log's
-pub absorbed : (base count : ℕ) (old : Lists) (old_keys new_keys : List (ℕ × List ℕ)) (log : List CoreEntry)
-    (e : CoreEntry) → count < 2 ^ 64 → AreBooks old old_keys log → IsLegal base count log
-    → IsRule (core_of base count log) e →
+pub absorbed : (start : Start) (old : Lists) (old_keys new_keys : List (ℕ × List ℕ)) (log : List CoreEntry)
+    (e : CoreEntry) → start.count < 2 ^ 64 → AreBooks old old_keys log → IsLegal start log
+    → IsRule (core_of start log) e →
     new_keys ≡ filter (key_stays e) old_keys ++ option_to_list (key_by e.kind (length log))
     → AreBooks (lists_next old e (length log)) new_keys (log ++ e ∷ [])
-absorbed base count old old_keys new_keys log e fits books legal rule_is keys =
-    let is : Facts (core_of base count log) e.kind = facts (core_of base count log) e rule_is in
-    let at : IsAtRowBy e.kind (servers_of log) = at_row_by (core_of base count log) e.kind is in
-    let fit : Fits base count log = legal_fits base count log fits legal in
-    let small : length (bookings (log ++ e ∷ [])) < 2 ^ 64 = few_bookings base count (log ++ e ∷ []) fits
-    (legal-push base count [] log e legal rule_is) in
+absorbed start old old_keys new_keys log e fits books legal rule_is keys =
+    let is : Facts (core_of start log) e.kind = facts (core_of start log) e rule_is in
+    let at : IsAtRowBy e.kind (servers_of log) = at_row_by (core_of start log) e.kind is in
+    let fit : Fits start log = legal_fits start log fits legal in
+    let small : length (bookings (log ++ e ∷ [])) < 2 ^ 64 = few_bookings start (log ++ e ∷ []) fits
+    (legal-push start [] log e legal rule_is) in
     let bs : List BookedRow = old.booked in
     let served : served_by e.kind (open_view bs) ≡ served_by e.kind (open_rows log) =
     served_alike e.kind (open_view bs) (open_rows log)
@@ -209,14 +211,14 @@ absorbed base count old old_keys new_keys log e fits books legal rule_is keys =
     ∙ sym (jobs-push log e) in
     record {
       rows = rw (books.rows, served, books.held)
-          (rows-absorb base count log e fit.sound fit.room is
-          (legal_errors base count log fits legal (length log) (omega arith)) small);
+          (rows-absorb start log e fit.sound fit.room is
+          (legal_errors start log fits legal (length log) (omega arith)) small);
       keys = keys ∙ keys-absorb old_keys log e books.keys;
       jobs = rw books.rows same_jobs;
       made = rw books.rows (made_are (map (booked_after e.kind) bs
           ++ option_to_list (booked_by e.kind (servers_of log) (length log) e.now)) (log ++ e ∷ []) same_jobs);
-      apart = rw books.rows (subst AreDistinct (sym same_jobs) (legal_distinct base count (log ++ e ∷ []) fits
-          (legal-push base count [] log e legal rule_is)));
+      apart = rw books.rows (subst AreDistinct (sym same_jobs) (legal_distinct start (log ++ e ∷ []) fits
+          (legal-push start [] log e legal rule_is)));
       held = rw books.rows (held_next e.kind bs made
           ∙ ap (λ o. map (held_after e.kind) (filter (held_stays e.kind) (held_view bs)) ++ option_to_list o)
           (job_part log e.kind (length log) e.now at)
@@ -227,10 +229,10 @@ absorbed base count old old_keys new_keys log e fits books legal rule_is keys =
           ∙ unspent-absorb (unspent_view bs) log e at books.unspent);
       open_ones = rw books.rows (subst (AreReordered (open_view (map (booked_after e.kind) bs
           ++ option_to_list (option_map booked_new made))))
-          (open-absorb base count (job_view bs) log e fit.sound is (held_parts bs ∙ books.held)
+          (open-absorb start (job_view bs) log e fit.sound is (held_parts bs ∙ books.held)
           (jobs_addressed log bs books.placed))
           (open_next e.kind bs (open_rows log) made books.apart
-          (spent_by base count bs log e.kind books.apart books.held books.unspent is) books.open_ones));
+          (spent_by start bs log e.kind books.apart books.held books.unspent is) books.open_ones));
       placed = rw books.rows (booked-placed bs log e at books.placed);
     }
 

@@ -13,7 +13,8 @@ use Rattle.sched_core.specs.declared.rows.HeldRow.{HeldRow}
 use Rattle.sched_core.specs.declared.rows.JobRow.{JobRow}
 use Rattle.sched_core.specs.Log.{same_job}
 use Rattle.sched_core.specs.Reservation.{spends_by, frees_by}
-use Rattle.sched_core.specs.Rows.{sorted_into, held_part}
+use Rattle.sched_core.specs.Rows.{sorted_into}
+use Rattle.sched_core.specs.Books.{held_part}
 use Rattle.sched_core.specs.Laws.{AreDistinct}
 use Rattle.sched_core.specs.Books.{held_stays, held_after, unspent_stays, unspent_by, booked_after}
 use Rattle.sched_core.specs.Booked.{UnspentRow, booked_new, held_part_of, job_part_of, unspent_part_of}

@@ -5,6 +5,7 @@ use Rattle.std.specs.List.{AllByRecursion, list_any}
 use Rattle.std.specs.Option.{option_map}
 use Rattle.std.proofs.lemmas.Bool.{and_parts}
 use Rattle.dist_types.specs.declared.ids.JobId.{JobId}
+use Rattle.sched_core.specs.declared.start.Start.{Start}
 use Rattle.sched_core.specs.declared.entry.CoreEntry.{CoreEntry}
 use Rattle.sched_core.specs.declared.call.Call.{Call}
 use Rattle.sched_core.specs.declared.call.Call.TheVariants as call
@@ -20,13 +21,13 @@ use Rattle.sched_core.proofs.SortLemmas.{found_first}
 use Rattle.sched_core.proofs.SoundLemmas.{legal_distinct}
 
 -- the unspent reservation of a job has the number that is known of one
-number_is : (base count : ℕ) (log : List CoreEntry) (number : ℕ) (job : JobId) → count < 2 ^ 64
-    → IsLegal base count log → is_among (unspent log) number job ≡ true → number_of log job ≡ Some number
-number_is base count log number job fits legal among =
+number_is : (start : Start) (log : List CoreEntry) (number : ℕ) (job : JobId) → start.count < 2 ^ 64
+    → IsLegal start log → is_among (unspent log) number job ≡ true → number_of log job ≡ Some number
+number_is start log number job fits legal among =
     let it : Booking → Bool = λ b. (b.number == number) && same_job b.job job in
     let one = found (λ x. AllByRecursion (λ y. same_job y.job x.job ≡ true → y ≡ x) (unspent log)) it
     (unspent log) (own_only (λ b. b.job) (unspent log)
-    (distinct-filter (λ b. b.job) is_unspent (bookings log) (legal_distinct base count log fits legal)))
+    (distinct-filter (λ b. b.job) is_unspent (bookings log) (legal_distinct start log fits legal)))
     among in
     let parts = and_parts (one.0.number == number) (same_job one.0.job job) one.2 in
     let all : AllByRecursion (λ b. same_job b.job job ≡ true → b.number ≡ number) (unspent log) =
@@ -42,13 +43,13 @@ number_is base count log number job fits legal among =
     (unspent log) all some in
     ap (option_map (λ (b : Booking). b.number)) first.1 ∙ ap (λ n. Some n) (first.2 first.3)
 
-pub call_told : (base count : ℕ) (log : List CoreEntry) (c : Call) → count < 2 ^ 64 → IsLegal base count log
-    → IsCall (core_of base count log) c → call_of log (rule (core_of base count log) c) ≡ Some c
-call_told base count log (call.Reserve now) fits legal is = refl
-call_told base count log (call.Commit now number job state) fits legal is =
-    ap (option_map (λ n. call.Commit now n job state)) (number_is base count log number job fits legal is.0)
-call_told base count log (call.Undo now number job) fits legal is = ap (option_map (λ n. call.Undo now n job))
-    (number_is base count log number job fits legal is)
-call_told base count log (call.Beat now server nonce cpus key) fits legal is = refl
-call_told base count log (call.Update now server job state) fits legal is = refl
-call_told base count log (call.Status now) fits legal is = refl
+pub call_told : (start : Start) (log : List CoreEntry) (c : Call) → start.count < 2 ^ 64 → IsLegal start log
+    → IsCall (core_of start log) c → call_of log (rule (core_of start log) c) ≡ Some c
+call_told start log (call.Reserve now) fits legal is = refl
+call_told start log (call.Commit now number job state) fits legal is =
+    ap (option_map (λ n. call.Commit now n job state)) (number_is start log number job fits legal is.0)
+call_told start log (call.Undo now number job) fits legal is = ap (option_map (λ n. call.Undo now n job))
+    (number_is start log number job fits legal is)
+call_told start log (call.Beat now server nonce cpus key) fits legal is = refl
+call_told start log (call.Update now server job state) fits legal is = refl
+call_told start log (call.Status now) fits legal is = refl

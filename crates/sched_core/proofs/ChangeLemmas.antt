@@ -11,6 +11,7 @@ use Rattle.std.proofs.lemmas.List.Folds.{list_any-append}
 use Rattle.dist_types.specs.declared.addr.Addr.{Addr}
 use Rattle.dist_types.specs.declared.ids.JobId.{JobId}
 use Rattle.dist_types.specs.Addr.{same_addr}
+use Rattle.sched_core.specs.declared.start.Start.{Start}
 use Rattle.sched_core.specs.declared.entry.CoreEntry.{CoreEntry}
 use Rattle.sched_core.specs.declared.entry.CoreKind.TheVariants.{Reserve, Commit, Update, Status}
 use Rattle.sched_core.specs.declared.entry.Reserved.{Reserved}
@@ -306,13 +307,13 @@ sound_filter p rows sound = record {
 }
 
 -- the registrations that stand over a legal log
-pub sound_rows : (base count : ℕ) (log : List CoreEntry) → count < 2 ^ 64 → IsLegal base count log
+pub sound_rows : (start : Start) (log : List CoreEntry) → start.count < 2 ^ 64 → IsLegal start log
     → AreSoundRows (servers_of log)
-sound_rows base count log fits legal = record {
-  rising = rows_rising log (legal_fits base count log fits legal).room.rising;
+sound_rows start log fits legal = record {
+  rising = rows_rising log (legal_fits start log fits legal).room.rising;
   apart = subst AreDifferent (sym (map-map (λ r. r.server) (row_of log) (standing log)))
-      (legal_apart base count log legal);
-  cpus = rows_positive log (legal_fits base count log fits legal).room.positive;
+      (legal_apart start log legal);
+  cpus = rows_positive log (legal_fits start log fits legal).room.positive;
 }
 
 -- which rows end, one number after the other

@@ -7,6 +7,7 @@ use Rattle.std.specs.List.{AllByRecursion, list_any, filter_map, find}
 use Rattle.std.proofs.lemmas.Bool.{false≢true}
 use Rattle.std.proofs.lemmas.List.{map-append}
 use Rattle.std.proofs.lemmas.List.Elements.{filter_map-append}
+use Rattle.sched_core.specs.declared.start.Start.{Start}
 use Rattle.sched_core.specs.Cuts.{Cut, cuts}
 use Rattle.dist_types.specs.declared.ids.JobId.{JobId}
 use Rattle.sched_core.proofs.Lists.{map-map, filter_map-map, followed, cuts_behind-push, end_cut, cons_nil}
@@ -81,9 +82,9 @@ replaced_there now nonce rows p reg t = split (find p (left now rows)) refl t
         ] h
 
 -- what an entry ends stands
-ended_stands : (base count : ℕ) (log : List CoreEntry) (k : CoreKind) → Facts (core_of base count log) k
+ended_stands : (start : Start) (log : List CoreEntry) (k : CoreKind) → Facts (core_of start log) k
     → (reg : ℕ) → ends_by k reg ≡ true → list_any (λ r. r.reg == reg) (servers_of log) ≡ true
-ended_stands base count log (Beat server nonce cpus key pruned reaped replaced is_new) is reg t =
+ended_stands start log (Beat server nonce cpus key pruned reaped replaced is_new) is reg t =
     split (names pruned reg) refl t
   where
     split : (b : Bool) → names pruned reg ≡ b → (b || is_this replaced reg) ≡ true
@@ -91,12 +92,12 @@ ended_stands base count log (Beat server nonce cpus key pruned reaped replaced i
     split true h u = pruned_there is.now (servers_of log) reg (ap (λ l. names l reg) (sym is.pruned_are) ∙ h)
     split false h u = replaced_there is.now nonce (servers_of log) _ reg
         (ap (λ o. is_this o reg) (sym is.replaced_is) ∙ u)
-ended_stands base count log (Status pruned servers cpus n) is reg t = pruned_there is.0 (servers_of log) reg
+ended_stands start log (Status pruned servers cpus n) is reg t = pruned_there is.0 (servers_of log) reg
     (ap (λ l. names l reg) (sym is.1) ∙ t)
-ended_stands base count log (Reserve r) is reg t = absurd (false≢true t)
-ended_stands base count log (Commit job state kept) is reg t = absurd (false≢true t)
-ended_stands base count log (Undo job noted was_ended) is reg t = absurd (false≢true t)
-ended_stands base count log (Update server job state answer) is reg t = absurd (false≢true t)
+ended_stands start log (Reserve r) is reg t = absurd (false≢true t)
+ended_stands start log (Commit job state kept) is reg t = absurd (false≢true t)
+ended_stands start log (Undo job noted was_ended) is reg t = absurd (false≢true t)
+ended_stands start log (Update server job state answer) is reg t = absurd (false≢true t)
 
 record Ends (log : List CoreEntry) : Type 0 where
   below : AllByRecursion (λ g. g.reg < length log) (registrations log)
@@ -136,13 +137,13 @@ once-grown e g old up =
       tt,
     ))
 
-ends-step : (base count : ℕ) (log : List CoreEntry) (e : CoreEntry) → Ends log
-    → IsRule (core_of base count log) e → Ends (log ++ e ∷ [])
-ends-step base count log e old rule_is =
+ends-step : (start : Start) (log : List CoreEntry) (e : CoreEntry) → Ends log
+    → IsRule (core_of start log) e → Ends (log ++ e ∷ [])
+ends-step start log e old rule_is =
     let next : List CoreEntry = log ++ e ∷ [] in
     let made : Option Registered = registered_at (end_cut log e) in
     let longer : length next ≡ length log + 1 = length-append log (e ∷ []) in
-    let is : Facts (core_of base count log) e.kind = facts (core_of base count log) e rule_is in
+    let is : Facts (core_of start log) e.kind = facts (core_of start log) e rule_is in
     let new : AllByRecursion (λ g. (g.reg ≡ length log) × EndsOnce g) (option_to_list made) =
     new_reg e.now e.kind log e in
     record {
@@ -168,14 +169,14 @@ ends-step base count log e old rule_is =
           → stands g ≡ true) (λ g. EndsOnce (grown e g))
           (λ g h own. once-grown e g h
           (λ t. own (sym (list_any-map (λ r. r.reg == g.reg) (row_of log) (standing log))
-          ∙ ended_stands base count log e.kind is g.reg t)))
+          ∙ ended_stands start log e.kind is g.reg t)))
           (registrations log) old.once (each_own (λ g. num g.reg) stands (registrations log) old.distinct)))
           (all-weaker (λ g. (g.reg ≡ length log) × EndsOnce g) EndsOnce (λ g h. h.1)
           (option_to_list made) new));
     }
 
-pub legal_ends : (base count : ℕ) (log : List CoreEntry) → count < 2 ^ 64 → IsLegal base count log
+pub legal_ends : (start : Start) (log : List CoreEntry) → start.count < 2 ^ 64 → IsLegal start log
     → AllByRecursion EndsOnce (registrations log)
-legal_ends base count log fits legal =
-    (legal_has base count Ends (record { below = tt; distinct = tt; once = tt })
-    (ends-step base count) log legal).once
+legal_ends start log fits legal =
+    (legal_has start Ends (record { below = tt; distinct = tt; once = tt })
+    (ends-step start) log legal).once

@@ -26,11 +26,11 @@ use Rattle.sched_core.proofs.AllLemmas.{or_true, all-weaker, all-filter}
 
 -- how many ids were given before
 abbrev pub given : Core → ℕ
-given s = s.count + length (bookings s.log)
+given s = s.start.count + length (bookings s.log)
 
 -- a job is reserved under the next id at the pick
 pub record JobFacts (s : Core) (job : JobId) (reg : ℕ) : Type 0 where
-  pub id : job.0 ≡ (s.base + given s) % 2 ^ 64
+  pub id : job.0 ≡ (s.start.base + given s) % 2 ^ 64
   pub left : (given s == 2 ^ 64 - 1) ≡ false
   pub row : ServerRow
   pub picked : pick (servers_of s.log) ≡ Some row
@@ -68,13 +68,13 @@ fact_of : (s : Core) (c : Call) → IsCall s c → Facts s (rule s c).kind
 fact_of s (call.Reserve now) is = split (pick (servers_of s.log)) refl
   where
     spend : (row : ServerRow) → pick (servers_of s.log) ≡ Some row → (b : Bool) → (given s == 2 ^ 64 - 1) ≡ b
-        → Facts s (Reserve (if b then Spent else Job (record { 0 = (s.base + given s) % 2 ^ 64 }) row.reg
-        (forgiven now (servers_of s.log))))
+        → Facts s (Reserve (if b then Spent else Job (record { 0 = (s.start.base + given s) % 2 ^ 64 })
+        row.reg (forgiven now (servers_of s.log))))
     spend row e true f = tt
     spend row e false f = record { id = refl; left = f; row = row; picked = e; at = refl }
 
     split : (o : Option ServerRow) → pick (servers_of s.log) ≡ o
-        → Facts s (reserve_at o (servers_of s.log) now s.base (given s)).kind
+        → Facts s (reserve_at o (servers_of s.log) now s.start.base (given s)).kind
     split None e = (e, refl)
     split (Some row) e = spend row e (given s == 2 ^ 64 - 1) refl
 fact_of s (call.Commit now number job state) is =

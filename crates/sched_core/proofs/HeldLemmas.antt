@@ -6,6 +6,7 @@ use Rattle.std.specs.List.{AllByRecursion, list_any}
 use Rattle.std.specs.Option.{option_map}
 use Rattle.std.proofs.lemmas.Bool.{false≢true}
 use Rattle.dist_types.specs.declared.ids.JobId.{JobId}
+use Rattle.sched_core.specs.declared.start.Start.{Start}
 use Rattle.sched_core.proofs.Lists.{end_cut}
 use Rattle.sched_core.specs.declared.entry.CoreEntry.{CoreEntry}
 use Rattle.sched_core.specs.declared.entry.CoreKind.{CoreKind}
@@ -45,8 +46,8 @@ IsPast log job = IsKnown log job × (list_any (λ b. same_job b.job job) (free l
 abbrev pub IsHeldAt : List CoreEntry → Committed → Type 0
 IsHeldAt log c = list_any (λ b. same_job b.job c.job && is_this c.reg b.reg) (held log) ≡ true
 
-pub record Sound (base count : ℕ) (log : List CoreEntry) : Type 0 where
-  pub ids : HasIds base count (jobs log)
+pub record Sound (start : Start) (log : List CoreEntry) : Type 0 where
+  pub ids : HasIds start (jobs log)
   pub held_known : AllByRecursion (λ b. IsKnown log b.job) (held log)
   pub free_known : AllByRecursion (λ b. IsKnown log b.job) (free log)
   pub held_placed : AllByRecursion (λ b. place_of b.job log ≡ Some b.reg) (held log)
@@ -76,39 +77,39 @@ new_known log e = subst (λ js. AllByRecursion (λ b. list_any (λ k. same_job k
     (option_to_list (booked log e))) (sym (jobs-push log e)) (known_end (jobs log) (booked log e))
 
 -- a new job is no known one
-pub new_other : (base count : ℕ) (log : List CoreEntry) (k : CoreKind) (number now : ℕ)
-    → HasIds base count (jobs log) → Facts (core_of base count log) k → (x : JobId) → IsKnown log x
+pub new_other : (start : Start) (log : List CoreEntry) (k : CoreKind) (number now : ℕ)
+    → HasIds start (jobs log) → Facts (core_of start log) k → (x : JobId) → IsKnown log x
     → AllByRecursion (λ b. same_job b.job x ≡ false) (option_to_list (booked_by k number now []))
-new_other base count log (Reserve (Job job reg forgiven)) number now ids is x known =
+new_other start log (Reserve (Job job reg forgiven)) number now ids is x known =
     let old : (k : JobId) × (same_job k job ≡ false) × (same_job k x ≡ true) =
     found (λ k. same_job k job ≡ false) (λ k. same_job k x) (jobs log)
-    (fresh_job base count log job reg ids is) known in (
+    (fresh_job start log job reg ids is) known in (
       is_false (same_job job x)
           (λ t. true_false (same_job old.0 job) (same_job-trans old.0 x job old.2 (same_job-sym job x t))
           old.1),
       tt,
     )
-new_other base count log (Reserve (NoRoom n)) number now ids is x known = tt
-new_other base count log (Reserve Spent) number now ids is x known = tt
-new_other base count log (Beat server nonce cpus key pruned reaped replaced is_new) number now ids is x known
+new_other start log (Reserve (NoRoom n)) number now ids is x known = tt
+new_other start log (Reserve Spent) number now ids is x known = tt
+new_other start log (Beat server nonce cpus key pruned reaped replaced is_new) number now ids is x known
     = tt
-new_other base count log (Commit job state is_kept) number now ids is x known = tt
-new_other base count log (Undo job noted was_ended) number now ids is x known = tt
-new_other base count log (Update server job state answer) number now ids is x known = tt
-new_other base count log (Status pruned servers cpus n) number now ids is x known = tt
+new_other start log (Commit job state is_kept) number now ids is x known = tt
+new_other start log (Undo job noted was_ended) number now ids is x known = tt
+new_other start log (Update server job state answer) number now ids is x known = tt
+new_other start log (Status pruned servers cpus n) number now ids is x known = tt
 
 -- no entry places a known job anew
-places_none : (base count : ℕ) (log : List CoreEntry) (k : CoreKind) → HasIds base count (jobs log)
-    → Facts (core_of base count log) k → (x : JobId) → IsKnown log x → places_by k x ≡ None
-places_none base count log (Reserve (Job job reg forgiven)) ids is x known = ap (λ b. cond b (Some reg) None)
-    (new_other base count log (Reserve (Job job reg forgiven)) 0 0 ids is x known).0
-places_none base count log (Reserve (NoRoom n)) ids is x known = refl
-places_none base count log (Reserve Spent) ids is x known = refl
-places_none base count log (Beat server nonce cpus key pruned reaped replaced is_new) ids is x known = refl
-places_none base count log (Commit job state is_kept) ids is x known = refl
-places_none base count log (Undo job noted was_ended) ids is x known = refl
-places_none base count log (Update server job state answer) ids is x known = refl
-places_none base count log (Status pruned servers cpus n) ids is x known = refl
+places_none : (start : Start) (log : List CoreEntry) (k : CoreKind) → HasIds start (jobs log)
+    → Facts (core_of start log) k → (x : JobId) → IsKnown log x → places_by k x ≡ None
+places_none start log (Reserve (Job job reg forgiven)) ids is x known = ap (λ b. cond b (Some reg) None)
+    (new_other start log (Reserve (Job job reg forgiven)) 0 0 ids is x known).0
+places_none start log (Reserve (NoRoom n)) ids is x known = refl
+places_none start log (Reserve Spent) ids is x known = refl
+places_none start log (Beat server nonce cpus key pruned reaped replaced is_new) ids is x known = refl
+places_none start log (Commit job state is_kept) ids is x known = refl
+places_none start log (Undo job noted was_ended) ids is x known = refl
+places_none start log (Update server job state answer) ids is x known = refl
+places_none start log (Status pruned servers cpus n) ids is x known = refl
 
 new_placed : (log : List CoreEntry) (k : CoreKind) (number now : ℕ)
     → AllByRecursion (λ b. newer (places_by k b.job) (place_of b.job log) ≡ Some b.reg)
@@ -130,11 +131,11 @@ row_stands log reg e = list_any-map (λ n. n == reg) (λ g. g.reg) (standing log
     ∙ sym (list_any-map (λ r. r.reg == reg) (row_of log) (standing log)) ∙ e
 
 -- a new reservation is at a registration that stands and goes on to
-new_stands : (base count : ℕ) (log : List CoreEntry) (k : CoreKind) (number now : ℕ)
-    → Facts (core_of base count log) k
+new_stands : (start : Start) (log : List CoreEntry) (k : CoreKind) (number now : ℕ)
+    → Facts (core_of start log) k
     → AllByRecursion (λ b. (names (regs log) b.reg ≡ true) × (not (ends_by k b.reg) ≡ true))
     (option_to_list (booked_by k number now []))
-new_stands base count log (Reserve (Job job reg forgiven)) number now is = (
+new_stands start log (Reserve (Job job reg forgiven)) number now is = (
   (
     subst (λ r. names (regs log) r ≡ true) (sym is.at)
         (row_stands log is.row.reg (pick_there (servers_of log) is.row is.picked).0),
@@ -142,13 +143,13 @@ new_stands base count log (Reserve (Job job reg forgiven)) number now is = (
   ),
   tt,
 )
-new_stands base count log (Reserve (NoRoom n)) number now is = tt
-new_stands base count log (Reserve Spent) number now is = tt
-new_stands base count log (Beat server nonce cpus key pruned reaped replaced is_new) number now is = tt
-new_stands base count log (Commit job state is_kept) number now is = tt
-new_stands base count log (Undo job noted was_ended) number now is = tt
-new_stands base count log (Update server job state answer) number now is = tt
-new_stands base count log (Status pruned servers cpus n) number now is = tt
+new_stands start log (Reserve (NoRoom n)) number now is = tt
+new_stands start log (Reserve Spent) number now is = tt
+new_stands start log (Beat server nonce cpus key pruned reaped replaced is_new) number now is = tt
+new_stands start log (Commit job state is_kept) number now is = tt
+new_stands start log (Undo job noted was_ended) number now is = tt
+new_stands start log (Update server job state answer) number now is = tt
+new_stands start log (Status pruned servers cpus n) number now is = tt
 
 stands-on : (log : List CoreEntry) (e : CoreEntry) (reg : ℕ) → names (regs log) reg ≡ true
     → not (ends_by e.kind reg) ≡ true → names (regs (log ++ e ∷ [])) reg ≡ true
@@ -158,14 +159,14 @@ stands-on log e reg up stays = subst (λ rs. names rs reg ≡ true) (sym (regs-p
     (names-filter (λ r. not (ends_by e.kind r)) (regs log) reg up stays))
 
 -- a past job stays one
-past-on : (base count : ℕ) (log : List CoreEntry) (e : CoreEntry) → HasIds base count (jobs log)
-    → Facts (core_of base count log) e.kind → (x : JobId) → IsPast log x → IsPast (log ++ e ∷ []) x
-past-on base count log e ids is x past = (
+past-on : (start : Start) (log : List CoreEntry) (e : CoreEntry) → HasIds start (jobs log)
+    → Facts (core_of start log) e.kind → (x : JobId) → IsPast log x → IsPast (log ++ e ∷ []) x
+past-on start log e ids is x past = (
   known-on log e x past.0,
   subst (λ bs. list_any (λ b. same_job b.job x) bs ≡ false) (sym (free-push log e))
       (none-append (λ b. same_job b.job x) (filter (free_stays e) (free log)) (booked log e)
       (none-kept (λ b. same_job b.job x) (free_stays e) (free log) past.1)
-      (new_other base count log e.kind (length log) e.now ids is x past.0)),
+      (new_other start log e.kind (length log) e.now ids is x past.0)),
 )
 
 -- what a commit or an undo spends was unspent
@@ -177,28 +178,28 @@ spent_free s job says is =
     (λ b t. and_right (b.number == is.number) (same_job b.job job) t) (unspent s.log) is.unspent
 
 -- what an undo ends was unspent
-undone : (base count : ℕ) (log : List CoreEntry) (k : CoreKind) → Facts (core_of base count log) k
+undone : (start : Start) (log : List CoreEntry) (k : CoreKind) → Facts (core_of start log) k
     → (x : JobId) → undoes_by k x ≡ true → list_any (λ b. same_job b.job x) (free log) ≡ true
-undone base count log (Undo job noted was_ended) is x t = any-weaker (λ b. same_job b.job job)
+undone start log (Undo job noted was_ended) is x t = any-weaker (λ b. same_job b.job job)
     (λ b. same_job b.job x) (λ b h. same_job-trans b.job job x h (and_right was_ended (same_job job x) t))
-    (free log) (spent_free (core_of base count log) job was_ended is)
-undone base count log (Reserve r) is x t = absurd (false≢true t)
-undone base count log (Beat server nonce cpus key pruned reaped replaced is_new) is x t =
+    (free log) (spent_free (core_of start log) job was_ended is)
+undone start log (Reserve r) is x t = absurd (false≢true t)
+undone start log (Beat server nonce cpus key pruned reaped replaced is_new) is x t =
     absurd (false≢true t)
-undone base count log (Commit job state is_kept) is x t = absurd (false≢true t)
-undone base count log (Update server job state answer) is x t = absurd (false≢true t)
-undone base count log (Status pruned servers cpus n) is x t = absurd (false≢true t)
+undone start log (Commit job state is_kept) is x t = absurd (false≢true t)
+undone start log (Update server job state answer) is x t = absurd (false≢true t)
+undone start log (Status pruned servers cpus n) is x t = absurd (false≢true t)
 
 -- a new commit is of a past job
-new_past : (base count : ℕ) (log : List CoreEntry) (now : ℕ) (k : CoreKind) → Facts (core_of base count log) k
+new_past : (start : Start) (log : List CoreEntry) (now : ℕ) (k : CoreKind) → Facts (core_of start log) k
     → AllByRecursion (λ b. IsKnown log b.job) (free log)
     → AllByRecursion (λ c. IsPast (log ++ record { now = now; kind = k } ∷ []) c.job)
     (option_to_list (committed_by k log []))
-new_past base count log now (Commit job state true) is free_known =
+new_past start log now (Commit job state true) is free_known =
     let e : CoreEntry = record { now = now; kind = Commit job state true } in
     let there : (b : Booking) × IsKnown log b.job × (same_job b.job job ≡ true) =
     found (λ b. IsKnown log b.job) (λ b. same_job b.job job) (free log) free_known
-    (spent_free (core_of base count log) job true is.0) in (
+    (spent_free (core_of start log) job true is.0) in (
       (
         known-on log e job (subst (IsKnown log) (same_job-eq there.0.job job there.2) there.1),
         subst (λ bs. list_any (λ b. same_job b.job job) bs ≡ false) (sym (free-push log e))
@@ -208,19 +209,19 @@ new_past base count log now (Commit job state true) is free_known =
       ),
       tt,
     )
-new_past base count log now (Commit job state false) is free_known = tt
-new_past base count log now (Reserve r) is free_known = tt
-new_past base count log now (Undo job noted was_ended) is free_known = tt
-new_past base count log now (Beat server nonce cpus key pruned reaped replaced is_new) is free_known = tt
-new_past base count log now (Update server job state answer) is free_known = tt
-new_past base count log now (Status pruned servers cpus n) is free_known = tt
+new_past start log now (Commit job state false) is free_known = tt
+new_past start log now (Reserve r) is free_known = tt
+new_past start log now (Undo job noted was_ended) is free_known = tt
+new_past start log now (Beat server nonce cpus key pruned reaped replaced is_new) is free_known = tt
+new_past start log now (Update server job state answer) is free_known = tt
+new_past start log now (Status pruned servers cpus n) is free_known = tt
 
 -- a new commit is of a job that is held at its place
-new_held : (base count : ℕ) (log : List CoreEntry) (now : ℕ) (k : CoreKind) → Facts (core_of base count log) k
+new_held : (start : Start) (log : List CoreEntry) (now : ℕ) (k : CoreKind) → Facts (core_of start log) k
     → AllByRecursion (λ b. place_of b.job log ≡ Some b.reg) (held log)
     → AllByRecursion (IsHeldAt (log ++ record { now = now; kind = k } ∷ []))
     (option_to_list (committed_by k log []))
-new_held base count log now (Commit job state true) is placed =
+new_held start log now (Commit job state true) is placed =
     let e : CoreEntry = record { now = now; kind = Commit job state true } in
     let t : Booking → Bool = λ b. (b.number == is.0.number) && same_job b.job job in
     let u : Booking → Bool = λ b. same_job b.job job && is_this (place_of job log) b.reg in
@@ -240,18 +241,18 @@ new_held base count log now (Commit job state true) is placed =
           (any-append u (filter (held_stays e) (held log)) [] kept_here),
       tt,
     )
-new_held base count log now (Commit job state false) is placed = tt
-new_held base count log now (Reserve r) is placed = tt
-new_held base count log now (Undo job noted was_ended) is placed = tt
-new_held base count log now (Beat server nonce cpus key pruned reaped replaced is_new) is placed = tt
-new_held base count log now (Update server job state answer) is placed = tt
-new_held base count log now (Status pruned servers cpus n) is placed = tt
+new_held start log now (Commit job state false) is placed = tt
+new_held start log now (Reserve r) is placed = tt
+new_held start log now (Undo job noted was_ended) is placed = tt
+new_held start log now (Beat server nonce cpus key pruned reaped replaced is_new) is placed = tt
+new_held start log now (Update server job state answer) is placed = tt
+new_held start log now (Status pruned servers cpus n) is placed = tt
 
 -- an open job stays held
-held-on : (base count : ℕ) (log : List CoreEntry) (e : CoreEntry) → Facts (core_of base count log) e.kind
+held-on : (start : Start) (log : List CoreEntry) (e : CoreEntry) → Facts (core_of start log) e.kind
     → (c : Committed) → IsPast log c.job → IsHeldAt log c → begun_stays e c ≡ true
     → IsHeldAt (log ++ e ∷ []) c
-held-on base count log e is c past here stays =
+held-on start log e is c past here stays =
     let t : Booking → Bool = λ b. same_job b.job c.job && is_this c.reg b.reg in
     let closed : closes_by e.kind c.job c.reg ≡ false = not_true (closes_by e.kind c.job c.reg) stays in
     let kept_here : list_any t (filter (held_stays e) (held log)) ≡ true = any-kept (λ b. Unit {0}) t t
@@ -266,7 +267,7 @@ held-on base count log e is c past here stays =
           is_this-eq c.reg b.reg (and_right (same_job b.job c.job) (is_this c.reg b.reg) h) in
           let not_undone : undoes_by e.kind c.job ≡ false = is_false (undoes_by e.kind c.job)
           (λ d. true_false (list_any (λ b. same_job b.job c.job) (free log))
-          (undone base count log e.kind is c.job d) past.1) in
+          (undone start log e.kind is c.job d) past.1) in
           let not_by_job : (completes_by e.kind c.job || reaps_by e.kind c.job) ≡ false =
           or_left (completes_by e.kind c.job || reaps_by e.kind c.job) (ends_place_by e.kind c.reg) closed
           in
@@ -291,13 +292,13 @@ held-on base count log e is c past here stays =
     all_known [] = tt
     all_known (b ∷ bs) = (tt, all_known bs)
 
-pub sound-step : (base count : ℕ) (log : List CoreEntry) (e : CoreEntry) → Sound base count log
-    → IsRule (core_of base count log) e → Sound base count (log ++ e ∷ [])
-sound-step base count log e sound rule_is =
+pub sound-step : (start : Start) (log : List CoreEntry) (e : CoreEntry) → Sound start log
+    → IsRule (core_of start log) e → Sound start (log ++ e ∷ [])
+sound-step start log e sound rule_is =
     let next : List CoreEntry = log ++ e ∷ [] in
-    let is : Facts (core_of base count log) e.kind = facts (core_of base count log) e rule_is in
+    let is : Facts (core_of start log) e.kind = facts (core_of start log) e rule_is in
     record {
-      ids = ids-step base count log e sound.ids rule_is;
+      ids = ids-step start log e sound.ids rule_is;
       held_known = subst (AllByRecursion (λ b. IsKnown next b.job)) (sym (held-push log e))
           (all-step (λ b. IsKnown log b.job) (λ b. IsKnown next b.job) (held_stays e) (booked log e)
           (λ b h t. known-on log e b.job h) (new_known log e) (held log) sound.held_known);
@@ -308,7 +309,7 @@ sound-step base count log e sound rule_is =
           (all-step (λ b. IsKnown log b.job × (place_of b.job log ≡ Some b.reg))
           (λ b. place_of b.job next ≡ Some b.reg) (held_stays e) (booked log e)
           (λ b h t. place_of-push b.job log e ∙ ap (λ o. newer o (place_of b.job log))
-          (places_none base count log e.kind sound.ids is b.job h.0) ∙ h.1)
+          (places_none start log e.kind sound.ids is b.job h.0) ∙ h.1)
           (all-weaker (λ b. newer (places_by e.kind b.job) (place_of b.job log) ≡ Some b.reg)
           (λ b. place_of b.job next ≡ Some b.reg) (λ b h. place_of-push b.job log e ∙ h)
           (option_to_list (booked log e)) (new_placed log e.kind (length log) e.now))
@@ -323,36 +324,36 @@ sound-step base count log e sound rule_is =
           (not_true (frees_by e.kind b.job b.reg) t))))
           (all-weaker (λ b. (names (regs log) b.reg ≡ true) × (not (ends_by e.kind b.reg) ≡ true))
           (λ b. names (regs next) b.reg ≡ true) (λ b h. stands-on log e b.reg h.0 h.1)
-          (option_to_list (booked log e)) (new_stands base count log e.kind (length log) e.now is))
+          (option_to_list (booked log e)) (new_stands start log e.kind (length log) e.now is))
           (held log) sound.held_stands);
       kept_past = subst (AllByRecursion (λ c. IsPast next c.job)) (sym (kept-push log e))
           (all-append (λ c. IsPast next c.job) (kept log) (option_to_list (committed log e))
           (all-weaker (λ c. IsPast log c.job) (λ c. IsPast next c.job)
-          (λ c h. past-on base count log e sound.ids is c.job h) (kept log) sound.kept_past)
-          (new_past base count log e.now e.kind is sound.free_known));
+          (λ c h. past-on start log e sound.ids is c.job h) (kept log) sound.kept_past)
+          (new_past start log e.now e.kind is sound.free_known));
       begun_past = subst (AllByRecursion (λ c. IsPast next c.job)) (sym (begun-push log e))
           (all-append (λ c. IsPast next c.job) (filter (begun_stays e) (begun log))
           (filter (λ c. not (is_complete c.state)) (option_to_list (committed log e)))
           (all-filter (λ c. IsPast log c.job) (λ c. IsPast next c.job) (begun_stays e)
-          (λ c h t. past-on base count log e sound.ids is c.job h) (begun log) sound.begun_past)
+          (λ c h t. past-on start log e sound.ids is c.job h) (begun log) sound.begun_past)
           (all-filter (λ c. IsPast next c.job) (λ c. IsPast next c.job) (λ c. not (is_complete c.state))
           (λ c h t. h) (option_to_list (committed log e))
-          (new_past base count log e.now e.kind is sound.free_known)));
+          (new_past start log e.now e.kind is sound.free_known)));
       begun_held = subst (AllByRecursion (IsHeldAt next)) (sym (begun-push log e))
           (all-append (IsHeldAt next) (filter (begun_stays e) (begun log))
           (filter (λ c. not (is_complete c.state)) (option_to_list (committed log e)))
           (all-filter (λ c. IsPast log c.job × IsHeldAt log c) (IsHeldAt next) (begun_stays e)
-          (λ c h t. held-on base count log e is c h.0 h.1 t) (begun log)
+          (λ c h t. held-on start log e is c h.0 h.1 t) (begun log)
           (all-both (λ c. IsPast log c.job) (IsHeldAt log) (λ c. IsPast log c.job × IsHeldAt log c)
           (λ c p q. (p, q)) (begun log) sound.begun_past sound.begun_held))
           (all-filter (IsHeldAt next) (IsHeldAt next) (λ c. not (is_complete c.state)) (λ c h t. h)
           (option_to_list (committed log e))
-          (new_held base count log e.now e.kind is sound.held_placed)));
+          (new_held start log e.now e.kind is sound.held_placed)));
     }
 
-pub no_sound : (base count : ℕ) → count < 2 ^ 64 → Sound base count []
-no_sound base count fits = record {
-  ids = no_ids base count fits;
+pub no_sound : (start : Start) → start.count < 2 ^ 64 → Sound start []
+no_sound start fits = record {
+  ids = no_ids start fits;
   held_known = tt;
   free_known = tt;
   held_placed = tt;
@@ -362,15 +363,15 @@ no_sound base count fits = record {
   begun_held = tt;
 }
 
-pub legal_sound : (base count : ℕ) (log : List CoreEntry) → count < 2 ^ 64 → IsLegal base count log
-    → Sound base count log
-legal_sound base count log fits legal = legal_has base count (Sound base count) (no_sound base count fits)
-    (sound-step base count) log legal
+pub legal_sound : (start : Start) (log : List CoreEntry) → start.count < 2 ^ 64 → IsLegal start log
+    → Sound start log
+legal_sound start log fits legal = legal_has start (Sound start) (no_sound start fits)
+    (sound-step start) log legal
 
 -- an open job has exactly one unended reservation, and its registration stands
-once : (base count : ℕ) (log : List CoreEntry) → Sound base count log → (c : Committed) → IsHeldAt log c
+once : (start : Start) (log : List CoreEntry) → Sound start log → (c : Committed) → IsHeldAt log c
     → IsHeldOnce log c.job
-once base count log sound c here =
+once start log sound c here =
     let t : Booking → Bool = λ b. same_job b.job c.job in
     let some : list_any t (unended log) ≡ true = sym (list_any-map t bare (unended log))
     ∙ any-weaker (λ b. same_job b.job c.job && is_this c.reg b.reg) t
@@ -384,17 +385,17 @@ once base count log sound c here =
     in
     (one.0, one.1, sym (list_any-map (λ n. n == one.0.reg) (λ g. g.reg) (standing log)) ∙ up.0)
 
-pub legal_once : (base count : ℕ) (log : List CoreEntry) → count < 2 ^ 64 → IsLegal base count log
+pub legal_once : (start : Start) (log : List CoreEntry) → start.count < 2 ^ 64 → IsLegal start log
     → AllByRecursion (λ c. IsHeldOnce log c.job) (open_jobs log)
-legal_once base count log fits legal =
-    let sound : Sound base count log = legal_sound base count log fits legal in
+legal_once start log fits legal =
+    let sound : Sound start log = legal_sound start log fits legal in
     all-weaker (λ c. IsHeldAt log (bare_commit c)) (λ c. IsHeldOnce log c.job)
-    (λ c h. once base count log sound (bare_commit c) h) (open_jobs log)
+    (λ c h. once start log sound (bare_commit c) h) (open_jobs log)
     (all-unmap (IsHeldAt log) bare_commit (open_jobs log) sound.begun_held)
 
-pub legal_standing : (base count : ℕ) (log : List CoreEntry) → count < 2 ^ 64 → IsLegal base count log
+pub legal_standing : (start : Start) (log : List CoreEntry) → start.count < 2 ^ 64 → IsLegal start log
     → AllByRecursion (HasStanding log) (unended log)
-legal_standing base count log fits legal = all-weaker (λ b. names (regs log) b.reg ≡ true) (HasStanding log)
+legal_standing start log fits legal = all-weaker (λ b. names (regs log) b.reg ≡ true) (HasStanding log)
     (λ b up. sym (list_any-map (λ n. n == b.reg) (λ g. g.reg) (standing log)) ∙ up) (unended log)
     (all-unmap (λ b. names (regs log) b.reg ≡ true) bare (unended log)
-    (legal_sound base count log fits legal).held_stands)
+    (legal_sound start log fits legal).held_stands)

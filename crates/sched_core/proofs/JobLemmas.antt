@@ -11,15 +11,15 @@ use Rattle.std.proofs.lemmas.List.Sorted.{IsPermutation-append_left, IsPermutati
 use Rattle.dist_types.specs.declared.addr.Addr.{Addr}
 use Rattle.dist_types.specs.declared.addr.Addr.TheVariants.{V4}
 use Rattle.dist_types.specs.declared.ids.JobId.{JobId}
+use Rattle.sched_core.specs.declared.start.Start.{Start}
 use Rattle.sched_core.proofs.Lists.{map-map}
 use Rattle.sched_core.specs.declared.entry.CoreEntry.{CoreEntry}
-use Rattle.sched_core.specs.declared.rows.HeldRow.{HeldRow}
 use Rattle.sched_core.specs.declared.rows.JobRow.{JobRow}
 use Rattle.sched_core.specs.Log.{same_job}
 use Rattle.sched_core.specs.Standing.{Registered, standing, address_of}
 use Rattle.sched_core.specs.Reservation.{Booking, bookings, is_unended, unended}
-use Rattle.sched_core.specs.Rows.{placed, sorted_into, held_of, held_rows, held_by_id, job_at, jobs_of}
-use Rattle.sched_core.specs.Rows.{job_row}
+use Rattle.sched_core.specs.Rows.{placed, sorted_into, held_of, job_row, unended_by_id, jobs_of}
+use Rattle.sched_core.specs.Books.{job_at}
 use Rattle.sched_core.specs.Laws.{IsLegal, AreDistinct, AreRising, AreJobRows, HasStanding}
 use Rattle.sched_core.proofs.AllLemmas.{true_false, other_job-sym, all-weaker, all-both, all-map, all-unmap}
 use Rattle.sched_core.proofs.AllLemmas.{found, distinct-filter}
@@ -124,54 +124,42 @@ addressed log all = all-weaker (HasStanding log) (λ b. HasAddress log b.reg)
     (unended log) all
 
 -- a reservation with the address of its registration, which it has
-abbrev with_address : List CoreEntry → HeldRow → JobRow
-with_address log h = job_at (unwrap_or (address_of log h.reg) (V4 [] 0)) h
-
-full_held : (log : List CoreEntry) (hs : List HeldRow) → AllByRecursion (λ h. HasAddress log h.reg) hs
-    → filter_map (λ h. option_map (λ server. job_at server h) (address_of log h.reg)) hs ≡ map
-    (with_address log) hs
-full_held log [] all = refl
-full_held log (h ∷ hs) all =
-    ap (λ o. cons_option (option_map (λ server. job_at server h) o)
-    (filter_map (λ h. option_map (λ server. job_at server h) (address_of log h.reg)) hs)) all.0.1
-    ∙ ap (λ js. job_at all.0.0 h ∷ js) (full_held log hs all.1)
-    ∙ ap (λ o. job_at (unwrap_or o (V4 [] 0)) h ∷ map (with_address log) hs) (sym all.0.1)
+abbrev with_address : List CoreEntry → Booking → JobRow
+with_address log b = job_at (unwrap_or (address_of log b.reg) (V4 [] 0)) (held_of b)
 
 full_rows : (log : List CoreEntry) (bs : List Booking) → AllByRecursion (λ b. HasAddress log b.reg) bs
-    → filter_map (job_row log) bs ≡ map (with_address log) (map held_of bs)
+    → filter_map (job_row log) bs ≡ map (with_address log) bs
 full_rows log [] all = refl
 full_rows log (b ∷ bs) all =
     ap (λ o. cons_option (option_map (λ server. job_at server (held_of b)) o) (filter_map (job_row log) bs))
     all.0.1
     ∙ ap (λ js. job_at all.0.0 (held_of b) ∷ js) (full_rows log bs all.1)
-    ∙ ap (λ o. job_at (unwrap_or o (V4 [] 0)) (held_of b) ∷ map (with_address log) (map held_of bs))
-    (sym all.0.1)
+    ∙ ap (λ o. job_at (unwrap_or o (V4 [] 0)) (held_of b) ∷ map (with_address log) bs) (sym all.0.1)
 
 -- the rows are those of the unended reservations, sorted
 jobs_sorted : (log : List CoreEntry) → AllByRecursion (λ b. HasAddress log b.reg) (unended log)
     → jobs_of log ≡ sorted_into (λ j. j.job.0) [] (filter_map (job_row log) (unended log))
 jobs_sorted log all =
-    full_held log (held_by_id log) (sorted-all (λ h. HasAddress log h.reg) (λ h. h.job.0) []
-    (held_rows log) tt (all-map (λ h. HasAddress log h.reg) held_of (unended log) all))
-    ∙ sym (sorted-map (λ h. h.job.0) (λ j. j.job.0) (with_address log) (λ h. refl) (held_rows log))
+    full_rows log (unended_by_id log)
+    (sorted-all (λ b. HasAddress log b.reg) (λ b. b.job.0) [] (unended log) tt all)
+    ∙ sym (sorted-map (λ b. b.job.0) (λ j. j.job.0) (with_address log) (λ b. refl) (unended log))
     ∙ ap (sorted_into (λ j. j.job.0) []) (sym (full_rows log (unended log) all))
 
-pub legal_jobs : (base count : ℕ) (log : List CoreEntry) → count < 2 ^ 64 → IsLegal base count log
+pub legal_jobs : (start : Start) (log : List CoreEntry) → start.count < 2 ^ 64 → IsLegal start log
     → AreJobRows log (jobs_of log)
-legal_jobs base count log fits legal =
+legal_jobs start log fits legal =
     let all : AllByRecursion (λ b. HasAddress log b.reg) (unended log) =
-    addressed log (legal_standing base count log fits legal) in
+    addressed log (legal_standing start log fits legal) in
     let rows : List JobRow = filter_map (job_row log) (unended log) in
-    let made : rows ≡ map (with_address log) (held_rows log) = full_rows log (unended log) all in
+    let made : rows ≡ map (with_address log) (unended log) = full_rows log (unended log) all in
     let ids : map (λ j. j.job) rows ≡ map (λ b. b.job) (unended log) = ap (map (λ j. j.job)) made
-    ∙ map-map (λ j. j.job) (with_address log) (held_rows log) ∙ map-map (λ h. h.job) held_of (unended log)
-    in
+    ∙ map-map (λ j. j.job) (with_address log) (unended log) in
     let apart : AreDistinct (map (λ j. j.job) rows) = subst AreDistinct (sym ids)
-    (distinct-filter (λ b. b.job) is_unended (bookings log) (legal_distinct base count log fits legal)) in
+    (distinct-filter (λ b. b.job) is_unended (bookings log) (legal_distinct start log fits legal)) in
     let sorted : List JobRow = sorted_into (λ j. j.job.0) [] rows in
     let order : IsPermutation rows sorted = permutation-sorted (λ j. j.job.0) [] rows in
-    let many : length rows ≡ length (unended log) = ap length made ∙ length-map (held_rows log)
-    (with_address log) ∙ length-map (unended log) held_of in
+    let many : length rows ≡ length (unended log) = ap length made ∙ length-map (unended log)
+    (with_address log) in
     subst (AreJobRows log) (sym (jobs_sorted log all)) (record {
       rising = strict_rising (λ j. j.job.0) sorted
           (strict-sorted (λ j. j.job) [] rows tt (all_away (λ j. j.job) rows) apart);

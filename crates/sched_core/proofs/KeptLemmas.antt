@@ -11,6 +11,7 @@ use Rattle.dist_types.specs.declared.addr.Addr.{Addr}
 use Rattle.dist_types.specs.declared.ids.JobId.{JobId}
 use Rattle.dist_types.specs.declared.results.JobState.{JobState}
 use Rattle.dist_types.specs.declared.results.JobState.TheVariants.{Pending, Ready, Started, Complete}
+use Rattle.sched_core.specs.declared.start.Start.{Start}
 use Rattle.sched_core.proofs.Lists.{map-map, filter-map, filter-filter, list_any-push, cons_nil, map-option}
 use Rattle.sched_core.proofs.Lists.{Grows, lasting-push}
 use Rattle.sched_core.specs.declared.entry.CoreEntry.{CoreEntry}
@@ -29,7 +30,8 @@ use Rattle.sched_core.specs.Reservation.{claims_by, is_claimed, spends_by, frees
 use Rattle.sched_core.specs.Job.{Committed, committed_by, committed_at, commits, moves_by, moves_of}
 use Rattle.sched_core.specs.Job.{state_now, state_of, is_open, open_jobs, place_of}
 use Rattle.sched_core.specs.Rows.{row_of, servers_of, held_of, held_rows}
-use Rattle.sched_core.specs.Rows.{held_part, open_of, open_rows}
+use Rattle.sched_core.specs.Rows.{open_of, open_rows}
+use Rattle.sched_core.specs.Books.{held_part}
 use Rattle.sched_core.specs.Cuts.{seen}
 use Rattle.sched_core.specs.Rule.{is_initial, place_at}
 use Rattle.sched_core.specs.Books.{begins_by, state_after, held_stays, held_after, held_by}
@@ -338,9 +340,9 @@ pub record IsOpenAt (log : List CoreEntry) (c : Committed) : Type 0 where
   pub there : address_of log reg ≡ Some server
   pub held : list_any (λ b. same_job b.job c.job && (reg == b.reg)) (step.held log) ≡ true
 
-held_addressed : (base count : ℕ) (log : List CoreEntry) → Sound base count log
+held_addressed : (start : Start) (log : List CoreEntry) → Sound start log
     → AllByRecursion (λ b. (server : Addr) × (address_of log b.reg ≡ Some server)) (step.held log)
-held_addressed base count log sound = all-weaker (λ b. names (step.regs log) b.reg ≡ true)
+held_addressed start log sound = all-weaker (λ b. names (step.regs log) b.reg ≡ true)
     (λ b. (server : Addr) × (address_of log b.reg ≡ Some server)) (λ b h. at b.reg h)
     (step.held log) sound.held_stands
   where
@@ -353,9 +355,9 @@ held_addressed base count log sound = all-weaker (λ b. names (step.regs log) b.
         (sym (list_any-map (λ n. n == reg) (λ g. g.reg) (standing log)) ∙ h) in
         (g.0.server, ap (address_of log) (sym (eqb-true g.0.reg reg g.2)) ∙ g.1.0)
 
-pub open_at : (base count : ℕ) (log : List CoreEntry) → Sound base count log → AllByRecursion (IsOpenAt log)
+pub open_at : (start : Start) (log : List CoreEntry) → Sound start log → AllByRecursion (IsOpenAt log)
     (open_jobs log)
-open_at base count log sound = all-weaker (λ c. IsOpenAt log (step.bare_commit c)) (IsOpenAt log)
+open_at start log sound = all-weaker (λ c. IsOpenAt log (step.bare_commit c)) (IsOpenAt log)
     (λ c h. record { reg = h.reg; server = h.server; at = h.at; there = h.there; held = h.held })
     (open_jobs log)
     (all-unmap (IsOpenAt log) step.bare_commit (open_jobs log)
@@ -367,7 +369,7 @@ open_at base count log sound = all-weaker (λ c. IsOpenAt log (step.bare_commit 
         × ((same_job b.job c.job && is_this c.reg b.reg) ≡ true) =
         found (λ b. (server : Addr) × (address_of log b.reg ≡ Some server))
         (λ b. same_job b.job c.job && is_this c.reg b.reg) (step.held log)
-        (held_addressed base count log sound) h in
+        (held_addressed start log sound) h in
         let place : c.reg ≡ Some b.0.reg = is_this-eq c.reg b.0.reg
         (and_right (same_job b.0.job c.job) (is_this c.reg b.0.reg) b.2) in
         record {
@@ -434,9 +436,9 @@ new_open log now (Undo job noted was_ended) jobs all kept = refl
 new_open log now (Update server job state answer) jobs all kept = refl
 new_open log now (Status pruned servers cpus n) jobs all kept = refl
 
-kept_job : (base count : ℕ) (log : List CoreEntry) (k : CoreKind) (jobs : List JobRow)
-    → map held_part jobs ≡ held_rows log → Facts (core_of base count log) k → IsKeptOf log k jobs
-kept_job base count log (Commit job state true) jobs same is = (
+kept_job : (start : Start) (log : List CoreEntry) (k : CoreKind) (jobs : List JobRow)
+    → map held_part jobs ≡ held_rows log → Facts (core_of start log) k → IsKeptOf log k jobs
+kept_job start log (Commit job state true) jobs same is = (
   sym (list_any-map (λ h. same_job h.job job) held_part jobs) ∙ ap (list_any (λ h. same_job h.job job)) same
       ∙ list_any-map (λ h. same_job h.job job) held_of (unended log)
       ∙ any-weaker (λ b. (b.number == is.0.number) && same_job b.job job) (λ b. same_job b.job job)
@@ -444,35 +446,35 @@ kept_job base count log (Commit job state true) jobs same is = (
       (sym is.0.says_held),
   is.1,
 )
-kept_job base count log (Commit job state false) jobs same is = tt
-kept_job base count log (Beat server nonce cpus key pruned reaped replaced is_new) jobs same is = tt
-kept_job base count log (Reserve r) jobs same is = tt
-kept_job base count log (Undo job noted was_ended) jobs same is = tt
-kept_job base count log (Update server job state answer) jobs same is = tt
-kept_job base count log (Status pruned servers cpus n) jobs same is = tt
+kept_job start log (Commit job state false) jobs same is = tt
+kept_job start log (Beat server nonce cpus key pruned reaped replaced is_new) jobs same is = tt
+kept_job start log (Reserve r) jobs same is = tt
+kept_job start log (Undo job noted was_ended) jobs same is = tt
+kept_job start log (Update server job state answer) jobs same is = tt
+kept_job start log (Status pruned servers cpus n) jobs same is = tt
 
-jobs_at_place : (base count : ℕ) (log : List CoreEntry) (jobs : List JobRow) → Sound base count log
+jobs_at_place : (start : Start) (log : List CoreEntry) (jobs : List JobRow) → Sound start log
     → map held_part jobs ≡ held_rows log → AllByRecursion (λ j. place_of j.job log ≡ Some j.reg) jobs
-jobs_at_place base count log jobs sound same = all-unmap (λ h. place_of h.job log ≡ Some h.reg) held_part jobs
+jobs_at_place start log jobs sound same = all-unmap (λ h. place_of h.job log ≡ Some h.reg) held_part jobs
     (subst (AllByRecursion (λ h. place_of h.job log ≡ Some h.reg)) (sym same)
     (all-map (λ h. place_of h.job log ≡ Some h.reg) held_of (unended log)
     (all-unmap (λ b. place_of b.job log ≡ Some b.reg) step.bare (unended log) sound.held_placed)))
 
-pub open-absorb : (base count : ℕ) (jobs : List JobRow) (log : List CoreEntry) (e : CoreEntry)
-    → Sound base count log → Facts (core_of base count log) e.kind
+pub open-absorb : (start : Start) (jobs : List JobRow) (log : List CoreEntry) (e : CoreEntry)
+    → Sound start log → Facts (core_of start log) e.kind
     → map held_part jobs ≡ held_rows log → AllByRecursion (λ j. address_of log j.reg ≡ Some j.server) jobs →
     map (open_after e.kind) (filter (open_stays e.kind) (open_rows log)) ++ option_to_list
     (open_by e.kind jobs) ≡ open_rows (log ++ e ∷ [])
-open-absorb base count jobs log e sound is same placed_are =
+open-absorb start jobs log e sound is same placed_are =
     ap (λ os. map (open_after e.kind) (filter (open_stays e.kind) os) ++ option_to_list (open_by e.kind jobs))
     (map-all_agree (open_of log) (open_of next) (open_jobs log)
     (all-weaker (IsOpenAt log) (λ c. open_of log c ≡ open_of next c) unchanged (open_jobs log)
-    (open_at base count log sound)))
+    (open_at start log sound)))
     ∙ ap (λ bs. map (open_after e.kind) (filter (open_stays e.kind) (map (open_of next) (open_jobs log)))
     ++ bs) (sym (new_open log e.now e.kind jobs
     (all-both (λ j. place_of j.job log ≡ Some j.reg) (λ j. address_of log j.reg ≡ Some j.server)
-    (IsJobPlaced log) (λ j p q. (p, q)) jobs (jobs_at_place base count log jobs sound same) placed_are)
-    (kept_job base count log e.kind jobs same is)))
+    (IsJobPlaced log) (λ j p q. (p, q)) jobs (jobs_at_place start log jobs sound same) placed_are)
+    (kept_job start log e.kind jobs same is)))
     ∙ sym (open_view-push (open_of next) (λ d o. open_after d.kind o) (λ d o. open_stays d.kind o)
     (open_of-grown next) (λ d c. refl) log e)
   where

@@ -1,5 +1,6 @@
 -- Each legal log is lawful.
-use Rattle.std.proofs.Common.{ℕ, ◌<◌, ◌^◌, List}
+use Rattle.std.proofs.Common.{◌<◌, ◌^◌, List}
+use Rattle.sched_core.specs.declared.start.Start.{Start}
 use Rattle.sched_core.specs.declared.entry.CoreEntry.{CoreEntry}
 use Rattle.sched_core.specs.Laws.{IsLegal, IsLawful}
 use Rattle.sched_core.proofs.SoundLemmas.{legal_distinct}
@@ -11,21 +12,21 @@ use Rattle.sched_core.proofs.RoomLemmas.{legal_bounded}
 use Rattle.sched_core.proofs.PickLemmas.{legal_fair}
 use Rattle.sched_core.proofs.JobLemmas.{legal_jobs}
 
-pub legal_lawful : (base count : ℕ) (log : List CoreEntry) → count < 2 ^ 64 → IsLegal base count log
+pub legal_lawful : (start : Start) (log : List CoreEntry) → start.count < 2 ^ 64 → IsLegal start log
     → IsLawful log
-legal_lawful base count log fits legal =
-    let once = legal_all base count log fits legal in
+legal_lawful start log fits legal =
+    let once = legal_all start log fits legal in
     record {
-      ids = legal_distinct base count log fits legal;
+      ids = legal_distinct start log fits legal;
       spent_once = once.spent;
       ended_once = once.ended;
-      at_standing = legal_standing base count log fits legal;
+      at_standing = legal_standing start log fits legal;
       committed_once = once.committed;
       in_order = once.order;
-      open_held = legal_once base count log fits legal;
-      registered_once = legal_ends base count log fits legal;
-      one_each = legal_apart base count log legal;
-      bounded = legal_bounded base count log fits legal;
-      fair = legal_fair base count log fits legal;
-      job_rows = legal_jobs base count log fits legal;
+      open_held = legal_once start log fits legal;
+      registered_once = legal_ends start log fits legal;
+      one_each = legal_apart start log legal;
+      bounded = legal_bounded start log fits legal;
+      fair = legal_fair start log fits legal;
+      job_rows = legal_jobs start log fits legal;
     }

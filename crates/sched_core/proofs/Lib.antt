@@ -31,6 +31,7 @@ pub mod RoomLemmas
 pub mod RowLemmas
 pub mod SortLemmas
 pub mod SoundLemmas
+pub mod SpendLemmas
 pub mod StandingLemmas
 pub mod StateLemmas
 pub mod StepLemmas

@@ -1,9 +1,19 @@
 -- What a reserve costs in looks.
-use Rattle.std.proofs.Common.{◌≡◌, ◌≤◌, ℕ, suc, ◌+◌, ◌*◌, ◌^◌, length, max, ap, ◌∙◌, arith}
+use Rattle.std.proofs.Common.{◌≡◌, ◌≤◌, ℕ, suc, ◌+◌, ◌*◌, ◌^◌, List, length, max, ap, ◌∙◌, subst, arith}
 use Rattle.std.proofs.Math.Nat.{pow-suc}
+use Rattle.sched_core.specs.declared.start.Start.{Start}
+use Rattle.sched_core.specs.declared.entry.CoreEntry.{CoreEntry}
 use Rattle.sched_core.specs.declared.entry.Reserved.{Reserved}
 use Rattle.sched_core.specs.declared.entry.Reserved.TheVariants.{Job, NoRoom, Spent}
+use Rattle.sched_core.specs.declared.rows.ServerRow.{ServerRow}
+use Rattle.sched_core.specs.declared.call.Call.TheVariants as call
+use Rattle.sched_core.specs.Reservation.{bookings}
+use Rattle.sched_core.specs.Rows.{servers_of}
+use Rattle.sched_core.specs.Pick.{pick}
+use Rattle.sched_core.specs.Rule.{rule, reserved_at}
+use Rattle.sched_core.specs.Most.{most_standing, forgiven_count}
 use Rattle.sched_core.specs.Registrations.{forgiven_in, reserve_looks, decide_looks}
+use Rattle.sched_core.proofs.LegalLemmas.{core_of}
 
 -- the sum of both parts, where there are at most 2^(h + 1) places
 sum_of : (h k first second third : ℕ) → second ≤ first + (2 * (h + 1) * k + 3)
@@ -46,3 +56,18 @@ twice_power places most h few fits =
 
     double : (n : ℕ) → 2 ^ suc n ≡ 2 * 2 ^ n
     double n = let p = pow-suc 2 n in omega (arith, p)
+
+-- so a reserve that ends once it is decided is within the bound over its log
+pub decided_looks : (start : Start) (log : List CoreEntry) (rows : List ServerRow)
+    (places now given old new : ℕ) → rows ≡ servers_of log → given ≡ start.count + length (bookings log)
+    → places ≤ 2 * max 1 (most_standing log)
+    → ((h : ℕ) → places ≤ 2 ^ h
+    → new ≤ old + decide_looks (reserved_at (pick rows) rows now start.base given) h)
+    → (h : ℕ) → max 1 (most_standing log) ≤ 2 ^ h
+    → new ≤ old + (6 * h + 8) * (1 + forgiven_count (rule (core_of start log) (call.Reserve now)).kind)
+decided_looks start log rows places now given old new stands given_is few looks h fits =
+    let made = reserved_at (pick (servers_of log)) (servers_of log) now start.base in
+    decide_bound (made (start.count + length (bookings log))) h old new
+    (subst (λ n. new ≤ old + decide_looks (made n) (h + 1)) given_is
+    (subst (λ rs. new ≤ old + decide_looks (reserved_at (pick rs) rs now start.base given) (h + 1)) stands
+    (looks (h + 1) (twice_power places (most_standing log) h few fits))))

@@ -1,7 +1,8 @@
 -- The most registrations that stood at one time: no less than stand now, and never less later.
-use Rattle.std.proofs.Common.{◌≡◌, ℕ, ◌+◌, ◌*◌, ◌≤◌, List, [], ◌∷◌, ◌++◌, map, length, max, ap}
+use Rattle.std.proofs.Common.{◌≡◌, ℕ, ◌+◌, ◌*◌, ◌≤◌, List, [], ◌∷◌, ◌++◌, map, length, max, ap, refl}
 use Rattle.std.proofs.Common.{◌∙◌, sym, subst, arith}
 use Rattle.std.proofs.lemmas.List.{map-append, length-map}
+use Rattle.sched_core.specs.declared.start.Start.{Start}
 use Rattle.sched_core.specs.declared.entry.CoreEntry.{CoreEntry}
 use Rattle.sched_core.specs.Cuts.{Cut, cuts}
 use Rattle.sched_core.specs.Standing.{standing}
@@ -43,16 +44,16 @@ most_grows log e = subst (λ fs. most_standing log ≤ greatest
     (greatest_left (map (λ front. length (standing front)) (fronts log)) (counted (log ++ e ∷ []) ∷ [])))
 
 -- room changes nothing of what the state is
-pub still_state : (base count : ℕ) (old new : Kept) (keys new_keys : List (ℕ × List ℕ))
+pub still_state : (start : Start) (old new : Kept) (keys new_keys : List (ℕ × List ℕ))
     (log new_log : List CoreEntry)
-    (len capacity new_len new_capacity : ℕ) → IsState base count old keys log len capacity
+    (len capacity new_len new_capacity : ℕ) → IsState start old keys log len capacity
     → new.lists ≡ old.lists
     → new_keys ≡ keys → new_log ≡ log
     → (len + length (unspent_view old.lists.booked) ≤ capacity
     → new_len + length (unspent_view old.lists.booked) ≤ new_capacity)
     → new.first ≡ old.first → new.top ≤ old.top → new.places ≤ max old.places (2 * max 1 (length old.lists.rows))
-    → IsState base count new new_keys new_log new_len new_capacity
-still_state base count old new keys new_keys log new_log len capacity new_len new_capacity is lists
+    → IsState start new new_keys new_log new_len new_capacity
+still_state start old new keys new_keys log new_log len capacity new_len new_capacity is lists
     same_keys same_log room first top
     places =
     let rows : length old.lists.rows ≡ length (standing log) =
@@ -63,9 +64,20 @@ still_state base count old new keys new_keys log new_log len capacity new_len ne
     let roomy = room is.log_room in
     rw (lists, same_keys, same_log) (record {
       books = is.books;
+      fits = is.fits;
       legal = is.legal;
       log_room = roomy;
       first = first ∙ is.first;
       top = omega (arith, top, top_few);
       places = omega (arith, rows, here, few, places);
     })
+
+-- and so does room in the log alone
+pub roomy_log : (start : Start) (kept : Kept) (keys : List (ℕ × List ℕ)) (log new_log : List CoreEntry)
+    (len capacity new_len new_capacity : ℕ) → IsState start kept keys log len capacity → new_log ≡ log
+    → (len + length (unspent_view kept.lists.booked) ≤ capacity
+    → new_len + length (unspent_view kept.lists.booked) ≤ new_capacity)
+    → IsState start kept keys new_log new_len new_capacity
+roomy_log start kept keys log new_log len capacity new_len new_capacity is same_log room =
+    still_state start kept kept keys keys log new_log len capacity new_len new_capacity is refl refl same_log
+    room refl (omega arith) (omega arith)

@@ -9,6 +9,7 @@ use Rattle.std.proofs.lemmas.Bool.{false≢true}
 use Rattle.std.proofs.lemmas.List.{map-append}
 use Rattle.std.proofs.lemmas.List.Sums.{sum_by-cons, sum_by_push}
 use Rattle.std.proofs.lemmas.List.Elements.{filter_map-append}
+use Rattle.sched_core.specs.declared.start.Start.{Start}
 use Rattle.sched_core.specs.Cuts.{Cut, cuts}
 use Rattle.dist_types.specs.declared.addr.Addr.{Addr}
 use Rattle.dist_types.specs.declared.ids.JobId.{JobId}
@@ -47,21 +48,21 @@ use Rattle.sched_core.proofs.HeldLemmas.{Sound, IsPast, IsHeldAt, sound-step, no
 -- spent at most once
 
 -- what an entry spends was unspent
-spent_of : (base count : ℕ) (log : List CoreEntry) (k : CoreKind) → Facts (core_of base count log) k
+spent_of : (start : Start) (log : List CoreEntry) (k : CoreKind) → Facts (core_of start log) k
     → (x : JobId) → spends_by k x ≡ true → list_any (λ b. same_job b.job x) (unspent log) ≡ true
-spent_of base count log (Commit job state is_kept) is x t =
+spent_of start log (Commit job state is_kept) is x t =
     any-weaker (λ b. (b.number == is.0.number) && same_job b.job job) (λ b. same_job b.job x)
     (λ b h. same_job-trans b.job job x (and_right (b.number == is.0.number) (same_job b.job job) h) t)
     (unspent log) is.0.unspent
-spent_of base count log (Undo job noted was_ended) is x t =
+spent_of start log (Undo job noted was_ended) is x t =
     any-weaker (λ b. (b.number == is.number) && same_job b.job job) (λ b. same_job b.job x)
     (λ b h. same_job-trans b.job job x (and_right (b.number == is.number) (same_job b.job job) h) t)
     (unspent log) is.unspent
-spent_of base count log (Reserve r) is x t = absurd (false≢true t)
-spent_of base count log (Beat server nonce cpus key pruned reaped replaced is_new) is x t =
+spent_of start log (Reserve r) is x t = absurd (false≢true t)
+spent_of start log (Beat server nonce cpus key pruned reaped replaced is_new) is x t =
     absurd (false≢true t)
-spent_of base count log (Update server job state answer) is x t = absurd (false≢true t)
-spent_of base count log (Status pruned servers cpus n) is x t = absurd (false≢true t)
+spent_of start log (Update server job state answer) is x t = absurd (false≢true t)
+spent_of start log (Status pruned servers cpus n) is x t = absurd (false≢true t)
 
 count_none : {X : Type 0} (p : X → Bool) (xs : List X) → list_any p xs ≡ false → count_by p xs ≡ 0
 count_none p [] e = refl
@@ -93,16 +94,16 @@ new_spent (Undo job noted was_ended) number now = tt
 new_spent (Update server job state answer) number now = tt
 new_spent (Status pruned servers cpus n) number now = tt
 
-spent-step : (base count : ℕ) (log : List CoreEntry) (e : CoreEntry) → AreDistinct (jobs log)
-    → Facts (core_of base count log) e.kind → AllByRecursion IsSpentOnce (bookings log)
+spent-step : (start : Start) (log : List CoreEntry) (e : CoreEntry) → AreDistinct (jobs log)
+    → Facts (core_of start log) e.kind → AllByRecursion IsSpentOnce (bookings log)
     → AllByRecursion IsSpentOnce (bookings (log ++ e ∷ []))
-spent-step base count log e distinct is old =
+spent-step start log e distinct is old =
     subst (AllByRecursion IsSpentOnce) (sym (bookings-push log e))
     (all-append IsSpentOnce (map (grown e) (bookings log)) (option_to_list (booked log e))
     (all-map IsSpentOnce (grown e) (bookings log)
     (all-both IsSpentOnce (λ b. list_any (λ y. same_job y.job b.job) (unspent log) ≡ true
     → is_unspent b ≡ true) (λ b. IsSpentOnce (grown e b))
-    (λ b le own. spent-grown e b le (λ t. own (spent_of base count log e.kind is b.job t)))
+    (λ b le own. spent-grown e b le (λ t. own (spent_of start log e.kind is b.job t)))
     (bookings log) old (each_own (λ b. b.job) is_unspent (bookings log) distinct)))
     (new_spent e.kind (length log) e.now))
 
@@ -165,20 +166,20 @@ reaped_held log now nonce (Some row) x t = elim (row.nonce == nonce) as
     ] t
 
 -- what an entry ends by its job is unended
-ended_held : (base count : ℕ) (log : List CoreEntry) (k : CoreKind) → Sound base count log
-    → Facts (core_of base count log) k → (x : JobId) → ends_job_by k x ≡ true
+ended_held : (start : Start) (log : List CoreEntry) (k : CoreKind) → Sound start log
+    → Facts (core_of start log) k → (x : JobId) → ends_job_by k x ≡ true
     → list_any (λ b. same_job b.job x) (unended log) ≡ true
-ended_held base count log (Undo job noted was_ended) sound is x t =
+ended_held start log (Undo job noted was_ended) sound is x t =
     let h : (was_ended && same_job job x) ≡ true = or_false (was_ended && same_job job x)
     (or_false ((was_ended && same_job job x) || false) t) in
     any-weaker (λ b. (b.number == is.number) && same_job b.job job) (λ b. same_job b.job x)
     (λ b g. same_job-trans b.job job x (and_right (b.number == is.number) (same_job b.job job) g)
     (and_right was_ended (same_job job x) h)) (unended log)
     (sym is.says_held ∙ and_left was_ended (same_job job x) h)
-ended_held base count log (Beat server nonce cpus key pruned reaped replaced is_new) sound is x t =
+ended_held start log (Beat server nonce cpus key pruned reaped replaced is_new) sound is x t =
     reaped_held log is.now nonce _ x (ap (λ js. names_job js x) (sym is.reaped_are)
     ∙ or_false (names_job reaped x) t)
-ended_held base count log (Update server job state answer) sound is x t =
+ended_held start log (Update server job state answer) sound is x t =
     let accepted : is_accepted answer ≡ true = and_right (is_complete state) (is_accepted answer)
     (and_left (is_complete state && is_accepted answer) (same_job job x) t) in
     let same : same_job job x ≡ true = and_right (is_complete state && is_accepted answer) (same_job job x) t
@@ -195,9 +196,9 @@ ended_held base count log (Update server job state answer) sound is x t =
     (λ b h. same_job-trans b.job there.0.job x
     (and_left (same_job b.job there.0.job) (is_this there.0.reg b.reg) h)
     (same_job-trans there.0.job job x there.2 same)) (held log) there.1
-ended_held base count log (Reserve r) sound is x t = absurd (false≢true t)
-ended_held base count log (Commit job state is_kept) sound is x t = absurd (false≢true t)
-ended_held base count log (Status pruned servers cpus n) sound is x t = absurd (false≢true t)
+ended_held start log (Reserve r) sound is x t = absurd (false≢true t)
+ended_held start log (Commit job state is_kept) sound is x t = absurd (false≢true t)
+ended_held start log (Status pruned servers cpus n) sound is x t = absurd (false≢true t)
 
 ended-grown : (e : CoreEntry) (b : Booking) → IsEndedOnce b
     → (ends_job_by e.kind b.job ≡ true → is_unended b ≡ true) → IsEndedOnce (grown e b)
@@ -224,16 +225,16 @@ new_ended (Undo job noted was_ended) number now = tt
 new_ended (Update server job state answer) number now = tt
 new_ended (Status pruned servers cpus n) number now = tt
 
-ended-step : (base count : ℕ) (log : List CoreEntry) (e : CoreEntry) → Sound base count log
-    → Facts (core_of base count log) e.kind → AllByRecursion IsEndedOnce (bookings log)
+ended-step : (start : Start) (log : List CoreEntry) (e : CoreEntry) → Sound start log
+    → Facts (core_of start log) e.kind → AllByRecursion IsEndedOnce (bookings log)
     → AllByRecursion IsEndedOnce (bookings (log ++ e ∷ []))
-ended-step base count log e sound is old =
+ended-step start log e sound is old =
     subst (AllByRecursion IsEndedOnce) (sym (bookings-push log e))
     (all-append IsEndedOnce (map (grown e) (bookings log)) (option_to_list (booked log e))
     (all-map IsEndedOnce (grown e) (bookings log)
     (all-both IsEndedOnce (λ b. list_any (λ y. same_job y.job b.job) (unended log) ≡ true
     → is_unended b ≡ true) (λ b. IsEndedOnce (grown e b))
-    (λ b h own. ended-grown e b h (λ t. own (ended_held base count log e.kind sound is b.job t)))
+    (λ b h own. ended-grown e b h (λ t. own (ended_held start log e.kind sound is b.job t)))
     (bookings log) old (each_own (λ b. b.job) is_unended (bookings log) sound.ids.distinct)))
     (new_ended e.kind (length log) e.now))
 
@@ -261,11 +262,11 @@ order-grown e c order step = (
 )
 
 -- what an entry moves is in a state that it follows
-moved_follows : (base count : ℕ) (log : List CoreEntry) (k : CoreKind)
-    → AreDistinct (map (λ c. c.job) (commits log)) → Facts (core_of base count log) k
+moved_follows : (start : Start) (log : List CoreEntry) (k : CoreKind)
+    → AreDistinct (map (λ c. c.job) (commits log)) → Facts (core_of start log) k
     → AllByRecursion (λ c. (to : JobState) → moves_by k c.job ≡ Some to → follows (state_now c) to ≡ true)
     (commits log)
-moved_follows base count log (Update server job state answer) distinct is =
+moved_follows start log (Update server job state answer) distinct is =
     let q : Committed → Bool = λ c. follows (state_now c) state in
     let by : is_accepted answer ≡ true → AllByRecursion (λ c. same_job c.job job ≡ true → q c ≡ true)
     (commits log) =
@@ -303,59 +304,59 @@ moved_follows base count log (Update server job state answer) distinct is =
         → follows (state_now c) to ≡ true)
         (λ c h to e. let none : None ≡ Some to = ap (λ b. cond (b && same_job job c.job) (Some state) None)
         (sym acc) ∙ e in cc) (commits log) (all_unit (commits log))
-moved_follows base count log (Reserve r) distinct is = unmoved (commits log)
+moved_follows start log (Reserve r) distinct is = unmoved (commits log)
   where
     unmoved : (cs : List Committed)
         → AllByRecursion (λ c. (to : JobState) → None ≡ Some to → follows (state_now c) to ≡ true) cs
     unmoved [] = tt
     unmoved (c ∷ cs) = ((λ to e. cc), unmoved cs)
-moved_follows base count log (Commit job state is_kept) distinct is = unmoved (commits log)
+moved_follows start log (Commit job state is_kept) distinct is = unmoved (commits log)
   where
     unmoved : (cs : List Committed)
         → AllByRecursion (λ c. (to : JobState) → None ≡ Some to → follows (state_now c) to ≡ true) cs
     unmoved [] = tt
     unmoved (c ∷ cs) = ((λ to e. cc), unmoved cs)
-moved_follows base count log (Undo job noted was_ended) distinct is = unmoved (commits log)
+moved_follows start log (Undo job noted was_ended) distinct is = unmoved (commits log)
   where
     unmoved : (cs : List Committed)
         → AllByRecursion (λ c. (to : JobState) → None ≡ Some to → follows (state_now c) to ≡ true) cs
     unmoved [] = tt
     unmoved (c ∷ cs) = ((λ to e. cc), unmoved cs)
-moved_follows base count log (Beat server nonce cpus key pruned reaped replaced is_new) distinct is =
+moved_follows start log (Beat server nonce cpus key pruned reaped replaced is_new) distinct is =
     unmoved (commits log)
   where
     unmoved : (cs : List Committed)
         → AllByRecursion (λ c. (to : JobState) → None ≡ Some to → follows (state_now c) to ≡ true) cs
     unmoved [] = tt
     unmoved (c ∷ cs) = ((λ to e. cc), unmoved cs)
-moved_follows base count log (Status pruned servers cpus n) distinct is = unmoved (commits log)
+moved_follows start log (Status pruned servers cpus n) distinct is = unmoved (commits log)
   where
     unmoved : (cs : List Committed)
         → AllByRecursion (λ c. (to : JobState) → None ≡ Some to → follows (state_now c) to ≡ true) cs
     unmoved [] = tt
     unmoved (c ∷ cs) = ((λ to e. cc), unmoved cs)
 
-new_order : (base count : ℕ) (log : List CoreEntry) (k : CoreKind) (before : List CoreEntry)
-    → Facts (core_of base count log) k → AllByRecursion HasOrder (option_to_list (committed_by k before []))
-new_order base count log (Commit job state true) before is = ((is.1, tt), tt)
-new_order base count log (Commit job state false) before is = tt
-new_order base count log (Reserve r) before is = tt
-new_order base count log (Undo job noted was_ended) before is = tt
-new_order base count log (Beat server nonce cpus key pruned reaped replaced is_new) before is = tt
-new_order base count log (Update server job state answer) before is = tt
-new_order base count log (Status pruned servers cpus n) before is = tt
+new_order : (start : Start) (log : List CoreEntry) (k : CoreKind) (before : List CoreEntry)
+    → Facts (core_of start log) k → AllByRecursion HasOrder (option_to_list (committed_by k before []))
+new_order start log (Commit job state true) before is = ((is.1, tt), tt)
+new_order start log (Commit job state false) before is = tt
+new_order start log (Reserve r) before is = tt
+new_order start log (Undo job noted was_ended) before is = tt
+new_order start log (Beat server nonce cpus key pruned reaped replaced is_new) before is = tt
+new_order start log (Update server job state answer) before is = tt
+new_order start log (Status pruned servers cpus n) before is = tt
 
-order-step : (base count : ℕ) (log : List CoreEntry) (e : CoreEntry)
-    → AreDistinct (map (λ c. c.job) (commits log)) → Facts (core_of base count log) e.kind
+order-step : (start : Start) (log : List CoreEntry) (e : CoreEntry)
+    → AreDistinct (map (λ c. c.job) (commits log)) → Facts (core_of start log) e.kind
     → AllByRecursion HasOrder (commits log) → AllByRecursion HasOrder (commits (log ++ e ∷ []))
-order-step base count log e distinct is old =
+order-step start log e distinct is old =
     subst (AllByRecursion HasOrder) (sym (commits-push log e))
     (all-append HasOrder (map (grown_commit e) (commits log)) (option_to_list (committed log e))
     (all-map HasOrder (grown_commit e) (commits log)
     (all-both HasOrder (λ c. (to : JobState) → moves_by e.kind c.job ≡ Some to
     → follows (state_now c) to ≡ true) (λ c. HasOrder (grown_commit e c)) (order-grown e)
-    (commits log) old (moved_follows base count log e.kind distinct is)))
-    (new_order base count log e.kind log is))
+    (commits log) old (moved_follows start log e.kind distinct is)))
+    (new_order start log e.kind log is))
 
 -- no job is committed twice
 commit_made : (log : List CoreEntry) (k : CoreKind) (before : List CoreEntry)
@@ -380,20 +381,20 @@ commit_made log (Update server job state answer) before distinct other =
 commit_made log (Status pruned servers cpus n) before distinct other =
     subst AreDistinct (sym (append-nil (map (λ c. c.job) (commits log)))) distinct
 
-new_commit : (base count : ℕ) (log : List CoreEntry) (k : CoreKind) (before : List CoreEntry)
-    → Sound base count log → Facts (core_of base count log) k
+new_commit : (start : Start) (log : List CoreEntry) (k : CoreKind) (before : List CoreEntry)
+    → Sound start log → Facts (core_of start log) k
     → AllByRecursion (λ c. AllByRecursion (λ d. same_job d.job c.job ≡ false) (commits log))
     (option_to_list (committed_by k before []))
-new_commit base count log (Commit job state true) before sound is =
+new_commit start log (Commit job state true) before sound is =
     let there : (b : Booking) × Unit {0} × (same_job b.job job ≡ true) = found (λ b. Unit {0})
     (λ b. same_job b.job job) (free log) (all_unit (free log))
-    (spent_free (core_of base count log) job true is.0) in (
+    (spent_free (core_of start log) job true is.0) in (
       all-weaker (λ c. IsPast log c.job) (λ d. same_job d.job job ≡ false)
           (λ d past. is_false (same_job d.job job)
           (λ t. true_false (list_any (λ b. same_job b.job d.job) (free log))
           (any-weaker (λ b. same_job b.job job) (λ b. same_job b.job d.job)
           (λ b h. same_job-trans b.job job d.job h (same_job-sym d.job job t)) (free log)
-          (spent_free (core_of base count log) job true is.0)) past.1)) (commits log)
+          (spent_free (core_of start log) job true is.0)) past.1)) (commits log)
           (all-unmap (λ c. IsPast log c.job) bare_commit (commits log) sound.kept_past),
       tt,
     )
@@ -401,45 +402,45 @@ new_commit base count log (Commit job state true) before sound is =
     all_unit : (bs : List Booking) → AllByRecursion (λ b. Unit {0}) bs
     all_unit [] = tt
     all_unit (b ∷ bs) = (tt, all_unit bs)
-new_commit base count log (Commit job state false) before sound is = tt
-new_commit base count log (Reserve r) before sound is = tt
-new_commit base count log (Undo job noted was_ended) before sound is = tt
-new_commit base count log (Beat server nonce cpus key pruned reaped replaced is_new) before sound is = tt
-new_commit base count log (Update server job state answer) before sound is = tt
-new_commit base count log (Status pruned servers cpus n) before sound is = tt
+new_commit start log (Commit job state false) before sound is = tt
+new_commit start log (Reserve r) before sound is = tt
+new_commit start log (Undo job noted was_ended) before sound is = tt
+new_commit start log (Beat server nonce cpus key pruned reaped replaced is_new) before sound is = tt
+new_commit start log (Update server job state answer) before sound is = tt
+new_commit start log (Status pruned servers cpus n) before sound is = tt
 
-commit-step : (base count : ℕ) (log : List CoreEntry) (e : CoreEntry) → Sound base count log
-    → Facts (core_of base count log) e.kind → AreDistinct (map (λ c. c.job) (commits log))
+commit-step : (start : Start) (log : List CoreEntry) (e : CoreEntry) → Sound start log
+    → Facts (core_of start log) e.kind → AreDistinct (map (λ c. c.job) (commits log))
     → AreDistinct (map (λ c. c.job) (commits (log ++ e ∷ [])))
-commit-step base count log e sound is distinct =
+commit-step start log e sound is distinct =
     subst AreDistinct (sym (ap (map (λ c. c.job)) (commits-push log e) ∙ map-append (λ c. c.job)
     (map (grown_commit e) (commits log)) (option_to_list (committed log e))
     ∙ ap (λ js. js ++ map (λ c. c.job) (option_to_list (committed log e)))
     (map-map (λ c. c.job) (grown_commit e) (commits log))))
-    (commit_made log e.kind log distinct (new_commit base count log e.kind log sound is))
+    (commit_made log e.kind log distinct (new_commit start log e.kind log sound is))
 
 -- all of it, by induction over legal logs
-pub record Once (base count : ℕ) (log : List CoreEntry) : Type 0 where
-  pub sound : Sound base count log
+pub record Once (start : Start) (log : List CoreEntry) : Type 0 where
+  pub sound : Sound start log
   pub spent : AllByRecursion IsSpentOnce (bookings log)
   pub ended : AllByRecursion IsEndedOnce (bookings log)
   pub committed : AreDistinct (map (λ c. c.job) (commits log))
   pub order : AllByRecursion HasOrder (commits log)
 
-once-step : (base count : ℕ) (log : List CoreEntry) (e : CoreEntry) → Once base count log
-    → IsRule (core_of base count log) e → Once base count (log ++ e ∷ [])
-once-step base count log e once rule_is =
-    let is : Facts (core_of base count log) e.kind = facts (core_of base count log) e rule_is in
+once-step : (start : Start) (log : List CoreEntry) (e : CoreEntry) → Once start log
+    → IsRule (core_of start log) e → Once start (log ++ e ∷ [])
+once-step start log e once rule_is =
+    let is : Facts (core_of start log) e.kind = facts (core_of start log) e rule_is in
     record {
-      sound = sound-step base count log e once.sound rule_is;
-      spent = spent-step base count log e once.sound.ids.distinct is once.spent;
-      ended = ended-step base count log e once.sound is once.ended;
-      committed = commit-step base count log e once.sound is once.committed;
-      order = order-step base count log e once.committed is once.order;
+      sound = sound-step start log e once.sound rule_is;
+      spent = spent-step start log e once.sound.ids.distinct is once.spent;
+      ended = ended-step start log e once.sound is once.ended;
+      committed = commit-step start log e once.sound is once.committed;
+      order = order-step start log e once.committed is once.order;
     }
 
-pub legal_all : (base count : ℕ) (log : List CoreEntry) → count < 2 ^ 64 → IsLegal base count log
-    → Once base count log
-legal_all base count log fits legal = legal_has base count (Once base count)
-    (record { sound = no_sound base count fits; spent = tt; ended = tt; committed = tt; order = tt })
-    (once-step base count) log legal
+pub legal_all : (start : Start) (log : List CoreEntry) → start.count < 2 ^ 64 → IsLegal start log
+    → Once start log
+legal_all start log fits legal = legal_has start (Once start)
+    (record { sound = no_sound start fits; spent = tt; ended = tt; committed = tt; order = tt })
+    (once-step start) log legal

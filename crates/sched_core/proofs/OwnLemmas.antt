@@ -5,6 +5,7 @@ use Rattle.std.specs.Prelude.{option_to_list}
 use Rattle.std.specs.List.{list_any, AllByRecursion}
 use Rattle.std.proofs.lemmas.Bool.{eq-eqb, eqb-true, and_parts}
 use Rattle.dist_types.specs.declared.ids.JobId.{JobId}
+use Rattle.sched_core.specs.declared.start.Start.{Start}
 use Rattle.sched_core.specs.declared.entry.CoreEntry.{CoreEntry}
 use Rattle.sched_core.specs.declared.entry.Reserved.TheVariants.{Job}
 use Rattle.sched_core.specs.declared.entry.CoreKind.TheVariants.{Reserve}
@@ -66,13 +67,13 @@ own-made log e job reg forgiven is =
     (same_job-refl job))
 
 -- reservations with one job have one number
-pub one_number : (base count : ℕ) (log : List CoreEntry) (a b : ℕ) (j k : JobId) → count < 2 ^ 64
-    → IsLegal base count log
+pub one_number : (start : Start) (log : List CoreEntry) (a b : ℕ) (j k : JobId) → start.count < 2 ^ 64
+    → IsLegal start log
     → is_among (unspent log) a j ≡ true → is_among (unspent log) b k ≡ true → same_job k j ≡ true → a ≡ b
-one_number base count log a b j k fits legal first second same =
+one_number start log a b j k fits legal first second same =
     let xs = bookings log in
     let x = found (λ x. AllByRecursion (λ y. same_job y.job x.job ≡ true → y ≡ x) xs) (is_it a j) xs
-    (own_only (λ b. b.job) xs (legal_distinct base count log fits legal))
+    (own_only (λ b. b.job) xs (legal_distinct start log fits legal))
     (any-all (is_it a j) is_unspent xs first) in
     let y = found (λ y. same_job y.job x.0.job ≡ true → y ≡ x.0) (is_it b k) xs x.1
     (any-all (is_it b k) is_unspent xs second) in
@@ -84,12 +85,12 @@ one_number base count log a b j k fits legal first second same =
     sym (eqb-true x.0.number a xp.0) ∙ ap (λ (z : Booking). z.number) (sym one) ∙ eqb-true y.0.number b yp.0
 
 -- a front of a legal log is legal
-legal_part : (base count : ℕ) (front xs ys : List CoreEntry) → IsLegalBehind base count front (xs ++ ys)
-    → IsLegalBehind base count front xs
-legal_part base count front [] ys legal = tt
-legal_part base count front (x ∷ xs) ys legal =
-    (legal.0, legal_part base count (front ++ x ∷ []) xs ys legal.1)
+legal_part : (start : Start) (front xs ys : List CoreEntry) → IsLegalBehind start front (xs ++ ys)
+    → IsLegalBehind start front xs
+legal_part start front [] ys legal = tt
+legal_part start front (x ∷ xs) ys legal =
+    (legal.0, legal_part start (front ++ x ∷ []) xs ys legal.1)
 
-pub legal_front : (base count : ℕ) (xs ys : List CoreEntry) → IsLegal base count (xs ++ ys)
-    → IsLegal base count xs
-legal_front base count xs ys legal = legal_part base count [] xs ys legal
+pub legal_front : (start : Start) (xs ys : List CoreEntry) → IsLegal start (xs ++ ys)
+    → IsLegal start xs
+legal_front start xs ys legal = legal_part start [] xs ys legal

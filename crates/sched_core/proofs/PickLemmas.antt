@@ -1,11 +1,12 @@
 -- In each legal log each reserve goes to the first of the registrations with room: the lightest without a
 -- remembered error, else that whose error is oldest, and of equals that of the least number.
-use Rattle.std.proofs.Common.{◌≡◌, ℕ, ◌*◌, ◌<◌, ◌≤◌, ◌^◌, List, [], ◌∷◌, ◌++◌, Bool, true, false, cond, map}
+use Rattle.std.proofs.Common.{◌≡◌, ◌*◌, ◌<◌, ◌≤◌, ◌^◌, List, [], ◌∷◌, ◌++◌, Bool, true, false, cond, map}
 use Rattle.std.proofs.Common.{filter, Option, Some, None, refl, ap, ◌∙◌, sym, subst, arith}
 use Rattle.std.specs.Prelude.{◌==◌, unwrap_or}
 use Rattle.std.specs.List.{AllByRecursion, list_any, best_of}
 use Rattle.std.proofs.Math.Nat.{mul-lt-mul_of_pos_right, lt_of_mul-lt-mul_right}
 use Rattle.std.proofs.lemmas.Nat.{mul-le}
+use Rattle.sched_core.specs.declared.start.Start.{Start}
 use Rattle.sched_core.specs.Cuts.{cuts}
 use Rattle.sched_core.proofs.Lists.{map-map, followed, cuts_behind-push, end_cut}
 use Rattle.sched_core.specs.declared.entry.CoreEntry.{CoreEntry}
@@ -321,10 +322,10 @@ no_pick rows e = all-weaker (λ r. has_room r ≡ true → ⊥) (λ r. has_room 
     empty None (r ∷ list) none = absurd cc
     empty (Some r) list none = absurd cc
 
-fair_entry : (base count : ℕ) (log : List CoreEntry) (k : CoreKind) → AllByRecursion HasCpus (servers_of log)
+fair_entry : (start : Start) (log : List CoreEntry) (k : CoreKind) → AllByRecursion HasCpus (servers_of log)
     → AreRising (map (λ r. r.reg) (servers_of log)) → AreDistinct (map (λ r. num r.reg) (servers_of log))
-    → Facts (core_of base count log) k → IsFairEntry log k
-fair_entry base count log (Reserve (Job job reg forgiven)) ok rising distinct is =
+    → Facts (core_of start log) k → IsFairEntry log k
+fair_entry start log (Reserve (Job job reg forgiven)) ok rising distinct is =
     let rows : List ServerRow = servers_of log in
     let row : ServerRow = is.row in
     let there : (list_any (λ r. r.reg == row.reg) rows ≡ true) × (has_room row ≡ true) =
@@ -344,14 +345,14 @@ fair_entry base count log (Reserve (Job job reg forgiven)) ok rising distinct is
           × AllByRecursion (λ r. has_room r ≡ true → IsFair z r) rows) (sym (same h)) (there.1, fair))
           rows only_one,
     )
-fair_entry base count log (Reserve (NoRoom n)) ok rising distinct is = (is.1, no_pick (servers_of log) is.0)
-fair_entry base count log (Reserve Spent) ok rising distinct is = tt
-fair_entry base count log (Beat server nonce cpus key pruned reaped replaced is_new) ok rising distinct is =
+fair_entry start log (Reserve (NoRoom n)) ok rising distinct is = (is.1, no_pick (servers_of log) is.0)
+fair_entry start log (Reserve Spent) ok rising distinct is = tt
+fair_entry start log (Beat server nonce cpus key pruned reaped replaced is_new) ok rising distinct is =
     tt
-fair_entry base count log (Commit job state kept) ok rising distinct is = tt
-fair_entry base count log (Undo job noted was_ended) ok rising distinct is = tt
-fair_entry base count log (Update server job state answer) ok rising distinct is = tt
-fair_entry base count log (Status pruned servers cpus n) ok rising distinct is = tt
+fair_entry start log (Commit job state kept) ok rising distinct is = tt
+fair_entry start log (Undo job noted was_ended) ok rising distinct is = tt
+fair_entry start log (Update server job state answer) ok rising distinct is = tt
+fair_entry start log (Status pruned servers cpus n) ok rising distinct is = tt
 
 pub rows_positive : (log : List CoreEntry) → AllByRecursion (λ p. 1 ≤ p.1) (pairs log)
     → AllByRecursion HasCpus (servers_of log)
@@ -367,30 +368,30 @@ rows_rising log rising =
 abbrev AreFair : List CoreEntry → Type 0
 AreFair log = AllByRecursion (λ c. IsFairEntry c.before c.at.kind) (cuts log)
 
-fair-step : (base count : ℕ) (log : List CoreEntry) (e : CoreEntry) → AreFair log → Roomy log
-    → IsRule (core_of base count log) e → AreFair (log ++ e ∷ [])
-fair-step base count log e fair room is =
+fair-step : (start : Start) (log : List CoreEntry) (e : CoreEntry) → AreFair log → Roomy log
+    → IsRule (core_of start log) e → AreFair (log ++ e ∷ [])
+fair-step start log e fair room is =
     subst (AllByRecursion (λ c. IsFairEntry c.before c.at.kind)) (sym (cuts_behind-push [] log e))
     (all-append (λ c. IsFairEntry c.before c.at.kind) (map (followed e) (cuts log)) (end_cut log e ∷ [])
     (all-map (λ c. IsFairEntry c.before c.at.kind) (followed e) (cuts log) fair) (
-      fair_entry base count log e.kind (rows_positive log room.positive) (rows_rising log room.rising)
-          (rows_distinct log room.distinct) (facts (core_of base count log) e is),
+      fair_entry start log e.kind (rows_positive log room.positive) (rows_rising log room.rising)
+          (rows_distinct log room.distinct) (facts (core_of start log) e is),
       tt,
     ))
 
-record FitsFairly (base count : ℕ) (log : List CoreEntry) : Type 0 where
-  sound : Sound base count log
+record FitsFairly (start : Start) (log : List CoreEntry) : Type 0 where
+  sound : Sound start log
   room : Roomy log
   fair : AreFair log
 
-pub legal_fair : (base count : ℕ) (log : List CoreEntry) → count < 2 ^ 64 → IsLegal base count log
+pub legal_fair : (start : Start) (log : List CoreEntry) → start.count < 2 ^ 64 → IsLegal start log
     → AllByRecursion (λ c. IsFairEntry c.before c.at.kind) (cuts log)
-legal_fair base count log fits legal =
-    (legal_has base count (FitsFairly base count)
-    (record { sound = no_sound base count fits; room = no_roomy; fair = tt })
+legal_fair start log fits legal =
+    (legal_has start (FitsFairly start)
+    (record { sound = no_sound start fits; room = no_roomy; fair = tt })
     (λ l e h is. record {
-      sound = sound-step base count l e h.sound is;
-      room = roomy-step base count l e h.sound h.room is;
+      sound = sound-step start l e h.sound is;
+      room = roomy-step start l e h.sound h.room is;
       fair =
-          fair-step base count l e h.fair h.room is;
+          fair-step start l e h.fair h.room is;
     }) log legal).fair

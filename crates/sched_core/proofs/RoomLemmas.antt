@@ -9,6 +9,7 @@ use Rattle.std.proofs.lemmas.Bool.Decides.{nat_tests}
 use Rattle.std.proofs.lemmas.List.{map-append}
 use Rattle.std.proofs.lemmas.List.Sums.{sum_by-cons, sum_by-append}
 use Rattle.dist_types.specs.declared.ids.JobId.{JobId}
+use Rattle.sched_core.specs.declared.start.Start.{Start}
 use Rattle.sched_core.proofs.Lists.{map-map, map-same, end_cut}
 use Rattle.sched_core.specs.declared.entry.CoreEntry.{CoreEntry}
 use Rattle.sched_core.specs.declared.entry.CoreKind.{CoreKind}
@@ -123,17 +124,17 @@ pub record Roomy (log : List CoreEntry) : Type 0 where
 abbrev NewPair : List CoreEntry → ℕ × ℕ → Type 0
 NewPair log p = (p.0 ≡ length log) × (1 ≤ p.1)
 
-new_pair : (base count : ℕ) (log : List CoreEntry) (now : ℕ) (k : CoreKind) (at : CoreEntry)
-    → Facts (core_of base count log) k
+new_pair : (start : Start) (log : List CoreEntry) (now : ℕ) (k : CoreKind) (at : CoreEntry)
+    → Facts (core_of start log) k
     → AllByRecursion (NewPair log) (option_to_list (option_map view (registered_by k now log at [])))
-new_pair base count log now (Beat server nonce cpus key pruned reaped replaced true) at is =
+new_pair start log now (Beat server nonce cpus key pruned reaped replaced true) at is =
     ((refl, is.some), tt)
-new_pair base count log now (Beat server nonce cpus key pruned reaped replaced false) at is = tt
-new_pair base count log now (Reserve r) at is = tt
-new_pair base count log now (Commit job state kept) at is = tt
-new_pair base count log now (Undo job noted was_ended) at is = tt
-new_pair base count log now (Update server job state answer) at is = tt
-new_pair base count log now (Status pruned servers cpus n) at is = tt
+new_pair start log now (Beat server nonce cpus key pruned reaped replaced false) at is = tt
+new_pair start log now (Reserve r) at is = tt
+new_pair start log now (Commit job state kept) at is = tt
+new_pair start log now (Undo job noted was_ended) at is = tt
+new_pair start log now (Update server job state answer) at is = tt
+new_pair start log now (Status pruned servers cpus n) at is = tt
 
 -- an entry that registers books nothing
 no_booking : (k : CoreKind) (number now : ℕ) (before : List CoreEntry) (at : CoreEntry)
@@ -154,11 +155,11 @@ rows_distinct log distinct = subst AreDistinct (map-map (λ p. num p.0) view (st
     ∙ sym (map-map (λ r. num r.reg) (row_of log) (standing log))) distinct
 
 -- where a job is reserved, the registration has room
-picked_room : (base count : ℕ) (log : List CoreEntry) (job : JobId) (reg : ℕ)
-    → AreDistinct (map (λ p. num p.0) (pairs log)) → JobFacts (core_of base count log) job reg
+picked_room : (start : Start) (log : List CoreEntry) (job : JobId) (reg : ℕ)
+    → AreDistinct (map (λ p. num p.0) (pairs log)) → JobFacts (core_of start log) job reg
     → AllByRecursion (λ p. (reg == p.0) ≡ true → nat_lt (load_of log p.0) (p.1 + 1 + p.1 / 8) ≡ true)
     (pairs log)
-picked_room base count log job reg distinct is =
+picked_room start log job reg distinct is =
     let rows : List ServerRow = servers_of log in
     let there : list_any (λ r. r.reg == is.row.reg) (filter has_room rows) ≡ true =
     pick_has (λ r. list_any (λ q. q.reg == r.reg) (filter has_room rows) ≡ true) rows is.row
@@ -177,18 +178,18 @@ abbrev extra : Option Booking → ℕ → ℕ
 extra o reg = count_by (λ (b : Booking). b.reg == reg) (option_to_list o)
 
 -- a new reservation adds at most one, and one only where there is room
-added : (base count : ℕ) (log : List CoreEntry) (k : CoreKind) (number now : ℕ)
-    → AreDistinct (map (λ p. num p.0) (pairs log)) → Facts (core_of base count log) k
+added : (start : Start) (log : List CoreEntry) (k : CoreKind) (number now : ℕ)
+    → AreDistinct (map (λ p. num p.0) (pairs log)) → Facts (core_of start log) k
     → AllByRecursion (HasLoadRoom log) (pairs log)
     → AllByRecursion (λ p. load_of log p.0 + extra (booked_by k number now []) p.0 ≤ p.1 + 1 + p.1 / 8)
     (pairs log)
-added base count log (Reserve (Job job reg forgiven)) number now distinct is old =
+added start log (Reserve (Job job reg forgiven)) number now distinct is old =
     all-both (HasLoadRoom log) (λ p. (reg == p.0) ≡ true → nat_lt (load_of log p.0) (p.1 + 1 + p.1 / 8)
-        ≡ true)
+    ≡ true)
     (λ p. load_of log p.0 + extra
     (Some (record { number = number; now = now; job = job; reg = reg; later = [] })) p.0 ≤ p.1 + 1 + p.1 /
     8)
-    (λ p le room. one p le (reg == p.0) room) (pairs log) old (picked_room base count log job reg distinct is)
+    (λ p le room. one p le (reg == p.0) room) (pairs log) old (picked_room start log job reg distinct is)
   where
     one : (p : ℕ × ℕ) → HasLoadRoom log p → (b : Bool)
         → (b ≡ true → nat_lt (load_of log p.0) (p.1 + 1 + p.1 / 8) ≡ true)
@@ -196,21 +197,20 @@ added base count log (Reserve (Job job reg forgiven)) number now distinct is old
     one p le true room = let lt : load_of log p.0 < p.1 + 1 + p.1 / 8 = lt_true (load_of log p.0)
         (p.1 + 1 + p.1 / 8) (room refl) in omega (arith, lt)
     one p le false room = omega (arith, le)
-added base count log (Reserve (NoRoom n)) number now distinct is old = all-weaker (HasLoadRoom log)
+added start log (Reserve (NoRoom n)) number now distinct is old = all-weaker (HasLoadRoom log)
     (λ p. load_of log p.0 + 0 ≤ p.1 + 1 + p.1 / 8) (λ p le. omega (arith, le)) (pairs log) old
-added base count log (Reserve Spent) number now distinct is old = all-weaker (HasLoadRoom log)
+added start log (Reserve Spent) number now distinct is old = all-weaker (HasLoadRoom log)
     (λ p. load_of log p.0 + 0 ≤ p.1 + 1 + p.1 / 8) (λ p le. omega (arith, le)) (pairs log) old
-added base count log (Beat server nonce cpus key pruned reaped replaced is_new) number now distinct is old =
+added start log (Beat server nonce cpus key pruned reaped replaced is_new) number now distinct is old =
     all-weaker (HasLoadRoom log) (λ p. load_of log p.0 + 0 ≤ p.1 + 1 + p.1 / 8) (λ p le. omega (arith, le))
     (pairs log) old
-added base count log (Commit job state kept) number now distinct is old = all-weaker (HasLoadRoom log)
+added start log (Commit job state kept) number now distinct is old = all-weaker (HasLoadRoom log)
     (λ p. load_of log p.0 + 0 ≤ p.1 + 1 + p.1 / 8) (λ p le. omega (arith, le)) (pairs log) old
-added base count log (Undo job noted was_ended) number now distinct is old = all-weaker (HasLoadRoom log)
+added start log (Undo job noted was_ended) number now distinct is old = all-weaker (HasLoadRoom log)
     (λ p. load_of log p.0 + 0 ≤ p.1 + 1 + p.1 / 8) (λ p le. omega (arith, le)) (pairs log) old
-added base count log (Update server job state answer) number now distinct is old = all-weaker
-    (HasLoadRoom log)
+added start log (Update server job state answer) number now distinct is old = all-weaker (HasLoadRoom log)
     (λ p. load_of log p.0 + 0 ≤ p.1 + 1 + p.1 / 8) (λ p le. omega (arith, le)) (pairs log) old
-added base count log (Status pruned servers cpus n) number now distinct is old = all-weaker (HasLoadRoom log)
+added start log (Status pruned servers cpus n) number now distinct is old = all-weaker (HasLoadRoom log)
     (λ p. load_of log p.0 + 0 ≤ p.1 + 1 + p.1 / 8) (λ p le. omega (arith, le)) (pairs log) old
 
 -- nothing is reserved yet at the number of the next entry
@@ -269,14 +269,14 @@ rising_more n ps (Some p) below rising new = subst AreRising (sym (map-append (�
     (all-weaker (λ q. q.0 < n) (λ q. q.0 < p.0) (λ q lt. let at = new.0 in omega (arith, lt, at)) ps
     below)))
 
-pub roomy-step : (base count : ℕ) (log : List CoreEntry) (e : CoreEntry) → Sound base count log → Roomy log
-    → IsRule (core_of base count log) e → Roomy (log ++ e ∷ [])
-roomy-step base count log e sound room rule_is =
+pub roomy-step : (start : Start) (log : List CoreEntry) (e : CoreEntry) → Sound start log → Roomy log
+    → IsRule (core_of start log) e → Roomy (log ++ e ∷ [])
+roomy-step start log e sound room rule_is =
     let next : List CoreEntry = log ++ e ∷ [] in
     let longer : length next ≡ length log + 1 = length-append log (e ∷ []) in
-    let is : Facts (core_of base count log) e.kind = facts (core_of base count log) e rule_is in
+    let is : Facts (core_of start log) e.kind = facts (core_of start log) e rule_is in
     let made : Option (ℕ × ℕ) = option_map view (registered_at (end_cut log e)) in
-    let new : AllByRecursion (NewPair log) (option_to_list made) = new_pair base count log e.now e.kind e is
+    let new : AllByRecursion (NewPair log) (option_to_list made) = new_pair start log e.now e.kind e is
     in
     record {
       below = subst (AllByRecursion (λ p. p.0 < length next)) (sym (pairs-push log e))
@@ -316,26 +316,26 @@ roomy-step base count log e sound room rule_is =
           let here : load_of next p.0 ≡ load_of next (length log) = ap (load_of next) h.0 in
           omega (arith, step, zero_now, no_more, here))
           (option_to_list made) new (no_booking e.kind (length log) e.now log e))
-          (pairs log) (added base count log e.kind (length log) e.now room.distinct is room.bounded));
+          (pairs log) (added start log e.kind (length log) e.now room.distinct is room.bounded));
     }
 
 pub no_roomy : Roomy []
 no_roomy = record { below = tt; distinct = tt; rising = tt; positive = tt; bounded = tt }
 
-pub record Fits (base count : ℕ) (log : List CoreEntry) : Type 0 where
-  pub sound : Sound base count log
+pub record Fits (start : Start) (log : List CoreEntry) : Type 0 where
+  pub sound : Sound start log
   pub room : Roomy log
 
-pub legal_fits : (base count : ℕ) (log : List CoreEntry) → count < 2 ^ 64 → IsLegal base count log
-    → Fits base count log
-legal_fits base count log fits legal = legal_has base count (Fits base count)
-    (record { sound = no_sound base count fits; room = no_roomy })
+pub legal_fits : (start : Start) (log : List CoreEntry) → start.count < 2 ^ 64 → IsLegal start log
+    → Fits start log
+legal_fits start log fits legal = legal_has start (Fits start)
+    (record { sound = no_sound start fits; room = no_roomy })
     (λ l e h is. record {
-      sound = sound-step base count l e h.sound is;
-      room = roomy-step base count l e h.sound h.room is;
+      sound = sound-step start l e h.sound is;
+      room = roomy-step start l e h.sound h.room is;
     }) log legal
 
-pub legal_bounded : (base count : ℕ) (log : List CoreEntry) → count < 2 ^ 64 → IsLegal base count log
+pub legal_bounded : (start : Start) (log : List CoreEntry) → start.count < 2 ^ 64 → IsLegal start log
     → AllByRecursion (IsBounded log) (standing log)
-legal_bounded base count log fits legal = all-unmap (HasLoadRoom log) view (standing log)
-    (legal_fits base count log fits legal).room.bounded
+legal_bounded start log fits legal = all-unmap (HasLoadRoom log) view (standing log)
+    (legal_fits start log fits legal).room.bounded

@@ -7,6 +7,7 @@ use Rattle.std.specs.List.{AllByRecursion, list_any, filter_map, cons_option}
 use Rattle.std.specs.Option.{option_map}
 use Rattle.std.proofs.lemmas.Bool.{false≢true}
 use Rattle.std.proofs.lemmas.List.Sums.{sum_by-cons, sum_by-append}
+use Rattle.sched_core.specs.declared.start.Start.{Start}
 use Rattle.sched_core.specs.Cuts.{cuts_behind}
 use Rattle.dist_types.specs.declared.addr.Addr.{Addr}
 use Rattle.dist_types.specs.declared.ids.JobId.{JobId}
@@ -120,48 +121,48 @@ rows_below : (log : List CoreEntry) → Roomy log → AllByRecursion (λ r. r.re
 rows_below log room = all-map (λ r. r.reg < length log) (row_of log) (standing log)
     (all-unmap (λ p. p.0 < length log) (λ g. (g.reg, g.cpus)) (standing log) room.below)
 
-notes_rule : (base count : ℕ) (log : List CoreEntry) (c : Call) → Roomy log → (reg : ℕ) → length log ≤ reg
-    → notes_by (rule (core_of base count log) c).kind reg ≡ false
-notes_rule base count log (call.Reserve now) room reg le = refl
-notes_rule base count log (call.Commit now number job state) room reg le = refl
-notes_rule base count log (call.Undo now number job) room reg le = noted_below (servers_of log)
+notes_rule : (start : Start) (log : List CoreEntry) (c : Call) → Roomy log → (reg : ℕ) → length log ≤ reg
+    → notes_by (rule (core_of start log) c).kind reg ≡ false
+notes_rule start log (call.Reserve now) room reg le = refl
+notes_rule start log (call.Commit now number job state) room reg le = refl
+notes_rule start log (call.Undo now number job) room reg le = noted_below (servers_of log)
     (option_and_then (address_of log) (place_at log number)) (length log) (rows_below log room) reg le
-notes_rule base count log (call.Beat now server nonce cpus key) room reg le = refl
-notes_rule base count log (call.Update now server job state) room reg le = refl
-notes_rule base count log (call.Status now) room reg le = refl
+notes_rule start log (call.Beat now server nonce cpus key) room reg le = refl
+notes_rule start log (call.Update now server job state) room reg le = refl
+notes_rule start log (call.Status now) room reg le = refl
 
 abbrev NoErrors : List CoreEntry → Type 0
 NoErrors log = (reg : ℕ) → length log ≤ reg → error_of log reg ≡ None
 
-errors-step : (base count : ℕ) (log : List CoreEntry) (e : CoreEntry) → Roomy log → NoErrors log
-    → IsRule (core_of base count log) e → NoErrors (log ++ e ∷ [])
-errors-step base count log e room none is reg le =
+errors-step : (start : Start) (log : List CoreEntry) (e : CoreEntry) → Roomy log → NoErrors log
+    → IsRule (core_of start log) e → NoErrors (log ++ e ∷ [])
+errors-step start log e room none is reg le =
     let longer : length (log ++ e ∷ []) ≡ length log + 1 = length-append log (e ∷ []) in
     let old : length log ≤ reg = omega (arith, le, longer) in
     error_of-push log e reg
     ∙ ap (λ b. cond b (Some e.now) (cond (forgives_by e.kind reg) None (error_of log reg)))
-    (ap (λ d. notes_by d.kind reg) is.2 ∙ notes_rule base count log is.0 room reg old)
+    (ap (λ d. notes_by d.kind reg) is.2 ∙ notes_rule start log is.0 room reg old)
     ∙ ap (λ o. cond (forgives_by e.kind reg) None o) (none reg old)
     ∙ elim (forgives_by e.kind reg) as (λ b. cond {A = Option ℕ} b None None ≡ None)
     [ true ↦ refl | false ↦ refl ]
 
 -- what each legal log has, with the errors
-record Noting (base count : ℕ) (log : List CoreEntry) : Type 0 where
-  fit : Fits base count log
+record Noting (start : Start) (log : List CoreEntry) : Type 0 where
+  fit : Fits start log
   none : NoErrors log
 
-pub legal_errors : (base count : ℕ) (log : List CoreEntry) → count < 2 ^ 64 → IsLegal base count log
+pub legal_errors : (start : Start) (log : List CoreEntry) → start.count < 2 ^ 64 → IsLegal start log
     → (reg : ℕ) → length log ≤ reg → error_of log reg ≡ None
-legal_errors base count log fits legal =
-    (legal_has base count (Noting base count)
-    (record { fit = legal_fits base count [] fits tt; none = λ reg le. refl })
+legal_errors start log fits legal =
+    (legal_has start (Noting start)
+    (record { fit = legal_fits start [] fits tt; none = λ reg le. refl })
     (λ l e h is. record {
       fit = record {
-        sound = sound-step base count l e h.fit.sound is;
-        room = roomy-step base count l e h.fit.sound h.fit.room is;
+        sound = sound-step start l e h.fit.sound is;
+        room = roomy-step start l e h.fit.sound h.fit.room is;
       };
       none =
-          errors-step base count l e h.fit.room h.none is;
+          errors-step start l e h.fit.room h.none is;
     }) log legal).none
 
 -- the load
@@ -283,9 +284,9 @@ reserved_from job reg front (x ∷ xs) = one x.kind (reserved_from job reg (fron
 abbrev IsOnlyAt : List CoreEntry → JobId → Option ℕ → Type 0
 IsOnlyAt log job place = (reg : ℕ) → list_any (λ d. reserves_by d.kind job reg) log ≡ is_this place reg
 
-only_at : (base count : ℕ) (log : List CoreEntry) → Sound base count log → (c : Committed) → IsOpenAt log c
+only_at : (start : Start) (log : List CoreEntry) → Sound start log → (c : Committed) → IsOpenAt log c
     → IsOnlyAt log c.job c.reg
-only_at base count log sound c at reg =
+only_at start log sound c at reg =
     reserved_from c.job reg [] log
     ∙ split (at.reg == reg) refl
     ∙ ap (λ o. is_this o reg) (sym at.at)
@@ -332,17 +333,17 @@ only_at base count log sound c at reg =
         (and_right (same_job one.0.job c.job) (at.reg == one.0.reg) one.2) in
         true_false (at.reg == reg) (eq-eqb at.reg reg (place ∙ there)) h)
 
-open_only : (base count : ℕ) (log : List CoreEntry) → Sound base count log
+open_only : (start : Start) (log : List CoreEntry) → Sound start log
     → AllByRecursion (λ o. IsOnlyAt log o.job o.reg) (open_rows log)
-open_only base count log sound = all-map (λ o. IsOnlyAt log o.job o.reg) (open_of log) (open_jobs log)
-    (all-weaker (IsOpenAt log) (λ c. IsOnlyAt log c.job c.reg) (only_at base count log sound) (open_jobs log)
-    (open_at base count log sound))
+open_only start log sound = all-map (λ o. IsOnlyAt log o.job o.reg) (open_of log) (open_jobs log)
+    (all-weaker (IsOpenAt log) (λ c. IsOnlyAt log c.job c.reg) (only_at start log sound) (open_jobs log)
+    (open_at start log sound))
 
 -- the registration that an update serves is that of the open job
-pub serves_is : (base count : ℕ) (log : List CoreEntry) (k : CoreKind) → Sound base count log
-    → Facts (core_of base count log) k → (reg : ℕ)
+pub serves_is : (start : Start) (log : List CoreEntry) (k : CoreKind) → Sound start log
+    → Facts (core_of start log) k → (reg : ℕ)
     → serves log k reg ≡ is_this (served_by k (open_rows log)) reg
-serves_is base count log (Update server job state answer) sound is reg = heard (is_heard answer) refl
+serves_is start log (Update server job state answer) sound is reg = heard (is_heard answer) refl
   where
     p : OpenRow → Bool
     p o = same_job o.job job
@@ -353,18 +354,18 @@ serves_is base count log (Update server job state answer) sound is reg = heard (
         (false≢true (ap (λ o. is_heard (advance_by o server state)) (sym e) ∙ ap is_heard (sym is) ∙ h))
     by_row (Some o) e h =
         let at : IsOnlyAt log o.job o.reg × (same_job o.job job ≡ true) = at_there (λ o. same_job o.job job)
-        (open_rows log) o e (λ o. IsOnlyAt log o.job o.reg) (open_only base count log sound) in
+        (open_rows log) o e (λ o. IsOnlyAt log o.job o.reg) (open_only start log sound) in
         ap (λ j. list_any (λ d. reserves_by d.kind j reg) log) (sym (same_job-eq o.job job at.1)) ∙ at.0 reg
 
     heard : (b : Bool) → is_heard answer ≡ b → (b && list_any (λ d. reserves_by d.kind job reg) log) ≡ is_this
         (cond b (place_if (find (λ o. same_job o.job job) (open_rows log))) None) reg
     heard true h = by_row (find (λ o. same_job o.job job) (open_rows log)) refl h
     heard false h = refl
-serves_is base count log (Beat server nonce cpus key pruned reaped replaced is_new) sound is reg = refl
-serves_is base count log (Reserve r) sound is reg = refl
-serves_is base count log (Commit job state kept) sound is reg = refl
-serves_is base count log (Undo job noted was_ended) sound is reg = refl
-serves_is base count log (Status pruned servers cpus n) sound is reg = refl
+serves_is start log (Beat server nonce cpus key pruned reaped replaced is_new) sound is reg = refl
+serves_is start log (Reserve r) sound is reg = refl
+serves_is start log (Commit job state kept) sound is reg = refl
+serves_is start log (Undo job noted was_ended) sound is reg = refl
+serves_is start log (Status pruned servers cpus n) sound is reg = refl
 
 -- the rows
 
@@ -423,13 +424,13 @@ idle_new log now (Undo job noted was_ended) zero_load no_error small = tt
 idle_new log now (Update server job state answer) zero_load no_error small = tt
 idle_new log now (Status pruned servers cpus n) zero_load no_error small = tt
 
-pub rows-absorb : (base count : ℕ) (log : List CoreEntry) (e : CoreEntry) → Sound base count log → Roomy log
-    → Facts (core_of base count log) e.kind → error_of log (length log) ≡ None
+pub rows-absorb : (start : Start) (log : List CoreEntry) (e : CoreEntry) → Sound start log → Roomy log
+    → Facts (core_of start log) e.kind → error_of log (length log) ≡ None
     → length (bookings (log ++ e ∷ [])) < 2 ^ 64 →
     map (row_after e (served_by e.kind (open_rows log)))
     (map (row_freed e.kind (held_rows log)) (filter (row_stays e.kind) (servers_of log)))
     ++ option_to_list (row_by e.kind (length log) e.now) ≡ servers_of (log ++ e ∷ [])
-rows-absorb base count log e sound room is no_error small =
+rows-absorb start log e sound room is no_error small =
     ap (λ rs. map after (map freed rs) ++ option_to_list (row_by e.kind (length log) e.now))
     (filter-map (row_stays e.kind) (row_of log) (standing log))
     ∙ ap (λ rs. map after rs ++ option_to_list (row_by e.kind (length log) e.now))
@@ -470,7 +471,7 @@ rows-absorb base count log e sound room is no_error small =
               (load_of log g.reg - freed_at e.kind (held_rows log) g.reg);
           error =
               error_after e g.reg (error_of log g.reg);
-        }) (sym (serves_is base count log e.kind sound is g.reg))
+        }) (sym (serves_is start log e.kind sound is g.reg))
         ∙ ap (λ n. record (row_of log g) {
           seen = cond (renews_by e.kind g.server || serves log e.kind g.reg)
               e.now (last_sign g);

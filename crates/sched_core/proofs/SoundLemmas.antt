@@ -6,6 +6,7 @@ use Rattle.std.specs.List.{AllByRecursion}
 use Rattle.std.specs.Option.{option_map}
 use Rattle.std.proofs.lemmas.List.{length-map, map-append}
 use Rattle.dist_types.specs.declared.ids.JobId.{JobId}
+use Rattle.sched_core.specs.declared.start.Start.{Start}
 use Rattle.sched_core.proofs.Lists.{map-map}
 use Rattle.sched_core.specs.declared.entry.CoreEntry.{CoreEntry}
 use Rattle.sched_core.specs.declared.entry.CoreKind.{CoreKind}
@@ -22,44 +23,45 @@ use Rattle.sched_core.proofs.FactLemmas.{Facts, JobFacts, facts}
 -- ids
 
 -- the id after so many others
-abbrev IsId : ℕ → ℕ → ℕ → JobId → Type 0
-IsId base count n job = job.0 ≡ (base + (count + n)) % 2 ^ 64
+abbrev IsId : Start → ℕ → JobId → Type 0
+IsId start n job = job.0 ≡ (start.base + (start.count + n)) % 2 ^ 64
 
-abbrev IsGiven : ℕ → ℕ → ℕ → JobId → Type 0
-IsGiven base count n job = (k : ℕ) × (k < n) × IsId base count k job
+abbrev IsGiven : Start → ℕ → JobId → Type 0
+IsGiven start n job = (k : ℕ) × (k < n) × IsId start k job
 
-pub record HasIds (base count : ℕ) (jobs : List JobId) : Type 0 where
-  pub given : AllByRecursion (IsGiven base count (length jobs)) jobs
+pub record HasIds (start : Start) (jobs : List JobId) : Type 0 where
+  pub given : AllByRecursion (IsGiven start (length jobs)) jobs
   pub distinct : AreDistinct jobs
-  pub fits : count + length jobs < 2 ^ 64
+  pub fits : start.count + length jobs < 2 ^ 64
 
 mod_apart : (a b : ℕ) → a < b → b < a + 2 ^ 64 → a % 2 ^ 64 ≡ b % 2 ^ 64 → ⊥
 mod_apart a b less near same = omega (arith, less, near, same)
 
 -- an id is none of those before it
-fresh_id : (base count : ℕ) (n : ℕ) (j : JobId) → IsId base count n j → count + n < 2 ^ 64
-    → (jobs : List JobId) → AllByRecursion (IsGiven base count n) jobs
+fresh_id : (start : Start) (n : ℕ) (j : JobId) → IsId start n j → start.count + n < 2 ^ 64
+    → (jobs : List JobId) → AllByRecursion (IsGiven start n) jobs
     → AllByRecursion (λ k. same_job k j ≡ false) jobs
-fresh_id base count n j id fits [] all = tt
-fresh_id base count n j id fits (k ∷ jobs) all = (
-  is_false (same_job k j) (λ t. mod_apart (base + (count + all.0.0)) (base + (count + n))
+fresh_id start n j id fits [] all = tt
+fresh_id start n j id fits (k ∷ jobs) all = (
+  is_false (same_job k j) (λ t. mod_apart (start.base + (start.count + all.0.0))
+      (start.base + (start.count + n))
       (let lt = all.0.1 in omega (arith, lt)) (let lt = all.0.1 in omega (arith, lt, fits))
       (sym all.0.2 ∙ eqb-true k.0 j.0 t ∙ id)),
-  fresh_id base count n j id fits jobs all.1,
+  fresh_id start n j id fits jobs all.1,
 )
 
-ids-push : (base count : ℕ) (jobs : List JobId) (j : JobId) → HasIds base count jobs
-    → IsId base count (length jobs) j → count + length jobs + 1 < 2 ^ 64 → HasIds base count (jobs ++ j ∷ [])
-ids-push base count jobs j ids id fits =
+ids-push : (start : Start) (jobs : List JobId) (j : JobId) → HasIds start jobs
+    → IsId start (length jobs) j → start.count + length jobs + 1 < 2 ^ 64 → HasIds start (jobs ++ j ∷ [])
+ids-push start jobs j ids id fits =
     let longer : length (jobs ++ j ∷ []) ≡ length jobs + 1 = length-append jobs (j ∷ []) in
     let here : length jobs < length (jobs ++ j ∷ []) = omega (arith, longer) in
     record {
-      given = all-append (IsGiven base count (length (jobs ++ j ∷ []))) jobs (j ∷ [])
-          (all-weaker (IsGiven base count (length jobs)) (IsGiven base count (length (jobs ++ j ∷ [])))
+      given = all-append (IsGiven start (length (jobs ++ j ∷ []))) jobs (j ∷ [])
+          (all-weaker (IsGiven start (length jobs)) (IsGiven start (length (jobs ++ j ∷ [])))
           (λ k g. (g.0, (let lt = g.1 in omega (arith, lt, here)), g.2)) jobs ids.given)
           ((length jobs, here, id), tt);
       distinct = distinct-push jobs j ids.distinct
-          (fresh_id base count (length jobs) j id (omega (arith, fits)) jobs ids.given);
+          (fresh_id start (length jobs) j id (omega (arith, fits)) jobs ids.given);
       fits = omega (arith, longer, fits);
     }
 
@@ -96,48 +98,49 @@ id_fits n lt other = let ne : n ≡ 2 ^ 64 - 1 → ⊥ = λ e. true_false (n == 
 jobs_length : (log : List CoreEntry) → length (jobs log) ≡ length (bookings log)
 jobs_length log = length-map (bookings log) (λ b. b.job)
 
-ids_made : (base count : ℕ) (log : List CoreEntry) (k : CoreKind) (number now : ℕ)
-    → HasIds base count (jobs log) → Facts (core_of base count log) k
-    → HasIds base count (jobs log ++ option_to_list (option_map (λ b. b.job) (booked_by k number now [])))
-ids_made base count log (Reserve (Job job reg forgiven)) number now ids is =
+ids_made : (start : Start) (log : List CoreEntry) (k : CoreKind) (number now : ℕ)
+    → HasIds start (jobs log) → Facts (core_of start log) k
+    → HasIds start (jobs log ++ option_to_list (option_map (λ b. b.job) (booked_by k number now [])))
+ids_made start log (Reserve (Job job reg forgiven)) number now ids is =
     let same = jobs_length log in
-    ids-push base count (jobs log) job ids (is.id ∙ ap (λ n. (base + (count + n)) % 2 ^ 64) (sym same))
-    (let fits = ids.fits in let room = id_fits (count + length (bookings log))
+    ids-push start (jobs log) job ids (is.id ∙ ap (λ n. (start.base + (start.count + n)) % 2 ^ 64) (sym same))
+    (let fits = ids.fits in let room = id_fits (start.count + length (bookings log))
     (omega (arith, fits, same)) is.left in omega (arith, room, same))
-ids_made base count log (Reserve (NoRoom n)) number now ids is = subst (HasIds base count)
+ids_made start log (Reserve (NoRoom n)) number now ids is = subst (HasIds start)
     (sym (append-nil (jobs log))) ids
-ids_made base count log (Reserve Spent) number now ids is = subst (HasIds base count)
+ids_made start log (Reserve Spent) number now ids is = subst (HasIds start)
     (sym (append-nil (jobs log))) ids
-ids_made base count log (Beat server nonce cpus key pruned reaped replaced is_new) number now ids is =
-    subst (HasIds base count) (sym (append-nil (jobs log))) ids
-ids_made base count log (Commit job state is_kept) number now ids is = subst (HasIds base count)
+ids_made start log (Beat server nonce cpus key pruned reaped replaced is_new) number now ids is =
+    subst (HasIds start) (sym (append-nil (jobs log))) ids
+ids_made start log (Commit job state is_kept) number now ids is = subst (HasIds start)
     (sym (append-nil (jobs log))) ids
-ids_made base count log (Undo job noted was_ended) number now ids is = subst (HasIds base count)
+ids_made start log (Undo job noted was_ended) number now ids is = subst (HasIds start)
     (sym (append-nil (jobs log))) ids
-ids_made base count log (Update server job state answer) number now ids is = subst (HasIds base count)
+ids_made start log (Update server job state answer) number now ids is = subst (HasIds start)
     (sym (append-nil (jobs log))) ids
-ids_made base count log (Status pruned servers cpus n) number now ids is = subst (HasIds base count)
+ids_made start log (Status pruned servers cpus n) number now ids is = subst (HasIds start)
     (sym (append-nil (jobs log))) ids
 
-pub ids-step : (base count : ℕ) (log : List CoreEntry) (e : CoreEntry) → HasIds base count (jobs log)
-    → IsRule (core_of base count log) e → HasIds base count (jobs (log ++ e ∷ []))
-ids-step base count log e ids is = subst (HasIds base count) (sym (jobs-push log e))
-    (ids_made base count log e.kind (length log) e.now ids (facts (core_of base count log) e is))
+pub ids-step : (start : Start) (log : List CoreEntry) (e : CoreEntry) → HasIds start (jobs log)
+    → IsRule (core_of start log) e → HasIds start (jobs (log ++ e ∷ []))
+ids-step start log e ids is = subst (HasIds start) (sym (jobs-push log e))
+    (ids_made start log e.kind (length log) e.now ids (facts (core_of start log) e is))
 
 -- the job of a reserve is none of those before it
-pub fresh_job : (base count : ℕ) (log : List CoreEntry) (job : JobId) (reg : ℕ) → HasIds base count (jobs log)
-    → JobFacts (core_of base count log) job reg → AllByRecursion (λ k. same_job k job ≡ false) (jobs log)
-fresh_job base count log job reg ids is = fresh_id base count (length (jobs log)) job
-    (is.id ∙ ap (λ n. (base + (count + n)) % 2 ^ 64) (sym (jobs_length log))) ids.fits (jobs log) ids.given
+pub fresh_job : (start : Start) (log : List CoreEntry) (job : JobId) (reg : ℕ) → HasIds start (jobs log)
+    → JobFacts (core_of start log) job reg → AllByRecursion (λ k. same_job k job ≡ false) (jobs log)
+fresh_job start log job reg ids is = fresh_id start (length (jobs log)) job
+    (is.id ∙ ap (λ n. (start.base + (start.count + n)) % 2 ^ 64) (sym (jobs_length log))) ids.fits (jobs log)
+    ids.given
 
-pub no_ids : (base count : ℕ) → count < 2 ^ 64 → HasIds base count []
-no_ids base count fits = record { given = tt; distinct = tt; fits = omega (arith, fits) }
+pub no_ids : (start : Start) → start.count < 2 ^ 64 → HasIds start []
+no_ids start fits = record { given = tt; distinct = tt; fits = omega (arith, fits) }
 
-pub legal_ids : (base count : ℕ) (log : List CoreEntry) → count < 2 ^ 64 → IsLegal base count log
-    → HasIds base count (jobs log)
-legal_ids base count log fits legal = legal_has base count (λ l. HasIds base count (jobs l))
-    (no_ids base count fits) (λ l e ids is. ids-step base count l e ids is) log legal
+pub legal_ids : (start : Start) (log : List CoreEntry) → start.count < 2 ^ 64 → IsLegal start log
+    → HasIds start (jobs log)
+legal_ids start log fits legal = legal_has start (λ l. HasIds start (jobs l))
+    (no_ids start fits) (λ l e ids is. ids-step start l e ids is) log legal
 
-pub legal_distinct : (base count : ℕ) (log : List CoreEntry) → count < 2 ^ 64 → IsLegal base count log
+pub legal_distinct : (start : Start) (log : List CoreEntry) → start.count < 2 ^ 64 → IsLegal start log
     → AreDistinct (jobs log)
-legal_distinct base count log fits legal = (legal_ids base count log fits legal).distinct
+legal_distinct start log fits legal = (legal_ids start log fits legal).distinct

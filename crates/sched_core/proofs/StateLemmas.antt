@@ -18,36 +18,57 @@ use Rattle.sched_core.specs.declared.entry.UpdateAnswer.TheVariants.{Accepted, U
 use Rattle.sched_core.specs.Log.{Core, logged, same_job}
 use Rattle.sched_core.specs.Standing.{standing, address_of, key_at}
 use Rattle.sched_core.specs.Reservation.{unspent, unended}
-use Rattle.sched_core.specs.Rows.{row_of, servers_of, held_of, held_rows, held_by_id, held_part, job_at}
-use Rattle.sched_core.specs.Rows.{jobs_of}
+use Rattle.sched_core.specs.Rows.{row_of, servers_of, held_of, held_rows, job_row, unended_by_id, jobs_of}
+use Rattle.sched_core.specs.Books.{held_by_id, held_part, job_at}
 use Rattle.sched_core.specs.Pick.{pick, forgiven}
 use Rattle.sched_core.specs.Answers.{Leaves, verdict}
 use Rattle.sched_core.specs.Rule.{is_among, place_at, reserved_at}
 use Rattle.sched_core.specs.Books.{keys_of, key_of, IsAtRow, place_of_unspent, place_of_booking}
-use Rattle.sched_core.proofs.Lists.{list_any-map}
+use Rattle.sched_core.proofs.Lists.{list_any-map, map-map}
 use Rattle.sched_core.proofs.AllLemmas.{and_left, and_right, same_job-sym, any-weaker, all-weaker, all-map}
 use Rattle.sched_core.proofs.FactLemmas.{pick_there}
-use Rattle.sched_core.proofs.SortLemmas.{found_first}
+use Rattle.sched_core.proofs.SortLemmas.{found_first, sorted-map}
 use Rattle.sched_core.proofs.PlaceLemmas.{cards_are}
 use Rattle.sched_core.proofs.KeptLemmas.{rows_addressed}
 use Rattle.sched_core.proofs.RowLemmas.{at_there}
 
 -- the jobs that are shown
 
+abbrev row_at : List CoreEntry → HeldRow → Option JobRow
+row_at log h = option_map (λ server. job_at server h) (address_of log h.reg)
+
 full_part : (log : List CoreEntry) (js : List JobRow)
     → AllByRecursion (λ j. address_of log j.reg ≡ Some j.server) js
-    → filter_map (λ h. option_map (λ server. job_at server h) (address_of log h.reg)) (map held_part js) ≡ js
+    → map (row_at log) (map held_part js) ≡ map Some js
 full_part log [] all = refl
 full_part log (j ∷ js) all =
-    ap (λ o. cons_option (option_map (λ server. job_at server (held_part j)) o)
-    (filter_map (λ h. option_map (λ server. job_at server h) (address_of log h.reg)) (map held_part js)))
-    all.0
-    ∙ ap (λ rest. j ∷ rest) (full_part log js all.1)
+    ap (λ o. option_map (λ server. job_at server (held_part j)) o ∷ map (row_at log) (map held_part js)) all.0
+    ∙ ap (λ rest. Some j ∷ rest) (full_part log js all.1)
+
+-- each reservation has its row, in their order
+pub jobs_all : (log : List CoreEntry) (js : List JobRow) → map held_part js ≡ held_by_id log
+    → AllByRecursion (λ j. address_of log j.reg ≡ Some j.server) js
+    → map Some js ≡ map (job_row log) (unended_by_id log)
+jobs_all log js same all =
+    let by_id : held_by_id log ≡ map held_of (unended_by_id log) =
+    sorted-map (λ b. b.job.0) (λ h. h.job.0) held_of (λ b. refl) (unended log) in
+    sym (full_part log js all) ∙ ap (map (row_at log)) (same ∙ by_id)
+    ∙ map-map (row_at log) held_of (unended_by_id log)
+
+-- what is there is what filter_map leaves
+some_all : {X Y : Type 0} (f : X → Option Y) (xs : List X) (ys : List Y) → map Some ys ≡ map f xs
+    → ys ≡ filter_map f xs
+some_all f [] [] same = refl
+some_all f [] (y ∷ ys) same = absurd cc
+some_all f (x ∷ xs) [] same = absurd cc
+some_all f (x ∷ xs) (y ∷ ys) same =
+    let head : Some y ≡ f x = cc in
+    let rest : map Some ys ≡ map f xs = cc in
+    ap (λ zs. y ∷ zs) (some_all f xs ys rest) ∙ ap (λ o. cons_option o (filter_map f xs)) head
 
 pub jobs_are : (log : List CoreEntry) (js : List JobRow) → map held_part js ≡ held_by_id log
     → AllByRecursion (λ j. address_of log j.reg ≡ Some j.server) js → js ≡ jobs_of log
-jobs_are log js same all = sym (full_part log js all)
-    ∙ ap (filter_map (λ h. option_map (λ server. job_at server h) (address_of log h.reg))) same
+jobs_are log js same all = some_all (job_row log) (unended_by_id log) js (jobs_all log js same all)
 
 -- a registration that stands, by its number
 

@@ -5,8 +5,10 @@ use Rattle.std.specs.Prelude.{true, false, not, ◌&&◌, ◌||◌, ◌==◌, na
 use Rattle.std.specs.Prelude.{count_by, unwrap_or, option_to_list, min, ◌%◌}
 use Rattle.std.specs.List.{AllByRecursion, find, list_any}
 use Rattle.std.specs.Option.{option_map}
+use Rattle.dist_types.specs.declared.addr.Addr.{Addr}
 use Rattle.dist_types.specs.declared.ids.JobId.{JobId}
 use Rattle.dist_types.specs.declared.results.JobState.{JobState}
+use Rattle.sched_core.specs.declared.start.Start.{Start}
 use Rattle.sched_core.specs.declared.entry.CoreEntry.{CoreEntry}
 use Rattle.sched_core.specs.declared.entry.CoreKind.{CoreKind}
 use Rattle.sched_core.specs.declared.entry.CoreKind.TheVariants.{Beat, Reserve, Commit, Undo, Update}
@@ -24,7 +26,7 @@ use Rattle.sched_core.specs.Reservation.{Booking, bookings, unspent, spends_by, 
 use Rattle.sched_core.specs.Reservation.{is_complete}
 use Rattle.sched_core.specs.Fault.{notes_by, forgives_by}
 use Rattle.sched_core.specs.Job.{moves_by, closes_by}
-use Rattle.sched_core.specs.Rows.{servers_of, held_rows, open_rows}
+use Rattle.sched_core.specs.Rows.{servers_of, held_rows, open_rows, sorted_into}
 use Rattle.sched_core.specs.Rule.{place_at}
 use Rattle.sched_core.specs.Reservation.{is_booked}
 use Rattle.sched_core.specs.Laws.{IsLegal, AreDistinct}
@@ -314,6 +316,35 @@ SpendsOne (Commit job state kept) unspent = list_any (λ u. same_job job u.job) 
 SpendsOne (Undo job noted was_ended) unspent = list_any (λ u. same_job job u.job) unspent ≡ true
 SpendsOne other unspent = ⊥
 
+-- the reservations by id
+
+-- the unended reservations, by rising job id
+abbrev pub held_by_id : List CoreEntry → List HeldRow
+held_by_id log = sorted_into (λ h. h.job.0) [] (held_rows log)
+
+-- a reservation with the address of its registration
+abbrev pub job_at : Addr → HeldRow → JobRow
+job_at server h = record {
+  number = h.number;
+  job = h.job;
+  reg = h.reg;
+  server = server;
+  reserved_at = h.reserved_at;
+  state = h.state;
+  claimed = h.claimed;
+}
+
+-- and without it
+abbrev pub held_part : JobRow → HeldRow
+held_part j = record {
+  number = j.number;
+  job = j.job;
+  reg = j.reg;
+  reserved_at = j.reserved_at;
+  state = j.state;
+  claimed = j.claimed;
+}
+
 -- all of it
 
 -- a reservation is at the registration that its number says, and at its address
@@ -336,11 +367,12 @@ pub record AreBooks (books : Lists) (kept_keys : List (ℕ × List ℕ)) (log : 
 -- The books are the log's, and each entry of the log is the core rule's. The log has room for each unspent
 -- reservation to be spent. The reservations begin with the first id that the log gives. The registrations
 -- stand in no more places than twice the most that ever stood at one time, and their numbers are of the log.
-pub record IsState (base count : ℕ) (kept : Kept) (kept_keys : List (ℕ × List ℕ)) (log : List CoreEntry)
+pub record IsState (start : Start) (kept : Kept) (kept_keys : List (ℕ × List ℕ)) (log : List CoreEntry)
     (log_len log_capacity : ℕ) : Type 0 where
   pub books : AreBooks kept.lists kept_keys log
-  pub legal : IsLegal base count log
+  pub fits : start.count < 2 ^ 64
+  pub legal : IsLegal start log
   pub log_room : log_len + length (unspent_view kept.lists.booked) ≤ log_capacity
-  pub first : kept.first ≡ (base + count) % 2 ^ 64
+  pub first : kept.first ≡ (start.base + start.count) % 2 ^ 64
   pub top : kept.top ≤ length log
   pub places : kept.places ≤ 2 * max 1 (most_standing log)

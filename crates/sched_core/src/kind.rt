@@ -35,16 +35,13 @@ pub fn ends(kind: &CoreKind, reg: u64) -> bool
     ensures { result ≡ ends_by kind.now reg }
 {
     match kind {
-        CoreKind::Reserve(_) => false,
-        CoreKind::Commit { .. } => false,
-        CoreKind::Undo { .. } => false,
         CoreKind::Beat {
             pruned,
             replaced,
             ..
         } => pruned.get().contains(&reg) || is_number(*replaced, reg),
-        CoreKind::Update { .. } => false,
         CoreKind::Status { pruned, .. } => pruned.get().contains(&reg),
+        _ => false,
     }
 }
 
@@ -53,12 +50,8 @@ pub fn renews(kind: &CoreKind, at: ServerId) -> bool
     ensures { result ≡ renews_by kind.now at }
 {
     match kind {
-        CoreKind::Reserve(_) => false,
-        CoreKind::Commit { .. } => false,
-        CoreKind::Undo { .. } => false,
         CoreKind::Beat { server, is_new, .. } => !*is_new && at == *server,
-        CoreKind::Update { .. } => false,
-        CoreKind::Status { .. } => false,
+        _ => false,
     }
 }
 
@@ -68,13 +61,7 @@ pub fn takes(kind: &CoreKind, r: u64) -> bool
 {
     match kind {
         CoreKind::Reserve(Reserved::Job { reg, .. }) => *reg == r,
-        CoreKind::Reserve(Reserved::NoRoom(_)) => false,
-        CoreKind::Reserve(Reserved::Spent) => false,
-        CoreKind::Commit { .. } => false,
-        CoreKind::Undo { .. } => false,
-        CoreKind::Beat { .. } => false,
-        CoreKind::Update { .. } => false,
-        CoreKind::Status { .. } => false,
+        _ => false,
     }
 }
 
@@ -82,16 +69,7 @@ pub fn takes(kind: &CoreKind, r: u64) -> bool
 pub fn is_reservation(kind: &CoreKind) -> bool
     ensures { result ≡ is_booked kind.now }
 {
-    match kind {
-        CoreKind::Reserve(Reserved::Job { .. }) => true,
-        CoreKind::Reserve(Reserved::NoRoom(_)) => false,
-        CoreKind::Reserve(Reserved::Spent) => false,
-        CoreKind::Commit { .. } => false,
-        CoreKind::Undo { .. } => false,
-        CoreKind::Beat { .. } => false,
-        CoreKind::Update { .. } => false,
-        CoreKind::Status { .. } => false,
-    }
+    matches!(kind, CoreKind::Reserve(Reserved::Job { .. }))
 }
 
 /// Whether an update with this answer counts as a sign.
@@ -99,10 +77,8 @@ pub fn heard(answer: UpdateAnswer) -> bool
     ensures { result ≡ is_heard answer }
 {
     match answer {
-        UpdateAnswer::Accepted => true,
-        UpdateAnswer::Unknown => false,
-        UpdateAnswer::Wrong => false,
-        UpdateAnswer::Transition(_) => true,
+        UpdateAnswer::Accepted | UpdateAnswer::Transition(_) => true,
+        _ => false,
     }
 }
 
@@ -110,12 +86,7 @@ pub fn heard(answer: UpdateAnswer) -> bool
 pub fn accepted(answer: UpdateAnswer) -> bool
     ensures { result ≡ is_accepted answer }
 {
-    match answer {
-        UpdateAnswer::Accepted => true,
-        UpdateAnswer::Unknown => false,
-        UpdateAnswer::Wrong => false,
-        UpdateAnswer::Transition(_) => false,
-    }
+    matches!(answer, UpdateAnswer::Accepted)
 }
 
 /// Whether an entry of this kind is a commit or an undo of the job.
@@ -123,12 +94,9 @@ pub fn spends(kind: &CoreKind, j: JobId) -> bool
     ensures { result ≡ spends_by kind.now j }
 {
     match kind {
-        CoreKind::Reserve(_) => false,
         CoreKind::Commit { job, .. } => job.0 == j.0,
         CoreKind::Undo { job, .. } => job.0 == j.0,
-        CoreKind::Beat { .. } => false,
-        CoreKind::Update { .. } => false,
-        CoreKind::Status { .. } => false,
+        _ => false,
     }
 }
 
@@ -136,24 +104,14 @@ pub fn spends(kind: &CoreKind, j: JobId) -> bool
 fn started(state: JobState) -> bool
     ensures { result ≡ is_started state }
 {
-    match state {
-        JobState::Pending => false,
-        JobState::Ready => false,
-        JobState::Started => true,
-        JobState::Complete => false,
-    }
+    matches!(state, JobState::Started)
 }
 
 /// Whether the build is over.
 pub fn complete(state: JobState) -> bool
     ensures { result ≡ is_complete state }
 {
-    match state {
-        JobState::Pending => false,
-        JobState::Ready => false,
-        JobState::Started => false,
-        JobState::Complete => true,
-    }
+    matches!(state, JobState::Complete)
 }
 
 /// Whether an entry of this kind accepts that the job is complete.
@@ -161,17 +119,13 @@ pub fn completes(kind: &CoreKind, j: JobId) -> bool
     ensures { result ≡ completes_by kind.now j }
 {
     match kind {
-        CoreKind::Reserve(_) => false,
-        CoreKind::Commit { .. } => false,
-        CoreKind::Undo { .. } => false,
-        CoreKind::Beat { .. } => false,
         CoreKind::Update {
             job,
             state,
             answer,
             ..
         } => complete(*state) && accepted(*answer) && job.0 == j.0,
-        CoreKind::Status { .. } => false,
+        _ => false,
     }
 }
 
@@ -180,12 +134,8 @@ pub fn reaps(kind: &CoreKind, j: JobId) -> bool
     ensures { result ≡ reaps_by kind.now j }
 {
     match kind {
-        CoreKind::Reserve(_) => false,
-        CoreKind::Commit { .. } => false,
-        CoreKind::Undo { .. } => false,
         CoreKind::Beat { reaped, .. } => has_job(reaped.get(), j),
-        CoreKind::Update { .. } => false,
-        CoreKind::Status { .. } => false,
+        _ => false,
     }
 }
 
@@ -194,12 +144,8 @@ fn undoes(kind: &CoreKind, j: JobId) -> bool
     ensures { result ≡ undoes_by kind.now j }
 {
     match kind {
-        CoreKind::Reserve(_) => false,
-        CoreKind::Commit { .. } => false,
         CoreKind::Undo { job, ended, .. } => *ended && job.0 == j.0,
-        CoreKind::Beat { .. } => false,
-        CoreKind::Update { .. } => false,
-        CoreKind::Status { .. } => false,
+        _ => false,
     }
 }
 
@@ -222,17 +168,13 @@ pub fn claims(kind: &CoreKind, j: JobId) -> bool
     ensures { result ≡ claims_by kind.now j }
 {
     match kind {
-        CoreKind::Reserve(_) => false,
-        CoreKind::Commit { .. } => false,
-        CoreKind::Undo { .. } => false,
-        CoreKind::Beat { .. } => false,
         CoreKind::Update {
             job,
             state,
             answer,
             ..
         } => started(*state) && accepted(*answer) && job.0 == j.0,
-        CoreKind::Status { .. } => false,
+        _ => false,
     }
 }
 
@@ -241,12 +183,8 @@ pub fn notes(kind: &CoreKind, reg: u64) -> bool
     ensures { result ≡ notes_by kind.now reg }
 {
     match kind {
-        CoreKind::Reserve(_) => false,
-        CoreKind::Commit { .. } => false,
         CoreKind::Undo { noted, .. } => is_number(*noted, reg),
-        CoreKind::Beat { .. } => false,
-        CoreKind::Update { .. } => false,
-        CoreKind::Status { .. } => false,
+        _ => false,
     }
 }
 
@@ -256,13 +194,7 @@ pub fn forgives(kind: &CoreKind, reg: u64) -> bool
 {
     match kind {
         CoreKind::Reserve(Reserved::Job { forgiven, .. }) => forgiven.get().contains(&reg),
-        CoreKind::Reserve(Reserved::NoRoom(_)) => false,
-        CoreKind::Reserve(Reserved::Spent) => false,
-        CoreKind::Commit { .. } => false,
-        CoreKind::Undo { .. } => false,
-        CoreKind::Beat { .. } => false,
-        CoreKind::Update { .. } => false,
-        CoreKind::Status { .. } => false,
+        _ => false,
     }
 }
 
@@ -271,7 +203,6 @@ pub fn begins(kind: &CoreKind, j: JobId) -> Option<JobState>
     ensures { result ≡ begins_by kind.now j }
 {
     match kind {
-        CoreKind::Reserve(_) => None,
         CoreKind::Commit { job, state, kept } => {
             if *kept && job.0 == j.0 {
                 Some(*state)
@@ -279,10 +210,7 @@ pub fn begins(kind: &CoreKind, j: JobId) -> Option<JobState>
                 None
             }
         }
-        CoreKind::Undo { .. } => None,
-        CoreKind::Beat { .. } => None,
-        CoreKind::Update { .. } => None,
-        CoreKind::Status { .. } => None,
+        _ => None,
     }
 }
 
@@ -291,10 +219,6 @@ pub fn moves(kind: &CoreKind, j: JobId) -> Option<JobState>
     ensures { result ≡ moves_by kind.now j }
 {
     match kind {
-        CoreKind::Reserve(_) => None,
-        CoreKind::Commit { .. } => None,
-        CoreKind::Undo { .. } => None,
-        CoreKind::Beat { .. } => None,
         CoreKind::Update {
             job,
             state,
@@ -307,7 +231,7 @@ pub fn moves(kind: &CoreKind, j: JobId) -> Option<JobState>
                 None
             }
         }
-        CoreKind::Status { .. } => None,
+        _ => None,
     }
 }
 

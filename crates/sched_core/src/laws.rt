@@ -3,6 +3,7 @@
 ghost use Rattle.std.specs.Prelude.{◌≡◌, ◌<◌, ◌^◌, ◌++◌, ◌∷◌, [], ℕ, List, Some, true, false, length, map};
 ghost use Rattle.std.specs.List.{AllByRecursion};
 ghost use Rattle.sched_core.specs.declared.entry.CoreEntry.{CoreEntry};
+ghost use Rattle.sched_core.specs.declared.start.Start.{Start};
 ghost use Rattle.dist_types.specs.declared.ids.JobId.{JobId};
 ghost use Rattle.sched_core.specs.declared.entry.CoreKind.TheVariants.{Reserve};
 ghost use Rattle.sched_core.specs.declared.entry.Reserved.TheVariants.{Job};
@@ -77,7 +78,7 @@ pub fn registrations_end_once()
 
 /// An address has at most one registration that stands.
 pub fn addresses_are_registered_once()
-    ensures { (base count : ℕ) (log : List CoreEntry) → IsLegal base count log →
+    ensures { (start : Start) (log : List CoreEntry) → IsLegal start log →
         AreDifferent (map (λ g. g.server) (standing log)) }
 {}
 
@@ -106,19 +107,19 @@ pub fn reservations_begin_unspent()
 
 /// Unspent reservations of one job have one number.
 pub fn reservations_have_one_number()
-    ensures { (base count : ℕ) (log : List CoreEntry) (a b : ℕ) (j k : JobId) → count < 2 ^ 64
-        → IsLegal base count log →
+    ensures { (start : Start) (log : List CoreEntry) (a b : ℕ) (j k : JobId) → start.count < 2 ^ 64
+        → IsLegal start log →
         is_among (unspent log) a j ≡ true → is_among (unspent log) b k ≡ true → same_job k j ≡ true → a ≡ b }
 {}
 
 /// Each front of a legal log is legal.
 pub fn fronts_are_legal()
-    ensures { (base count : ℕ) (front log : List CoreEntry) → IsLegal base count (front ++ log) →
-        IsLegal base count front }
+    ensures { (start : Start) (front log : List CoreEntry) → IsLegal start (front ++ log) →
+        IsLegal start front }
 {}
 
 /// Over a legal log the entry of a call is of no other call: the entry tells which call it is of.
 pub fn entries_tell_their_calls()
-    ensures { (s : Core) (c : Call) → s.count < 2 ^ 64 → IsLegal s.base s.count s.log → IsCall s c →
+    ensures { (s : Core) (c : Call) → s.start.count < 2 ^ 64 → IsLegal s.start s.log → IsCall s c →
         call_of s.log (rule s c) ≡ Some c }
 {}

@@ -28,6 +28,7 @@ pub mod rows;
 pub mod rules;
 mod spending;
 mod standing;
+pub mod start;
 pub mod state;
 pub mod texts;
 

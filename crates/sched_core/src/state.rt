@@ -11,7 +11,7 @@ ghost use Rattle.sched_core.specs.Standing.{address_of};
 ghost use Rattle.sched_core.specs.Reservation.{bookings, unspent};
 ghost use Rattle.sched_core.specs.Job.{open_jobs};
 ghost use Rattle.sched_core.specs.Rule.{rule, says_new_entry, counts_of, is_among, is_initial};
-ghost use Rattle.sched_core.specs.Rows.{servers_of, jobs_of, held_by_id, held_part};
+ghost use Rattle.sched_core.specs.Rows.{servers_of, jobs_of, job_row, unended_by_id};
 ghost use Rattle.sched_core.specs.Answers.{Leaves, IsPicked, RefusesReserve, committed_by, undo_answer};
 ghost use Rattle.sched_core.specs.Answers.{updated_by};
 ghost use Rattle.sched_core.specs.Laws.{IsLegal, IsLawful, IsRule};
@@ -25,8 +25,10 @@ use crate::books::Books;
 use crate::entry::{CoreEntry, CoreKind};
 use crate::error::SchedError;
 use crate::keys::{self, RegistrationKey};
+use crate::laws::legal_logs_are_lawful;
 use crate::reservation::Reservation;
 use crate::rows::{Jobs, Servers};
+use crate::start::Start;
 use crate::{rules, spending, standing};
 use dist_types::ids::{JobId, ServerId, ServerNonce};
 use dist_types::results::{
@@ -46,8 +48,13 @@ const MOST_CPUS: u64 = 4294967295;
 #[derive(Drop)]
 pub struct SchedState<A: JobAuthorizer> {
     alloc: Global,
-    base: u64,
-    count: u64,
+    start: Start,
+    journal: Journal<A>,
+}
+
+/// The log, and what is kept of it.
+#[derive(Drop)]
+struct Journal<A: JobAuthorizer> {
     books: Books,
     keys: Vec<RegistrationKey<A>>,
     log: Vec<CoreEntry>,
@@ -61,16 +68,16 @@ impl<A: JobAuthorizer> Model for SchedState<A> {
 
     ghost use Rattle.sched_core.specs.Books.{IsState};
 
-    ghost view = { λ s. record { base = s.base; count = s.count; log = s.log.items } };
+    ghost view = { λ s. record { start = s.start; log = s.journal.log.items } };
 
-    ghost invariant = { λ s. IsState s.base s.count s.books s.keys.items s.log.items (vec_len s.log)
-        (vec_capacity s.log) };
+    ghost invariant = { λ s. IsState s.start s.journal.books s.journal.keys.items s.journal.log.items
+        (vec_len s.journal.log) (vec_capacity s.journal.log) };
 }
 
 impl<A: JobAuthorizer> SchedState<A> {
     /// A scheduler with an empty log, whose first job has the id `base`. It takes no memory.
     pub fn new(alloc: Global, base: u64) -> Self
-        ensures empty { result ≡ record { base = base; count = 0; log = [] } }
+        ensures empty { result ≡ record { start = record { base = base; count = 0 }; log = [] } }
     {
         SchedState::with_job_ids(alloc, base, 0)
     }
@@ -78,30 +85,31 @@ impl<A: JobAuthorizer> SchedState<A> {
     /// A scheduler with an empty log, which goes on where `count` jobs were reserved before: its next
     /// job has the id `base + count`, modulo 2^64. It takes no memory.
     pub fn with_job_ids(alloc: Global, base: u64, count: u64) -> Self
-        ensures empty { result ≡ record { base = base; count = count; log = [] } }
+        ensures empty { result ≡ record { start = record { base = base; count = count }; log = [] } }
     {
         SchedState {
             alloc,
-            base,
-            count,
-            books: Books::new(alloc, base.wrapping_add(count)),
-            keys: Vec::new(alloc),
-            log: Vec::new(alloc),
+            start: Start { base, count },
+            journal: Journal {
+                books: Books::new(alloc, base.wrapping_add(count)),
+                keys: Vec::new(alloc),
+                log: Vec::new(alloc),
+            },
         }
     }
 
     /// The id of the first job.
     pub fn base(&self) -> u64
-        ensures base { result ≡ self.now.base }
+        ensures base { result ≡ self.now.start.base }
     {
-        self.base
+        self.start.base
     }
 
     /// How many jobs were reserved before the log begins.
     pub fn count(&self) -> u64
-        ensures count { result ≡ self.now.count }
+        ensures count { result ≡ self.now.start.count }
     {
-        self.count
+        self.start.count
     }
 
     /// How many reservations the log makes: one for each id that was given since it began. It takes no
@@ -109,27 +117,26 @@ impl<A: JobAuthorizer> SchedState<A> {
     pub fn reservation_count(&self) -> u64
         ensures made { result ≡ length (bookings self.now.log) }
     {
-        self.books.made()
+        self.journal.books.made()
     }
 
     /// How many jobs are open. It takes no memory, and does not go through the log.
     pub fn open_count(&self) -> usize
         ensures { result ≡ length (open_jobs self.now.log) }
     {
-        self.books.open_count()
+        self.journal.books.open_count()
     }
 
     /// The log, oldest entry first: each entry is the core rule's over those before it, so all laws of
     /// legal logs hold of it. It takes no memory.
     pub fn history(&self) -> &[CoreEntry]
         ensures log { result.now ≡ self.now.log }
-        ensures legal { IsLegal self.now.base self.now.count self.now.log }
-        ensures count { self.now.count < 2 ^ 64 }
+        ensures legal { IsLegal self.now.start self.now.log }
+        ensures count { self.now.start.count < 2 ^ 64 }
         ensures lawful { IsLawful self.now.log }
     {
-        let log = self.log.as_slice();
-        lawful(self.base, self.count, log);
-        log
+        legal_logs_are_lawful();
+        self.journal.log.as_slice()
     }
 
     /// The registrations that stand, by rising number, as the whole log gives them. It takes no
@@ -137,16 +144,16 @@ impl<A: JobAuthorizer> SchedState<A> {
     pub fn servers(&self) -> Servers<'_>
         ensures rows { result ≡ servers_of self.now.log }
     {
-        self.books.servers()
+        self.journal.books.servers()
     }
 
     /// The unended reservations, by rising job id, as the whole log gives them. It takes no memory.
     pub fn jobs(&self) -> Jobs<'_>
         ensures jobs { result ≡ jobs_of self.now.log }
         // None is left out: each is at a registration that has an address.
-        ensures all { map held_part result ≡ held_by_id self.now.log }
+        ensures all { map Some result ≡ map (job_row self.now.log) (unended_by_id self.now.log) }
     {
-        self.books.jobs()
+        self.journal.books.jobs()
     }
 
     /// Reserves a job at the moment `now`, in milliseconds: at the registration with room and no
@@ -182,24 +189,21 @@ impl<A: JobAuthorizer> SchedState<A> {
         ensures looks { (h : ℕ) → max 1 (most_standing self.old.log) ≤ 2 ^ h → steps.new ≤ steps.old +
             (6 * h + 8) * (1 + forgiven_count (rule self.old (call.Reserve now)).kind) }
     {
-        let given = u128::from(self.count) + u128::from(self.books.made());
+        let given = u128::from(self.start.count) + u128::from(self.journal.books.made());
         let reserved = self
+            .journal
             .books
-            .reserved(self.alloc, now, self.base, given, steps)?;
-        make_job_room(&mut self.books, &mut self.log)?;
-        let made = spending::made(&self.books, &self.keys, &self.log, &reserved)?;
+            .reserved(self.alloc, now, self.start.base, given, steps)?;
+        make_job_room(&mut self.journal.books, &mut self.journal.log)?;
+        let made = spending::made(
+            &self.journal.books,
+            &self.journal.keys,
+            &self.journal.log,
+            &reserved,
+        )?;
         let kind = CoreKind::Reserve(reserved);
         let entry = CoreEntry { now, kind };
-        take(
-            self.base,
-            self.count,
-            &mut self.books,
-            &mut self.keys,
-            &mut self.log,
-            entry,
-            None,
-            steps,
-        );
+        take(self.start, &mut self.journal, entry, None, steps);
         spending::answer(made)
     }
 
@@ -216,22 +220,13 @@ impl<A: JobAuthorizer> SchedState<A> {
         let number = r.number();
         let job = r.job_id();
         let alloc = r.into_alloc();
-        if !self.books.is_unspent(number, job) {
+        if !self.journal.books.is_unspent(number, job) {
             return Committed::Foreign(job);
         }
-        let kept = self.books.is_held(number, job);
+        let kept = self.journal.books.is_held(number, job);
         let kind = CoreKind::Commit { job, state, kept };
         let entry = CoreEntry { now, kind };
-        take_uncounted::<A, Brand>(
-            self.base,
-            self.count,
-            &mut self.books,
-            &mut self.keys,
-            &mut self.log,
-            entry,
-            None,
-            Blank::new(1),
-        );
+        take_uncounted::<A, Brand>(self.start, &mut self.journal, entry, None, Blank::new(1));
         spending::committed(kept, alloc)
     }
 
@@ -248,24 +243,15 @@ impl<A: JobAuthorizer> SchedState<A> {
         let number = r.number();
         let job = r.job_id();
         r.spend();
-        if !self.books.is_unspent(number, job) {
+        if !self.journal.books.is_unspent(number, job) {
             return Undone::Foreign;
         }
-        let server = self.books.unspent_address(number, job);
-        let noted = self.books.noted(server);
-        let ended = self.books.is_held(number, job);
+        let server = self.journal.books.unspent_address(number, job);
+        let noted = self.journal.books.noted(server);
+        let ended = self.journal.books.is_held(number, job);
         let kind = CoreKind::Undo { job, noted, ended };
         let entry = CoreEntry { now, kind };
-        take_uncounted::<A, Brand>(
-            self.base,
-            self.count,
-            &mut self.books,
-            &mut self.keys,
-            &mut self.log,
-            entry,
-            None,
-            Blank::new(1),
-        );
+        take_uncounted::<A, Brand>(self.start, &mut self.journal, entry, None, Blank::new(1));
         spending::undone(noted, ended)
     }
 
@@ -295,21 +281,18 @@ impl<A: JobAuthorizer> SchedState<A> {
             return Err(SchedError::BadCpus(cpus));
         }
         let entry = self
+            .journal
             .books
             .beat(self.alloc, now, server, nonce, cpus, key.key())?;
         let is_new = entry.is_new_beat();
-        make_row_room(self.alloc, &mut self.books, &mut self.keys, &mut self.log)?;
-        let key = keys::key_made(is_new, self.log.len() as u64, key);
-        take_uncounted::<A, Brand>(
-            self.base,
-            self.count,
-            &mut self.books,
-            &mut self.keys,
-            &mut self.log,
-            entry,
-            key,
-            Blank::new(1),
-        );
+        make_row_room(
+            self.alloc,
+            &mut self.journal.books,
+            &mut self.journal.keys,
+            &mut self.journal.log,
+        )?;
+        let key = keys::key_made(is_new, self.journal.log.len() as u64, key);
+        take_uncounted::<A, Brand>(self.start, &mut self.journal, entry, key, Blank::new(1));
         Ok(HeartbeatServerResult { is_new })
     }
 
@@ -331,9 +314,9 @@ impl<A: JobAuthorizer> SchedState<A> {
         ensures err { IfErr result (λ e. Leaves e self.old self.new
             (rule self.old (call.Update now server job state))) }
     {
-        let found = self.books.open_job(job);
+        let found = self.journal.books.open_job(job);
         let answer = rules::answer_by(&found, server, state);
-        make_log_room(&self.books, &mut self.log)?;
+        make_log_room(&self.journal.books, &mut self.journal.log)?;
         let kind = CoreKind::Update {
             server,
             job,
@@ -341,16 +324,7 @@ impl<A: JobAuthorizer> SchedState<A> {
             answer,
         };
         let entry = CoreEntry { now, kind };
-        take_uncounted::<A, Brand>(
-            self.base,
-            self.count,
-            &mut self.books,
-            &mut self.keys,
-            &mut self.log,
-            entry,
-            None,
-            Blank::new(1),
-        );
+        take_uncounted::<A, Brand>(self.start, &mut self.journal, entry, None, Blank::new(1));
         spending::updated(answer, state)
     }
 
@@ -362,29 +336,14 @@ impl<A: JobAuthorizer> SchedState<A> {
         ensures memory { IfErr result (λ e. e ≡ SchedError.Memory) }
         ensures err { OnErr result (self.new ≡ self.old) }
     {
-        let pruned = self.books.pruned(self.alloc, now)?;
-        let answer = self.books.counts(&pruned, now);
+        let pruned = self.journal.books.pruned(self.alloc, now)?;
+        let answer = self.journal.books.counts(&pruned, now);
         let entry = standing::status_entry(now, pruned, answer);
-        make_log_room(&self.books, &mut self.log)?;
-        take_uncounted::<A, Brand>(
-            self.base,
-            self.count,
-            &mut self.books,
-            &mut self.keys,
-            &mut self.log,
-            entry,
-            None,
-            Blank::new(1),
-        );
+        make_log_room(&self.journal.books, &mut self.journal.log)?;
+        take_uncounted::<A, Brand>(self.start, &mut self.journal, entry, None, Blank::new(1));
         Ok(answer)
     }
 }
-
-/// A legal log is lawful.
-fn lawful(base: u64, count: u64, log: &[CoreEntry])
-    ensures count { count < 2 ^ 64 }
-    ensures lawful { IsLegal base count log.now → IsLawful log.now }
-{}
 
 /// Makes room in the log for one more entry, beside those that spend the reservations, and for one
 /// reservation more. Refused for want of memory alone; the entries stay.
@@ -442,42 +401,37 @@ fn make_row_room<A: JobAuthorizer>(
 
 /// Takes the next entry into the books and the log. It takes no memory.
 fn take<A: JobAuthorizer, L: Ledger>(
-    base: u64,
-    count: u64,
-    books: &mut Books,
-    keys: &mut Vec<RegistrationKey<A>>,
-    log: &mut Vec<CoreEntry>,
+    start: Start,
+    journal: &mut Journal<A>,
     step: CoreEntry,
     key: Option<RegistrationKey<A>>,
     steps: &mut Steps<L>,
 )
-    requires state { IsState base count books.old keys.old.items log.old.items (vec_len log.old)
-        (vec_capacity log.old) }
-    requires rule { IsRule (record { base = base; count = count; log = log.old.items }) step }
-    requires key { key ≡ key_by step.kind (length log.old.items) }
-    requires row_room { MayRegister step.kind → books.old.has_row_room ≡ true }
-    requires job_room { MayReserve step.kind → books.old.has_job_room ≡ true }
-    requires keys_room { MayRegister step.kind → vec_len keys.old < vec_capacity keys.old }
-    requires log_room { vec_len log.old + 1 +
-        length (unspent_next books.old.lists step (length log.old.items)) ≤ vec_capacity log.old }
-    ensures state { IsState base count books.new keys.new.items log.new.items (vec_len log.new)
-        (vec_capacity log.new) }
-    ensures log { log.new.items ≡ log.old.items ++ step ∷ [] }
-    ensures looks { (h : ℕ) → books.old.places ≤ 2 ^ h → AreFew step.kind h steps.old steps.new }
+    requires state { IsState start journal.old.books journal.old.keys.items journal.old.log.items
+        (vec_len journal.old.log) (vec_capacity journal.old.log) }
+    requires rule { IsRule (record { start = start; log = journal.old.log.items }) step }
+    requires key { key ≡ key_by step.kind (length journal.old.log.items) }
+    requires row_room { MayRegister step.kind → journal.old.books.has_row_room ≡ true }
+    requires job_room { MayReserve step.kind → journal.old.books.has_job_room ≡ true }
+    requires keys_room { MayRegister step.kind → vec_len journal.old.keys < vec_capacity journal.old.keys }
+    requires log_room { vec_len journal.old.log + 1 +
+        length (unspent_next journal.old.books.lists step (length journal.old.log.items))
+        ≤ vec_capacity journal.old.log }
+    ensures state { IsState start journal.new.books journal.new.keys.items journal.new.log.items
+        (vec_len journal.new.log) (vec_capacity journal.new.log) }
+    ensures log { journal.new.log.items ≡ journal.old.log.items ++ step ∷ [] }
+    ensures looks { (h : ℕ) → journal.old.books.places ≤ 2 ^ h → AreFew step.kind h steps.old steps.new }
 {
-    books.absorb(&step, log.len() as u64, steps);
-    keys::end_keys(keys, &step);
-    standing::push_some(keys, key);
-    standing::push_reserved(log, step);
+    journal.books.absorb(&step, journal.log.len() as u64, steps);
+    keys::end_keys(&mut journal.keys, &step);
+    standing::push_some(&mut journal.keys, key);
+    standing::push_reserved(&mut journal.log, step);
 }
 
 /// The same, where nobody counts.
 fn take_uncounted<A: JobAuthorizer, L: Ledger>(
-    base: u64,
-    count: u64,
-    books: &mut Books,
-    keys: &mut Vec<RegistrationKey<A>>,
-    log: &mut Vec<CoreEntry>,
+    start: Start,
+    journal: &mut Journal<A>,
     step: CoreEntry,
     key: Option<RegistrationKey<A>>,
     blank: Blank,
@@ -485,21 +439,22 @@ fn take_uncounted<A: JobAuthorizer, L: Ledger>(
     requires name { blank.name ≡ L.name }
     requires parts { blank.parts ≡ L.parts }
     requires some { 0 < blank.parts }
-    requires state { IsState base count books.old keys.old.items log.old.items (vec_len log.old)
-        (vec_capacity log.old) }
-    requires rule { IsRule (record { base = base; count = count; log = log.old.items }) step }
-    requires key { key ≡ key_by step.kind (length log.old.items) }
-    requires row_room { MayRegister step.kind → books.old.has_row_room ≡ true }
-    requires job_room { MayReserve step.kind → books.old.has_job_room ≡ true }
-    requires keys_room { MayRegister step.kind → vec_len keys.old < vec_capacity keys.old }
-    requires log_room { vec_len log.old + 1 +
-        length (unspent_next books.old.lists step (length log.old.items)) ≤ vec_capacity log.old }
-    ensures state { IsState base count books.new keys.new.items log.new.items (vec_len log.new)
-        (vec_capacity log.new) }
-    ensures log { log.new.items ≡ log.old.items ++ step ∷ [] }
+    requires state { IsState start journal.old.books journal.old.keys.items journal.old.log.items
+        (vec_len journal.old.log) (vec_capacity journal.old.log) }
+    requires rule { IsRule (record { start = start; log = journal.old.log.items }) step }
+    requires key { key ≡ key_by step.kind (length journal.old.log.items) }
+    requires row_room { MayRegister step.kind → journal.old.books.has_row_room ≡ true }
+    requires job_room { MayReserve step.kind → journal.old.books.has_job_room ≡ true }
+    requires keys_room { MayRegister step.kind → vec_len journal.old.keys < vec_capacity journal.old.keys }
+    requires log_room { vec_len journal.old.log + 1 +
+        length (unspent_next journal.old.books.lists step (length journal.old.log.items))
+        ≤ vec_capacity journal.old.log }
+    ensures state { IsState start journal.new.books journal.new.keys.items journal.new.log.items
+        (vec_len journal.new.log) (vec_capacity journal.new.log) }
+    ensures log { journal.new.log.items ≡ journal.old.log.items ++ step ∷ [] }
 {
     let mut steps = Steps::<L>::new(blank);
-    take(base, count, books, keys, log, step, key, &mut steps);
+    take(start, journal, step, key, &mut steps);
 }
 
 /// A reserve whose looks nobody counts.

@@ -3,6 +3,7 @@ use crate::calls::STATUS;
 use dist_config::config::{ClientAuth, SchedulerConfig, ServerAuth, ServerConfig};
 use dist_config::serve::Serve;
 use dist_http::real_serve::RealServe;
+use dist_http::starts::Starts;
 use dist_http::{StartFault, serve_scheduler};
 use dist_types::addr::Addr;
 use dist_types::dialer::Dialer;
@@ -49,21 +50,29 @@ fn config(port: u16) -> SchedulerConfig {
     }
 }
 
+/// Starts on one processor, whose listener ends after so many connections, and whose links fail where they
+/// wait longer than so many milliseconds.
+pub fn starts(limit: Option<u64>, timeout_ms: u64) -> Starts<SplitMix64> {
+    Starts {
+        random: SplitMix64::seed_from_u64(1),
+        cpus: 1,
+        limit,
+        timeout_ms,
+    }
+}
+
 /// A scheduler that ends after one connection answers a status request.
 #[test]
 fn one_status(rt: HostRuntime) -> Result<(), Fail> {
     let alloc = rt.alloc();
     let port = free_port(&rt)?;
     let config = config(port);
-    let mut serve = RealServe::with_limits(
+    let mut serve = RealServe::with_starts(
         Box::new(alloc, move |config: &SchedulerConfig, start| {
             serve_scheduler(&rt, alloc, config, start)
         })?,
         Box::new(alloc, |_config: &ServerConfig, _start| Err(StartFault))?,
-        SplitMix64::seed_from_u64(1),
-        1,
-        Some(1),
-        2_000,
+        starts(Some(1), 2_000),
     );
     let (counts, served) = thread::join(
         &rt,
@@ -135,15 +144,12 @@ fn idle_connections(rt: HostRuntime) -> Result<(), Fail> {
     let alloc = rt.alloc();
     let port = free_port(&rt)?;
     let config = config(port);
-    let mut serve = RealServe::with_limits(
+    let mut serve = RealServe::with_starts(
         Box::new(alloc, move |config: &SchedulerConfig, start| {
             serve_scheduler(&rt, alloc, config, start)
         })?,
         Box::new(alloc, |_config: &ServerConfig, _start| Err(StartFault))?,
-        SplitMix64::seed_from_u64(1),
-        1,
-        Some(1 + IDLE + ASKED),
-        1_000,
+        starts(Some(1 + IDLE + ASKED), 1_000),
     );
     let (answered, served) = thread::join(
         &rt,

@@ -1,6 +1,6 @@
 //! The build server over loopback.
 use crate::calls::STATUS;
-use crate::loopback::free_port;
+use crate::loopback::{free_port, starts};
 use dist_config::config::{SchedulerConfig, ServerConfig};
 use dist_config::serve::Serve;
 use dist_http::real_serve::RealServe;
@@ -55,15 +55,12 @@ fn one_not_found(rt: HostRuntime) -> Result<(), Fail> {
     let alloc = rt.alloc();
     let port = free_port(&rt)?;
     let config = config(alloc, "/tmp/sccache-dist-test", port)?;
-    let mut serve = RealServe::with_limits(
+    let mut serve = RealServe::with_starts(
         Box::new(alloc, |_config: &SchedulerConfig, _start| Err(StartFault))?,
         Box::new(alloc, move |config: &ServerConfig, start| {
             serve_server(&rt, alloc, config, start)
         })?,
-        SplitMix64::seed_from_u64(1),
-        1,
-        Some(1),
-        2_000,
+        starts(Some(1), 2_000),
     );
     let (reply, served) = thread::join(&rt, || reply(&rt, alloc, port), || serve.server(&config));
     assert_eq!(&rt; served, Ok(()));

@@ -7,8 +7,8 @@ mod bench;
 mod fault;
 mod files;
 mod folders;
+mod lines;
 mod puts;
-mod steps;
 mod sweep;
 mod words;
 
@@ -36,7 +36,7 @@ fn take_line<M: Folders>(
     line: &str,
 ) -> Result<String, Fault> {
     let folder = folders.make()?;
-    steps::take(alloc, bench, folder, line)
+    lines::take(alloc, bench, folder, line)
 }
 
 /// Takes each step, and puts down what came of it.

@@ -3,15 +3,17 @@ use Rattle.lru_disk_cache.specs.Files.{without}
 use Rattle.lru_disk_cache.specs.Held.{Holds, Lacks, Became}
 use Rattle.lru_disk_cache.specs.Entries.{total}
 use Rattle.lru_disk_cache.specs.Disk.{ButAt, Keeps}
-use Rattle.lru_disk_cache.specs.Reserved.{IsReserved, KeepsReserved, held_size, is_pending, without_number}
+use Rattle.lru_disk_cache.specs.Reserved.{KeepsReserved, held_size, is_pending, without_number}
 use Rattle.lru_disk_cache.specs.Adding.{entry_path, abandoned, AbandonFails}
 use Rattle.lru_disk_cache.proofs.Fills.{on_ok, counts_ok, keeps_avoided, temp_avoids, stands_kept}
 use Rattle.lru_disk_cache.proofs.Standing.{none_lost}
 use Rattle.lru_disk_cache.proofs.Stores.{closed_store}
-use Rattle.lru_disk_cache.proofs.Reserving.{temp_found, temp_none, none_reserved, at_reserved, none_without}
-use Rattle.lru_disk_cache.proofs.Reserving.{all_without, held_without, closed_ok, closed_fails}
+use Rattle.lru_disk_cache.proofs.Others.{others_at}
+use Rattle.lru_disk_cache.proofs.Reserving.{temp_found, temp_none, none_reserved, held_without, closed_ok}
+use Rattle.lru_disk_cache.proofs.Reserving.{closed_fails}
 use Rattle.lru_disk_cache.specs.Store.{DiskInStep}
 use Rattle.lru_disk_cache.proofs.DiskSteps.{step_abandoned}
+use Rattle.lru_disk_cache.proofs.Insides.{disk_of}
 use Rattle.lru_disk_cache.proofs.cache.LruDiskCache.abandon.Goals as goal
 
 pub returns-in_default-clause-fails : goal.returns-in_default-clause-fails
@@ -51,12 +53,9 @@ invariant_of-self g c =
     (g.F.Folder.held c.self.inside.folder).files (g.F.Folder.held c.remove_at-answer.new.folder).files
     (temp_avoids c.self.inside.root c.in-Some.temp.now c.args.entry.number c.self.inside.table.entries t.2
     t.0 c.self.invariant.stands.keys) c.remove_at-answer.ensures.others)) fits
-    (at_reserved c.self.inside.root c.in-Some.temp.now c.args.entry.number
-    (without_number c.args.entry.number c.self.inside.pending)
-    (g.F.Folder.held c.self.inside.folder).files (g.F.Folder.held c.remove_at-answer.new.folder).files t.0
-    t.2 (none_without c.args.entry.number c.self.inside.pending)
-    (all_without (IsReserved c.self.inside.root) c.args.entry.number c.self.inside.pending
-    c.self.invariant.reserved) c.remove_at-answer.ensures.others)
+    (others_at c.self.inside.root c.in-Some.temp.now c.args.entry.number c.self.inside.pending
+    (g.F.Folder.held c.self.inside.folder).files (g.F.Folder.held c.remove_at-answer.new.folder).files t.0 t.2
+    c.self.invariant.reserved c.remove_at-answer.ensures.others)
 
 pub returns-clause-stands : goal.returns-clause-stands
 returns-clause-stands g c = invariant_of-self g c
@@ -64,22 +63,10 @@ returns-clause-stands g c = invariant_of-self g c
 pub returns-clause-ok : goal.returns-clause-ok
 returns-clause-ok g c =
     subst (λ s. OnOk c.closed.result
-    ((record {
-      path = c.self.inside.path;
-      root = c.self.inside.root;
-      capacity = c.self.inside.table.capacity;
-      entries = c.self.inside.table.entries;
-      pending =
-          c.settle.new.self;
-    }) ≡ abandoned s.disk c.args.entry)) c.self.view_is
+    ((disk_of c.self.inside.path c.self.inside.root c.self.inside.table c.settle.new.self)
+    ≡ abandoned s.disk c.args.entry)) c.self.view_is
     (on_ok c.closed.result (ap
-    (λ ps. record {
-      path = c.self.inside.path;
-      root = c.self.inside.root;
-      capacity = c.self.inside.table.capacity;
-      entries = c.self.inside.table.entries;
-      pending = ps;
-    })
+    (λ ps. disk_of c.self.inside.path c.self.inside.root c.self.inside.table ps)
     (c.settle.ensures ∙ ap (λ n. without_number n c.self.inside.pending) c.spend.ensures)))
 
 pub returns-clause-pending : goal.returns-clause-pending
@@ -119,40 +106,15 @@ returns-clause-fails g c =
     c.self.invariant.reserved (sym c.in-Some.ensures.temp) in
     subst (λ s. IfErr c.closed.result
     (λ x. AbandonFails c.args.entry x.0 x.1 s.disk
-    (record {
-      path = c.self.inside.path;
-      root = c.self.inside.root;
-      capacity = c.self.inside.table.capacity;
-      entries = c.self.inside.table.entries;
-      pending =
-          c.settle.new.self;
-    }) (g.F.Folder.held s.folder) (g.F.Folder.held c.remove_at-answer.new.folder)))
+    (disk_of c.self.inside.path c.self.inside.root c.self.inside.table c.settle.new.self)
+    (g.F.Folder.held s.folder) (g.F.Folder.held c.remove_at-answer.new.folder)))
     c.self.view_is (closed_fails c.args.entry
-    (record {
-      path = c.self.inside.path;
-      root = c.self.inside.root;
-      capacity = c.self.inside.table.capacity;
-      entries = c.self.inside.table.entries;
-      pending =
-          c.self.inside.pending;
-    })
-    (record {
-      path = c.self.inside.path;
-      root = c.self.inside.root;
-      capacity = c.self.inside.table.capacity;
-      entries = c.self.inside.table.entries;
-      pending =
-          c.settle.new.self;
-    }) c.remove_at-answer.result c.closed.result (g.F.Folder.held c.self.inside.folder)
+    (disk_of c.self.inside.path c.self.inside.root c.self.inside.table c.self.inside.pending)
+    (disk_of c.self.inside.path c.self.inside.root c.self.inside.table c.settle.new.self)
+    c.remove_at-answer.result c.closed.result (g.F.Folder.held c.self.inside.folder)
     (g.F.Folder.held c.remove_at-answer.new.folder) c.closed.ensures c.remove_at-answer.ensures.found
     c.remove_at-answer.ensures.counts
-    (ap (λ ps. record {
-      path = c.self.inside.path;
-      root = c.self.inside.root;
-      capacity = c.self.inside.table.capacity;
-      entries = c.self.inside.table.entries;
-      pending = ps;
-    })
+    (ap (λ ps. disk_of c.self.inside.path c.self.inside.root c.self.inside.table ps)
     (c.settle.ensures ∙ ap (λ n. without_number n c.self.inside.pending) c.spend.ensures)) t.1)
 
 pub returns-clause-steady : goal.returns-clause-steady
@@ -190,12 +152,9 @@ returns-clause-reserved g c =
     c.self.invariant.reserved (sym c.in-Some.ensures.temp) in
     subst (λ s. Became (KeepsReserved (without_number c.args.entry.number s.disk.pending))
     (g.F.Folder.held s.folder).files (g.F.Folder.held c.remove_at-answer.new.folder).files) c.self.view_is
-    (at_reserved c.self.inside.root c.in-Some.temp.now c.args.entry.number
-    (without_number c.args.entry.number c.self.inside.pending)
-    (g.F.Folder.held c.self.inside.folder).files (g.F.Folder.held c.remove_at-answer.new.folder).files t.0
-    t.2 (none_without c.args.entry.number c.self.inside.pending)
-    (all_without (IsReserved c.self.inside.root) c.args.entry.number c.self.inside.pending
-    c.self.invariant.reserved) c.remove_at-answer.ensures.others)
+    (others_at c.self.inside.root c.in-Some.temp.now c.args.entry.number c.self.inside.pending
+    (g.F.Folder.held c.self.inside.folder).files (g.F.Folder.held c.remove_at-answer.new.folder).files t.0 t.2
+    c.self.invariant.reserved c.remove_at-answer.ensures.others)
 
 pub returns-clause-in_step : goal.returns-clause-in_step
 returns-clause-in_step g c =
@@ -203,23 +162,10 @@ returns-clause-in_step g c =
     c.self.invariant.reserved (sym c.in-Some.ensures.temp) in
     subst (λ s. DiskInStep (g.F.Folder.held s.folder) s.disk
     → OnOk c.closed.result (DiskInStep (g.F.Folder.held c.remove_at-answer.new.folder)
-    (record {
-      path = c.self.inside.path;
-      root = c.self.inside.root;
-      capacity = c.self.inside.table.capacity;
-      entries = c.self.inside.table.entries;
-      pending =
-          c.self.inside.pending;
-    }))) c.self.view_is
+    (disk_of c.self.inside.path c.self.inside.root c.self.inside.table c.self.inside.pending))) c.self.view_is
     (step_abandoned c.closed.result
-    (record {
-      path = c.self.inside.path;
-      root = c.self.inside.root;
-      capacity = c.self.inside.table.capacity;
-      entries = c.self.inside.table.entries;
-      pending =
-          c.self.inside.pending;
-    }) (g.F.Folder.held c.self.inside.folder)
+    (disk_of c.self.inside.path c.self.inside.root c.self.inside.table c.self.inside.pending)
+    (g.F.Folder.held c.self.inside.folder)
     (g.F.Folder.held c.remove_at-answer.new.folder) c.in-Some.temp.now c.args.entry.number t.0 t.2
     (closed_ok (Became (λ old new. new ≡ without c.in-Some.temp.now old)
     (g.F.Folder.held c.self.inside.folder).files (g.F.Folder.held c.remove_at-answer.new.folder).files)

@@ -3,12 +3,12 @@ use Rattle.lru_disk_cache.specs.Files.{size_at}
 use Rattle.lru_disk_cache.specs.Held.{Became}
 use Rattle.lru_disk_cache.specs.Key.{is_key, temp_name}
 use Rattle.lru_disk_cache.specs.Entries.{Listed, total}
-use Rattle.lru_disk_cache.specs.Reserved.{IsReserved, KeepsReserved, held_size, without_number}
+use Rattle.lru_disk_cache.specs.Reserved.{KeepsReserved, held_size, without_number}
 use Rattle.lru_disk_cache.specs.Store.{Disk}
 use Rattle.lru_disk_cache.specs.Adding.{HasSize}
 use Rattle.lru_disk_cache.proofs.Asides.{keeps_equal, reserved_equal}
 use Rattle.lru_disk_cache.proofs.Fills.{temp_apart, temp_avoided}
-use Rattle.lru_disk_cache.proofs.Reserving.{these_reserved, none_without, all_without}
+use Rattle.lru_disk_cache.proofs.Others.{others_these}
 use Rattle.lru_disk_cache.proofs.Stores.{stored_fits, closed_store, broken_store}
 use Rattle.lru_disk_cache.proofs.DiskSteps.{step_committed}
 use Rattle.lru_disk_cache.proofs.cache.LruDiskCache.commit_entry.Goals as goal
@@ -86,15 +86,12 @@ invariant_of-self g c =
     closed_store c.self.inside.path c.self.inside.root c.self.inside.pending c.settle.new.self
     c.number-number.result (g.F.Folder.held c.self.inside.folder) (g.F.Folder.held c.fill.new.folder)
     c.self.inside.table c.fill.new.table c.self.invariant c.settle.ensures c.fill.ensures.stands fits
-    (these_reserved c.self.inside.root c.in-Ok-arrival_of.arrival.from c.in-Ok-arrival_of.arrival.path
-    c.key.result.now c.self.inside.table.entries c.number-number.result
-    (without_number c.number-number.result c.self.inside.pending)
+    (others_these c.self.inside.root c.in-Ok-arrival_of.arrival.from c.in-Ok-arrival_of.arrival.path
+    c.key.result.now c.self.inside.table.entries c.number-number.result c.self.inside.pending
     (g.F.Folder.held c.self.inside.folder).files (g.F.Folder.held c.fill.new.folder).files
-    c.in-Ok-arrival_of.ensures.from c.in-Ok-arrival_of.ensures.number
-    (none_without c.number-number.result c.self.inside.pending) c.in-Ok-arrival_of.ensures.path
+    c.in-Ok-arrival_of.ensures.from c.in-Ok-arrival_of.ensures.number c.in-Ok-arrival_of.ensures.path
     (ap is_key c.key.ensures.key ∙ c.in-Ok.ensures.key) c.self.invariant.stands.keys
-    (all_without (IsReserved c.self.inside.root) c.number-number.result c.self.inside.pending
-    c.self.invariant.reserved) c.fill.ensures.untouched)
+    c.self.invariant.reserved c.fill.ensures.untouched)
 
 pub returns-in-Ok-fill-clause-stands : goal.returns-in-Ok-fill-clause-stands
 returns-in-Ok-fill-clause-stands g c = invariant_of-self g c
@@ -110,15 +107,12 @@ returns-in-Ok-fill-clause-reserved g c =
     (g.F.Folder.held s.folder).files (g.F.Folder.held c.fill.new.folder).files) c.self.view_is
     (subst (λ n. Became (KeepsReserved (without_number n c.self.inside.pending))
     (g.F.Folder.held c.self.inside.folder).files (g.F.Folder.held c.fill.new.folder).files)
-    c.number-number.ensures (these_reserved c.self.inside.root c.in-Ok-arrival_of.arrival.from
-    c.in-Ok-arrival_of.arrival.path c.key.result.now c.self.inside.table.entries c.number-number.result
-    (without_number c.number-number.result c.self.inside.pending)
+    c.number-number.ensures (others_these c.self.inside.root c.in-Ok-arrival_of.arrival.from c.in-Ok-arrival_of.arrival.path
+    c.key.result.now c.self.inside.table.entries c.number-number.result c.self.inside.pending
     (g.F.Folder.held c.self.inside.folder).files (g.F.Folder.held c.fill.new.folder).files
-    c.in-Ok-arrival_of.ensures.from c.in-Ok-arrival_of.ensures.number
-    (none_without c.number-number.result c.self.inside.pending) c.in-Ok-arrival_of.ensures.path
+    c.in-Ok-arrival_of.ensures.from c.in-Ok-arrival_of.ensures.number c.in-Ok-arrival_of.ensures.path
     (ap is_key c.key.ensures.key ∙ c.in-Ok.ensures.key) c.self.invariant.stands.keys
-    (all_without (IsReserved c.self.inside.root) c.number-number.result c.self.inside.pending
-    c.self.invariant.reserved) c.fill.ensures.untouched))))
+    c.self.invariant.reserved c.fill.ensures.untouched))))
 
 pub invariant_of-self-in-Err-fill : goal.invariant_of-self-in-Err-fill
 invariant_of-self-in-Err-fill g c =
@@ -126,15 +120,12 @@ invariant_of-self-in-Err-fill g c =
     c.number-number.result c.in-Ok-arrival_of.arrival.limit c.in-Ok-arrival_of.arrival.key
     (g.F.Folder.held c.self.inside.folder) (g.F.Folder.held c.fill.new.folder) c.self.inside.table
     c.fill.new.table c.self.invariant c.doubt.ensures c.in-Err-fill.ensures.err c.fill.ensures.stands
-    (these_reserved c.self.inside.root c.in-Ok-arrival_of.arrival.from c.in-Ok-arrival_of.arrival.path
-    c.key.result.now c.self.inside.table.entries c.number-number.result
-    (without_number c.number-number.result c.self.inside.pending)
+    (others_these c.self.inside.root c.in-Ok-arrival_of.arrival.from c.in-Ok-arrival_of.arrival.path
+    c.key.result.now c.self.inside.table.entries c.number-number.result c.self.inside.pending
     (g.F.Folder.held c.self.inside.folder).files (g.F.Folder.held c.fill.new.folder).files
-    c.in-Ok-arrival_of.ensures.from c.in-Ok-arrival_of.ensures.number
-    (none_without c.number-number.result c.self.inside.pending) c.in-Ok-arrival_of.ensures.path
+    c.in-Ok-arrival_of.ensures.from c.in-Ok-arrival_of.ensures.number c.in-Ok-arrival_of.ensures.path
     (ap is_key c.key.ensures.key ∙ c.in-Ok.ensures.key) c.self.invariant.stands.keys
-    (all_without (IsReserved c.self.inside.root) c.number-number.result c.self.inside.pending
-    c.self.invariant.reserved) c.fill.ensures.untouched)
+    c.self.invariant.reserved c.fill.ensures.untouched)
 
 pub returns-clause-stands : goal.returns-clause-stands
 returns-clause-stands g c =
@@ -142,15 +133,12 @@ returns-clause-stands g c =
     c.number-number.result c.in-Ok-arrival_of.arrival.limit c.in-Ok-arrival_of.arrival.key
     (g.F.Folder.held c.self.inside.folder) (g.F.Folder.held c.fill.new.folder) c.self.inside.table
     c.fill.new.table c.self.invariant c.doubt.ensures c.in-Err-fill.ensures.err c.fill.ensures.stands
-    (these_reserved c.self.inside.root c.in-Ok-arrival_of.arrival.from c.in-Ok-arrival_of.arrival.path
-    c.key.result.now c.self.inside.table.entries c.number-number.result
-    (without_number c.number-number.result c.self.inside.pending)
+    (others_these c.self.inside.root c.in-Ok-arrival_of.arrival.from c.in-Ok-arrival_of.arrival.path
+    c.key.result.now c.self.inside.table.entries c.number-number.result c.self.inside.pending
     (g.F.Folder.held c.self.inside.folder).files (g.F.Folder.held c.fill.new.folder).files
-    c.in-Ok-arrival_of.ensures.from c.in-Ok-arrival_of.ensures.number
-    (none_without c.number-number.result c.self.inside.pending) c.in-Ok-arrival_of.ensures.path
+    c.in-Ok-arrival_of.ensures.from c.in-Ok-arrival_of.ensures.number c.in-Ok-arrival_of.ensures.path
     (ap is_key c.key.ensures.key ∙ c.in-Ok.ensures.key) c.self.invariant.stands.keys
-    (all_without (IsReserved c.self.inside.root) c.number-number.result c.self.inside.pending
-    c.self.invariant.reserved) c.fill.ensures.untouched)
+    c.self.invariant.reserved c.fill.ensures.untouched)
 
 pub returns-clause-reserved : goal.returns-clause-reserved
 returns-clause-reserved g c =
@@ -163,15 +151,12 @@ returns-clause-reserved g c =
     (g.F.Folder.held s.folder).files (g.F.Folder.held c.fill.new.folder).files) c.self.view_is
     (subst (λ n. Became (KeepsReserved (without_number n c.self.inside.pending))
     (g.F.Folder.held c.self.inside.folder).files (g.F.Folder.held c.fill.new.folder).files)
-    c.number-number.ensures (these_reserved c.self.inside.root c.in-Ok-arrival_of.arrival.from
-    c.in-Ok-arrival_of.arrival.path c.key.result.now c.self.inside.table.entries c.number-number.result
-    (without_number c.number-number.result c.self.inside.pending)
+    c.number-number.ensures (others_these c.self.inside.root c.in-Ok-arrival_of.arrival.from c.in-Ok-arrival_of.arrival.path
+    c.key.result.now c.self.inside.table.entries c.number-number.result c.self.inside.pending
     (g.F.Folder.held c.self.inside.folder).files (g.F.Folder.held c.fill.new.folder).files
-    c.in-Ok-arrival_of.ensures.from c.in-Ok-arrival_of.ensures.number
-    (none_without c.number-number.result c.self.inside.pending) c.in-Ok-arrival_of.ensures.path
+    c.in-Ok-arrival_of.ensures.from c.in-Ok-arrival_of.ensures.number c.in-Ok-arrival_of.ensures.path
     (ap is_key c.key.ensures.key ∙ c.in-Ok.ensures.key) c.self.invariant.stands.keys
-    (all_without (IsReserved c.self.inside.root) c.number-number.result c.self.inside.pending
-    c.self.invariant.reserved) c.fill.ensures.untouched))))
+    c.self.invariant.reserved c.fill.ensures.untouched))))
 
 pub returns-in-Ok-fill-clause-ok : goal.returns-in-Ok-fill-clause-ok
 returns-in-Ok-fill-clause-ok g c = search rules

@@ -7,6 +7,7 @@ use Rattle.lru_disk_cache.specs.Adding.{HasSize, WriteFails}
 use Rattle.lru_disk_cache.proofs.Asides.{store_equal}
 use Rattle.lru_disk_cache.proofs.Fills.{on_ok, if_same}
 use Rattle.lru_disk_cache.proofs.Reserving.{temp_found, temp_none, write_fails}
+use Rattle.lru_disk_cache.proofs.Insides.{disk_of}
 use Rattle.lru_disk_cache.proofs.cache.LruDiskCache.entry_size.Goals as goal
 
 pub returns-in_default-clause-fails : goal.returns-in_default-clause-fails
@@ -19,13 +20,7 @@ returns-in_default-clause-fails g c = (
 
 pub invariant_of-self : goal.invariant_of-self
 invariant_of-self g c = store_equal
-    (record {
-      path = c.self.inside.path;
-      root = c.self.inside.root;
-      capacity = c.self.inside.table.capacity;
-      entries = c.self.inside.table.entries;
-      pending = c.self.inside.pending;
-    })
+    (disk_of c.self.inside.path c.self.inside.root c.self.inside.table c.self.inside.pending)
     (g.F.Folder.held c.self.inside.folder) (g.F.Folder.held c.measure.new.folder) c.self.invariant
     c.measure.ensures.files
 
@@ -70,29 +65,10 @@ returns-clause-fails g c =
     c.self.invariant.reserved (sym c.in-Some.ensures.temp) in
     subst (λ s. IfErr c.measure.result
     (λ x. WriteFails c.args.entry.now x s.disk
-    (record {
-      path = c.self.inside.path;
-      root = c.self.inside.root;
-      capacity = c.self.inside.table.capacity;
-      entries = c.self.inside.table.entries;
-      pending =
-          c.self.inside.pending;
-    }) (g.F.Folder.held s.folder) (g.F.Folder.held c.measure.new.folder)))
+    (disk_of c.self.inside.path c.self.inside.root c.self.inside.table c.self.inside.pending)
+    (g.F.Folder.held s.folder) (g.F.Folder.held c.measure.new.folder)))
     c.self.view_is (write_fails c.args.entry.now
-    (record {
-      path = c.self.inside.path;
-      root = c.self.inside.root;
-      capacity = c.self.inside.table.capacity;
-      entries = c.self.inside.table.entries;
-      pending =
-          c.self.inside.pending;
-    })
-    (record {
-      path = c.self.inside.path;
-      root = c.self.inside.root;
-      capacity = c.self.inside.table.capacity;
-      entries = c.self.inside.table.entries;
-      pending =
-          c.self.inside.pending;
-    }) c.in-Some.temp.now c.measure.result (g.F.Folder.held c.self.inside.folder)
+    (disk_of c.self.inside.path c.self.inside.root c.self.inside.table c.self.inside.pending)
+    (disk_of c.self.inside.path c.self.inside.root c.self.inside.table c.self.inside.pending)
+    c.in-Some.temp.now c.measure.result (g.F.Folder.held c.self.inside.folder)
     (g.F.Folder.held c.measure.new.folder) c.self.invariant t.0 c.measure.ensures.fails)

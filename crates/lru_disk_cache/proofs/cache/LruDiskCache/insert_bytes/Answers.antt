@@ -4,6 +4,7 @@ use Rattle.lru_disk_cache.specs.Reserved.{held_size, KeepsReserved}
 use Rattle.lru_disk_cache.proofs.Reserving.{these_reserved}
 use Rattle.lru_disk_cache.proofs.Stores.{insert_store, stored_exact}
 use Rattle.lru_disk_cache.proofs.DiskSteps.{step_stored}
+use Rattle.lru_disk_cache.proofs.Insides.{disk_of}
 use Rattle.lru_disk_cache.proofs.cache.LruDiskCache.insert_bytes.Goals as goal
 
 pub invariant_of-self : goal.invariant_of-self
@@ -32,29 +33,7 @@ invariant_of-self g c =
     c.self.invariant.reserved c.store.ensures.untouched)
 
 pub returns-in-Ok-store-clause-stands : goal.returns-in-Ok-store-clause-stands
-returns-in-Ok-store-clause-stands g c =
-    let room : c.in-Ok-arrival_of.arrival.limit + c.in-Ok-arrival_of.arrival.size + held_size
-    c.self.inside.pending ≤ c.self.inside.table.capacity =
-    omega (
-      arith,
-      c.in-Ok-arrival_of.ensures.key.1,
-      c.in-Ok-arrival_of.ensures.key.2,
-      c.room_beside-limit.ensures,
-      c.in-Ok.ensures.room,
-      ap (λ s. held_size s.disk.pending) c.self.view_is,
-      ap (λ s. s.disk.capacity) c.self.view_is,
-    ) in
-    insert_store c.self.inside.path c.self.inside.root c.self.inside.pending
-    (g.F.Folder.held c.store.new.folder) (g.F.Folder.held c.self.inside.folder)
-    c.in-Ok-arrival_of.arrival.key c.in-Ok-arrival_of.arrival.size c.in-Ok-arrival_of.arrival.limit
-    c.self.inside.table c.store.new.table c.store.result c.self.invariant room c.store.ensures.ok
-    c.store.ensures.err c.store.ensures.stands
-    (these_reserved c.self.inside.root c.in-Ok-arrival_of.arrival.from c.in-Ok-arrival_of.arrival.path
-    c.args.key.now c.self.inside.table.entries c.least_free.result c.self.inside.pending
-    (g.F.Folder.held c.self.inside.folder).files (g.F.Folder.held c.store.new.folder).files
-    c.in-Ok-arrival_of.ensures.from c.in-Ok-arrival_of.ensures.number c.least_free.ensures.free
-    c.in-Ok-arrival_of.ensures.path c.in-Ok.ensures.key c.self.invariant.stands.keys
-    c.self.invariant.reserved c.store.ensures.untouched)
+returns-in-Ok-store-clause-stands g c = invariant_of-self g c
 
 pub invariant_of-self-2 : goal.invariant_of-self-2
 invariant_of-self-2 g c =
@@ -82,41 +61,13 @@ invariant_of-self-2 g c =
     c.self.invariant.reserved c.store.ensures.untouched)
 
 pub returns-clause-stands : goal.returns-clause-stands
-returns-clause-stands g c =
-    let room : c.in-Ok-arrival_of.arrival.limit + c.in-Ok-arrival_of.arrival.size + held_size
-    c.self.inside.pending ≤ c.self.inside.table.capacity =
-    omega (
-      arith,
-      c.in-Ok-arrival_of.ensures.key.1,
-      c.in-Ok-arrival_of.ensures.key.2,
-      c.room_beside-limit.ensures,
-      c.in-Ok.ensures.room,
-      ap (λ s. held_size s.disk.pending) c.self.view_is,
-      ap (λ s. s.disk.capacity) c.self.view_is,
-    ) in
-    insert_store c.self.inside.path c.self.inside.root c.self.inside.pending
-    (g.F.Folder.held c.store.new.folder) (g.F.Folder.held c.self.inside.folder)
-    c.in-Ok-arrival_of.arrival.key c.in-Ok-arrival_of.arrival.size c.in-Ok-arrival_of.arrival.limit
-    c.self.inside.table c.store.new.table c.store.result c.self.invariant room c.store.ensures.ok
-    c.store.ensures.err c.store.ensures.stands
-    (these_reserved c.self.inside.root c.in-Ok-arrival_of.arrival.from c.in-Ok-arrival_of.arrival.path
-    c.args.key.now c.self.inside.table.entries c.least_free.result c.self.inside.pending
-    (g.F.Folder.held c.self.inside.folder).files (g.F.Folder.held c.store.new.folder).files
-    c.in-Ok-arrival_of.ensures.from c.in-Ok-arrival_of.ensures.number c.least_free.ensures.free
-    c.in-Ok-arrival_of.ensures.path c.in-Ok.ensures.key c.self.invariant.stands.keys
-    c.self.invariant.reserved c.store.ensures.untouched)
+returns-clause-stands g c = invariant_of-self-2 g c
 
 pub returns-in-Ok-store-clause-exact : goal.returns-in-Ok-store-clause-exact
 returns-in-Ok-store-clause-exact g c =
     stored_exact g.F.Folder.held c.self.inside.folder
-    (record {
-      path = c.self.inside.path;
-      root = c.self.inside.root;
-      capacity = c.self.inside.table.capacity;
-      entries = c.self.inside.table.entries;
-      pending =
-          c.self.inside.pending;
-    }) c.args.self.now (g.F.Folder.held c.store.new.folder)
+    (disk_of c.self.inside.path c.self.inside.root c.self.inside.table c.self.inside.pending)
+    c.args.self.now (g.F.Folder.held c.store.new.folder)
     c.in-Ok-arrival_of.arrival.from c.in-Ok-arrival_of.arrival.path c.in-Ok-arrival_of.arrival.key
     c.args.key.now c.args.bytes.now c.in-Ok-arrival_of.arrival.limit
     c.self.view_is c.in-Ok-arrival_of.ensures.temp c.in-Ok-arrival_of.ensures.path

@@ -1,15 +1,10 @@
 use Rattle.lru_disk_cache.proofs.Asides.{store_equal}
+use Rattle.lru_disk_cache.proofs.Insides.{disk_of}
 use Rattle.lru_disk_cache.proofs.cache.LruDiskCache.path_size.Goals as goal
 
 pub invariant_of-self : goal.invariant_of-self
 invariant_of-self g c = store_equal
-    (record {
-      path = c.self.inside.path;
-      root = c.self.inside.root;
-      capacity = c.self.inside.table.capacity;
-      entries = c.self.inside.table.entries;
-      pending = c.self.inside.pending;
-    })
+    (disk_of c.self.inside.path c.self.inside.root c.self.inside.table c.self.inside.pending)
     (g.F.Folder.held c.self.inside.folder) (g.F.Folder.held c.measure.new.folder) c.self.invariant
     c.measure.ensures.files
 

@@ -1,17 +1,12 @@
 use Rattle.lru_disk_cache.specs.Held.{Lacks}
 use Rattle.lru_disk_cache.proofs.Asides.{below_store, below_same}
+use Rattle.lru_disk_cache.proofs.Insides.{disk_of}
 use Rattle.lru_disk_cache.proofs.cache.LruDiskCache.read_aside.Goals as goal
 
 pub invariant_of-self : goal.invariant_of-self
 invariant_of-self g c =
-    below_store (record {
-      path = c.self.inside.path;
-      root = c.self.inside.root;
-      capacity = c.self.inside.table.capacity;
-      entries = c.self.inside.table.entries;
-      pending =
-          c.self.inside.pending;
-    }) (g.F.Folder.held c.self.inside.folder)
+    below_store (disk_of c.self.inside.path c.self.inside.root c.self.inside.table c.self.inside.pending)
+    (g.F.Folder.held c.self.inside.folder)
     (g.F.Folder.held c.read.new.self) c.self.invariant
     (below_same c.self.inside.root (Lacks c.args.path.now) c.read.result
     (g.F.Folder.held c.self.inside.folder) (g.F.Folder.held c.read.new.self) c.read.ensures.leaves)

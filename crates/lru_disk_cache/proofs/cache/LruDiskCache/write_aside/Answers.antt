@@ -1,19 +1,14 @@
 use Rattle.std.proofs.Common.{sym, subst}
 use Rattle.lru_disk_cache.specs.Disk.{IsOutside}
 use Rattle.lru_disk_cache.proofs.Asides.{below_store, below_wrote}
+use Rattle.lru_disk_cache.proofs.Insides.{disk_of}
 use Rattle.lru_disk_cache.proofs.cache.LruDiskCache.write_aside.Goals as goal
 
 pub invariant_of-self : goal.invariant_of-self
 invariant_of-self g c =
     let away = subst (λ s. IsOutside s.disk.path c.args.path.now) (sym c.self.view_is) c.requires in
-    below_store (record {
-      path = c.self.inside.path;
-      root = c.self.inside.root;
-      capacity = c.self.inside.table.capacity;
-      entries = c.self.inside.table.entries;
-      pending =
-          c.self.inside.pending;
-    }) (g.F.Folder.held c.self.inside.folder)
+    below_store (disk_of c.self.inside.path c.self.inside.root c.self.inside.table c.self.inside.pending)
+    (g.F.Folder.held c.self.inside.folder)
     (g.F.Folder.held c.write.new.self) c.self.invariant
     (below_wrote c.self.inside.root c.self.inside.path c.args.path.now c.args.bytes.now c.write.result
     (g.F.Folder.held c.self.inside.folder) (g.F.Folder.held c.write.new.self) c.self.invariant.root away

@@ -2,14 +2,15 @@ use Rattle.std.proofs.Common.{◌≡◌, true, false, IfErr, OnOk, OnErr, refl, 
 use Rattle.lru_disk_cache.specs.Files.{appended, PartAppended}
 use Rattle.lru_disk_cache.specs.Held.{Became, BecameBy}
 use Rattle.lru_disk_cache.specs.Disk.{ButAt, Keeps}
-use Rattle.lru_disk_cache.specs.Reserved.{IsReserved, KeepsReserved, is_pending, without_number}
+use Rattle.lru_disk_cache.specs.Reserved.{KeepsReserved, is_pending, without_number}
 use Rattle.lru_disk_cache.specs.Adding.{entry_path, WriteFails}
 use Rattle.lru_disk_cache.proofs.Fills.{on_ok, keeps_avoided, temp_avoids}
 use Rattle.lru_disk_cache.proofs.Standing.{none_lost}
 use Rattle.lru_disk_cache.proofs.Reserving.{temp_found, temp_none, write_fails, none_reserved, added_store}
-use Rattle.lru_disk_cache.proofs.Reserving.{at_reserved, none_without, all_without}
+use Rattle.lru_disk_cache.proofs.Others.{others_at}
 use Rattle.lru_disk_cache.specs.Store.{DiskInStep}
 use Rattle.lru_disk_cache.proofs.DiskSteps.{step_appended}
+use Rattle.lru_disk_cache.proofs.Insides.{disk_of}
 use Rattle.lru_disk_cache.proofs.cache.LruDiskCache.write_entry.Goals as goal
 
 pub returns-in_default-clause-fails : goal.returns-in_default-clause-fails
@@ -33,14 +34,8 @@ pub invariant_of-self : goal.invariant_of-self
 invariant_of-self g c =
     let t = temp_found c.self.inside.root c.in-Some.temp.now c.args.entry.now c.self.inside.pending
     c.self.invariant.reserved (sym c.in-Some.ensures.temp) in
-    added_store (record {
-      path = c.self.inside.path;
-      root = c.self.inside.root;
-      capacity = c.self.inside.table.capacity;
-      entries = c.self.inside.table.entries;
-      pending =
-          c.self.inside.pending;
-    }) c.in-Some.temp.now c.args.entry.now.number
+    added_store (disk_of c.self.inside.path c.self.inside.root c.self.inside.table c.self.inside.pending)
+    c.in-Some.temp.now c.args.entry.now.number
     (g.F.Folder.held c.self.inside.folder) (g.F.Folder.held c.add_to.new.folder) c.self.invariant t.0 t.2
     c.add_to.ensures.others c.add_to.ensures.there
 
@@ -52,7 +47,7 @@ returns-clause-ok g c =
     let t = temp_found c.self.inside.root c.in-Some.temp.now c.args.entry.now c.self.inside.pending
     c.self.invariant.reserved (sym c.in-Some.ensures.temp) in
     subst (λ s. OnOk c.add_to.result (BecameBy
-        (appended (entry_path s.disk c.args.entry.now) c.args.bytes.now)
+    (appended (entry_path s.disk c.args.entry.now) c.args.bytes.now)
     (g.F.Folder.held s.folder).files (g.F.Folder.held c.add_to.new.folder).files)) c.self.view_is
     (subst (λ p. OnOk c.add_to.result
     (BecameBy (appended p c.args.bytes.now) (g.F.Folder.held c.self.inside.folder).files
@@ -82,31 +77,12 @@ returns-clause-fails g c =
     c.self.invariant.reserved (sym c.in-Some.ensures.temp) in
     subst (λ s. IfErr c.add_to.result
     (λ x. WriteFails c.args.entry.now x s.disk
-    (record {
-      path = c.self.inside.path;
-      root = c.self.inside.root;
-      capacity = c.self.inside.table.capacity;
-      entries = c.self.inside.table.entries;
-      pending =
-          c.self.inside.pending;
-    }) (g.F.Folder.held s.folder) (g.F.Folder.held c.add_to.new.folder)))
+    (disk_of c.self.inside.path c.self.inside.root c.self.inside.table c.self.inside.pending)
+    (g.F.Folder.held s.folder) (g.F.Folder.held c.add_to.new.folder)))
     c.self.view_is (write_fails c.args.entry.now
-    (record {
-      path = c.self.inside.path;
-      root = c.self.inside.root;
-      capacity = c.self.inside.table.capacity;
-      entries = c.self.inside.table.entries;
-      pending =
-          c.self.inside.pending;
-    })
-    (record {
-      path = c.self.inside.path;
-      root = c.self.inside.root;
-      capacity = c.self.inside.table.capacity;
-      entries = c.self.inside.table.entries;
-      pending =
-          c.self.inside.pending;
-    }) c.in-Some.temp.now c.add_to.result (g.F.Folder.held c.self.inside.folder)
+    (disk_of c.self.inside.path c.self.inside.root c.self.inside.table c.self.inside.pending)
+    (disk_of c.self.inside.path c.self.inside.root c.self.inside.table c.self.inside.pending)
+    c.in-Some.temp.now c.add_to.result (g.F.Folder.held c.self.inside.folder)
     (g.F.Folder.held c.add_to.new.folder) c.self.invariant t.0 c.add_to.ensures.fails)
 
 pub returns-clause-others : goal.returns-clause-others
@@ -135,12 +111,9 @@ returns-clause-reserved g c =
     c.self.invariant.reserved (sym c.in-Some.ensures.temp) in
     subst (λ s. Became (KeepsReserved (without_number c.args.entry.now.number s.disk.pending))
     (g.F.Folder.held s.folder).files (g.F.Folder.held c.add_to.new.folder).files) c.self.view_is
-    (at_reserved c.self.inside.root c.in-Some.temp.now c.args.entry.now.number
-    (without_number c.args.entry.now.number c.self.inside.pending)
+    (others_at c.self.inside.root c.in-Some.temp.now c.args.entry.now.number c.self.inside.pending
     (g.F.Folder.held c.self.inside.folder).files (g.F.Folder.held c.add_to.new.folder).files t.0 t.2
-    (none_without c.args.entry.now.number c.self.inside.pending)
-    (all_without (IsReserved c.self.inside.root) c.args.entry.now.number c.self.inside.pending
-    c.self.invariant.reserved) c.add_to.ensures.others)
+    c.self.invariant.reserved c.add_to.ensures.others)
 
 pub returns-clause-in_step : goal.returns-clause-in_step
 returns-clause-in_step g c =
@@ -148,21 +121,8 @@ returns-clause-in_step g c =
     c.self.invariant.reserved (sym c.in-Some.ensures.temp) in
     subst (λ s. DiskInStep (g.F.Folder.held s.folder) s.disk
     → OnOk c.add_to.result (DiskInStep (g.F.Folder.held c.add_to.new.folder)
-    (record {
-      path = c.self.inside.path;
-      root = c.self.inside.root;
-      capacity = c.self.inside.table.capacity;
-      entries = c.self.inside.table.entries;
-      pending =
-          c.self.inside.pending;
-    }))) c.self.view_is
+    (disk_of c.self.inside.path c.self.inside.root c.self.inside.table c.self.inside.pending))) c.self.view_is
     (step_appended c.add_to.result
-    (record {
-      path = c.self.inside.path;
-      root = c.self.inside.root;
-      capacity = c.self.inside.table.capacity;
-      entries = c.self.inside.table.entries;
-      pending =
-          c.self.inside.pending;
-    }) (g.F.Folder.held c.self.inside.folder) (g.F.Folder.held c.add_to.new.folder)
+    (disk_of c.self.inside.path c.self.inside.root c.self.inside.table c.self.inside.pending)
+    (g.F.Folder.held c.self.inside.folder) (g.F.Folder.held c.add_to.new.folder)
     c.in-Some.temp.now c.args.bytes.now c.args.entry.now.number t.0 t.2 c.add_to.ensures.ok)

@@ -5,9 +5,9 @@ use Rattle.lru_disk_cache.specs.Disk.{ButUnder}
 use Rattle.lru_disk_cache.specs.Archives.{archive_path, opened_archives, paths_under, IsInStep}
 use Rattle.lru_disk_cache.specs.Archiving.{Relists}
 use Rattle.lru_disk_cache.specs.Cleaned.{are_archive_keys}
-use Rattle.lru_disk_cache.specs.Keyed.{unkeyed}
 use Rattle.lru_disk_cache.proofs.OverFolder.{hold_new, opened_new, relists_new, keys_new, in_step_new}
 use Rattle.lru_disk_cache.proofs.OverFolder.{cleared_new, outside_new, made_ok, made_fails}
+use Rattle.lru_disk_cache.proofs.Insides.{archives_of}
 use Rattle.lru_disk_cache.proofs.tc_cache.TcCache.new.Goals as goal
 
 pub over-requires-clause-hold : goal.over-requires-clause-hold
@@ -22,12 +22,7 @@ returns-in-Ok-new-clause-opened g c =
     made_ok (λ t. Holds (g.F.Folder.held c.args.folder)
     (λ files. t.archives ≡ opened_archives c.args.cache_dir.now c.args.cache_size files))
     (are_archive_keys c.in-Ok-new.cache.disk.entries ≡ true)
-    (record {
-      path = c.in-Ok-new.cache.disk.path;
-      capacity = c.in-Ok-new.cache.disk.capacity;
-      archives = unkeyed c.in-Ok-new.cache.disk.entries;
-      folder = c.in-Ok-new.cache.folder;
-    }) c.over.result
+    (archives_of c.in-Ok-new.cache.disk c.in-Ok-new.cache.folder) c.over.result
     c.over.ensures.ok c.over.ensures.keys
     (λ k. opened_new c.args.cache_dir.now c.in-Ok.root c.args.cache_size (g.F.Folder.held c.args.folder)
     (g.F.Folder.held c.clean.new.folder) (g.F.Folder.held c.in-Ok-new.cache.folder) c.in-Ok-new.cache.disk
@@ -38,12 +33,7 @@ returns-in-Ok-new-clause-relists g c =
     made_ok (λ t. Holds (g.F.Folder.held c.args.folder)
     (λ files. Relists c.args.cache_dir.now c.args.cache_size files t.archives))
     (are_archive_keys c.in-Ok-new.cache.disk.entries ≡ true)
-    (record {
-      path = c.in-Ok-new.cache.disk.path;
-      capacity = c.in-Ok-new.cache.disk.capacity;
-      archives = unkeyed c.in-Ok-new.cache.disk.entries;
-      folder = c.in-Ok-new.cache.folder;
-    }) c.over.result
+    (archives_of c.in-Ok-new.cache.disk c.in-Ok-new.cache.folder) c.over.result
     c.over.ensures.ok c.over.ensures.keys
     (λ k. relists_new c.args.cache_dir.now c.in-Ok.root c.args.cache_size (g.F.Folder.held c.args.folder)
     (g.F.Folder.held c.clean.new.folder) (g.F.Folder.held c.in-Ok-new.cache.folder) c.in-Ok-new.cache.disk
@@ -53,12 +43,7 @@ pub returns-in-Ok-new-clause-in_step : goal.returns-in-Ok-new-clause-in_step
 returns-in-Ok-new-clause-in_step g c =
     made_ok (λ t. IsInStep c.args.cache_dir.now (g.F.Folder.held t.folder) t.archives)
     (are_archive_keys c.in-Ok-new.cache.disk.entries ≡ true)
-    (record {
-      path = c.in-Ok-new.cache.disk.path;
-      capacity = c.in-Ok-new.cache.disk.capacity;
-      archives = unkeyed c.in-Ok-new.cache.disk.entries;
-      folder = c.in-Ok-new.cache.folder;
-    }) c.over.result
+    (archives_of c.in-Ok-new.cache.disk c.in-Ok-new.cache.folder) c.over.result
     c.over.ensures.ok c.over.ensures.keys
     (λ k. in_step_new c.args.cache_dir.now c.in-Ok.root c.args.cache_size (g.F.Folder.held c.args.folder)
     (g.F.Folder.held c.clean.new.folder) (g.F.Folder.held c.in-Ok-new.cache.folder) c.in-Ok-new.cache.disk
@@ -74,12 +59,7 @@ returns-in-Ok-new-clause-cleared g c =
     (λ files. paths_under c.args.cache_dir.now files ≡ map
     (λ (a : List ℕ × ℕ). archive_path c.args.cache_dir.now a.0) t.archives))
     (are_archive_keys c.in-Ok-new.cache.disk.entries ≡ true)
-    (record {
-      path = c.in-Ok-new.cache.disk.path;
-      capacity = c.in-Ok-new.cache.disk.capacity;
-      archives = unkeyed c.in-Ok-new.cache.disk.entries;
-      folder = c.in-Ok-new.cache.folder;
-    }) c.over.result
+    (archives_of c.in-Ok-new.cache.disk c.in-Ok-new.cache.folder) c.over.result
     c.over.ensures.ok c.over.ensures.keys
     (λ k. cleared_new c.args.cache_dir.now c.in-Ok.root c.args.cache_size (g.F.Folder.held c.args.folder)
     (g.F.Folder.held c.clean.new.folder) (g.F.Folder.held c.in-Ok-new.cache.folder) c.in-Ok-new.cache.disk
@@ -98,12 +78,7 @@ pub returns-in-Ok-new-clause-others : goal.returns-in-Ok-new-clause-others
 returns-in-Ok-new-clause-others g c =
     made_ok (λ t. Became (ButUnder (front c.args.cache_dir.now)) (g.F.Folder.held c.args.folder).files
     (g.F.Folder.held t.folder).files) (are_archive_keys c.in-Ok-new.cache.disk.entries ≡ true)
-    (record {
-      path = c.in-Ok-new.cache.disk.path;
-      capacity = c.in-Ok-new.cache.disk.capacity;
-      archives = unkeyed c.in-Ok-new.cache.disk.entries;
-      folder = c.in-Ok-new.cache.folder;
-    }) c.over.result
+    (archives_of c.in-Ok-new.cache.disk c.in-Ok-new.cache.folder) c.over.result
     c.over.ensures.ok c.over.ensures.keys
     (λ k. outside_new c.args.cache_dir.now c.in-Ok.root c.args.cache_size (g.F.Folder.held c.args.folder)
     (g.F.Folder.held c.clean.new.folder) (g.F.Folder.held c.in-Ok-new.cache.folder) c.in-Ok-new.cache.disk

@@ -1,17 +1,17 @@
-use Rattle.std.proofs.Common.{Contains, is_some, length, unwrap_or, sym, ap, ◌∙◌, subst}
+use Rattle.std.proofs.Common.{is_some, length, unwrap_or, sym, ap, ◌∙◌}
 use Rattle.std.specs.Option.{option_map}
 use Rattle.slab.specs.Slab.{get}
 use Rattle.lru_metered.specs.Chain.{Ends, links, walk, ends_of}
-use Rattle.lru_metered.proofs.ChainLemmas.{cut-at, links-cut, links-some}
+use Rattle.lru_metered.proofs.ChainLemmas.{links-cut, links-some}
+use Rattle.lru_metered.proofs.SeenLemmas.{cut-seen}
 use Rattle.lru_metered.proofs.chain.Chain.before.Goals as goal
 
 pub index-requires : goal.index-requires
 index-requires g c =
-    let s = c.self.inside.nodes in let key = c.args.key in
-    let order = walk (links s) (length s.slots) c.self.inside.first in
-    let cut = cut-at (links s) c.self.inside.first c.self.inside.last order key c.self.invariant
-    (subst (λ o. Contains o key) (sym (ap (λ v. v.order) c.self.view_is)) c.requires) in
-    sym (links-some (get s key)) ∙ ap is_some cut.ends
+    let s = c.self.inside.nodes in
+    let cut = cut-seen s c.self.inside.first c.self.inside.last _ c.args.key c.self.invariant
+    (ap (λ v. v.order) c.self.view_is) c.requires in
+    sym (links-some (get s c.args.key)) ∙ ap is_some cut.ends
 
 pub returns : goal.returns
 returns g c = λ front back is.

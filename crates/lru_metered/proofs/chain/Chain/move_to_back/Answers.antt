@@ -1,8 +1,9 @@
-use Rattle.std.proofs.Common.{◌≡◌, ◌++◌, ◌∷◌, [], Some, None, true, is_some, IfSome, Contains, length, refl}
+use Rattle.std.proofs.Common.{◌≡◌, ◌++◌, ◌∷◌, [], Some, None, true, is_some, IfSome, length, refl}
 use Rattle.std.proofs.Common.{sym, ap, ◌∙◌, subst}
 use Rattle.lru_metered.specs.Chain.{links, walk, with_ends, with_next, with_previous, without}
-use Rattle.lru_metered.proofs.ChainLemmas.{cut-at, ends-held, moved-chain, last-moved, without-at, settled}
-use Rattle.lru_metered.proofs.ChainLemmas.{order-walked, still-if, last-held, outer_end}
+use Rattle.lru_metered.proofs.ChainLemmas.{moved-chain, last-moved, without-at, settled, order-walked}
+use Rattle.lru_metered.proofs.ChainLemmas.{still-if, last-held, outer_end}
+use Rattle.lru_metered.proofs.SeenLemmas.{cut-seen, seen-held}
 use Rattle.lru_metered.proofs.chain.Chain.move_to_back.Goals as goal
 
 pub returns-then-is_last-clause-order : goal.returns-then-is_last-clause-order
@@ -10,40 +11,27 @@ returns-then-is_last-clause-order g c =
     let s = c.self.inside.nodes in let first = c.self.inside.first in let last = c.self.inside.last
     in let key = c.args.at in
     let order = walk (links s) (length s.slots) first in
-    let cut = cut-at (links s) first last order key c.self.invariant
-    (subst (λ o. Contains o key) (sym (ap (λ v. v.order) c.self.view_is)) c.requires) in
+    let cut = cut-seen s first last _ key c.self.invariant (ap (λ v. v.order) c.self.view_is) c.requires in
     let same = last-moved (links s) first last order key cut (c.is_last.ensures.yes c.if-is_last.true) in
     rw (← c.self.view_is) (same ∙ ap (λ l. l ++ key ∷ [])
     (sym (without-at (links s) first last order key cut)))
 
 pub relink-ends-requires : goal.relink-ends-requires
 relink-ends-requires g c =
-    let s = c.self.inside.nodes in let first = c.self.inside.first in let last = c.self.inside.last
-    in let key = c.args.at in
-    let order = walk (links s) (length s.slots) first in
-    let cut = cut-at (links s) first last order key c.self.invariant
-    (subst (λ o. Contains o key) (sym (ap (λ v. v.order) c.self.view_is)) c.requires) in
-    ap is_some cut.ends
+    ap is_some (cut-seen c.self.inside.nodes c.self.inside.first c.self.inside.last _ c.args.at c.self.invariant
+    (ap (λ v. v.order) c.self.view_is) c.requires).ends
 
 pub join-requires-clause-previous : goal.join-requires-clause-previous
 join-requires-clause-previous g c =
-    let s = c.self.inside.nodes in let first = c.self.inside.first in let last = c.self.inside.last
-    in let key = c.args.at in
-    let order = walk (links s) (length s.slots) first in
-    let cut = cut-at (links s) first last order key c.self.invariant
-    (subst (λ o. Contains o key) (sym (ap (λ v. v.order) c.self.view_is)) c.requires) in
-    (ends-held (links s) (links c.relink-ends.new.nodes) first last order key c.relink-ends.result
-    (with_ends last None) cut c.relink-ends.ensures.was c.relink-ends.ensures.changed).0
+    (seen-held c.self.inside.nodes c.self.inside.first c.self.inside.last _ c.args.at c.self.invariant
+    (ap (λ v. v.order) c.self.view_is) c.requires c.relink-ends.new.nodes c.relink-ends.result
+    (with_ends c.self.inside.last None) c.relink-ends.ensures.was c.relink-ends.ensures.changed).0
 
 pub join-requires-clause-next : goal.join-requires-clause-next
 join-requires-clause-next g c =
-    let s = c.self.inside.nodes in let first = c.self.inside.first in let last = c.self.inside.last
-    in let key = c.args.at in
-    let order = walk (links s) (length s.slots) first in
-    let cut = cut-at (links s) first last order key c.self.invariant
-    (subst (λ o. Contains o key) (sym (ap (λ v. v.order) c.self.view_is)) c.requires) in
-    (ends-held (links s) (links c.relink-ends.new.nodes) first last order key c.relink-ends.result
-    (with_ends last None) cut c.relink-ends.ensures.was c.relink-ends.ensures.changed).1
+    (seen-held c.self.inside.nodes c.self.inside.first c.self.inside.last _ c.args.at c.self.invariant
+    (ap (λ v. v.order) c.self.view_is) c.requires c.relink-ends.new.nodes c.relink-ends.result
+    (with_ends c.self.inside.last None) c.relink-ends.ensures.was c.relink-ends.ensures.changed).1
 
 pub set_next-requires : goal.set_next-requires
 set_next-requires g c =
@@ -62,8 +50,7 @@ invariant_of-self g c =
     let s = c.self.inside.nodes in let first = c.self.inside.first in let last = c.self.inside.last
     in let key = c.args.at in
     let order = walk (links s) (length s.slots) first in
-    let cut = cut-at (links s) first last order key c.self.invariant
-    (subst (λ o. Contains o key) (sym (ap (λ v. v.order) c.self.view_is)) c.requires) in
+    let cut = cut-seen s first last _ key c.self.invariant (ap (λ v. v.order) c.self.view_is) c.requires in
     let ends = c.relink-ends.result in let new = c.join.new.nodes in let joined = c.join.ensures.changed
     in let later = c.set_next.new.nodes in
     let made = moved-chain (links s) (links c.relink-ends.new.nodes) joined.0
@@ -78,8 +65,7 @@ returns-clause-order g c =
     let s = c.self.inside.nodes in let first = c.self.inside.first in let last = c.self.inside.last
     in let key = c.args.at in
     let order = walk (links s) (length s.slots) first in
-    let cut = cut-at (links s) first last order key c.self.invariant
-    (subst (λ o. Contains o key) (sym (ap (λ v. v.order) c.self.view_is)) c.requires) in
+    let cut = cut-seen s first last _ key c.self.invariant (ap (λ v. v.order) c.self.view_is) c.requires in
     let ends = c.relink-ends.result in let new = c.join.new.nodes in let joined = c.join.ensures.changed
     in let later = c.set_next.new.nodes in
     let made = moved-chain (links s) (links c.relink-ends.new.nodes) joined.0

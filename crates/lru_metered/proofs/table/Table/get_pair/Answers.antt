@@ -26,22 +26,14 @@ returns-in_err-found-clause-value g c =
 
 pub returns-clause-key : goal.returns-clause-key
 returns-clause-key g c =
-    let t = c.self.invariant in let nodes = c.self.inside.nodes in let heads = c.self.inside.heads.items
-    in let k = c.args.key.now in
-    let eq = g.K.PartialEq.eq in let law = g.met.K.Eq.laws in
-    let hash = λ (l : g.row.K.Denot). hash_of g.S.BuildHasher g.S.Hasher.Hasher c.self.inside.hasher
-    (g.K.Hash.hash_input l) in
     rw (← c.self.view_is) (sym
-    (key-found eq hash law nodes heads t k c.in_ok-found.found.at c.in_ok-found.ensures.matches
-    (pair_of c.item-entry.result.now) (ap (option_map pair_of) c.item-entry.ensures)))
+    (key-found _ _ g.met.K.Eq.laws c.self.inside.nodes _ c.self.invariant c.args.key.now c.in_ok-found.found.at
+    c.in_ok-found.ensures.matches (pair_of c.item-entry.result.now)
+    (ap (option_map pair_of) c.item-entry.ensures)))
 
 pub returns-clause-value : goal.returns-clause-value
 returns-clause-value g c =
-    let t = c.self.invariant in let nodes = c.self.inside.nodes in let heads = c.self.inside.heads.items
-    in let k = c.args.key.now in
-    let eq = g.K.PartialEq.eq in let law = g.met.K.Eq.laws in
-    let hash = λ (l : g.row.K.Denot). hash_of g.S.BuildHasher g.S.Hasher.Hasher c.self.inside.hasher
-    (g.K.Hash.hash_input l) in
     rw (← c.self.view_is) (sym
-    (value-found eq hash law nodes heads t k c.in_ok-found.found.at c.in_ok-found.ensures.matches
-    (pair_of c.item-entry.result.now) (ap (option_map pair_of) c.item-entry.ensures)))
+    (value-found _ _ g.met.K.Eq.laws c.self.inside.nodes _ c.self.invariant c.args.key.now c.in_ok-found.found.at
+    c.in_ok-found.ensures.matches (pair_of c.item-entry.result.now)
+    (ap (option_map pair_of) c.item-entry.ensures)))

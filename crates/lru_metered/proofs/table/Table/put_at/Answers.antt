@@ -1,10 +1,10 @@
-use Rattle.std.proofs.Common.{◌≡◌, Some, length, slice_get, is_some, refl, sym, ap, ◌∙◌, arith, unwrap_or}
-use Rattle.lru_metered.specs.Index.{hash_of}
+use Rattle.std.proofs.Common.{Some, length, is_some, refl, sym, ap, ◌∙◌, arith}
 use Rattle.lru_metered.specs.Listing.{pairs_of}
 use Rattle.lru_metered.specs.Metered.{set_at}
 use Rattle.lru_metered.proofs.ListingLemmas.{length-pairs}
-use Rattle.lru_metered.proofs.PartLemmas.{got, got-has}
-use Rattle.lru_metered.proofs.TableLemmas.{held-entry, value-there, table-wrote, pairs-wrote}
+use Rattle.lru_metered.proofs.PartLemmas.{got}
+use Rattle.lru_metered.proofs.SeenLemmas.{held-at}
+use Rattle.lru_metered.proofs.TableLemmas.{value-there, table-wrote, pairs-wrote}
 use Rattle.lru_metered.proofs.table.Table.put_at.Goals as goal
 
 pub unwrap-at-requires : goal.unwrap-at-requires
@@ -16,59 +16,30 @@ unwrap-at-requires g c =
 
 pub item_mut-requires : goal.item_mut-requires
 item_mut-requires g c =
-    let t = c.self.invariant in let nodes = c.self.inside.nodes in let heads = c.self.inside.heads.items in
-    let eq = g.K.PartialEq.eq in let law = g.met.K.Eq.laws in
-    let hash = λ (l : g.row.K.Denot). hash_of g.S.BuildHasher g.S.Hasher.Hasher c.self.inside.hasher
-    (g.K.Hash.hash_input l) in
-    let at = got nodes.order c.args.place
-    (omega (arith, c.requires, ap length c.self.view_is, length-pairs nodes t.full)) in
-    let same : c.unwrap-at.result ≡ at.0 = ap (λ o. unwrap_or o c.unwrap-at.result)
-    (sym c.unwrap-at.ensures ∙ (c.nth.ensures ∙ at.1)) in
-    let there : slice_get nodes.order c.args.place ≡ Some c.unwrap-at.result = at.1
-    ∙ ap (λ x. Some x) (sym same) in
-    held-entry nodes c.unwrap-at.result t.full (got-has nodes.order c.args.place c.unwrap-at.result there)
+    held-at c.self.inside.nodes c.self.invariant.full c.args.place c.unwrap-at.result
+    (sym c.nth.ensures ∙ c.unwrap-at.ensures)
 
 pub invariant_of-self : goal.invariant_of-self
 invariant_of-self g c =
-    let t = c.self.invariant in let nodes = c.self.inside.nodes in let heads = c.self.inside.heads.items in
-    let eq = g.K.PartialEq.eq in let law = g.met.K.Eq.laws in
-    let hash = λ (l : g.row.K.Denot). hash_of g.S.BuildHasher g.S.Hasher.Hasher c.self.inside.hasher
-    (g.K.Hash.hash_input l) in
     let e = c.item_mut.result.now in
-    table-wrote eq hash law nodes heads t c.unwrap-at.result e
+    table-wrote _ _ g.met.K.Eq.laws c.self.inside.nodes _ c.self.invariant c.unwrap-at.result e
     (record { key = e.key; value = c.replace.new.dest; next = e.next }) c.item_mut.ensures.value refl refl
 
 pub returns-clause-pairs : goal.returns-clause-pairs
 returns-clause-pairs g c =
-    let t = c.self.invariant in let nodes = c.self.inside.nodes in let heads = c.self.inside.heads.items in
-    let eq = g.K.PartialEq.eq in let law = g.met.K.Eq.laws in
-    let hash = λ (l : g.row.K.Denot). hash_of g.S.BuildHasher g.S.Hasher.Hasher c.self.inside.hasher
-    (g.K.Hash.hash_input l) in
-    let at = got nodes.order c.args.place
-    (omega (arith, c.requires, ap length c.self.view_is, length-pairs nodes t.full)) in
-    let same : c.unwrap-at.result ≡ at.0 = ap (λ o. unwrap_or o c.unwrap-at.result)
-    (sym c.unwrap-at.ensures ∙ (c.nth.ensures ∙ at.1)) in
-    let there : slice_get nodes.order c.args.place ≡ Some c.unwrap-at.result = at.1
-    ∙ ap (λ x. Some x) (sym same) in
+    let t = c.self.invariant in let nodes = c.self.inside.nodes in
+    let there = sym c.nth.ensures ∙ c.unwrap-at.ensures in
     let e = c.item_mut.result.now in
-    rw (← c.self.view_is) (pairs-wrote eq hash law nodes heads t c.unwrap-at.result e
+    rw (← c.self.view_is) (pairs-wrote _ _ g.met.K.Eq.laws nodes _ t c.unwrap-at.result e
     (record { key = e.key; value = c.replace.new.dest; next = e.next }) c.item_mut.ensures.value refl refl
     c.args.place there
     ∙ ap (set_at (pairs_of nodes) c.args.place) c.replace.ensures.after)
 
 pub returns-clause-old : goal.returns-clause-old
 returns-clause-old g c =
-    let t = c.self.invariant in let nodes = c.self.inside.nodes in let heads = c.self.inside.heads.items in
-    let eq = g.K.PartialEq.eq in let law = g.met.K.Eq.laws in
-    let hash = λ (l : g.row.K.Denot). hash_of g.S.BuildHasher g.S.Hasher.Hasher c.self.inside.hasher
-    (g.K.Hash.hash_input l) in
-    let at = got nodes.order c.args.place
-    (omega (arith, c.requires, ap length c.self.view_is, length-pairs nodes t.full)) in
-    let same : c.unwrap-at.result ≡ at.0 = ap (λ o. unwrap_or o c.unwrap-at.result)
-    (sym c.unwrap-at.ensures ∙ (c.nth.ensures ∙ at.1)) in
-    let there : slice_get nodes.order c.args.place ≡ Some c.unwrap-at.result = at.1
-    ∙ ap (λ x. Some x) (sym same) in
+    let t = c.self.invariant in let nodes = c.self.inside.nodes in
+    let there = sym c.nth.ensures ∙ c.unwrap-at.ensures in
     let e = c.item_mut.result.now in
-    rw (← c.self.view_is) (value-there eq hash law nodes heads t c.unwrap-at.result e e
+    rw (← c.self.view_is) (value-there _ _ g.met.K.Eq.laws nodes _ t c.unwrap-at.result e e
     c.item_mut.ensures.value refl refl c.args.place there
     ∙ ap (λ v. Some v) (sym c.replace.ensures.value))

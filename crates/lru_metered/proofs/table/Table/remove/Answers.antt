@@ -57,36 +57,22 @@ invariant_of-self g c =
 
 pub returns-clause-key : goal.returns-clause-key
 returns-clause-key g c =
-    let t = c.self.invariant in let nodes = c.self.inside.nodes in let heads = c.self.inside.heads.items
-    in let k = c.args.key.now in
-    let eq = g.K.PartialEq.eq in let law = g.met.K.Eq.laws in
-    let hash = λ (l : g.row.K.Denot). hash_of g.S.BuildHasher g.S.Hasher.Hasher c.self.inside.hasher
-    (g.K.Hash.hash_input l) in
-    let f = c.in_ok-found.found in let m = c.in_ok-found.ensures.matches in let mid = c.unhook.new.nodes
-    in let new = c.take_out.new.nodes in
-    rw (← c.self.view_is) (sym (key-found eq hash law nodes heads t k f.at m c.take_out.result
+    let f = c.in_ok-found.found in
+    rw (← c.self.view_is) (sym (key-found _ _ g.met.K.Eq.laws c.self.inside.nodes _ c.self.invariant
+    c.args.key.now f.at c.in_ok-found.ensures.matches c.take_out.result
     (sym (c.unhook.ensures.relinks.pairs f.at) ∙ c.take_out.ensures.pair)))
 
 pub returns-clause-value : goal.returns-clause-value
 returns-clause-value g c =
-    let t = c.self.invariant in let nodes = c.self.inside.nodes in let heads = c.self.inside.heads.items
-    in let k = c.args.key.now in
-    let eq = g.K.PartialEq.eq in let law = g.met.K.Eq.laws in
-    let hash = λ (l : g.row.K.Denot). hash_of g.S.BuildHasher g.S.Hasher.Hasher c.self.inside.hasher
-    (g.K.Hash.hash_input l) in
-    let f = c.in_ok-found.found in let m = c.in_ok-found.ensures.matches in let mid = c.unhook.new.nodes
-    in let new = c.take_out.new.nodes in
-    rw (← c.self.view_is) (sym (value-found eq hash law nodes heads t k f.at m c.take_out.result
+    let f = c.in_ok-found.found in
+    rw (← c.self.view_is) (sym (value-found _ _ g.met.K.Eq.laws c.self.inside.nodes _ c.self.invariant
+    c.args.key.now f.at c.in_ok-found.ensures.matches c.take_out.result
     (sym (c.unhook.ensures.relinks.pairs f.at) ∙ c.take_out.ensures.pair)))
 
 pub returns-clause-others : goal.returns-clause-others
 returns-clause-others g c =
-    let t = c.self.invariant in let nodes = c.self.inside.nodes in let heads = c.self.inside.heads.items
-    in let k = c.args.key.now in
-    let eq = g.K.PartialEq.eq in let law = g.met.K.Eq.laws in
-    let hash = λ (l : g.row.K.Denot). hash_of g.S.BuildHasher g.S.Hasher.Hasher c.self.inside.hasher
-    (g.K.Hash.hash_input l) in
+    let t = c.self.invariant in let nodes = c.self.inside.nodes in
     let f = c.in_ok-found.found in let m = c.in_ok-found.ensures.matches in let mid = c.unhook.new.nodes
     in let new = c.take_out.new.nodes in
-    rw (← c.self.view_is) (pairs-taken eq hash law nodes heads t k f.at m mid new c.unhook.ensures.relinks
-    c.take_out.ensures.full c.take_out.ensures.order c.take_out.ensures.updates)
+    rw (← c.self.view_is) (pairs-taken _ _ g.met.K.Eq.laws nodes _ t c.args.key.now f.at m mid new
+    c.unhook.ensures.relinks c.take_out.ensures.full c.take_out.ensures.order c.take_out.ensures.updates)

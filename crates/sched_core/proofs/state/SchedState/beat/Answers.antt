@@ -15,7 +15,7 @@ take_uncounted-requires-clause-rule g c κs within =
     c.in_ok-entry.ensures in
     let some : 1 ≤ a.cpus = omega arith in
     let few : a.cpus ≤ 4294967295 = omega arith in
-    subst (λ l. IsRule (core_of s.base s.count l) c.in_ok-entry.entry)
+    subst (λ l. IsRule (core_of s.start l) c.in_ok-entry.entry)
     (sym c.in_ok-make_row_room.ensures.log)
     (call.Beat a.now a.server a.nonce a.cpus (g.A.JobAuthorizer.key_of a.key), (some, few), entry)
 
@@ -24,26 +24,24 @@ take_uncounted-requires-clause-job_room g c κs within = rw c.in_ok-entry.ensure
 
 pub take_uncounted-requires-clause-log_room : goal.take_uncounted-requires-clause-log_room
 take_uncounted-requires-clause-log_room g c κs within = rw c.in_ok-make_row_room.ensures.lists
-    (log_room-one c.self.inside.books.lists c.in_ok-entry.entry (length c.make_row_room.new.log.items)
+    (log_room-one c.self.inside.journal.books.lists c.in_ok-entry.entry (length c.make_row_room.new.log.items)
     (vec_len c.make_row_room.new.log) (vec_capacity c.make_row_room.new.log)
     c.in_ok-make_row_room.ensures.spare)
 
 pub take_uncounted-requires-clause-state : goal.take_uncounted-requires-clause-state
 take_uncounted-requires-clause-state g c κs within =
-    let s = c.self.inside in
-    still_state s.base s.count s.books c.make_row_room.new.books s.keys.items c.make_row_room.new.keys.items
-    s.log.items
-    c.make_row_room.new.log.items (vec_len s.log) (vec_capacity s.log) (vec_len c.make_row_room.new.log)
-    (vec_capacity c.make_row_room.new.log) c.self.invariant c.in_ok-make_row_room.ensures.lists
-    c.in_ok-make_row_room.ensures.keys c.in_ok-make_row_room.ensures.log
-    c.in_ok-make_row_room.ensures.log_room c.in_ok-make_row_room.ensures.first
-    c.in_ok-make_row_room.ensures.top c.in_ok-make_row_room.ensures.places
+    let j = c.self.inside.journal in
+    let new = c.make_row_room.new in
+    let roomy = c.in_ok-make_row_room.ensures in
+    still_state c.self.inside.start j.books new.books j.keys.items new.keys.items j.log.items new.log.items
+    (vec_len j.log) (vec_capacity j.log) (vec_len new.log) (vec_capacity new.log) c.self.invariant roomy.lists
+    roomy.keys roomy.log roomy.log_room roomy.first roomy.top roomy.places
 
 pub invariant_of-self : goal.invariant_of-self
 invariant_of-self g c =
-    let s = c.self.inside in
-    still_state s.base s.count s.books c.make_row_room.new.books s.keys.items c.make_row_room.new.keys.items
-    s.log.items c.make_row_room.new.log.items (vec_len s.log) (vec_capacity s.log)
-    (vec_len c.make_row_room.new.log) (vec_capacity c.make_row_room.new.log) c.self.invariant
-    c.make_row_room.ensures.lists c.make_row_room.ensures.keys c.make_row_room.ensures.log
-    c.make_row_room.ensures.log_room c.make_row_room.ensures.first c.make_row_room.ensures.top c.make_row_room.ensures.places
+    let j = c.self.inside.journal in
+    let new = c.make_row_room.new in
+    let roomy = c.make_row_room.ensures in
+    still_state c.self.inside.start j.books new.books j.keys.items new.keys.items j.log.items new.log.items
+    (vec_len j.log) (vec_capacity j.log) (vec_len new.log) (vec_capacity new.log) c.self.invariant roomy.lists
+    roomy.keys roomy.log roomy.log_room roomy.first roomy.top roomy.places

@@ -1,6 +1,8 @@
 use Rattle.sched_core.proofs.state.SchedState.history.Goals as goal
 
+pub returns-clause-count : goal.returns-clause-count
+returns-clause-count g c = rw (← c.self.view_is) c.self.invariant.fits
+
 pub returns-clause-lawful : goal.returns-clause-lawful
-returns-clause-lawful g c =
-    rw (← c.self.view_is) ((rw c.as_slice-log.ensures.value at c.lawful.ensures.lawful)
-    c.self.invariant.legal)
+returns-clause-lawful g c = rw (← c.self.view_is) (c.legal_logs_are_lawful.ensures c.self.inside.start
+    c.self.inside.journal.log.items c.self.invariant.fits c.self.invariant.legal)

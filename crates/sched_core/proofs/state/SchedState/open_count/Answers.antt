@@ -10,5 +10,5 @@ pub returns : goal.returns
 returns g c =
     let s = c.self.inside in
     rw (← c.self.view_is) (c.open_count.ensures
-    ∙ reorder-length (open_view s.books.lists.booked) (open_rows s.log.items) c.self.invariant.books.open_ones
-    ∙ length-map (open_jobs s.log.items) (open_of s.log.items))
+    ∙ reorder-length (open_view s.journal.books.lists.booked) (open_rows s.journal.log.items) c.self.invariant.books.open_ones
+    ∙ length-map (open_jobs s.journal.log.items) (open_of s.journal.log.items))

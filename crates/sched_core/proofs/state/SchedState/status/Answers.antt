@@ -7,17 +7,16 @@ use Rattle.sched_core.specs.Log.{logged}
 use Rattle.sched_core.specs.Rows.{servers_of, open_rows}
 use Rattle.sched_core.specs.Rule.{counts_over}
 use Rattle.sched_core.proofs.BookLemmas.{log_room-one, counts_are}
-use Rattle.std.proofs.Common.{refl, arith}
-use Rattle.sched_core.proofs.MostLemmas.{still_state}
+use Rattle.sched_core.proofs.MostLemmas.{roomy_log}
 use Rattle.sched_core.proofs.state.SchedState.status.Goals as goal
 
 pub take_uncounted-requires-clause-rule : goal.take_uncounted-requires-clause-rule
 take_uncounted-requires-clause-rule g c κs within =
     let s = c.self.inside in
-    let counts : c.counts-answer.result ≡ counts_over (servers_of s.log.items) (open_rows s.log.items) c.args.now =
-    c.counts-answer.ensures ∙ counts_are s.books.lists s.keys.items s.log.items c.args.now c.self.invariant.books in
+    let counts : c.counts-answer.result ≡ counts_over (servers_of s.journal.log.items) (open_rows s.journal.log.items) c.args.now =
+    c.counts-answer.ensures ∙ counts_are s.journal.books.lists s.journal.keys.items s.journal.log.items c.args.now c.self.invariant.books in
     let entry = rw (c.in_ok-pruned.ensures, counts, c.self.invariant.books.rows) at c.status_entry-entry.ensures in
-    subst (λ l. IsRule (core_of s.base s.count l) c.status_entry-entry.result)
+    subst (λ l. IsRule (core_of s.start l) c.status_entry-entry.result)
     (sym c.in_ok-make_log_room.ensures.log) (call.Status c.args.now, tt, entry)
 
 pub take_uncounted-requires-clause-row_room : goal.take_uncounted-requires-clause-row_room
@@ -31,31 +30,29 @@ take_uncounted-requires-clause-keys_room g c κs within = rw c.status_entry-entr
 
 pub take_uncounted-requires-clause-log_room : goal.take_uncounted-requires-clause-log_room
 take_uncounted-requires-clause-log_room g c κs within =
-    log_room-one c.self.inside.books.lists c.status_entry-entry.result (length c.make_log_room.new.log.items)
-    (vec_len c.make_log_room.new.log) (vec_capacity c.make_log_room.new.log)
-    c.in_ok-make_log_room.ensures.spare
+    log_room-one c.self.inside.journal.books.lists c.status_entry-entry.result
+    (length c.make_log_room.new.log.items) (vec_len c.make_log_room.new.log)
+    (vec_capacity c.make_log_room.new.log) c.in_ok-make_log_room.ensures.spare
 
 pub take_uncounted-requires-clause-state : goal.take_uncounted-requires-clause-state
 take_uncounted-requires-clause-state g c κs within =
-    let s = c.self.inside in
-    still_state s.base s.count s.books s.books s.keys.items s.keys.items s.log.items
-    c.make_log_room.new.log.items
-    (vec_len s.log) (vec_capacity s.log) (vec_len c.make_log_room.new.log)
-    (vec_capacity c.make_log_room.new.log)
-    c.self.invariant refl refl c.in_ok-make_log_room.ensures.log c.in_ok-make_log_room.ensures.log_room
-    refl (omega arith) (omega arith)
+    let j = c.self.inside.journal in
+    roomy_log c.self.inside.start j.books j.keys.items j.log.items c.make_log_room.new.log.items
+    (vec_len j.log) (vec_capacity j.log) (vec_len c.make_log_room.new.log)
+    (vec_capacity c.make_log_room.new.log) c.self.invariant c.in_ok-make_log_room.ensures.log
+    c.in_ok-make_log_room.ensures.log_room
 
 pub returns-clause-logged : goal.returns-clause-logged
 returns-clause-logged g c =
     let s = c.self.inside in
-    let counts : c.counts-answer.result ≡ counts_over (servers_of s.log.items) (open_rows s.log.items) c.args.now =
-    c.counts-answer.ensures ∙ counts_are s.books.lists s.keys.items s.log.items c.args.now c.self.invariant.books in
+    let counts : c.counts-answer.result ≡ counts_over (servers_of s.journal.log.items) (open_rows s.journal.log.items) c.args.now =
+    c.counts-answer.ensures ∙ counts_are s.journal.books.lists s.journal.keys.items s.journal.log.items c.args.now c.self.invariant.books in
     let entry = rw (c.in_ok-pruned.ensures, counts, c.self.invariant.books.rows) at c.status_entry-entry.ensures in
     rw (← c.self.view_is, c.take_uncounted.ensures.log, c.in_ok-make_log_room.ensures.log)
-    (ap (logged (core_of s.base s.count s.log.items)) entry)
+    (ap (logged (core_of s.start s.journal.log.items)) entry)
 
 pub returns-clause-answer : goal.returns-clause-answer
 returns-clause-answer g c =
     let s = c.self.inside in
     rw (← c.self.view_is) (c.counts-answer.ensures
-    ∙ counts_are s.books.lists s.keys.items s.log.items c.args.now c.self.invariant.books)
+    ∙ counts_are s.journal.books.lists s.journal.keys.items s.journal.log.items c.args.now c.self.invariant.books)

@@ -11,8 +11,7 @@ use Rattle.sched_core.specs.declared.call.Call.TheVariants as call
 use Rattle.sched_core.proofs.LegalLemmas.{core_of}
 use Rattle.sched_core.proofs.BookLemmas.{log_room-one, open_found}
 use Rattle.sched_core.proofs.StateLemmas.{on_ok, verdict_leaves}
-use Rattle.std.proofs.Common.{refl, arith}
-use Rattle.sched_core.proofs.MostLemmas.{still_state}
+use Rattle.sched_core.proofs.MostLemmas.{roomy_log}
 use Rattle.sched_core.proofs.state.SchedState.update.Goals as goal
 
 pub take_uncounted-requires-clause-rule : goal.take_uncounted-requires-clause-rule
@@ -23,17 +22,17 @@ take_uncounted-requires-clause-rule g c κs within =
       now = a.now;
       kind = Update a.server a.job a.state c.answer_by-answer.result;
     } in
-    let answer : c.answer_by-answer.result ≡ advance (open_rows s.log.items) a.server a.job a.state =
-    rw (c.open_job-found.ensures, open_found s.books.lists s.keys.items s.log.items a.job c.self.invariant.books)
-    at c.answer_by-answer.ensures in
-    subst (λ l. IsRule (core_of s.base s.count l) step) (sym c.in_ok-make_log_room.ensures.log) (
+    let answer : c.answer_by-answer.result ≡ advance (open_rows s.journal.log.items) a.server a.job a.state =
+    rw (c.open_job-found.ensures, open_found s.journal.books.lists s.journal.keys.items s.journal.log.items a.job
+    c.self.invariant.books) at c.answer_by-answer.ensures in
+    subst (λ l. IsRule (core_of s.start l) step) (sym c.in_ok-make_log_room.ensures.log) (
       call.Update a.now a.server a.job a.state,
       tt,
       ap (λ r. record { now = a.now; kind = Update a.server a.job a.state r }) answer,
     )
 
 pub take_uncounted-requires-clause-log_room : goal.take_uncounted-requires-clause-log_room
-take_uncounted-requires-clause-log_room g c κs within = log_room-one c.self.inside.books.lists
+take_uncounted-requires-clause-log_room g c κs within = log_room-one c.self.inside.journal.books.lists
     (record {
       now = c.args.now;
       kind = Update c.args.server c.args.job c.args.state c.answer_by-answer.result;
@@ -44,41 +43,44 @@ pub returns-clause-logged : goal.returns-clause-logged
 returns-clause-logged g c =
     let s = c.self.inside in
     let a = c.args in
-    let answer : c.answer_by-answer.result ≡ advance (open_rows s.log.items) a.server a.job a.state =
-    rw (c.open_job-found.ensures, open_found s.books.lists s.keys.items s.log.items a.job c.self.invariant.books)
-    at c.answer_by-answer.ensures in
+    let answer : c.answer_by-answer.result ≡ advance (open_rows s.journal.log.items) a.server a.job a.state =
+    rw (c.open_job-found.ensures, open_found s.journal.books.lists s.journal.keys.items s.journal.log.items a.job
+    c.self.invariant.books) at c.answer_by-answer.ensures in
     rw (← c.self.view_is, c.take_uncounted.ensures.log, c.in_ok-make_log_room.ensures.log)
     (on_ok c.updated.result _
-    (ap (λ r. logged (core_of s.base s.count s.log.items)
+    (ap (λ r. logged (core_of s.start s.journal.log.items)
     (record { now = a.now; kind = Update a.server a.job a.state r })) answer))
 
 pub returns-clause-answer : goal.returns-clause-answer
 returns-clause-answer g c = λ refused.
     let s = c.self.inside in
     let a = c.args in
-    let answer : c.answer_by-answer.result ≡ advance (open_rows s.log.items) a.server a.job a.state =
-    rw (c.open_job-found.ensures, open_found s.books.lists s.keys.items s.log.items a.job c.self.invariant.books)
-    at c.answer_by-answer.ensures in
+    let answer : c.answer_by-answer.result ≡ advance (open_rows s.journal.log.items) a.server a.job a.state =
+    rw (c.open_job-found.ensures, open_found s.journal.books.lists s.journal.keys.items s.journal.log.items a.job
+    c.self.invariant.books) at c.answer_by-answer.ensures in
     rw (← c.self.view_is) (c.updated.ensures ∙ ap (λ r. verdict r a.state) answer)
 
 pub returns-clause-err : goal.returns-clause-err
 returns-clause-err g c =
     let s = c.self.inside in
     let a = c.args in
-    let answer : c.answer_by-answer.result ≡ advance (open_rows s.log.items) a.server a.job a.state =
-    rw (c.open_job-found.ensures, open_found s.books.lists s.keys.items s.log.items a.job c.self.invariant.books)
-    at c.answer_by-answer.ensures in
-    rw (c.updated.ensures, ← c.self.view_is, c.take_uncounted.ensures.log, c.in_ok-make_log_room.ensures.log)
-    (verdict_leaves c.answer_by-answer.result a.state (core_of s.base s.count s.log.items) _ _
-    (ap (λ r. logged (core_of s.base s.count s.log.items)
+    let answer : c.answer_by-answer.result ≡ advance (open_rows s.journal.log.items) a.server a.job a.state =
+    rw (c.open_job-found.ensures, open_found s.journal.books.lists s.journal.keys.items s.journal.log.items a.job
+    c.self.invariant.books) at c.answer_by-answer.ensures in
+    rw (
+      c.updated.ensures,
+      ← c.self.view_is,
+      c.take_uncounted.ensures.log,
+      c.in_ok-make_log_room.ensures.log,
+    )
+    (verdict_leaves c.answer_by-answer.result a.state (core_of s.start s.journal.log.items) _ _
+    (ap (λ r. logged (core_of s.start s.journal.log.items)
     (record { now = a.now; kind = Update a.server a.job a.state r })) answer))
 
 pub take_uncounted-requires-clause-state : goal.take_uncounted-requires-clause-state
 take_uncounted-requires-clause-state g c κs within =
-    let s = c.self.inside in
-    still_state s.base s.count s.books s.books s.keys.items s.keys.items s.log.items
-    c.make_log_room.new.log.items
-    (vec_len s.log) (vec_capacity s.log) (vec_len c.make_log_room.new.log)
-    (vec_capacity c.make_log_room.new.log)
-    c.self.invariant refl refl c.in_ok-make_log_room.ensures.log c.in_ok-make_log_room.ensures.log_room
-    refl (omega arith) (omega arith)
+    let j = c.self.inside.journal in
+    roomy_log c.self.inside.start j.books j.keys.items j.log.items c.make_log_room.new.log.items
+    (vec_len j.log) (vec_capacity j.log) (vec_len c.make_log_room.new.log)
+    (vec_capacity c.make_log_room.new.log) c.self.invariant c.in_ok-make_log_room.ensures.log
+    c.in_ok-make_log_room.ensures.log_room

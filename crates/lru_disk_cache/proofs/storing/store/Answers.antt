@@ -1,0 +1,85 @@
+use Rattle.std.proofs.Common.{length, sym, ap, ◌∙◌, Some}
+use Rattle.lru_disk_cache.proofs.Fills.{temp_apart, temp_avoided, keeps_temp, stands_kept, under_temp}
+use Rattle.lru_disk_cache.proofs.Fills.{under_both, kept_behind, left_behind, content_written, on_err}
+use Rattle.lru_disk_cache.proofs.Fills.{temp_untouched, store_untouched}
+use Rattle.std.specs.Option.{option_map}
+use Rattle.lru_disk_cache.proofs.storing.store.Goals as goal
+
+pub returns-in_err-write_temp-clause-stands : goal.returns-in_err-write_temp-clause-stands
+returns-in_err-write_temp-clause-stands g c =
+    stands_kept c.args.root.now c.args.table.now.entries (g.F.Folder.held c.args.folder.now)
+    (g.F.Folder.held c.write_temp.new.folder) c.requires.stands
+    (keeps_temp c.args.root.now c.args.arrival.now.from c.args.table.now.entries
+    (g.F.Folder.held c.args.folder.now).files (g.F.Folder.held c.write_temp.new.folder).files
+    c.requires.temp c.requires.stands.keys c.write_temp.ensures.others)
+
+pub returns-in_err-write_temp-clause-others : goal.returns-in_err-write_temp-clause-others
+returns-in_err-write_temp-clause-others g c =
+    under_temp c.args.root.now c.args.arrival.now.from (g.F.Folder.held c.args.folder.now).files
+    (g.F.Folder.held c.write_temp.new.folder).files c.requires.temp c.write_temp.ensures.others
+
+pub returns-in_err-write_temp-clause-left : goal.returns-in_err-write_temp-clause-left
+returns-in_err-write_temp-clause-left g c =
+    on_err c.from_residual.result (keeps_temp c.args.root.now c.args.arrival.now.from c.args.table.now.entries
+    (g.F.Folder.held c.args.folder.now).files (g.F.Folder.held c.write_temp.new.folder).files
+    c.requires.temp c.requires.stands.keys c.write_temp.ensures.others)
+
+pub fill-requires-clause-apart : goal.fill-requires-clause-apart
+fill-requires-clause-apart g c =
+    temp_apart c.args.root.now c.args.arrival.now.path c.args.arrival.now.key c.args.arrival.now.from
+    c.requires.temp c.requires.path c.requires.key
+
+pub fill-requires-clause-avoids : goal.fill-requires-clause-avoids
+fill-requires-clause-avoids g c =
+    temp_avoided c.args.root.now c.args.arrival.now.from c.args.table.now.entries c.requires.temp
+    c.requires.stands.keys
+
+pub fill-requires-clause-stands : goal.fill-requires-clause-stands
+fill-requires-clause-stands g c =
+    stands_kept c.args.root.now c.args.table.now.entries (g.F.Folder.held c.args.folder.now)
+    (g.F.Folder.held c.write_temp.new.folder) c.requires.stands
+    (keeps_temp c.args.root.now c.args.arrival.now.from c.args.table.now.entries
+    (g.F.Folder.held c.args.folder.now).files (g.F.Folder.held c.write_temp.new.folder).files
+    c.requires.temp c.requires.stands.keys c.write_temp.ensures.others)
+
+pub fill-requires-clause-written : goal.fill-requires-clause-written
+fill-requires-clause-written g c = λ files told.
+    ap (option_map length) (c.in_ok-write_temp.ensures.written files told) ∙ ap Some (sym c.requires.size)
+
+pub returns-clause-content : goal.returns-clause-content
+returns-clause-content g c =
+    content_written c.args.arrival.now.from c.args.arrival.now.path c.args.bytes.now c.fill.result
+    (g.F.Folder.held c.write_temp.new.folder) (g.F.Folder.held c.fill.new.folder)
+    c.in_ok-write_temp.ensures.written c.fill.ensures.content
+
+pub returns-clause-others : goal.returns-clause-others
+returns-clause-others g c =
+    under_both c.args.root.now c.args.arrival.now.from (g.F.Folder.held c.args.folder.now).files
+    (g.F.Folder.held c.write_temp.new.folder).files (g.F.Folder.held c.fill.new.folder).files
+    c.requires.temp c.write_temp.ensures.others c.fill.ensures.others
+
+pub returns-clause-kept : goal.returns-clause-kept
+returns-clause-kept g c =
+    kept_behind c.args.root.now c.args.arrival.now.from c.args.arrival.now.key c.args.arrival.now.size _
+    c.args.table.now c.fill.new.table c.fill.result (g.F.Folder.held c.args.folder.now)
+    (g.F.Folder.held c.write_temp.new.folder) (g.F.Folder.held c.fill.new.folder) c.requires.temp
+    c.fill.ensures.ok c.fill.ensures.stands c.write_temp.ensures.others c.fill.ensures.kept
+
+pub returns-clause-left : goal.returns-clause-left
+returns-clause-left g c =
+    left_behind c.args.root.now c.args.arrival.now.from c.fill.new.table c.fill.result
+    (g.F.Folder.held c.args.folder.now) (g.F.Folder.held c.write_temp.new.folder)
+    (g.F.Folder.held c.fill.new.folder) c.requires.temp c.fill.ensures.stands c.write_temp.ensures.others
+    c.fill.ensures.left
+
+pub returns-in_err-write_temp-clause-untouched : goal.returns-in_err-write_temp-clause-untouched
+returns-in_err-write_temp-clause-untouched g c =
+    temp_untouched c.args.root.now c.args.arrival.now.from c.args.arrival.now.path c.args.table.now.entries
+    (g.F.Folder.held c.args.folder.now).files (g.F.Folder.held c.write_temp.new.folder).files
+    c.write_temp.ensures.others
+
+pub returns-clause-untouched : goal.returns-clause-untouched
+returns-clause-untouched g c =
+    store_untouched c.args.root.now c.args.arrival.now.from c.args.arrival.now.path c.args.table.now.entries
+    (g.F.Folder.held c.args.folder.now).files (g.F.Folder.held c.write_temp.new.folder).files
+    (g.F.Folder.held c.fill.new.folder).files c.write_temp.ensures.others c.fill.ensures.untouched
