@@ -8,7 +8,7 @@ use Rattle.dist_types.specs.declared.ids.JobId.{JobId}
 use Rattle.sched_core.specs.declared.entry.CoreEntry.{CoreEntry}
 use Rattle.sched_core.specs.declared.rows.ServerRow.{ServerRow}
 use Rattle.sched_core.specs.declared.rows.HeldRow.{HeldRow}
-use Rattle.sched_core.specs.declared.vectors.UnspentRow.{UnspentRow}
+use Rattle.sched_core.specs.Booked.{UnspentRow}
 use Rattle.sched_core.specs.Log.{same_job}
 use Rattle.sched_core.specs.Standing.{address_of}
 use Rattle.sched_core.specs.Reservation.{unspent, unended}

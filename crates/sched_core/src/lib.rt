@@ -9,6 +9,8 @@
 #![tactic(auto)]
 
 pub mod answers;
+mod booked;
+mod bookings;
 mod books;
 pub mod call;
 mod change;
@@ -29,6 +31,5 @@ mod standing;
 pub mod start;
 pub mod state;
 pub mod texts;
-mod vectors;
 
 pub use standing::HEARTBEAT_TIMEOUT;

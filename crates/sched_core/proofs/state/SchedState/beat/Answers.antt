@@ -19,9 +19,6 @@ take_uncounted-requires-clause-rule g c κs within =
     (sym c.in_ok-make_row_room.ensures.log)
     (call.Beat a.now a.server a.nonce a.cpus (g.A.JobAuthorizer.key_of a.key), (some, few), entry)
 
-pub take_uncounted-requires-clause-spends : goal.take_uncounted-requires-clause-spends
-take_uncounted-requires-clause-spends g c κs within = rw c.in_ok-entry.ensures tt
-
 pub take_uncounted-requires-clause-job_room : goal.take_uncounted-requires-clause-job_room
 take_uncounted-requires-clause-job_room g c κs within = rw c.in_ok-entry.ensures (λ may. absurd may)
 
@@ -38,7 +35,7 @@ take_uncounted-requires-clause-state g c κs within =
     let roomy = c.in_ok-make_row_room.ensures in
     still_state c.self.inside.start j.books new.books j.keys.items new.keys.items j.log.items new.log.items
     (vec_len j.log) (vec_capacity j.log) (vec_len new.log) (vec_capacity new.log) c.self.invariant roomy.lists
-    roomy.keys roomy.log roomy.log_room roomy.top roomy.places
+    roomy.keys roomy.log roomy.log_room roomy.first roomy.top roomy.places
 
 pub invariant_of-self : goal.invariant_of-self
 invariant_of-self g c =
@@ -47,4 +44,4 @@ invariant_of-self g c =
     let roomy = c.make_row_room.ensures in
     still_state c.self.inside.start j.books new.books j.keys.items new.keys.items j.log.items new.log.items
     (vec_len j.log) (vec_capacity j.log) (vec_len new.log) (vec_capacity new.log) c.self.invariant roomy.lists
-    roomy.keys roomy.log roomy.log_room roomy.top roomy.places
+    roomy.keys roomy.log roomy.log_room roomy.first roomy.top roomy.places

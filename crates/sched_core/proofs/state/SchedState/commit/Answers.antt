@@ -5,6 +5,7 @@ use Rattle.sched_core.specs.Log.{logged}
 use Rattle.sched_core.specs.Rule.{commit_by}
 use Rattle.sched_core.specs.declared.answers.Committed.TheVariants as committed
 use Rattle.sched_core.specs.declared.call.Call.TheVariants as call
+use Rattle.sched_core.specs.Booked.{unspent_view, held_view}
 use Rattle.sched_core.proofs.LegalLemmas.{core_of}
 use Rattle.sched_core.proofs.BookLemmas.{log_room-spent}
 use Rattle.sched_core.proofs.StateLemmas.{spends_one}
@@ -16,7 +17,7 @@ returns-then-not-is_unspent-clause-logged g c =
     let s = c.self.inside in
     let a = c.args in
     let own = own_is s.journal.log.items c.number-number.result c.job_id-job.result a.r.number a.r.job
-    c.number-number.ensures.number c.job_id-job.ensures.job s.journal.books.lists.unspent c.is_unspent.result
+    c.number-number.ensures.number c.job_id-job.ensures.job (unspent_view s.journal.books.lists.booked) c.is_unspent.result
     c.is_unspent.ensures c.self.invariant.books.unspent in
     rw (← c.self.view_is, own ∙ c.if-not-is_unspent.true) refl
 
@@ -25,7 +26,7 @@ returns-then-not-is_unspent-clause-answer g c =
     let s = c.self.inside in
     let a = c.args in
     let own = own_is s.journal.log.items c.number-number.result c.job_id-job.result a.r.number a.r.job
-    c.number-number.ensures.number c.job_id-job.ensures.job s.journal.books.lists.unspent c.is_unspent.result
+    c.number-number.ensures.number c.job_id-job.ensures.job (unspent_view s.journal.books.lists.booked) c.is_unspent.result
     c.is_unspent.ensures c.self.invariant.books.unspent in
     rw (← c.self.view_is, own ∙ c.if-not-is_unspent.true, c.job_id-job.ensures.job) refl
 
@@ -34,18 +35,13 @@ take_uncounted-requires-clause-rule g c κs within =
     let s = c.self.inside in
     let a = c.args in
     let own = own_is s.journal.log.items c.number-number.result c.job_id-job.result _ _ refl refl
-    s.journal.books.lists.unspent c.is_unspent.result c.is_unspent.ensures c.self.invariant.books.unspent in
+    (unspent_view s.journal.books.lists.booked) c.is_unspent.result c.is_unspent.ensures c.self.invariant.books.unspent in
     let kept = held_is s.journal.log.items c.number-number.result c.job_id-job.result _ _ refl refl
-    s.journal.books.lists.held c.is_held-kept.result c.is_held-kept.ensures c.self.invariant.books.held in (
+    (held_view s.journal.books.lists.booked) c.is_held-kept.result c.is_held-kept.ensures c.self.invariant.books.held in (
       call.Commit a.now c.number-number.result c.job_id-job.result a.state,
       (own ∙ c.if-not-is_unspent.false, c.requires.begins),
       ap (λ b. record { now = a.now; kind = Commit c.job_id-job.result a.state b }) kept,
     )
-
-pub take_uncounted-requires-clause-spends : goal.take_uncounted-requires-clause-spends
-take_uncounted-requires-clause-spends g c κs within =
-    spends_one c.self.inside.journal.books.lists.unspent c.number-number.result c.job_id-job.result
-    (sym c.is_unspent.ensures ∙ c.if-not-is_unspent.false)
 
 pub take_uncounted-requires-clause-log_room : goal.take_uncounted-requires-clause-log_room
 take_uncounted-requires-clause-log_room g c κs within =
@@ -53,7 +49,7 @@ take_uncounted-requires-clause-log_room g c κs within =
     log_room-spent s.journal.books.lists c.args.now (length s.journal.log.items)
     (Commit c.job_id-job.result c.args.state c.is_held-kept.result) (vec_len s.journal.log)
     (vec_capacity s.journal.log)
-    (spends_one s.journal.books.lists.unspent c.number-number.result c.job_id-job.result
+    (spends_one (unspent_view s.journal.books.lists.booked) c.number-number.result c.job_id-job.result
     (sym c.is_unspent.ensures ∙ c.if-not-is_unspent.false))
     c.self.invariant.log_room
 
@@ -62,10 +58,10 @@ returns-clause-logged g c =
     let s = c.self.inside in
     let a = c.args in
     let own = own_is s.journal.log.items c.number-number.result c.job_id-job.result a.r.number a.r.job
-    c.number-number.ensures.number c.job_id-job.ensures.job s.journal.books.lists.unspent c.is_unspent.result
+    c.number-number.ensures.number c.job_id-job.ensures.job (unspent_view s.journal.books.lists.booked) c.is_unspent.result
     c.is_unspent.ensures c.self.invariant.books.unspent in
     let kept = held_is s.journal.log.items c.number-number.result c.job_id-job.result a.r.number a.r.job
-    c.number-number.ensures.number c.job_id-job.ensures.job s.journal.books.lists.held c.is_held-kept.result
+    c.number-number.ensures.number c.job_id-job.ensures.job (held_view s.journal.books.lists.booked) c.is_held-kept.result
     c.is_held-kept.ensures c.self.invariant.books.held in
     rw (
       ← c.self.view_is,
@@ -80,10 +76,10 @@ returns-clause-answer g c =
     let s = c.self.inside in
     let a = c.args in
     let own = own_is s.journal.log.items c.number-number.result c.job_id-job.result a.r.number a.r.job
-    c.number-number.ensures.number c.job_id-job.ensures.job s.journal.books.lists.unspent c.is_unspent.result
+    c.number-number.ensures.number c.job_id-job.ensures.job (unspent_view s.journal.books.lists.booked) c.is_unspent.result
     c.is_unspent.ensures c.self.invariant.books.unspent in
     let kept = held_is s.journal.log.items c.number-number.result c.job_id-job.result a.r.number a.r.job
-    c.number-number.ensures.number c.job_id-job.ensures.job s.journal.books.lists.held c.is_held-kept.result
+    c.number-number.ensures.number c.job_id-job.ensures.job (held_view s.journal.books.lists.booked) c.is_held-kept.result
     c.is_held-kept.ensures c.self.invariant.books.held in
     rw (← c.self.view_is, own ∙ c.if-not-is_unspent.false)
     (c.committed.ensures

@@ -50,7 +50,7 @@ take-requires-clause-state g c κs within =
     let places = roomy.places in
     still_state c.self.inside.start j.books new.books j.keys.items j.keys.items j.log.items new.log.items
     (vec_len j.log) (vec_capacity j.log) (vec_len new.log) (vec_capacity new.log) c.self.invariant roomy.lists
-    refl roomy.log roomy.log_room (omega (arith, top)) (omega (arith, places))
+    refl roomy.log roomy.log_room roomy.first (omega (arith, top)) (omega (arith, places))
 
 pub returns-in_err-reserved-clause-looks : goal.returns-in_err-reserved-clause-looks
 returns-in_err-reserved-clause-looks g c =

@@ -8,8 +8,9 @@ use Rattle.sched_core.specs.Rule.{place_at, noted_over, undo_by}
 use Rattle.sched_core.specs.Answers.{unended_by}
 use Rattle.sched_core.specs.declared.answers.Undone.TheVariants as undone
 use Rattle.sched_core.specs.declared.call.Call.TheVariants as call
+use Rattle.sched_core.specs.Booked.{unspent_view, held_view}
 use Rattle.sched_core.proofs.LegalLemmas.{core_of}
-use Rattle.sched_core.proofs.BookLemmas.{log_room-spent}
+use Rattle.sched_core.proofs.BookLemmas.{log_room-spent, unspent_addressed}
 use Rattle.sched_core.proofs.StateLemmas.{spends_one}
 use Rattle.sched_core.proofs.SpendLemmas.{own_is, held_is, noted_is}
 use Rattle.sched_core.proofs.state.SchedState.undo.Goals as goal
@@ -19,7 +20,7 @@ returns-then-not-is_unspent-clause-logged g c =
     let s = c.self.inside in
     let a = c.args in
     let own = own_is s.journal.log.items c.number-number.result c.job_id-job.result a.r.number a.r.job
-    c.number-number.ensures.number c.job_id-job.ensures.job s.journal.books.lists.unspent c.is_unspent.result
+    c.number-number.ensures.number c.job_id-job.ensures.job (unspent_view s.journal.books.lists.booked) c.is_unspent.result
     c.is_unspent.ensures c.self.invariant.books.unspent in
     rw (← c.self.view_is, own ∙ c.if-not-is_unspent.true) refl
 
@@ -28,7 +29,7 @@ returns-then-not-is_unspent-clause-answer g c =
     let s = c.self.inside in
     let a = c.args in
     let own = own_is s.journal.log.items c.number-number.result c.job_id-job.result a.r.number a.r.job
-    c.number-number.ensures.number c.job_id-job.ensures.job s.journal.books.lists.unspent c.is_unspent.result
+    c.number-number.ensures.number c.job_id-job.ensures.job (unspent_view s.journal.books.lists.booked) c.is_unspent.result
     c.is_unspent.ensures c.self.invariant.books.unspent in
     rw (← c.self.view_is, own ∙ c.if-not-is_unspent.true) refl
 
@@ -37,13 +38,13 @@ take_uncounted-requires-clause-rule g c κs within =
     let s = c.self.inside in
     let a = c.args in
     let own = own_is s.journal.log.items c.number-number.result c.job_id-job.result _ _ refl refl
-    s.journal.books.lists.unspent c.is_unspent.result c.is_unspent.ensures c.self.invariant.books.unspent in
+    (unspent_view s.journal.books.lists.booked) c.is_unspent.result c.is_unspent.ensures c.self.invariant.books.unspent in
     let noted = noted_is s.journal.log.items c.number-number.result c.job_id-job.result _ _ refl refl
-    s.journal.books.lists.unspent s.journal.books.lists.rows c.unspent_address-server.result
+    (unspent_view s.journal.books.lists.booked) s.journal.books.lists.rows c.unspent_address-server.result
     c.noted-noted.result c.unspent_address-server.ensures c.noted-noted.ensures c.self.invariant.books.rows
-    c.self.invariant.books.unspent_placed (sym c.is_unspent.ensures ∙ c.if-not-is_unspent.false) in
+    (unspent_addressed s.journal.log.items s.journal.books.lists.booked c.self.invariant.books.placed) (sym c.is_unspent.ensures ∙ c.if-not-is_unspent.false) in
     let gone = held_is s.journal.log.items c.number-number.result c.job_id-job.result _ _ refl refl
-    s.journal.books.lists.held c.is_held-ended.result c.is_held-ended.ensures c.self.invariant.books.held in (
+    (held_view s.journal.books.lists.booked) c.is_held-ended.result c.is_held-ended.ensures c.self.invariant.books.held in (
       call.Undo a.now c.number-number.result c.job_id-job.result,
       own ∙ c.if-not-is_unspent.false,
       ap (λ n. undo_by n c.is_held-ended.result a.now c.job_id-job.result) noted
@@ -52,18 +53,13 @@ take_uncounted-requires-clause-rule g c κs within =
           (place_at s.journal.log.items c.number-number.result))) b a.now c.job_id-job.result) gone,
     )
 
-pub take_uncounted-requires-clause-spends : goal.take_uncounted-requires-clause-spends
-take_uncounted-requires-clause-spends g c κs within =
-    spends_one c.self.inside.journal.books.lists.unspent c.number-number.result c.job_id-job.result
-    (sym c.is_unspent.ensures ∙ c.if-not-is_unspent.false)
-
 pub take_uncounted-requires-clause-log_room : goal.take_uncounted-requires-clause-log_room
 take_uncounted-requires-clause-log_room g c κs within =
     let s = c.self.inside in
     log_room-spent s.journal.books.lists c.args.now (length s.journal.log.items)
     (Undo c.job_id-job.result c.noted-noted.result c.is_held-ended.result) (vec_len s.journal.log)
     (vec_capacity s.journal.log)
-    (spends_one s.journal.books.lists.unspent c.number-number.result c.job_id-job.result
+    (spends_one (unspent_view s.journal.books.lists.booked) c.number-number.result c.job_id-job.result
     (sym c.is_unspent.ensures ∙ c.if-not-is_unspent.false))
     c.self.invariant.log_room
 
@@ -72,15 +68,15 @@ returns-clause-logged g c =
     let s = c.self.inside in
     let a = c.args in
     let own = own_is s.journal.log.items c.number-number.result c.job_id-job.result a.r.number a.r.job
-    c.number-number.ensures.number c.job_id-job.ensures.job s.journal.books.lists.unspent c.is_unspent.result
+    c.number-number.ensures.number c.job_id-job.ensures.job (unspent_view s.journal.books.lists.booked) c.is_unspent.result
     c.is_unspent.ensures c.self.invariant.books.unspent in
     let noted = noted_is s.journal.log.items c.number-number.result c.job_id-job.result a.r.number a.r.job
-    c.number-number.ensures.number c.job_id-job.ensures.job s.journal.books.lists.unspent
+    c.number-number.ensures.number c.job_id-job.ensures.job (unspent_view s.journal.books.lists.booked)
     s.journal.books.lists.rows c.unspent_address-server.result c.noted-noted.result
     c.unspent_address-server.ensures c.noted-noted.ensures c.self.invariant.books.rows
-    c.self.invariant.books.unspent_placed (sym c.is_unspent.ensures ∙ c.if-not-is_unspent.false) in
+    (unspent_addressed s.journal.log.items s.journal.books.lists.booked c.self.invariant.books.placed) (sym c.is_unspent.ensures ∙ c.if-not-is_unspent.false) in
     let gone = held_is s.journal.log.items c.number-number.result c.job_id-job.result a.r.number a.r.job
-    c.number-number.ensures.number c.job_id-job.ensures.job s.journal.books.lists.held c.is_held-ended.result
+    c.number-number.ensures.number c.job_id-job.ensures.job (held_view s.journal.books.lists.booked) c.is_held-ended.result
     c.is_held-ended.ensures c.self.invariant.books.held in
     rw (
       ← c.self.view_is,
@@ -100,15 +96,15 @@ returns-clause-answer g c =
     let s = c.self.inside in
     let a = c.args in
     let own = own_is s.journal.log.items c.number-number.result c.job_id-job.result a.r.number a.r.job
-    c.number-number.ensures.number c.job_id-job.ensures.job s.journal.books.lists.unspent c.is_unspent.result
+    c.number-number.ensures.number c.job_id-job.ensures.job (unspent_view s.journal.books.lists.booked) c.is_unspent.result
     c.is_unspent.ensures c.self.invariant.books.unspent in
     let noted = noted_is s.journal.log.items c.number-number.result c.job_id-job.result a.r.number a.r.job
-    c.number-number.ensures.number c.job_id-job.ensures.job s.journal.books.lists.unspent
+    c.number-number.ensures.number c.job_id-job.ensures.job (unspent_view s.journal.books.lists.booked)
     s.journal.books.lists.rows c.unspent_address-server.result c.noted-noted.result
     c.unspent_address-server.ensures c.noted-noted.ensures c.self.invariant.books.rows
-    c.self.invariant.books.unspent_placed (sym c.is_unspent.ensures ∙ c.if-not-is_unspent.false) in
+    (unspent_addressed s.journal.log.items s.journal.books.lists.booked c.self.invariant.books.placed) (sym c.is_unspent.ensures ∙ c.if-not-is_unspent.false) in
     let gone = held_is s.journal.log.items c.number-number.result c.job_id-job.result a.r.number a.r.job
-    c.number-number.ensures.number c.job_id-job.ensures.job s.journal.books.lists.held c.is_held-ended.result
+    c.number-number.ensures.number c.job_id-job.ensures.job (held_view s.journal.books.lists.booked) c.is_held-ended.result
     c.is_held-ended.ensures c.self.invariant.books.held in
     rw (← c.self.view_is, own ∙ c.if-not-is_unspent.false)
     (c.undone.ensures
