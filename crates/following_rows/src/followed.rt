@@ -22,9 +22,9 @@ impl<T: Identified> Model for Following<T> {
     ghost Value = { Followed T };
 
     ghost view = { λ f. record {
-        first = f.first;
-        rows = f.rows.items;
-        has_room = nat_lt (vec_len f.rows) (vec_capacity f.rows);
+      first = f.first;
+      rows = f.rows.items;
+      has_room = nat_lt (vec_len f.rows) (vec_capacity f.rows);
     } };
 
     ghost invariant = { λ f. AreFollowing T.id_of f.first f.rows.items };

@@ -1,10 +1,10 @@
 -- The reservations as they are kept: what is asked of the row of a job, what an entry does to one row or to those
 -- that may be unended, and what is counted.
-use Rattle.std.proofs.Common.{◌≡◌, ℕ, zero, suc, ◌+◌, ◌-◌, ◌%◌, ◌^◌, ◌<◌, ◌≤◌, List, [], ◌∷◌, ◌++◌, Bool, true, false, cond}
+use Rattle.std.proofs.Common.{◌≡◌, ℕ, zero, suc, ◌+◌, ◌-◌, ◌^◌, ◌<◌, ◌≤◌, List, [], ◌∷◌, ◌++◌, Bool, true, false, cond}
 use Rattle.std.proofs.Common.{not, ◌&&◌, ◌||◌, map, filter, length, get_or, set, take, drop, Option, Some, None, refl}
 use Rattle.std.proofs.Common.{ap, ◌∙◌, sym, subst, arith, append-nil, length-append, eq-eqb, eqb-true, sum_by}
-use Rattle.std.specs.Prelude.{◌==◌, option_to_list, unwrap_or, find, if◌then◌else◌, MatchOption, IsSome, is_some}
-use Rattle.std.specs.List.{AllByRecursion, list_any, filter_map, cons_option}
+use Rattle.std.specs.Prelude.{◌==◌, find, if◌then◌else◌, MatchOption, is_some}
+use Rattle.std.specs.List.{list_any, cons_option}
 use Rattle.std.specs.Option.{option_map}
 use Rattle.std.proofs.lemmas.Bool.{false≢true}
 use Rattle.std.proofs.lemmas.List.{map-append, append_assoc, length-map, length-set, take_more, drop_more, take-append-drop}
@@ -22,7 +22,7 @@ use Rattle.sched_core.specs.declared.entry.Reserved.{Reserved}
 use Rattle.sched_core.specs.declared.entry.UpdateAnswer.{UpdateAnswer}
 use Rattle.sched_core.specs.declared.rows.HeldRow.{HeldRow}
 use Rattle.sched_core.specs.declared.rows.OpenRow.{OpenRow}
-use Rattle.sched_core.specs.Log.{same_job, newer}
+use Rattle.sched_core.specs.Log.{same_job}
 use Rattle.sched_core.specs.Reservation.{spends_by, frees_by, claims_by, is_accepted, is_started, is_complete}
 use Rattle.sched_core.specs.Job.{moves_by}
 use Rattle.sched_core.specs.Reap.{is_reaped, reap}
@@ -279,11 +279,11 @@ ended_held (b ∷ bs) ended = ap (λ t. map held_part_of (cond t (b ∷ filter (
 ended_open : (bs : List BookedRow) → AreEnded bs → open_view bs ≡ []
 ended_open [] ended = refl
 ended_open (b ∷ bs) ended = ap (λ t. cons_option (cond (t && not b.unspent) (option_map (λ s. record {
-      job = b.job;
-      reg = Some b.reg;
-      server = Some b.server;
-      state = s;
-    }) b.state) None) (open_view bs)) ended.0 ∙ ended_open bs ended.1
+  job = b.job;
+  reg = Some b.reg;
+  server = Some b.server;
+  state = s;
+}) b.state) None) (open_view bs)) ended.0 ∙ ended_open bs ended.1
 
 held_append : (bs cs : List BookedRow) → held_view (bs ++ cs) ≡ held_view bs ++ held_view cs
 held_append bs cs = ap (map held_part_of) (filter-append (λ b. b.unended) bs cs)

@@ -1,7 +1,6 @@
 -- The reservations by rising id: their ids follow one another, and begin anew at 0 at most once.
 use Rattle.std.proofs.Common.{◌≡◌, ℕ, zero, suc, ◌+◌, ◌-◌, ◌%◌, ◌^◌, ◌<◌, ◌≤◌, List, [], ◌∷◌, ◌++◌, Bool, true, false, cond, map}
-use Rattle.std.proofs.Common.{filter, length, take, drop, refl, ap, ◌∙◌, sym, subst, arith, append-nil, length-append}
-use Rattle.std.specs.Prelude.{nat_lt}
+use Rattle.std.proofs.Common.{filter, length, take, drop, refl, ap, ◌∙◌, sym, subst, arith, append-nil}
 use Rattle.std.specs.List.{AllByRecursion}
 use Rattle.std.proofs.lemmas.List.{map-append, append_assoc, take-append-drop, length-take, length-drop}
 use Rattle.std.proofs.lemmas.List.Elements.{filter-append}
@@ -95,10 +94,11 @@ strict n (b ∷ bs) are few =
     let here : AllByRecursion (λ c. (n ≤ id c) × (id c < n + length (b ∷ bs))) (b ∷ bs) = above n (b ∷ bs) are few in
     let own : id b ≡ n = are.0 ∙ small n (omega (arith, few)) in
     let rest : AllByRecursion (λ c. (n + 1 ≤ id c) × (id c < (n + 1) + length bs)) bs =
-    above (n + 1) bs are.1 (omega (arith, few)) in
-    (all-weaker (λ c. (n + 1 ≤ id c) × (id c < (n + 1) + length bs)) (λ c. id b < id c)
-    (λ c h. let low = h.0 in omega (arith, low, own)) bs rest,
-    strict (n + 1) bs are.1 (omega (arith, few)))
+    above (n + 1) bs are.1 (omega (arith, few)) in (
+      all-weaker (λ c. (n + 1 ≤ id c) × (id c < (n + 1) + length bs)) (λ c. id b < id c)
+          (λ c h. let low = h.0 in omega (arith, low, own)) bs rest,
+      strict (n + 1) bs are.1 (omega (arith, few)),
+    )
   where
     small : (m : ℕ) → m < 2 ^ 64 → m % 2 ^ 64 ≡ m
     small m lt = omega (arith, lt)

@@ -1,4 +1,4 @@
-use Rattle.std.proofs.Common.{length, sym, ◌∙◌}
+use Rattle.std.proofs.Common.{sym, ◌∙◌}
 use Rattle.sched_core.proofs.BookingLemmas.{few_open, few_unspent_rows, some_open, some_unspent, counted_change}
 use Rattle.sched_core.proofs.bookings.Bookings.change.Goals as goal
 

@@ -1,4 +1,3 @@
-use Rattle.std.proofs.Common.{length}
 use Rattle.sched_core.proofs.BookingLemmas.{few_open, few_unspent_rows, counted_push}
 use Rattle.sched_core.proofs.bookings.Bookings.push.Goals as goal
 
