@@ -91,7 +91,8 @@ jobs_after k bs o = map-append (λ (b : BookedRow). b.job) (map (booked_after k)
 pub held_parts : (bs : List BookedRow) → map held_part (job_view bs) ≡ held_view bs
 held_parts bs = map-map held_part job_part_of (filter (λ b. b.unended) bs)
 
-pub by_id_parts : (bs : List BookedRow) → map held_part (jobs_by_id bs) ≡ sorted_into (λ h. h.job.0) [] (held_view bs)
+pub by_id_parts : (bs : List BookedRow)
+    → map held_part (jobs_by_id bs) ≡ sorted_into (λ h. h.job.0) [] (held_view bs)
 by_id_parts bs = sym (sorted-map (λ j. j.job.0) (λ h. h.job.0) held_part (λ j. refl) (job_view bs))
     ∙ ap (sorted_into (λ h. h.job.0) []) (held_parts bs)
 
@@ -145,7 +146,8 @@ spent_numbers bs number job apart some =
     free (all_of (λ b. Unit {0}) (λ b. tt) free) there)
 
 -- whether it is unended is what is asked of the unended ones
-spent_held : (bs : List BookedRow) (number : ℕ) (job : JobId) (says : Bool) → AreDistinct (map (λ b. b.job) bs)
+spent_held : (bs : List BookedRow) (number : ℕ) (job : JobId) (says : Bool)
+    → AreDistinct (map (λ b. b.job) bs)
     → AllByRecursion (λ b. same_job b.job job ≡ true → owns number b ≡ true) bs
     → list_any (names_both number job) (filter (λ b. b.unended) bs) ≡ says
     → AllByRecursion (λ b. same_job b.job job ≡ true → b.unended ≡ says) bs
@@ -157,7 +159,8 @@ spent_held bs number job false apart own says =
     (λ b. b.unended ≡ true → names_both number job b ≡ true → ⊥)
     (λ b. same_job b.job job ≡ true → b.unended ≡ false)
     (λ b mine none same. is_false b.unended (λ up. none up
-    (both (b.number == number) (same_job b.job job) (and_right b.unspent (b.number == number) (mine same)) same)))
+    (both (b.number == number) (same_job b.job job) (and_right b.unspent (b.number == number) (mine same))
+    same)))
     bs own (none_among (λ b. b.unended) (names_both number job) bs says)
 
 pub spent_rows : (bs : List BookedRow) (number : ℕ) (job : JobId) (says : Bool)

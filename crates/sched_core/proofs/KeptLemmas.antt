@@ -23,7 +23,8 @@ use Rattle.sched_core.specs.declared.rows.JobRow.{JobRow}
 use Rattle.sched_core.specs.Booked.{UnspentRow}
 use Rattle.sched_core.specs.Log.{same_job, is_this, names, newer, latest}
 use Rattle.sched_core.specs.Standing.{standing, address_of, key_at}
-use Rattle.sched_core.specs.Reservation.{Booking, booked_by as reserved_by, booked_at, is_unended, unended, unspent}
+use Rattle.sched_core.specs.Reservation.{Booking, booked_by as reserved_by, booked_at, is_unended, unended}
+use Rattle.sched_core.specs.Reservation.{unspent}
 use Rattle.sched_core.specs.Reservation.{claims_by, is_claimed, spends_by, frees_by}
 use Rattle.sched_core.specs.Job.{Committed, committed_by, committed_at, commits, moves_by, moves_of}
 use Rattle.sched_core.specs.Job.{state_now, state_of, is_open, open_jobs, place_of}
@@ -264,7 +265,8 @@ booked_new_at log now (Update server job state answer) at = tt
 booked_new_at log now (Status pruned servers cpus n) at = tt
 
 -- each reservation stays where it is
-pub booked-placed : (bs : List BookedRow) (log : List CoreEntry) (e : CoreEntry) → IsAtRowBy e.kind (servers_of log)
+pub booked-placed : (bs : List BookedRow) (log : List CoreEntry) (e : CoreEntry)
+    → IsAtRowBy e.kind (servers_of log)
     → AllByRecursion (IsBookedAt log) bs → AllByRecursion (IsBookedAt (log ++ e ∷ []))
     (map (booked_after e.kind) bs ++ option_to_list (booked_by e.kind (servers_of log) (length log) e.now))
 booked-placed bs log e at all =
@@ -279,7 +281,8 @@ booked-placed bs log e at all =
 pub booked_job : (log : List CoreEntry) (k : CoreKind) (number now : ℕ) → IsAtRowBy k (servers_of log)
     → option_map (λ b. b.job) (booked_by k (servers_of log) number now)
     ≡ option_map (λ b. b.job) (reserved_by k number now [])
-booked_job log (Reserve (Job job reg forgiven)) number now at = ap (λ o. option_map (λ b. b.job) (option_map booked_new o))
+booked_job log (Reserve (Job job reg forgiven)) number now at =
+    ap (λ o. option_map (λ b. b.job) (option_map booked_new o))
     (new_job log number now job reg (servers_of log) (rows_addressed log) at).is
 booked_job log (Reserve (NoRoom n)) number now at = refl
 booked_job log (Reserve Spent) number now at = refl
