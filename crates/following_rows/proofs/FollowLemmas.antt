@@ -1,10 +1,13 @@
 -- A row is found by how far its id is from the first.
-use Rattle.std.proofs.Common.{◌≡◌, ℕ, zero, suc, ◌+◌, ◌-◌, ◌%◌, ◌^◌, ◌<◌, ◌≤◌, List, [], ◌∷◌, ◌++◌, Bool, true, false, cond}
-use Rattle.std.proofs.Common.{map, length, Option, Some, None, refl, ap, ◌∙◌, sym, subst, arith, eq-eqb, eqb-true, get_or, set}
+use Rattle.std.proofs.Common.{◌≡◌, ℕ, zero, suc, ◌+◌, ◌-◌, ◌%◌, ◌^◌, ◌<◌, ◌≤◌, List, [], ◌∷◌, ◌++◌, Bool}
+use Rattle.std.proofs.Common.{true, false, cond}
+use Rattle.std.proofs.Common.{map, length, Option, Some, None, refl, ap, ◌∙◌, sym, subst, arith, eq-eqb}
+use Rattle.std.proofs.Common.{eqb-true, get_or, set}
 use Rattle.std.specs.Prelude.{◌==◌, MatchOption}
 use Rattle.std.proofs.lemmas.List.{get_or_default}
 use Rattle.std.specs.List.{AllByRecursion}
-use Rattle.following_rows.specs.Following.{AreFollowing, IsApart, IsPlace, IsNowhere, HasNone, IsRowOf, IsPlaceOf}
+use Rattle.following_rows.specs.Following.{AreFollowing, IsApart, IsPlace, IsNowhere, HasNone, IsRowOf}
+use Rattle.following_rows.specs.Following.{IsPlaceOf}
 
 -- how far an id is from the first
 pub apart_from : (first id : ℕ) → first < 2 ^ 64 → id < 2 ^ 64
@@ -41,23 +44,27 @@ pub nowhere : {T : Type 0} (id_of : T → ℕ) (n far id : ℕ) (rows : List T) 
     → IsApart n id far → length rows ≤ far → HasNone id_of rows id
 nowhere id_of n far id [] are at le = tt
 nowhere id_of n zero id (row ∷ rows) are at le = absurd (omega (arith, le))
-nowhere id_of n (suc far) id (row ∷ rows) are at le =
-    (other_head id_of n far id row are.0 at,
-    nowhere id_of (n + 1) far id rows are.1 (moved n far id at.0, omega (arith, at.1)) (omega (arith, le)))
+nowhere id_of n (suc far) id (row ∷ rows) are at le = (
+  other_head id_of n far id row are.0 at,
+  nowhere id_of (n + 1) far id rows are.1 (moved n far id at.0, omega (arith, at.1)) (omega (arith, le)),
+)
 
 -- behind the row of the id all ids are others, as far as there are fewer than 2^64
 behind : {T : Type 0} (id_of : T → ℕ) (n far id : ℕ) (rows : List T) → AreFollowing id_of n rows
     → (id + far) % 2 ^ 64 ≡ n % 2 ^ 64 → id < 2 ^ 64 → 0 < far → far + length rows ≤ 2 ^ 64
     → AllByRecursion (λ r. (id_of r == id) ≡ false) rows
 behind id_of n far id [] are at small some few = tt
-behind id_of n far id (row ∷ rows) are at small some few =
-    (apart (id_of row) id (λ e. clash (id_of row) n far id are.0 at small some (less few) e),
-    behind id_of (n + 1) (far + 1) id rows are.1 (next id far n at) small (omega (arith, some)) (omega (arith, few)))
+behind id_of n far id (row ∷ rows) are at small some few = (
+  apart (id_of row) id (λ e. clash (id_of row) n far id are.0 at small some (less few) e),
+  behind id_of (n + 1) (far + 1) id rows are.1 (next id far n at) small (omega (arith, some))
+      (omega (arith, few)),
+)
   where
     less : far + length (row ∷ rows) ≤ 2 ^ 64 → far < 2 ^ 64
     less few = omega (arith, few)
 
-    clash : (own n far id : ℕ) → own ≡ n % 2 ^ 64 → (id + far) % 2 ^ 64 ≡ n % 2 ^ 64 → id < 2 ^ 64 → 0 < far → far < 2 ^ 64
+    clash : (own n far id : ℕ) → own ≡ n % 2 ^ 64 → (id + far) % 2 ^ 64 ≡ n % 2 ^ 64 → id < 2 ^ 64 → 0 < far
+        → far < 2 ^ 64
         → own ≡ id → ⊥
     clash own n far id is at small some less e = omega (arith, is, at, small, some, less, e)
 
@@ -77,29 +84,35 @@ pub alone : {T : Type 0} (id_of : T → ℕ) (n far id : ℕ) (rows : List T) (r
 alone id_of n far id [] row are at lt few is = absurd (omega (arith, lt))
 alone id_of n zero id (first ∷ rows) row are at lt few is =
     let own : id_of first ≡ id = are.0 ∙ ap (λ k. k % 2 ^ 64) (none_added n) ∙ at.0 in
-    let small : id < 2 ^ 64 = id_fits n zero id at in
-    (record {
-      front = [];
-      rest = rows;
-      are = ap (λ r. r ∷ rows) (sym is);
-      own = ap id_of is ∙ own;
-      before = tt;
-      behind = behind id_of (n + 1) 1 id rows are.1 (after n id at.0) small (omega arith) (omega (arith, few));
-    }, refl)
+    let small : id < 2 ^ 64 = id_fits n zero id at in (
+      record {
+        front = [];
+        rest = rows;
+        are = ap (λ r. r ∷ rows) (sym is);
+        own = ap id_of is ∙ own;
+        before = tt;
+        behind = behind id_of (n + 1) 1 id rows are.1 (after n id at.0) small (omega arith)
+            (omega (arith, few));
+      },
+      refl,
+    )
 alone id_of n (suc far) id (first ∷ rows) row are at lt few is =
     let rest = alone id_of (n + 1) far id rows row are.1 (moved n far id at.0, omega (arith, at.1))
-    (omega (arith, lt)) (omega (arith, few)) is in
-    (record {
-      front = first ∷ rest.0.front;
-      rest = rest.0.rest;
-      are = ap (λ l. first ∷ l) rest.0.are;
-      own = rest.0.own;
-      before = (other_head id_of n far id first are.0 at, rest.0.before);
-      behind = rest.0.behind;
-    }, ap suc rest.1)
+    (omega (arith, lt)) (omega (arith, few)) is in (
+      record {
+        front = first ∷ rest.0.front;
+        rest = rest.0.rest;
+        are = ap (λ l. first ∷ l) rest.0.are;
+        own = rest.0.own;
+        before = (other_head id_of n far id first are.0 at, rest.0.before);
+        behind = rest.0.behind;
+      },
+      ap suc rest.1,
+    )
 
 -- a row of the same id in a place
-pub following_put : {T : Type 0} (id_of : T → ℕ) (n place : ℕ) (new : T) (rows : List T) → AreFollowing id_of n rows
+pub following_put : {T : Type 0} (id_of : T → ℕ) (n place : ℕ) (new : T) (rows : List T)
+    → AreFollowing id_of n rows
     → id_of (get_or rows place new) ≡ id_of new → AreFollowing id_of n (set rows place new)
 following_put id_of n place new [] are same = tt
 following_put id_of n zero new (row ∷ rows) are same = (sym same ∙ are.0, are.1)
@@ -107,7 +120,8 @@ following_put id_of n (suc place) new (row ∷ rows) are same =
     (are.0, following_put id_of (n + 1) place new rows are.1 same)
 
 -- one row more
-pub following_push : {T : Type 0} (id_of : T → ℕ) (n : ℕ) (new : T) (rows : List T) → AreFollowing id_of n rows
+pub following_push : {T : Type 0} (id_of : T → ℕ) (n : ℕ) (new : T) (rows : List T)
+    → AreFollowing id_of n rows
     → id_of new ≡ (n + length rows) % 2 ^ 64 → AreFollowing id_of n (rows ++ new ∷ [])
 following_push id_of n new [] are is = (is ∙ ap (λ k. k % 2 ^ 64) (none n), tt)
   where
@@ -120,7 +134,8 @@ following_push id_of n new (row ∷ rows) are is =
     sum a b = omega arith
 
 -- what a place says, it says of the row in it
-pub placed : {T : Type 0} (id_of : T → ℕ) (n id : ℕ) (rows : List T) (o : Option ℕ) → AreFollowing id_of n rows
+pub placed : {T : Type 0} (id_of : T → ℕ) (n id : ℕ) (rows : List T) (o : Option ℕ)
+    → AreFollowing id_of n rows
     → length rows ≤ 2 ^ 64 → MatchOption o (IsNowhere (length rows) n id) (IsPlace (length rows) n id)
     → MatchOption o (HasNone id_of rows id) (IsPlaceOf id_of rows id)
 placed id_of n id rows None are few at = nowhere id_of n at.0 id rows are at.2 at.1

@@ -1,14 +1,15 @@
 //! `Following`: rows by their ids.
 ghost use Rattle.std.specs.Prelude.{◌≡◌, ◌<◌, ◌+◌, ◌%◌, ◌^◌, [], ◌∷◌, ◌++◌, true, OnOk, MatchOption};
 ghost use Rattle.std.specs.Prelude.{length, slice_index_or, slice_set};
-ghost use Rattle.following_rows.specs.Following.{AreFollowing, IsPlace, IsNowhere, HasNone, IsRowOf, IsPlaceOf};
+ghost use Rattle.following_rows.specs.Following.{AreFollowing, IsPlace, IsNowhere, HasNone, IsRowOf};
+ghost use Rattle.following_rows.specs.Following.{IsPlaceOf};
 
 use crate::identified::Identified;
 use std::alloc::{AllocError, Global};
 use std::marker::Model;
 
-/// Rows whose ids follow one another modulo 2^64. Contracts see the id of the first, the rows, and whether there
-/// is room for one more.
+/// Rows whose ids follow one another modulo 2^64. Contracts see the id of the first, the rows, and whether
+/// there is room for one more.
 #[derive(Drop)]
 pub struct Following<T: Identified> {
     rows: Vec<T>,
@@ -22,9 +23,9 @@ impl<T: Identified> Model for Following<T> {
     ghost Value = { Followed T };
 
     ghost view = { λ f. record {
-        first = f.first;
-        rows = f.rows.items;
-        has_room = nat_lt (vec_len f.rows) (vec_capacity f.rows);
+      first = f.first;
+      rows = f.rows.items;
+      has_room = nat_lt (vec_len f.rows) (vec_capacity f.rows);
     } };
 
     ghost invariant = { λ f. AreFollowing T.id_of f.first f.rows.items };

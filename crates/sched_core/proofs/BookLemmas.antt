@@ -28,7 +28,8 @@ use Rattle.sched_core.specs.Prune.{prune, left}
 use Rattle.sched_core.specs.Rule.{place_at, is_left, counts_over}
 use Rattle.sched_core.specs.Laws.{IsRule, IsLegal, AreDistinct}
 use Rattle.sched_core.specs.Books.{Lists, AreBooks, IsBookedAt, key_stays, key_by, unspent_stays, unspent_by}
-use Rattle.sched_core.specs.Books.{job_over, job_by, lists_next, unspent_next, SpendsOne, MayReserve, place_if, served_by}
+use Rattle.sched_core.specs.Books.{job_over, job_by, lists_next, unspent_next, SpendsOne, MayReserve}
+use Rattle.sched_core.specs.Books.{place_if, served_by}
 use Rattle.sched_core.specs.Books.{held_stays, held_after, held_by, booked_after, booked_by}
 use Rattle.sched_core.specs.Books.{place_of_unspent, place_of_booking}
 use Rattle.sched_core.specs.Booked.{UnspentRow, AreReordered, booked_new, job_part_of, held_view, job_view}
@@ -119,14 +120,17 @@ pub made_are : (bs : List BookedRow) (log : List CoreEntry)
 made_are bs log is = sym (length-map bs (λ b. b.job)) ∙ ap length is ∙ length-map (bookings log) (λ b. b.job)
 
 -- the job of a new reservation has the id after that of the last
-pub next_follows : (start : Start) (first : ℕ) (books : Lists) (keys : List (ℕ × List ℕ)) (log : List CoreEntry)
+pub next_follows : (start : Start) (first : ℕ) (books : Lists) (keys : List (ℕ × List ℕ))
+    (log : List CoreEntry)
     (e : CoreEntry) (number : ℕ) → AreBooks books keys log → IsRule (core_of start log) e
     → first ≡ (start.base + start.count) % 2 ^ 64
-    → IfSome (booked_by e.kind books.rows number e.now) (λ b. b.job.0 ≡ (first + length books.booked) % 2 ^ 64)
+    → IfSome (booked_by e.kind books.rows number e.now)
+    (λ b. b.job.0 ≡ (first + length books.booked) % 2 ^ 64)
 next_follows start first books keys log e number is rule_is begins_at =
     by_kind e.kind (facts (core_of start log) e rule_is)
   where
-    sum : (m n given : ℕ) → m ≡ (start.base + start.count) % 2 ^ 64 → n ≡ given → (start.base + (start.count + given)) % 2 ^ 64
+    sum : (m n given : ℕ) → m ≡ (start.base + start.count) % 2 ^ 64 → n ≡ given
+        → (start.base + (start.count + given)) % 2 ^ 64
         ≡ (m + n) % 2 ^ 64
     sum m n given from same = omega (arith, from, same)
 
@@ -172,7 +176,8 @@ pub unspent_addressed : (log : List CoreEntry) (bs : List BookedRow) → AllByRe
     → AllByRecursion (λ u. (place_at log u.number ≡ Some u.reg) × (address_of log u.reg ≡ Some u.server))
     (unspent_view bs)
 unspent_addressed log bs all =
-    all-map (λ u. (place_at log u.number ≡ Some u.reg) × (address_of log u.reg ≡ Some u.server)) unspent_part_of
+    all-map (λ u. (place_at log u.number ≡ Some u.reg) × (address_of log u.reg ≡ Some u.server))
+    unspent_part_of
     (filter (λ b. b.unspent) bs)
     (all-filter (IsBookedAt log) (IsBookedAt log) (λ b. b.unspent) (λ b h t. h) bs all)
 
@@ -182,7 +187,8 @@ by_id_held bs log is = by_id_parts bs ∙ ap (sorted_into (λ h. h.job.0) []) is
 
 pub by_id_addressed : (log : List CoreEntry) (bs : List BookedRow) → AllByRecursion (IsBookedAt log) bs
     → AllByRecursion (λ j. address_of log j.reg ≡ Some j.server) (jobs_by_id bs)
-by_id_addressed log bs all = sorted-all (λ j. address_of log j.reg ≡ Some j.server) (λ j. j.job.0) [] (job_view bs) tt
+by_id_addressed log bs all =
+    sorted-all (λ j. address_of log j.reg ≡ Some j.server) (λ j. j.job.0) [] (job_view bs) tt
     (jobs_addressed log bs all)
 
 -- the lists after an entry are the longer log's
@@ -216,7 +222,8 @@ absorbed start old old_keys new_keys log e fits books legal rule_is keys =
       keys = keys ∙ keys-absorb old_keys log e books.keys;
       jobs = rw books.rows same_jobs;
       made = rw books.rows (made_are (map (booked_after e.kind) bs
-          ++ option_to_list (booked_by e.kind (servers_of log) (length log) e.now)) (log ++ e ∷ []) same_jobs);
+          ++ option_to_list (booked_by e.kind (servers_of log) (length log) e.now)) (log ++ e ∷ [])
+          same_jobs);
       apart = rw books.rows (subst AreDistinct (sym same_jobs) (legal_distinct start (log ++ e ∷ []) fits
           (legal-push start [] log e legal rule_is)));
       held = rw books.rows (held_next e.kind bs made
@@ -239,10 +246,12 @@ absorbed start old old_keys new_keys log e fits books legal rule_is keys =
 -- room
 
 -- where a reservation is made, the entry is a reserve's
-pub made_reserves : (k : CoreKind) (rows : List ServerRow) (number now : ℕ) → IsSome (booked_by k rows number now)
+pub made_reserves : (k : CoreKind) (rows : List ServerRow) (number now : ℕ)
+    → IsSome (booked_by k rows number now)
     → MayReserve k
 made_reserves (Reserve r) rows number now some = tt
-made_reserves (Beat server nonce cpus key pruned reaped replaced is_new) rows number now some = absurd (false≢true some)
+made_reserves (Beat server nonce cpus key pruned reaped replaced is_new) rows number now some =
+    absurd (false≢true some)
 made_reserves (Commit job state kept) rows number now some = absurd (false≢true some)
 made_reserves (Undo job noted was_ended) rows number now some = absurd (false≢true some)
 made_reserves (Update server job state answer) rows number now some = absurd (false≢true some)
@@ -263,7 +272,8 @@ few_unspent lists e number =
 
 -- room for one entry, whatever it does
 pub log_room-one : (lists : Lists) (e : CoreEntry) (number len capacity : ℕ)
-    → len + length (unspent_view lists.booked) + 2 ≤ capacity → len + 1 + length (unspent_next lists e number) ≤ capacity
+    → len + length (unspent_view lists.booked) + 2 ≤ capacity
+    → len + 1 + length (unspent_next lists e number) ≤ capacity
 log_room-one lists e number len capacity room = let few = few_unspent lists e number
     in omega (arith, few, room)
 
@@ -285,7 +295,8 @@ not_same : (job other : JobId) → same_job job other ≡ true → not (same_job
 not_same job other e = ap not e
 
 pub one_spent : (lists : Lists) (now number : ℕ) (k : CoreKind) → SpendsOne k (unspent_view lists.booked)
-    → length (unspent_next lists (record { now = now; kind = k }) number) + 1 ≤ length (unspent_view lists.booked)
+    → length (unspent_next lists (record { now = now; kind = k }) number) + 1
+    ≤ length (unspent_view lists.booked)
 one_spent lists now number (Commit job state kept) some =
     rw (append-nil (filter (λ (u : UnspentRow). not (same_job job u.job)) (unspent_view lists.booked)))
     (filter-fewer (λ u. not (same_job job u.job)) (λ u. same_job job u.job)

@@ -1,6 +1,6 @@
 -- What an entry does to the one list of reservations, it does to each view of it.
 use Rattle.std.proofs.Common.{◌≡◌, ℕ, List, ◌++◌, ◌∷◌, [], Bool, true, false, cond, not, ◌&&◌, map, filter}
-use Rattle.std.proofs.Common.{Option, Some, None, refl, ap, ◌∙◌, sym, subst}
+use Rattle.std.proofs.Common.{Option, Some, None, refl, ap, ◌∙◌, sym}
 use Rattle.std.specs.Prelude.{◌==◌, option_to_list}
 use Rattle.std.specs.List.{AllByRecursion, list_any}
 use Rattle.std.specs.Option.{option_map}
@@ -9,7 +9,6 @@ use Rattle.std.proofs.lemmas.List.Elements.{filter-append}
 use Rattle.dist_types.specs.declared.ids.JobId.{JobId}
 use Rattle.sched_core.specs.declared.booked.BookedRow.{BookedRow}
 use Rattle.sched_core.specs.declared.entry.CoreKind.{CoreKind}
-use Rattle.sched_core.specs.declared.rows.HeldRow.{HeldRow}
 use Rattle.sched_core.specs.declared.rows.JobRow.{JobRow}
 use Rattle.sched_core.specs.Log.{same_job}
 use Rattle.sched_core.specs.Reservation.{spends_by, frees_by}
@@ -17,7 +16,7 @@ use Rattle.sched_core.specs.Rows.{sorted_into}
 use Rattle.sched_core.specs.Books.{held_part}
 use Rattle.sched_core.specs.Laws.{AreDistinct}
 use Rattle.sched_core.specs.Books.{held_stays, held_after, unspent_stays, unspent_by, booked_after}
-use Rattle.sched_core.specs.Booked.{UnspentRow, booked_new, held_part_of, job_part_of, unspent_part_of}
+use Rattle.sched_core.specs.Booked.{booked_new, held_part_of, job_part_of, unspent_part_of}
 use Rattle.sched_core.specs.Booked.{held_view, job_view, jobs_by_id, unspent_view}
 use Rattle.sched_core.proofs.Lists.{map-map, filter-map, filter-filter, list_any-map, map-option}
 use Rattle.sched_core.proofs.AllLemmas.{and_left, and_right, both, or_left, or_right, true_false, is_false}
@@ -92,7 +91,8 @@ jobs_after k bs o = map-append (λ (b : BookedRow). b.job) (map (booked_after k)
 pub held_parts : (bs : List BookedRow) → map held_part (job_view bs) ≡ held_view bs
 held_parts bs = map-map held_part job_part_of (filter (λ b. b.unended) bs)
 
-pub by_id_parts : (bs : List BookedRow) → map held_part (jobs_by_id bs) ≡ sorted_into (λ h. h.job.0) [] (held_view bs)
+pub by_id_parts : (bs : List BookedRow)
+    → map held_part (jobs_by_id bs) ≡ sorted_into (λ h. h.job.0) [] (held_view bs)
 by_id_parts bs = sym (sorted-map (λ j. j.job.0) (λ h. h.job.0) held_part (λ j. refl) (job_view bs))
     ∙ ap (sorted_into (λ h. h.job.0) []) (held_parts bs)
 
@@ -139,12 +139,15 @@ spent_numbers bs number job apart some =
     each_same (λ b. b.job) (owns number) job bs apart
     (ap (list_any (λ b. same_job b.job job)) (filter-filter (λ b. b.number == number) (λ b. b.unspent) bs)
     ∙ any-kept (λ b. Unit {0}) (names_both number job) (λ b. same_job b.job job) (λ b. b.number == number)
-    (λ b u t. (and_right (b.number == number) (same_job b.job job) t,
-    and_left (b.number == number) (same_job b.job job) t))
+    (λ b u t. (
+      and_right (b.number == number) (same_job b.job job) t,
+      and_left (b.number == number) (same_job b.job job) t,
+    ))
     free (all_of (λ b. Unit {0}) (λ b. tt) free) there)
 
 -- whether it is unended is what is asked of the unended ones
-spent_held : (bs : List BookedRow) (number : ℕ) (job : JobId) (says : Bool) → AreDistinct (map (λ b. b.job) bs)
+spent_held : (bs : List BookedRow) (number : ℕ) (job : JobId) (says : Bool)
+    → AreDistinct (map (λ b. b.job) bs)
     → AllByRecursion (λ b. same_job b.job job ≡ true → owns number b ≡ true) bs
     → list_any (names_both number job) (filter (λ b. b.unended) bs) ≡ says
     → AllByRecursion (λ b. same_job b.job job ≡ true → b.unended ≡ says) bs
@@ -156,7 +159,8 @@ spent_held bs number job false apart own says =
     (λ b. b.unended ≡ true → names_both number job b ≡ true → ⊥)
     (λ b. same_job b.job job ≡ true → b.unended ≡ false)
     (λ b mine none same. is_false b.unended (λ up. none up
-    (both (b.number == number) (same_job b.job job) (and_right b.unspent (b.number == number) (mine same)) same)))
+    (both (b.number == number) (same_job b.job job) (and_right b.unspent (b.number == number) (mine same))
+    same)))
     bs own (none_among (λ b. b.unended) (names_both number job) bs says)
 
 pub spent_rows : (bs : List BookedRow) (number : ℕ) (job : JobId) (says : Bool)

@@ -1,13 +1,16 @@
--- The reservations as they are kept: what is asked of the row of a job, what an entry does to one row or to those
--- that may be unended, and what is counted.
-use Rattle.std.proofs.Common.{◌≡◌, ℕ, zero, suc, ◌+◌, ◌-◌, ◌%◌, ◌^◌, ◌<◌, ◌≤◌, List, [], ◌∷◌, ◌++◌, Bool, true, false, cond}
-use Rattle.std.proofs.Common.{not, ◌&&◌, ◌||◌, map, filter, length, get_or, set, take, drop, Option, Some, None, refl}
+-- The reservations as they are kept: what is asked of the row of a job, what an entry does to one row or to
+-- those that may be unended, and what is counted.
+use Rattle.std.proofs.Common.{◌≡◌, ℕ, zero, suc, ◌+◌, ◌-◌, ◌^◌, ◌<◌, ◌≤◌, List, [], ◌∷◌, ◌++◌, Bool, true}
+use Rattle.std.proofs.Common.{false, cond}
+use Rattle.std.proofs.Common.{not, ◌&&◌, ◌||◌, map, filter, length, get_or, set, take, drop, Option, Some}
+use Rattle.std.proofs.Common.{None, refl}
 use Rattle.std.proofs.Common.{ap, ◌∙◌, sym, subst, arith, append-nil, length-append, eq-eqb, eqb-true, sum_by}
-use Rattle.std.specs.Prelude.{◌==◌, option_to_list, unwrap_or, find, if◌then◌else◌, MatchOption, IsSome, is_some}
-use Rattle.std.specs.List.{AllByRecursion, list_any, filter_map, cons_option}
+use Rattle.std.specs.Prelude.{◌==◌, find, if◌then◌else◌, MatchOption, is_some}
+use Rattle.std.specs.List.{list_any, cons_option}
 use Rattle.std.specs.Option.{option_map}
 use Rattle.std.proofs.lemmas.Bool.{false≢true}
-use Rattle.std.proofs.lemmas.List.{map-append, append_assoc, length-map, length-set, take_more, drop_more, take-append-drop}
+use Rattle.std.proofs.lemmas.List.{map-append, append_assoc, length-map, length-set, take_more, drop_more}
+use Rattle.std.proofs.lemmas.List.{take-append-drop}
 use Rattle.std.proofs.lemmas.List.{get_or_default, length-take, length-drop}
 use Rattle.std.proofs.lemmas.List.Elements.{filter-append, filter_map-append}
 use Rattle.std.proofs.lemmas.List.Sums.{sum_by-cons, sum_by-set, sum_by_push, sum_by_more_le}
@@ -22,13 +25,14 @@ use Rattle.sched_core.specs.declared.entry.Reserved.{Reserved}
 use Rattle.sched_core.specs.declared.entry.UpdateAnswer.{UpdateAnswer}
 use Rattle.sched_core.specs.declared.rows.HeldRow.{HeldRow}
 use Rattle.sched_core.specs.declared.rows.OpenRow.{OpenRow}
-use Rattle.sched_core.specs.Log.{same_job, newer}
+use Rattle.sched_core.specs.Log.{same_job}
 use Rattle.sched_core.specs.Reservation.{spends_by, frees_by, claims_by, is_accepted, is_started, is_complete}
 use Rattle.sched_core.specs.Job.{moves_by}
 use Rattle.sched_core.specs.Reap.{is_reaped, reap}
 use Rattle.sched_core.specs.Rule.{is_left}
 use Rattle.sched_core.specs.Books.{begins_by, booked_after, LeavesOthers, LeavesEnded, FreesNoOther}
-use Rattle.sched_core.specs.Booked.{UnspentRow, held_part_of, unspent_part_of, open_part_of, held_view, job_view, job_part_of}
+use Rattle.sched_core.specs.Booked.{UnspentRow, held_part_of, unspent_part_of, open_part_of, held_view}
+use Rattle.sched_core.specs.Booked.{job_view, job_part_of}
 use Rattle.sched_core.specs.Booked.{unspent_view, open_view, AreEnded, AreCounted, IsFirstHeld, is_unspent_in}
 use Rattle.sched_core.specs.Booked.{is_held_in, address_in, open_in}
 use Rattle.sched_core.proofs.Lists.{map-map, filter-map, filter-filter, list_any-map}
@@ -37,7 +41,8 @@ use Rattle.sched_core.proofs.AllLemmas.{is_false, true_false, same_job-sym, all-
 -- what an entry leaves as it is
 
 unchanged : (k : CoreKind) (b : BookedRow) (state : Option JobState) (claimed unspent unended : Bool)
-    → begins_by k b.job ≡ None → moves_by k b.job ≡ None → claims_by k b.job ≡ false → spends_by k b.job ≡ false
+    → begins_by k b.job ≡ None → moves_by k b.job ≡ None → claims_by k b.job ≡ false
+    → spends_by k b.job ≡ false
     → (unended && not (frees_by k b.job b.reg)) ≡ unended
     → booked_after k (record b { state = state; claimed = claimed; unspent = unspent; unended = unended })
     ≡ record b { state = state; claimed = claimed; unspent = unspent; unended = unended }
@@ -104,7 +109,8 @@ update_leaves server job state answer b other =
     same_row (Update server job state answer) b refl
     (ap (λ t. if is_accepted answer && t then Some state else None) apart
     ∙ ap (λ t. if t then Some state else None) (and_no (is_accepted answer)))
-    (ap (λ t. is_started state && is_accepted answer && t) apart ∙ and_no (is_started state && is_accepted answer))
+    (ap (λ t. is_started state && is_accepted answer && t) apart
+    ∙ and_no (is_started state && is_accepted answer))
     refl
     (ap (λ t. b.unended && not ((is_complete state && is_accepted answer && t) || false)) apart
     ∙ ap (λ t. b.unended && not (t || false)) (and_no (is_complete state && is_accepted answer))
@@ -121,7 +127,8 @@ ended_still false f is = refl
 ended_still true f is = absurd (false≢true (sym is))
 
 pub beat_leaves : (server : Addr) (nonce cpus : ℕ) (key pruned : List ℕ) (reaped : List JobId)
-    (replaced : Option ℕ) (is_new : Bool) → LeavesEnded (Beat server nonce cpus key pruned reaped replaced is_new)
+    (replaced : Option ℕ) (is_new : Bool)
+    → LeavesEnded (Beat server nonce cpus key pruned reaped replaced is_new)
 beat_leaves server nonce cpus key pruned reaped replaced is_new b ended =
     same_row (Beat server nonce cpus key pruned reaped replaced is_new) b refl refl refl refl
     (ended_still b.unended
@@ -171,7 +178,8 @@ place_within bs wanted place is =
 
 pub one_settled : (k : CoreKind) (job : JobId) (bs new : List BookedRow) (place : ℕ) → LeavesOthers k job
     → IsPlaceOf (λ b. b.job.0) bs job.0 place
-    → ((d : BookedRow) → new ≡ set bs place (booked_after k (get_or bs place d))) → new ≡ map (booked_after k) bs
+    → ((d : BookedRow) → new ≡ set bs place (booked_after k (get_or bs place d)))
+    → new ≡ map (booked_after k) bs
 one_settled k job bs new place leaves is does =
     let front : List BookedRow = is.whole.front in
     let rest : List BookedRow = is.whole.rest in
@@ -181,13 +189,15 @@ one_settled k job bs new place leaves is does =
     ∙ ap (λ b. set (front ++ row ∷ rest) place (booked_after k b)) (read_at front rest row row place is.at)
     ∙ set_at front rest row (booked_after k row) place is.at
     ∙ ap (λ l. l ++ booked_after k row ∷ rest) (all_leave k job front leaves is.whole.before)
-    ∙ ap (λ l. map (booked_after k) front ++ booked_after k row ∷ l) (all_leave k job rest leaves is.whole.behind)
+    ∙ ap (λ l. map (booked_after k) front ++ booked_after k row ∷ l)
+    (all_leave k job rest leaves is.whole.behind)
     ∙ sym (map-append (booked_after k) front (row ∷ rest))
     ∙ ap (map (booked_after k)) (sym is.whole.are)
 
 -- an entry that goes over those that may be unended
 
-ended_leave : (k : CoreKind) (bs : List BookedRow) → LeavesEnded k → AreEnded bs → map (booked_after k) bs ≡ bs
+ended_leave : (k : CoreKind) (bs : List BookedRow) → LeavesEnded k → AreEnded bs
+    → map (booked_after k) bs ≡ bs
 ended_leave k [] leaves ended = refl
 ended_leave k (b ∷ bs) leaves ended = ap (λ c. c ∷ map (booked_after k) bs) (leaves b ended.0)
     ∙ ap (λ l. b ∷ l) (ended_leave k bs leaves ended.1)
@@ -258,7 +268,8 @@ ended_none : (n : ℕ) → AreEnded (take n [])
 ended_none zero = tt
 ended_none (suc n) = tt
 
-ended_both : (bs : List BookedRow) (i j n : ℕ) → n ≡ i + j → AreEnded (take i bs) → AreEnded (take j (drop i bs))
+ended_both : (bs : List BookedRow) (i j n : ℕ) → n ≡ i + j → AreEnded (take i bs)
+    → AreEnded (take j (drop i bs))
     → AreEnded (take n bs)
 ended_both [] i j n is front behind = ended_none n
 ended_both (b ∷ bs) zero j n is front behind =
@@ -279,11 +290,11 @@ ended_held (b ∷ bs) ended = ap (λ t. map held_part_of (cond t (b ∷ filter (
 ended_open : (bs : List BookedRow) → AreEnded bs → open_view bs ≡ []
 ended_open [] ended = refl
 ended_open (b ∷ bs) ended = ap (λ t. cons_option (cond (t && not b.unspent) (option_map (λ s. record {
-      job = b.job;
-      reg = Some b.reg;
-      server = Some b.server;
-      state = s;
-    }) b.state) None) (open_view bs)) ended.0 ∙ ended_open bs ended.1
+  job = b.job;
+  reg = Some b.reg;
+  server = Some b.server;
+  state = s;
+}) b.state) None) (open_view bs)) ended.0 ∙ ended_open bs ended.1
 
 held_append : (bs cs : List BookedRow) → held_view (bs ++ cs) ≡ held_view bs ++ held_view cs
 held_append bs cs = ap (map held_part_of) (filter-append (λ b. b.unended) bs cs)
@@ -302,7 +313,8 @@ pub rest_is : {X : Type 0} (xs : List X) (n : ℕ) → take (length xs - n) (dro
 rest_is xs n = let behind = length-drop n xs in take_past (drop n xs) (length xs - n) (omega (arith, behind))
 
 pub counted_ended : (bs : List BookedRow) (open_ones unspent n more : ℕ) → AreCounted bs open_ones unspent n
-    → more ≤ length (take (length bs - n) (drop n bs)) → AreEnded (take more (take (length bs - n) (drop n bs)))
+    → more ≤ length (take (length bs - n) (drop n bs))
+    → AreEnded (take more (take (length bs - n) (drop n bs)))
     → AreCounted bs open_ones unspent (n + more)
 counted_ended bs open_ones unspent n more is le ended =
     let few = ap length (rest_is bs n) in
@@ -313,7 +325,8 @@ counted_ended bs open_ones unspent n more is le ended =
       open_are = is.open_are;
       unspent_are = is.unspent_are;
       within = omega (arith, le, few, behind, within);
-      ended_are = ended_more bs n more is.ended_are (subst (λ l. AreEnded (take more l)) (rest_is bs n) ended);
+      ended_are = ended_more bs n more is.ended_are
+          (subst (λ l. AreEnded (take more l)) (rest_is bs n) ended);
     }
 
 -- what is asked of the reservation of a job
@@ -328,7 +341,8 @@ any_none p number job (b ∷ bs) none = split (p b) (any_none p number job bs no
   where
     split : (t : Bool) → list_any (names_both number job) (filter p bs) ≡ false
         → list_any (names_both number job) (cond t (b ∷ filter p bs) (filter p bs)) ≡ false
-    split true rest = ap (λ t. ((b.number == number) && t) || list_any (names_both number job) (filter p bs)) none.0
+    split true rest = ap (λ t. ((b.number == number) && t) || list_any (names_both number job) (filter p bs))
+        none.0
         ∙ ap (λ t. t || list_any (names_both number job) (filter p bs)) (and_no (b.number == number)) ∙ rest
     split false rest = rest
 
@@ -345,7 +359,8 @@ any_row p number job [] rest row before behind own = split (p row) (any_none p n
         → list_any (names_both number job) (cond t (row ∷ filter p rest) (filter p rest))
         ≡ (t && (row.number == number))
     split false none = none
-    split true none = ap (λ t. ((row.number == number) && t) || list_any (names_both number job) (filter p rest)) own
+    split true none = ap (λ t. ((row.number == number) && t) || list_any (names_both number job)
+        (filter p rest)) own
         ∙ ap (λ t. ((row.number == number) && true) || t) none ∙ alone (row.number == number)
 any_row p number job (b ∷ front) rest row before behind own = split (p b)
     (any_row p number job front rest row before.1 behind own)
@@ -356,7 +371,8 @@ any_row p number job (b ∷ front) rest row before behind own = split (p b)
         ≡ (p row && (row.number == number))
     split true later = ap (λ t. ((b.number == number) && t) || list_any (names_both number job)
         (filter p (front ++ row ∷ rest))) before.0
-        ∙ ap (λ t. t || list_any (names_both number job) (filter p (front ++ row ∷ rest))) (and_no (b.number == number))
+        ∙ ap (λ t. t || list_any (names_both number job) (filter p (front ++ row ∷ rest)))
+        (and_no (b.number == number))
         ∙ later
     split false later = later
 
@@ -365,10 +381,12 @@ pub asked_unspent : (bs : List BookedRow) (number : ℕ) (job : JobId) (o : Opti
     → is_unspent_in o number ≡ list_any (λ u. (u.number == number) && same_job u.job job) (unspent_view bs)
 asked_unspent bs number job None is = sym (list_any-map (λ u. (u.number == number) && same_job u.job job)
     unspent_part_of (filter (λ b. b.unspent) bs) ∙ any_none (λ b. b.unspent) number job bs is)
-asked_unspent bs number job (Some row) is = sym (list_any-map (λ u. (u.number == number) && same_job u.job job)
+asked_unspent bs number job (Some row) is =
+    sym (list_any-map (λ u. (u.number == number) && same_job u.job job)
     unspent_part_of (filter (λ b. b.unspent) bs)
     ∙ ap (λ l. list_any (names_both number job) (filter (λ b. b.unspent) l)) is.are
-    ∙ any_row (λ b. b.unspent) number job is.front is.rest row is.before is.behind (eq-eqb row.job.0 job.0 is.own))
+    ∙ any_row (λ b. b.unspent) number job is.front is.rest row is.before is.behind
+    (eq-eqb row.job.0 job.0 is.own))
 
 pub asked_held : (bs : List BookedRow) (number : ℕ) (job : JobId) (o : Option BookedRow)
     → MatchOption o (HasNone (λ b. b.job.0) bs job.0) (IsRowOf (λ b. b.job.0) bs job.0)
@@ -378,7 +396,8 @@ asked_held bs number job None is = sym (list_any-map (λ h. (h.number == number)
 asked_held bs number job (Some row) is = sym (list_any-map (λ h. (h.number == number) && same_job h.job job)
     held_part_of (filter (λ b. b.unended) bs)
     ∙ ap (λ l. list_any (names_both number job) (filter (λ b. b.unended) l)) is.are
-    ∙ any_row (λ b. b.unended) number job is.front is.rest row is.before is.behind (eq-eqb row.job.0 job.0 is.own))
+    ∙ any_row (λ b. b.unended) number job is.front is.rest row is.before is.behind
+    (eq-eqb row.job.0 job.0 is.own))
 
 -- the address of the unspent one
 
@@ -417,7 +436,8 @@ find_row number job [] rest row before behind own = split row.unspent (find_none
         → address_of_found (find (named number job) (map unspent_part_of
         (cond t (row ∷ filter (λ b. b.unspent) rest) (filter (λ b. b.unspent) rest))))
         ≡ (if t && (row.number == number) then Some row.server else None)
-    split true none = ap (λ t. address_of_found (cond ((row.number == number) && t) (Some (unspent_part_of row))
+    split true none = ap (λ t. address_of_found
+        (cond ((row.number == number) && t) (Some (unspent_part_of row))
         (find (named number job) (unspent_view rest)))) own ∙ inner (row.number == number) none
     split false none = ap address_of_found none
 find_row number job (b ∷ front) rest row before behind own = split b.unspent
@@ -426,12 +446,15 @@ find_row number job (b ∷ front) rest row before behind own = split b.unspent
     split : (t : Bool) → address_of_found (find (named number job) (unspent_view (front ++ row ∷ rest)))
         ≡ (if row.unspent && (row.number == number) then Some row.server else None)
         → address_of_found (find (named number job) (map unspent_part_of
-        (cond t (b ∷ filter (λ b. b.unspent) (front ++ row ∷ rest)) (filter (λ b. b.unspent) (front ++ row ∷ rest)))))
+        (cond t (b ∷ filter (λ b. b.unspent) (front ++ row ∷ rest))
+        (filter (λ b. b.unspent) (front ++ row ∷ rest)))))
         ≡ (if row.unspent && (row.number == number) then Some row.server else None)
-    split true rest_is = ap (λ t. address_of_found (cond ((b.number == number) && t) (Some (unspent_part_of b))
+    split true rest_is = ap
+        (λ t. address_of_found (cond ((b.number == number) && t) (Some (unspent_part_of b))
         (find (named number job) (unspent_view (front ++ row ∷ rest))))) before.0
         ∙ ap (λ t. address_of_found (cond t (Some (unspent_part_of b))
-        (find (named number job) (unspent_view (front ++ row ∷ rest))))) (and_no (b.number == number)) ∙ rest_is
+        (find (named number job) (unspent_view (front ++ row ∷ rest))))) (and_no (b.number == number))
+        ∙ rest_is
     split false rest_is = rest_is
 
 pub asked_address : (bs : List BookedRow) (number : ℕ) (job : JobId) (o : Option BookedRow)
@@ -501,9 +524,11 @@ unspent_size b = size b.unspent
 
 open_sum : (bs : List BookedRow) → length (open_view bs) ≡ sum_by open_size bs
 open_sum [] = refl
-open_sum (b ∷ bs) = split (open_part_of b) ∙ ap (λ n. open_size b + n) (open_sum bs) ∙ sym (sum_by-cons open_size b bs)
+open_sum (b ∷ bs) = split (open_part_of b) ∙ ap (λ n. open_size b + n) (open_sum bs)
+    ∙ sym (sum_by-cons open_size b bs)
   where
-    split : (o : Option OpenRow) → length (cons_option o (open_view bs)) ≡ size (is_some o) + length (open_view bs)
+    split : (o : Option OpenRow)
+        → length (cons_option o (open_view bs)) ≡ size (is_some o) + length (open_view bs)
     split None = omega arith
     split (Some o) = omega arith
 
@@ -524,15 +549,18 @@ size_few false = omega arith
 sum_few : (f : BookedRow → ℕ) → ((b : BookedRow) → f b ≤ 1) → (bs : List BookedRow) → sum_by f bs ≤ length bs
 sum_few f one [] = omega arith
 sum_few f one (b ∷ bs) =
-    let more = sum_by-cons f b bs in let here = one b in let rest = sum_few f one bs in omega (arith, more, here, rest)
+    let more = sum_by-cons f b bs in let here = one b in let rest = sum_few f one bs in
+    omega (arith, more, here, rest)
 
 pub few_open : (bs : List BookedRow) (open_ones unspent ended : ℕ) → AreCounted bs open_ones unspent ended
     → open_ones < 2 ^ 63
 few_open bs open_ones unspent ended is =
     let few = is.few in let are = is.open_are in let sum = open_sum bs in
-    let less = sum_few open_size (λ b. size_few (is_some (open_part_of b))) bs in omega (arith, few, are, sum, less)
+    let less = sum_few open_size (λ b. size_few (is_some (open_part_of b))) bs in
+    omega (arith, few, are, sum, less)
 
-pub few_unspent_rows : (bs : List BookedRow) (open_ones unspent ended : ℕ) → AreCounted bs open_ones unspent ended
+pub few_unspent_rows : (bs : List BookedRow) (open_ones unspent ended : ℕ)
+    → AreCounted bs open_ones unspent ended
     → unspent < 2 ^ 63
 few_unspent_rows bs open_ones unspent ended is =
     let few = is.few in let are = is.unspent_are in let sum = unspent_sum bs in
@@ -543,12 +571,15 @@ pub some_open : (bs : List BookedRow) (open_ones unspent ended i : ℕ) (b : Boo
     → is_some (open_part_of b) ≡ true → 0 < open_ones
 some_open bs open_ones unspent ended i b is lt at so =
     let are = is.open_are in let sum = open_sum bs in let less = sum_by_more_le open_size bs i b lt in
-    let here : open_size (get_or bs i b) ≡ 1 = ap open_size (sym at) ∙ ap size so in omega (arith, are, sum, less, here)
+    let here : open_size (get_or bs i b) ≡ 1 = ap open_size (sym at)
+    ∙ ap size so in omega (arith, are, sum, less, here)
 
 pub some_unspent : (bs : List BookedRow) (open_ones unspent ended i : ℕ) (b : BookedRow)
-    → AreCounted bs open_ones unspent ended → i < length bs → b ≡ get_or bs i b → b.unspent ≡ true → 0 < unspent
+    → AreCounted bs open_ones unspent ended → i < length bs → b ≡ get_or bs i b → b.unspent ≡ true
+    → 0 < unspent
 some_unspent bs open_ones unspent ended i b is lt at so =
-    let are = is.unspent_are in let sum = unspent_sum bs in let less = sum_by_more_le unspent_size bs i b lt in
+    let are = is.unspent_are in let sum = unspent_sum bs in
+    let less = sum_by_more_le unspent_size bs i b lt in
     let here : unspent_size (get_or bs i b) ≡ 1 = ap unspent_size (sym at) ∙ ap size so in
     omega (arith, are, sum, less, here)
 
@@ -560,8 +591,10 @@ ended_set (b ∷ bs) (suc n) zero new ended stays = (stays ended.0, ended.1)
 ended_set (b ∷ bs) (suc n) (suc i) new ended stays = (ended.0, ended_set bs n i new ended.1 stays)
 
 -- what was counted is counted anew
-pub counted_change : (k : CoreKind) (bs : List BookedRow) (open_ones unspent ended i : ℕ) (old new : BookedRow)
-    (opens_now unspent_now : ℕ) → AreCounted bs open_ones unspent ended → i < length bs → old ≡ get_or bs i old
+pub counted_change : (k : CoreKind) (bs : List BookedRow) (open_ones unspent ended i : ℕ)
+    (old new : BookedRow)
+    (opens_now unspent_now : ℕ) → AreCounted bs open_ones unspent ended → i < length bs
+    → old ≡ get_or bs i old
     → new ≡ booked_after k old
     → opens_now + cond (is_some (open_part_of old)) 1 0 ≡ open_ones + cond (is_some (open_part_of new)) 1 0
     → unspent_now + cond old.unspent 1 0 ≡ unspent + cond new.unspent 1 0
@@ -583,7 +616,15 @@ counted_change k bs open_ones unspent ended i old new opens_now unspent_now is l
     record {
       few = omega (arith, few, len);
       open_are = omega (arith, opened, open_are, open_before, open_later, open_set, open_old);
-      unspent_are = omega (arith, spent, unspent_are, unspent_before, unspent_later, unspent_set, unspent_old);
+      unspent_are = omega (
+        arith,
+        spent,
+        unspent_are,
+        unspent_before,
+        unspent_later,
+        unspent_set,
+        unspent_old,
+      );
       within = omega (arith, within, len);
       ended_are = ended_set bs ended i new is.ended_are (λ none. still
           (ap (λ b. b.unended) (at ∙ get_or_default bs i old new lt) ∙ none));
@@ -596,13 +637,15 @@ take_none : (bs : List BookedRow) → take zero bs ≡ []
 take_none [] = refl
 take_none (b ∷ bs) = refl
 
-take_front : (xs : List BookedRow) (n : ℕ) (ys : List BookedRow) → n ≤ length xs → take n (xs ++ ys) ≡ take n xs
+take_front : (xs : List BookedRow) (n : ℕ) (ys : List BookedRow) → n ≤ length xs
+    → take n (xs ++ ys) ≡ take n xs
 take_front [] zero ys le = take_none ys
 take_front [] (suc n) ys le = absurd (omega (arith, le))
 take_front (x ∷ xs) zero ys le = refl
 take_front (x ∷ xs) (suc n) ys le = ap (λ l. x ∷ l) (take_front xs n ys (omega (arith, le)))
 
-pub counted_push : (bs : List BookedRow) (open_ones unspent ended : ℕ) (new : BookedRow) (opens_now unspent_now : ℕ)
+pub counted_push : (bs : List BookedRow) (open_ones unspent ended : ℕ) (new : BookedRow)
+    (opens_now unspent_now : ℕ)
     → AreCounted bs open_ones unspent ended → length (bs ++ new ∷ []) < 2 ^ 63
     → opens_now + 0 ≡ open_ones + cond (is_some (open_part_of new)) 1 0
     → unspent_now + 0 ≡ unspent + cond new.unspent 1 0
@@ -634,7 +677,8 @@ none_pruned (Some reg) = refl
 
 each_left : (os : List OpenRow) → filter (λ o. is_left [] o.reg) os ≡ os
 each_left [] = refl
-each_left (o ∷ os) = ap (λ t. cond t (o ∷ filter (λ o. is_left [] o.reg) os) (filter (λ o. is_left [] o.reg) os))
+each_left (o ∷ os) = ap
+    (λ t. cond t (o ∷ filter (λ o. is_left [] o.reg) os) (filter (λ o. is_left [] o.reg) os))
     (none_pruned o.reg) ∙ ap (λ l. o ∷ l) (each_left os)
 
 pub all_left : (pruned : List ℕ) (os : List OpenRow) → pruned ≡ []

@@ -1,7 +1,7 @@
 -- The reservations by rising id: their ids follow one another, and begin anew at 0 at most once.
-use Rattle.std.proofs.Common.{◌≡◌, ℕ, zero, suc, ◌+◌, ◌-◌, ◌%◌, ◌^◌, ◌<◌, ◌≤◌, List, [], ◌∷◌, ◌++◌, Bool, true, false, cond, map}
-use Rattle.std.proofs.Common.{filter, length, take, drop, refl, ap, ◌∙◌, sym, subst, arith, append-nil, length-append}
-use Rattle.std.specs.Prelude.{nat_lt}
+use Rattle.std.proofs.Common.{◌≡◌, ℕ, zero, suc, ◌+◌, ◌-◌, ◌%◌, ◌^◌, ◌<◌, ◌≤◌, List, [], ◌∷◌, ◌++◌, Bool}
+use Rattle.std.proofs.Common.{true, false, cond, map}
+use Rattle.std.proofs.Common.{filter, length, take, drop, refl, ap, ◌∙◌, sym, subst, arith, append-nil}
 use Rattle.std.specs.List.{AllByRecursion}
 use Rattle.std.proofs.lemmas.List.{map-append, append_assoc, take-append-drop, length-take, length-drop}
 use Rattle.std.proofs.lemmas.List.Elements.{filter-append}
@@ -55,7 +55,8 @@ sorted-append : {X : Type 0} (number : X → ℕ) (done xs ys : List X)
 sorted-append number done [] ys = refl
 sorted-append number done (x ∷ xs) ys = sorted-append number (placed number x done) xs ys
 
-all_nothing : {X : Type 0} (P : X → X → Type 0) (xs : List X) → AllByRecursion (λ x. AllByRecursion (P x) []) xs
+all_nothing : {X : Type 0} (P : X → X → Type 0) (xs : List X)
+    → AllByRecursion (λ x. AllByRecursion (P x) []) xs
 all_nothing P [] = tt
 all_nothing P (x ∷ xs) = (tt, all_nothing P xs)
 
@@ -66,7 +67,8 @@ sorted_two : {X : Type 0} (number : X → ℕ) (xs ys : List X) → IsStrict num
 sorted_two number xs ys first second apart =
     sorted-append number [] xs ys
     ∙ ap (λ l. sorted_into number l ys) (sorted_between number [] [] xs first
-    (all_nothing (λ x d. number d < number x) xs) (all_nothing (λ x y. number x < number y) xs) ∙ append-nil xs)
+    (all_nothing (λ x d. number d < number x) xs) (all_nothing (λ x y. number x < number y) xs)
+    ∙ append-nil xs)
     ∙ sorted_between number [] xs ys second (all_nothing (λ x d. number d < number x) ys) apart
 
 -- rows whose ids follow one another without beginning anew
@@ -82,7 +84,8 @@ above n (b ∷ bs) are few =
     let rest : AllByRecursion (λ c. (n + 1 ≤ id c) × (id c < (n + 1) + length bs)) bs =
     above (n + 1) bs are.1 (omega (arith, few)) in (
       (omega (arith, own), omega (arith, own)),
-      all-weaker (λ c. (n + 1 ≤ id c) × (id c < (n + 1) + length bs)) (λ c. (n ≤ id c) × (id c < n + length (b ∷ bs)))
+      all-weaker (λ c. (n + 1 ≤ id c) × (id c < (n + 1) + length bs))
+          (λ c. (n ≤ id c) × (id c < n + length (b ∷ bs)))
           (λ c h. (let low = h.0 in omega (arith, low), let high = h.1 in omega (arith, high))) bs rest,
     )
   where
@@ -92,13 +95,15 @@ above n (b ∷ bs) are few =
 strict : (n : ℕ) (bs : List BookedRow) → AreFollowing id n bs → n + length bs ≤ 2 ^ 64 → IsStrict id bs
 strict n [] are few = tt
 strict n (b ∷ bs) are few =
-    let here : AllByRecursion (λ c. (n ≤ id c) × (id c < n + length (b ∷ bs))) (b ∷ bs) = above n (b ∷ bs) are few in
+    let here : AllByRecursion (λ c. (n ≤ id c) × (id c < n + length (b ∷ bs))) (b ∷ bs) =
+    above n (b ∷ bs) are few in
     let own : id b ≡ n = are.0 ∙ small n (omega (arith, few)) in
     let rest : AllByRecursion (λ c. (n + 1 ≤ id c) × (id c < (n + 1) + length bs)) bs =
-    above (n + 1) bs are.1 (omega (arith, few)) in
-    (all-weaker (λ c. (n + 1 ≤ id c) × (id c < (n + 1) + length bs)) (λ c. id b < id c)
-    (λ c h. let low = h.0 in omega (arith, low, own)) bs rest,
-    strict (n + 1) bs are.1 (omega (arith, few)))
+    above (n + 1) bs are.1 (omega (arith, few)) in (
+      all-weaker (λ c. (n + 1 ≤ id c) × (id c < (n + 1) + length bs)) (λ c. id b < id c)
+          (λ c h. let low = h.0 in omega (arith, low, own)) bs rest,
+      strict (n + 1) bs are.1 (omega (arith, few)),
+    )
   where
     small : (m : ℕ) → m < 2 ^ 64 → m % 2 ^ 64 ≡ m
     small m lt = omega (arith, lt)
@@ -176,7 +181,8 @@ apart first many (f ∷ front) (b ∷ rest) low high less =
     all_view (λ n. AllByRecursion (λ x. n < x.job.0) (job_view (f ∷ front))) (b ∷ rest)
     (all-weaker (λ c. id c < many) (λ c. AllByRecursion (λ x. id c < x.job.0) (job_view (f ∷ front)))
     (λ c lt. all_view (λ m. id c < m) (f ∷ front)
-    (all-weaker (λ d. first ≤ id d) (λ d. id c < id d) (λ d from. omega (arith, lt, le, from)) (f ∷ front) low))
+    (all-weaker (λ d. first ≤ id d) (λ d. id c < id d) (λ d from. omega (arith, lt, le, from)) (f ∷ front)
+    low))
     (b ∷ rest) high)
 
 -- those from the id 0 on, and then those before it

@@ -116,10 +116,13 @@ none_freed kind held (r ∷ rows) all =
     ap (λ n. record r { load = n } ∷ rows) (omega (arith, freed_none kind r.reg held all))
     ∙ ap (λ l. row_freed kind held r ∷ l) (none_freed kind held rows all)
 
-all_held : (kind : CoreKind) (bs : List BookedRow) → AllByRecursion (λ b. frees_by kind b.job b.reg ≡ false) bs
+all_held : (kind : CoreKind) (bs : List BookedRow)
+    → AllByRecursion (λ b. frees_by kind b.job b.reg ≡ false) bs
     → AllByRecursion (λ h. frees_by kind h.job h.reg ≡ false) (held_view bs)
-all_held kind bs all = all-map (λ h. frees_by kind h.job h.reg ≡ false) held_part_of (filter (λ b. b.unended) bs)
-    (all-filter (λ b. frees_by kind b.job b.reg ≡ false) (λ b. frees_by kind b.job b.reg ≡ false) (λ b. b.unended)
+all_held kind bs all =
+    all-map (λ h. frees_by kind h.job h.reg ≡ false) held_part_of (filter (λ b. b.unended) bs)
+    (all-filter (λ b. frees_by kind b.job b.reg ≡ false) (λ b. frees_by kind b.job b.reg ≡ false)
+    (λ b. b.unended)
     (λ b h t. h) bs all)
 
 others_kept : (kind : CoreKind) (job : JobId) (bs : List BookedRow) → FreesNoOther kind job
@@ -134,9 +137,11 @@ each_kept kind (b ∷ bs) never = (never b, each_kept kind bs never)
 
 pub never_freed : (kind : CoreKind) (bs : List BookedRow) (rows : List ServerRow)
     → ((b : BookedRow) → frees_by kind b.job b.reg ≡ false) → rows ≡ map (row_freed kind (held_view bs)) rows
-never_freed kind bs rows never = none_freed kind (held_view bs) rows (all_held kind bs (each_kept kind bs never))
+never_freed kind bs rows never =
+    none_freed kind (held_view bs) rows (all_held kind bs (each_kept kind bs never))
 
-pub job_gone : (kind : CoreKind) (job : JobId) (bs : List BookedRow) (rows : List ServerRow) → FreesNoOther kind job
+pub job_gone : (kind : CoreKind) (job : JobId) (bs : List BookedRow) (rows : List ServerRow)
+    → FreesNoOther kind job
     → HasNone (λ b. b.job.0) bs job.0 → rows ≡ map (row_freed kind (held_view bs)) rows
 job_gone kind job bs rows other none = none_freed kind (held_view bs) rows
     (all_held kind bs (others_kept kind job bs other none))
@@ -146,7 +151,8 @@ freed_sum : (kind : CoreKind) (reg : ℕ) (front rest : List BookedRow) (row : B
     → freed_at kind (held_view (front ++ row ∷ rest)) reg ≡ freed_at kind (held_view (front ++ row ∷ [])) reg
 freed_sum kind reg front rest row all =
     ap (λ l. freed_at kind (held_view l) reg) (sym (append_assoc front (row ∷ []) rest))
-    ∙ ap (λ hs. freed_at kind hs reg) (ap (map held_part_of) (filter-append (λ b. b.unended) (front ++ row ∷ []) rest)
+    ∙ ap (λ hs. freed_at kind hs reg)
+    (ap (map held_part_of) (filter-append (λ b. b.unended) (front ++ row ∷ []) rest)
     ∙ map-append held_part_of (filter (λ b. b.unended) (front ++ row ∷ [])) (filter (λ b. b.unended) rest))
     ∙ sum_by-append (λ x. cond (frees_by kind x.job x.reg && (x.reg == reg)) 1 0)
     (held_view (front ++ row ∷ [])) (held_view rest)
@@ -158,7 +164,8 @@ freed_sum kind reg front rest row all =
     no_more n = omega arith
 
 -- the reservation of the one job that an entry names
-pub job_freed : (kind : CoreKind) (job : JobId) (bs : List BookedRow) (row : BookedRow) (rows new : List ServerRow)
+pub job_freed : (kind : CoreKind) (job : JobId) (bs : List BookedRow) (row : BookedRow)
+    (rows new : List ServerRow)
     → FreesNoOther kind job → IsRowOf (λ b. b.job.0) bs job.0 row
     → (freed_booked kind row ≡ true → new ≡ map (row_lowered row.reg) rows)
     → (freed_booked kind row ≡ false → new ≡ rows)

@@ -1,6 +1,6 @@
 -- What one more entry does to the rows of reservations and open jobs.
 use Rattle.std.proofs.Common.{◌≡◌, ℕ, List, [], ◌∷◌, ◌++◌, Bool, true, false, not, ◌&&◌, map, filter, length}
-use Rattle.std.proofs.Common.{Option, Some, None, refl, ap, ◌∙◌, sym, subst, append-nil, eqb-true}
+use Rattle.std.proofs.Common.{Some, None, refl, ap, ◌∙◌, sym, subst, eqb-true}
 use Rattle.std.specs.Prelude.{◌==◌, option_to_list, option_and_then, unwrap_or}
 use Rattle.std.specs.List.{AllByRecursion, list_any, find}
 use Rattle.std.specs.Option.{option_map}
@@ -19,13 +19,12 @@ use Rattle.sched_core.specs.declared.entry.CoreKind.{CoreKind}
 use Rattle.sched_core.specs.declared.entry.CoreKind.TheVariants.{Beat, Reserve, Commit, Undo, Update, Status}
 use Rattle.sched_core.specs.declared.entry.Reserved.TheVariants.{Job, NoRoom, Spent}
 use Rattle.sched_core.specs.declared.rows.ServerRow.{ServerRow}
-use Rattle.sched_core.specs.declared.rows.HeldRow.{HeldRow}
 use Rattle.sched_core.specs.declared.rows.JobRow.{JobRow}
-use Rattle.sched_core.specs.declared.rows.OpenRow.{OpenRow}
 use Rattle.sched_core.specs.Booked.{UnspentRow}
 use Rattle.sched_core.specs.Log.{same_job, is_this, names, newer, latest}
 use Rattle.sched_core.specs.Standing.{standing, address_of, key_at}
-use Rattle.sched_core.specs.Reservation.{Booking, booked_by as reserved_by, booked_at, is_unended, unended, unspent}
+use Rattle.sched_core.specs.Reservation.{Booking, booked_by as reserved_by, booked_at, is_unended, unended}
+use Rattle.sched_core.specs.Reservation.{unspent}
 use Rattle.sched_core.specs.Reservation.{claims_by, is_claimed, spends_by, frees_by}
 use Rattle.sched_core.specs.Job.{Committed, committed_by, committed_at, commits, moves_by, moves_of}
 use Rattle.sched_core.specs.Job.{state_now, state_of, is_open, open_jobs, place_of}
@@ -33,7 +32,7 @@ use Rattle.sched_core.specs.Rows.{row_of, servers_of, held_of, held_rows}
 use Rattle.sched_core.specs.Rows.{open_of, open_rows}
 use Rattle.sched_core.specs.Books.{held_part}
 use Rattle.sched_core.specs.Cuts.{seen}
-use Rattle.sched_core.specs.Rule.{is_initial, place_at}
+use Rattle.sched_core.specs.Rule.{is_initial}
 use Rattle.sched_core.specs.Books.{begins_by, state_after, held_stays, held_after, held_by}
 use Rattle.sched_core.specs.Books.{job_over, job_by, open_stays, open_after, open_over}
 use Rattle.sched_core.specs.Books.{open_by, unspent_stays, unspent_by, place_of_unspent, place_of_booking}
@@ -42,7 +41,7 @@ use Rattle.sched_core.specs.Booked.{booked_new}
 use Rattle.sched_core.specs.declared.booked.BookedRow.{BookedRow}
 use Rattle.sched_core.proofs.StandingLemmas.{none-push}
 use Rattle.sched_core.proofs.Lists.{list_any-map, latest-push}
-use Rattle.sched_core.proofs.AllLemmas.{same_job-eq, all-weaker, all-both, all-append, all-filter, all-map}
+use Rattle.sched_core.proofs.AllLemmas.{same_job-eq, all-weaker, all-both, all-append, all-map}
 use Rattle.sched_core.proofs.AllLemmas.{all-unmap, and_right, any-weaker, found}
 use Rattle.sched_core.proofs.StepLemmas as step
 use Rattle.sched_core.proofs.FactLemmas.{Facts}
@@ -266,7 +265,8 @@ booked_new_at log now (Update server job state answer) at = tt
 booked_new_at log now (Status pruned servers cpus n) at = tt
 
 -- each reservation stays where it is
-pub booked-placed : (bs : List BookedRow) (log : List CoreEntry) (e : CoreEntry) → IsAtRowBy e.kind (servers_of log)
+pub booked-placed : (bs : List BookedRow) (log : List CoreEntry) (e : CoreEntry)
+    → IsAtRowBy e.kind (servers_of log)
     → AllByRecursion (IsBookedAt log) bs → AllByRecursion (IsBookedAt (log ++ e ∷ []))
     (map (booked_after e.kind) bs ++ option_to_list (booked_by e.kind (servers_of log) (length log) e.now))
 booked-placed bs log e at all =
@@ -281,7 +281,8 @@ booked-placed bs log e at all =
 pub booked_job : (log : List CoreEntry) (k : CoreKind) (number now : ℕ) → IsAtRowBy k (servers_of log)
     → option_map (λ b. b.job) (booked_by k (servers_of log) number now)
     ≡ option_map (λ b. b.job) (reserved_by k number now [])
-booked_job log (Reserve (Job job reg forgiven)) number now at = ap (λ o. option_map (λ b. b.job) (option_map booked_new o))
+booked_job log (Reserve (Job job reg forgiven)) number now at =
+    ap (λ o. option_map (λ b. b.job) (option_map booked_new o))
     (new_job log number now job reg (servers_of log) (rows_addressed log) at).is
 booked_job log (Reserve (NoRoom n)) number now at = refl
 booked_job log (Reserve Spent) number now at = refl

@@ -51,7 +51,8 @@ pub still_state : (start : Start) (old new : Kept) (keys new_keys : List (ℕ ×
     → new_keys ≡ keys → new_log ≡ log
     → (len + length (unspent_view old.lists.booked) ≤ capacity
     → new_len + length (unspent_view old.lists.booked) ≤ new_capacity)
-    → new.first ≡ old.first → new.top ≤ old.top → new.places ≤ max old.places (2 * max 1 (length old.lists.rows))
+    → new.first ≡ old.first → new.top ≤ old.top
+    → new.places ≤ max old.places (2 * max 1 (length old.lists.rows))
     → IsState start new new_keys new_log new_len new_capacity
 still_state start old new keys new_keys log new_log len capacity new_len new_capacity is lists
     same_keys same_log room first top

@@ -1,9 +1,10 @@
--- The open jobs are those of the log, in another order: what an entry does to both, and what is asked of both.
+-- The open jobs are those of the log, in another order: what an entry does to both, and what both
+-- are asked.
 use Rattle.std.proofs.Common.{◌≡◌, ℕ, ◌+◌, List, [], ◌∷◌, ◌++◌, Bool, true, false, cond, not, ◌&&◌, ◌||◌, map}
 use Rattle.std.proofs.Common.{filter, length, Option, Some, None, refl, ap, ◌∙◌, sym, subst, arith}
 use Rattle.std.proofs.Common.{append-nil, length-append, eqb-true, eq-eqb}
 use Rattle.std.specs.Prelude.{◌==◌, option_to_list, unwrap_or, find, if◌then◌else◌}
-use Rattle.std.specs.List.{AllByRecursion, list_any, filter_map, cons_option}
+use Rattle.std.specs.List.{AllByRecursion, list_any, cons_option}
 use Rattle.std.specs.Option.{option_map}
 use Rattle.std.proofs.lemmas.Bool.{false≢true}
 use Rattle.std.proofs.lemmas.List.{map-append, append_assoc}
@@ -15,7 +16,6 @@ use Rattle.following_rows.specs.Following.{HasNone, IsRowOf}
 use Rattle.sched_core.specs.declared.booked.BookedRow.{BookedRow}
 use Rattle.sched_core.specs.declared.entry.CoreKind.{CoreKind}
 use Rattle.sched_core.specs.declared.entry.CoreKind.TheVariants.{Beat, Reserve, Commit, Undo, Update, Status}
-use Rattle.sched_core.specs.declared.entry.Reserved.TheVariants.{Job, NoRoom, Spent}
 use Rattle.sched_core.specs.declared.rows.JobRow.{JobRow}
 use Rattle.sched_core.specs.declared.rows.OpenRow.{OpenRow}
 use Rattle.sched_core.specs.Log.{same_job, newer}
@@ -26,14 +26,16 @@ use Rattle.sched_core.specs.Laws.{AreDistinct}
 use Rattle.sched_core.specs.Rule.{is_initial}
 use Rattle.sched_core.specs.Books.{begins_by, open_stays, open_after, open_over, open_by, booked_after}
 use Rattle.sched_core.specs.Booked.{AreReordered, booked_new, job_part_of, open_part_of, job_view, open_view}
-use Rattle.sched_core.proofs.AllLemmas.{true_false, is_false, same_job-sym, same_job-trans, all-weaker, all-unmap}
+use Rattle.sched_core.proofs.AllLemmas.{true_false, is_false, same_job-sym, same_job-trans, all-weaker}
+use Rattle.sched_core.proofs.AllLemmas.{all-unmap}
 use Rattle.sched_core.proofs.AllLemmas.{own_only}
 use Rattle.sched_core.proofs.SortLemmas.{found_first}
 use Rattle.sched_core.proofs.BookedLemmas.{IsSpent}
 
 -- lists in another order
 
-pub reorder-map : {X Y : Type 0} (f : X → Y) (xs ys : List X) → AreReordered xs ys → AreReordered (map f xs) (map f ys)
+pub reorder-map : {X Y : Type 0} (f : X → Y) (xs ys : List X) → AreReordered xs ys
+    → AreReordered (map f xs) (map f ys)
 reorder-map f [] ys same = ap (map f) same
 reorder-map f (x ∷ xs) ys same = (
   map f same.0,
@@ -77,11 +79,13 @@ reorder-length (x ∷ xs) ys same =
     let less = length-append same.0 same.1 in
     omega (arith, rest, whole, less)
 
-all_middle : {X : Type 0} (P : X → Type 0) (front rest : List X) (x : X) → AllByRecursion P (front ++ x ∷ rest) → P x
+all_middle : {X : Type 0} (P : X → Type 0) (front rest : List X) (x : X)
+    → AllByRecursion P (front ++ x ∷ rest) → P x
 all_middle P [] rest x all = all.0
 all_middle P (y ∷ front) rest x all = all_middle P front rest x all.1
 
-all-insert : {X : Type 0} (P : X → Type 0) (front rest : List X) (x : X) → P x → AllByRecursion P (front ++ rest)
+all-insert : {X : Type 0} (P : X → Type 0) (front rest : List X) (x : X) → P x
+    → AllByRecursion P (front ++ rest)
     → AllByRecursion P (front ++ x ∷ rest)
 all-insert P [] rest x p all = (p, all)
 all-insert P (y ∷ front) rest x p all = (all.0, all-insert P front rest x p all.1)
@@ -103,7 +107,8 @@ any-insert t (y ∷ front) rest x = ap (λ b. t y || b) (any-insert t front rest
     turned true false c = refl
     turned false b c = refl
 
-reorder-any : {X : Type 0} (t : X → Bool) (xs ys : List X) → AreReordered xs ys → list_any t xs ≡ list_any t ys
+reorder-any : {X : Type 0} (t : X → Bool) (xs ys : List X) → AreReordered xs ys
+    → list_any t xs ≡ list_any t ys
 reorder-any t [] ys same = ap (list_any t) (sym same)
 reorder-any t (x ∷ xs) ys same = ap (λ b. t x || b) (reorder-any t xs (same.0 ++ same.1) same.3)
     ∙ sym (any-insert t same.0 same.1 x) ∙ ap (list_any t) (sym same.2)
@@ -237,16 +242,18 @@ other_job : (a b : JobId) → same_job b a ≡ false → same_job a b ≡ false
 other_job a b other = is_false (same_job a b) (λ t. true_false (same_job b a) (same_job-sym a b t) other)
 
 -- an undo ends the reservation that it spends, if it is unended
-undo_part : (k : CoreKind) (b : BookedRow) → b.unspent ≡ true → (b.unended && not (frees_by k b.job b.reg)) ≡ false
+undo_part : (k : CoreKind) (b : BookedRow) → b.unspent ≡ true
+    → (b.unended && not (frees_by k b.job b.reg)) ≡ false
     → open_part_of (booked_after k b) ≡ kept_open k (open_part_of b)
 undo_part k b free ended = rw (free, ended) (hidden b.unended)
   where
-    hidden : (u : Bool) → None ≡ kept_open k (cond {A = Option OpenRow} (u && false) (option_map (λ s. record {
-      job = b.job;
-      reg = Some b.reg;
-      server = Some b.server;
-      state = s;
-    }) b.state) None)
+    hidden : (u : Bool) → None
+        ≡ kept_open k (cond {A = Option OpenRow} (u && false) (option_map (λ s. record {
+          job = b.job;
+          reg = Some b.reg;
+          server = Some b.server;
+          state = s;
+        }) b.state) None)
     hidden true = refl
     hidden false = refl
 
@@ -278,7 +285,8 @@ undo_one job noted says b spent = split (same_job b.job job) refl
 
 -- a commit that drops its reservation finds it ended
 drop_one : (job : JobId) (state : JobState) (b : BookedRow) → (same_job b.job job ≡ true → IsSpent false b)
-    → open_part_of (booked_after (Commit job state false) b) ≡ kept_open (Commit job state false) (open_part_of b)
+    → open_part_of (booked_after (Commit job state false) b)
+    ≡ kept_open (Commit job state false) (open_part_of b)
 drop_one job state b spent = split (same_job b.job job) refl
   where
     split : (t : Bool) → same_job b.job job ≡ t → open_part_of (booked_after (Commit job state false) b)
@@ -288,7 +296,8 @@ drop_one job state b spent = split (same_job b.job job) refl
 
 -- a commit leaves the reservations of other jobs
 commit_other : (job : JobId) (state : JobState) (b : BookedRow) → same_job b.job job ≡ false
-    → open_part_of (booked_after (Commit job state true) b) ≡ kept_open (Commit job state true) (open_part_of b)
+    → open_part_of (booked_after (Commit job state true) b)
+    ≡ kept_open (Commit job state true) (open_part_of b)
 commit_other job state b other =
     let apart : same_job job b.job ≡ false = other_job job b.job other in
     quiet (Commit job state true) b (ap (λ t. if t then Some state else None) apart) apart refl
@@ -326,16 +335,20 @@ found_row : (job : JobId) (front rest : List BookedRow) (row : BookedRow)
     → HasNone (λ b. b.job.0) front job.0 → row.unended ≡ true → same_job row.job job ≡ true
     → find (λ j. same_job j.job job) (job_view (front ++ row ∷ rest)) ≡ Some (job_part_of row)
 found_row job [] rest row before up same = rw (up, same) refl
-found_row job (b ∷ front) rest row before up same = split b.unended (found_row job front rest row before.1 up same)
+found_row job (b ∷ front) rest row before up same =
+    split b.unended (found_row job front rest row before.1 up same)
   where
-    split : (t : Bool) → find (λ j. same_job j.job job) (job_view (front ++ row ∷ rest)) ≡ Some (job_part_of row)
-        → find (λ j. same_job j.job job) (map job_part_of (cond t (b ∷ filter (λ b. b.unended) (front ++ row ∷ rest))
+    split : (t : Bool) → find (λ j. same_job j.job job) (job_view (front ++ row ∷ rest))
+        ≡ Some (job_part_of row)
+        → find (λ j. same_job j.job job)
+        (map job_part_of (cond t (b ∷ filter (λ b. b.unended) (front ++ row ∷ rest))
         (filter (λ b. b.unended) (front ++ row ∷ rest)))) ≡ Some (job_part_of row)
     split true later = rw before.0 later
     split false later = later
 
 -- a commit that keeps a job opens that of its reservation
-commit_rows : (job : JobId) (state : JobState) (front rest : List BookedRow) (row : BookedRow) (os : List OpenRow)
+commit_rows : (job : JobId) (state : JobState) (front rest : List BookedRow) (row : BookedRow)
+    (os : List OpenRow)
     (o : Option JobRow) → HasNone (λ b. b.job.0) front job.0 → HasNone (λ b. b.job.0) rest job.0
     → same_job row.job job ≡ true → IsSpent true row
     → open_by (Commit job state true) (job_view (front ++ row ∷ rest))
@@ -343,7 +356,8 @@ commit_rows : (job : JobId) (state : JobState) (front rest : List BookedRow) (ro
     → AreReordered (open_view (front ++ row ∷ rest)) os
     → AreReordered (open_view (map (booked_after (Commit job state true)) (front ++ row ∷ rest)
     ++ option_to_list (option_map booked_new o)))
-    (opened (Commit job state true) os ++ option_to_list (open_by (Commit job state true) (job_view (front ++ row ∷ rest))))
+    (opened (Commit job state true) os
+    ++ option_to_list (open_by (Commit job state true) (job_view (front ++ row ∷ rest))))
 commit_rows job state front rest row os o before behind own spent by same =
     subst (λ l. AreReordered l (opened k os ++ option_to_list (open_by k (job_view (front ++ row ∷ rest)))))
     (sym (new_closed (map (booked_after k) (front ++ row ∷ rest)) o ∙ cut))
@@ -352,7 +366,8 @@ commit_rows job state front rest row os o before behind own spent by same =
     (sym (by ∙ ap (λ p. open_over p state) (found_row job front rest row before spent.unended own)))
     (reorder-more (opened k (open_view front)) (opened k (open_view rest)) (opened k os) (made_open row state)
     (subst (λ l. AreReordered l (opened k os)) (opened_append k (open_view front) (open_view rest))
-    (reorder-map (open_after k) (filter (open_stays k) (open_view front ++ open_view rest)) (filter (open_stays k) os)
+    (reorder-map (open_after k) (filter (open_stays k) (open_view front ++ open_view rest))
+    (filter (open_stays k) os)
     (reorder-filter (open_stays k) (open_view front ++ open_view rest) os
     (subst (λ l. AreReordered l os) without same))))))
   where
@@ -360,7 +375,8 @@ commit_rows job state front rest row os o before behind own spent by same =
     k = Commit job state true
 
     others : (bs : List BookedRow) → HasNone (λ b. b.job.0) bs job.0
-        → open_view (map (booked_after (Commit job state true)) bs) ≡ opened (Commit job state true) (open_view bs)
+        → open_view (map (booked_after (Commit job state true)) bs)
+        ≡ opened (Commit job state true) (open_view bs)
     others bs none = all_opened (Commit job state true) bs
         (all-weaker (λ b. (b.job.0 == job.0) ≡ false)
         (λ b. open_part_of (booked_after (Commit job state true) b)
@@ -378,7 +394,8 @@ commit_rows job state front rest row os o before behind own spent by same =
         (commit_own job state row spent (same_job-sym row.job job own))
         ∙ ap (λ l. l ++ made_open row state ∷ open_view (map (booked_after (Commit job state true)) rest))
         (others front before)
-        ∙ ap (λ l. opened (Commit job state true) (open_view front) ++ made_open row state ∷ l) (others rest behind)
+        ∙ ap (λ l. opened (Commit job state true) (open_view front) ++ made_open row state ∷ l)
+        (others rest behind)
 
     without : open_view (front ++ row ∷ rest) ≡ open_view front ++ open_view rest
     without = filter_map-append open_part_of front (row ∷ rest)
@@ -394,7 +411,8 @@ own_row job [] apart some = absurd (false≢true some)
 own_row job (b ∷ bs) apart some = split (same_job b.job job) refl some (own_row job bs apart.1)
   where
     split : (t : Bool) → same_job b.job job ≡ t → (t || list_any (λ b. same_job b.job job) bs) ≡ true
-        → (list_any (λ b. same_job b.job job) bs ≡ true → (row : BookedRow) × IsRowOf (λ b. b.job.0) bs job.0 row)
+        → (list_any (λ b. same_job b.job job) bs ≡ true → (row : BookedRow)
+        × IsRowOf (λ b. b.job.0) bs job.0 row)
         → (row : BookedRow) × IsRowOf (λ b. b.job.0) (b ∷ bs) job.0 row
     split true same some rest = (
       b,
@@ -434,7 +452,8 @@ all_quiet : (k : CoreKind) (bs : List BookedRow) → ((b : BookedRow) → begins
     → ((b : BookedRow) → spends_by k b.job ≡ false) → ((b : BookedRow) → undoes_by k b.job ≡ false)
     → AllByRecursion (λ b. open_part_of (booked_after k b) ≡ kept_open k (open_part_of b)) bs
 all_quiet k [] none other alive = tt
-all_quiet k (b ∷ bs) none other alive = (quiet k b (none b) (other b) (alive b), all_quiet k bs none other alive)
+all_quiet k (b ∷ bs) none other alive =
+    (quiet k b (none b) (other b) (alive b), all_quiet k bs none other alive)
 
 pub open_next : (k : CoreKind) (bs : List BookedRow) (os : List OpenRow) (o : Option JobRow)
     → AreDistinct (map (λ b. b.job) bs) → AreSpentBy k bs → AreReordered (open_view bs) os
@@ -444,7 +463,8 @@ open_next (Reserve r) bs os o apart spent same = quiet_next (Reserve r) bs os o 
     (all_quiet (Reserve r) bs (λ b. refl) (λ b. refl) (λ b. refl)) same
 open_next (Beat server nonce cpus key pruned reaped replaced is_new) bs os o apart spent same =
     quiet_next (Beat server nonce cpus key pruned reaped replaced is_new) bs os o refl
-    (all_quiet (Beat server nonce cpus key pruned reaped replaced is_new) bs (λ b. refl) (λ b. refl) (λ b. refl)) same
+    (all_quiet (Beat server nonce cpus key pruned reaped replaced is_new) bs (λ b. refl) (λ b. refl)
+    (λ b. refl)) same
 open_next (Update server job state answer) bs os o apart spent same =
     quiet_next (Update server job state answer) bs os o refl
     (all_quiet (Update server job state answer) bs (λ b. refl) (λ b. refl) (λ b. refl)) same
@@ -454,7 +474,8 @@ open_next (Status pruned servers cpus n) bs os o apart spent same =
 open_next (Undo job noted says) bs os o apart spent same =
     quiet_next (Undo job noted says) bs os o refl
     (all-weaker (λ b. same_job b.job job ≡ true → IsSpent says b)
-    (λ b. open_part_of (booked_after (Undo job noted says) b) ≡ kept_open (Undo job noted says) (open_part_of b))
+    (λ b. open_part_of (booked_after (Undo job noted says) b)
+    ≡ kept_open (Undo job noted says) (open_part_of b))
     (λ b h. undo_one job noted says b h) bs spent) same
 open_next (Commit job state false) bs os o apart spent same =
     quiet_next (Commit job state false) bs os o refl
@@ -466,7 +487,8 @@ open_next (Commit job state true) bs os o apart spent same =
     let at : (row : BookedRow) × IsRowOf (λ b. b.job.0) bs job.0 row = own_row job bs apart spent.1 in
     let row : BookedRow = at.0 in
     let own : same_job row.job job ≡ true = eq-eqb row.job.0 job.0 at.1.own in
-    let all : AllByRecursion (λ b. same_job b.job job ≡ true → IsSpent true b) (at.1.front ++ row ∷ at.1.rest) =
+    let all : AllByRecursion (λ b. same_job b.job job ≡ true → IsSpent true b)
+    (at.1.front ++ row ∷ at.1.rest) =
     subst (AllByRecursion (λ b. same_job b.job job ≡ true → IsSpent true b)) at.1.are spent.0 in
     subst (λ l. AreReordered (open_view (map (booked_after (Commit job state true)) l
     ++ option_to_list (option_map booked_new o)))
@@ -485,7 +507,8 @@ open_next (Commit job state true) bs os o apart spent same =
     by_state Complete h jobs = absurd (false≢true h)
 
 -- the jobs of the open ones differ
-others_opened : (j : JobId) (bs : List BookedRow) → AllByRecursion (λ k. same_job k j ≡ false) (map (λ b. b.job) bs)
+others_opened : (j : JobId) (bs : List BookedRow)
+    → AllByRecursion (λ k. same_job k j ≡ false) (map (λ b. b.job) bs)
     → AllByRecursion (λ k. same_job k j ≡ false) (map (λ o. o.job) (open_view bs))
 others_opened j [] all = tt
 others_opened j (b ∷ bs) all = split (b.unended && not b.unspent) b.state (others_opened j bs all.1)
@@ -507,7 +530,8 @@ distinct_opened (b ∷ bs) apart = split (b.unended && not b.unspent) b.state
     split : (t : Bool) (state : Option JobState)
         → AllByRecursion (λ k. same_job k b.job ≡ false) (map (λ o. o.job) (open_view bs))
         → AreDistinct (map (λ o. o.job) (open_view bs))
-        → AreDistinct (map (λ o. o.job) (cons_option (cond t (option_map (λ s. made_open b s) state) None) (open_view bs)))
+        → AreDistinct (map (λ o. o.job)
+        (cons_option (cond t (option_map (λ s. made_open b s) state) None) (open_view bs)))
     split true (Some s) others rest = (others, rest)
     split true None others rest = rest
     split false state others rest = rest

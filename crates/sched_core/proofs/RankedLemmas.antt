@@ -38,7 +38,8 @@ light_first row r some more not_before =
     let le : row.load * r.cpus ≤ r.load * row.cpus = rw (least row.cpus some, least r.cpus more) at at.0 in (
       ge_is (r.load * row.cpus) (row.load * r.cpus) le,
       λ h.
-          let ge : r.load * row.cpus ≤ row.load * r.cpus = lt_false (row.load * r.cpus) (r.load * row.cpus) h in
+          let ge : r.load * row.cpus ≤ row.load * r.cpus =
+          lt_false (row.load * r.cpus) (r.load * row.cpus) h in
           let same : r.load * row.cpus ≡ row.load * r.cpus = omega (arith, le, ge) in
           (not_less r.reg row.reg (nat_lt r.cpus row.cpus)
           (at.1 (rw (least row.cpus some, least r.cpus more) same))).0,

@@ -1,7 +1,7 @@
 -- What the scheduler keeps beside its log, and what one entry does to it.
 use Rattle.std.specs.Prelude.{◌≡◌, ◌≤◌, ◌<◌, ℕ, ◌+◌, ◌-◌, ◌*◌, ◌^◌, max, List, [], ◌++◌, length, map}
 use Rattle.std.specs.Prelude.{filter, Bool}
-use Rattle.std.specs.Prelude.{true, false, not, ◌&&◌, ◌||◌, ◌==◌, nat_lt, Option, Some, None, if◌then◌else◌}
+use Rattle.std.specs.Prelude.{true, false, not, ◌&&◌, ◌||◌, ◌==◌, Option, Some, None, if◌then◌else◌}
 use Rattle.std.specs.Prelude.{count_by, unwrap_or, option_to_list, min, ◌%◌}
 use Rattle.std.specs.List.{AllByRecursion, find, list_any}
 use Rattle.std.specs.Option.{option_map}
@@ -28,7 +28,6 @@ use Rattle.sched_core.specs.Fault.{notes_by, forgives_by}
 use Rattle.sched_core.specs.Job.{moves_by, closes_by}
 use Rattle.sched_core.specs.Rows.{servers_of, held_rows, open_rows, sorted_into}
 use Rattle.sched_core.specs.Rule.{place_at}
-use Rattle.sched_core.specs.Reservation.{is_booked}
 use Rattle.sched_core.specs.Laws.{IsLegal, AreDistinct}
 use Rattle.sched_core.specs.Most.{most_standing}
 

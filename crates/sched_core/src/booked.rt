@@ -2,7 +2,8 @@
 ghost use Rattle.std.specs.Prelude.{◌≡◌, ◌≤◌, [], length, take, MatchOption, Some};
 ghost use Rattle.std.specs.Option.{option_map};
 ghost use Rattle.sched_core.specs.Booked.{booked_new, held_part_of, job_part_of, open_part_of, job_view};
-ghost use Rattle.sched_core.specs.Booked.{is_unspent_in, is_held_in, address_in, open_in, AreEnded, IsFirstHeld};
+ghost use Rattle.sched_core.specs.Booked.{is_unspent_in, is_held_in, address_in, open_in, AreEnded};
+ghost use Rattle.sched_core.specs.Booked.{IsFirstHeld};
 ghost use Rattle.sched_core.specs.Books.{booked_after};
 
 use crate::entry::CoreKind;
@@ -113,7 +114,8 @@ pub fn job_part(b: &BookedRow) -> JobRow
 /// The open job of a spent and unended reservation, if its job has a state.
 fn open_at(b: &BookedRow) -> Option<OpenRow>
     ensures { result ≡ option_map
-        (λ s. record { job = b.now.job; reg = Some b.now.reg; server = Some b.now.server; state = s }) b.now.state }
+        (λ s. record { job = b.now.job; reg = Some b.now.reg; server = Some b.now.server; state = s })
+        b.now.state }
 {
     match b.state {
         Some(state) => Some(OpenRow {

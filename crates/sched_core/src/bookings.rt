@@ -1,5 +1,6 @@
 //! The reservations: one row each, from its reserving on, found at once by the id of its job.
-ghost use Rattle.std.specs.Prelude.{◌≡◌, ◌==◌, ◌&&◌, ◌<◌, ◌≤◌, ◌+◌, ◌%◌, ◌^◌, ◌++◌, ◌∷◌, [], true, length, map};
+ghost use Rattle.std.specs.Prelude.{◌≡◌, ◌==◌, ◌&&◌, ◌<◌, ◌≤◌, ◌+◌, ◌%◌, ◌^◌, ◌++◌, ◌∷◌, [], true, length};
+ghost use Rattle.std.specs.Prelude.{map};
 ghost use Rattle.std.specs.Prelude.{filter, find, option_to_list, slice_index_or, slice_set, if◌then◌else◌};
 ghost use Rattle.std.specs.Prelude.{IsSome, IfSome, OnOk, MatchOption, is_some};
 ghost use Rattle.std.specs.List.{list_any};
@@ -163,7 +164,8 @@ impl Bookings {
 
     /// Whether the reservation is unended.
     pub fn is_held(&self, number: u64, job: JobId) -> bool
-        ensures { result ≡ list_any (λ h. (h.number == number) && same_job h.job job) (held_view self.now.rows) }
+        ensures { result ≡ list_any (λ h. (h.number == number) && same_job h.job job)
+            (held_view self.now.rows) }
     {
         let found = self.row(job);
         booked::is_held(&found, number)

@@ -5,7 +5,8 @@ use Rattle.sched_core.proofs.change.absorb_rows.Goals as goal
 
 pub returns-in-Reserve-clause-rows : goal.returns-in-Reserve-clause-rows
 returns-in-Reserve-clause-rows g c =
-    c.reserve.ensures.rows ∙ reserve_whole c.args.step.now (held_view c.args.bookings.now.rows) (open_view c.args.bookings.now.rows)
+    c.reserve.ensures.rows
+    ∙ reserve_whole c.args.step.now (held_view c.args.bookings.now.rows) (open_view c.args.bookings.now.rows)
     c.args.rows.now.rows c.in-Reserve.reserved c.in-Reserve.is
 
 pub returns-in-Reserve-clause-looks : goal.returns-in-Reserve-clause-looks

@@ -10,4 +10,5 @@ returns-in-Some-clause-rows g c =
 
 pub returns-in-None-clause-rows : goal.returns-in-None-clause-rows
 returns-in-None-clause-rows g c =
-    job_gone c.args.kind.now c.args.job c.args.bookings.now.rows c.args.rows.now.rows c.requires c.in-None.ensures
+    job_gone c.args.kind.now c.args.job c.args.bookings.now.rows c.args.rows.now.rows c.requires
+    c.in-None.ensures

@@ -48,7 +48,8 @@ returns-clause-state g c =
     c.absorb.ensures.lists ∙ ap (lists_next a.journal.now.books.lists a.step) number in
     let made = job_by a.step.kind a.journal.now.books.lists.rows (length log) a.step.now in
     let spent : length (unspent_view c.absorb.new.self.lists.booked) ≡ length
-    (unspent_next a.journal.now.books.lists a.step (length log)) = ap (λ l. length (unspent_view l.booked)) does
+    (unspent_next a.journal.now.books.lists a.step (length log)) =
+    ap (λ l. length (unspent_view l.booked)) does
     ∙ ap length (unspent_after a.step.kind a.journal.now.books.lists.booked made) in
     let len = c.push_reserved.ensures.len in
     let capacity = c.push_reserved.ensures.capacity in

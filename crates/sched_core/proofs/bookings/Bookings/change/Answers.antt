@@ -1,11 +1,13 @@
-use Rattle.std.proofs.Common.{length, sym, ◌∙◌}
-use Rattle.sched_core.proofs.BookingLemmas.{few_open, few_unspent_rows, some_open, some_unspent, counted_change}
+use Rattle.std.proofs.Common.{sym, ◌∙◌}
+use Rattle.sched_core.proofs.BookingLemmas.{few_open, few_unspent_rows, some_open, some_unspent}
+use Rattle.sched_core.proofs.BookingLemmas.{counted_change}
 use Rattle.sched_core.proofs.bookings.Bookings.change.Goals as goal
 
 pub recounted-self-inside-requires-clause-some : goal.recounted-self-inside-requires-clause-some
 recounted-self-inside-requires-clause-some c = let s = c.self.inside in λ was.
     some_open s.rows.rows s.open_ones s.unspent s.ended c.args.place c.at-old.result c.self.invariant
-    (rw (← c.self.view_is) at c.requires) (c.at-old.ensures c.at-old.result) (sym c.is_open-was_open.ensures ∙ was)
+    (rw (← c.self.view_is) at c.requires) (c.at-old.ensures c.at-old.result)
+    (sym c.is_open-was_open.ensures ∙ was)
 
 pub recounted-self-inside-requires-clause-few : goal.recounted-self-inside-requires-clause-few
 recounted-self-inside-requires-clause-few c = let s = c.self.inside in
@@ -22,7 +24,8 @@ recounted-self-inside-requires-2-clause-few c = let s = c.self.inside in
 
 pub invariant_of-self : goal.invariant_of-self
 invariant_of-self c = let s = c.self.inside in
-    rw c.put.ensures.rows (counted_change c.args.kind.now s.rows.rows s.open_ones s.unspent s.ended c.args.place
+    rw c.put.ensures.rows
+    (counted_change c.args.kind.now s.rows.rows s.open_ones s.unspent s.ended c.args.place
     c.at-old.result c.booked_now-new.result c.recounted-self-inside.result c.recounted-self-inside-2.result
     c.self.invariant (rw (← c.self.view_is) at c.requires) (c.at-old.ensures c.at-old.result)
     c.booked_now-new.ensures

@@ -1,4 +1,4 @@
-use Rattle.std.proofs.Common.{◌++◌, take, drop, ap, ◌∙◌}
+use Rattle.std.proofs.Common.{◌++◌, take, ap, ◌∙◌}
 use Rattle.sched_core.specs.Booked.{job_view}
 use Rattle.sched_core.proofs.BookingLemmas.{rest_is}
 use Rattle.sched_core.proofs.ByIdLemmas.{by_id}

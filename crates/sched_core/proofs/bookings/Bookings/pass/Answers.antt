@@ -3,7 +3,8 @@ use Rattle.sched_core.proofs.BookingLemmas.{beat_leaves, status_leaves}
 use Rattle.sched_core.proofs.bookings.Bookings.pass.Goals as goal
 
 pub returns-in-Reserve-clause-rows : goal.returns-in-Reserve-clause-rows
-returns-in-Reserve-clause-rows c = rw c.in-Reserve.is (reserve_leaves c.in-Reserve.field-0 c.args.self.now.rows)
+returns-in-Reserve-clause-rows c =
+    rw c.in-Reserve.is (reserve_leaves c.in-Reserve.field-0 c.args.self.now.rows)
 
 pub settle-requires : goal.settle-requires
 settle-requires c = rw c.in-Commit.is (commit_leaves c.in-Commit.job c.in-Commit.state c.in-Commit.kept)

@@ -1,4 +1,3 @@
-use Rattle.std.proofs.Common.{length}
 use Rattle.sched_core.proofs.BookingLemmas.{few_open, few_unspent_rows, counted_push}
 use Rattle.sched_core.proofs.bookings.Bookings.push.Goals as goal
 
@@ -14,5 +13,6 @@ pub invariant_of-self : goal.invariant_of-self
 invariant_of-self c = let s = c.self.inside in
     rw c.push.ensures.rows (counted_push s.rows.rows s.open_ones s.unspent s.ended c.args.row
     c.recounted-self-inside.result c.recounted-self-inside-2.result c.self.invariant
-    (rw c.push.ensures.rows at c.push.ensures.few) (rw c.is_open-opens.ensures at c.recounted-self-inside.ensures)
+    (rw c.push.ensures.rows at c.push.ensures.few)
+    (rw c.is_open-opens.ensures at c.recounted-self-inside.ensures)
     c.recounted-self-inside-2.ensures)

@@ -7,7 +7,8 @@ change-requires c = let s = c.self.inside in
 
 pub returns-in-Some-clause-rows : goal.returns-in-Some-clause-rows
 returns-in-Some-clause-rows c = let s = c.self.inside in
-    rw (← c.self.view_is) (one_settled c.args.kind.now c.args.job s.rows.rows c.change.new.self.rows c.in-Some.place
+    rw (← c.self.view_is)
+    (one_settled c.args.kind.now c.args.job s.rows.rows c.change.new.self.rows c.in-Some.place
     c.requires c.in-Some.ensures (rw (← c.self.view_is) at c.change.ensures.rows))
 
 pub returns-in-None-clause-rows : goal.returns-in-None-clause-rows

@@ -11,7 +11,8 @@ pub loop-place-preserved : goal.loop-place-preserved
 loop-place-preserved c =
     let s = c.self.inside in
     let count = rw c.self.view_is at c.len-end.ensures.count in
-    let lt : c.loop-place.place < length c.args.self.now.rows = omega (arith, c.loop-place-test.true, count) in (
+    let lt : c.loop-place.place < length c.args.self.now.rows =
+    omega (arith, c.loop-place-test.true, count) in (
       sweep-more c.args.kind.now c.args.self.now.rows c.loop-place.self.rows c.change.new.self.rows
           c.loop-place.place lt c.loop-place.invariant.0 c.change.ensures.rows,
       c.change.ensures.first ∙ c.loop-place.invariant.1,

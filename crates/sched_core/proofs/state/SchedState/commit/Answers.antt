@@ -17,7 +17,8 @@ returns-then-not-is_unspent-clause-logged g c =
     let s = c.self.inside in
     let a = c.args in
     let own = own_is s.journal.log.items c.number-number.result c.job_id-job.result a.r.number a.r.job
-    c.number-number.ensures.number c.job_id-job.ensures.job (unspent_view s.journal.books.lists.booked) c.is_unspent.result
+    c.number-number.ensures.number c.job_id-job.ensures.job (unspent_view s.journal.books.lists.booked)
+    c.is_unspent.result
     c.is_unspent.ensures c.self.invariant.books.unspent in
     rw (← c.self.view_is, own ∙ c.if-not-is_unspent.true) refl
 
@@ -26,7 +27,8 @@ returns-then-not-is_unspent-clause-answer g c =
     let s = c.self.inside in
     let a = c.args in
     let own = own_is s.journal.log.items c.number-number.result c.job_id-job.result a.r.number a.r.job
-    c.number-number.ensures.number c.job_id-job.ensures.job (unspent_view s.journal.books.lists.booked) c.is_unspent.result
+    c.number-number.ensures.number c.job_id-job.ensures.job (unspent_view s.journal.books.lists.booked)
+    c.is_unspent.result
     c.is_unspent.ensures c.self.invariant.books.unspent in
     rw (← c.self.view_is, own ∙ c.if-not-is_unspent.true, c.job_id-job.ensures.job) refl
 
@@ -35,9 +37,11 @@ take_uncounted-requires-clause-rule g c κs within =
     let s = c.self.inside in
     let a = c.args in
     let own = own_is s.journal.log.items c.number-number.result c.job_id-job.result _ _ refl refl
-    (unspent_view s.journal.books.lists.booked) c.is_unspent.result c.is_unspent.ensures c.self.invariant.books.unspent in
+    (unspent_view s.journal.books.lists.booked) c.is_unspent.result c.is_unspent.ensures
+    c.self.invariant.books.unspent in
     let kept = held_is s.journal.log.items c.number-number.result c.job_id-job.result _ _ refl refl
-    (held_view s.journal.books.lists.booked) c.is_held-kept.result c.is_held-kept.ensures c.self.invariant.books.held in (
+    (held_view s.journal.books.lists.booked) c.is_held-kept.result c.is_held-kept.ensures
+    c.self.invariant.books.held in (
       call.Commit a.now c.number-number.result c.job_id-job.result a.state,
       (own ∙ c.if-not-is_unspent.false, c.requires.begins),
       ap (λ b. record { now = a.now; kind = Commit c.job_id-job.result a.state b }) kept,
@@ -58,10 +62,12 @@ returns-clause-logged g c =
     let s = c.self.inside in
     let a = c.args in
     let own = own_is s.journal.log.items c.number-number.result c.job_id-job.result a.r.number a.r.job
-    c.number-number.ensures.number c.job_id-job.ensures.job (unspent_view s.journal.books.lists.booked) c.is_unspent.result
+    c.number-number.ensures.number c.job_id-job.ensures.job (unspent_view s.journal.books.lists.booked)
+    c.is_unspent.result
     c.is_unspent.ensures c.self.invariant.books.unspent in
     let kept = held_is s.journal.log.items c.number-number.result c.job_id-job.result a.r.number a.r.job
-    c.number-number.ensures.number c.job_id-job.ensures.job (held_view s.journal.books.lists.booked) c.is_held-kept.result
+    c.number-number.ensures.number c.job_id-job.ensures.job (held_view s.journal.books.lists.booked)
+    c.is_held-kept.result
     c.is_held-kept.ensures c.self.invariant.books.held in
     rw (
       ← c.self.view_is,
@@ -76,10 +82,12 @@ returns-clause-answer g c =
     let s = c.self.inside in
     let a = c.args in
     let own = own_is s.journal.log.items c.number-number.result c.job_id-job.result a.r.number a.r.job
-    c.number-number.ensures.number c.job_id-job.ensures.job (unspent_view s.journal.books.lists.booked) c.is_unspent.result
+    c.number-number.ensures.number c.job_id-job.ensures.job (unspent_view s.journal.books.lists.booked)
+    c.is_unspent.result
     c.is_unspent.ensures c.self.invariant.books.unspent in
     let kept = held_is s.journal.log.items c.number-number.result c.job_id-job.result a.r.number a.r.job
-    c.number-number.ensures.number c.job_id-job.ensures.job (held_view s.journal.books.lists.booked) c.is_held-kept.result
+    c.number-number.ensures.number c.job_id-job.ensures.job (held_view s.journal.books.lists.booked)
+    c.is_held-kept.result
     c.is_held-kept.ensures c.self.invariant.books.held in
     rw (← c.self.view_is, own ∙ c.if-not-is_unspent.false)
     (c.committed.ensures

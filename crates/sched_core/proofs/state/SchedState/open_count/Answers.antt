@@ -10,5 +10,6 @@ pub returns : goal.returns
 returns g c =
     let s = c.self.inside in
     rw (← c.self.view_is) (c.open_count.ensures
-    ∙ reorder-length (open_view s.journal.books.lists.booked) (open_rows s.journal.log.items) c.self.invariant.books.open_ones
+    ∙ reorder-length (open_view s.journal.books.lists.booked) (open_rows s.journal.log.items)
+    c.self.invariant.books.open_ones
     ∙ length-map (open_jobs s.journal.log.items) (open_of s.journal.log.items))

@@ -13,9 +13,12 @@ use Rattle.sched_core.proofs.state.SchedState.status.Goals as goal
 pub take_uncounted-requires-clause-rule : goal.take_uncounted-requires-clause-rule
 take_uncounted-requires-clause-rule g c κs within =
     let s = c.self.inside in
-    let counts : c.counts-answer.result ≡ counts_over (servers_of s.journal.log.items) (open_rows s.journal.log.items) c.args.now =
-    c.counts-answer.ensures ∙ counts_are s.journal.books.lists s.journal.keys.items s.journal.log.items c.args.now c.self.invariant.books in
-    let entry = rw (c.in_ok-pruned.ensures, counts, c.self.invariant.books.rows) at c.status_entry-entry.ensures in
+    let counts : c.counts-answer.result
+    ≡ counts_over (servers_of s.journal.log.items) (open_rows s.journal.log.items) c.args.now =
+    c.counts-answer.ensures ∙ counts_are s.journal.books.lists s.journal.keys.items s.journal.log.items
+    c.args.now c.self.invariant.books in
+    let entry = rw (c.in_ok-pruned.ensures, counts, c.self.invariant.books.rows) at
+    c.status_entry-entry.ensures in
     subst (λ l. IsRule (core_of s.start l) c.status_entry-entry.result)
     (sym c.in_ok-make_log_room.ensures.log) (call.Status c.args.now, tt, entry)
 
@@ -45,9 +48,12 @@ take_uncounted-requires-clause-state g c κs within =
 pub returns-clause-logged : goal.returns-clause-logged
 returns-clause-logged g c =
     let s = c.self.inside in
-    let counts : c.counts-answer.result ≡ counts_over (servers_of s.journal.log.items) (open_rows s.journal.log.items) c.args.now =
-    c.counts-answer.ensures ∙ counts_are s.journal.books.lists s.journal.keys.items s.journal.log.items c.args.now c.self.invariant.books in
-    let entry = rw (c.in_ok-pruned.ensures, counts, c.self.invariant.books.rows) at c.status_entry-entry.ensures in
+    let counts : c.counts-answer.result
+    ≡ counts_over (servers_of s.journal.log.items) (open_rows s.journal.log.items) c.args.now =
+    c.counts-answer.ensures ∙ counts_are s.journal.books.lists s.journal.keys.items s.journal.log.items
+    c.args.now c.self.invariant.books in
+    let entry = rw (c.in_ok-pruned.ensures, counts, c.self.invariant.books.rows) at
+    c.status_entry-entry.ensures in
     rw (← c.self.view_is, c.take_uncounted.ensures.log, c.in_ok-make_log_room.ensures.log)
     (ap (logged (core_of s.start s.journal.log.items)) entry)
 
@@ -55,4 +61,5 @@ pub returns-clause-answer : goal.returns-clause-answer
 returns-clause-answer g c =
     let s = c.self.inside in
     rw (← c.self.view_is) (c.counts-answer.ensures
-    ∙ counts_are s.journal.books.lists s.journal.keys.items s.journal.log.items c.args.now c.self.invariant.books)
+    ∙ counts_are s.journal.books.lists s.journal.keys.items s.journal.log.items c.args.now
+    c.self.invariant.books)

@@ -20,7 +20,8 @@ returns-then-not-is_unspent-clause-logged g c =
     let s = c.self.inside in
     let a = c.args in
     let own = own_is s.journal.log.items c.number-number.result c.job_id-job.result a.r.number a.r.job
-    c.number-number.ensures.number c.job_id-job.ensures.job (unspent_view s.journal.books.lists.booked) c.is_unspent.result
+    c.number-number.ensures.number c.job_id-job.ensures.job (unspent_view s.journal.books.lists.booked)
+    c.is_unspent.result
     c.is_unspent.ensures c.self.invariant.books.unspent in
     rw (← c.self.view_is, own ∙ c.if-not-is_unspent.true) refl
 
@@ -29,7 +30,8 @@ returns-then-not-is_unspent-clause-answer g c =
     let s = c.self.inside in
     let a = c.args in
     let own = own_is s.journal.log.items c.number-number.result c.job_id-job.result a.r.number a.r.job
-    c.number-number.ensures.number c.job_id-job.ensures.job (unspent_view s.journal.books.lists.booked) c.is_unspent.result
+    c.number-number.ensures.number c.job_id-job.ensures.job (unspent_view s.journal.books.lists.booked)
+    c.is_unspent.result
     c.is_unspent.ensures c.self.invariant.books.unspent in
     rw (← c.self.view_is, own ∙ c.if-not-is_unspent.true) refl
 
@@ -38,13 +40,16 @@ take_uncounted-requires-clause-rule g c κs within =
     let s = c.self.inside in
     let a = c.args in
     let own = own_is s.journal.log.items c.number-number.result c.job_id-job.result _ _ refl refl
-    (unspent_view s.journal.books.lists.booked) c.is_unspent.result c.is_unspent.ensures c.self.invariant.books.unspent in
+    (unspent_view s.journal.books.lists.booked) c.is_unspent.result c.is_unspent.ensures
+    c.self.invariant.books.unspent in
     let noted = noted_is s.journal.log.items c.number-number.result c.job_id-job.result _ _ refl refl
     (unspent_view s.journal.books.lists.booked) s.journal.books.lists.rows c.unspent_address-server.result
     c.noted-noted.result c.unspent_address-server.ensures c.noted-noted.ensures c.self.invariant.books.rows
-    (unspent_addressed s.journal.log.items s.journal.books.lists.booked c.self.invariant.books.placed) (sym c.is_unspent.ensures ∙ c.if-not-is_unspent.false) in
+    (unspent_addressed s.journal.log.items s.journal.books.lists.booked c.self.invariant.books.placed)
+    (sym c.is_unspent.ensures ∙ c.if-not-is_unspent.false) in
     let gone = held_is s.journal.log.items c.number-number.result c.job_id-job.result _ _ refl refl
-    (held_view s.journal.books.lists.booked) c.is_held-ended.result c.is_held-ended.ensures c.self.invariant.books.held in (
+    (held_view s.journal.books.lists.booked) c.is_held-ended.result c.is_held-ended.ensures
+    c.self.invariant.books.held in (
       call.Undo a.now c.number-number.result c.job_id-job.result,
       own ∙ c.if-not-is_unspent.false,
       ap (λ n. undo_by n c.is_held-ended.result a.now c.job_id-job.result) noted
@@ -68,15 +73,18 @@ returns-clause-logged g c =
     let s = c.self.inside in
     let a = c.args in
     let own = own_is s.journal.log.items c.number-number.result c.job_id-job.result a.r.number a.r.job
-    c.number-number.ensures.number c.job_id-job.ensures.job (unspent_view s.journal.books.lists.booked) c.is_unspent.result
+    c.number-number.ensures.number c.job_id-job.ensures.job (unspent_view s.journal.books.lists.booked)
+    c.is_unspent.result
     c.is_unspent.ensures c.self.invariant.books.unspent in
     let noted = noted_is s.journal.log.items c.number-number.result c.job_id-job.result a.r.number a.r.job
     c.number-number.ensures.number c.job_id-job.ensures.job (unspent_view s.journal.books.lists.booked)
     s.journal.books.lists.rows c.unspent_address-server.result c.noted-noted.result
     c.unspent_address-server.ensures c.noted-noted.ensures c.self.invariant.books.rows
-    (unspent_addressed s.journal.log.items s.journal.books.lists.booked c.self.invariant.books.placed) (sym c.is_unspent.ensures ∙ c.if-not-is_unspent.false) in
+    (unspent_addressed s.journal.log.items s.journal.books.lists.booked c.self.invariant.books.placed)
+    (sym c.is_unspent.ensures ∙ c.if-not-is_unspent.false) in
     let gone = held_is s.journal.log.items c.number-number.result c.job_id-job.result a.r.number a.r.job
-    c.number-number.ensures.number c.job_id-job.ensures.job (held_view s.journal.books.lists.booked) c.is_held-ended.result
+    c.number-number.ensures.number c.job_id-job.ensures.job (held_view s.journal.books.lists.booked)
+    c.is_held-ended.result
     c.is_held-ended.ensures c.self.invariant.books.held in
     rw (
       ← c.self.view_is,
@@ -96,15 +104,18 @@ returns-clause-answer g c =
     let s = c.self.inside in
     let a = c.args in
     let own = own_is s.journal.log.items c.number-number.result c.job_id-job.result a.r.number a.r.job
-    c.number-number.ensures.number c.job_id-job.ensures.job (unspent_view s.journal.books.lists.booked) c.is_unspent.result
+    c.number-number.ensures.number c.job_id-job.ensures.job (unspent_view s.journal.books.lists.booked)
+    c.is_unspent.result
     c.is_unspent.ensures c.self.invariant.books.unspent in
     let noted = noted_is s.journal.log.items c.number-number.result c.job_id-job.result a.r.number a.r.job
     c.number-number.ensures.number c.job_id-job.ensures.job (unspent_view s.journal.books.lists.booked)
     s.journal.books.lists.rows c.unspent_address-server.result c.noted-noted.result
     c.unspent_address-server.ensures c.noted-noted.ensures c.self.invariant.books.rows
-    (unspent_addressed s.journal.log.items s.journal.books.lists.booked c.self.invariant.books.placed) (sym c.is_unspent.ensures ∙ c.if-not-is_unspent.false) in
+    (unspent_addressed s.journal.log.items s.journal.books.lists.booked c.self.invariant.books.placed)
+    (sym c.is_unspent.ensures ∙ c.if-not-is_unspent.false) in
     let gone = held_is s.journal.log.items c.number-number.result c.job_id-job.result a.r.number a.r.job
-    c.number-number.ensures.number c.job_id-job.ensures.job (held_view s.journal.books.lists.booked) c.is_held-ended.result
+    c.number-number.ensures.number c.job_id-job.ensures.job (held_view s.journal.books.lists.booked)
+    c.is_held-ended.result
     c.is_held-ended.ensures c.self.invariant.books.held in
     rw (← c.self.view_is, own ∙ c.if-not-is_unspent.false)
     (c.undone.ensures

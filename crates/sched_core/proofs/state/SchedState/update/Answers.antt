@@ -23,8 +23,11 @@ take_uncounted-requires-clause-rule g c κs within =
       kind = Update a.server a.job a.state c.answer_by-answer.result;
     } in
     let answer : c.answer_by-answer.result ≡ advance (open_rows s.journal.log.items) a.server a.job a.state =
-    rw (c.open_job-found.ensures, open_found s.journal.books.lists s.journal.keys.items s.journal.log.items a.job
-    c.self.invariant.books) at c.answer_by-answer.ensures in
+    rw (
+      c.open_job-found.ensures,
+      open_found s.journal.books.lists s.journal.keys.items s.journal.log.items a.job
+          c.self.invariant.books,
+    ) at c.answer_by-answer.ensures in
     subst (λ l. IsRule (core_of s.start l) step) (sym c.in_ok-make_log_room.ensures.log) (
       call.Update a.now a.server a.job a.state,
       tt,
@@ -44,8 +47,11 @@ returns-clause-logged g c =
     let s = c.self.inside in
     let a = c.args in
     let answer : c.answer_by-answer.result ≡ advance (open_rows s.journal.log.items) a.server a.job a.state =
-    rw (c.open_job-found.ensures, open_found s.journal.books.lists s.journal.keys.items s.journal.log.items a.job
-    c.self.invariant.books) at c.answer_by-answer.ensures in
+    rw (
+      c.open_job-found.ensures,
+      open_found s.journal.books.lists s.journal.keys.items s.journal.log.items a.job
+          c.self.invariant.books,
+    ) at c.answer_by-answer.ensures in
     rw (← c.self.view_is, c.take_uncounted.ensures.log, c.in_ok-make_log_room.ensures.log)
     (on_ok c.updated.result _
     (ap (λ r. logged (core_of s.start s.journal.log.items)
@@ -56,8 +62,11 @@ returns-clause-answer g c = λ refused.
     let s = c.self.inside in
     let a = c.args in
     let answer : c.answer_by-answer.result ≡ advance (open_rows s.journal.log.items) a.server a.job a.state =
-    rw (c.open_job-found.ensures, open_found s.journal.books.lists s.journal.keys.items s.journal.log.items a.job
-    c.self.invariant.books) at c.answer_by-answer.ensures in
+    rw (
+      c.open_job-found.ensures,
+      open_found s.journal.books.lists s.journal.keys.items s.journal.log.items a.job
+          c.self.invariant.books,
+    ) at c.answer_by-answer.ensures in
     rw (← c.self.view_is) (c.updated.ensures ∙ ap (λ r. verdict r a.state) answer)
 
 pub returns-clause-err : goal.returns-clause-err
@@ -65,8 +74,11 @@ returns-clause-err g c =
     let s = c.self.inside in
     let a = c.args in
     let answer : c.answer_by-answer.result ≡ advance (open_rows s.journal.log.items) a.server a.job a.state =
-    rw (c.open_job-found.ensures, open_found s.journal.books.lists s.journal.keys.items s.journal.log.items a.job
-    c.self.invariant.books) at c.answer_by-answer.ensures in
+    rw (
+      c.open_job-found.ensures,
+      open_found s.journal.books.lists s.journal.keys.items s.journal.log.items a.job
+          c.self.invariant.books,
+    ) at c.answer_by-answer.ensures in
     rw (
       c.updated.ensures,
       ← c.self.view_is,
