@@ -6,5 +6,5 @@ use Rattle.farm_run.proofs.print.push_jobs.Goals as goal
 
 pub loop-row-init : goal.loop-row-init
 loop-row-init g c = ap (λ t. string_bytes c.args.out.now ++ t)
-    (lines_are (core_log c.args.farm.now.entries) c.jobs.result
-    (unended_by_id (core_log c.args.farm.now.entries)) c.jobs.ensures.all)
+    (lines_are (core_log c.args.farm.now.entries) c.jobs-row-items.result
+    (unended_by_id (core_log c.args.farm.now.entries)) c.jobs-row-items.ensures.all)
