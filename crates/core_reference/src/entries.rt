@@ -12,15 +12,15 @@ ghost use Rattle.sched_core.specs.Rule.{update_over, status_over};
 use crate::questions::{
     address_if, open_jobs, reservation_count, reservation_place, reservations, servers,
 };
+use crate::rules::{
+    answer_by, beat_over_rows, counts, is_held, noted_number, open_job, pruned_numbers,
+    reaped_jobs, reserve_over_rows, status_entry,
+};
 use dist_types::ids::{JobId, ServerId, ServerNonce};
 use dist_types::results::JobState;
 use dist_types::text::Bytes;
 use sched_core::call::Call;
 use sched_core::entry::{CoreEntry, CoreKind};
-use sched_core::rules::{
-    answer_by, beat_over_rows, counts, is_held, noted_number, open_job, pruned_numbers,
-    reaped_jobs, reserve_over_rows, status_entry,
-};
 use std::alloc::{AllocError, Global};
 
 /// The registrations that a heartbeat or a status prunes. Refused for want of memory alone.

@@ -1,6 +1,12 @@
-//! The scheduler's core computed the plain and slow way, by walks over its whole log: what the running
-//! state is compared with. Nothing but tests uses it.
+//! The scheduler's core computed in two plain ways, which are what the running state is compared with: by walks
+//! over its whole log (`questions`, `entries`), and by plain lists that each entry makes anew (`plain`).
+//! Nothing but tests uses it.
 #![tactic(auto)]
 
 pub mod entries;
+mod held;
+mod kind;
+pub mod plain;
 pub mod questions;
+mod rules;
+mod standing;

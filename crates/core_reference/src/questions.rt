@@ -16,19 +16,19 @@ ghost use Rattle.sched_core.specs.Rule.{place_at};
 ghost use Rattle.sched_core.specs.Cuts.{cuts, seen};
 ghost use Rattle.sched_core.specs.Reservation.{is_booked};
 
+use crate::kind::{
+    claims, closes, complete, ends, forgives, frees, heard, is_reservation, moves, notes, renews,
+};
 use dist_types::ids::{JobId, ServerId};
 use dist_types::results::JobState;
 use sched_core::entry::{CoreEntry, CoreKind, Reserved};
-use sched_core::kind::{
-    claims, closes, complete, ends, forgives, frees, heard, is_reservation, moves, notes, renews,
-};
 use sched_core::rows::{HeldRow, OpenRow, ServerRow};
 use std::alloc::{AllocError, Global};
 
 // The parts of the walks.
 
 /// Adds an element, if there is one. Refused for want of memory alone.
-fn push_if<T: Drop>(items: &mut Vec<T>, item: Option<T>) -> Result<(), AllocError>
+pub(crate) fn push_if<T: Drop>(items: &mut Vec<T>, item: Option<T>) -> Result<(), AllocError>
     ensures { OnOk result (items.new.items ≡ items.old.items ++ option_to_list item) }
 {
     match item {
