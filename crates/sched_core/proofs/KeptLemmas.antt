@@ -1,6 +1,6 @@
 -- What one more entry does to the rows of reservations and open jobs.
 use Rattle.std.proofs.Common.{◌≡◌, ℕ, List, [], ◌∷◌, ◌++◌, Bool, true, false, not, ◌&&◌, map, filter, length}
-use Rattle.std.proofs.Common.{Option, Some, None, refl, ap, ◌∙◌, sym, subst, append-nil, eqb-true}
+use Rattle.std.proofs.Common.{Some, None, refl, ap, ◌∙◌, sym, subst, eqb-true}
 use Rattle.std.specs.Prelude.{◌==◌, option_to_list, option_and_then, unwrap_or}
 use Rattle.std.specs.List.{AllByRecursion, list_any, find}
 use Rattle.std.specs.Option.{option_map}
@@ -18,35 +18,35 @@ use Rattle.sched_core.specs.declared.entry.CoreKind.{CoreKind}
 use Rattle.sched_core.specs.declared.entry.CoreKind.TheVariants.{Beat, Reserve, Commit, Undo, Update, Status}
 use Rattle.sched_core.specs.declared.entry.Reserved.TheVariants.{Job, NoRoom, Spent}
 use Rattle.sched_core.specs.declared.rows.ServerRow.{ServerRow}
-use Rattle.sched_core.specs.declared.rows.HeldRow.{HeldRow}
 use Rattle.sched_core.specs.declared.rows.JobRow.{JobRow}
-use Rattle.sched_core.specs.declared.rows.OpenRow.{OpenRow}
-use Rattle.sched_core.specs.declared.vectors.UnspentRow.{UnspentRow}
+use Rattle.sched_core.specs.Booked.{UnspentRow}
 use Rattle.sched_core.specs.Log.{same_job, is_this, names, newer, latest}
 use Rattle.sched_core.specs.Standing.{standing, address_of, key_at}
-use Rattle.sched_core.specs.Reservation.{Booking, booked_by, booked_at, is_unended, unended, unspent}
+use Rattle.sched_core.specs.Reservation.{Booking, booked_by as reserved_by, booked_at, is_unended, unended}
+use Rattle.sched_core.specs.Reservation.{unspent}
 use Rattle.sched_core.specs.Reservation.{claims_by, is_claimed, spends_by, frees_by}
 use Rattle.sched_core.specs.Job.{Committed, committed_by, committed_at, commits, moves_by, moves_of}
 use Rattle.sched_core.specs.Job.{state_now, state_of, is_open, open_jobs, place_of}
-use Rattle.sched_core.specs.Rows.{row_of, servers_of, held_of, held_rows, placed, sorted_into, held_by_id}
+use Rattle.sched_core.specs.Rows.{row_of, servers_of, held_of, held_rows}
 use Rattle.sched_core.specs.Rows.{held_part, open_of, open_rows}
 use Rattle.sched_core.specs.Cuts.{seen}
-use Rattle.sched_core.specs.Rule.{begins, place_at}
-use Rattle.sched_core.specs.Books.{begins_by, state_after, held_stays, held_after, held_by, job_stays}
-use Rattle.sched_core.specs.Books.{job_after, job_over, job_by, job_placed, open_stays, open_after, open_over}
+use Rattle.sched_core.specs.Rule.{begins}
+use Rattle.sched_core.specs.Books.{begins_by, state_after, held_stays, held_after, held_by}
+use Rattle.sched_core.specs.Books.{job_over, job_by, open_stays, open_after, open_over}
 use Rattle.sched_core.specs.Books.{open_by, unspent_stays, unspent_by, place_of_unspent, place_of_booking}
-use Rattle.sched_core.specs.Books.{IsAtRow}
+use Rattle.sched_core.specs.Books.{IsAtRow, IsBookedAt, booked_after, booked_by}
+use Rattle.sched_core.specs.Booked.{booked_new}
+use Rattle.sched_core.specs.declared.booked.BookedRow.{BookedRow}
 use Rattle.sched_core.proofs.StandingLemmas.{none-push}
 use Rattle.sched_core.proofs.Lists.{list_any-map, latest-push}
-use Rattle.sched_core.proofs.AllLemmas.{same_job-eq, all-weaker, all-both, all-append, all-filter, all-map}
+use Rattle.sched_core.proofs.AllLemmas.{same_job-eq, all-weaker, all-both, all-append, all-map}
 use Rattle.sched_core.proofs.AllLemmas.{all-unmap, and_right, any-weaker, found}
 use Rattle.sched_core.proofs.StepLemmas as step
 use Rattle.sched_core.proofs.FactLemmas.{Facts}
 use Rattle.sched_core.proofs.HeldLemmas.{Sound, IsHeldAt, is_this-eq}
 use Rattle.sched_core.proofs.LegalLemmas.{core_of}
 use Rattle.sched_core.proofs.GrowLemmas.{newest-grown, and_true, map-agree, map-all_agree}
-use Rattle.sched_core.proofs.SortLemmas.{sorted-push, map-placed, sorted-map, sorted-filter, all-placed}
-use Rattle.sched_core.proofs.SortLemmas.{sorted-all, sorted-any, found_first}
+use Rattle.sched_core.proofs.SortLemmas.{found_first}
 use Rattle.sched_core.proofs.PlaceLemmas.{address-stays, place-stays, place-new, cards_are}
 
 -- the state of a commit, with one more entry
@@ -113,7 +113,7 @@ held_rows_grow = record {
 }
 
 held_made : (k : CoreKind) (number now : ℕ)
-    → option_map held_of (booked_by k number now []) ≡ held_by k number now
+    → option_map held_of (reserved_by k number now []) ≡ held_by k number now
 held_made (Beat server nonce cpus key pruned reaped replaced is_new) number now = refl
 held_made (Reserve (Job job reg forgiven)) number now = refl
 held_made (Reserve (NoRoom n)) number now = refl
@@ -131,36 +131,6 @@ held_rows-push log e =
     (λ d h. held_stays d.kind h) held_rows_grow log e
     ∙ ap (λ o. map (held_after e.kind) (filter (held_stays e.kind) (held_rows log)) ++ option_to_list o)
     (held_made e.kind (length log) e.now)
-
--- by rising job id
-
-abbrev job_id : HeldRow → ℕ
-job_id h = h.job.0
-
-abbrev held_placed : Option HeldRow → List HeldRow → List HeldRow
-held_placed None hs = hs
-held_placed (Some h) hs = placed job_id h hs
-
-sorted-end : (o : Option HeldRow) (hs : List HeldRow)
-    → sorted_into job_id [] (hs ++ option_to_list o) ≡ held_placed o (sorted_into job_id [] hs)
-sorted-end None hs = ap (sorted_into job_id []) (append-nil hs)
-sorted-end (Some h) hs = sorted-push job_id [] hs h
-
-held_by_id-push : (log : List CoreEntry) (e : CoreEntry) → held_by_id (log ++ e ∷ []) ≡ held_placed
-    (held_by e.kind (length log) e.now)
-    (map (held_after e.kind) (filter (held_stays e.kind) (held_by_id log)))
-held_by_id-push log e =
-    ap (sorted_into job_id []) (held_rows-push log e)
-    ∙ sorted-end (held_by e.kind (length log) e.now)
-    (map (held_after e.kind) (filter (held_stays e.kind) (held_rows log)))
-    ∙ ap (held_placed (held_by e.kind (length log) e.now))
-    (sorted-map job_id job_id (held_after e.kind) (λ h. refl) (filter (held_stays e.kind) (held_rows log))
-    ∙ ap (map (held_after e.kind)) (sym (sorted-filter (held_stays e.kind) job_id (held_rows log))))
-
-part-placed : (o : Option JobRow) (js : List JobRow) → map held_part (job_placed o js) ≡ held_placed
-    (option_map held_part o) (map held_part js)
-part-placed None js = refl
-part-placed (Some j) js = map-placed (λ x. x.job.0) job_id held_part (λ x. refl) j js
 
 -- a job that is reserved is at one of the rows
 abbrev pub IsAtRowBy : CoreKind → List ServerRow → Type 0
@@ -212,7 +182,7 @@ rows_addressed log = all-map (λ r. address_of log r.reg ≡ Some r.server) (row
     (all-weaker (λ g. (address_of log g.reg ≡ Some g.server) × (key_at log g.reg ≡ Some g.key))
     (λ g. address_of log g.reg ≡ Some g.server) (λ g h. h.0) (standing log) (cards_are log))
 
-job_part : (log : List CoreEntry) (k : CoreKind) (number now : ℕ) → IsAtRowBy k (servers_of log)
+pub job_part : (log : List CoreEntry) (k : CoreKind) (number now : ℕ) → IsAtRowBy k (servers_of log)
     → option_map held_part (job_by k (servers_of log) number now) ≡ held_by k number now
 job_part log (Reserve (Job job reg forgiven)) number now at = ap (option_map held_part)
     (new_job log number now job reg (servers_of log) (rows_addressed log) at).is
@@ -224,59 +194,6 @@ job_part log (Undo job noted was_ended) number now at = refl
 job_part log (Update server job state answer) number now at = refl
 job_part log (Status pruned servers cpus jobs) number now at = refl
 
-pub jobs-absorb : (jobs : List JobRow) (log : List CoreEntry) (e : CoreEntry)
-    → IsAtRowBy e.kind (servers_of log) → map held_part jobs ≡ held_by_id log →
-    map held_part (job_placed (job_by e.kind (servers_of log) (length log) e.now)
-    (map (job_after e.kind) (filter (job_stays e.kind) jobs))) ≡ held_by_id (log ++ e ∷ [])
-jobs-absorb jobs log e at same =
-    part-placed (job_by e.kind (servers_of log) (length log) e.now)
-    (map (job_after e.kind) (filter (job_stays e.kind) jobs))
-    ∙ ap (λ o. held_placed o (map held_part (map (job_after e.kind) (filter (job_stays e.kind) jobs))))
-    (job_part log e.kind (length log) e.now at)
-    ∙ ap (held_placed (held_by e.kind (length log) e.now))
-    (map-map held_part (job_after e.kind) (filter (job_stays e.kind) jobs)
-    ∙ sym (map-map (held_after e.kind) held_part (filter (job_stays e.kind) jobs))
-    ∙ ap (map (held_after e.kind)) (sym (filter-map (held_stays e.kind) held_part jobs))
-    ∙ ap (λ hs. map (held_after e.kind) (filter (held_stays e.kind) hs)) same)
-    ∙ sym (held_by_id-push log e)
-
-abbrev IsJobAt : List CoreEntry → JobRow → Type 0
-IsJobAt log j = address_of log j.reg ≡ Some j.server
-
-placed_new : (log : List CoreEntry) (k : CoreKind) (number now : ℕ) → IsAtRowBy k (servers_of log)
-    → AllByRecursion (IsJobAt log) (option_to_list (job_by k (servers_of log) number now))
-placed_new log (Reserve (Job job reg forgiven)) number now at =
-    let new : NewJob log number now job reg (servers_of log) = new_job log number now job reg (servers_of log)
-    (rows_addressed log) at in
-    subst (λ o. AllByRecursion (IsJobAt log) (option_to_list o)) (sym new.is) (new.there, tt)
-placed_new log (Reserve (NoRoom n)) number now at = tt
-placed_new log (Reserve Spent) number now at = tt
-placed_new log (Beat server nonce cpus key pruned reaped replaced is_new) number now at = tt
-placed_new log (Commit job state kept) number now at = tt
-placed_new log (Undo job noted was_ended) number now at = tt
-placed_new log (Update server job state answer) number now at = tt
-placed_new log (Status pruned servers cpus jobs) number now at = tt
-
-placed_with : (P : JobRow → Type 0) (o : Option JobRow) (js : List JobRow)
-    → AllByRecursion P (option_to_list o) → AllByRecursion P js → AllByRecursion P (job_placed o js)
-placed_with P None js new all = all
-placed_with P (Some j) js new all = all-placed P (λ x. x.job.0) j js new.0 all
-
-pub jobs_placed-absorb : (jobs : List JobRow) (log : List CoreEntry) (e : CoreEntry)
-    → IsAtRowBy e.kind (servers_of log) → AllByRecursion (λ j. address_of log j.reg ≡ Some j.server) jobs →
-    AllByRecursion (λ j. address_of (log ++ e ∷ []) j.reg ≡ Some j.server)
-    (job_placed (job_by e.kind (servers_of log) (length log) e.now)
-    (map (job_after e.kind) (filter (job_stays e.kind) jobs)))
-jobs_placed-absorb jobs log e at all = all-weaker (IsJobAt log) (IsJobAt (log ++ e ∷ []))
-    (λ j h. address-stays log e j.reg j.server h)
-    (job_placed (job_by e.kind (servers_of log) (length log) e.now)
-    (map (job_after e.kind) (filter (job_stays e.kind) jobs)))
-    (placed_with (IsJobAt log) (job_by e.kind (servers_of log) (length log) e.now)
-    (map (job_after e.kind) (filter (job_stays e.kind) jobs))
-    (placed_new log e.kind (length log) e.now at)
-    (all-map (IsJobAt log) (job_after e.kind) (filter (job_stays e.kind) jobs)
-    (all-filter (IsJobAt log) (IsJobAt log) (job_stays e.kind) (λ j h t. h) jobs all)))
-
 -- the unspent reservations
 
 abbrev place_unspent : CoreKind → (ℕ × JobId) × ℕ → Bool
@@ -284,7 +201,7 @@ place_unspent k p = not (spends_by k p.0.1)
 
 unspent_part : (log : List CoreEntry) (k : CoreKind) (number now : ℕ) → IsAtRowBy k (servers_of log)
     → option_map place_of_unspent (unspent_by (job_by k (servers_of log) number now)) ≡ option_map
-    place_of_booking (booked_by k number now [])
+    place_of_booking (reserved_by k number now [])
 unspent_part log (Reserve (Job job reg forgiven)) number now at =
     ap (λ o. option_map place_of_unspent (unspent_by o))
     (new_job log number now job reg (servers_of log) (rows_addressed log) at).is
@@ -321,44 +238,57 @@ unspent-absorb us log e at same =
     ∙ ap (map place_of_booking) (sym (step.free-push log e))
     ∙ free_places (log ++ e ∷ [])
 
-abbrev IsUnspentAt : List CoreEntry → UnspentRow → Type 0
-IsUnspentAt log u = (place_at log u.number ≡ Some u.reg) × (address_of log u.reg ≡ Some u.server)
-
-unspent_new : (log : List CoreEntry) (now : ℕ) (k : CoreKind) → IsAtRowBy k (servers_of log)
-    → AllByRecursion (IsUnspentAt (log ++ record { now = now; kind = k } ∷ []))
-    (option_to_list (unspent_by (job_by k (servers_of log) (length log) now)))
-unspent_new log now (Reserve (Job job reg forgiven)) at =
+-- the new reservation is at the registration that its number says, and at its address
+pub booked_new_at : (log : List CoreEntry) (now : ℕ) (k : CoreKind) → IsAtRowBy k (servers_of log)
+    → AllByRecursion (IsBookedAt (log ++ record { now = now; kind = k } ∷ []))
+    (option_to_list (booked_by k (servers_of log) (length log) now))
+booked_new_at log now (Reserve (Job job reg forgiven)) at =
     let e : CoreEntry = record { now = now; kind = Reserve (Job job reg forgiven) } in
     let new : NewJob log (length log) now job reg (servers_of log) = new_job log (length log) now job reg
     (servers_of log) (rows_addressed log) at in
-    subst (λ o. AllByRecursion (IsUnspentAt (log ++ e ∷ [])) (option_to_list (unspent_by o))) (sym new.is) (
+    subst (λ o. AllByRecursion (IsBookedAt (log ++ e ∷ [])) (option_to_list (option_map booked_new o)))
+    (sym new.is) (
       (
         place-new log e (record { number = length log; now = now; job = job; reg = reg; later = [] }) refl,
         address-stays log e reg new.server new.there,
       ),
       tt,
     )
-unspent_new log now (Reserve (NoRoom n)) at = tt
-unspent_new log now (Reserve Spent) at = tt
-unspent_new log now (Beat server nonce cpus key pruned reaped replaced is_new) at = tt
-unspent_new log now (Commit job state kept) at = tt
-unspent_new log now (Undo job noted was_ended) at = tt
-unspent_new log now (Update server job state answer) at = tt
-unspent_new log now (Status pruned servers cpus jobs) at = tt
+booked_new_at log now (Reserve (NoRoom n)) at = tt
+booked_new_at log now (Reserve Spent) at = tt
+booked_new_at log now (Beat server nonce cpus key pruned reaped replaced is_new) at = tt
+booked_new_at log now (Commit job state kept) at = tt
+booked_new_at log now (Undo job noted was_ended) at = tt
+booked_new_at log now (Update server job state answer) at = tt
+booked_new_at log now (Status pruned servers cpus n) at = tt
 
-pub unspent_placed-absorb : (us : List UnspentRow) (log : List CoreEntry) (e : CoreEntry)
-    → IsAtRowBy e.kind (servers_of log) → AllByRecursion (λ u. (place_at log u.number ≡ Some u.reg)
-    × (address_of log u.reg ≡ Some u.server)) us →
-    AllByRecursion (λ u. (place_at (log ++ e ∷ []) u.number ≡ Some u.reg)
-    × (address_of (log ++ e ∷ []) u.reg ≡ Some u.server))
-    (filter (unspent_stays e.kind) us ++ option_to_list
-    (unspent_by (job_by e.kind (servers_of log) (length log) e.now)))
-unspent_placed-absorb us log e at all =
-    all-append (IsUnspentAt (log ++ e ∷ [])) (filter (unspent_stays e.kind) us)
-    (option_to_list (unspent_by (job_by e.kind (servers_of log) (length log) e.now)))
-    (all-filter (IsUnspentAt log) (IsUnspentAt (log ++ e ∷ [])) (unspent_stays e.kind)
-    (λ u h t. (place-stays log e u.number u.reg h.0, address-stays log e u.reg u.server h.1)) us all)
-    (unspent_new log e.now e.kind at)
+-- each reservation stays where it is
+pub booked-placed : (bs : List BookedRow) (log : List CoreEntry) (e : CoreEntry)
+    → IsAtRowBy e.kind (servers_of log)
+    → AllByRecursion (IsBookedAt log) bs → AllByRecursion (IsBookedAt (log ++ e ∷ []))
+    (map (booked_after e.kind) bs ++ option_to_list (booked_by e.kind (servers_of log) (length log) e.now))
+booked-placed bs log e at all =
+    all-append (IsBookedAt (log ++ e ∷ [])) (map (booked_after e.kind) bs)
+    (option_to_list (booked_by e.kind (servers_of log) (length log) e.now))
+    (all-map (IsBookedAt (log ++ e ∷ [])) (booked_after e.kind) bs
+    (all-weaker (IsBookedAt log) (λ b. IsBookedAt (log ++ e ∷ []) (booked_after e.kind b))
+    (λ b h. (place-stays log e b.number b.reg h.0, address-stays log e b.reg b.server h.1)) bs all))
+    (booked_new_at log e.now e.kind at)
+
+-- the job of the new reservation
+pub booked_job : (log : List CoreEntry) (k : CoreKind) (number now : ℕ) → IsAtRowBy k (servers_of log)
+    → option_map (λ b. b.job) (booked_by k (servers_of log) number now)
+    ≡ option_map (λ b. b.job) (reserved_by k number now [])
+booked_job log (Reserve (Job job reg forgiven)) number now at = ap
+    (λ o. option_map (λ b. b.job) (option_map booked_new o))
+    (new_job log number now job reg (servers_of log) (rows_addressed log) at).is
+booked_job log (Reserve (NoRoom n)) number now at = refl
+booked_job log (Reserve Spent) number now at = refl
+booked_job log (Beat server nonce cpus key pruned reaped replaced is_new) number now at = refl
+booked_job log (Commit job state kept) number now at = refl
+booked_job log (Undo job noted was_ended) number now at = refl
+booked_job log (Update server job state answer) number now at = refl
+booked_job log (Status pruned servers cpus n) number now at = refl
 
 -- the open jobs
 
@@ -506,14 +436,13 @@ new_open log now (Update server job state answer) jobs all kept = refl
 new_open log now (Status pruned servers cpus n) jobs all kept = refl
 
 kept_job : (base count : ℕ) (log : List CoreEntry) (k : CoreKind) (jobs : List JobRow)
-    → map held_part jobs ≡ held_by_id log → Facts (core_of base count log) k → IsKeptOf log k jobs
+    → map held_part jobs ≡ held_rows log → Facts (core_of base count log) k → IsKeptOf log k jobs
 kept_job base count log (Commit job state true) jobs same is = (
   sym (list_any-map (λ h. same_job h.job job) held_part jobs) ∙ ap (list_any (λ h. same_job h.job job)) same
-      ∙ sorted-any (λ h. same_job h.job job) job_id [] (held_rows log)
-      (list_any-map (λ h. same_job h.job job) held_of (unended log)
+      ∙ list_any-map (λ h. same_job h.job job) held_of (unended log)
       ∙ any-weaker (λ b. (b.number == is.0.number) && same_job b.job job) (λ b. same_job b.job job)
       (λ b h. and_right (b.number == is.0.number) (same_job b.job job) h) (unended log)
-      (sym is.0.says_held)),
+      (sym is.0.says_held),
   is.1,
 )
 kept_job base count log (Commit job state false) jobs same is = tt
@@ -524,22 +453,20 @@ kept_job base count log (Update server job state answer) jobs same is = tt
 kept_job base count log (Status pruned servers cpus n) jobs same is = tt
 
 jobs_at_place : (base count : ℕ) (log : List CoreEntry) (jobs : List JobRow) → Sound base count log
-    → map held_part jobs ≡ held_by_id log → AllByRecursion (λ j. place_of j.job log ≡ Some j.reg) jobs
+    → map held_part jobs ≡ held_rows log → AllByRecursion (λ j. place_of j.job log ≡ Some j.reg) jobs
 jobs_at_place base count log jobs sound same = all-unmap (λ h. place_of h.job log ≡ Some h.reg) held_part jobs
     (subst (AllByRecursion (λ h. place_of h.job log ≡ Some h.reg)) (sym same)
-    (sorted-all (λ h. place_of h.job log ≡ Some h.reg) job_id [] (held_rows log) tt
     (all-map (λ h. place_of h.job log ≡ Some h.reg) held_of (unended log)
-    (all-unmap (λ b. place_of b.job log ≡ Some b.reg) step.bare (unended log) sound.held_placed))))
+    (all-unmap (λ b. place_of b.job log ≡ Some b.reg) step.bare (unended log) sound.held_placed)))
 
-pub open-absorb : (base count : ℕ) (open_ones : List OpenRow) (jobs : List JobRow) (log : List CoreEntry)
-    (e : CoreEntry) → Sound base count log → Facts (core_of base count log) e.kind
-    → map held_part jobs ≡ held_by_id log → AllByRecursion (λ j. address_of log j.reg ≡ Some j.server) jobs
-    → open_ones ≡ open_rows log →
-    map (open_after e.kind) (filter (open_stays e.kind) open_ones) ++ option_to_list
+pub open-absorb : (base count : ℕ) (jobs : List JobRow) (log : List CoreEntry) (e : CoreEntry)
+    → Sound base count log → Facts (core_of base count log) e.kind
+    → map held_part jobs ≡ held_rows log → AllByRecursion (λ j. address_of log j.reg ≡ Some j.server) jobs →
+    map (open_after e.kind) (filter (open_stays e.kind) (open_rows log)) ++ option_to_list
     (open_by e.kind jobs) ≡ open_rows (log ++ e ∷ [])
-open-absorb base count open_ones jobs log e sound is same placed_are same_open =
+open-absorb base count jobs log e sound is same placed_are =
     ap (λ os. map (open_after e.kind) (filter (open_stays e.kind) os) ++ option_to_list (open_by e.kind jobs))
-    (same_open ∙ map-all_agree (open_of log) (open_of next) (open_jobs log)
+    (map-all_agree (open_of log) (open_of next) (open_jobs log)
     (all-weaker (IsOpenAt log) (λ c. open_of log c ≡ open_of next c) unchanged (open_jobs log)
     (open_at base count log sound)))
     ∙ ap (λ bs. map (open_after e.kind) (filter (open_stays e.kind) (map (open_of next) (open_jobs log)))

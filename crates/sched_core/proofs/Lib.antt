@@ -1,6 +1,9 @@
 pub mod AddressLemmas
 pub mod AllLemmas
 pub mod BookLemmas
+pub mod BookedLemmas
+pub mod BookingLemmas
+pub mod ByIdLemmas
 pub mod CallLemmas
 pub mod ChangeLemmas
 pub mod EndLemmas
@@ -17,6 +20,7 @@ pub mod Lists
 pub mod LookLemmas
 pub mod MostLemmas
 pub mod OnceLemmas
+pub mod OpenLemmas
 pub mod OwnLemmas
 pub mod PickLemmas
 pub mod PlaceLemmas
@@ -30,4 +34,3 @@ pub mod SoundLemmas
 pub mod StandingLemmas
 pub mod StateLemmas
 pub mod StepLemmas
-pub mod VectorLemmas

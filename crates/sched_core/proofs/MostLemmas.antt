@@ -6,6 +6,7 @@ use Rattle.sched_core.specs.declared.entry.CoreEntry.{CoreEntry}
 use Rattle.sched_core.specs.Cuts.{Cut, cuts}
 use Rattle.sched_core.specs.Standing.{standing}
 use Rattle.sched_core.specs.Rows.{row_of}
+use Rattle.sched_core.specs.Booked.{unspent_view}
 use Rattle.sched_core.specs.Books.{Kept, IsState}
 use Rattle.sched_core.specs.Most.{fronts, greatest, most_standing}
 use Rattle.sched_core.proofs.Lists.{map-map, followed, end_cut, cuts_behind-push}
@@ -47,11 +48,13 @@ pub still_state : (base count : ℕ) (old new : Kept) (keys new_keys : List (ℕ
     (len capacity new_len new_capacity : ℕ) → IsState base count old keys log len capacity
     → new.lists ≡ old.lists
     → new_keys ≡ keys → new_log ≡ log
-    → (len + length old.lists.unspent ≤ capacity → new_len + length old.lists.unspent ≤ new_capacity)
-    → new.top ≤ old.top → new.places ≤ max old.places (2 * max 1 (length old.lists.rows))
+    → (len + length (unspent_view old.lists.booked) ≤ capacity
+    → new_len + length (unspent_view old.lists.booked) ≤ new_capacity)
+    → new.first ≡ old.first → new.top ≤ old.top
+    → new.places ≤ max old.places (2 * max 1 (length old.lists.rows))
     → IsState base count new new_keys new_log new_len new_capacity
 still_state base count old new keys new_keys log new_log len capacity new_len new_capacity is lists
-    same_keys same_log room top
+    same_keys same_log room first top
     places =
     let rows : length old.lists.rows ≡ length (standing log) =
     ap length is.books.rows ∙ length-map (standing log) (row_of log) in
@@ -63,6 +66,7 @@ still_state base count old new keys new_keys log new_log len capacity new_len ne
       books = is.books;
       legal = is.legal;
       log_room = roomy;
+      first = first ∙ is.first;
       top = omega (arith, top, top_few);
       places = omega (arith, rows, here, few, places);
     })

@@ -12,7 +12,7 @@ use Rattle.sched_core.specs.declared.entry.Reserved.TheVariants.{Job, Spent}
 use Rattle.sched_core.specs.declared.rows.ServerRow.{ServerRow}
 use Rattle.sched_core.specs.declared.rows.HeldRow.{HeldRow}
 use Rattle.sched_core.specs.declared.rows.JobRow.{JobRow}
-use Rattle.sched_core.specs.declared.vectors.UnspentRow.{UnspentRow}
+use Rattle.sched_core.specs.Booked.{UnspentRow}
 use Rattle.sched_core.specs.declared.entry.UpdateAnswer.{UpdateAnswer}
 use Rattle.sched_core.specs.declared.entry.UpdateAnswer.TheVariants.{Accepted, Unknown, Wrong, Transition}
 use Rattle.sched_core.specs.Log.{Core, logged, same_job}

@@ -1,8 +1,8 @@
 -- What the scheduler keeps beside its log, and what one entry does to it.
-use Rattle.std.specs.Prelude.{◌≡◌, ◌≤◌, ◌<◌, ℕ, ◌+◌, ◌-◌, ◌*◌, ◌^◌, max, List, [], ◌++◌, length, map}
+use Rattle.std.specs.Prelude.{◌≡◌, ◌≤◌, ℕ, ◌+◌, ◌-◌, ◌*◌, ◌^◌, max, List, [], ◌++◌, length, map}
 use Rattle.std.specs.Prelude.{filter, Bool}
-use Rattle.std.specs.Prelude.{true, false, not, ◌&&◌, ◌||◌, ◌==◌, nat_lt, Option, Some, None, if◌then◌else◌}
-use Rattle.std.specs.Prelude.{count_by, unwrap_or, option_to_list, min, vec_len, vec_capacity}
+use Rattle.std.specs.Prelude.{true, false, not, ◌&&◌, ◌||◌, ◌==◌, Option, Some, None, if◌then◌else◌}
+use Rattle.std.specs.Prelude.{count_by, unwrap_or, option_to_list, min, ◌%◌}
 use Rattle.std.specs.List.{AllByRecursion, find, list_any}
 use Rattle.std.specs.Option.{option_map}
 use Rattle.dist_types.specs.declared.ids.JobId.{JobId}
@@ -16,18 +16,17 @@ use Rattle.sched_core.specs.declared.rows.ServerRow.{ServerRow}
 use Rattle.sched_core.specs.declared.rows.HeldRow.{HeldRow}
 use Rattle.sched_core.specs.declared.rows.JobRow.{JobRow}
 use Rattle.sched_core.specs.declared.rows.OpenRow.{OpenRow}
-use Rattle.sched_core.specs.declared.vectors.UnspentRow.{UnspentRow}
-use Rattle.sched_core.specs.declared.vectors.Vectors.{Vectors}
+use Rattle.sched_core.specs.declared.booked.BookedRow.{BookedRow}
+use Rattle.sched_core.specs.Booked.{UnspentRow, AreReordered, booked_new, held_view, unspent_view, open_view}
 use Rattle.sched_core.specs.Log.{same_job, is_this, newer}
 use Rattle.sched_core.specs.Standing.{Registered, standing, ends_by, renews_by, is_heard, address_of}
 use Rattle.sched_core.specs.Reservation.{Booking, bookings, unspent, spends_by, frees_by, claims_by}
 use Rattle.sched_core.specs.Reservation.{is_complete}
 use Rattle.sched_core.specs.Fault.{notes_by, forgives_by}
 use Rattle.sched_core.specs.Job.{moves_by, closes_by}
-use Rattle.sched_core.specs.Rows.{servers_of, held_rows, open_rows, placed, held_part, held_by_id}
+use Rattle.sched_core.specs.Rows.{servers_of, held_rows, open_rows}
 use Rattle.sched_core.specs.Rule.{place_at}
-use Rattle.sched_core.specs.Reservation.{is_booked}
-use Rattle.sched_core.specs.Laws.{IsLegal}
+use Rattle.sched_core.specs.Laws.{IsLegal, AreDistinct}
 use Rattle.sched_core.specs.Most.{most_standing}
 
 -- the rows of the registrations that stand
@@ -148,18 +147,6 @@ held_by other number now = None
 
 -- the unended reservations with the addresses of their registrations
 
--- whether an entry leaves the reservation unended
-abbrev pub job_stays : CoreKind → JobRow → Bool
-job_stays kind j = not (frees_by kind j.job j.reg)
-
--- the row of a reservation after an entry
-abbrev pub job_after : CoreKind → JobRow → JobRow
-job_after kind j = record j {
-  state = state_after kind j.job j.state;
-  claimed = j.claimed
-      || claims_by kind j.job;
-}
-
 -- the reservation that is made at the row of its registration, if that stands
 abbrev pub job_over : Option ServerRow → ℕ → JobId → ℕ → Option JobRow
 job_over None number job now = None
@@ -183,11 +170,6 @@ job_in other rows number now = None
 abbrev pub job_by : CoreKind → List ServerRow → ℕ → ℕ → Option JobRow
 job_by (Reserve reserved) rows number now = job_in reserved rows number now
 job_by other rows number now = None
-
--- the list with the row put in its place by the job id
-abbrev pub job_placed : Option JobRow → List JobRow → List JobRow
-job_placed None jobs = jobs
-job_placed (Some j) jobs = placed (λ x. x.job.0) j jobs
 
 -- the open jobs
 
@@ -230,27 +212,54 @@ place_of_unspent u = ((u.number, u.job), u.reg)
 abbrev pub place_of_booking : Booking → (ℕ × JobId) × ℕ
 place_of_booking b = ((b.number, b.job), b.reg)
 
+-- the reservations, one row each
+
+-- a reservation after an entry
+abbrev pub booked_after : CoreKind → BookedRow → BookedRow
+booked_after kind b = record b {
+  state = state_after kind b.job b.state;
+  claimed = b.claimed || claims_by kind b.job;
+  unspent = b.unspent && not (spends_by kind b.job);
+  unended = b.unended && not (frees_by kind b.job b.reg);
+}
+
+-- the reservation that an entry of this number makes, where its registration is one of the rows
+abbrev pub booked_by : CoreKind → List ServerRow → ℕ → ℕ → Option BookedRow
+booked_by kind rows number now = option_map booked_new (job_by kind rows number now)
+
+-- an entry leaves the reservations of all other jobs as they are
+abbrev pub LeavesOthers : CoreKind → JobId → Type 0
+LeavesOthers kind job = (b : BookedRow) → (b.job.0 == job.0) ≡ false → booked_after kind b ≡ b
+
+-- an entry changes no reservation but those that it ends
+abbrev pub OnlyEnds : CoreKind → Type 0
+OnlyEnds kind = (b : BookedRow) → (b.unended && frees_by kind b.job b.reg) ≡ false → booked_after kind b ≡ b
+
+-- an entry ends no reservation
+abbrev pub FreesNone : CoreKind → Type 0
+FreesNone kind = (job : JobId) (reg : ℕ) → frees_by kind job reg ≡ false
+
+-- an entry ends no reservation of another job
+abbrev pub FreesNoOther : CoreKind → JobId → Type 0
+FreesNoOther kind job = (b : BookedRow) → (b.job.0 == job.0) ≡ false → frees_by kind b.job b.reg ≡ false
+
 -- what is kept, as lists
 
--- The registrations that stand, by rising number; the unended reservations, in the order of their reserving
--- and, with addresses, by rising job id; the open jobs, in the order of their commits; the unspent
--- reservations, in the order of their reserving; and how many reservations were made.
+-- The registrations that stand, by rising number, and the reservations, in the order of their reserving.
 pub record Lists : Type 0 where
   pub rows : List ServerRow
-  pub held : List HeldRow
-  pub jobs : List JobRow
-  pub open_ones : List OpenRow
-  pub unspent : List UnspentRow
-  pub made : ℕ
+  pub booked : List BookedRow
 
 -- those of an empty log
 abbrev pub no_lists : Lists
-no_lists = record { rows = []; held = []; jobs = []; open_ones = []; unspent = []; made = 0 }
+no_lists = record { rows = []; booked = [] }
 
--- What contracts see of the books: the lists, whether there is room for one registration more, and for one
--- reservation more, and how many places the registrations stand in, with the least number above all of them.
+-- What contracts see of the books: the lists, the id of the first job, whether there is room for one
+-- registration more, and for one reservation more, and how many places the registrations stand in, with the
+-- least number above all of them.
 pub record Kept : Type 0 where
   pub lists : Lists
+  pub first : ℕ
   pub has_row_room : Bool
   pub has_job_room : Bool
   pub places : ℕ
@@ -265,47 +274,29 @@ settled e held open_ones rows = map (row_after e (served_by e.kind open_ones))
 
 -- the rows: those that stay, and the one that is made
 abbrev pub rows_next : Lists → CoreEntry → ℕ → List ServerRow
-rows_next lists e number = settled e lists.held lists.open_ones lists.rows ++ option_to_list
-    (row_by e.kind number e.now)
+rows_next lists e number = settled e (held_view lists.booked) (open_view lists.booked) lists.rows
+    ++ option_to_list (row_by e.kind number e.now)
 
--- the unended reservations: those that stay, with the states of their jobs, and the one that is made
-abbrev pub held_next : Lists → CoreEntry → ℕ → List HeldRow
-held_next lists e number = map (held_after e.kind) (filter (held_stays e.kind) lists.held) ++ option_to_list
-    (held_by e.kind number e.now)
+-- the reservations: those that were made before, and the one that is made
+abbrev pub booked_next : Lists → CoreEntry → ℕ → List BookedRow
+booked_next lists e number = map (booked_after e.kind) lists.booked
+    ++ option_to_list (booked_by e.kind lists.rows number e.now)
 
--- the same with their addresses, the new one in its place by the job id
-abbrev pub jobs_next : Lists → CoreEntry → ℕ → List JobRow
-jobs_next lists e number = job_placed (job_by e.kind lists.rows number e.now)
-    (map (job_after e.kind) (filter (job_stays e.kind) lists.jobs))
-
--- the open jobs: those that stay open, with their states, and the one that is committed
-abbrev pub open_next : Lists → CoreEntry → List OpenRow
-open_next lists e = map (open_after e.kind) (filter (open_stays e.kind) lists.open_ones) ++ option_to_list
-    (open_by e.kind lists.jobs)
-
--- the unspent reservations: those that stay so, and the one that is made
+-- the unspent ones among them: those that stay so, and the one that is made
 abbrev pub unspent_next : Lists → CoreEntry → ℕ → List UnspentRow
-unspent_next lists e number = filter (unspent_stays e.kind) lists.unspent ++ option_to_list
+unspent_next lists e number = filter (unspent_stays e.kind) (unspent_view lists.booked) ++ option_to_list
     (unspent_by (job_by e.kind lists.rows number e.now))
-
--- how many reservations were made
-abbrev pub made_next : Lists → CoreEntry → ℕ
-made_next lists e = one_more_if (is_booked e.kind) lists.made
 
 -- a job is reserved at one of the rows
 abbrev pub IsAtRow : Reserved → List ServerRow → Type 0
 IsAtRow (Job job reg forgiven) rows = list_any (λ r. r.reg == reg) rows ≡ true
 IsAtRow other rows = Unit {0}
 
--- all of them
+-- both
 abbrev pub lists_next : Lists → CoreEntry → ℕ → Lists
 lists_next lists e number = record {
   rows = rows_next lists e number;
-  held = held_next lists e number;
-  jobs = jobs_next lists e number;
-  open_ones = open_next lists e;
-  unspent = unspent_next lists e number;
-  made = made_next lists e;
+  booked = booked_next lists e number;
 }
 
 -- room
@@ -326,66 +317,33 @@ SpendsOne (Commit job state kept) unspent = list_any (λ u. same_job job u.job) 
 SpendsOne (Undo job noted was_ended) unspent = list_any (λ u. same_job job u.job) unspent ≡ true
 SpendsOne other unspent = ⊥
 
--- a commit or an undo is of one of the reservations
-abbrev pub IsOfUnspent : CoreKind → List UnspentRow → Type 0
-IsOfUnspent (Commit job state kept) unspent = list_any (λ u. same_job job u.job) unspent ≡ true
-IsOfUnspent (Undo job noted was_ended) unspent = list_any (λ u. same_job job u.job) unspent ≡ true
-IsOfUnspent other unspent = Unit {0}
-
--- the plain vectors as lists
-abbrev pub lists_of : Vectors → Lists
-lists_of books = record {
-  rows = books.rows.rows;
-  held = books.held.items;
-  jobs = books.jobs.items;
-  open_ones = books.open_ones.items;
-  unspent = books.unspent.items;
-  made = books.made;
-}
-
--- there is room for one more reservation in each vector that lists it
-pub record HasJobRoom (books : Vectors) : Type 0 where
-  pub held : vec_len books.held < vec_capacity books.held
-  pub jobs : vec_len books.jobs < vec_capacity books.jobs
-  pub unspent : vec_len books.unspent < vec_capacity books.unspent
-
--- whether there is room for one more registration
-abbrev pub has_row_room : Vectors → Bool
-has_row_room books = books.rows.places.has_left
-
--- whether there is room for one more reservation, and for its job among the open ones
-abbrev pub has_job_room : Vectors → Bool
-has_job_room books = nat_lt (vec_len books.held) (vec_capacity books.held) && nat_lt (vec_len books.jobs)
-    (vec_capacity books.jobs) && nat_lt (vec_len books.unspent) (vec_capacity books.unspent)
-    && nat_lt (vec_len books.open_ones + length books.unspent.items) (vec_capacity books.open_ones)
-
--- the open jobs have room for the job of each unspent reservation
-abbrev pub HasOpenRoom : Vectors → Type 0
-HasOpenRoom books = vec_len books.open_ones + length books.unspent.items ≤ vec_capacity books.open_ones
-
 -- all of it
 
--- the books are the log's
+-- a reservation is at the registration that its number says, and at its address
+abbrev pub IsBookedAt : List CoreEntry → BookedRow → Type 0
+IsBookedAt log b = (place_at log b.number ≡ Some b.reg) × (address_of log b.reg ≡ Some b.server)
+
+-- The books are the log's. The open jobs are in the order of their reserving, and in the log in that of their
+-- commits.
 pub record AreBooks (books : Lists) (kept_keys : List (ℕ × List ℕ)) (log : List CoreEntry) : Type 0 where
   pub rows : books.rows ≡ servers_of log
   pub keys : kept_keys ≡ keys_of log
-  pub held : books.held ≡ held_rows log
-  pub jobs : map held_part books.jobs ≡ held_by_id log
-  pub jobs_placed : AllByRecursion (λ j. address_of log j.reg ≡ Some j.server) books.jobs
-  pub open_ones : books.open_ones ≡ open_rows log
-  pub unspent : map place_of_unspent books.unspent ≡ map place_of_booking (unspent log)
-  pub unspent_placed : AllByRecursion (λ u. (place_at log u.number ≡ Some u.reg)
-      × (address_of log u.reg ≡ Some u.server)) books.unspent
-  pub made : books.made ≡ length (bookings log)
+  pub jobs : map (λ b. b.job) books.booked ≡ map (λ b. b.job) (bookings log)
+  pub made : length books.booked ≡ length (bookings log)
+  pub apart : AreDistinct (map (λ b. b.job) books.booked)
+  pub held : held_view books.booked ≡ held_rows log
+  pub unspent : map place_of_unspent (unspent_view books.booked) ≡ map place_of_booking (unspent log)
+  pub open_ones : AreReordered (open_view books.booked) (open_rows log)
+  pub placed : AllByRecursion (IsBookedAt log) books.booked
 
 -- The books are the log's, and each entry of the log is the core rule's. The log has room for each unspent
--- reservation to be spent. The registrations stand in no more places than twice the most that ever stood at
--- one
--- time, and their numbers are of the log.
+-- reservation to be spent. The reservations begin with the first id that the log gives. The registrations
+-- stand in no more places than twice the most that ever stood at one time, and their numbers are of the log.
 pub record IsState (base count : ℕ) (kept : Kept) (kept_keys : List (ℕ × List ℕ)) (log : List CoreEntry)
     (log_len log_capacity : ℕ) : Type 0 where
   pub books : AreBooks kept.lists kept_keys log
   pub legal : IsLegal base count log
-  pub log_room : log_len + length kept.lists.unspent ≤ log_capacity
+  pub log_room : log_len + length (unspent_view kept.lists.booked) ≤ log_capacity
+  pub first : kept.first ≡ (base + count) % 2 ^ 64
   pub top : kept.top ≤ length log
   pub places : kept.places ≤ 2 * max 1 (most_standing log)

@@ -17,5 +17,6 @@ pub mod Changes
 pub mod Registrations
 pub mod Most
 pub mod Laws
+pub mod Booked
 pub mod Books
 pub mod Texts

@@ -1,21 +1,24 @@
 //! What the scheduler keeps beside its log. Contracts see it as lists; what the calls ask is asked here.
 ghost use Rattle.std.specs.Prelude.{◌≡◌, ◌==◌, ◌&&◌, ◌<◌, ◌≤◌, ◌+◌, ◌*◌, ◌^◌, ℕ, IfOk, OnOk, true, find};
-ghost use Rattle.std.specs.Prelude.{length, max};
+ghost use Rattle.std.specs.Prelude.{◌%◌, length, max, IfSome};
 ghost use Rattle.std.specs.List.{list_any};
 ghost use Rattle.std.specs.Option.{option_map};
 ghost use Rattle.sched_core.specs.Log.{same_job};
 ghost use Rattle.sched_core.specs.Pick.{pick};
 ghost use Rattle.sched_core.specs.Prune.{prune};
 ghost use Rattle.sched_core.specs.Rule.{noted_over, reserved_at, beat_over, counts_over};
-ghost use Rattle.sched_core.specs.Books.{MayRegister, MayReserve, IsOfUnspent, no_lists, lists_next};
+ghost use Rattle.sched_core.specs.Books.{MayRegister, MayReserve, no_lists, lists_next, booked_by};
+ghost use Rattle.sched_core.specs.Booked.{held_view, jobs_by_id, unspent_view, open_view};
 ghost use Rattle.sched_core.specs.Books.{rows_next};
 ghost use Rattle.sched_core.specs.Registrations.{AreFew, AreSoundRows, decide_looks};
 
+use crate::booked::booked;
+use crate::bookings::Bookings;
+use crate::change::{absorb_rows, push_row};
 use crate::entry::{CoreEntry, CoreKind, Reserved};
 use crate::registrations::Registrations;
 use crate::rows::{Jobs, OpenRow, ServerRow, Servers};
-use crate::vectors::{Vectors, absorb};
-use crate::{decide, held, rules, standing};
+use crate::{decide, reserving, standing};
 use dist_types::ids::{JobId, ServerId, ServerNonce};
 use dist_types::results::SchedulerStatusResult;
 use dist_types::text::{Bytes, Items};
@@ -28,92 +31,87 @@ use winner_tree::Steps;
 /// registration more and for one reservation more.
 #[derive(Drop)]
 pub struct Books {
-    vectors: Vectors,
+    rows: Registrations,
+    bookings: Bookings,
 }
 
 impl Model for Books {
-    ghost use Rattle.sched_core.specs.Books.{Kept, lists_of, has_row_room, has_job_room, HasOpenRoom};
+    ghost use Rattle.sched_core.specs.Books.{Kept};
 
     ghost Value = { Kept };
 
     ghost view = { λ b. record {
-      lists = lists_of b.vectors;
-      has_row_room = has_row_room b.vectors;
-      has_job_room = has_job_room b.vectors;
-      places = b.vectors.rows.places.count;
-      top = b.vectors.rows.places.top;
+      lists = record { rows = b.rows.rows; booked = b.bookings.rows };
+      first = b.bookings.first;
+      has_row_room = b.rows.places.has_left;
+      has_job_room = b.bookings.has_room;
+      places = b.rows.places.count;
+      top = b.rows.places.top;
     } };
-
-    ghost invariant = { λ b. HasOpenRoom b.vectors };
 }
 
 impl Books {
-    /// The books of an empty log. It takes no memory.
-    pub fn new(alloc: Global) -> Self
+    /// The books of an empty log, whose first job is to have that id. It takes no memory.
+    pub fn new(alloc: Global, first: u64) -> Self
         ensures lists { result.lists ≡ no_lists }
+        ensures first { result.first ≡ first }
         ensures places { result.places ≡ 0 }
         ensures top { result.top ≡ 0 }
     {
         Books {
-            vectors: Vectors {
-                rows: Registrations::new(alloc),
-                held: Vec::new(alloc),
-                jobs: Vec::new(alloc),
-                open_ones: Vec::new(alloc),
-                unspent: Vec::new(alloc),
-                made: 0,
-            },
+            rows: Registrations::new(alloc),
+            bookings: Bookings::new(alloc, first),
         }
     }
 
     /// How many reservations were made.
     pub fn made(&self) -> u64
-        ensures { result ≡ self.now.lists.made }
+        ensures { result ≡ length self.now.lists.booked }
     {
-        self.vectors.made
+        self.bookings.made() as u64
     }
 
     /// How many reservations are unspent.
     pub fn unspent_count(&self) -> usize
-        ensures count { result ≡ length self.now.lists.unspent }
+        ensures count { result ≡ length (unspent_view self.now.lists.booked) }
         ensures few { result < 2 ^ 63 }
     {
-        self.vectors.unspent.len()
+        self.bookings.unspent_count()
     }
 
     /// How many jobs are open.
     pub fn open_count(&self) -> usize
-        ensures { result ≡ length self.now.lists.open_ones }
+        ensures { result ≡ length (open_view self.now.lists.booked) }
     {
-        self.vectors.open_ones.len()
+        self.bookings.open_count()
     }
 
     /// The registrations that stand, by rising number.
     pub fn servers(&self) -> Servers<'_>
         ensures rows { result ≡ self.now.lists.rows }
     {
-        self.vectors.rows.servers()
+        self.rows.servers()
     }
 
     /// The unended reservations, by rising job id.
     pub fn jobs(&self) -> Jobs<'_>
-        ensures jobs { result ≡ self.now.lists.jobs }
+        ensures jobs { result ≡ jobs_by_id self.now.lists.booked }
     {
-        Jobs::new(&self.vectors.jobs)
+        self.bookings.jobs()
     }
 
     /// The registration of that number.
     pub fn row(&self, reg: u64) -> Option<ServerRow>
         ensures { result ≡ find (λ r. r.reg == reg) self.now.lists.rows }
     {
-        self.vectors.rows.row(reg)
+        self.rows.row(reg)
     }
 
     /// The number of the registration that stands at an address, if there is one.
     pub fn noted(&self, server: Option<ServerId>) -> Option<u64>
         ensures { result ≡ noted_over self.now.lists.rows server }
     {
-        decide::noted(&self.vectors.rows, server)
+        decide::noted(&self.rows, server)
     }
 
     /// The numbers of the registrations whose last sign is too long ago. Refused for want of memory
@@ -121,15 +119,15 @@ impl Books {
     pub fn pruned(&self, alloc: Global, now: u64) -> Result<Vec<u64>, AllocError>
         ensures { IfOk result (λ v. v.items ≡ prune now self.now.lists.rows) }
     {
-        decide::pruned::<Brand>(alloc, &self.vectors.rows, now, Blank::new(1))
+        decide::pruned::<Brand>(alloc, &self.rows, now, Blank::new(1))
     }
 
     /// The numbers of a status that prunes those registrations.
     pub fn counts(&self, pruned: &[u64], now: u64) -> SchedulerStatusResult
         requires { pruned.now ≡ prune now self.now.lists.rows }
-        ensures { result ≡ counts_over self.now.lists.rows self.now.lists.open_ones now }
+        ensures { result ≡ counts_over self.now.lists.rows (open_view self.now.lists.booked) now }
     {
-        decide::counts(&self.vectors.rows, &self.vectors.open_ones, pruned, now)
+        decide::counts(&self.rows, &self.bookings, pruned, now)
     }
 
     /// What becomes of a reserve, where so many ids were given before. Refused for want of memory alone.
@@ -147,7 +145,7 @@ impl Books {
         ensures looks { (h : ℕ) → self.now.places ≤ 2 ^ h → steps.new ≤ steps.old + decide_looks
             (reserved_at (pick self.now.lists.rows) self.now.lists.rows now base given) h }
     {
-        decide::reserved(alloc, &self.vectors.rows, now, base, given, steps)
+        decide::reserved(alloc, &self.rows, now, base, given, steps)
     }
 
     /// The entry of a heartbeat. Refused for want of memory alone.
@@ -161,11 +159,11 @@ impl Books {
         key: &[u8],
     ) -> Result<CoreEntry, AllocError>
         ensures { IfOk result (λ e. e ≡
-            beat_over self.now.lists.rows self.now.lists.held now server nonce cpus key.now) }
+            beat_over self.now.lists.rows (held_view self.now.lists.booked) now server nonce cpus key.now) }
     {
         let pruned = self.pruned(alloc, now)?;
-        let there = self.vectors.rows.survivor(now, server);
-        let reaped = rules::reaped_there(alloc, &self.vectors.held, &there, now, nonce)?;
+        let there = self.rows.survivor(now, server);
+        let reaped = decide::reaped(alloc, self.bookings.live(), &there, now, nonce)?;
         let key = Bytes::from_slice(alloc, key)?;
         let kind = CoreKind::Beat {
             server,
@@ -182,56 +180,55 @@ impl Books {
 
     /// The open job of that id.
     pub fn open_job(&self, job: JobId) -> Option<OpenRow>
-        ensures { result ≡ find (λ o. same_job o.job job) self.now.lists.open_ones }
+        ensures { result ≡ find (λ o. same_job o.job job) (open_view self.now.lists.booked) }
     {
-        rules::open_job(&self.vectors.open_ones, job)
+        self.bookings.open_job(job)
     }
 
     /// Whether the reservation is unended.
     pub fn is_held(&self, number: u64, job: JobId) -> bool
-        ensures { result ≡ list_any (λ h. (h.number == number) && same_job h.job job) self.now.lists.held }
+        ensures { result ≡
+            list_any (λ h. (h.number == number) && same_job h.job job) (held_view self.now.lists.booked) }
     {
-        rules::is_held(&self.vectors.held, number, job)
+        self.bookings.is_held(number, job)
     }
 
     /// Whether the reservation is unspent.
     pub fn is_unspent(&self, number: u64, job: JobId) -> bool
         ensures { result ≡
-            list_any (λ u. (u.number == number) && same_job u.job job) self.now.lists.unspent }
+            list_any (λ u. (u.number == number) && same_job u.job job) (unspent_view self.now.lists.booked) }
     {
-        held::is_unspent(&self.vectors.unspent, number, job)
+        self.bookings.is_unspent(number, job)
     }
 
     /// The address of the unspent reservation of that number and job.
     pub fn unspent_address(&self, number: u64, job: JobId) -> Option<ServerId>
         ensures { result ≡ option_map (λ u. u.server)
-            (find (λ u. (u.number == number) && same_job u.job job) self.now.lists.unspent) }
+            (find (λ u. (u.number == number) && same_job u.job job) (unspent_view self.now.lists.booked)) }
     {
-        held::unspent_address(&self.vectors.unspent, number, job)
+        self.bookings.unspent_address(number, job)
     }
 
     /// Makes room for one registration more. Refused for want of memory alone; the lists stay.
     pub fn make_row_room(&mut self, alloc: Global) -> Result<(), AllocError>
         ensures lists { self.new.lists ≡ self.old.lists }
+        ensures first { self.new.first ≡ self.old.first }
         ensures room { OnOk result (self.new.has_row_room ≡ true) }
         ensures top { self.new.top ≤ self.old.top }
         ensures places { self.new.places ≤ max self.old.places (2 * max 1 (length self.old.lists.rows)) }
     {
-        self.vectors.rows.make_room(alloc)
+        self.rows.make_room(alloc)
     }
 
     /// Makes room for one reservation more. Refused for want of memory alone; the lists stay.
     pub fn make_job_room(&mut self) -> Result<(), AllocError>
         ensures lists { self.new.lists ≡ self.old.lists }
+        ensures first { self.new.first ≡ self.old.first }
         ensures room { OnOk result (self.new.has_job_room ≡ true) }
         ensures top { self.new.top ≡ self.old.top }
         ensures places { self.new.places ≡ self.old.places }
     {
-        let spending = self.vectors.unspent.len();
-        self.vectors.held.reserve(1)?;
-        self.vectors.jobs.reserve(1)?;
-        self.vectors.unspent.reserve(1)?;
-        self.vectors.open_ones.reserve(spending + 1)
+        self.bookings.make_room()
     }
 
     /// Takes an entry of this number into the books. It takes no memory.
@@ -240,13 +237,19 @@ impl Books {
         requires above { self.old.top ≤ number }
         requires row_room { MayRegister step.now.kind → self.old.has_row_room ≡ true }
         requires job_room { MayReserve step.now.kind → self.old.has_job_room ≡ true }
-        requires spends { IsOfUnspent step.now.kind self.old.lists.unspent }
+        requires follows { IfSome (booked_by step.now.kind self.old.lists.rows number step.now.now)
+            (λ b. b.job.0 ≡ (self.old.first + length self.old.lists.booked) % 2 ^ 64) }
         ensures lists { self.new.lists ≡ lists_next self.old.lists step.entry.now number }
+        ensures first { self.new.first ≡ self.old.first }
         ensures top { self.new.top ≤ number + 1 }
         ensures places { self.new.places ≡ self.old.places }
         ensures looks { (h : ℕ) → self.old.places ≤ 2 ^ h
             → AreFew step.entry.now.kind h steps.old steps.new }
     {
-        absorb(&mut self.vectors, step, number, steps);
+        let job = reserving::job_made(&step.kind, &self.rows, number, step.now);
+        let made = booked(&job);
+        absorb_rows(&mut self.rows, &self.bookings, step, steps);
+        push_row(&mut self.rows, standing::row_made(step, number), steps);
+        self.bookings.absorb(&step.kind, made);
     }
 }

@@ -1,20 +1,25 @@
 //! What an entry does to the registrations that stand, one by one.
 ghost use Rattle.std.specs.Prelude.{◌≡◌, ◌≤◌, ◌+◌, ◌*◌, ◌^◌, ◌++◌, ℕ, true, false, None, IsSome, IfSome};
-ghost use Rattle.std.specs.Prelude.{map};
+ghost use Rattle.std.specs.Prelude.{map, ◌&&◌};
 ghost use Rattle.std.specs.Prelude.{filter, not, length, option_to_list};
 ghost use Rattle.std.specs.Option.{option_map};
 ghost use Rattle.sched_core.specs.Log.{names, is_this};
 ghost use Rattle.sched_core.specs.Books.{row_after, row_freed, row_lowered, row_stays, served_by, settled};
+ghost use Rattle.sched_core.specs.Books.{FreesNoOther};
 ghost use Rattle.sched_core.specs.Changes.{row_changed, row_changed_at, row_changed_if, row_forgiven};
 ghost use Rattle.sched_core.specs.Changes.{row_reserved, row_renewed};
 ghost use Rattle.sched_core.specs.Registrations.{AreFew, reserve_looks, AreSoundRows};
+ghost use Rattle.sched_core.specs.Reservation.{frees_by};
+ghost use Rattle.sched_core.specs.Booked.{held_view, open_view};
 
+use crate::booked::BookedRow;
+use crate::bookings::Bookings;
 use crate::entry::{CoreEntry, CoreKind, Reserved};
-use crate::kind::{frees, heard};
+use crate::kind::{frees, heard, may_free};
 use crate::registrations::Registrations;
-use crate::rows::{HeldRow, OpenRow, ServerRow};
+use crate::rows::ServerRow;
 use crate::standing::{one_more, place_if_heard};
-use dist_types::ids::ServerId;
+use dist_types::ids::{JobId, ServerId};
 use std::sync::ledger::Ledger;
 use winner_tree::Steps;
 
@@ -135,11 +140,11 @@ fn renew<L: Ledger>(
 fn change_rows<L: Ledger>(
     rows: &mut Registrations,
     step: &CoreEntry,
-    open_ones: &[OpenRow],
+    bookings: &Bookings,
     steps: &mut Steps<L>,
 )
-    ensures rows { rows.new.rows ≡
-        map (row_after step.entry.now (served_by step.entry.now.kind open_ones.now)) rows.old.rows }
+    ensures rows { rows.new.rows ≡ map (row_after step.entry.now
+        (served_by step.entry.now.kind (open_view bookings.now.rows))) rows.old.rows }
     ensures places { rows.new.places ≡ rows.old.places }
 {
     match &step.kind {
@@ -148,7 +153,7 @@ fn change_rows<L: Ledger>(
         CoreKind::Undo { noted, .. } => apply_if(rows, *noted, Change::Note(step.now), steps),
         CoreKind::Beat { server, is_new, .. } => renew(rows, *server, *is_new, step.now, steps),
         CoreKind::Update { job, answer, .. } => {
-            let served = place_if_heard(heard(*answer), open_ones, *job);
+            let served = place_if_heard(heard(*answer), bookings, *job);
             apply_if(rows, served, Change::See(step.now), steps);
         }
         CoreKind::Status { .. } => (),
@@ -198,6 +203,13 @@ fn end_rows<L: Ledger>(rows: &mut Registrations, kind: &CoreKind, steps: &mut St
     }
 }
 
+/// Whether an entry ends the reservation.
+fn freed(b: &BookedRow, kind: &CoreKind) -> bool
+    ensures { result ≡ (b.now.unended && frees_by kind.now b.now.job b.now.reg) }
+{
+    b.unended && frees(kind, b.job, b.reg)
+}
+
 /// Takes one reservation from the load of a registration, where it ended.
 fn lower_if<L: Ledger>(rows: &mut Registrations, freed: bool, reg: u64, steps: &mut Steps<L>)
     ensures freed { freed ≡ true → rows.new.rows ≡ map (row_lowered reg) rows.old.rows }
@@ -209,19 +221,71 @@ fn lower_if<L: Ledger>(rows: &mut Registrations, freed: bool, reg: u64, steps: &
     }
 }
 
-/// Takes the reservations that an entry ends from the loads of their registrations.
-fn free_rows<L: Ledger>(
+/// Takes the reservation of a job from the load of its registration, where an entry of that job ended it.
+fn free_job<L: Ledger>(
     rows: &mut Registrations,
-    held: &[HeldRow],
+    bookings: &Bookings,
+    job: JobId,
     kind: &CoreKind,
     steps: &mut Steps<L>,
 )
-    ensures rows { rows.new.rows ≡ map (row_freed kind.now held.now) rows.old.rows }
+    requires { FreesNoOther kind.now job }
+    ensures rows { rows.new.rows ≡ map (row_freed kind.now (held_view bookings.now.rows)) rows.old.rows }
     ensures places { rows.new.places ≡ rows.old.places }
 {
-    for h in held {
-        let freed = frees(kind, h.job, h.reg);
-        lower_if(rows, freed, h.reg, steps);
+    match bookings.row(job) {
+        Some(b) => lower_if(rows, freed(&b, kind), b.reg, steps),
+        None => (),
+    }
+}
+
+/// Takes the reservations of those that an entry ends from the loads of their registrations.
+fn free_each<L: Ledger>(
+    rows: &mut Registrations,
+    bookings: &[BookedRow],
+    kind: &CoreKind,
+    steps: &mut Steps<L>,
+)
+    ensures rows { rows.new.rows ≡ map (row_freed kind.now (held_view bookings.now)) rows.old.rows }
+    ensures places { rows.new.places ≡ rows.old.places }
+{
+    for b in bookings {
+        lower_if(rows, freed(b, kind), b.reg, steps);
+    }
+}
+
+/// The same of all reservations, where the entry may end one.
+fn free_live<L: Ledger>(
+    rows: &mut Registrations,
+    bookings: &Bookings,
+    kind: &CoreKind,
+    steps: &mut Steps<L>,
+)
+    ensures rows { rows.new.rows ≡ map (row_freed kind.now (held_view bookings.now.rows)) rows.old.rows }
+    ensures places { rows.new.places ≡ rows.old.places }
+{
+    if may_free(kind) {
+        free_each(rows, bookings.live(), kind, steps);
+    }
+}
+
+/// Takes the reservations that an entry ends from the loads of their registrations.
+fn free_rows<L: Ledger>(
+    rows: &mut Registrations,
+    bookings: &Bookings,
+    kind: &CoreKind,
+    steps: &mut Steps<L>,
+)
+    ensures rows { rows.new.rows ≡ map (row_freed kind.now (held_view bookings.now.rows)) rows.old.rows }
+    ensures places { rows.new.places ≡ rows.old.places }
+{
+    match kind {
+        CoreKind::Reserve(_) => (),
+        CoreKind::Commit { .. } => (),
+        CoreKind::Undo { job, .. } => free_job(rows, bookings, *job, kind, steps),
+        CoreKind::Beat { .. } => free_live(rows, bookings, kind, steps),
+        CoreKind::Update { job, .. } => free_job(rows, bookings, *job, kind, steps),
+        CoreKind::Status { .. } => free_live(rows, bookings, kind, steps),
     }
 }
 
@@ -229,41 +293,39 @@ fn free_rows<L: Ledger>(
 /// others get their loads, last signs and errors.
 fn settle<L: Ledger>(
     rows: &mut Registrations,
-    held: &[HeldRow],
-    open_ones: &[OpenRow],
+    bookings: &Bookings,
     step: &CoreEntry,
     steps: &mut Steps<L>,
 )
     ensures rows { rows.new.rows ≡
-        settled step.entry.now held.now open_ones.now rows.old.rows }
+        settled step.entry.now (held_view bookings.now.rows) (open_view bookings.now.rows) rows.old.rows }
     ensures places { rows.new.places ≡ rows.old.places }
 {
     end_rows(rows, &step.kind, steps);
-    free_rows(rows, held, &step.kind, steps);
-    change_rows(rows, step, open_ones, steps);
+    free_rows(rows, bookings, &step.kind, steps);
+    change_rows(rows, step, bookings, steps);
 }
 
 /// The same. A reserve looks at no more nodes of the trees than it must.
 pub fn absorb_rows<L: Ledger>(
     rows: &mut Registrations,
-    held: &[HeldRow],
-    open_ones: &[OpenRow],
+    bookings: &Bookings,
     step: &CoreEntry,
     steps: &mut Steps<L>,
 )
     ensures rows { rows.new.rows ≡
-        settled step.entry.now held.now open_ones.now rows.old.rows }
+        settled step.entry.now (held_view bookings.now.rows) (open_view bookings.now.rows) rows.old.rows }
     ensures places { rows.new.places ≡ rows.old.places }
     ensures looks { (h : ℕ) → rows.old.places.count ≤ 2 ^ h →
         AreFew step.entry.now.kind h steps.old steps.new }
 {
     match &step.kind {
         CoreKind::Reserve(reserved) => reserve(rows, reserved, steps),
-        CoreKind::Commit { .. } => settle(rows, held, open_ones, step, steps),
-        CoreKind::Undo { .. } => settle(rows, held, open_ones, step, steps),
-        CoreKind::Beat { .. } => settle(rows, held, open_ones, step, steps),
-        CoreKind::Update { .. } => settle(rows, held, open_ones, step, steps),
-        CoreKind::Status { .. } => settle(rows, held, open_ones, step, steps),
+        CoreKind::Commit { .. } => settle(rows, bookings, step, steps),
+        CoreKind::Undo { .. } => settle(rows, bookings, step, steps),
+        CoreKind::Beat { .. } => settle(rows, bookings, step, steps),
+        CoreKind::Update { .. } => settle(rows, bookings, step, steps),
+        CoreKind::Status { .. } => settle(rows, bookings, step, steps),
     }
 }
 

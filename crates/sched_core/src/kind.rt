@@ -1,5 +1,5 @@
 //! What one entry says of a registration, a job or a reservation.
-ghost use Rattle.std.specs.Prelude.{◌≡◌};
+ghost use Rattle.std.specs.Prelude.{◌≡◌, ◌==◌, ◌&&◌, false, is_none, length};
 ghost use Rattle.sched_core.specs.Log.{is_this, names_job};
 ghost use Rattle.sched_core.specs.Standing.{ends_by, renews_by, is_heard};
 ghost use Rattle.sched_core.specs.Reservation.{is_booked, spends_by, is_accepted, is_started, is_complete};
@@ -7,7 +7,7 @@ ghost use Rattle.sched_core.specs.Reservation.{completes_by, reaps_by, undoes_by
 ghost use Rattle.sched_core.specs.Reservation.{claims_by};
 ghost use Rattle.sched_core.specs.Fault.{notes_by, forgives_by};
 ghost use Rattle.sched_core.specs.Job.{moves_by, ends_place_by, closes_by};
-ghost use Rattle.sched_core.specs.Books.{takes_by, begins_by};
+ghost use Rattle.sched_core.specs.Books.{takes_by, begins_by, FreesNone};
 
 use crate::entry::{CoreKind, Reserved, UpdateAnswer};
 use dist_types::ids::{JobId, ServerId};
@@ -215,6 +215,33 @@ pub fn frees(kind: &CoreKind, job: JobId, reg: u64) -> bool
     ensures { result ≡ frees_by kind.now job reg }
 {
     ends_job(kind, job) || ends(kind, reg)
+}
+
+/// Whether a heartbeat that names those ends nothing.
+fn is_idle(pruned: &[u64], reaped: &[JobId], replaced: Option<u64>) -> bool
+    ensures { result ≡ ((length pruned.now == 0) && (length reaped.now == 0) && is_none replaced) }
+{
+    pruned.is_empty() && reaped.is_empty() && replaced.is_none()
+}
+
+/// Whether an entry of this kind may end a reservation. It is false for a heartbeat and a status that name
+/// nothing that ends.
+pub(crate) fn may_free(kind: &CoreKind) -> bool
+    ensures { result ≡ false → FreesNone kind.now }
+{
+    match kind {
+        CoreKind::Reserve(_) => false,
+        CoreKind::Commit { .. } => false,
+        CoreKind::Undo { .. } => true,
+        CoreKind::Beat {
+            pruned,
+            reaped,
+            replaced,
+            ..
+        } => !is_idle(pruned.get(), reaped.get(), *replaced),
+        CoreKind::Update { .. } => true,
+        CoreKind::Status { pruned, .. } => !pruned.get().is_empty(),
+    }
 }
 
 /// Whether an entry of this kind accepts that the job's build has begun.

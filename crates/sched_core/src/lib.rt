@@ -9,25 +9,26 @@
 #![tactic(auto)]
 
 pub mod answers;
+mod booked;
+mod bookings;
 mod books;
 pub mod call;
 mod change;
 mod decide;
 pub mod entry;
 pub mod error;
-mod held;
 mod keys;
 pub mod kind;
 pub mod laws;
 mod places;
 mod registrations;
 pub mod reservation;
+mod reserving;
 pub mod rows;
 pub mod rules;
 mod spending;
 mod standing;
 pub mod state;
 pub mod texts;
-mod vectors;
 
 pub use standing::HEARTBEAT_TIMEOUT;

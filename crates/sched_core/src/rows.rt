@@ -1,8 +1,10 @@
 //! What is asked of the log, as rows.
-ghost use Rattle.std.specs.Prelude.{◌≡◌};
+ghost use Rattle.std.specs.Prelude.{◌≡◌, ◌++◌};
 ghost use Rattle.std.specs.Iterator.{YieldsFirst, item_count};
 ghost use Rattle.numbered_slots.specs.Slots.{rows_in};
+ghost use Rattle.sched_core.specs.Booked.{job_view};
 
+use crate::booked::{BookedRow, first_held, job_part};
 use crate::places::first_full;
 use dist_types::ids::{JobId, ServerId, ServerNonce};
 use dist_types::results::JobState;
@@ -121,24 +123,26 @@ impl<'a> Iterator for Servers<'a> {
 /// to come.
 #[derive(Drop)]
 pub struct Jobs<'a> {
-    rest: &'a [JobRow],
+    rest: &'a [BookedRow],
+    behind: &'a [BookedRow],
 }
 
 impl<'a> Model for Jobs<'a> {
-    ghost use Rattle.std.specs.Prelude.{List};
+    ghost use Rattle.std.specs.Prelude.{List, ◌++◌};
     ghost use Rattle.sched_core.specs.declared.rows.JobRow.{JobRow};
+    ghost use Rattle.sched_core.specs.Booked.{job_view};
 
     ghost Value = { List JobRow };
 
-    ghost view = { λ s. s.rest.now };
+    ghost view = { λ s. job_view s.rest.now ++ job_view s.behind.now };
 }
 
 impl<'a> Jobs<'a> {
-    /// The rows of a slice.
-    pub(crate) fn new(rest: &'a [JobRow]) -> Self
-        ensures rows { result ≡ rest.now }
+    /// The unended ones of the first slice, and then of the second.
+    pub(crate) fn new(rest: &'a [BookedRow], behind: &'a [BookedRow]) -> Self
+        ensures rows { result ≡ job_view rest.now ++ job_view behind.now }
     {
-        Jobs { rest }
+        Jobs { rest, behind }
     }
 }
 
@@ -150,8 +154,14 @@ impl<'a> Iterator for Jobs<'a> {
     ghost remaining = { item_count (λ s. s) };
 
     fn next(&mut self) -> Option<JobRow> {
-        let (first, others) = self.rest.split_first()?;
-        self.rest = others;
-        Some(*first)
+        if let Some(place) = first_held(self.rest) {
+            let row = job_part(&self.rest[place]);
+            self.rest = &self.rest[place + 1..];
+            return Some(row);
+        }
+        let place = first_held(self.behind)?;
+        let row = job_part(&self.behind[place]);
+        self.behind = &self.behind[place + 1..];
+        Some(row)
     }
 }

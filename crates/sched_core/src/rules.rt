@@ -195,7 +195,7 @@ fn overdue(state: Option<JobState>, waited: u64) -> bool
 }
 
 /// Whether a heartbeat of the registration reaps the reservation.
-fn reapable(held: &HeldRow, reg: u64, now: u64) -> bool
+pub(crate) fn reapable(held: &HeldRow, reg: u64, now: u64) -> bool
     ensures { result ≡ is_reaped now reg held.now }
 {
     let waited = now.saturating_sub(held.reserved_at);
@@ -393,7 +393,7 @@ pub fn beat_over_rows(
 }
 
 /// Whether the registration, if there is one, is not pruned.
-fn left_standing(pruned: &[u64], reg: Option<u64>) -> bool
+pub(crate) fn left_standing(pruned: &[u64], reg: Option<u64>) -> bool
     ensures { result ≡ is_left pruned.now reg }
 {
     match reg {

@@ -7,10 +7,11 @@ ghost use Rattle.sched_core.specs.Prune.{is_expired, prune, left, at_address};
 ghost use Rattle.sched_core.specs.Rule.{replaced_by, says_new, counts_over, status_by};
 ghost use Rattle.sched_core.specs.Books.{row_by, row_stays, row_lowered, row_freed, place_if};
 ghost use Rattle.sched_core.specs.Books.{one_more_if};
+ghost use Rattle.sched_core.specs.Booked.{open_view};
 
+use crate::bookings::Bookings;
 use crate::entry::{CoreEntry, CoreKind};
 use crate::rows::{OpenRow, ServerRow};
-use crate::rules::open_job;
 use dist_types::ids::{JobId, ServerId, ServerNonce};
 use dist_types::results::SchedulerStatusResult;
 use dist_types::text::Items;
@@ -64,11 +65,12 @@ fn place_of(found: &Option<OpenRow>) -> Option<u64>
 }
 
 /// The registration of the open job of that id, where it counts.
-pub fn place_if_heard(heard: bool, open_ones: &[OpenRow], job: JobId) -> Option<u64>
-    ensures { result ≡ (if heard then place_if (find (λ o. same_job o.job job) open_ones.now) else None) }
+pub fn place_if_heard(heard: bool, bookings: &Bookings, job: JobId) -> Option<u64>
+    ensures { result ≡ (if heard then place_if (find (λ o. same_job o.job job) (open_view bookings.now.rows))
+        else None) }
 {
     if heard {
-        let found = open_job(open_ones, job);
+        let found = bookings.open_job(job);
         place_of(&found)
     } else {
         None

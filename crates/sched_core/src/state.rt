@@ -15,8 +15,9 @@ ghost use Rattle.sched_core.specs.Rows.{servers_of, jobs_of, held_by_id, held_pa
 ghost use Rattle.sched_core.specs.Answers.{Leaves, IsPicked, RefusesReserve, committed_by, undo_answer};
 ghost use Rattle.sched_core.specs.Answers.{updated_by};
 ghost use Rattle.sched_core.specs.Laws.{IsLegal, IsLawful, IsRule};
-ghost use Rattle.sched_core.specs.Books.{IsState, MayRegister, MayReserve, IsOfUnspent, Kept, key_by};
+ghost use Rattle.sched_core.specs.Books.{IsState, MayRegister, MayReserve, Kept, key_by};
 ghost use Rattle.sched_core.specs.Books.{unspent_next};
+ghost use Rattle.sched_core.specs.Booked.{unspent_view};
 ghost use Rattle.sched_core.specs.declared.call.Call.TheVariants as call;
 
 use crate::answers::{Committed, Picked, Undone};
@@ -83,7 +84,7 @@ impl<A: JobAuthorizer> SchedState<A> {
             alloc,
             base,
             count,
-            books: Books::new(alloc),
+            books: Books::new(alloc, base.wrapping_add(count)),
             keys: Vec::new(alloc),
             log: Vec::new(alloc),
         }
@@ -389,10 +390,10 @@ fn lawful(base: u64, count: u64, log: &[CoreEntry])
 /// reservation more. Refused for want of memory alone; the entries stay.
 fn make_log_room(books: &Books, log: &mut Vec<CoreEntry>) -> Result<(), AllocError>
     ensures log { log.new.items ≡ log.old.items }
-    ensures log_room { vec_len log.old + length books.now.lists.unspent ≤ vec_capacity log.old →
-        vec_len log.new + length books.now.lists.unspent ≤ vec_capacity log.new }
+    ensures log_room { vec_len log.old + length (unspent_view books.now.lists.booked) ≤ vec_capacity log.old →
+        vec_len log.new + length (unspent_view books.now.lists.booked) ≤ vec_capacity log.new }
     ensures spare { OnOk result
-        (vec_len log.new + length books.now.lists.unspent + 2 ≤ vec_capacity log.new) }
+        (vec_len log.new + length (unspent_view books.now.lists.booked) + 2 ≤ vec_capacity log.new) }
 {
     log.reserve(books.unspent_count() + 2)
 }
@@ -401,13 +402,14 @@ fn make_log_room(books: &Books, log: &mut Vec<CoreEntry>) -> Result<(), AllocErr
 fn make_job_room(books: &mut Books, log: &mut Vec<CoreEntry>) -> Result<(), AllocError>
     ensures lists { books.new.lists ≡ books.old.lists }
     ensures log { log.new.items ≡ log.old.items }
-    ensures log_room { vec_len log.old + length books.old.lists.unspent ≤ vec_capacity log.old →
-        vec_len log.new + length books.old.lists.unspent ≤ vec_capacity log.new }
+    ensures log_room { vec_len log.old + length (unspent_view books.old.lists.booked) ≤ vec_capacity log.old →
+        vec_len log.new + length (unspent_view books.old.lists.booked) ≤ vec_capacity log.new }
+    ensures first { books.new.first ≡ books.old.first }
     ensures room { OnOk result (books.new.has_job_room ≡ true) }
     ensures top { books.new.top ≡ books.old.top }
     ensures places { books.new.places ≡ books.old.places }
     ensures spare { OnOk result
-        (vec_len log.new + length books.old.lists.unspent + 2 ≤ vec_capacity log.new) }
+        (vec_len log.new + length (unspent_view books.old.lists.booked) + 2 ≤ vec_capacity log.new) }
 {
     books.make_job_room()?;
     make_log_room(books, log)
@@ -423,14 +425,15 @@ fn make_row_room<A: JobAuthorizer>(
     ensures lists { books.new.lists ≡ books.old.lists }
     ensures keys { keys.new.items ≡ keys.old.items }
     ensures log { log.new.items ≡ log.old.items }
-    ensures log_room { vec_len log.old + length books.old.lists.unspent ≤ vec_capacity log.old →
-        vec_len log.new + length books.old.lists.unspent ≤ vec_capacity log.new }
+    ensures log_room { vec_len log.old + length (unspent_view books.old.lists.booked) ≤ vec_capacity log.old →
+        vec_len log.new + length (unspent_view books.old.lists.booked) ≤ vec_capacity log.new }
+    ensures first { books.new.first ≡ books.old.first }
     ensures room { OnOk result (books.new.has_row_room ≡ true) }
     ensures top { books.new.top ≤ books.old.top }
     ensures places { books.new.places ≤ max books.old.places (2 * max 1 (length books.old.lists.rows)) }
     ensures keys_room { OnOk result (vec_len keys.new < vec_capacity keys.new) }
     ensures spare { OnOk result
-        (vec_len log.new + length books.old.lists.unspent + 2 ≤ vec_capacity log.new) }
+        (vec_len log.new + length (unspent_view books.old.lists.booked) + 2 ≤ vec_capacity log.new) }
 {
     books.make_row_room(alloc)?;
     keys.reserve(1)?;
@@ -454,7 +457,6 @@ fn take<A: JobAuthorizer, L: Ledger>(
     requires key { key ≡ key_by step.kind (length log.old.items) }
     requires row_room { MayRegister step.kind → books.old.has_row_room ≡ true }
     requires job_room { MayReserve step.kind → books.old.has_job_room ≡ true }
-    requires spends { IsOfUnspent step.kind books.old.lists.unspent }
     requires keys_room { MayRegister step.kind → vec_len keys.old < vec_capacity keys.old }
     requires log_room { vec_len log.old + 1 +
         length (unspent_next books.old.lists step (length log.old.items)) ≤ vec_capacity log.old }
@@ -489,7 +491,6 @@ fn take_uncounted<A: JobAuthorizer, L: Ledger>(
     requires key { key ≡ key_by step.kind (length log.old.items) }
     requires row_room { MayRegister step.kind → books.old.has_row_room ≡ true }
     requires job_room { MayReserve step.kind → books.old.has_job_room ≡ true }
-    requires spends { IsOfUnspent step.kind books.old.lists.unspent }
     requires keys_room { MayRegister step.kind → vec_len keys.old < vec_capacity keys.old }
     requires log_room { vec_len log.old + 1 +
         length (unspent_next books.old.lists step (length log.old.items)) ≤ vec_capacity log.old }

@@ -1,10 +1,13 @@
 use Rattle.std.proofs.Common.{◌∙◌}
+use Rattle.sched_core.specs.Booked.{held_view, open_view}
 use Rattle.sched_core.proofs.ChangeLemmas.{reserve_whole}
 use Rattle.sched_core.proofs.change.absorb_rows.Goals as goal
 
 pub returns-in-Reserve-clause-rows : goal.returns-in-Reserve-clause-rows
 returns-in-Reserve-clause-rows g c =
-    c.reserve.ensures.rows ∙ reserve_whole c.args.step.now c.args.held.now c.args.open_ones.now
+    c.reserve.ensures.rows
+    ∙ reserve_whole c.args.step.now (held_view c.args.bookings.now.rows)
+    (open_view c.args.bookings.now.rows)
     c.args.rows.now.rows c.in-Reserve.reserved c.in-Reserve.is
 
 pub returns-in-Reserve-clause-looks : goal.returns-in-Reserve-clause-looks

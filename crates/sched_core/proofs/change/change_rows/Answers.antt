@@ -3,25 +3,26 @@ use Rattle.std.specs.Prelude.{if◌then◌else◌}
 use Rattle.sched_core.specs.Log.{same_job}
 use Rattle.sched_core.specs.Standing.{is_heard}
 use Rattle.sched_core.specs.Books.{place_if}
+use Rattle.sched_core.specs.Booked.{open_view}
 use Rattle.sched_core.proofs.ChangeLemmas.{commit_quiet, status_quiet, update_seen}
 use Rattle.sched_core.proofs.change.change_rows.Goals as goal
 
 pub returns-in-Commit-clause-rows : goal.returns-in-Commit-clause-rows
 returns-in-Commit-clause-rows g c =
-    commit_quiet c.args.step.now c.args.open_ones.now c.args.rows.now.rows c.in-Commit.job
+    commit_quiet c.args.step.now (open_view c.args.bookings.now.rows) c.args.rows.now.rows c.in-Commit.job
     c.in-Commit.state c.in-Commit.kept c.in-Commit.is
 
 pub returns-in-Update-clause-rows : goal.returns-in-Update-clause-rows
 returns-in-Update-clause-rows g c =
     let served : c.place_if_heard-served.result
     ≡ (if is_heard c.in-Update.answer then place_if
-    (find (λ o. same_job o.job c.in-Update.job) c.args.open_ones.now) else None) =
+    (find (λ o. same_job o.job c.in-Update.job) (open_view c.args.bookings.now.rows)) else None) =
     rw c.heard.ensures at c.place_if_heard-served.ensures in
     c.apply_if-in-Update.ensures.rows
-    ∙ update_seen c.args.step.now c.args.open_ones.now c.args.rows.now.rows c.in-Update.server
+    ∙ update_seen c.args.step.now (open_view c.args.bookings.now.rows) c.args.rows.now.rows c.in-Update.server
     c.in-Update.job c.in-Update.state c.in-Update.answer c.place_if_heard-served.result c.in-Update.is served
 
 pub returns-in-Status-clause-rows : goal.returns-in-Status-clause-rows
 returns-in-Status-clause-rows g c =
-    status_quiet c.args.step.now c.args.open_ones.now c.args.rows.now.rows c.in-Status.pruned
+    status_quiet c.args.step.now (open_view c.args.bookings.now.rows) c.args.rows.now.rows c.in-Status.pruned
     c.in-Status.servers c.in-Status.cpus c.in-Status.jobs c.in-Status.is

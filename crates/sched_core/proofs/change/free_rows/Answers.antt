@@ -1,22 +1,21 @@
-use Rattle.std.proofs.Common.{[], refl, ap, ◌∙◌, sym, arith}
-use Rattle.sched_core.proofs.Lists.{map-same}
-use Rattle.sched_core.specs.Books.{row_freed}
-use Rattle.sched_core.proofs.FreeLemmas.{freed-more}
+use Rattle.std.proofs.Common.{refl}
+use Rattle.sched_core.specs.declared.entry.CoreKind.TheVariants.{Reserve, Commit}
+use Rattle.sched_core.proofs.FreeLemmas.{never_freed}
+use Rattle.sched_core.proofs.BookingLemmas.{undo_frees, update_frees}
 use Rattle.sched_core.proofs.change.free_rows.Goals as goal
 
-pub loop-h-init : goal.loop-h-init
-loop-h-init g c = (
-  sym (map-same (row_freed c.args.kind.now [])
-      (λ r. ap (λ n. record r { load = n }) (omega arith)) c.args.rows.now.rows),
-  refl,
-)
+pub returns-in-Reserve-clause-rows : goal.returns-in-Reserve-clause-rows
+returns-in-Reserve-clause-rows g c = rw c.in-Reserve.is
+    (never_freed (Reserve c.in-Reserve.field-0) c.args.bookings.now.rows c.args.rows.now.rows (λ b. refl))
 
-pub loop-h-preserved : goal.loop-h-preserved
-loop-h-preserved g c = (
-  freed-more c.args.kind.now c.args.held.now c.loop-h.h-index _ c.args.rows.now.rows
-      c.loop-h.rows.rows c.lower_if.new.rows.rows c.loop-h-test.true c.loop-h.invariant.0
-      (λ t. c.lower_if.ensures.freed (c.frees-freed.ensures ∙ t))
-      (λ t. c.lower_if.ensures.kept (c.frees-freed.ensures ∙ t)),
-  c.lower_if.ensures.places
-      ∙ c.loop-h.invariant.1,
-)
+pub returns-in-Commit-clause-rows : goal.returns-in-Commit-clause-rows
+returns-in-Commit-clause-rows g c = rw c.in-Commit.is
+    (never_freed (Commit c.in-Commit.job c.in-Commit.state c.in-Commit.kept) c.args.bookings.now.rows
+    c.args.rows.now.rows (λ b. refl))
+
+pub free_job-requires : goal.free_job-requires
+free_job-requires g c = rw c.in-Undo.is (undo_frees c.in-Undo.job c.in-Undo.noted c.in-Undo.ended)
+
+pub free_job-requires-in-Update : goal.free_job-requires-in-Update
+free_job-requires-in-Update g c = rw c.in-Update.is
+    (update_frees c.in-Update.server c.in-Update.job c.in-Update.state c.in-Update.answer)

@@ -1,22 +1,40 @@
-use Rattle.std.specs.Prelude.{vec_len, vec_capacity}
-use Rattle.sched_core.specs.Books.{lists_of}
-use Rattle.sched_core.proofs.VectorLemmas.{has_rooms, opened}
+use Rattle.std.proofs.Common.{◌∙◌}
+use Rattle.sched_core.proofs.BookLemmas.{made_reserves}
+use Rattle.sched_core.proofs.RegistrationLemmas.{row_by_number, above_number, few_pushed}
 use Rattle.sched_core.proofs.books.Books.absorb.Goals as goal
 
-pub invariant_of-self : goal.invariant_of-self
-invariant_of-self g c =
-    let old = c.self.inside.vectors in
-    let new = c.absorb.new.books in
-    let step = c.args.step.now in
-    rw c.absorb.ensures.unspent
-    (opened (lists_of old) step.now c.args.number step.kind (vec_len old.open_ones)
-    (vec_capacity old.open_ones) (vec_len new.open_ones) (vec_capacity new.open_ones)
-    (rw (← c.self.view_is) at c.requires.spends)
-    (λ may. (has_rooms old (rw (← c.self.view_is) at (c.requires.job_room may))).1) c.self.invariant
-    c.absorb.ensures.open_len c.absorb.ensures.open_capacity)
+pub push_row-requires-clause-above : goal.push_row-requires-clause-above
+push_row-requires-clause-above g c =
+    let s = c.self.inside in
+    rw (c.row_made.ensures, c.absorb_rows.ensures.places)
+    (above_number c.args.step.now.kind c.args.number c.args.step.now.now s.rows.places.top
+    (rw (← c.self.view_is) at c.requires.above))
 
-pub absorb-requires-clause-sound : goal.absorb-requires-clause-sound
-absorb-requires-clause-sound g c = rw (← c.self.view_is) at c.requires.sound
+pub push_row-requires-clause-sound : goal.push_row-requires-clause-sound
+push_row-requires-clause-sound g c = rw (c.row_made.ensures, c.absorb_rows.ensures.rows)
+    (rw (← c.self.view_is) at c.requires.sound)
 
-pub absorb-requires-clause-above : goal.absorb-requires-clause-above
-absorb-requires-clause-above g c = rw (← c.self.view_is) at c.requires.above
+pub absorb-requires-clause-room : goal.absorb-requires-clause-room
+absorb-requires-clause-room g c =
+    let s = c.self.inside in
+    rw (c.booked-made.ensures, c.job_made-job.ensures) (λ some.
+    (rw (← c.self.view_is) at c.requires.job_room)
+    (made_reserves c.args.step.now.kind s.rows.rows c.args.number c.args.step.now.now some))
+
+pub absorb-requires-clause-follows : goal.absorb-requires-clause-follows
+absorb-requires-clause-follows g c = rw (c.booked-made.ensures, c.job_made-job.ensures)
+    (rw (← c.self.view_is) at c.requires.follows)
+
+pub returns-clause-top : goal.returns-clause-top
+returns-clause-top g c =
+    let s = c.self.inside in
+    c.push_row.ensures.top c.args.number
+    (rw c.absorb_rows.ensures.places (rw (← c.self.view_is) at c.requires.above))
+    (rw c.row_made.ensures (row_by_number c.args.step.now.kind c.args.number c.args.step.now.now))
+
+pub returns-clause-looks : goal.returns-clause-looks
+returns-clause-looks g c = rw (← c.self.view_is) (λ h le.
+    few_pushed c.args.step.now.kind c.args.number c.args.step.now.now h c.args.steps.now
+    c.absorb_rows.new.steps c.push_row.new.steps
+    (λ none. c.push_row.ensures.none (c.row_made.ensures ∙ none))
+    (c.absorb_rows.ensures.looks h le))

@@ -19,9 +19,6 @@ take_uncounted-requires-clause-rule g c κs within =
     (sym c.in_ok-make_row_room.ensures.log)
     (call.Beat a.now a.server a.nonce a.cpus (g.A.JobAuthorizer.key_of a.key), (some, few), entry)
 
-pub take_uncounted-requires-clause-spends : goal.take_uncounted-requires-clause-spends
-take_uncounted-requires-clause-spends g c κs within = rw c.in_ok-entry.ensures tt
-
 pub take_uncounted-requires-clause-job_room : goal.take_uncounted-requires-clause-job_room
 take_uncounted-requires-clause-job_room g c κs within = rw c.in_ok-entry.ensures (λ may. absurd may)
 
@@ -39,7 +36,7 @@ take_uncounted-requires-clause-state g c κs within =
     c.make_row_room.new.log.items (vec_len s.log) (vec_capacity s.log) (vec_len c.make_row_room.new.log)
     (vec_capacity c.make_row_room.new.log) c.self.invariant c.in_ok-make_row_room.ensures.lists
     c.in_ok-make_row_room.ensures.keys c.in_ok-make_row_room.ensures.log
-    c.in_ok-make_row_room.ensures.log_room
+    c.in_ok-make_row_room.ensures.log_room c.in_ok-make_row_room.ensures.first
     c.in_ok-make_row_room.ensures.top c.in_ok-make_row_room.ensures.places
 
 pub invariant_of-self : goal.invariant_of-self
@@ -49,4 +46,5 @@ invariant_of-self g c =
     s.log.items c.make_row_room.new.log.items (vec_len s.log) (vec_capacity s.log)
     (vec_len c.make_row_room.new.log) (vec_capacity c.make_row_room.new.log) c.self.invariant
     c.make_row_room.ensures.lists c.make_row_room.ensures.keys c.make_row_room.ensures.log
-    c.make_row_room.ensures.log_room c.make_row_room.ensures.top c.make_row_room.ensures.places
+    c.make_row_room.ensures.log_room c.make_row_room.ensures.first c.make_row_room.ensures.top
+    c.make_row_room.ensures.places

@@ -8,6 +8,7 @@ use Rattle.sched_core.specs.Reservation.{unspent, unended}
 use Rattle.sched_core.specs.Rule.{is_among, commit_by}
 use Rattle.sched_core.specs.declared.answers.Committed.TheVariants as committed
 use Rattle.sched_core.specs.declared.call.Call.TheVariants as call
+use Rattle.sched_core.specs.Booked.{unspent_view, held_view}
 use Rattle.sched_core.proofs.LegalLemmas.{core_of}
 use Rattle.sched_core.proofs.BookLemmas.{log_room-spent}
 use Rattle.sched_core.proofs.StateLemmas.{spent_among, held_among, spends_one}
@@ -20,8 +21,9 @@ returns-then-not-is_unspent-clause-logged g c =
     let number = c.number-number.result in
     let job : JobId = c.job_id-job.result in
     let listed : c.is_unspent.result ≡ list_any (λ u. (u.number == number) && same_job u.job job)
-    s.books.lists.unspent = c.is_unspent.ensures in
-    let among = spent_among s.books.lists.unspent s.log.items number job c.self.invariant.books.unspent in
+    (unspent_view s.books.lists.booked) = c.is_unspent.ensures in
+    let among = spent_among
+    (unspent_view s.books.lists.booked) s.log.items number job c.self.invariant.books.unspent in
     let asked = ap (λ n. is_among (unspent s.log.items) n job) c.number-number.ensures.number
     ∙ ap (is_among (unspent s.log.items) a.r.number) c.job_id-job.ensures.job in
     rw (← c.self.view_is, sym asked ∙ sym among ∙ sym listed ∙ c.if-not-is_unspent.true) refl
@@ -33,8 +35,9 @@ returns-then-not-is_unspent-clause-answer g c =
     let number = c.number-number.result in
     let job : JobId = c.job_id-job.result in
     let listed : c.is_unspent.result ≡ list_any (λ u. (u.number == number) && same_job u.job job)
-    s.books.lists.unspent = c.is_unspent.ensures in
-    let among = spent_among s.books.lists.unspent s.log.items number job c.self.invariant.books.unspent in
+    (unspent_view s.books.lists.booked) = c.is_unspent.ensures in
+    let among = spent_among
+    (unspent_view s.books.lists.booked) s.log.items number job c.self.invariant.books.unspent in
     let asked = ap (λ n. is_among (unspent s.log.items) n job) c.number-number.ensures.number
     ∙ ap (is_among (unspent s.log.items) a.r.number) c.job_id-job.ensures.job in
     rw (
@@ -50,19 +53,15 @@ take_uncounted-requires-clause-rule g c κs within =
     let number = c.number-number.result in
     let job : JobId = c.job_id-job.result in
     let listed : c.is_unspent.result ≡ list_any (λ u. (u.number == number) && same_job u.job job)
-    s.books.lists.unspent = c.is_unspent.ensures in
-    let among = spent_among s.books.lists.unspent s.log.items number job c.self.invariant.books.unspent in
+    (unspent_view s.books.lists.booked) = c.is_unspent.ensures in
+    let among = spent_among
+    (unspent_view s.books.lists.booked) s.log.items number job c.self.invariant.books.unspent in
     let kept : c.is_held-kept.result ≡ is_among (unended s.log.items) number job = c.is_held-kept.ensures
-    ∙ held_among s.books.lists.held s.log.items number job c.self.invariant.books.held in (
+    ∙ held_among (held_view s.books.lists.booked) s.log.items number job c.self.invariant.books.held in (
       call.Commit a.now number job a.state,
       (sym among ∙ sym listed ∙ c.if-not-is_unspent.false, c.requires.begins),
       ap (λ b. record { now = a.now; kind = Commit job a.state b }) kept,
     )
-
-pub take_uncounted-requires-clause-spends : goal.take_uncounted-requires-clause-spends
-take_uncounted-requires-clause-spends g c κs within =
-    spends_one c.self.inside.books.lists.unspent c.number-number.result c.job_id-job.result
-    (sym c.is_unspent.ensures ∙ c.if-not-is_unspent.false)
 
 pub take_uncounted-requires-clause-log_room : goal.take_uncounted-requires-clause-log_room
 take_uncounted-requires-clause-log_room g c κs within =
@@ -71,11 +70,12 @@ take_uncounted-requires-clause-log_room g c κs within =
     let number = c.number-number.result in
     let job : JobId = c.job_id-job.result in
     let listed : c.is_unspent.result ≡ list_any (λ u. (u.number == number) && same_job u.job job)
-    s.books.lists.unspent = c.is_unspent.ensures in
-    let among = spent_among s.books.lists.unspent s.log.items number job c.self.invariant.books.unspent in
+    (unspent_view s.books.lists.booked) = c.is_unspent.ensures in
+    let among = spent_among
+    (unspent_view s.books.lists.booked) s.log.items number job c.self.invariant.books.unspent in
     log_room-spent s.books.lists a.now (length s.log.items) (Commit job a.state c.is_held-kept.result)
     (vec_len s.log) (vec_capacity s.log)
-    (spends_one s.books.lists.unspent number job (sym listed ∙ c.if-not-is_unspent.false))
+    (spends_one (unspent_view s.books.lists.booked) number job (sym listed ∙ c.if-not-is_unspent.false))
     c.self.invariant.log_room
 
 pub returns-clause-logged : goal.returns-clause-logged
@@ -85,12 +85,13 @@ returns-clause-logged g c =
     let number = c.number-number.result in
     let job : JobId = c.job_id-job.result in
     let listed : c.is_unspent.result ≡ list_any (λ u. (u.number == number) && same_job u.job job)
-    s.books.lists.unspent = c.is_unspent.ensures in
-    let among = spent_among s.books.lists.unspent s.log.items number job c.self.invariant.books.unspent in
+    (unspent_view s.books.lists.booked) = c.is_unspent.ensures in
+    let among = spent_among
+    (unspent_view s.books.lists.booked) s.log.items number job c.self.invariant.books.unspent in
     let asked = ap (λ n. is_among (unspent s.log.items) n job) c.number-number.ensures.number
     ∙ ap (is_among (unspent s.log.items) a.r.number) c.job_id-job.ensures.job in
     let kept : c.is_held-kept.result ≡ is_among (unended s.log.items) number job = c.is_held-kept.ensures
-    ∙ held_among s.books.lists.held s.log.items number job c.self.invariant.books.held in
+    ∙ held_among (held_view s.books.lists.booked) s.log.items number job c.self.invariant.books.held in
     let kept_r = kept ∙ ap (λ n. is_among (unended s.log.items) n job) c.number-number.ensures.number
     ∙ ap (is_among (unended s.log.items) a.r.number) c.job_id-job.ensures.job in
     rw (
@@ -109,12 +110,13 @@ returns-clause-answer g c =
     let number = c.number-number.result in
     let job : JobId = c.job_id-job.result in
     let listed : c.is_unspent.result ≡ list_any (λ u. (u.number == number) && same_job u.job job)
-    s.books.lists.unspent = c.is_unspent.ensures in
-    let among = spent_among s.books.lists.unspent s.log.items number job c.self.invariant.books.unspent in
+    (unspent_view s.books.lists.booked) = c.is_unspent.ensures in
+    let among = spent_among
+    (unspent_view s.books.lists.booked) s.log.items number job c.self.invariant.books.unspent in
     let asked = ap (λ n. is_among (unspent s.log.items) n job) c.number-number.ensures.number
     ∙ ap (is_among (unspent s.log.items) a.r.number) c.job_id-job.ensures.job in
     let kept : c.is_held-kept.result ≡ is_among (unended s.log.items) number job = c.is_held-kept.ensures
-    ∙ held_among s.books.lists.held s.log.items number job c.self.invariant.books.held in
+    ∙ held_among (held_view s.books.lists.booked) s.log.items number job c.self.invariant.books.held in
     let kept_r = kept ∙ ap (λ n. is_among (unended s.log.items) n job) c.number-number.ensures.number
     ∙ ap (is_among (unended s.log.items) a.r.number) c.job_id-job.ensures.job in
     rw (← c.self.view_is, sym asked ∙ sym among ∙ sym listed ∙ c.if-not-is_unspent.false)

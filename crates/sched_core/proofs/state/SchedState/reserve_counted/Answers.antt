@@ -47,6 +47,7 @@ take-requires-clause-state g c κs within =
     c.make_job_room.new.log.items (vec_len s.log) (vec_capacity s.log) (vec_len c.make_job_room.new.log)
     (vec_capacity c.make_job_room.new.log) c.self.invariant c.in_ok-make_job_room.ensures.lists refl
     c.in_ok-make_job_room.ensures.log c.in_ok-make_job_room.ensures.log_room
+    c.in_ok-make_job_room.ensures.first
     (let top = c.in_ok-make_job_room.ensures.top in omega (arith, top))
     (let places = c.in_ok-make_job_room.ensures.places in omega (arith, places))
 

@@ -1,9 +1,12 @@
-use Rattle.std.proofs.Common.{length, sym, subst}
+use Rattle.std.proofs.Common.{◌≡◌, length, ap, ◌∙◌, sym, subst}
 use Rattle.std.specs.Prelude.{vec_len, vec_capacity}
 use Rattle.sched_core.specs.Laws.{IsRule}
 use Rattle.sched_core.specs.declared.call.Call.TheVariants as call
 use Rattle.sched_core.proofs.LegalLemmas.{core_of}
-use Rattle.sched_core.proofs.BookLemmas.{log_room-one}
+use Rattle.sched_core.specs.Log.{logged}
+use Rattle.sched_core.specs.Rows.{servers_of, open_rows}
+use Rattle.sched_core.specs.Rule.{counts_over}
+use Rattle.sched_core.proofs.BookLemmas.{log_room-one, counts_are}
 use Rattle.std.proofs.Common.{refl, arith}
 use Rattle.sched_core.proofs.MostLemmas.{still_state}
 use Rattle.sched_core.proofs.state.SchedState.status.Goals as goal
@@ -11,17 +14,14 @@ use Rattle.sched_core.proofs.state.SchedState.status.Goals as goal
 pub take_uncounted-requires-clause-rule : goal.take_uncounted-requires-clause-rule
 take_uncounted-requires-clause-rule g c κs within =
     let s = c.self.inside in
-    let entry = rw (
-      c.in_ok-pruned.ensures,
-      c.counts-answer.ensures,
-      c.self.invariant.books.rows,
-      c.self.invariant.books.open_ones,
-    ) at c.status_entry-entry.ensures in
+    let counts : c.counts-answer.result
+    ≡ counts_over (servers_of s.log.items) (open_rows s.log.items) c.args.now =
+    c.counts-answer.ensures
+    ∙ counts_are s.books.lists s.keys.items s.log.items c.args.now c.self.invariant.books in
+    let entry = rw (c.in_ok-pruned.ensures, counts, c.self.invariant.books.rows) at
+    c.status_entry-entry.ensures in
     subst (λ l. IsRule (core_of s.base s.count l) c.status_entry-entry.result)
     (sym c.in_ok-make_log_room.ensures.log) (call.Status c.args.now, tt, entry)
-
-pub take_uncounted-requires-clause-spends : goal.take_uncounted-requires-clause-spends
-take_uncounted-requires-clause-spends g c κs within = rw c.status_entry-entry.ensures tt
 
 pub take_uncounted-requires-clause-row_room : goal.take_uncounted-requires-clause-row_room
 take_uncounted-requires-clause-row_room g c κs within = rw c.status_entry-entry.ensures (λ may. absurd may)
@@ -46,4 +46,22 @@ take_uncounted-requires-clause-state g c κs within =
     (vec_len s.log) (vec_capacity s.log) (vec_len c.make_log_room.new.log)
     (vec_capacity c.make_log_room.new.log)
     c.self.invariant refl refl c.in_ok-make_log_room.ensures.log c.in_ok-make_log_room.ensures.log_room
-    (omega arith) (omega arith)
+    refl (omega arith) (omega arith)
+
+pub returns-clause-logged : goal.returns-clause-logged
+returns-clause-logged g c =
+    let s = c.self.inside in
+    let counts : c.counts-answer.result
+    ≡ counts_over (servers_of s.log.items) (open_rows s.log.items) c.args.now =
+    c.counts-answer.ensures
+    ∙ counts_are s.books.lists s.keys.items s.log.items c.args.now c.self.invariant.books in
+    let entry = rw (c.in_ok-pruned.ensures, counts, c.self.invariant.books.rows) at
+    c.status_entry-entry.ensures in
+    rw (← c.self.view_is, c.take_uncounted.ensures.log, c.in_ok-make_log_room.ensures.log)
+    (ap (logged (core_of s.base s.count s.log.items)) entry)
+
+pub returns-clause-answer : goal.returns-clause-answer
+returns-clause-answer g c =
+    let s = c.self.inside in
+    rw (← c.self.view_is) (c.counts-answer.ensures
+    ∙ counts_are s.books.lists s.keys.items s.log.items c.args.now c.self.invariant.books)

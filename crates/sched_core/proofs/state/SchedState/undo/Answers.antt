@@ -11,8 +11,9 @@ use Rattle.sched_core.specs.Rule.{is_among, place_at, noted_over, undo_by}
 use Rattle.sched_core.specs.Answers.{unended_by}
 use Rattle.sched_core.specs.declared.answers.Undone.TheVariants as undone
 use Rattle.sched_core.specs.declared.call.Call.TheVariants as call
+use Rattle.sched_core.specs.Booked.{unspent_view, held_view}
 use Rattle.sched_core.proofs.LegalLemmas.{core_of}
-use Rattle.sched_core.proofs.BookLemmas.{log_room-spent}
+use Rattle.sched_core.proofs.BookLemmas.{log_room-spent, unspent_addressed}
 use Rattle.sched_core.proofs.StateLemmas.{spent_among, held_among, spent_address, spends_one}
 use Rattle.sched_core.proofs.state.SchedState.undo.Goals as goal
 
@@ -23,8 +24,9 @@ returns-then-not-is_unspent-clause-logged g c =
     let number = c.number-number.result in
     let job : JobId = c.job_id-job.result in
     let listed : c.is_unspent.result ≡ list_any (λ u. (u.number == number) && same_job u.job job)
-    s.books.lists.unspent = c.is_unspent.ensures in
-    let among = spent_among s.books.lists.unspent s.log.items number job c.self.invariant.books.unspent in
+    (unspent_view s.books.lists.booked) = c.is_unspent.ensures in
+    let among = spent_among
+    (unspent_view s.books.lists.booked) s.log.items number job c.self.invariant.books.unspent in
     let asked = ap (λ n. is_among (unspent s.log.items) n job) c.number-number.ensures.number
     ∙ ap (is_among (unspent s.log.items) a.r.number) c.job_id-job.ensures.job in
     rw (← c.self.view_is, sym asked ∙ sym among ∙ sym listed ∙ c.if-not-is_unspent.true) refl
@@ -36,8 +38,9 @@ returns-then-not-is_unspent-clause-answer g c =
     let number = c.number-number.result in
     let job : JobId = c.job_id-job.result in
     let listed : c.is_unspent.result ≡ list_any (λ u. (u.number == number) && same_job u.job job)
-    s.books.lists.unspent = c.is_unspent.ensures in
-    let among = spent_among s.books.lists.unspent s.log.items number job c.self.invariant.books.unspent in
+    (unspent_view s.books.lists.booked) = c.is_unspent.ensures in
+    let among = spent_among
+    (unspent_view s.books.lists.booked) s.log.items number job c.self.invariant.books.unspent in
     let asked = ap (λ n. is_among (unspent s.log.items) n job) c.number-number.ensures.number
     ∙ ap (is_among (unspent s.log.items) a.r.number) c.job_id-job.ensures.job in
     rw (← c.self.view_is, sym asked ∙ sym among ∙ sym listed ∙ c.if-not-is_unspent.true) refl
@@ -49,20 +52,23 @@ take_uncounted-requires-clause-rule g c κs within =
     let number = c.number-number.result in
     let job : JobId = c.job_id-job.result in
     let listed : c.is_unspent.result ≡ list_any (λ u. (u.number == number) && same_job u.job job)
-    s.books.lists.unspent = c.is_unspent.ensures in
-    let among = spent_among s.books.lists.unspent s.log.items number job c.self.invariant.books.unspent in
-    let owned : list_any (λ u. (u.number == number) && same_job u.job job) s.books.lists.unspent ≡ true =
+    (unspent_view s.books.lists.booked) = c.is_unspent.ensures in
+    let among = spent_among
+    (unspent_view s.books.lists.booked) s.log.items number job c.self.invariant.books.unspent in
+    let owned : list_any (λ u. (u.number == number) && same_job u.job job)
+    (unspent_view s.books.lists.booked) ≡ true =
     sym listed ∙ c.if-not-is_unspent.false in
     let server : c.unspent_address-server.result ≡ option_and_then (address_of s.log.items)
     (place_at s.log.items number) = c.unspent_address-server.ensures
-    ∙ spent_address s.books.lists.unspent s.log.items number job c.self.invariant.books.unspent_placed
+    ∙ spent_address (unspent_view s.books.lists.booked) s.log.items number job
+    (unspent_addressed s.log.items s.books.lists.booked c.self.invariant.books.placed)
     owned in
     let noted : c.noted-noted.result ≡ noted_over (servers_of s.log.items)
     (option_and_then (address_of s.log.items) (place_at s.log.items number)) =
     (rw c.self.invariant.books.rows at c.noted-noted.ensures)
     ∙ ap (noted_over (servers_of s.log.items)) server in
     let gone : c.is_held-ended.result ≡ is_among (unended s.log.items) number job = c.is_held-ended.ensures
-    ∙ held_among s.books.lists.held s.log.items number job c.self.invariant.books.held in (
+    ∙ held_among (held_view s.books.lists.booked) s.log.items number job c.self.invariant.books.held in (
       call.Undo a.now number job,
       sym among ∙ owned,
       ap (λ n. record { now = a.now; kind = Undo job n c.is_held-ended.result }) noted
@@ -73,11 +79,6 @@ take_uncounted-requires-clause-rule g c κs within =
           }) gone,
     )
 
-pub take_uncounted-requires-clause-spends : goal.take_uncounted-requires-clause-spends
-take_uncounted-requires-clause-spends g c κs within =
-    spends_one c.self.inside.books.lists.unspent c.number-number.result c.job_id-job.result
-    (sym c.is_unspent.ensures ∙ c.if-not-is_unspent.false)
-
 pub take_uncounted-requires-clause-log_room : goal.take_uncounted-requires-clause-log_room
 take_uncounted-requires-clause-log_room g c κs within =
     let s = c.self.inside in
@@ -85,11 +86,12 @@ take_uncounted-requires-clause-log_room g c κs within =
     let number = c.number-number.result in
     let job : JobId = c.job_id-job.result in
     let listed : c.is_unspent.result ≡ list_any (λ u. (u.number == number) && same_job u.job job)
-    s.books.lists.unspent = c.is_unspent.ensures in
-    let among = spent_among s.books.lists.unspent s.log.items number job c.self.invariant.books.unspent in
+    (unspent_view s.books.lists.booked) = c.is_unspent.ensures in
+    let among = spent_among
+    (unspent_view s.books.lists.booked) s.log.items number job c.self.invariant.books.unspent in
     log_room-spent s.books.lists a.now (length s.log.items)
     (Undo job c.noted-noted.result c.is_held-ended.result) (vec_len s.log) (vec_capacity s.log)
-    (spends_one s.books.lists.unspent number job (sym listed ∙ c.if-not-is_unspent.false))
+    (spends_one (unspent_view s.books.lists.booked) number job (sym listed ∙ c.if-not-is_unspent.false))
     c.self.invariant.log_room
 
 pub returns-clause-logged : goal.returns-clause-logged
@@ -99,22 +101,25 @@ returns-clause-logged g c =
     let number = c.number-number.result in
     let job : JobId = c.job_id-job.result in
     let listed : c.is_unspent.result ≡ list_any (λ u. (u.number == number) && same_job u.job job)
-    s.books.lists.unspent = c.is_unspent.ensures in
-    let among = spent_among s.books.lists.unspent s.log.items number job c.self.invariant.books.unspent in
+    (unspent_view s.books.lists.booked) = c.is_unspent.ensures in
+    let among = spent_among
+    (unspent_view s.books.lists.booked) s.log.items number job c.self.invariant.books.unspent in
     let asked = ap (λ n. is_among (unspent s.log.items) n job) c.number-number.ensures.number
     ∙ ap (is_among (unspent s.log.items) a.r.number) c.job_id-job.ensures.job in
-    let owned : list_any (λ u. (u.number == number) && same_job u.job job) s.books.lists.unspent ≡ true =
+    let owned : list_any (λ u. (u.number == number) && same_job u.job job)
+    (unspent_view s.books.lists.booked) ≡ true =
     sym listed ∙ c.if-not-is_unspent.false in
     let server : c.unspent_address-server.result ≡ option_and_then (address_of s.log.items)
     (place_at s.log.items number) = c.unspent_address-server.ensures
-    ∙ spent_address s.books.lists.unspent s.log.items number job c.self.invariant.books.unspent_placed
+    ∙ spent_address (unspent_view s.books.lists.booked) s.log.items number job
+    (unspent_addressed s.log.items s.books.lists.booked c.self.invariant.books.placed)
     owned in
     let noted : c.noted-noted.result ≡ noted_over (servers_of s.log.items)
     (option_and_then (address_of s.log.items) (place_at s.log.items number)) =
     (rw c.self.invariant.books.rows at c.noted-noted.ensures)
     ∙ ap (noted_over (servers_of s.log.items)) server in
     let gone : c.is_held-ended.result ≡ is_among (unended s.log.items) number job = c.is_held-ended.ensures
-    ∙ held_among s.books.lists.held s.log.items number job c.self.invariant.books.held in
+    ∙ held_among (held_view s.books.lists.booked) s.log.items number job c.self.invariant.books.held in
     let noted_r = noted ∙ ap
     (λ n. noted_over (servers_of s.log.items)
     (option_and_then (address_of s.log.items) (place_at s.log.items n))) c.number-number.ensures.number in
@@ -141,22 +146,25 @@ returns-clause-answer g c =
     let number = c.number-number.result in
     let job : JobId = c.job_id-job.result in
     let listed : c.is_unspent.result ≡ list_any (λ u. (u.number == number) && same_job u.job job)
-    s.books.lists.unspent = c.is_unspent.ensures in
-    let among = spent_among s.books.lists.unspent s.log.items number job c.self.invariant.books.unspent in
+    (unspent_view s.books.lists.booked) = c.is_unspent.ensures in
+    let among = spent_among
+    (unspent_view s.books.lists.booked) s.log.items number job c.self.invariant.books.unspent in
     let asked = ap (λ n. is_among (unspent s.log.items) n job) c.number-number.ensures.number
     ∙ ap (is_among (unspent s.log.items) a.r.number) c.job_id-job.ensures.job in
-    let owned : list_any (λ u. (u.number == number) && same_job u.job job) s.books.lists.unspent ≡ true =
+    let owned : list_any (λ u. (u.number == number) && same_job u.job job)
+    (unspent_view s.books.lists.booked) ≡ true =
     sym listed ∙ c.if-not-is_unspent.false in
     let server : c.unspent_address-server.result ≡ option_and_then (address_of s.log.items)
     (place_at s.log.items number) = c.unspent_address-server.ensures
-    ∙ spent_address s.books.lists.unspent s.log.items number job c.self.invariant.books.unspent_placed
+    ∙ spent_address (unspent_view s.books.lists.booked) s.log.items number job
+    (unspent_addressed s.log.items s.books.lists.booked c.self.invariant.books.placed)
     owned in
     let noted : c.noted-noted.result ≡ noted_over (servers_of s.log.items)
     (option_and_then (address_of s.log.items) (place_at s.log.items number)) =
     (rw c.self.invariant.books.rows at c.noted-noted.ensures)
     ∙ ap (noted_over (servers_of s.log.items)) server in
     let gone : c.is_held-ended.result ≡ is_among (unended s.log.items) number job = c.is_held-ended.ensures
-    ∙ held_among s.books.lists.held s.log.items number job c.self.invariant.books.held in
+    ∙ held_among (held_view s.books.lists.booked) s.log.items number job c.self.invariant.books.held in
     let noted_r = noted ∙ ap
     (λ n. noted_over (servers_of s.log.items)
     (option_and_then (address_of s.log.items) (place_at s.log.items n))) c.number-number.ensures.number in

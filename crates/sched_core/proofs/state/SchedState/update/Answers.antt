@@ -9,7 +9,7 @@ use Rattle.sched_core.specs.Answers.{verdict}
 use Rattle.sched_core.specs.Laws.{IsRule}
 use Rattle.sched_core.specs.declared.call.Call.TheVariants as call
 use Rattle.sched_core.proofs.LegalLemmas.{core_of}
-use Rattle.sched_core.proofs.BookLemmas.{log_room-one}
+use Rattle.sched_core.proofs.BookLemmas.{log_room-one, open_found}
 use Rattle.sched_core.proofs.StateLemmas.{on_ok, verdict_leaves}
 use Rattle.std.proofs.Common.{refl, arith}
 use Rattle.sched_core.proofs.MostLemmas.{still_state}
@@ -24,7 +24,12 @@ take_uncounted-requires-clause-rule g c κs within =
       kind = Update a.server a.job a.state c.answer_by-answer.result;
     } in
     let answer : c.answer_by-answer.result ≡ advance (open_rows s.log.items) a.server a.job a.state =
-    rw (c.open_job-found.ensures, c.self.invariant.books.open_ones) at c.answer_by-answer.ensures in
+    rw (
+      c.open_job-found.ensures,
+      open_found s.books.lists s.keys.items s.log.items a.job
+          c.self.invariant.books,
+    )
+    at c.answer_by-answer.ensures in
     subst (λ l. IsRule (core_of s.base s.count l) step) (sym c.in_ok-make_log_room.ensures.log) (
       call.Update a.now a.server a.job a.state,
       tt,
@@ -44,7 +49,12 @@ returns-clause-logged g c =
     let s = c.self.inside in
     let a = c.args in
     let answer : c.answer_by-answer.result ≡ advance (open_rows s.log.items) a.server a.job a.state =
-    rw (c.open_job-found.ensures, c.self.invariant.books.open_ones) at c.answer_by-answer.ensures in
+    rw (
+      c.open_job-found.ensures,
+      open_found s.books.lists s.keys.items s.log.items a.job
+          c.self.invariant.books,
+    )
+    at c.answer_by-answer.ensures in
     rw (← c.self.view_is, c.take_uncounted.ensures.log, c.in_ok-make_log_room.ensures.log)
     (on_ok c.updated.result _
     (ap (λ r. logged (core_of s.base s.count s.log.items)
@@ -55,7 +65,12 @@ returns-clause-answer g c = λ refused.
     let s = c.self.inside in
     let a = c.args in
     let answer : c.answer_by-answer.result ≡ advance (open_rows s.log.items) a.server a.job a.state =
-    rw (c.open_job-found.ensures, c.self.invariant.books.open_ones) at c.answer_by-answer.ensures in
+    rw (
+      c.open_job-found.ensures,
+      open_found s.books.lists s.keys.items s.log.items a.job
+          c.self.invariant.books,
+    )
+    at c.answer_by-answer.ensures in
     rw (← c.self.view_is) (c.updated.ensures ∙ ap (λ r. verdict r a.state) answer)
 
 pub returns-clause-err : goal.returns-clause-err
@@ -63,7 +78,12 @@ returns-clause-err g c =
     let s = c.self.inside in
     let a = c.args in
     let answer : c.answer_by-answer.result ≡ advance (open_rows s.log.items) a.server a.job a.state =
-    rw (c.open_job-found.ensures, c.self.invariant.books.open_ones) at c.answer_by-answer.ensures in
+    rw (
+      c.open_job-found.ensures,
+      open_found s.books.lists s.keys.items s.log.items a.job
+          c.self.invariant.books,
+    )
+    at c.answer_by-answer.ensures in
     rw (c.updated.ensures, ← c.self.view_is, c.take_uncounted.ensures.log, c.in_ok-make_log_room.ensures.log)
     (verdict_leaves c.answer_by-answer.result a.state (core_of s.base s.count s.log.items) _ _
     (ap (λ r. logged (core_of s.base s.count s.log.items)
@@ -77,4 +97,4 @@ take_uncounted-requires-clause-state g c κs within =
     (vec_len s.log) (vec_capacity s.log) (vec_len c.make_log_room.new.log)
     (vec_capacity c.make_log_room.new.log)
     c.self.invariant refl refl c.in_ok-make_log_room.ensures.log c.in_ok-make_log_room.ensures.log_room
-    (omega arith) (omega arith)
+    refl (omega arith) (omega arith)

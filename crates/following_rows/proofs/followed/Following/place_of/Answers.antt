@@ -1,0 +1,12 @@
+use Rattle.std.proofs.Common.{◌≡◌, ◌≤◌, ◌^◌, Option, length, arith}
+use Rattle.std.specs.Prelude.{MatchOption}
+use Rattle.following_rows.specs.Following.{HasNone, IsPlaceOf}
+use Rattle.following_rows.proofs.FollowLemmas.{placed}
+use Rattle.following_rows.proofs.followed.Following.place_of.Goals as goal
+
+pub returns : goal.returns
+returns g c =
+    let s = c.self.inside in
+    let few : length s.rows.items ≤ 2 ^ 64 = omega (arith, s.rows.ok.0, s.rows.small) in
+    rw (← c.self.view_is) (placed g.T.Identified.id_of s.first c.args.id s.rows.items c.place_in.result
+    c.self.invariant few (rw c.deref.ensures.value at c.place_in.ensures))

@@ -1,0 +1,133 @@
+-- One row for each reservation that was ever made, and what is read off these rows.
+use Rattle.std.specs.Prelude.{◌≡◌, ◌≤◌, ◌<◌, ◌+◌, ◌^◌, ◌==◌, ℕ, List, [], ◌∷◌, ◌++◌, length, map, filter}
+use Rattle.std.specs.Prelude.{take}
+use Rattle.std.specs.Prelude.{drop, slice_index_or, Bool, true, false, not, ◌&&◌, Option, Some, None}
+use Rattle.std.specs.Prelude.{if◌then◌else◌, option_and_then}
+use Rattle.std.specs.List.{AllByRecursion, filter_map}
+use Rattle.std.specs.Option.{option_map}
+use Rattle.dist_types.specs.declared.addr.Addr.{Addr}
+use Rattle.dist_types.specs.declared.ids.JobId.{JobId}
+use Rattle.sched_core.specs.declared.booked.BookedRow.{BookedRow}
+use Rattle.sched_core.specs.declared.rows.HeldRow.{HeldRow}
+use Rattle.sched_core.specs.declared.rows.JobRow.{JobRow}
+use Rattle.sched_core.specs.declared.rows.OpenRow.{OpenRow}
+use Rattle.sched_core.specs.Rows.{sorted_into}
+
+-- a reservation that was just made
+abbrev pub booked_new : JobRow → BookedRow
+booked_new j = record {
+  number = j.number;
+  job = j.job;
+  reg = j.reg;
+  server = j.server;
+  reserved_at = j.reserved_at;
+  state = j.state;
+  claimed = j.claimed;
+  unspent = true;
+  unended = true;
+}
+
+-- a reservation, as an unended one
+abbrev pub held_part_of : BookedRow → HeldRow
+held_part_of b = record {
+  number = b.number;
+  job = b.job;
+  reg = b.reg;
+  reserved_at = b.reserved_at;
+  state = b.state;
+  claimed = b.claimed;
+}
+
+-- the same with its address
+abbrev pub job_part_of : BookedRow → JobRow
+job_part_of b = record {
+  number = b.number;
+  job = b.job;
+  reg = b.reg;
+  server = b.server;
+  reserved_at = b.reserved_at;
+  state = b.state;
+  claimed = b.claimed;
+}
+
+-- A reservation that is unspent: its number, its job, the registration that it was made at, and its address.
+pub record UnspentRow : Type 0 where
+  pub number : ℕ
+  pub job : JobId
+  pub reg : ℕ
+  pub server : Addr
+
+-- a reservation, as an unspent one
+abbrev pub unspent_part_of : BookedRow → UnspentRow
+unspent_part_of b = record { number = b.number; job = b.job; reg = b.reg; server = b.server }
+
+-- the open job of a reservation: that of one that was spent and is unended, whose job has a state
+abbrev pub open_part_of : BookedRow → Option OpenRow
+open_part_of b = if b.unended && not b.unspent then option_map
+    (λ s. record { job = b.job; reg = Some b.reg; server = Some b.server; state = s }) b.state else None
+
+-- the unended reservations, in the order of their reserving
+abbrev pub held_view : List BookedRow → List HeldRow
+held_view bs = map held_part_of (filter (λ b. b.unended) bs)
+
+-- the same with their addresses
+abbrev pub job_view : List BookedRow → List JobRow
+job_view bs = map job_part_of (filter (λ b. b.unended) bs)
+
+-- the same by rising job id
+abbrev pub jobs_by_id : List BookedRow → List JobRow
+jobs_by_id bs = sorted_into (λ j. j.job.0) [] (job_view bs)
+
+-- the unspent reservations, in the order of their reserving
+abbrev pub unspent_view : List BookedRow → List UnspentRow
+unspent_view bs = map unspent_part_of (filter (λ b. b.unspent) bs)
+
+-- the open jobs, in the order of their reserving
+abbrev pub open_view : List BookedRow → List OpenRow
+open_view bs = filter_map open_part_of bs
+
+-- all of them are ended
+abbrev pub AreEnded : List BookedRow → Type 0
+AreEnded bs = AllByRecursion (λ b. b.unended ≡ false) bs
+
+-- So many jobs are open, so many reservations are unspent, and so many of the first are ended.
+pub record AreCounted (bs : List BookedRow) (open_jobs unspent_ones ended_ones : ℕ) : Type 0 where
+  pub few : length bs < 2 ^ 63
+  pub open_are : open_jobs ≡ length (open_view bs)
+  pub unspent_are : unspent_ones ≡ length (unspent_view bs)
+  pub within : ended_ones ≤ length bs
+  pub ended_are : AreEnded (take ended_ones bs)
+
+-- what is asked of the reservation of a job, if there is one
+
+-- whether it has that number and is unspent
+abbrev pub is_unspent_in : Option BookedRow → ℕ → Bool
+is_unspent_in None number = false
+is_unspent_in (Some b) number = b.unspent && (b.number == number)
+
+-- whether it has that number and is unended
+abbrev pub is_held_in : Option BookedRow → ℕ → Bool
+is_held_in None number = false
+is_held_in (Some b) number = b.unended && (b.number == number)
+
+-- its address, where it has that number and is unspent
+abbrev pub address_in : Option BookedRow → ℕ → Option Addr
+address_in None number = None
+address_in (Some b) number = if b.unspent && (b.number == number) then Some b.server else None
+
+-- its open job
+abbrev pub open_in : Option BookedRow → Option OpenRow
+open_in found = option_and_then open_part_of found
+
+-- The place has an unended reservation, the first of all.
+pub record IsFirstHeld (bs : List BookedRow) (place : ℕ) : Type 0 where
+  pub row : BookedRow
+  pub within : place < length bs
+  pub is : (d : BookedRow) → slice_index_or bs place d ≡ row
+  pub rest : job_view bs ≡ job_part_of row ∷ job_view (drop (place + 1) bs)
+
+-- one list and another that has the same elements, each as often, in whatever order
+abbrev pub AreReordered : {X : Type 0} → List X → List X → Type 0
+AreReordered [] ys = ys ≡ []
+AreReordered {X} (x ∷ xs) ys = (front : List X) × (rest : List X) × (ys ≡ front ++ x ∷ rest)
+    × AreReordered xs (front ++ rest)
