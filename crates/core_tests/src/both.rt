@@ -322,9 +322,11 @@ fn compare_jobs(
     log: &[CoreEntry],
 ) {
     let rows = questions::reservations(alloc, log).expect(rt, "memory");
-    assert_eq!(rt; state.jobs().count(), rows.len());
+    let mut left = rows.len();
     let mut before = None;
     for a in state.jobs() {
+        assert!(rt; left != 0);
+        left = left.saturating_sub(1);
         let found = rows
             .iter()
             .copied()
@@ -334,4 +336,5 @@ fn compare_jobs(
         assert!(rt; before < Some(a.job));
         before = Some(a.job);
     }
+    assert_eq!(rt; left, 0);
 }
