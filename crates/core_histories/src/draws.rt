@@ -1,10 +1,13 @@
 //! A stream of numbers, and a clock that jumps both ways.
+ghost use Rattle.std.specs.Prelude.{◌≡◌, ◌<◌, ◌%◌, ◌∷◌, [], max};
+ghost use Rattle.dist_types.specs.declared.addr.Addr.TheVariants.{V4};
+
 use dist_types::addr::Addr;
 use dist_types::ids::{ServerId, ServerNonce};
 use dist_types::results::JobState;
 
 /// How many servers there are.
-pub(crate) const SERVERS: u64 = 200;
+pub const SERVERS: u64 = 200;
 
 /// Where a moment jumps, it jumps by one of these, in milliseconds: to the edge of what is timed out, or past
 /// it.
@@ -14,14 +17,15 @@ const JUMPS: &[u64] = &[
 
 /// The numbers, and the clock. In a calm history the clock jumps seldom, so that most servers stand.
 #[derive(Drop)]
-pub(crate) struct Draws {
+pub struct Draws {
     seed: u64,
     clock: u64,
     is_calm: bool,
 }
 
 impl Draws {
-    pub(crate) fn new(seed: u64, is_calm: bool) -> Self {
+    /// The numbers from a seed on.
+    pub fn new(seed: u64, is_calm: bool) -> Self {
         Draws {
             seed,
             clock: 2000000,
@@ -29,12 +33,15 @@ impl Draws {
         }
     }
 
-    pub(crate) fn is_calm(&self) -> bool {
+    /// Whether the clock jumps seldom.
+    pub fn is_calm(&self) -> bool {
         self.is_calm
     }
 
     /// The next number, below the limit.
-    pub(crate) fn below(&mut self, limit: u64) -> u64 {
+    pub fn below(&mut self, limit: u64) -> u64
+        ensures { result < max limit 1 }
+    {
         self.seed = self
             .seed
             .wrapping_mul(6364136223846793005)
@@ -43,7 +50,7 @@ impl Draws {
     }
 
     /// Whether it comes, once in so many times.
-    pub(crate) fn comes(&mut self, times: u64) -> bool {
+    pub fn comes(&mut self, times: u64) -> bool {
         self.below(times) == 0
     }
 
@@ -63,7 +70,7 @@ impl Draws {
 
     /// The moment of the next call. The clock goes on a little, and now and then jumps for good; the moment
     /// itself jumps once in so many times.
-    pub(crate) fn moment(&mut self, times: u64) -> u64 {
+    pub fn moment(&mut self, times: u64) -> u64 {
         let by = self.below(if self.is_calm { 100 } else { 200 });
         self.clock = self.clock.saturating_add(by);
         if self.comes(if self.is_calm { 2000 } else { 150 }) {
@@ -77,7 +84,7 @@ impl Draws {
     }
 
     /// The moment of a call that prunes: it jumps more seldom, and in a calm history ten times more so.
-    pub(crate) fn pruning_moment(&mut self, times: u64) -> u64 {
+    pub fn pruning_moment(&mut self, times: u64) -> u64 {
         let times = if self.is_calm {
             times.saturating_mul(10)
         } else {
@@ -87,20 +94,22 @@ impl Draws {
     }
 
     /// The clock.
-    pub(crate) fn clock(&self) -> u64 {
+    pub fn clock(&self) -> u64 {
         self.clock
     }
 
-    pub(crate) fn server(&mut self) -> ServerId {
+    /// A server.
+    pub fn server(&mut self) -> ServerId {
         numbered(self.below(SERVERS))
     }
 
-    pub(crate) fn nonce(&mut self) -> ServerNonce {
+    /// A nonce, mostly the same.
+    pub fn nonce(&mut self) -> ServerNonce {
         ServerNonce::new(if self.comes(12) { 8 } else { 7 })
     }
 
     /// Of a heartbeat: mostly one processor, now and then too few or too many.
-    pub(crate) fn cpus(&mut self) -> u64 {
+    pub fn cpus(&mut self) -> u64 {
         match self.below(60) {
             0 => 0,
             1 => 4294967296,
@@ -110,7 +119,8 @@ impl Draws {
         }
     }
 
-    pub(crate) fn state(&mut self) -> JobState {
+    /// A state of a job.
+    pub fn state(&mut self) -> JobState {
         match self.below(4) {
             0 => JobState::Pending,
             1 => JobState::Ready,
@@ -121,6 +131,8 @@ impl Draws {
 }
 
 /// The server of that number.
-pub(crate) fn numbered(number: u64) -> ServerId {
+pub fn numbered(number: u64) -> ServerId
+    ensures { result ≡ V4 (127 ∷ 0 ∷ 0 ∷ 1 ∷ []) (number % 60000) }
+{
     ServerId::new(Addr::V4([127, 0, 0, 1], (number % 60000) as u16))
 }

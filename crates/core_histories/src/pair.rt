@@ -1,16 +1,22 @@
 //! The running state and the plain scheduler beside it: each call goes to both, and then the answer and the
 //! entry are compared.
+ghost use Rattle.std.specs.Prelude.{◌≡◌, true};
+ghost use Rattle.sched_core.specs.Rule.{is_initial};
+
 use crate::arms::{Arm, arm_of};
+use core_reference::answer::{
+    Answer, beat_answer, commit_answer, entry_answer, refused_answer, reserve_answer,
+    status_answer, update_answer,
+};
 use core_reference::plain::PlainState;
 use dist_token::job_token::JWTJobAuthorizer;
 use dist_types::ids::{JobId, ServerId, ServerNonce};
 use dist_types::results::JobState;
 use dist_types::roles::JobAuthorizer;
 use dist_types::text::Bytes;
-use sched_core::answers::{Committed, Picked, Undone};
+use sched_core::answers::{Picked, Undone};
 use sched_core::call::Call;
-use sched_core::entry::{CoreKind, Reserved, UpdateAnswer};
-use sched_core::error::SchedError;
+use sched_core::entry::CoreKind;
 use sched_core::reservation::Reservation;
 use sched_core::rows::{JobRow, ServerRow};
 use sched_core::state::SchedState;
@@ -57,34 +63,34 @@ impl Pair {
         self.arms.push(arm).expect(rt, "memory");
     }
 
-    /// Makes the call on the plain scheduler, where it makes an entry.
-    fn make(&mut self, rt: &impl Abort, call: &Call) -> bool {
-        let is_call = self.plain.is_call(call);
-        if is_call {
+    /// Makes the call on the plain scheduler, where it makes an entry. What it answers.
+    fn make(&mut self, rt: &impl Abort, call: &Call) -> Answer {
+        if self.plain.is_call(call) {
             self.plain.make(call).expect(rt, "memory");
-        }
-        is_call
-    }
-
-    /// Compares the logs behind a call: their lengths, and the last entry of each.
-    fn compare(&mut self, rt: &impl Abort, is_call: bool) {
-        let plain = self.plain.history();
-        let running = self.state.history();
-        assert_eq!(rt; running.len(), plain.len());
-        if is_call {
-            let want = plain.last().expect(rt, "an entry");
-            let made = running.last().expect(rt, "an entry");
-            let want_text = format!(in self.alloc; "{want:?}").expect(rt, "memory");
-            let made_text = format!(in self.alloc; "{made:?}").expect(rt, "memory");
-            assert_eq!(rt; made_text.as_str(), want_text.as_str());
-            let came = arm_of(&want.kind);
-            self.note(rt, came);
+            let last = self.plain.history().last().expect(rt, "an entry");
+            entry_answer(&last.kind)
+        } else {
+            refused_answer(call)
         }
     }
 
-    /// What the plain scheduler's last entry did.
-    fn last(&self, rt: &impl Abort) -> &CoreKind {
-        &self.plain.history().last().expect(rt, "an entry").kind
+    /// Compares the last entries. The arm of the last.
+    fn compare_last(&self, rt: &impl Abort) -> Arm {
+        let want = self.plain.history().last().expect(rt, "an entry");
+        let made = self.state.history().last().expect(rt, "an entry");
+        assert!(rt; made.is_same_but_key(want) && same_key(&made.kind, &want.kind));
+        arm_of(&want.kind)
+    }
+
+    /// Compares the answers of a call, the lengths of the logs, and the last entries.
+    fn compare(&mut self, rt: &impl Abort, want: Answer, answer: Answer) {
+        assert_eq!(rt; answer, want);
+        assert_eq!(rt; self.state.history().len(), self.plain.history().len());
+        let came = match refused_arm(want) {
+            Some(arm) => arm,
+            None => self.compare_last(rt),
+        };
+        self.note(rt, came);
     }
 
     pub(crate) fn beat(
@@ -95,109 +101,78 @@ impl Pair {
         nonce: ServerNonce,
         cpus: u64,
     ) {
-        let bytes = Bytes::from_slice(self.alloc, &[1, 2, 2]).expect(rt, "memory");
-        let call = Call::Beat {
-            now,
-            server,
-            nonce,
-            cpus,
-            key: bytes,
-        };
-        let is_call = self.make(rt, &call);
-        match self
+        let key_bytes = Bytes::from_slice(self.alloc, &[1, 2, 2]).expect(rt, "memory");
+        let want = self.make(
+            rt,
+            &Call::Beat {
+                now,
+                server,
+                nonce,
+                cpus,
+                key: key_bytes,
+            },
+        );
+        let answer = self
             .state
-            .beat(now, server, nonce, cpus, key(rt, self.alloc))
-        {
-            Ok(answer) => assert_eq!(rt; says_new(self.last(rt)), Some(answer.is_new)),
-            Err(e) => {
-                assert!(rt; !is_call && e == SchedError::BadCpus(cpus));
-                self.note(rt, Arm::BadCpus);
-            }
-        }
-        self.compare(rt, is_call);
+            .beat(now, server, nonce, cpus, key(rt, self.alloc));
+        self.compare(rt, want, beat_answer(&answer));
     }
 
     pub(crate) fn status(&mut self, rt: &impl Abort, now: u64) {
-        let is_call = self.make(rt, &Call::Status { now });
-        let answer = self.state.status(now).expect(rt, "a status");
-        let numbers = (answer.num_servers, answer.num_cpus, answer.in_progress);
-        assert_eq!(rt; says_numbers(self.last(rt)), Some(numbers));
-        self.compare(rt, is_call);
+        let want = self.make(rt, &Call::Status { now });
+        let answer = self.state.status(now);
+        self.compare(rt, want, status_answer(&answer));
     }
 
     /// The reservation that is made, if one is.
     pub(crate) fn reserve(&mut self, rt: &impl Abort, now: u64) -> Option<Reservation> {
-        let is_call = self.make(rt, &Call::Reserve { now });
-        let answer = self.state.reserve(now);
-        let reservation = match answer {
-            Ok(Picked::Reserved(r)) => {
-                let said = (r.job_id(), r.registration());
-                assert_eq!(rt; says_job(self.last(rt)), Some(said));
-                Some(r)
-            }
-            Ok(Picked::NoRoom(standing)) => {
-                assert_eq!(rt; says_no_room(self.last(rt)), Some(standing));
-                None
-            }
-            Err(e) => {
-                assert!(rt; e == SchedError::IdsSpent);
-                assert!(rt; matches!(self.last(rt), CoreKind::Reserve(Reserved::Spent)));
-                None
-            }
-        };
-        self.compare(rt, is_call);
-        reservation
+        let want = self.make(rt, &Call::Reserve { now });
+        let picked = self.state.reserve(now);
+        self.compare(rt, want, reserve_answer(&picked));
+        match picked {
+            Ok(Picked::Reserved(r)) => Some(r),
+            Ok(Picked::NoRoom(_)) => None,
+            Err(_) => None,
+        }
     }
 
     /// Commits a reservation of this state or of another, to ready or else to pending.
     pub(crate) fn commit(&mut self, rt: &impl Abort, now: u64, r: Reservation, is_ready: bool) {
-        let (number, job) = (r.number(), r.job_id());
-        let state = if is_ready {
-            JobState::Ready
+        if is_ready {
+            self.commit_in(rt, now, r, JobState::Ready);
         } else {
-            JobState::Pending
-        };
-        let call = Call::Commit {
-            now,
-            number,
-            job,
-            state,
-        };
-        let is_call = self.make(rt, &call);
-        let answer = if is_ready {
-            self.state.commit(now, r, JobState::Ready)
-        } else {
-            self.state.commit(now, r, JobState::Pending)
-        };
-        match answer {
-            Committed::Kept(alloc) => {
-                assert!(rt; is_call && alloc.job_id == job);
-                assert_eq!(rt; says_kept(self.last(rt)), Some(true));
-            }
-            Committed::Dropped(id) => {
-                assert!(rt; is_call && id == job);
-                assert_eq!(rt; says_kept(self.last(rt)), Some(false));
-            }
-            Committed::Foreign(id) => {
-                assert!(rt; !is_call && id == job);
-                self.note(rt, Arm::ForeignCommit);
-            }
+            self.commit_in(rt, now, r, JobState::Pending);
         }
-        self.compare(rt, is_call);
+    }
+
+    fn commit_in(&mut self, rt: &impl Abort, now: u64, r: Reservation, state: JobState)
+        requires { is_initial state ≡ true }
+    {
+        let want = self.make(
+            rt,
+            &Call::Commit {
+                now,
+                number: r.number(),
+                job: r.job_id(),
+                state,
+            },
+        );
+        let answer = self.state.commit(now, r, state);
+        self.compare(rt, want, commit_answer(&answer));
     }
 
     /// Undoes a reservation of this state or of another.
     pub(crate) fn undo(&mut self, rt: &impl Abort, now: u64, r: Reservation) {
-        let (number, job) = (r.number(), r.job_id());
-        let is_call = self.make(rt, &Call::Undo { now, number, job });
+        let want = self.make(
+            rt,
+            &Call::Undo {
+                now,
+                number: r.number(),
+                job: r.job_id(),
+            },
+        );
         let answer = self.state.undo(now, r);
-        if is_call {
-            assert_eq!(rt; says_undone(self.last(rt)), Some(answer));
-        } else {
-            assert!(rt; answer == Undone::Foreign);
-            self.note(rt, Arm::ForeignUndo);
-        }
-        self.compare(rt, is_call);
+        self.compare(rt, want, Answer::Undo(answer));
     }
 
     pub(crate) fn update(
@@ -208,22 +183,17 @@ impl Pair {
         job: JobId,
         state: JobState,
     ) {
-        let call = Call::Update {
-            now,
-            server,
-            job,
-            state,
-        };
-        let is_call = self.make(rt, &call);
-        let answer = match self.state.update(now, server, job, state) {
-            Ok(_) => UpdateAnswer::Accepted,
-            Err(SchedError::UnknownJob) => UpdateAnswer::Unknown,
-            Err(SchedError::WrongServer) => UpdateAnswer::Wrong,
-            Err(SchedError::BadTransition(from, _)) => UpdateAnswer::Transition(from),
-            Err(_) => panic!(rt; "another refusal"),
-        };
-        assert_eq!(rt; says_update(self.last(rt)), Some(answer));
-        self.compare(rt, is_call);
+        let want = self.make(
+            rt,
+            &Call::Update {
+                now,
+                server,
+                job,
+                state,
+            },
+        );
+        let answer = self.state.update(now, server, job, state);
+        self.compare(rt, want, update_answer(&answer));
     }
 
     /// Compares the registrations that stand, and the unended reservations.
@@ -233,58 +203,20 @@ impl Pair {
     }
 }
 
-fn says_new(made: &CoreKind) -> Option<bool> {
-    match made {
-        CoreKind::Beat { is_new, .. } => Some(*is_new),
-        _ => None,
+/// Whether two heartbeats have one key.
+fn same_key(a: &CoreKind, b: &CoreKind) -> bool {
+    match (a, b) {
+        (CoreKind::Beat { key, .. }, CoreKind::Beat { key: other, .. }) => key.get() == other.get(),
+        _ => true,
     }
 }
 
-fn says_numbers(made: &CoreKind) -> Option<(u64, u64, u64)> {
-    match made {
-        CoreKind::Status {
-            servers,
-            cpus,
-            jobs,
-            ..
-        } => Some((*servers, *cpus, *jobs)),
-        _ => None,
-    }
-}
-
-fn says_job(made: &CoreKind) -> Option<(JobId, u64)> {
-    match made {
-        CoreKind::Reserve(Reserved::Job { job, reg, .. }) => Some((*job, *reg)),
-        _ => None,
-    }
-}
-
-fn says_no_room(made: &CoreKind) -> Option<u64> {
-    match made {
-        CoreKind::Reserve(Reserved::NoRoom(standing)) => Some(*standing),
-        _ => None,
-    }
-}
-
-fn says_kept(made: &CoreKind) -> Option<bool> {
-    match made {
-        CoreKind::Commit { kept, .. } => Some(*kept),
-        _ => None,
-    }
-}
-
-fn says_undone(made: &CoreKind) -> Option<Undone> {
-    match made {
-        CoreKind::Undo { ended: true, .. } => Some(Undone::Unassigned),
-        CoreKind::Undo { noted: Some(_), .. } => Some(Undone::NotKnown),
-        CoreKind::Undo { .. } => Some(Undone::NoServer),
-        _ => None,
-    }
-}
-
-fn says_update(made: &CoreKind) -> Option<UpdateAnswer> {
-    match made {
-        CoreKind::Update { answer, .. } => Some(*answer),
+/// The arm of a call that makes no entry, by what it answers.
+fn refused_arm(want: Answer) -> Option<Arm> {
+    match want {
+        Answer::BadCpus(_) => Some(Arm::BadCpus),
+        Answer::Foreign(_) => Some(Arm::ForeignCommit),
+        Answer::Undo(Undone::Foreign) => Some(Arm::ForeignUndo),
         _ => None,
     }
 }

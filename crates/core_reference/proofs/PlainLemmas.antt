@@ -30,7 +30,7 @@ use Rattle.sched_core.proofs.LegalLemmas.{core_of, legal-push}
 use Rattle.sched_core.proofs.StateLemmas.{spent_among, held_among, spent_address}
 use Rattle.core_reference.specs.Plain.{row_less, unspent_row, is_held, unspent_address, entry_over}
 use Rattle.core_reference.specs.Plain.{IsPlain}
-use Rattle.core_reference.specs.declared.held.Unspent.{Unspent}
+use Rattle.core_reference.specs.declared.reservations.Unspent.{Unspent}
 use Rattle.core_reference.specs.Lists.{Lists, AreBooks, lists_next, no_lists}
 use Rattle.core_reference.proofs.ListLemmas.{absorbed}
 

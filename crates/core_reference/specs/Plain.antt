@@ -15,7 +15,7 @@ use Rattle.sched_core.specs.Rule.{status_over}
 use Rattle.sched_core.specs.Laws.{IsLegal}
 use Rattle.sched_core.specs.Booked.{UnspentRow}
 use Rattle.core_reference.specs.Lists.{Lists, AreBooks}
-use Rattle.core_reference.specs.declared.held.Unspent.{Unspent}
+use Rattle.core_reference.specs.declared.reservations.Unspent.{Unspent}
 use Rattle.core_reference.specs.declared.plain.PlainBooks.{PlainBooks}
 
 -- a row with as many reservations less as its number stands among those

@@ -5,7 +5,6 @@ ghost use Rattle.sched_core.specs.Standing.{address_of};
 ghost use Rattle.sched_core.specs.Reservation.{unended};
 ghost use Rattle.sched_core.specs.Rows.{servers_of, held_rows, open_rows};
 ghost use Rattle.sched_core.specs.Prune.{prune};
-ghost use Rattle.sched_core.specs.Reap.{reap};
 ghost use Rattle.sched_core.specs.Rule.{rule, is_among, place_at, noted_over, commit_by, undo_by, beat_over};
 ghost use Rattle.sched_core.specs.Rule.{update_over, status_over};
 
@@ -14,7 +13,7 @@ use crate::questions::{
 };
 use crate::rules::{
     answer_by, beat_over_rows, counts, is_held, noted_number, open_job, pruned_numbers,
-    reaped_jobs, reserve_over_rows, status_entry,
+    reserve_over_rows, status_entry,
 };
 use dist_types::ids::{JobId, ServerId, ServerNonce};
 use dist_types::results::JobState;
@@ -29,19 +28,6 @@ pub fn pruned(alloc: Global, log: &[CoreEntry], now: u64) -> Result<Vec<u64>, Al
 {
     let rows = servers(alloc, log)?;
     pruned_numbers(alloc, &rows, now)
-}
-
-/// The jobs that a heartbeat of the registration reaps. Refused for want of memory alone.
-pub fn reaped(
-    alloc: Global,
-    log: &[CoreEntry],
-    reg: u64,
-    now: u64,
-) -> Result<Vec<JobId>, AllocError>
-    ensures reaped { IfOk result (λ v. v.items ≡ reap now reg (held_rows log.now)) }
-{
-    let held = reservations(alloc, log)?;
-    reaped_jobs(alloc, &held, reg, now)
 }
 
 /// The entry of a reserve.

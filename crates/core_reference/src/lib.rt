@@ -3,10 +3,11 @@
 //! Nothing but tests uses it.
 #![tactic(auto)]
 
+pub mod answer;
+mod effects;
 pub mod entries;
-mod held;
-mod kind;
 pub mod plain;
 pub mod questions;
+mod reservations;
 mod rules;
 mod standing;

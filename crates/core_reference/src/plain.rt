@@ -10,8 +10,8 @@ ghost use Rattle.core_reference.specs.Lists.{lists_next};
 ghost use Rattle.sched_core.specs.declared.call.Call.TheVariants as call;
 ghost use Rattle.core_reference.specs.Plain.{lists_of, entry_over, is_held, unspent_address};
 
-use crate::held::{self, Unspent};
-use crate::kind::is_reservation;
+use crate::effects::is_reservation;
+use crate::reservations::{self, Unspent};
 use crate::{rules, standing};
 use dist_types::ids::{JobId, ServerId};
 use dist_types::results::JobState;
@@ -48,7 +48,7 @@ fn books_next(
 ) -> Result<PlainBooks, AllocError>
     ensures { IfOk result (λ b. lists_of b ≡ lists_next (lists_of books.now) step.entry.now number) }
 {
-    let job = held::job_made(&step.kind, &books.rows, number, step.now);
+    let job = reservations::job_made(&step.kind, &books.rows, number, step.now);
     let rows = standing::rows_after(
         alloc,
         &books.rows,
@@ -57,11 +57,11 @@ fn books_next(
         step,
         number,
     )?;
-    let held = held::held_next(alloc, &books.held, step, number)?;
-    let open_one = held::open_made(&step.kind, &books.jobs);
-    let open_ones = held::open_next(alloc, &books.open_ones, &step.kind, open_one)?;
-    let unspent = held::unspent_next(alloc, &books.unspent, &step.kind, &job)?;
-    let jobs = held::jobs_next(alloc, &books.jobs, &step.kind, job)?;
+    let held = reservations::held_next(alloc, &books.held, step, number)?;
+    let open_one = reservations::open_made(&step.kind, &books.jobs);
+    let open_ones = reservations::open_next(alloc, &books.open_ones, &step.kind, open_one)?;
+    let unspent = reservations::unspent_next(alloc, &books.unspent, &step.kind, &job)?;
+    let jobs = reservations::jobs_next(alloc, &books.jobs, &step.kind, job)?;
     let made = standing::one_more(is_reservation(&step.kind), books.made);
     Ok(PlainBooks {
         rows,
@@ -96,7 +96,7 @@ fn undo(books: &PlainBooks, now: u64, number: u64, job: JobId) -> CoreEntry
         (noted_over books.now.rows.items (unspent_address (lists_of books.now) number job))
         (is_held (lists_of books.now) number job) now job }
 {
-    let server = held::unspent_address(&books.unspent, number, job);
+    let server = reservations::unspent_address(&books.unspent, number, job);
     let noted = rules::noted_number(&books.rows, server);
     let ended = rules::is_held(&books.held, number, job);
     let kind = CoreKind::Undo { job, noted, ended };
@@ -264,7 +264,7 @@ impl PlainState {
     fn is_own(&self, number: u64, job: JobId) -> bool
         ensures { result ≡ is_among (unspent self.now.log) number job }
     {
-        held::is_unspent(&self.books.unspent, number, job)
+        reservations::is_unspent(&self.books.unspent, number, job)
     }
 
     /// Whether the call makes an entry. A commit and an undo do so where this state has an unspent

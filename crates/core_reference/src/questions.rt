@@ -16,7 +16,7 @@ ghost use Rattle.sched_core.specs.Rule.{place_at};
 ghost use Rattle.sched_core.specs.Cuts.{cuts, seen};
 ghost use Rattle.sched_core.specs.Reservation.{is_booked};
 
-use crate::kind::{
+use crate::effects::{
     claims, closes, complete, ends, forgives, frees, heard, is_reservation, moves, notes, renews,
 };
 use dist_types::ids::{JobId, ServerId};

@@ -2,6 +2,7 @@ pub mod Accepted
 pub mod Checks
 pub mod Dots
 pub mod Forwarded
+pub mod KeyStates
 pub mod Mac
 pub mod ProxyViews
 pub mod Token

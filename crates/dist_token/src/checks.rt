@@ -6,7 +6,8 @@ ghost use Rattle.dist_types.specs.declared.token_error.TokenError.{TokenError as
 ghost use Rattle.dist_token.specs.Checks.{equal_verdict, fixed_shown};
 ghost use Rattle.dist_token.specs.Verdict.{server_verdict, plain_server};
 
-use crate::server_token::{check_jwt_server_token, check_server_token};
+use crate::server_token::{check_server_token, check_under};
+use crate::signing_key::SigningKey;
 use dist_types::fault::Memory;
 use dist_types::ids::ServerId;
 use dist_types::token_error::TokenError;
@@ -61,7 +62,7 @@ impl ServerAuthCheck for PlainServerCheck {
 /// Accepts HS256 tokens under a key.
 #[derive(Drop)]
 pub struct JwtServerCheck {
-    key: Vec<u8>,
+    key: SigningKey,
 }
 
 impl Model for JwtServerCheck {
@@ -69,7 +70,7 @@ impl Model for JwtServerCheck {
 
     ghost Value = { List ℕ };
 
-    ghost view = { λ check. check.key.items };
+    ghost view = { λ check. check.key };
 }
 
 impl JwtServerCheck {
@@ -77,7 +78,9 @@ impl JwtServerCheck {
     pub fn new(key: Vec<u8>) -> Self
         ensures { result ≡ key.items }
     {
-        JwtServerCheck { key }
+        JwtServerCheck {
+            key: SigningKey::new(key),
+        }
     }
 }
 
@@ -85,7 +88,7 @@ impl ServerAuthCheck for JwtServerCheck {
     ghost server_of = { λ key token. result_ok (server_verdict key token) };
 
     fn check(&self, token: &str) -> Result<Option<ServerId>, Memory> {
-        check_jwt_server_token(*self.key.allocator(), token, &self.key)
+        check_under(self.key.allocator(), token, &self.key)
     }
 }
 

@@ -7,6 +7,7 @@ ghost use Rattle.dist_token.specs.Verdict.{job_claims, job_said, job_verdict};
 ghost use Rattle.dist_token.specs.Views.{parts_view};
 
 use crate::parts::{TokenParts, parts_of};
+use crate::signing_key::SigningKey;
 use crate::token::{is_written, token_under};
 use crate::verdict::{are_two, mac_test, said};
 use dist_types::fault::Memory;
@@ -20,7 +21,7 @@ use std::marker::Model;
 /// Makes and accepts the tokens of jobs under an HS256 key.
 #[derive(Drop)]
 pub struct JWTJobAuthorizer {
-    server_key: Vec<u8>,
+    server_key: SigningKey,
 }
 
 impl Model for JWTJobAuthorizer {
@@ -28,7 +29,7 @@ impl Model for JWTJobAuthorizer {
 
     ghost Value = { List ℕ };
 
-    ghost view = { λ a. a.server_key.items };
+    ghost view = { λ a. a.server_key };
 }
 
 impl JWTJobAuthorizer {
@@ -36,7 +37,9 @@ impl JWTJobAuthorizer {
     pub fn new(server_key: Vec<u8>) -> Self
         ensures { result ≡ server_key.items }
     {
-        JWTJobAuthorizer { server_key }
+        JWTJobAuthorizer {
+            server_key: SigningKey::new(server_key),
+        }
     }
 }
 
@@ -52,16 +55,16 @@ impl JobAuthorizer for JWTJobAuthorizer {
     }
 
     fn key(&self) -> &[u8] {
-        &self.server_key
+        self.server_key.bytes()
     }
 
     fn generate_token(&self, job_id: JobId) -> Result<String, Memory> {
-        job_token(*self.server_key.allocator(), &self.server_key, job_id.0)
+        job_token(self.server_key.allocator(), &self.server_key, job_id.0)
     }
 
     fn verify_token(&self, job_id: JobId, token: &str) -> Result<(), TokenError> {
         verify_job(
-            *self.server_key.allocator(),
+            self.server_key.allocator(),
             &self.server_key,
             job_id.0,
             token,
@@ -69,15 +72,20 @@ impl JobAuthorizer for JWTJobAuthorizer {
     }
 }
 
+/// How many bytes the claims of a job have, at most.
+const CLAIMS_ROOM: usize = 48;
+
 // What the token for a job claims.
 fn claims_for(alloc: Global, id: u64) -> Result<String, Memory>
     ensures { IfOk result (λ claims. string_bytes claims ≡ job_claims_text id) }
 {
-    Ok(format!(in alloc; "{{\"exp\":0,\"job_id\":{id}}}")?)
+    let mut claims = String::with_capacity(alloc, CLAIMS_ROOM)?;
+    write!(claims, "{{\"exp\":0,\"job_id\":{id}}}")?;
+    Ok(claims)
 }
 
 // The token for a job, under a key.
-fn job_token(alloc: Global, key: &[u8], id: u64) -> Result<String, Memory>
+fn job_token(alloc: Global, key: &SigningKey, id: u64) -> Result<String, Memory>
     ensures text { IfOk result (λ token. string_bytes token ≡ token_text key.now (job_claims_text id)) }
     ensures accepted { OnOk result
         (job_verdict key.now id (token_text key.now (job_claims_text id)) ≡ Ok tt) }
@@ -125,7 +133,7 @@ fn claims_test(alloc: Global, parts: &TokenParts<'_>, id: u64) -> Result<(), Tok
 }
 
 // Accepts a token for a job under a key, or says by which test it is refused.
-fn verify_job(alloc: Global, key: &[u8], id: u64, token: &str) -> Result<(), TokenError>
+fn verify_job(alloc: Global, key: &SigningKey, id: u64, token: &str) -> Result<(), TokenError>
     ensures { IsTokenAnswer (λ x. x) (job_verdict key.now id token.now) result }
 {
     let Some(parts) = parts_of(token) else {

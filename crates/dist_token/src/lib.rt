@@ -17,6 +17,7 @@ pub mod proxy;
 mod proxy_tests;
 mod rounds;
 pub mod server_token;
+pub mod signing_key;
 #[cfg(test)]
 mod tests;
 mod token;

@@ -1,23 +1,23 @@
 //! The keyed hash of RFC 2104 over SHA-256 (FIPS 180-4), and its comparison.
-ghost use Rattle.std.specs.Prelude.{◌≡◌, ◌↔◌, length};
+ghost use Rattle.std.specs.Prelude.{◌≡◌, ◌↔◌, ℕ, List, length};
 ghost use Rattle.std.specs.Str.{bytes_eq};
 ghost use Rattle.dist_token.specs.Mac.{key_block, with_pad, hmac_of};
 
 use sha2::{Digest, Sha256};
 
 /// The block of SHA-256, in bytes (RFC 2104, section 2, `B`).
-const BLOCK: usize = 64;
+pub(crate) const BLOCK: usize = 64;
 
 /// The MAC, in bytes (RFC 2104, section 2, `L`).
 pub const MAC_LEN: usize = 32;
 
 /// The pads of RFC 2104, section 2: `ipad` and `opad`.
-const INNER_PAD: u8 = 0x36;
+pub(crate) const INNER_PAD: u8 = 0x36;
 
-const OUTER_PAD: u8 = 0x5c;
+pub(crate) const OUTER_PAD: u8 = 0x5c;
 
 // The key as one block.
-fn block_of(key: &[u8]) -> [u8; BLOCK]
+pub(crate) fn block_of(key: &[u8]) -> [u8; BLOCK]
     ensures { result ≡ key_block key.now }
 {
     let mut block = [0; BLOCK];
@@ -30,7 +30,7 @@ fn block_of(key: &[u8]) -> [u8; BLOCK]
     block
 }
 
-fn padded(block: &[u8; BLOCK], pad: u8) -> [u8; BLOCK]
+pub(crate) fn padded(block: &[u8; BLOCK], pad: u8) -> [u8; BLOCK]
     ensures { result ≡ with_pad pad block.now }
 {
     let mut out = *block;
@@ -54,6 +54,30 @@ pub fn hmac_sha256(key: &[u8], text: &[u8]) -> [u8; MAC_LEN]
     outer.update(padded(&block, OUTER_PAD));
     outer.update(inner.finalize());
     outer.finalize()
+}
+
+/// A key under which MACs are made.
+pub trait MacKey {
+    /// Its bytes.
+    ghost bytes_of: { Self → List ℕ };
+
+    /// The MAC of a text, by RFC 2104 over SHA-256. It takes no memory, and is never refused.
+    fn mac(&self, text: &[u8]) -> [u8; MAC_LEN]
+        ensures { result ≡ hmac_of (bytes_of self.now) text.now };
+}
+
+/// A key that is known by its bytes alone.
+#[derive(Clone, Copy)]
+pub struct BareKey<'a> {
+    pub bytes: &'a [u8],
+}
+
+impl MacKey for BareKey<'_> {
+    ghost bytes_of = { λ key. key.bytes.now };
+
+    fn mac(&self, text: &[u8]) -> [u8; MAC_LEN] {
+        hmac_sha256(self.bytes, text)
+    }
 }
 
 /// Whether the bytes are this MAC. The length of what was given is no secret, and is compared first. Then

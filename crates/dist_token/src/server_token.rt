@@ -7,6 +7,7 @@ ghost use Rattle.dist_types.specs.Answers.{IsTokenAnswer};
 ghost use Rattle.dist_token.specs.Token.{token_text, server_claims_text, plain_text};
 ghost use Rattle.dist_token.specs.Verdict.{address_in, server_test, server_verdict, extracted, plain_server};
 
+use crate::mac::{BareKey, MacKey};
 use crate::token::token_under;
 use crate::verdict::{are_two, tested, untested};
 use dist_types::addr::{Addr, read_addr};
@@ -45,11 +46,28 @@ fn server_test(claims: &Value) -> Result<ServerId, TokenError>
 }
 
 // The server that a token is accepted for under a key.
-fn server_under(alloc: Global, key: &[u8], token: &str) -> Result<ServerId, TokenError>
-    ensures { IsTokenAnswer (λ server. server) (server_verdict key.now token.now) result }
+fn server_under<K: MacKey>(alloc: Global, key: &K, token: &str) -> Result<ServerId, TokenError>
+    ensures { IsTokenAnswer (λ server. server) (server_verdict (K.bytes_of key.now) token.now) result }
 {
     let claims = tested(alloc, key, token)?;
     server_test(&claims)
+}
+
+/// The server that a signed token is accepted for under a key, or none, whatever its expiry. `Memory`
+/// alone is refused.
+pub(crate) fn check_under<K: MacKey>(
+    alloc: Global,
+    token: &str,
+    key: &K,
+) -> Result<Option<ServerId>, Memory>
+    ensures { IfOk result
+        (λ server. server ≡ result_ok (server_verdict (K.bytes_of key.now) token.now)) }
+{
+    match server_under(alloc, key, token) {
+        Ok(server) => Ok(Some(server)),
+        Err(TokenError::Memory) => Err(Memory),
+        Err(_) => Ok(None),
+    }
 }
 
 /// The server that a signed token is accepted for under a key, or none, whatever its expiry. `Memory`
@@ -61,11 +79,7 @@ pub fn check_jwt_server_token(
 ) -> Result<Option<ServerId>, Memory>
     ensures { IfOk result (λ server. server ≡ result_ok (server_verdict key.now server_token.now)) }
 {
-    match server_under(alloc, key, server_token) {
-        Ok(server) => Ok(Some(server)),
-        Err(TokenError::Memory) => Err(Memory),
-        Err(_) => Ok(None),
-    }
+    check_under(alloc, server_token, &BareKey { bytes: key })
 }
 
 /// The server that a signed token names, whose MAC is not looked at: anybody can make such a token. Refused
@@ -93,6 +107,9 @@ pub fn check_server_token(server_token: &str, auth_token: &str) -> Option<Server
     }
 }
 
+/// How many bytes most addresses have with a space, at most.
+const ADDRESS_ROOM: usize = 24;
+
 // What the token for a server claims.
 fn server_claims(alloc: Global, server_id: ServerId) -> Result<String, Memory>
     ensures { IfOk result (λ claims. string_bytes claims ≡ server_claims_text (addr_text server_id)) }
@@ -115,7 +132,7 @@ pub fn create_jwt_server_token(
 {
     fits(server_id.addr());
     let claims = server_claims(alloc, server_id)?;
-    token_under(alloc, key, claims.as_bytes())
+    token_under(alloc, &BareKey { bytes: key }, claims.as_bytes())
 }
 
 /// The plain token for a server: its address, a space and the shared token. It is accepted for that
@@ -132,7 +149,10 @@ pub fn create_server_token(
 {
     fits(server_id.addr());
     let address = server_id.addr();
-    Ok(format!(in alloc; "{address} {auth_token}")?)
+    let room = ADDRESS_ROOM.saturating_add(auth_token.len());
+    let mut token = String::with_capacity(alloc, room)?;
+    write!(token, "{address} {auth_token}")?;
+    Ok(token)
 }
 
 // Each number of an address fits its type. It does nothing when it runs.

@@ -5,7 +5,7 @@ ghost use Rattle.dist_token.specs.Token.{encoded, header_text, token_text};
 ghost use Rattle.dist_token.specs.Verdict.{IsWritten};
 ghost use Rattle.dist_token.specs.Views.{parts_view};
 
-use crate::mac::hmac_sha256;
+use crate::mac::MacKey;
 use crate::parts::TokenParts;
 use base64::engine::general_purpose::URL_SAFE_NO_PAD;
 use dist_types::fault::Memory;
@@ -14,12 +14,18 @@ use std::alloc::Global;
 /// The header of every token that is made, in base64url.
 const HEADER: &str = "eyJ0eXAiOiJKV1QiLCJhbGciOiJIUzI1NiJ9";
 
-// The header, as every token begins.
+/// How many bytes a token has beside its claims, at most: its header, its MAC and two dots.
+const BESIDE_CLAIMS: usize = 96;
+
+// The header, as every token begins, with room for claims of so many bytes and for the MAC.
 #[tactic(auto, using(crate::proofs::Bytes::encoded_header))]
-fn begun(alloc: Global) -> Result<String, Memory>
+fn begun(alloc: Global, claims_len: usize) -> Result<String, Memory>
     ensures { IfOk result (λ token. string_bytes token ≡ encoded header_text) }
 {
-    Ok(String::from_str(alloc, HEADER)?)
+    let room = BESIDE_CLAIMS.saturating_add(claims_len.saturating_mul(2));
+    let mut token = String::with_capacity(alloc, room)?;
+    token.push_str(HEADER)?;
+    Ok(token)
 }
 
 /// Whether a part is the header of every token that is made.
@@ -40,12 +46,12 @@ fn push_part(token: &mut String, bytes: &[u8]) -> Result<(), Memory>
 }
 
 /// The token that says these claims, under a key.
-pub fn token_under(alloc: Global, key: &[u8], claims: &[u8]) -> Result<String, Memory>
-    ensures { IfOk result (λ token. string_bytes token ≡ token_text key.now claims.now) }
+pub fn token_under<K: MacKey>(alloc: Global, key: &K, claims: &[u8]) -> Result<String, Memory>
+    ensures { IfOk result (λ token. string_bytes token ≡ token_text (K.bytes_of key.now) claims.now) }
 {
-    let mut token = begun(alloc)?;
+    let mut token = begun(alloc, claims.len())?;
     push_part(&mut token, claims)?;
-    let mac = hmac_sha256(key, token.as_bytes());
+    let mac = key.mac(token.as_bytes());
     push_part(&mut token, &mac)?;
     Ok(token)
 }

@@ -10,7 +10,7 @@ ghost use Rattle.serde_json.specs.Find.{as_object};
 ghost use Rattle.dist_token.specs.Token.{signed_text};
 ghost use Rattle.dist_token.specs.Views.{parts_view};
 
-use crate::mac::{hmac_sha256, is_mac};
+use crate::mac::{MacKey, is_mac};
 use crate::parts::{TokenParts, bytes_of, parts_of, value_of};
 use crate::token::is_made_header;
 use dist_types::token_error::{Part, TokenError};
@@ -18,14 +18,14 @@ use serde_json::Value;
 use std::alloc::Global;
 
 /// Whether the third part is the MAC of the first two.
-pub fn mac_test(alloc: Global, key: &[u8], parts: &TokenParts<'_>) -> Result<(), TokenError>
+pub fn mac_test<K: MacKey>(alloc: Global, key: &K, parts: &TokenParts<'_>) -> Result<(), TokenError>
     requires { parts.now.signed.now ≡ signed_text parts.now.header.now parts.now.claims.now }
-    ensures { IsTokenAnswer (λ x. x) (mac_test key.now (parts_view parts.now)) result }
+    ensures { IsTokenAnswer (λ x. x) (mac_test (K.bytes_of key.now) (parts_view parts.now)) result }
 {
     let Some(mac) = bytes_of(alloc, parts.mac)? else {
         return Err(TokenError::BadToken(Part::Mac));
     };
-    if is_mac(mac.as_slice(), &hmac_sha256(key, parts.signed)) {
+    if is_mac(mac.as_slice(), &key.mac(parts.signed)) {
         Ok(())
     } else {
         Err(TokenError::BadMac)
@@ -79,8 +79,8 @@ pub fn said(alloc: Global, parts: &TokenParts<'_>) -> Result<Value, TokenError>
 }
 
 /// What the claims of a token say, where its parts, its MAC and its header pass.
-pub fn tested(alloc: Global, key: &[u8], token: &str) -> Result<Value, TokenError>
-    ensures { IsTokenAnswer view (tested key.now token.now) result }
+pub fn tested<K: MacKey>(alloc: Global, key: &K, token: &str) -> Result<Value, TokenError>
+    ensures { IsTokenAnswer view (tested (K.bytes_of key.now) token.now) result }
 {
     let Some(parts) = parts_of(token) else {
         return Err(TokenError::BadToken(Part::Shape));

@@ -245,9 +245,9 @@ impl<F: Folder + Drop, B: BuilderIncoming + Drop> Farm<F, B> {
         self.stations.get(place)
     }
 
-    /// One event.
+    /// Runs one event. Stopped for want of memory alone, with the entries before it.
     #[tactic(auto, using(crate::proofs::PassageLemmas::step_of))]
-    fn step(self, event: &Event) -> Result<Farm<F, B>, Stopped<F, B>>
+    pub fn step(self, event: &Event) -> Result<Farm<F, B>, Stopped<F, B>>
         ensures ok { IfOk result (StepsTo self event.now) }
         ensures err { IfErr result (λ s. s.entries ≡ self.entries) }
         ensures back { IfErr result (λ s. AreHandedBack self.outside (map F.held s.folders.items)

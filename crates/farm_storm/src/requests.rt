@@ -5,7 +5,7 @@ ghost use Rattle.http_routes.specs.RunHead.{run_body};
 ghost use Rattle.dist_types.specs.Addr.{addr_text};
 ghost use Rattle.http_routes.specs.Requests.{post_with, alloc_with, submit_with, run_with, status_with};
 ghost use Rattle.farm_storm.specs.Storm as spec;
-ghost use Rattle.farm_storm.specs.Storm.{token_of, storm_run};
+ghost use Rattle.farm_storm.specs.Storm.{server_key, token_of, storm_run};
 
 use crate::deed::NUM_ROUND_JOBS;
 use crate::setup::{CLIENT_TOKEN, SERVER_KEY, scheduler_addr, server_addr};
@@ -59,13 +59,20 @@ fn written<M: Message>(alloc: Global, message: &M) -> Result<Vec<u8>, Memory>
     }
 }
 
-/// The token of a job.
-fn token_of(alloc: Global, job: u64) -> Result<String, Memory>
-    ensures { IfOk result (λ token. string_bytes token ≡ token_of job) }
+/// What makes the tokens of jobs, under the key of every build server.
+pub fn storm_authorizer(alloc: Global) -> Result<JWTJobAuthorizer, Memory>
+    ensures { IfOk result (λ authorizer. authorizer ≡ server_key) }
 {
     let key = Vec::from_slice(alloc, SERVER_KEY)?;
-    let token = JWTJobAuthorizer::new(key).generate_token(JobId(job))?;
-    Ok(token)
+    Ok(JWTJobAuthorizer::new(key))
+}
+
+/// The token of a job.
+fn token_of(authorizer: &JWTJobAuthorizer, job: u64) -> Result<String, Memory>
+    requires { authorizer.now ≡ server_key }
+    ensures { IfOk result (λ token. string_bytes token ≡ token_of job) }
+{
+    authorizer.generate_token(JobId(job))
 }
 
 /// A request for a job to the scheduler at that address, under a client's token.
@@ -114,10 +121,15 @@ fn submit_at(
 
 /// The request that brings a job's archive to its server.
 #[tactic(auto, unfolding(crate::specs::Storm::submit_request))]
-pub fn submit_request(alloc: Global, job: u64) -> Result<Bytes, Memory>
+pub fn submit_request(
+    alloc: Global,
+    authorizer: &JWTJobAuthorizer,
+    job: u64,
+) -> Result<Bytes, Memory>
+    requires { authorizer.now ≡ server_key }
     ensures { IfOk result (λ bytes. bytes ≡ spec.submit_request job) }
 {
-    let token = token_of(alloc, job)?;
+    let token = token_of(authorizer, job)?;
     let archive = (job / NUM_ROUND_JOBS).to_be_bytes();
     let server = server_addr(job);
     let bytes = submit_at(alloc, server, token.as_str(), JobId(job), &archive)?;
@@ -178,10 +190,11 @@ fn run_at(
 
 /// The request to run a job, which goes to its server.
 #[tactic(auto, unfolding(crate::specs::Storm::run_request))]
-pub fn run_request(alloc: Global, job: u64) -> Result<Bytes, Memory>
+pub fn run_request(alloc: Global, authorizer: &JWTJobAuthorizer, job: u64) -> Result<Bytes, Memory>
+    requires { authorizer.now ≡ server_key }
     ensures { IfOk result (λ bytes. bytes ≡ spec.run_request job) }
 {
-    let token = token_of(alloc, job)?;
+    let token = token_of(authorizer, job)?;
     let inputs = job.to_be_bytes();
     let server = server_addr(job);
     let bytes = run_at(alloc, server, token.as_str(), JobId(job), &inputs)?;

@@ -3,19 +3,20 @@ ghost use Rattle.std.specs.Prelude.{◌≡◌, [], IfOk, IfErr, OnErr, string_by
 ghost use Rattle.farm_run.specs.Farm.{StepsTo};
 ghost use Rattle.farm_script.specs.declared.fault.FarmFault.TheVariants as fault;
 ghost use Rattle.farm_storm.specs.Places.{deed_at};
-ghost use Rattle.farm_storm.specs.Storm.{event_of};
+ghost use Rattle.farm_storm.specs.Storm.{event_of, server_key};
 ghost use Rattle.farm_storm.specs.Summary.{IsStormText, IsStormed};
 
 use crate::events::event_at;
+use crate::requests::storm_authorizer;
 use crate::setup::storm_setup;
 use crate::summary::summary;
+use dist_token::job_token::JWTJobAuthorizer;
 use farm_run::begin;
 use farm_run::builder::FarmBuilder;
 use farm_run::run::Farm;
 use farm_script::fault::FarmFault;
 use lru_disk_cache::mem_folder::MemFolder;
 use std::alloc::Global;
-use std::slice;
 
 /// The farm before the first event.
 #[tactic(auto, using(crate::proofs::StormLemmas::setup_apart, crate::proofs::StormLemmas::begun_run))]
@@ -30,20 +31,21 @@ fn begun(alloc: Global) -> Result<Farm<MemFolder, FarmBuilder>, FarmFault>
 }
 
 /// The farm after the event of that number.
-#[tactic(auto, using(crate::proofs::StormLemmas::one_step))]
 fn next(
     alloc: Global,
+    authorizer: &JWTJobAuthorizer,
     farm: Farm<MemFolder, FarmBuilder>,
     number: u64,
 ) -> Result<Farm<MemFolder, FarmBuilder>, FarmFault>
+    requires { authorizer.now ≡ server_key }
     ensures ok { IfOk result (StepsTo farm (event_of number (deed_at number))) }
     ensures err { IfErr result (λ e. e ≡ fault.Memory) }
 {
-    let event = match event_at(alloc, number) {
+    let event = match event_at(alloc, authorizer, number) {
         Ok(event) => event,
         Err(_) => return Err(FarmFault::Memory),
     };
-    match farm.run(slice::from_ref(&event)) {
+    match farm.step(&event) {
         Ok(farm) => Ok(farm),
         Err(_) => Err(FarmFault::Memory),
     }
@@ -55,9 +57,13 @@ fn run_storm(alloc: Global, count: u64) -> Result<Farm<MemFolder, FarmBuilder>, 
     ensures ok { IfOk result (IsStormed count) }
     ensures err { IfErr result (λ e. e ≡ fault.Memory) }
 {
+    let authorizer = match storm_authorizer(alloc) {
+        Ok(authorizer) => authorizer,
+        Err(_) => return Err(FarmFault::Memory),
+    };
     let mut farm = begun(alloc)?;
     for number in 0..count {
-        farm = next(alloc, farm, number)?;
+        farm = next(alloc, &authorizer, farm, number)?;
     }
     Ok(farm)
 }

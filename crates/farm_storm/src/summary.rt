@@ -10,8 +10,8 @@ use dist_types::builder::BuilderIncoming;
 use farm_run::entry::{Entry, Step, StepKind};
 use farm_run::run::Farm;
 use lru_disk_cache::folder::Folder;
+use sched_core::effects::is_reservation;
 use sched_core::entry::CoreEntry;
-use sched_core::kind::is_reservation;
 use std::alloc::{AllocError, Global};
 
 /// Whether the scheduler's entry reserves a job.

@@ -5,6 +5,7 @@ ghost use Rattle.http_head.specs.Head.{IsRequest, Refuses, FindsHead, IsReply, R
 ghost use Rattle.http_head.specs.Head.{HasStatus, Overflows, ReplyOverflows};
 
 use crate::error::HttpError;
+use crate::field::Field;
 use crate::fields::{allows, is_body};
 pub use crate::message::MAX_HEADERS;
 use crate::message::{Message, read};
@@ -69,14 +70,13 @@ fn parse_reply_head<'b>(head: &mut httparse::Response<'_, 'b>, bytes: &'b [u8]) 
 pub(crate) fn copy_headers(
     alloc: Global,
     headers: &[Header<'_>],
-) -> Result<Items<(Text, Bytes)>, AllocError>
+) -> Result<Items<Field>, AllocError>
     ensures { IfOk result (λ h. h ≡ map header_parts headers.now) }
 {
     let mut copies = Vec::with_capacity(alloc, headers.len())?;
     for h in headers {
-        let name = Text::of(alloc, h.name)?;
-        let value = Bytes::from_slice(alloc, h.value)?;
-        copies.push((name, value))?;
+        let copy = Field::of(alloc, h.name, h.value)?;
+        copies.push(copy)?;
     }
     Ok(Items::new(copies))
 }

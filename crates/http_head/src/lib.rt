@@ -13,6 +13,7 @@
 
 pub mod bearer;
 pub mod error;
+pub mod field;
 pub mod fields;
 pub mod head;
 pub mod laws;

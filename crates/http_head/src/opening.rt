@@ -3,10 +3,11 @@ ghost use Rattle.std.specs.Prelude.{◌≡◌, IfOk, length, map};
 ghost use Rattle.httparse.specs.Borrowed.{header_parts};
 ghost use Rattle.http_head.specs.Opening.{FindsOpening, FindsOpeningIn};
 
+use crate::field::Field;
 use crate::fields::read_body_length;
 use crate::head::{Parsed, copy_headers, parse_head};
 use crate::message::{FEW_HEADERS, MAX_HEADERS};
-use dist_types::text::{Bytes, Items, Text};
+use dist_types::text::{Items, Text};
 use httparse::{EMPTY_HEADER, Header};
 use std::alloc::{AllocError, Global};
 
@@ -18,7 +19,7 @@ pub struct Head {
     /// The target, with its query.
     pub target: Text,
     /// Each field's name and value, in the order of the head.
-    pub headers: Items<(Text, Bytes)>,
+    pub headers: Items<Field>,
     /// How many bytes the head has.
     pub len: usize,
     /// How many bytes come after it.

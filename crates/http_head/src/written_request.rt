@@ -135,6 +135,22 @@ fn body_of(request: &WrittenRequest) -> &[u8]
     }
 }
 
+/// How many bytes a head has beside its target, its host and its token, at most.
+const REST_OF_HEAD: usize = 160;
+
+/// Room for a whole request, so that it is written in one piece of memory.
+fn room_for(request: &WrittenRequest) -> usize {
+    let target = request.target.get().len();
+    let host = request.host.get().len();
+    let token = token_of(request).unwrap_or("").len();
+    let body = body_of(request).len();
+    REST_OF_HEAD
+        .saturating_add(target)
+        .saturating_add(host)
+        .saturating_add(token)
+        .saturating_add(body)
+}
+
 fn head_of(alloc: Global, request: &WrittenRequest) -> Result<String, AllocError>
     ensures { IfOk result (λ head. string_bytes head ≡ head_text request.now) }
 {
@@ -145,7 +161,9 @@ fn head_of(alloc: Global, request: &WrittenRequest) -> Result<String, AllocError
         token: token_of(request),
         len: body_of(request).len(),
     };
-    Ok(format!(in alloc; "{head}")?)
+    let mut text = String::with_capacity(alloc, room_for(request))?;
+    write!(text, "{head}")?;
+    Ok(text)
 }
 
 impl WrittenRequest {

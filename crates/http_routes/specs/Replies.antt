@@ -1,5 +1,5 @@
 -- The replies to what the scheduler and a build server answer: in JSON where that is wanted, else in binary.
-use Rattle.std.specs.Prelude.{ℕ, Bool, Option, Some, None, option_map, Result, Ok, Err}
+use Rattle.std.specs.Prelude.{ℕ, Bool, Option, Some, None}
 use Rattle.dist_types.specs.declared.addr.Addr.{Addr}
 use Rattle.dist_types.specs.declared.ids.JobId.{JobId}
 use Rattle.dist_types.specs.declared.results.AllocJobResult.{AllocJobResult}
@@ -73,11 +73,6 @@ core_fault server job error.UnknownJob = Some UnknownJob
 core_fault server job error.WrongServer = Some (WrongServer job server)
 core_fault server job (error.BadTransition from to) = Some (BadTransition from to)
 core_fault server job error.Memory = None
-
--- to a report on a job of that server, by what the scheduler answers
-abbrev pub report_response : Bool → Addr → JobId → Result UpdateJobStateResult SchedError → Option Response
-report_response json server job (Ok answer) = Some (update_response json answer)
-report_response json server job (Err e) = option_map fault_response_of (core_fault server job e)
 
 -- ---- of a server
 

@@ -3,7 +3,7 @@
 ghost use Rattle.std.specs.Prelude.{◌≡◌, IfOk, Some};
 ghost use Rattle.http_routes.specs.Fault.{fault_response_of};
 ghost use Rattle.http_routes.specs.Replies.{heard_response, status_response, alloc_response, update_response};
-ghost use Rattle.http_routes.specs.Replies.{commit_response, core_fault, report_response, assign_response};
+ghost use Rattle.http_routes.specs.Replies.{commit_response, core_fault, assign_response};
 ghost use Rattle.http_routes.specs.Replies.{submit_response, run_response};
 ghost use Rattle.sched_core.specs.Texts.{no_room_text, dropped_text};
 
@@ -171,25 +171,6 @@ pub fn core_fault(server: ServerId, job: JobId, error: SchedError) -> Option<Rou
         SchedError::WrongServer => Some(RouteFault::WrongServer(job, server)),
         SchedError::BadTransition(from, to) => Some(RouteFault::BadTransition(from, to)),
         SchedError::Memory => None,
-    }
-}
-
-/// The reply to a report of that server on that job, by what the scheduler answers; none to want of memory.
-pub fn to_report(
-    alloc: Global,
-    json: bool,
-    server: ServerId,
-    job: JobId,
-    answer: Result<UpdateJobStateResult, SchedError>,
-) -> Result<Response, AllocError>
-    ensures { IfOk result (λ r. report_response json server job answer ≡ Some r) }
-{
-    match answer {
-        Ok(answer) => to_update(alloc, json, &answer),
-        Err(error) => match core_fault(server, job, error) {
-            Some(fault) => to_fault(alloc, &fault),
-            None => Err(AllocError),
-        },
     }
 }
 

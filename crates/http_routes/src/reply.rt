@@ -74,6 +74,9 @@ impl fmt::Display for Opening<'_> {
     }
 }
 
+/// How many bytes the head of most replies has, at most.
+const MOST_OF_HEAD: usize = 128;
+
 impl Response {
     /// The bytes of the body.
     fn body(&self) -> &[u8]
@@ -99,7 +102,10 @@ impl Response {
         let body = self.body();
         let opening = Opening(self);
         let len = body.len();
-        let head = format!(in alloc;
+        let room = MOST_OF_HEAD.saturating_add(len);
+        let mut head = String::with_capacity(alloc, room)?;
+        write!(
+            head,
             "{opening}Content-Length: {len}\r\nConnection: close\r\n\r\n"
         )?;
         let mut bytes = head.into_bytes();

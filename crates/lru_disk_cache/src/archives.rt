@@ -1,6 +1,7 @@
 //! The archives of a cache, one after the other.
 ghost use Rattle.std.specs.Prelude.{◌≡◌, length, drop};
 ghost use Rattle.std.specs.Iterator.{YieldsFirst, item_count};
+ghost use Rattle.std.specs.Str.{bytes_eq};
 ghost use Rattle.lru_disk_cache.specs.Keyed.{id_in, unkeyed, IsArchiveKey, AllArchiveKeys};
 
 use dist_types::text::Text;
@@ -47,6 +48,14 @@ impl<'a> Iterator for Archives<'a> {
         let (key, size) = self.entries.next()?;
         Some((toolchain_of(key), *size))
     }
+}
+
+/// Whether the key of an archive names that id.
+pub(crate) fn is_key_of(key: &Text, id: &[u8]) -> bool
+    requires { IsArchiveKey key.now }
+    ensures { result ≡ bytes_eq id.now (id_in key.now) }
+{
+    id == &key.get().as_bytes()[4..]
 }
 
 // The toolchain that the key of an archive names.

@@ -15,7 +15,7 @@ ghost use Rattle.lru_disk_cache.specs.Archiving.{archive_verdict, with_archive, 
 ghost use Rattle.lru_disk_cache.specs.Archiving.{DropFails, Relists};
 ghost use Rattle.lru_disk_cache.specs.Moving.{Wrote, StoreWithFails};
 
-use crate::archives::Archives;
+use crate::archives::{Archives, is_key_of};
 use crate::cache::{LruDiskCache, place_of};
 use crate::cleaning::{are_archive_keys, clean};
 use crate::digest::{is_archive, key_of, toolchain_of};
@@ -104,8 +104,9 @@ impl<F: Folder> TcCache<F> {
             (F.held self.now.folder) }
     {
         self.shown();
-        for (id, _size) in self.archives() {
-            if tc.archive_id() == id.archive_id() {
+        let id = tc.archive_id().as_bytes();
+        for (key, _size) in self.cache.entries() {
+            if is_key_of(key, id) {
                 return true;
             }
         }

@@ -3,7 +3,7 @@ use Rattle.std.proofs.Common.{◌≡◌, ℕ, zero, suc, ◌+◌, ◌*◌, ◌<�
 use Rattle.std.proofs.Common.{cond, not, ◌&&◌, map, filter, length, Option, Some, None, refl, ap, ◌∙◌, sym}
 use Rattle.std.proofs.Common.{subst, arith, get_or, set, append_assoc, length-append, replicate, ◌^◌, ◌-◌}
 use Rattle.std.proofs.Common.{take}
-use Rattle.std.specs.Prelude.{◌==◌, find, if◌then◌else◌, MatchOption, IfSome, option_to_list}
+use Rattle.std.specs.Prelude.{◌==◌, find, MatchOption, IfSome, option_to_list}
 use Rattle.std.specs.List.{AllByRecursion}
 use Rattle.std.proofs.lemmas.List.{map-set, set-get_or, length-map, map-append, take_more}
 use Rattle.winner_tree.specs.declared.keys.LoadKey.{LoadKey}
@@ -160,19 +160,7 @@ early_within key before bound places =
     early_below before bound 0 (length places) (map (key_in key) places)
     (let same = length-map places (key_in key) in omega (arith, same))
 
--- where no row has the number, none is changed or taken out
-pub none_changed : {T : Type 0} (number : T → ℕ) (n : ℕ) (new : T) (rows : List T)
-    → find (λ r. number r == n) rows ≡ None → map (λ r. if number r == n then new else r) rows ≡ rows
-none_changed number n new [] none = refl
-none_changed {T} number n new (row ∷ rows) none =
-    split (number row == n) none (none_changed number n new rows)
-  where
-    split : (b : Bool) → cond b (Some row) (find (λ r. number r == n) rows) ≡ None
-        → (find (λ r. number r == n) rows ≡ None → map (λ r. if number r == n then new else r) rows ≡ rows)
-        → cond b new row ∷ map (λ r. if number r == n then new else r) rows ≡ row ∷ rows
-    split true gone rest = absurd cc
-    split false gone rest = ap (λ l. row ∷ l) (rest gone)
-
+-- where no row has the number, none is taken out
 pub none_taken : {T : Type 0} (number : T → ℕ) (n : ℕ) (rows : List T)
     → find (λ r. number r == n) rows ≡ None → filter (λ r. not (number r == n)) rows ≡ rows
 none_taken number n [] none = refl

@@ -20,6 +20,7 @@ fn stays<K: Key>(old: &Option<K>, new: &Option<K>) -> bool
 }
 
 /// Gives a place another key, unless it stays.
+#[inline(always)]
 pub(crate) fn enter<K: Key, L: Ledger>(
     tree: &mut WinnerTree<K>,
     place: usize,

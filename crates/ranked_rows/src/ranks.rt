@@ -2,12 +2,12 @@
 ghost use Rattle.std.specs.Prelude.{◌≡◌, ◌≤◌, ◌<◌, ◌+◌, ◌*◌, ◌^◌, ◌==◌, ℕ, [], ◌∷◌, ◌++◌, true, None, Some};
 ghost use Rattle.std.specs.Prelude.{IfOk, MatchOption, length, map, filter, find, not, if◌then◌else◌};
 ghost use Rattle.std.specs.Prelude.{nat_lt};
-ghost use Rattle.std.specs.Prelude.{slice_index_or, replicate, IfSome, option_to_list};
+ghost use Rattle.std.specs.Prelude.{slice_index_or, replicate, IfSome, IsSome, option_to_list};
 ghost use Rattle.winner_tree.specs.Keys.{load_before, moment_before};
 ghost use Rattle.winner_tree.specs.Winner.{early_slots};
 ghost use Rattle.std.specs.List.{AllByRecursion};
 ghost use Rattle.numbered_slots.specs.Slots.{rows_in, top, IsPlaceOf};
-ghost use Rattle.ranked_rows.specs.Ranks.{HaveNoKey, IsFirstBy, early_numbers, key_in, number_in};
+ghost use Rattle.ranked_rows.specs.Ranks.{HaveNoKey, IsFirstBy, early_numbers, number_in};
 ghost use Rattle.ranked_rows.specs.Ranks.{number_at, touched};
 
 use crate::entry::enter;
@@ -38,36 +38,6 @@ impl<T: Ranked> Model for Ranks<T> {
 
     ghost invariant = { λ r. AreRanked T.load_of T.error_of T.sign_of r.slots.places r.loads r.errors
         r.signs };
-}
-
-/// The key by load in a place.
-fn load_in<T: Ranked>(row: &Option<T>) -> Option<LoadKey>
-    ensures { result ≡ key_in T.load_of row.now }
-{
-    match row {
-        Some(row) => row.load_key(),
-        None => None,
-    }
-}
-
-/// The key by error in a place.
-fn error_in<T: Ranked>(row: &Option<T>) -> Option<MomentKey>
-    ensures { result ≡ key_in T.error_of row.now }
-{
-    match row {
-        Some(row) => row.error_key(),
-        None => None,
-    }
-}
-
-/// The key by last sign in a place.
-fn sign_in<T: Ranked>(row: &Option<T>) -> Option<MomentKey>
-    ensures { result ≡ key_in T.sign_of row.now }
-{
-    match row {
-        Some(row) => row.sign_key(),
-        None => None,
-    }
 }
 
 /// The number of the row in a place, or 0.
@@ -240,43 +210,60 @@ impl<T: Ranked> Ranks<T> {
     }
 
     /// Puts a row in the place of one with the same number.
-    fn put_at<L: Ledger>(&mut self, place: usize, row: T, steps: &mut Steps<L>)
-        requires { IsPlaceOf T.number_of self.old.places (T.number_of row) place }
+    #[inline(always)]
+    pub fn put_at<L: Ledger>(&mut self, place: usize, old: &T, row: T, steps: &mut Steps<L>)
+        requires place { IsPlaceOf T.number_of self.old.places (T.number_of row) place }
+        requires old { slice_index_or self.old.places place None ≡ Some old.now }
         ensures rows { rows_in self.new.places ≡
             map (λ r. if T.number_of r == T.number_of row then row else r) (rows_in self.old.places) }
         ensures numbers { self.new.numbers ≡ self.old.numbers }
         ensures len { length self.new.places ≡ length self.old.places }
         ensures looks { (h : ℕ) → length self.old.places ≤ 2 ^ h → steps.new ≤ steps.old +
-            touched T.load_of T.error_of T.sign_of (slice_index_or self.old.places place None) (Some row) *
-            (2 * h + 1) }
+            touched T.load_of T.error_of T.sign_of (Some old.now) (Some row) * (2 * h + 1) }
     {
-        let old = self.slots.row(place);
-        enter(&mut self.loads, place, load_in(&old), row.load_key(), steps);
+        enter(
+            &mut self.loads,
+            place,
+            old.load_key(),
+            row.load_key(),
+            steps,
+        );
         enter(
             &mut self.errors,
             place,
-            error_in(&old),
+            old.error_key(),
             row.error_key(),
             steps,
         );
-        enter(&mut self.signs, place, sign_in(&old), row.sign_key(), steps);
+        enter(
+            &mut self.signs,
+            place,
+            old.sign_key(),
+            row.sign_key(),
+            steps,
+        );
         self.slots.put(place, row);
     }
 
-    /// Gives the row of a number another one of the same number. Nothing changes where there is none.
-    pub fn put<L: Ledger>(&mut self, row: T, steps: &mut Steps<L>)
-        ensures rows { rows_in self.new.places ≡
-            map (λ r. if T.number_of r == T.number_of row then row else r) (rows_in self.old.places) }
-        ensures numbers { self.new.numbers ≡ self.old.numbers }
-        ensures len { length self.new.places ≡ length self.old.places }
-        ensures looks { (h : ℕ) → length self.old.places ≤ 2 ^ h → steps.new ≤ steps.old +
-            touched T.load_of T.error_of T.sign_of
-            (find (λ r. T.number_of r == T.number_of row) (rows_in self.old.places)) (Some row) *
-            (2 * h + 1) }
+    /// The place of the row of that number, if there is one.
+    pub fn place_of(&self, number: u64) -> Option<usize>
+        ensures { MatchOption result
+            (find (λ r. T.number_of r == number) (rows_in self.now.places) ≡ None)
+            (IsPlaceOf T.number_of self.now.places number) }
     {
-        match self.slots.place_of(row.number()) {
-            Some(place) => self.put_at(place, row, steps),
-            None => (),
+        self.slots.place_of(number)
+    }
+
+    /// The row in a place that has one.
+    #[inline(always)]
+    pub fn at(&self, place: usize) -> T
+        requires within { place < length self.now.places }
+        requires full { IsSome (slice_index_or self.now.places place None) }
+        ensures { slice_index_or self.now.places place None ≡ Some result }
+    {
+        match self.slots.row(place) {
+            Some(row) => row,
+            None => unreachable!(),
         }
     }
 

@@ -1,10 +1,11 @@
 -- The books after one more legal entry are those of the longer log, and there is room for what spends the
 -- reservations.
-use Rattle.std.proofs.Common.{◌≡◌, ℕ, ◌+◌, ◌^◌, ◌<◌, ◌≤◌, List, [], ◌∷◌, ◌++◌, Bool, true, false, cond, not}
+use Rattle.std.proofs.Common.{◌≡◌, ℕ, ◌+◌, ◌^◌, ◌<◌, ◌≤◌, eqb-true, List, [], ◌∷◌, ◌++◌, Bool, true}
+use Rattle.std.proofs.Common.{false, cond, not}
 use Rattle.std.proofs.Common.{◌||◌, map, filter, length, Option, Some, None, refl, ap, ◌∙◌, sym, subst, arith}
 use Rattle.std.proofs.Common.{append-nil, length-append}
 use Rattle.std.proofs.Common.{◌-◌, ◌%◌, min, sum_by}
-use Rattle.std.specs.Prelude.{◌==◌, option_to_list, if◌then◌else◌, IfSome, IsSome}
+use Rattle.std.specs.Prelude.{◌==◌, option_to_list, if◌then◌else◌, IfSome}
 use Rattle.std.specs.List.{AllByRecursion, list_any, find}
 use Rattle.std.specs.Option.{option_map}
 use Rattle.std.proofs.lemmas.Bool.{false≢true}
@@ -20,22 +21,29 @@ use Rattle.sched_core.specs.declared.rows.JobRow.{JobRow}
 use Rattle.sched_core.specs.declared.rows.ServerRow.{ServerRow}
 use Rattle.sched_core.specs.declared.rows.OpenRow.{OpenRow}
 use Rattle.sched_core.specs.Log.{Core, same_job}
-use Rattle.sched_core.specs.Standing.{is_heard, address_of}
+use Rattle.sched_core.specs.Standing.{Registered, standing, is_heard, address_of}
 use Rattle.sched_core.specs.Reservation.{bookings, unspent}
 use Rattle.sched_core.specs.Rows.{servers_of, held_rows, open_rows, sorted_into}
 use Rattle.sched_core.specs.Books.{held_part, held_by_id}
-use Rattle.sched_core.specs.Prune.{prune, left}
-use Rattle.sched_core.specs.Rule.{place_at, is_left, counts_over}
-use Rattle.sched_core.specs.Laws.{IsRule, IsLegal, AreDistinct}
-use Rattle.sched_core.specs.Books.{Lists, AreBooks, IsBookedAt, key_stays, key_by, unspent_stays, unspent_by}
-use Rattle.sched_core.specs.Books.{job_over, job_by, lists_next, unspent_next, SpendsOne, MayReserve}
+use Rattle.sched_core.specs.Prune.{prune, left, at_address}
+use Rattle.sched_core.specs.Reap.{is_reaped, reap}
+use Rattle.sched_core.specs.Own.{IsMadeBy, HasJobRoom, AreReapedApart}
+use Rattle.sched_core.specs.declared.call.Call.{Call}
+use Rattle.sched_core.specs.declared.call.Call.TheVariants as call
+use Rattle.sched_core.specs.declared.rows.HeldRow.{HeldRow}
+use Rattle.sched_core.specs.Rule.{rule, place_at, is_left, counts_over, reaped_by}
+use Rattle.sched_core.specs.Laws.{IsRule, IsLegal, AreDistinct, AreRising}
+use Rattle.sched_core.specs.Books.{Keys, Lists, no_lists, keys_of, AreBooks, IsBookedAt, keys_next, unspent_stays, unspent_by}
+use Rattle.sched_core.specs.Books.{job_over, job_by, lists_next, unspent_next, SpendsOne}
 use Rattle.sched_core.specs.Books.{place_if, served_by}
 use Rattle.sched_core.specs.Books.{held_stays, held_after, held_by, booked_after, booked_by}
 use Rattle.sched_core.specs.Books.{place_of_unspent, place_of_booking}
-use Rattle.sched_core.specs.Booked.{UnspentRow, AreReordered, booked_new, job_part_of, held_view, job_view}
+use Rattle.sched_core.specs.Booked.{UnspentRow, AreReordered, booked_new, job_part_of, held_part_of}
+use Rattle.sched_core.specs.Booked.{held_view, job_view}
 use Rattle.sched_core.specs.Booked.{unspent_part_of, jobs_by_id, unspent_view, open_view}
-use Rattle.sched_core.proofs.AllLemmas.{all-map, all-filter}
-use Rattle.sched_core.proofs.StandingLemmas.{keys-absorb}
+use Rattle.sched_core.proofs.AllLemmas.{all-map, all-filter, distinct-filter}
+use Rattle.sched_core.proofs.Lists.{map-map}
+use Rattle.sched_core.proofs.KeyLemmas.{keys-push}
 use Rattle.sched_core.proofs.StepLemmas as step
 use Rattle.sched_core.proofs.LegalLemmas.{core_of, legal-push}
 use Rattle.sched_core.proofs.FactLemmas.{Facts, facts, pick_there}
@@ -93,7 +101,7 @@ spent_by start bs log (Update server job state answer) apart held free is = tt
 spent_by start bs log (Status pruned servers cpus n) apart held free is = tt
 
 -- an open job is found in the books as in the log
-pub open_found : (books : Lists) (keys : List (ℕ × List ℕ)) (log : List CoreEntry) (job : JobId)
+pub open_found : (books : Lists) (keys : Keys) (log : List CoreEntry) (job : JobId)
     → AreBooks books keys log
     → find (λ o. same_job o.job job) (open_view books.booked) ≡ find (λ o. same_job o.job job) (open_rows log)
 open_found books keys log job is =
@@ -101,7 +109,7 @@ open_found books keys log job is =
     (distinct_opened books.booked is.apart) is.open_ones
 
 -- a status counts the same over both
-pub counts_are : (books : Lists) (keys : List (ℕ × List ℕ)) (log : List CoreEntry) (now : ℕ)
+pub counts_are : (books : Lists) (keys : Keys) (log : List CoreEntry) (now : ℕ)
     → AreBooks books keys log
     → counts_over books.rows (open_view books.booked) now ≡ counts_over (servers_of log) (open_rows log) now
 counts_are books keys log now is =
@@ -120,7 +128,7 @@ pub made_are : (bs : List BookedRow) (log : List CoreEntry)
 made_are bs log is = sym (length-map bs (λ b. b.job)) ∙ ap length is ∙ length-map (bookings log) (λ b. b.job)
 
 -- the job of a new reservation has the id after that of the last
-pub next_follows : (start : Start) (first : ℕ) (books : Lists) (keys : List (ℕ × List ℕ))
+pub next_follows : (start : Start) (first : ℕ) (books : Lists) (keys : Keys)
     (log : List CoreEntry)
     (e : CoreEntry) (number : ℕ) → AreBooks books keys log → IsRule (core_of start log) e
     → first ≡ (start.base + start.count) % 2 ^ 64
@@ -191,11 +199,25 @@ by_id_addressed log bs all =
     sorted-all (λ j. address_of log j.reg ≡ Some j.server) (λ j. j.job.0) [] (job_view bs) tt
     (jobs_addressed log bs all)
 
+-- those of an empty log
+pub no_books : AreBooks no_lists (keys_of []) []
+no_books = record {
+  rows = refl;
+  keys = refl;
+  jobs = refl;
+  made = refl;
+  apart = tt;
+  held = refl;
+  unspent = refl;
+  open_ones = refl;
+  placed = tt;
+}
+
 -- the lists after an entry are the longer log's
-pub absorbed : (start : Start) (old : Lists) (old_keys new_keys : List (ℕ × List ℕ)) (log : List CoreEntry)
+pub absorbed : (start : Start) (old : Lists) (old_keys new_keys : Keys) (log : List CoreEntry)
     (e : CoreEntry) → start.count < 2 ^ 64 → AreBooks old old_keys log → IsLegal start log
     → IsRule (core_of start log) e →
-    new_keys ≡ filter (key_stays e) old_keys ++ option_to_list (key_by e.kind (length log))
+    new_keys ≡ keys_next e (length log) old_keys
     → AreBooks (lists_next old e (length log)) new_keys (log ++ e ∷ [])
 absorbed start old old_keys new_keys log e fits books legal rule_is keys =
     let is : Facts (core_of start log) e.kind = facts (core_of start log) e rule_is in
@@ -219,7 +241,10 @@ absorbed start old old_keys new_keys log e fits books legal rule_is keys =
       rows = rw (books.rows, served, books.held)
           (rows-absorb start log e fit.sound fit.room is
           (legal_errors start log fits legal (length log) (omega arith)) small);
-      keys = keys ∙ keys-absorb old_keys log e books.keys;
+      keys = keys ∙ ap (keys_next e (length log)) books.keys ∙ keys-push log e
+          (subst AreRising (map-map (λ (p : ℕ × ℕ). p.0) (λ (g : Registered). (g.reg, g.cpus))
+          (standing (log ++ e ∷ [])))
+          (legal_fits start (log ++ e ∷ []) fits (legal-push start [] log e legal rule_is)).room.rising);
       jobs = rw books.rows same_jobs;
       made = rw books.rows (made_are (map (booked_after e.kind) bs
           ++ option_to_list (booked_by e.kind (servers_of log) (length log) e.now)) (log ++ e ∷ [])
@@ -245,17 +270,77 @@ absorbed start old old_keys new_keys log e fits books legal rule_is keys =
 
 -- room
 
--- where a reservation is made, the entry is a reserve's
-pub made_reserves : (k : CoreKind) (rows : List ServerRow) (number now : ℕ)
-    → IsSome (booked_by k rows number now)
-    → MayReserve k
-made_reserves (Reserve r) rows number now some = tt
-made_reserves (Beat server nonce cpus key pruned reaped replaced is_new) rows number now some =
-    absurd (false≢true some)
-made_reserves (Commit job state kept) rows number now some = absurd (false≢true some)
-made_reserves (Undo job noted was_ended) rows number now some = absurd (false≢true some)
-made_reserves (Update server job state answer) rows number now some = absurd (false≢true some)
-made_reserves (Status pruned servers cpus n) rows number now some = absurd (false≢true some)
+-- only a reserve makes a reservation
+pub made_by : (k : CoreKind) (rows : List ServerRow) (number now : ℕ)
+    → IsMadeBy k (booked_by k rows number now)
+made_by (Reserve r) rows number now = tt
+made_by (Beat server nonce cpus key pruned reaped replaced is_new) rows number now = refl
+made_by (Commit job state kept) rows number now = refl
+made_by (Undo job noted was_ended) rows number now = refl
+made_by (Update server job state answer) rows number now = refl
+made_by (Status pruned servers cpus n) rows number now = refl
+
+found_reg : (rows : List ServerRow) (reg : ℕ) (row : ServerRow) → find (λ r. r.reg == reg) rows ≡ Some row
+    → row.reg ≡ reg
+found_reg [] reg row e = (let no : None ≡ Some row = e in absurd cc)
+found_reg (r ∷ rows) reg row e = split (r.reg == reg) refl e (found_reg rows reg row)
+  where
+    split : (t : Bool) → (r.reg == reg) ≡ t → cond t (Some r) (find (λ r. r.reg == reg) rows) ≡ Some row
+        → (find (λ r. r.reg == reg) rows ≡ Some row → row.reg ≡ reg) → row.reg ≡ reg
+    split true own is rest = (let some : Some r ≡ Some row = is in let same : r
+        ≡ row = cc in ap (λ x. x.reg) (sym same) ∙ eqb-true r.reg reg own)
+    split false own is rest = rest is
+
+-- it is made at the registration that has room for it
+pub room_made : (k : CoreKind) (rows : List ServerRow) (number now : ℕ) (room : Option ℕ) → HasJobRoom k room
+    → IfSome (booked_by k rows number now) (λ b. room ≡ Some b.reg)
+room_made (Reserve (Job job reg forgiven)) rows number now room has = split (find (λ r. r.reg == reg)
+    rows) refl
+  where
+    split : (o : Option ServerRow) → find (λ r. r.reg == reg) rows ≡ o
+        → IfSome (option_map booked_new (job_over o number job now)) (λ b. room ≡ Some b.reg)
+    split None e = tt
+    split (Some row) e = has ∙ ap Some (sym (found_reg rows reg row e))
+room_made (Reserve (NoRoom n)) rows number now room has = tt
+room_made (Reserve Spent) rows number now room has = tt
+room_made (Beat server nonce cpus key pruned reaped replaced is_new) rows number now room has = tt
+room_made (Commit job state kept) rows number now room has = tt
+room_made (Undo job noted was_ended) rows number now room has = tt
+room_made (Update server job state answer) rows number now room has = tt
+room_made (Status pruned servers cpus n) rows number now room has = tt
+
+-- the jobs that an entry reaps differ
+pub reaped_apart : (s : Core) (e : CoreEntry) (bs : List BookedRow) → AreDistinct (map (λ b. b.job) bs)
+    → held_view bs ≡ held_rows s.log → IsRule s e → AreReapedApart e.kind
+reaped_apart s e bs apart held rule_is =
+    let own : AreDistinct (map (λ (h : HeldRow). h.job) (held_rows s.log)) =
+    subst (λ hs. AreDistinct (map (λ (h : HeldRow). h.job) hs)) held
+    (subst AreDistinct (sym (map-map (λ (h : HeldRow). h.job) held_part_of (filter (λ b. b.unended) bs)))
+    (distinct-filter (λ (b : BookedRow). b.job) (λ b. b.unended) bs apart)) in
+    split rule_is.0 rule_is.2 own
+  where
+    inner : (now nonce : ℕ) (row : ServerRow) (t : Bool)
+        → AreDistinct (map (λ (h : HeldRow). h.job) (held_rows s.log))
+        → AreDistinct (if t then reap now row.reg (held_rows s.log) else [])
+    inner now nonce row true own =
+        distinct-filter (λ (h : HeldRow). h.job) (is_reaped now row.reg) (held_rows s.log) own
+    inner now nonce row false own = tt
+
+    there : (now nonce : ℕ) (o : Option ServerRow)
+        → AreDistinct (map (λ (h : HeldRow). h.job) (held_rows s.log))
+        → AreDistinct (reaped_by now nonce (held_rows s.log) o)
+    there now nonce None own = tt
+    there now nonce (Some row) own = inner now nonce row (row.nonce == nonce) own
+
+    split : (c : Call) → e ≡ rule s c → AreDistinct (map (λ (h : HeldRow). h.job) (held_rows s.log))
+        → AreReapedApart e.kind
+    split (call.Reserve now) is own = subst (λ x. AreReapedApart x.kind) (sym is) tt
+    split (call.Commit now number job state) is own = subst (λ x. AreReapedApart x.kind) (sym is) tt
+    split (call.Undo now number job) is own = subst (λ x. AreReapedApart x.kind) (sym is) tt
+    split (call.Beat now server nonce cpus key) is own = subst (λ x. AreReapedApart x.kind) (sym is)
+        (there now nonce (at_address server (left now (servers_of s.log))) own)
+    split (call.Update now server job state) is own = subst (λ x. AreReapedApart x.kind) (sym is) tt
+    split (call.Status now) is own = subst (λ x. AreReapedApart x.kind) (sym is) tt
 
 pub at_most_one : {X : Type 0} (o : Option X) → length (option_to_list o) ≤ 1
 at_most_one None = omega arith

@@ -1,5 +1,5 @@
--- The reservations as they are kept: what is asked of the row of a job, what an entry does to one row or to
--- those that may be unended, and what is counted.
+-- The reservations as they are kept: what is asked of the row of a job, what an entry does to one row, and
+-- what is counted.
 use Rattle.std.proofs.Common.{◌≡◌, ℕ, zero, suc, ◌+◌, ◌-◌, ◌^◌, ◌<◌, ◌≤◌, List, [], ◌∷◌, ◌++◌, Bool, true}
 use Rattle.std.proofs.Common.{false, cond}
 use Rattle.std.proofs.Common.{not, ◌&&◌, ◌||◌, map, filter, length, get_or, set, take, drop, Option, Some}
@@ -28,12 +28,10 @@ use Rattle.sched_core.specs.declared.rows.OpenRow.{OpenRow}
 use Rattle.sched_core.specs.Log.{same_job}
 use Rattle.sched_core.specs.Reservation.{spends_by, frees_by, claims_by, is_accepted, is_started, is_complete}
 use Rattle.sched_core.specs.Job.{moves_by}
-use Rattle.sched_core.specs.Reap.{is_reaped, reap}
-use Rattle.sched_core.specs.Rule.{is_left}
-use Rattle.sched_core.specs.Books.{begins_by, booked_after, LeavesOthers, LeavesEnded, FreesNoOther}
+use Rattle.sched_core.specs.Books.{begins_by, booked_after, LeavesOthers, FreesNoOther}
 use Rattle.sched_core.specs.Booked.{UnspentRow, held_part_of, unspent_part_of, open_part_of, held_view}
 use Rattle.sched_core.specs.Booked.{job_view, job_part_of}
-use Rattle.sched_core.specs.Booked.{unspent_view, open_view, AreEnded, AreCounted, IsFirstHeld, is_unspent_in}
+use Rattle.sched_core.specs.Booked.{unspent_view, open_view, AreCounted, IsFirstHeld, is_unspent_in}
 use Rattle.sched_core.specs.Booked.{is_held_in, address_in, open_in}
 use Rattle.sched_core.proofs.Lists.{map-map, filter-map, filter-filter, list_any-map}
 use Rattle.sched_core.proofs.AllLemmas.{is_false, true_false, same_job-sym, all-append}
@@ -122,22 +120,6 @@ update_frees server job state answer b other =
     ap (λ t. (is_complete state && is_accepted answer && t) || false) (turned job b.job other)
     ∙ ap (λ t. t || false) (and_no (is_complete state && is_accepted answer))
 
-ended_still : (u f : Bool) → u ≡ false → (u && f) ≡ u
-ended_still false f is = refl
-ended_still true f is = absurd (false≢true (sym is))
-
-pub beat_leaves : (server : Addr) (nonce cpus : ℕ) (key pruned : List ℕ) (reaped : List JobId)
-    (replaced : Option ℕ) (is_new : Bool)
-    → LeavesEnded (Beat server nonce cpus key pruned reaped replaced is_new)
-beat_leaves server nonce cpus key pruned reaped replaced is_new b ended =
-    same_row (Beat server nonce cpus key pruned reaped replaced is_new) b refl refl refl refl
-    (ended_still b.unended
-    (not (frees_by (Beat server nonce cpus key pruned reaped replaced is_new) b.job b.reg)) ended)
-
-pub status_leaves : (pruned : List ℕ) (servers cpus n : ℕ) → LeavesEnded (Status pruned servers cpus n)
-status_leaves pruned servers cpus n b ended = same_row (Status pruned servers cpus n) b refl refl refl refl
-    (ended_still b.unended (not (frees_by (Status pruned servers cpus n) b.job b.reg)) ended)
-
 pub reserve_leaves : (r : Reserved) (bs : List BookedRow) → bs ≡ map (booked_after (Reserve r)) bs
 reserve_leaves r [] = refl
 reserve_leaves r (b ∷ bs) =
@@ -146,15 +128,17 @@ reserve_leaves r (b ∷ bs) =
 
 -- an entry of one job
 
-all_leave : (k : CoreKind) (job : JobId) (bs : List BookedRow) → LeavesOthers k job
-    → HasNone (λ b. b.job.0) bs job.0 → bs ≡ map (booked_after k) bs
-all_leave k job [] leaves none = refl
-all_leave k job (b ∷ bs) leaves none = ap (λ c. c ∷ bs) (sym (leaves b none.0))
-    ∙ ap (λ l. booked_after k b ∷ l) (all_leave k job bs leaves none.1)
+all_leave : (f : BookedRow → BookedRow) (job : JobId) (bs : List BookedRow)
+    → ((b : BookedRow) → (b.job.0 == job.0) ≡ false → f b ≡ b) → HasNone (λ b. b.job.0) bs job.0
+    → bs ≡ map f bs
+all_leave f job [] leaves none = refl
+all_leave f job (b ∷ bs) leaves none = ap (λ c. c ∷ bs) (sym (leaves b none.0))
+    ∙ ap (λ l. f b ∷ l) (all_leave f job bs leaves none.1)
 
-pub none_settled : (k : CoreKind) (job : JobId) (bs : List BookedRow) → LeavesOthers k job
-    → HasNone (λ b. b.job.0) bs job.0 → bs ≡ map (booked_after k) bs
-none_settled k job bs leaves none = all_leave k job bs leaves none
+pub none_settled : (f : BookedRow → BookedRow) (job : JobId) (bs : List BookedRow)
+    → ((b : BookedRow) → (b.job.0 == job.0) ≡ false → f b ≡ b) → HasNone (λ b. b.job.0) bs job.0
+    → bs ≡ map f bs
+none_settled f job bs leaves none = all_leave f job bs leaves none
 
 set_at : {X : Type 0} (front rest : List X) (x y : X) (n : ℕ) → length front ≡ n
     → set (front ++ x ∷ rest) n y ≡ front ++ y ∷ rest
@@ -176,74 +160,23 @@ place_within bs wanted place is =
     let at = is.at in
     omega (arith, whole, at)
 
-pub one_settled : (k : CoreKind) (job : JobId) (bs new : List BookedRow) (place : ℕ) → LeavesOthers k job
-    → IsPlaceOf (λ b. b.job.0) bs job.0 place
-    → ((d : BookedRow) → new ≡ set bs place (booked_after k (get_or bs place d)))
-    → new ≡ map (booked_after k) bs
-one_settled k job bs new place leaves is does =
+pub one_settled : (f g : BookedRow → BookedRow) (job : JobId) (bs new : List BookedRow) (place : ℕ)
+    → ((b : BookedRow) → (b.job.0 == job.0) ≡ false → f b ≡ b)
+    → ((b : BookedRow) → b.job.0 ≡ job.0 → g b ≡ f b) → IsPlaceOf (λ b. b.job.0) bs job.0 place
+    → ((d : BookedRow) → new ≡ set bs place (g (get_or bs place d))) → new ≡ map f bs
+one_settled f g job bs new place leaves own is does =
     let front : List BookedRow = is.whole.front in
     let rest : List BookedRow = is.whole.rest in
     let row : BookedRow = is.row in
     does row
-    ∙ ap (λ l. set l place (booked_after k (get_or l place row))) is.whole.are
-    ∙ ap (λ b. set (front ++ row ∷ rest) place (booked_after k b)) (read_at front rest row row place is.at)
-    ∙ set_at front rest row (booked_after k row) place is.at
-    ∙ ap (λ l. l ++ booked_after k row ∷ rest) (all_leave k job front leaves is.whole.before)
-    ∙ ap (λ l. map (booked_after k) front ++ booked_after k row ∷ l)
-    (all_leave k job rest leaves is.whole.behind)
-    ∙ sym (map-append (booked_after k) front (row ∷ rest))
-    ∙ ap (map (booked_after k)) (sym is.whole.are)
-
--- an entry that goes over those that may be unended
-
-ended_leave : (k : CoreKind) (bs : List BookedRow) → LeavesEnded k → AreEnded bs
-    → map (booked_after k) bs ≡ bs
-ended_leave k [] leaves ended = refl
-ended_leave k (b ∷ bs) leaves ended = ap (λ c. c ∷ map (booked_after k) bs) (leaves b ended.0)
-    ∙ ap (λ l. b ∷ l) (ended_leave k bs leaves ended.1)
-
-pub sweep-begin : (k : CoreKind) (bs : List BookedRow) (i : ℕ) → LeavesEnded k → AreEnded (take i bs)
-    → bs ≡ map (booked_after k) (take i bs) ++ drop i bs
-sweep-begin k bs i leaves ended = sym (take-append-drop i bs)
-    ∙ ap (λ l. l ++ drop i bs) (sym (ended_leave k (take i bs) leaves ended))
-
-pub sweep-length : (k : CoreKind) (bs now : List BookedRow) (i : ℕ)
-    → now ≡ map (booked_after k) (take i bs) ++ drop i bs → length now ≡ length bs
-sweep-length k bs now i is =
-    let whole = ap length is ∙ length-append (map (booked_after k) (take i bs)) (drop i bs) in
-    let front = length-map (take i bs) (booked_after k) in
-    let both : length bs ≡ length (take i bs) + length (drop i bs) = ap length (sym (take-append-drop i bs))
-    ∙ length-append (take i bs) (drop i bs) in
-    omega (arith, whole, front, both)
-
-one_of : (bs : List BookedRow) (i : ℕ) → i < length bs → BookedRow
-one_of [] i lt = absurd (omega (arith, lt))
-one_of (b ∷ bs) i lt = b
-
-swept : (k : CoreKind) (bs now new : List BookedRow) (i : ℕ) (d : BookedRow) → i < length bs
-    → now ≡ map (booked_after k) (take i bs) ++ drop i bs
-    → ((d : BookedRow) → new ≡ set now i (booked_after k (get_or now i d)))
-    → new ≡ map (booked_after k) (take (i + 1) bs) ++ drop (i + 1) bs
-swept k bs now new i d lt so_far does =
-    let front : List BookedRow = map (booked_after k) (take i bs) in
-    let rest : List BookedRow = drop (i + 1) bs in
-    let row : BookedRow = get_or bs i d in
-    let cut : now ≡ front ++ row ∷ rest = so_far ∙ ap (λ l. front ++ l) (drop_more bs i d lt) in
-    let at : length front ≡ i = (let mapped = length-map (take i bs) (booked_after k) in let taken =
-    length-take i bs in omega (arith, mapped, taken, lt)) in
-    does d
-    ∙ ap (λ l. set l i (booked_after k (get_or l i d))) cut
-    ∙ ap (λ b. set (front ++ row ∷ rest) i (booked_after k b)) (read_at front rest row d i at)
-    ∙ set_at front rest row (booked_after k row) i at
-    ∙ sym (append_assoc front (booked_after k row ∷ []) rest)
-    ∙ ap (λ l. l ++ rest) (sym (map-append (booked_after k) (take i bs) (row ∷ []))
-    ∙ ap (map (booked_after k)) (sym (take_more bs i d lt)))
-
-pub sweep-more : (k : CoreKind) (bs now new : List BookedRow) (i : ℕ) → i < length bs
-    → now ≡ map (booked_after k) (take i bs) ++ drop i bs
-    → ((d : BookedRow) → new ≡ set now i (booked_after k (get_or now i d)))
-    → new ≡ map (booked_after k) (take (i + 1) bs) ++ drop (i + 1) bs
-sweep-more k bs now new i lt so_far does = swept k bs now new i (one_of bs i lt) lt so_far does
+    ∙ ap (λ l. set l place (g (get_or l place row))) is.whole.are
+    ∙ ap (λ b. set (front ++ row ∷ rest) place (g b)) (read_at front rest row row place is.at)
+    ∙ set_at front rest row (g row) place is.at
+    ∙ ap (λ b. front ++ b ∷ rest) (own row is.whole.own)
+    ∙ ap (λ l. l ++ f row ∷ rest) (all_leave f job front leaves is.whole.before)
+    ∙ ap (λ l. map f front ++ f row ∷ l) (all_leave f job rest leaves is.whole.behind)
+    ∙ sym (map-append f front (row ∷ rest))
+    ∙ ap (map f) (sym is.whole.are)
 
 take_past : {X : Type 0} (xs : List X) (i : ℕ) → length xs ≤ i → take i xs ≡ xs
 take_past [] zero le = refl
@@ -257,77 +190,9 @@ drop_past [] (suc i) le = refl
 drop_past (x ∷ xs) zero le = absurd (omega (arith, le))
 drop_past (x ∷ xs) (suc i) le = drop_past xs i (omega (arith, le))
 
-pub sweep-end : (k : CoreKind) (bs now : List BookedRow) (i : ℕ) → length bs ≤ i
-    → now ≡ map (booked_after k) (take i bs) ++ drop i bs → now ≡ map (booked_after k) bs
-sweep-end k bs now i le is = is ∙ ap (λ l. map (booked_after k) l ++ drop i bs) (take_past bs i le)
-    ∙ ap (λ l. map (booked_after k) bs ++ l) (drop_past bs i le) ∙ append-nil (map (booked_after k) bs)
-
--- the ended ones at the front
-
-ended_none : (n : ℕ) → AreEnded (take n [])
-ended_none zero = tt
-ended_none (suc n) = tt
-
-ended_both : (bs : List BookedRow) (i j n : ℕ) → n ≡ i + j → AreEnded (take i bs)
-    → AreEnded (take j (drop i bs))
-    → AreEnded (take n bs)
-ended_both [] i j n is front behind = ended_none n
-ended_both (b ∷ bs) zero j n is front behind =
-    subst (λ m. AreEnded (take m (b ∷ bs))) (let same : j ≡ n = omega (arith, is) in same) behind
-ended_both (b ∷ bs) (suc i) j zero is front behind = absurd (omega (arith, is))
-ended_both (b ∷ bs) (suc i) j (suc n) is front behind =
-    (front.0, ended_both bs i j n (omega (arith, is)) front.1 behind)
-
-pub ended_more : (bs : List BookedRow) (i j : ℕ) → AreEnded (take i bs) → AreEnded (take j (drop i bs))
-    → AreEnded (take (i + j) bs)
-ended_more bs i j front behind = ended_both bs i j (i + j) refl front behind
-
-ended_held : (bs : List BookedRow) → AreEnded bs → held_view bs ≡ []
-ended_held [] ended = refl
-ended_held (b ∷ bs) ended = ap (λ t. map held_part_of (cond t (b ∷ filter (λ b. b.unended) bs)
-    (filter (λ b. b.unended) bs))) ended.0 ∙ ended_held bs ended.1
-
-ended_open : (bs : List BookedRow) → AreEnded bs → open_view bs ≡ []
-ended_open [] ended = refl
-ended_open (b ∷ bs) ended = ap (λ t. cons_option (cond (t && not b.unspent) (option_map (λ s. record {
-  job = b.job;
-  reg = Some b.reg;
-  server = Some b.server;
-  state = s;
-}) b.state) None) (open_view bs)) ended.0 ∙ ended_open bs ended.1
-
-held_append : (bs cs : List BookedRow) → held_view (bs ++ cs) ≡ held_view bs ++ held_view cs
-held_append bs cs = ap (map held_part_of) (filter-append (λ b. b.unended) bs cs)
-    ∙ map-append held_part_of (filter (λ b. b.unended) bs) (filter (λ b. b.unended) cs)
-
-pub live_held : (bs : List BookedRow) (i : ℕ) → AreEnded (take i bs) → held_view (drop i bs) ≡ held_view bs
-live_held bs i ended = ap (λ l. l ++ held_view (drop i bs)) (sym (ended_held (take i bs) ended))
-    ∙ sym (held_append (take i bs) (drop i bs)) ∙ ap held_view (take-append-drop i bs)
-
-pub live_open : (bs : List BookedRow) (i : ℕ) → AreEnded (take i bs) → open_view (drop i bs) ≡ open_view bs
-live_open bs i ended = ap (λ l. l ++ open_view (drop i bs)) (sym (ended_open (take i bs) ended))
-    ∙ sym (filter_map-append open_part_of (take i bs) (drop i bs)) ∙ ap open_view (take-append-drop i bs)
-
 -- the rest of a list, as a slice of it
 pub rest_is : {X : Type 0} (xs : List X) (n : ℕ) → take (length xs - n) (drop n xs) ≡ drop n xs
 rest_is xs n = let behind = length-drop n xs in take_past (drop n xs) (length xs - n) (omega (arith, behind))
-
-pub counted_ended : (bs : List BookedRow) (open_ones unspent n more : ℕ) → AreCounted bs open_ones unspent n
-    → more ≤ length (take (length bs - n) (drop n bs))
-    → AreEnded (take more (take (length bs - n) (drop n bs)))
-    → AreCounted bs open_ones unspent (n + more)
-counted_ended bs open_ones unspent n more is le ended =
-    let few = ap length (rest_is bs n) in
-    let behind = length-drop n bs in
-    let within = is.within in
-    record {
-      few = is.few;
-      open_are = is.open_are;
-      unspent_are = is.unspent_are;
-      within = omega (arith, le, few, behind, within);
-      ended_are = ended_more bs n more is.ended_are
-          (subst (λ l. AreEnded (take more l)) (rest_is bs n) ended);
-    }
 
 -- what is asked of the reservation of a job
 
@@ -552,54 +417,44 @@ sum_few f one (b ∷ bs) =
     let more = sum_by-cons f b bs in let here = one b in let rest = sum_few f one bs in
     omega (arith, more, here, rest)
 
-pub few_open : (bs : List BookedRow) (open_ones unspent ended : ℕ) → AreCounted bs open_ones unspent ended
+pub few_open : (bs : List BookedRow) (open_ones unspent : ℕ) → AreCounted bs open_ones unspent
     → open_ones < 2 ^ 63
-few_open bs open_ones unspent ended is =
+few_open bs open_ones unspent is =
     let few = is.few in let are = is.open_are in let sum = open_sum bs in
     let less = sum_few open_size (λ b. size_few (is_some (open_part_of b))) bs in
     omega (arith, few, are, sum, less)
 
-pub few_unspent_rows : (bs : List BookedRow) (open_ones unspent ended : ℕ)
-    → AreCounted bs open_ones unspent ended
+pub few_unspent_rows : (bs : List BookedRow) (open_ones unspent : ℕ)
+    → AreCounted bs open_ones unspent
     → unspent < 2 ^ 63
-few_unspent_rows bs open_ones unspent ended is =
+few_unspent_rows bs open_ones unspent is =
     let few = is.few in let are = is.unspent_are in let sum = unspent_sum bs in
     let less = sum_few unspent_size (λ b. size_few b.unspent) bs in omega (arith, few, are, sum, less)
 
-pub some_open : (bs : List BookedRow) (open_ones unspent ended i : ℕ) (b : BookedRow)
-    → AreCounted bs open_ones unspent ended → i < length bs → b ≡ get_or bs i b
+pub some_open : (bs : List BookedRow) (open_ones unspent i : ℕ) (b : BookedRow)
+    → AreCounted bs open_ones unspent → i < length bs → b ≡ get_or bs i b
     → is_some (open_part_of b) ≡ true → 0 < open_ones
-some_open bs open_ones unspent ended i b is lt at so =
+some_open bs open_ones unspent i b is lt at so =
     let are = is.open_are in let sum = open_sum bs in let less = sum_by_more_le open_size bs i b lt in
     let here : open_size (get_or bs i b) ≡ 1 = ap open_size (sym at)
     ∙ ap size so in omega (arith, are, sum, less, here)
 
-pub some_unspent : (bs : List BookedRow) (open_ones unspent ended i : ℕ) (b : BookedRow)
-    → AreCounted bs open_ones unspent ended → i < length bs → b ≡ get_or bs i b → b.unspent ≡ true
+pub some_unspent : (bs : List BookedRow) (open_ones unspent i : ℕ) (b : BookedRow)
+    → AreCounted bs open_ones unspent → i < length bs → b ≡ get_or bs i b → b.unspent ≡ true
     → 0 < unspent
-some_unspent bs open_ones unspent ended i b is lt at so =
+some_unspent bs open_ones unspent i b is lt at so =
     let are = is.unspent_are in let sum = unspent_sum bs in
     let less = sum_by_more_le unspent_size bs i b lt in
     let here : unspent_size (get_or bs i b) ≡ 1 = ap unspent_size (sym at) ∙ ap size so in
     omega (arith, are, sum, less, here)
 
-ended_set : (bs : List BookedRow) (n i : ℕ) (new : BookedRow) → AreEnded (take n bs)
-    → ((get_or bs i new).unended ≡ false → new.unended ≡ false) → AreEnded (take n (set bs i new))
-ended_set [] n i new ended stays = ended
-ended_set (b ∷ bs) zero i new ended stays = tt
-ended_set (b ∷ bs) (suc n) zero new ended stays = (stays ended.0, ended.1)
-ended_set (b ∷ bs) (suc n) (suc i) new ended stays = (ended.0, ended_set bs n i new ended.1 stays)
-
 -- what was counted is counted anew
-pub counted_change : (k : CoreKind) (bs : List BookedRow) (open_ones unspent ended i : ℕ)
-    (old new : BookedRow)
-    (opens_now unspent_now : ℕ) → AreCounted bs open_ones unspent ended → i < length bs
-    → old ≡ get_or bs i old
-    → new ≡ booked_after k old
+pub counted_change : (bs : List BookedRow) (open_ones unspent i : ℕ) (old new : BookedRow)
+    (opens_now unspent_now : ℕ) → AreCounted bs open_ones unspent → i < length bs → old ≡ get_or bs i old
     → opens_now + cond (is_some (open_part_of old)) 1 0 ≡ open_ones + cond (is_some (open_part_of new)) 1 0
     → unspent_now + cond old.unspent 1 0 ≡ unspent + cond new.unspent 1 0
-    → AreCounted (set bs i new) opens_now unspent_now ended
-counted_change k bs open_ones unspent ended i old new opens_now unspent_now is lt at made opened spent =
+    → AreCounted (set bs i new) opens_now unspent_now
+counted_change bs open_ones unspent i old new opens_now unspent_now is lt at opened spent =
     let len = length-set bs i new in
     let few = is.few in
     let open_are = is.open_are in
@@ -612,7 +467,6 @@ counted_change k bs open_ones unspent ended i old new opens_now unspent_now is l
     let unspent_later = unspent_sum (set bs i new) in
     let unspent_set = sum_by-set unspent_size bs i new old lt in
     let unspent_old : unspent_size (get_or bs i old) ≡ unspent_size old = ap unspent_size (sym at) in
-    let within = is.within in
     record {
       few = omega (arith, few, len);
       open_are = omega (arith, opened, open_are, open_before, open_later, open_set, open_old);
@@ -625,33 +479,14 @@ counted_change k bs open_ones unspent ended i old new opens_now unspent_now is l
         unspent_set,
         unspent_old,
       );
-      within = omega (arith, within, len);
-      ended_are = ended_set bs ended i new is.ended_are (λ none. still
-          (ap (λ b. b.unended) (at ∙ get_or_default bs i old new lt) ∙ none));
     }
-  where
-    still : old.unended ≡ false → new.unended ≡ false
-    still none = ap (λ b. b.unended) made ∙ ap (λ t. t && not (frees_by k old.job old.reg)) none
 
-take_none : (bs : List BookedRow) → take zero bs ≡ []
-take_none [] = refl
-take_none (b ∷ bs) = refl
-
-take_front : (xs : List BookedRow) (n : ℕ) (ys : List BookedRow) → n ≤ length xs
-    → take n (xs ++ ys) ≡ take n xs
-take_front [] zero ys le = take_none ys
-take_front [] (suc n) ys le = absurd (omega (arith, le))
-take_front (x ∷ xs) zero ys le = refl
-take_front (x ∷ xs) (suc n) ys le = ap (λ l. x ∷ l) (take_front xs n ys (omega (arith, le)))
-
-pub counted_push : (bs : List BookedRow) (open_ones unspent ended : ℕ) (new : BookedRow)
-    (opens_now unspent_now : ℕ)
-    → AreCounted bs open_ones unspent ended → length (bs ++ new ∷ []) < 2 ^ 63
+pub counted_push : (bs : List BookedRow) (open_ones unspent : ℕ) (new : BookedRow) (opens_now unspent_now : ℕ)
+    → AreCounted bs open_ones unspent → length (bs ++ new ∷ []) < 2 ^ 63
     → opens_now + 0 ≡ open_ones + cond (is_some (open_part_of new)) 1 0
     → unspent_now + 0 ≡ unspent + cond new.unspent 1 0
-    → AreCounted (bs ++ new ∷ []) opens_now unspent_now ended
-counted_push bs open_ones unspent ended new opens_now unspent_now is few opened spent =
-    let len = length-append bs (new ∷ []) in
+    → AreCounted (bs ++ new ∷ []) opens_now unspent_now
+counted_push bs open_ones unspent new opens_now unspent_now is few opened spent =
     let open_are = is.open_are in
     let open_before = open_sum bs in
     let open_later = open_sum (bs ++ new ∷ []) in
@@ -660,50 +495,13 @@ counted_push bs open_ones unspent ended new opens_now unspent_now is few opened 
     let unspent_before = unspent_sum bs in
     let unspent_later = unspent_sum (bs ++ new ∷ []) in
     let unspent_more = sum_by_push unspent_size bs new in
-    let within = is.within in
     record {
       few = few;
       open_are = omega (arith, opened, open_are, open_before, open_later, open_more);
       unspent_are = omega (arith, spent, unspent_are, unspent_before, unspent_later, unspent_more);
-      within = omega (arith, within, len);
-      ended_are = subst AreEnded (sym (take_front bs ended (new ∷ []) is.within)) is.ended_are;
     }
 
--- where nothing is pruned, every open job is left
-
-none_pruned : (reg : Option ℕ) → is_left [] reg ≡ true
-none_pruned None = refl
-none_pruned (Some reg) = refl
-
-each_left : (os : List OpenRow) → filter (λ o. is_left [] o.reg) os ≡ os
-each_left [] = refl
-each_left (o ∷ os) = ap
-    (λ t. cond t (o ∷ filter (λ o. is_left [] o.reg) os) (filter (λ o. is_left [] o.reg) os))
-    (none_pruned o.reg) ∙ ap (λ l. o ∷ l) (each_left os)
-
-pub all_left : (pruned : List ℕ) (os : List OpenRow) → pruned ≡ []
-    → length os ≡ length (filter (λ o. is_left pruned o.reg) os)
-all_left pruned os none = ap length (sym (ap (λ ps. filter (λ o. is_left ps o.reg) os) none ∙ each_left os))
-
--- what a heartbeat reaps
-
-pub reap_view : (now reg : ℕ) (bs : List BookedRow)
-    → map (λ b. b.job) (filter (λ b. b.unended && is_reaped now reg (held_part_of b)) bs)
-    ≡ reap now reg (held_view bs)
-reap_view now reg bs =
-    let t : BookedRow → Bool = λ b. is_reaped now reg (held_part_of b) in
-    let up : List BookedRow = filter (λ b. b.unended) bs in
-    ap (map (λ (b : BookedRow). b.job)) (filter-filter t (λ b. b.unended) bs)
-    ∙ sym (map-map (λ (h : HeldRow). h.job) held_part_of (filter t up))
-    ∙ ap (map (λ (h : HeldRow). h.job)) (sym (filter-map (is_reaped now reg) held_part_of up))
-
--- the first rows, while they are ended
-
-pub ended_next : (bs : List BookedRow) (i : ℕ) (b : BookedRow) → i < length bs → b ≡ get_or bs i b
-    → b.unended ≡ false → AreEnded (take i bs) → AreEnded (take (i + 1) bs)
-ended_next bs i b lt is none so_far = subst AreEnded (sym (take_more bs i b lt))
-    (all-append (λ c. c.unended ≡ false) (take i bs) (get_or bs i b ∷ []) so_far
-    (ap (λ c. c.unended) (sym is) ∙ none, tt))
+-- the first unended row
 
 pub held_later : (bs : List BookedRow) (i : ℕ) (b : BookedRow) → i < length bs → b ≡ get_or bs i b
     → b.unended ≡ false → job_view bs ≡ job_view (drop i bs) → job_view bs ≡ job_view (drop (i + 1) bs)
@@ -727,7 +525,3 @@ held_here bs i b lt is up so_far = record {
 pub held_nowhere : (bs : List BookedRow) (i : ℕ) → length bs ≤ i → job_view bs ≡ job_view (drop i bs)
     → job_view bs ≡ []
 held_nowhere bs i le so_far = so_far ∙ ap job_view (drop_past bs i le)
-
-pub none_of_length : (ns : List ℕ) → (length ns == 0) ≡ true → ns ≡ []
-none_of_length [] e = refl
-none_of_length (n ∷ ns) e = let none = eqb-true (length (n ∷ ns)) 0 e in absurd (omega (arith, none))

@@ -130,7 +130,7 @@ different_apart f x [] all = (tt, tt)
 different_apart f x (y ∷ ys) all = let rest = different_apart f x ys all.1 in
     (((λ e. absurd (all.0 e)), rest.0), ((λ e. absurd (all.0 (sym e))), rest.1))
 
-different_only : {X Y : Type 0} (f : X → Y) (xs : List X) → AreDifferent (map f xs)
+pub different_only : {X Y : Type 0} (f : X → Y) (xs : List X) → AreDifferent (map f xs)
     → AllByRecursion (λ x. AllByRecursion (λ y. f y ≡ f x → y ≡ x) xs) xs
 different_only f [] apart = tt
 different_only f (x ∷ xs) apart = let own = different_apart f x xs apart.0 in (

@@ -12,8 +12,10 @@ pub mod FreeLemmas
 pub mod GrowLemmas
 pub mod HeldLemmas
 pub mod InLog
+pub mod IndexLemmas
 pub mod JobLemmas
 pub mod KeptLemmas
+pub mod KeyLemmas
 pub mod LawfulLemmas
 pub mod LegalLemmas
 pub mod Lists
@@ -22,6 +24,7 @@ pub mod MostLemmas
 pub mod OnceLemmas
 pub mod OpenLemmas
 pub mod OwnLemmas
+pub mod OwnRowLemmas
 pub mod PickLemmas
 pub mod PlaceLemmas
 pub mod RankedLemmas
@@ -29,9 +32,12 @@ pub mod RegistrationLemmas
 pub mod RisingLemmas
 pub mod RoomLemmas
 pub mod RowLemmas
+pub mod SameLemmas
+pub mod ServerLemmas
 pub mod SortLemmas
 pub mod SoundLemmas
 pub mod SpendLemmas
 pub mod StandingLemmas
 pub mod StateLemmas
 pub mod StepLemmas
+pub mod UpdateLemmas

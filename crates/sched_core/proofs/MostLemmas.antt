@@ -8,7 +8,7 @@ use Rattle.sched_core.specs.Cuts.{Cut, cuts}
 use Rattle.sched_core.specs.Standing.{standing}
 use Rattle.sched_core.specs.Rows.{row_of}
 use Rattle.sched_core.specs.Booked.{unspent_view}
-use Rattle.sched_core.specs.Books.{Kept, IsState}
+use Rattle.sched_core.specs.Books.{Kept, Keys, IsState}
 use Rattle.sched_core.specs.Most.{fronts, greatest, most_standing}
 use Rattle.sched_core.proofs.Lists.{map-map, followed, end_cut, cuts_behind-push}
 
@@ -44,7 +44,7 @@ most_grows log e = subst (λ fs. most_standing log ≤ greatest
     (greatest_left (map (λ front. length (standing front)) (fronts log)) (counted (log ++ e ∷ []) ∷ [])))
 
 -- room changes nothing of what the state is
-pub still_state : (start : Start) (old new : Kept) (keys new_keys : List (ℕ × List ℕ))
+pub still_state : (start : Start) (old new : Kept) (keys new_keys : Keys)
     (log new_log : List CoreEntry)
     (len capacity new_len new_capacity : ℕ) → IsState start old keys log len capacity
     → new.lists ≡ old.lists
@@ -74,7 +74,7 @@ still_state start old new keys new_keys log new_log len capacity new_len new_cap
     })
 
 -- and so does room in the log alone
-pub roomy_log : (start : Start) (kept : Kept) (keys : List (ℕ × List ℕ)) (log new_log : List CoreEntry)
+pub roomy_log : (start : Start) (kept : Kept) (keys : Keys) (log new_log : List CoreEntry)
     (len capacity new_len new_capacity : ℕ) → IsState start kept keys log len capacity → new_log ≡ log
     → (len + length (unspent_view kept.lists.booked) ≤ capacity
     → new_len + length (unspent_view kept.lists.booked) ≤ new_capacity)

@@ -1,29 +1,27 @@
 -- What a change of one registration does, and what it costs.
-use Rattle.std.proofs.Common.{◌≡◌, ◌<◌, ◌≤◌, ℕ, ◌+◌, ◌*◌, ◌-◌, ◌^◌, List, [], ◌∷◌, ◌++◌, Bool, true, false}
+use Rattle.std.proofs.Common.{◌≡◌, ◌<◌, ◌≤◌, ℕ, ◌+◌, ◌*◌, ◌-◌, List, [], ◌∷◌, Bool, true, false}
 use Rattle.std.proofs.Common.{cond, not, ◌&&◌}
 use Rattle.std.proofs.Common.{map, filter, length, Option, Some, None, refl, ap, ◌∙◌, sym, subst, arith}
 use Rattle.std.proofs.Common.{get_or, drop}
-use Rattle.std.proofs.Common.{eqb-true, eq-eqb, min, zero, suc}
-use Rattle.std.specs.Prelude.{◌==◌, find, if◌then◌else◌, IfSome, option_to_list, sum_by, MatchOption}
-use Rattle.std.specs.Prelude.{is_some}
+use Rattle.std.proofs.Common.{eqb-true, eq-eqb, zero, suc}
+use Rattle.std.specs.Prelude.{◌==◌, find, if◌then◌else◌, IfSome, MatchOption}
+use Rattle.std.specs.Prelude.{is_some, IsSome}
 use Rattle.std.specs.List.{AllByRecursion}
 use Rattle.std.proofs.Math.Seq.{drop-cons}
 use Rattle.std.proofs.lemmas.Nat.{mul-le}
 use Rattle.std.proofs.lemmas.List.{length-map}
-use Rattle.std.proofs.lemmas.List.Sums.{sum_by-append}
-use Rattle.std.proofs.lemmas.List.Elements.{filter-append}
 use Rattle.dist_types.specs.declared.addr.Addr.{Addr}
 use Rattle.dist_types.specs.Addr.{same_addr}
 use Rattle.winner_tree.specs.declared.keys.LoadKey.{LoadKey}
 use Rattle.winner_tree.specs.declared.keys.MomentKey.{MomentKey}
 use Rattle.winner_tree.specs.Keys.{load_before, moment_before}
 use Rattle.winner_tree.specs.KeyLaws.{load_one_way, moment_one_way}
-use Rattle.numbered_slots.specs.Slots.{rows_in}
+use Rattle.numbered_slots.specs.Slots.{rows_in, IsPlaceOf}
 use Rattle.ranked_rows.specs.Ranks.{key_stays, touches, touched}
 use Rattle.ranked_rows.proofs.RankLemmas.{in_range}
 use Rattle.sched_core.specs.declared.rows.ServerRow.{ServerRow}
 use Rattle.sched_core.specs.declared.change.Change.{Change}
-use Rattle.sched_core.specs.declared.change.Change.TheVariants.{Lower, Raise, Forgive, Note, See}
+use Rattle.sched_core.specs.declared.change.Change.TheVariants.{Lower, Raise, Forgive, Note, See, LowerAndSee}
 use Rattle.sched_core.specs.declared.entry.CoreKind.{CoreKind}
 use Rattle.sched_core.specs.declared.entry.CoreKind.TheVariants.{Beat, Reserve, Commit, Undo, Update, Status}
 use Rattle.sched_core.specs.Prune.{at_address, left, is_expired, prune}
@@ -33,8 +31,8 @@ use Rattle.sched_core.proofs.GrowLemmas.{map-agree}
 use Rattle.sched_core.specs.Changes.{row_changed, row_changed_at}
 use Rattle.sched_core.specs.Registrations.{AreSoundRows, load_if_room, load_key_by, load_key_of}
 use Rattle.sched_core.specs.Registrations.{error_key_by}
-use Rattle.sched_core.specs.Registrations.{error_key_of, sign_key_of, trees_of, AreFew, heard_part, cpus_by}
-use Rattle.sched_core.specs.Registrations.{is_row_at, IsFirstFull}
+use Rattle.sched_core.specs.Registrations.{error_key_of, sign_key_of, trees_of, AreFew, heard_part}
+use Rattle.sched_core.specs.Registrations.{IsFirstFull}
 use Rattle.sched_core.proofs.AllLemmas.{is_false, true_false}
 use Rattle.sched_core.proofs.AddressLemmas.{same_is}
 use Rattle.sched_core.proofs.RowLemmas.{at_there}
@@ -42,28 +40,31 @@ use Rattle.sched_core.proofs.ChangeLemmas.{change_is, filter_each, sound_map}
 
 -- the number, the address and the processors stay
 
-reg_kept : (change : Change) (r : ServerRow) → (row_changed change r).reg ≡ r.reg
+pub reg_kept : (change : Change) (r : ServerRow) → (row_changed change r).reg ≡ r.reg
 reg_kept Lower r = refl
 reg_kept Raise r = refl
 reg_kept Forgive r = refl
 reg_kept (Note moment) r = refl
 reg_kept (See moment) r = refl
+reg_kept (LowerAndSee moment) r = refl
 
-server_kept : (change : Change) (r : ServerRow) → (row_changed change r).server ≡ r.server
+pub server_kept : (change : Change) (r : ServerRow) → (row_changed change r).server ≡ r.server
 server_kept Lower r = refl
 server_kept Raise r = refl
 server_kept Forgive r = refl
 server_kept (Note moment) r = refl
 server_kept (See moment) r = refl
+server_kept (LowerAndSee moment) r = refl
 
-cpus_kept : (change : Change) (r : ServerRow) → (row_changed change r).cpus ≡ r.cpus
+pub cpus_kept : (change : Change) (r : ServerRow) → (row_changed change r).cpus ≡ r.cpus
 cpus_kept Lower r = refl
 cpus_kept Raise r = refl
 cpus_kept Forgive r = refl
 cpus_kept (Note moment) r = refl
 cpus_kept (See moment) r = refl
+cpus_kept (LowerAndSee moment) r = refl
 
-at_kept : {X : Type 0} (f : ServerRow → X) (change : Change)
+pub at_kept : {X : Type 0} (f : ServerRow → X) (change : Change)
     → ((r : ServerRow) → f (row_changed change r) ≡ f r)
     → (n : ℕ) (r : ServerRow) → f (row_changed_at change n r) ≡ f r
 at_kept f change keeps n r = elim (n == r.reg) as (λ b. f (cond b (row_changed change r) r) ≡ f r)
@@ -95,7 +96,7 @@ changed_rows change n row rows found only =
     ≡ map (row_changed_at change n) rows)
     (sym (reg_kept change row ∙ own_number n rows row found)) (change_is n change row rows only)
 
-turned : (m n : ℕ) → (m == n) ≡ (n == m)
+pub turned : (m n : ℕ) → (m == n) ≡ (n == m)
 turned m n = split (m == n) (n == m) refl refl
   where
     split : (a b : Bool) → (m == n) ≡ a → (n == m) ≡ b → a ≡ b
@@ -153,6 +154,12 @@ only_second a b c x y z = omega (arith, x, y, z)
 only_third : (a b c : ℕ) → a ≡ 0 → b ≡ 0 → c ≤ 1 → a + b + c ≤ 1
 only_third a b c x y z = omega (arith, x, y, z)
 
+first_third : (a b c : ℕ) → a ≤ 1 → b ≡ 0 → c ≤ 1 → a + b + c ≤ 2
+first_third a b c x y z = omega (arith, x, y, z)
+
+second_third : (a b c : ℕ) → a ≡ 0 → b ≤ 1 → c ≤ 1 → a + b + c ≤ 2
+second_third a b c x y z = omega (arith, x, y, z)
+
 -- a load that changes touches the tree of the row's one key
 one_tree : (o : Option ℕ) (r q : ServerRow) → r.reg ≡ q.reg → r.seen ≡ q.seen
     → touches load_before (load_key_by o r) (load_key_by o q) + touches moment_before (error_key_by o r)
@@ -209,24 +216,64 @@ few_trees (See moment) r = only_third
         (error_key_by o (row_changed (See moment) r)) ≡ 0
     same_error None = refl
     same_error (Some m) = no_touch moment_before moment_not_self (error_key_by (Some m) r)
+few_trees (LowerAndSee moment) r = split r.error
+  where
+    split : (e : Option ℕ)
+        → touches load_before (load_key_by e r) (load_key_by e (row_changed (LowerAndSee moment) r))
+        + touches moment_before (error_key_by e r) (error_key_by e (row_changed (LowerAndSee moment) r))
+        + touches moment_before (sign_key_of r) (sign_key_of (row_changed (LowerAndSee moment) r)) ≤ 2
+    split None = first_third
+        (touches load_before (load_if_room r) (load_if_room (row_changed (LowerAndSee moment) r))) 0
+        (touches moment_before (sign_key_of r) (sign_key_of (row_changed (LowerAndSee moment) r)))
+        (at_most load_before (load_if_room r) (load_if_room (row_changed (LowerAndSee moment) r))) refl
+        (at_most moment_before (sign_key_of r) (sign_key_of (row_changed (LowerAndSee moment) r)))
+    split (Some m) = second_third 0
+        (touches moment_before (error_key_by (Some m) r)
+        (error_key_by (Some m) (row_changed (LowerAndSee moment) r)))
+        (touches moment_before (sign_key_of r) (sign_key_of (row_changed (LowerAndSee moment) r))) refl
+        (at_most moment_before (error_key_by (Some m) r)
+        (error_key_by (Some m) (row_changed (LowerAndSee moment) r)))
+        (at_most moment_before (sign_key_of r) (sign_key_of (row_changed (LowerAndSee moment) r)))
 
-pub changed_looks : (change : Change) (n : ℕ) (row : ServerRow) (rows : List ServerRow) (looks old new : ℕ)
-    → find (λ r. r.reg == n) rows ≡ Some row
-    → new ≤ old + touched load_key_of error_key_of sign_key_of
-    (find (λ r. r.reg == (row_changed change row).reg) rows)
+-- the row in the place of a number is the one that is found
+pub placed_row : (n place : ℕ) (places : List (Option ServerRow)) (row : ServerRow)
+    → (at : IsPlaceOf (λ r. r.reg) places n place) → get_or places place None ≡ Some row → at.row ≡ row
+placed_row n place places row at is = let both : Some at.row ≡ Some row = sym at.is ∙ is in cc
+
+pub found_there : (n place : ℕ) (places : List (Option ServerRow)) (row : ServerRow)
+    → (at : IsPlaceOf (λ r. r.reg) places n place) → get_or places place None ≡ Some row
+    → find (λ r. r.reg == n) (rows_in places) ≡ Some row
+found_there n place places row at is = at.found ∙ sym at.is ∙ is
+
+pub only_there : (n place : ℕ) (places : List (Option ServerRow)) (row : ServerRow)
+    → (at : IsPlaceOf (λ r. r.reg) places n place) → get_or places place None ≡ Some row
+    → AllByRecursion (λ r. (r.reg == n) ≡ true → r ≡ row) (rows_in places)
+only_there n place places row at is =
+    subst (λ q. AllByRecursion (λ r. (r.reg == n) ≡ true → r ≡ q) (rows_in places))
+    (placed_row n place places row at is) at.only
+
+-- it has a row
+pub is_full : (n place : ℕ) (places : List (Option ServerRow)) → IsPlaceOf (λ r. r.reg) places n place
+    → IsSome (get_or places place None)
+is_full n place places at = subst IsSome (sym at.is) refl
+
+-- it is still in its place once it is changed
+pub place_kept : (change : Change) (n place : ℕ) (places : List (Option ServerRow)) (row : ServerRow)
+    → IsPlaceOf (λ r. r.reg) places n place → get_or places place None ≡ Some row
+    → IsPlaceOf (λ r. r.reg) places (row_changed change row).reg place
+place_kept change n place places row at is =
+    subst (λ k. IsPlaceOf (λ r. r.reg) places k place)
+    (sym (reg_kept change row ∙ sym (ap (λ r. r.reg) (placed_row n place places row at is)) ∙ at.numbered)) at
+
+pub changed_looks : (change : Change) (row : ServerRow) (looks old new : ℕ)
+    → new ≤ old + touched load_key_of error_key_of sign_key_of (Some row)
     (Some (row_changed change row)) * looks
     → new ≤ old + trees_of change * looks
-changed_looks change n row rows looks old new found le =
-    let same : find (λ r. r.reg == (row_changed change row).reg) rows ≡ Some row =
-    ap (λ k. find (λ r. r.reg == k) rows) (reg_kept change row ∙ own_number n rows row found) ∙ found in
-    let own : new ≤ old + touched load_key_of error_key_of sign_key_of (Some row)
-    (Some (row_changed change row)) * looks =
-    subst (λ o. new ≤ old + touched load_key_of error_key_of sign_key_of o
-    (Some (row_changed change row)) * looks) same le in
+changed_looks change row looks old new le =
     let more = mul-le (touched load_key_of error_key_of sign_key_of (Some row)
     (Some (row_changed change row))) looks
     (trees_of change) looks (few_trees change row) (omega arith) in
-    omega (arith, own, more)
+    omega (arith, le, more)
 
 pub looks_more : (at looks first second third : ℕ) → second ≤ first + 2 * at * looks
     → third ≤ second + 2 * looks
@@ -306,46 +353,6 @@ first_some places i None lt is some so_far = absurd cc
 first_some places i (Some row) lt is some so_far =
     first_here places i (Some row) row lt (is ∙ in_range places i (Some row) None lt) refl so_far
 
--- the row at an address
-
-pub at_later : (server : Addr) (places : List (Option ServerRow)) (i : ℕ) (o : Option ServerRow)
-    → i < length places
-    → o ≡ get_or places i None → is_row_at server o ≡ false
-    → at_address server (rows_in places) ≡ at_address server (rows_in (drop i places))
-    → at_address server (rows_in places) ≡ at_address server (rows_in (drop (i + 1) places))
-at_later server places i o lt is other so_far =
-    so_far ∙ ap (at_address server) (places_on places i o lt is) ∙ passed o other
-  where
-    passed : (x : Option ServerRow) → is_row_at server x ≡ false
-        → at_address server (rows_in (x ∷ drop (i + 1) places))
-        ≡ at_address server (rows_in (drop (i + 1) places))
-    passed None e = refl
-    passed (Some r) e = ap (λ b. cond b (Some r) (at_address server (rows_in (drop (i + 1) places)))) e
-
-pub at_here : (server : Addr) (places : List (Option ServerRow)) (i : ℕ) (o : Option ServerRow)
-    → i < length places
-    → o ≡ get_or places i None → is_row_at server o ≡ true
-    → at_address server (rows_in places) ≡ at_address server (rows_in (drop i places))
-    → o ≡ at_address server (rows_in places)
-at_here server places i o lt is own so_far =
-    sym (so_far ∙ ap (at_address server) (places_on places i o lt is) ∙ found o own)
-  where
-    found : (x : Option ServerRow) → is_row_at server x ≡ true
-        → at_address server (rows_in (x ∷ drop (i + 1) places)) ≡ x
-    found None e = absurd cc
-    found (Some r) e = ap (λ b. cond b (Some r) (at_address server (rows_in (drop (i + 1) places)))) e
-
-pub at_nowhere : (server : Addr) (places : List (Option ServerRow)) (i : ℕ) → length places ≤ i
-    → at_address server (rows_in places) ≡ at_address server (rows_in (drop i places))
-    → None ≡ at_address server (rows_in places)
-at_nowhere server places i le is = sym (is ∙ ap (λ ps. at_address server (rows_in ps)) (none places i le))
-  where
-    none : (ps : List (Option ServerRow)) (k : ℕ) → length ps ≤ k → drop k ps ≡ []
-    none [] zero lt = refl
-    none [] (suc k) lt = refl
-    none (p ∷ ps) zero lt = absurd (omega (arith, lt))
-    none (p ∷ ps) (suc k) lt = none ps k (omega (arith, lt))
-
 -- where addresses differ, the survivor at an address is the row there, if that is heard
 others_away : (server own : Addr) → same_addr own server ≡ true
     → (p : ServerRow → Bool) (rows : List ServerRow)
@@ -378,7 +385,7 @@ heard_is now server (r ∷ rows) apart =
     split true true at silent rest = ap (λ c. cond c None (Some r)) silent
         ∙ sym (others_away server r.server at (λ q. not (is_expired now q)) rows apart.0)
 
--- how many are left, and their processors
+-- how many are left
 
 pub left_few : (now : ℕ) (rows : List ServerRow)
     → length (left now rows) + length (filter (is_expired now) rows) ≡ length rows
@@ -391,26 +398,6 @@ left_few now (r ∷ rows) = split (is_expired now r) (left_few now rows)
         (filter (is_expired now) rows)) ≡ length (r ∷ rows)
     split true rest = omega (arith, rest)
     split false rest = omega (arith, rest)
-
-pub cpus_more : (now : ℕ) (front new : List ServerRow) (o : Option ServerRow) (total more : ℕ)
-    → new ≡ front ++ option_to_list o → total ≡ min (2 ^ 64 - 1) (sum_by (λ r. r.cpus) (left now front))
-    → more ≡ min (total + cpus_by now o) (2 ^ 64 - 1)
-    → more ≡ min (2 ^ 64 - 1) (sum_by (λ r. r.cpus) (left now new))
-cpus_more now front new o total more is so_far does =
-    let sums : sum_by (λ r. r.cpus) (left now new) ≡ sum_by (λ r. r.cpus) (left now front) + cpus_by now o =
-    ap (λ l. sum_by (λ r. r.cpus) (left now l)) is
-    ∙ ap (sum_by (λ r. r.cpus)) (filter-append (λ r. not (is_expired now r)) front (option_to_list o))
-    ∙ sum_by-append (λ r. r.cpus) (left now front) (left now (option_to_list o))
-    ∙ ap (λ n. sum_by (λ r. r.cpus) (left now front) + n) (one o) in
-    omega (arith, sums, so_far, does)
-  where
-    one : (x : Option ServerRow) → sum_by (λ r. r.cpus) (left now (option_to_list x)) ≡ cpus_by now x
-    one None = refl
-    one (Some r) = elim (is_expired now r) as
-        (λ b. sum_by (λ q. q.cpus) (cond (not b) (r ∷ []) []) ≡ cond b 0 r.cpus) [
-          | true ↦ refl
-          | false ↦ omega arith
-        ]
 
 -- the number of the registration that an entry makes
 pub row_by_number : (k : CoreKind) (number now : ℕ) → IfSome (row_by k number now) (λ r. r.reg ≡ number)

@@ -15,7 +15,7 @@ use Rattle.sched_core.specs.declared.entry.CoreKind.TheVariants.{Beat, Reserve, 
 use Rattle.sched_core.specs.Log.{latest}
 use Rattle.sched_core.specs.Standing.{Registered, registered_by, registered_at, ends_by, stands, standing}
 use Rattle.sched_core.specs.Standing.{renews_by, serves, is_sign, last_sign}
-use Rattle.sched_core.specs.Books.{key_of, keys_of, key_by, key_stays}
+use Rattle.sched_core.specs.Books.{key_of, key_list, key_by, key_stays}
 
 -- the registration, with one more entry after it
 abbrev pub grown : CoreEntry → Registered → Registered
@@ -151,12 +151,12 @@ key_made (Update server job state answer) now before at = refl
 key_made (Status pruned servers cpus jobs) now before at = refl
 
 -- the keys after one more entry
-pub keys-absorb : (keys : List (ℕ × List ℕ)) (log : List CoreEntry) (e : CoreEntry) → keys ≡ keys_of log
-    → filter (key_stays e) keys ++ option_to_list (key_by e.kind (length log)) ≡ keys_of (log ++ e ∷ [])
+pub keys-absorb : (keys : List (ℕ × List ℕ)) (log : List CoreEntry) (e : CoreEntry) → keys ≡ key_list log
+    → filter (key_stays e) keys ++ option_to_list (key_by e.kind (length log)) ≡ key_list (log ++ e ∷ [])
 keys-absorb keys log e same =
     ap (λ ks. filter (key_stays e) ks ++ option_to_list (key_by e.kind (length log))) same
     ∙ ap (λ ks. ks ++ option_to_list (key_by e.kind (length log)))
-    (sym (map-same (λ k. k) (λ k. refl) (filter (key_stays e) (keys_of log))))
-    ∙ ap (λ o. map (λ k. k) (filter (key_stays e) (keys_of log)) ++ option_to_list o)
+    (sym (map-same (λ k. k) (λ k. refl) (filter (key_stays e) (key_list log))))
+    ∙ ap (λ o. map (λ k. k) (filter (key_stays e) (key_list log)) ++ option_to_list o)
     (sym (key_made e.kind e.now log e))
     ∙ sym (standing-push key_of (λ l d k. k) key_stays (λ d g. refl) (λ l d g whole up. refl) log e)

@@ -16,19 +16,18 @@ use Rattle.sched_core.specs.Booked.{UnspentRow}
 use Rattle.sched_core.specs.declared.entry.UpdateAnswer.{UpdateAnswer}
 use Rattle.sched_core.specs.declared.entry.UpdateAnswer.TheVariants.{Accepted, Unknown, Wrong, Transition}
 use Rattle.sched_core.specs.Log.{Core, logged, same_job}
-use Rattle.sched_core.specs.Standing.{standing, address_of, key_at}
+use Rattle.sched_core.specs.Standing.{address_of}
 use Rattle.sched_core.specs.Reservation.{unspent, unended}
-use Rattle.sched_core.specs.Rows.{row_of, servers_of, held_of, held_rows, job_row, unended_by_id, jobs_of}
+use Rattle.sched_core.specs.Rows.{servers_of, held_of, held_rows, job_row, unended_by_id, jobs_of}
 use Rattle.sched_core.specs.Books.{held_by_id, held_part, job_at}
 use Rattle.sched_core.specs.Pick.{pick, forgiven}
 use Rattle.sched_core.specs.Answers.{Leaves, verdict}
 use Rattle.sched_core.specs.Rule.{is_among, place_at, reserved_at}
-use Rattle.sched_core.specs.Books.{keys_of, key_of, IsAtRow, place_of_unspent, place_of_booking}
+use Rattle.sched_core.specs.Books.{IsAtRow, place_of_unspent, place_of_booking}
 use Rattle.sched_core.proofs.Lists.{list_any-map, map-map}
-use Rattle.sched_core.proofs.AllLemmas.{and_left, and_right, same_job-sym, any-weaker, all-weaker, all-map}
+use Rattle.sched_core.proofs.AllLemmas.{and_left, and_right, same_job-sym, any-weaker}
 use Rattle.sched_core.proofs.FactLemmas.{pick_there}
 use Rattle.sched_core.proofs.SortLemmas.{found_first, sorted-map}
-use Rattle.sched_core.proofs.PlaceLemmas.{cards_are}
 use Rattle.sched_core.proofs.KeptLemmas.{rows_addressed}
 use Rattle.sched_core.proofs.RowLemmas.{at_there}
 
@@ -91,16 +90,6 @@ row_found rows reg some none =
     all_unit : (rs : List ServerRow) → AllByRecursion (λ r. Unit {0}) rs
     all_unit [] = tt
     all_unit (r ∷ rs) = (tt, all_unit rs)
-
-pub keys_known : (log : List CoreEntry) → AllByRecursion (λ k. key_at log k.0 ≡ Some k.1) (keys_of log)
-keys_known log = all-map (λ k. key_at log k.0 ≡ Some k.1) key_of (standing log)
-    (all-weaker (λ g. (address_of log g.reg ≡ Some g.server) × (key_at log g.reg ≡ Some g.key))
-    (λ g. key_at log g.reg ≡ Some g.key) (λ g h. h.1) (standing log) (cards_are log))
-
-pub key_stands : (log : List CoreEntry) (reg : ℕ) → list_any (λ r. r.reg == reg) (servers_of log) ≡ true
-    → list_any (λ k. k.0 == reg) (keys_of log) ≡ true
-key_stands log reg some = list_any-map (λ k. k.0 == reg) key_of (standing log)
-    ∙ sym (list_any-map (λ r. r.reg == reg) (row_of log) (standing log)) ∙ some
 
 -- what is reserved is at a row
 pub reserved_row : (rows : List ServerRow) (now base given : ℕ)

@@ -1,9 +1,8 @@
 -- One row for each reservation that was ever made, and what is read off these rows.
-use Rattle.std.specs.Prelude.{◌≡◌, ◌≤◌, ◌<◌, ◌+◌, ◌^◌, ◌==◌, ℕ, List, [], ◌∷◌, ◌++◌, length, map, filter}
-use Rattle.std.specs.Prelude.{take}
+use Rattle.std.specs.Prelude.{◌≡◌, ◌<◌, ◌+◌, ◌^◌, ◌==◌, ℕ, List, [], ◌∷◌, ◌++◌, length, map, filter}
 use Rattle.std.specs.Prelude.{drop, slice_index_or, Bool, true, false, not, ◌&&◌, Option, Some, None}
 use Rattle.std.specs.Prelude.{if◌then◌else◌, option_and_then}
-use Rattle.std.specs.List.{AllByRecursion, filter_map}
+use Rattle.std.specs.List.{filter_map}
 use Rattle.std.specs.Option.{option_map}
 use Rattle.dist_types.specs.declared.addr.Addr.{Addr}
 use Rattle.dist_types.specs.declared.ids.JobId.{JobId}
@@ -86,17 +85,11 @@ unspent_view bs = map unspent_part_of (filter (λ b. b.unspent) bs)
 abbrev pub open_view : List BookedRow → List OpenRow
 open_view bs = filter_map open_part_of bs
 
--- all of them are ended
-abbrev pub AreEnded : List BookedRow → Type 0
-AreEnded bs = AllByRecursion (λ b. b.unended ≡ false) bs
-
--- So many jobs are open, so many reservations are unspent, and so many of the first are ended.
-pub record AreCounted (bs : List BookedRow) (open_jobs unspent_ones ended_ones : ℕ) : Type 0 where
+-- So many jobs are open, and so many reservations are unspent.
+pub record AreCounted (bs : List BookedRow) (open_jobs unspent_ones : ℕ) : Type 0 where
   pub few : length bs < 2 ^ 63
   pub open_are : open_jobs ≡ length (open_view bs)
   pub unspent_are : unspent_ones ≡ length (unspent_view bs)
-  pub within : ended_ones ≤ length bs
-  pub ended_are : AreEnded (take ended_ones bs)
 
 -- what is asked of the reservation of a job, if there is one
 

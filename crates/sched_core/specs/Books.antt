@@ -2,9 +2,10 @@
 use Rattle.std.specs.Prelude.{◌≡◌, ◌≤◌, ◌<◌, ℕ, ◌+◌, ◌-◌, ◌*◌, ◌^◌, max, List, [], ◌++◌, length, map}
 use Rattle.std.specs.Prelude.{filter, Bool}
 use Rattle.std.specs.Prelude.{true, false, not, ◌&&◌, ◌||◌, ◌==◌, Option, Some, None, if◌then◌else◌}
-use Rattle.std.specs.Prelude.{count_by, unwrap_or, option_to_list, min, ◌%◌}
+use Rattle.std.specs.Prelude.{count_by, unwrap_or, option_to_list, min, nat_eq, ◌%◌}
 use Rattle.std.specs.List.{AllByRecursion, find, list_any}
 use Rattle.std.specs.Option.{option_map}
+use Rattle.lookup_table.specs.Lookup.{value_at}
 use Rattle.dist_types.specs.declared.addr.Addr.{Addr}
 use Rattle.dist_types.specs.declared.ids.JobId.{JobId}
 use Rattle.dist_types.specs.declared.results.JobState.{JobState}
@@ -20,7 +21,7 @@ use Rattle.sched_core.specs.declared.rows.JobRow.{JobRow}
 use Rattle.sched_core.specs.declared.rows.OpenRow.{OpenRow}
 use Rattle.sched_core.specs.declared.booked.BookedRow.{BookedRow}
 use Rattle.sched_core.specs.Booked.{UnspentRow, AreReordered, booked_new, held_view, unspent_view, open_view}
-use Rattle.sched_core.specs.Log.{same_job, is_this, newer}
+use Rattle.sched_core.specs.Log.{same_job, is_this, names, newer}
 use Rattle.sched_core.specs.Standing.{Registered, standing, ends_by, renews_by, is_heard, address_of}
 use Rattle.sched_core.specs.Reservation.{Booking, bookings, unspent, spends_by, frees_by, claims_by}
 use Rattle.sched_core.specs.Reservation.{is_complete}
@@ -74,6 +75,11 @@ error_after e reg before = if notes_by e.kind reg then Some e.now
 abbrev pub one_more_if : Bool → ℕ → ℕ
 one_more_if more n = if more then min (2 ^ 64 - 1) (n + 1) else n
 
+-- the registration of a reservation, if there is one, where an entry ends it
+abbrev pub lowered_in : CoreKind → Option BookedRow → Option ℕ
+lowered_in kind None = None
+lowered_in kind (Some b) = if b.unended && frees_by kind b.job b.reg then Some b.reg else None
+
 -- a row with its last sign, its load and its error after an entry that serves the registration of that
 -- number
 abbrev pub row_after : CoreEntry → Option ℕ → ServerRow → ServerRow
@@ -104,14 +110,47 @@ abbrev pub key_of : Registered → ℕ × List ℕ
 key_of g = (g.reg, g.key)
 
 -- the keys of the registrations that stand, each with its number
-abbrev pub keys_of : List CoreEntry → List (ℕ × List ℕ)
-keys_of log = map key_of (standing log)
+abbrev pub key_list : List CoreEntry → List (ℕ × List ℕ)
+key_list log = map key_of (standing log)
+
+-- what key is under each number, if one is
+abbrev pub Keys : Type 0
+Keys = ℕ → Option (List ℕ)
+
+-- the key of each registration that stands, which its own heartbeat carried, under its number
+abbrev pub keys_of : List CoreEntry → Keys
+keys_of log n = value_at nat_eq n (key_list log)
+
+-- the keys of the authorizers that are kept under numbers
+abbrev pub kept_by : {A : Type 0} → (A → List ℕ) → List (ℕ × A) → Keys
+kept_by own_key entries n = option_map own_key (value_at nat_eq n entries)
+
+-- those keys, and one more, if there is one
+abbrev pub with_key : Option (ℕ × List ℕ) → Keys → Keys
+with_key None keys n = keys n
+with_key (Some k) keys n = if nat_eq k.0 n then Some k.1 else keys n
+
+-- those keys without the ones under those numbers
+abbrev pub without : List ℕ → Keys → Keys
+without numbers keys n = if names numbers n then None else keys n
+
+-- the same without the one under a number, if there is a number
+abbrev pub without_this : Option ℕ → Keys → Keys
+without_this number keys n = if is_this number n then None else keys n
+
+-- the same without those of the registrations that an entry ends
+abbrev pub ended_keys : CoreKind → Keys → Keys
+ended_keys kind keys n = if ends_by kind n then None else keys n
 
 -- the key that an entry of this number brings
 abbrev pub key_by : CoreKind → ℕ → Option (ℕ × List ℕ)
 key_by (Beat server nonce cpus key pruned reaped replaced is_new) number = if is_new then Some (number, key)
     else None
 key_by other number = None
+
+-- the keys after an entry of this number
+abbrev pub keys_next : CoreEntry → ℕ → Keys → Keys
+keys_next e number keys = with_key (key_by e.kind number) (ended_keys e.kind keys)
 
 -- whether an entry leaves the key's registration standing
 abbrev pub key_stays : CoreEntry → ℕ × List ℕ → Bool
@@ -233,10 +272,6 @@ booked_by kind rows number now = option_map booked_new (job_by kind rows number 
 abbrev pub LeavesOthers : CoreKind → JobId → Type 0
 LeavesOthers kind job = (b : BookedRow) → (b.job.0 == job.0) ≡ false → booked_after kind b ≡ b
 
--- an entry leaves the ended reservations as they are
-abbrev pub LeavesEnded : CoreKind → Type 0
-LeavesEnded kind = (b : BookedRow) → b.unended ≡ false → booked_after kind b ≡ b
-
 -- an entry ends no reservation of another job
 abbrev pub FreesNoOther : CoreKind → JobId → Type 0
 FreesNoOther kind job = (b : BookedRow) → (b.job.0 == job.0) ≡ false → frees_by kind b.job b.reg ≡ false
@@ -253,13 +288,13 @@ abbrev pub no_lists : Lists
 no_lists = record { rows = []; booked = [] }
 
 -- What contracts see of the books: the lists, the id of the first job, whether there is room for one
--- registration more, and for one reservation more, and how many places the registrations stand in, with the
--- least number above all of them.
+-- registration more, the registration at which there is room for one reservation more, if there is one, and
+-- how many places the registrations stand in, with the least number above all of them.
 pub record Kept : Type 0 where
   pub lists : Lists
   pub first : ℕ
   pub has_row_room : Bool
-  pub has_job_room : Bool
+  pub job_room : Option ℕ
   pub places : ℕ
   pub top : ℕ
 
@@ -304,11 +339,6 @@ abbrev pub MayRegister : CoreKind → Type 0
 MayRegister (Beat server nonce cpus key pruned reaped replaced is_new) = Unit {0}
 MayRegister other = ⊥
 
--- a reserve may add a reservation
-abbrev pub MayReserve : CoreKind → Type 0
-MayReserve (Reserve reserved) = Unit {0}
-MayReserve other = ⊥
-
 -- an entry that spends one of the reservations
 abbrev pub SpendsOne : CoreKind → List UnspentRow → Type 0
 SpendsOne (Commit job state kept) unspent = list_any (λ u. same_job job u.job) unspent ≡ true
@@ -352,7 +382,7 @@ IsBookedAt log b = (place_at log b.number ≡ Some b.reg) × (address_of log b.r
 
 -- The books are the log's. The open jobs are in the order of their reserving, and in the log in that of their
 -- commits.
-pub record AreBooks (books : Lists) (kept_keys : List (ℕ × List ℕ)) (log : List CoreEntry) : Type 0 where
+pub record AreBooks (books : Lists) (kept_keys : Keys) (log : List CoreEntry) : Type 0 where
   pub rows : books.rows ≡ servers_of log
   pub keys : kept_keys ≡ keys_of log
   pub jobs : map (λ b. b.job) books.booked ≡ map (λ b. b.job) (bookings log)
@@ -366,7 +396,7 @@ pub record AreBooks (books : Lists) (kept_keys : List (ℕ × List ℕ)) (log : 
 -- The books are the log's, and each entry of the log is the core rule's. The log has room for each unspent
 -- reservation to be spent. The reservations begin with the first id that the log gives. The registrations
 -- stand in no more places than twice the most that ever stood at one time, and their numbers are of the log.
-pub record IsState (start : Start) (kept : Kept) (kept_keys : List (ℕ × List ℕ)) (log : List CoreEntry)
+pub record IsState (start : Start) (kept : Kept) (kept_keys : Keys) (log : List CoreEntry)
     (log_len log_capacity : ℕ) : Type 0 where
   pub books : AreBooks kept.lists kept_keys log
   pub fits : start.count < 2 ^ 64

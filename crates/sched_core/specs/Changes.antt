@@ -7,7 +7,7 @@ use Rattle.sched_core.specs.declared.entry.Reserved.{Reserved}
 use Rattle.sched_core.specs.declared.entry.Reserved.TheVariants.{Job}
 use Rattle.sched_core.specs.declared.rows.ServerRow.{ServerRow}
 use Rattle.sched_core.specs.declared.change.Change.{Change}
-use Rattle.sched_core.specs.declared.change.Change.TheVariants.{Lower, Raise, Forgive, Note, See}
+use Rattle.sched_core.specs.declared.change.Change.TheVariants.{Lower, Raise, Forgive, Note, See, LowerAndSee}
 use Rattle.sched_core.specs.Log.{names, is_this}
 use Rattle.sched_core.specs.Books.{one_more_if}
 
@@ -18,6 +18,7 @@ row_changed Raise row = record row { load = one_more_if true row.load }
 row_changed Forgive row = record row { error = None }
 row_changed (Note moment) row = record row { error = Some moment }
 row_changed (See moment) row = record row { seen = moment }
+row_changed (LowerAndSee moment) row = record row { load = row.load - 1; seen = moment }
 
 -- the same, where it is the registration of that number
 abbrev pub row_changed_at : Change → ℕ → ServerRow → ServerRow

@@ -1,5 +1,6 @@
 pub mod Cuts
 pub mod Log
+pub mod Same
 pub mod Standing
 pub mod Reservation
 pub mod Fault
@@ -19,4 +20,5 @@ pub mod Most
 pub mod Laws
 pub mod Booked
 pub mod Books
+pub mod Own
 pub mod Texts

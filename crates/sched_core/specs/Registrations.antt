@@ -1,6 +1,6 @@
 -- The keys by which registrations are found, and what contracts see of them.
 use Rattle.std.specs.Prelude.{◌≡◌, ℕ, ◌+◌, ◌*◌, ◌≤◌, List, [], length, map, Bool, false, Option, Some, None}
-use Rattle.std.specs.Prelude.{◌∷◌, ◌<◌, drop, slice_index_or, if◌then◌else◌}
+use Rattle.std.specs.Prelude.{◌∷◌, ◌<◌, ◌==◌, ◌^◌, drop, find, slice_index_or, sum_by, if◌then◌else◌}
 use Rattle.dist_types.specs.declared.addr.Addr.{Addr}
 use Rattle.dist_types.specs.Addr.{same_addr}
 use Rattle.numbered_slots.specs.Slots.{rows_in}
@@ -8,15 +8,17 @@ use Rattle.winner_tree.specs.declared.keys.LoadKey.{LoadKey}
 use Rattle.winner_tree.specs.declared.keys.MomentKey.{MomentKey}
 use Rattle.sched_core.specs.declared.rows.ServerRow.{ServerRow}
 use Rattle.sched_core.specs.declared.change.Change.{Change}
-use Rattle.sched_core.specs.declared.change.Change.TheVariants.{Lower, Raise, Forgive, Note, See}
+use Rattle.sched_core.specs.declared.change.Change.TheVariants.{Lower, Raise, Forgive, Note, See, LowerAndSee}
 use Rattle.sched_core.specs.declared.entry.CoreKind.{CoreKind}
 use Rattle.sched_core.specs.declared.entry.CoreKind.TheVariants.{Reserve}
 use Rattle.sched_core.specs.declared.entry.Reserved.{Reserved}
 use Rattle.sched_core.specs.declared.entry.Reserved.TheVariants.{Job}
 use Rattle.std.specs.List.{AllByRecursion}
+use Rattle.std.specs.Option.{option_map}
+use Rattle.lookup_table.specs.Lookup.{value_at}
 use Rattle.sched_core.specs.Laws.{AreRising, AreDifferent}
 use Rattle.sched_core.specs.Pick.{has_room}
-use Rattle.sched_core.specs.Prune.{is_expired}
+use Rattle.sched_core.specs.Prune.{is_expired, at_address}
 
 -- How many places there are, the least number above all registrations that were put into them, and whether a
 -- place is left behind the last.
@@ -65,20 +67,19 @@ pub record IsFirstFull (places : List (Option ServerRow)) (place : ℕ) : Type 0
   pub is : slice_index_or places place None ≡ Some row
   pub rest : rows_in places ≡ row ∷ rows_in (drop (place + 1) places)
 
--- whether there is a row, and it is at the address
-abbrev pub is_row_at : Addr → Option ServerRow → Bool
-is_row_at server None = false
-is_row_at server (Some row) = same_addr row.server server
-
 -- the row, where its last sign is not too long ago
 abbrev pub heard_part : ℕ → Option ServerRow → Option ServerRow
 heard_part now None = None
 heard_part now (Some row) = if is_expired now row then None else Some row
 
--- the processors of a row whose last sign is not too long ago, or 0
-abbrev pub cpus_by : ℕ → Option ServerRow → ℕ
-cpus_by now None = 0
-cpus_by now (Some row) = if is_expired now row then 0 else row.cpus
+-- the processors of a row, or 0
+abbrev pub cpus_in : Option ServerRow → ℕ
+cpus_in None = 0
+cpus_in (Some row) = row.cpus
+
+-- the processors of the registration of that number, or 0
+abbrev pub cpus_at : List ServerRow → ℕ → ℕ
+cpus_at rows reg = cpus_in (find (λ r. r.reg == reg) rows)
 
 -- how many trees a change of a row touches at most
 abbrev pub trees_of : Change → ℕ
@@ -87,6 +88,7 @@ trees_of Raise = 1
 trees_of Forgive = 2
 trees_of (Note moment) = 2
 trees_of (See moment) = 1
+trees_of (LowerAndSee moment) = 2
 
 -- the registrations whose errors a reserve forgives
 abbrev pub forgiven_in : Reserved → List ℕ
@@ -117,3 +119,19 @@ pub record AreSoundRows (rows : List ServerRow) : Type 0 where
   pub rising : AreRising (map (λ r. r.reg) rows)
   pub apart : AreDifferent (map (λ r. r.server) rows)
   pub cpus : AllByRecursion HasCpus rows
+
+-- the number of the registration at an address
+abbrev pub number_at : Addr → List ServerRow → Option ℕ
+number_at server rows = option_map (λ r. r.reg) (at_address server rows)
+
+-- its processors are a word
+abbrev pub HasWordOfCpus : ServerRow → Type 0
+HasWordOfCpus r = r.cpus < 2 ^ 64
+
+-- What is kept beside sound rows: at each address the number of the registration there, and the sum of all
+-- processors.
+pub record AreIndexed (rows : List ServerRow) (entries : List (Addr × ℕ)) (total : ℕ) : Type 0 where
+  pub sound : AreSoundRows rows
+  pub at : (server : Addr) → value_at same_addr server entries ≡ number_at server rows
+  pub sum : total ≡ sum_by (λ r. r.cpus) rows
+  pub words : AllByRecursion HasWordOfCpus rows

@@ -1,15 +1,16 @@
-//! A reservation as one row, from its reserving on, and what is read off it.
-ghost use Rattle.std.specs.Prelude.{◌≡◌, ◌≤◌, [], length, take, MatchOption, Some};
+//! A reservation as one row, from its reserving on: the one that an entry makes, and what is read off it.
+ghost use Rattle.std.specs.Prelude.{◌≡◌, ◌==◌, [], MatchOption, Some, find};
 ghost use Rattle.std.specs.Option.{option_map};
 ghost use Rattle.sched_core.specs.Booked.{booked_new, held_part_of, job_part_of, open_part_of, job_view};
-ghost use Rattle.sched_core.specs.Booked.{is_unspent_in, is_held_in, address_in, open_in, AreEnded};
+ghost use Rattle.sched_core.specs.Booked.{is_unspent_in, is_held_in, address_in, open_in};
 ghost use Rattle.sched_core.specs.Booked.{IsFirstHeld};
-ghost use Rattle.sched_core.specs.Books.{booked_after};
+ghost use Rattle.sched_core.specs.Books.{booked_after, job_over, job_in, job_by};
+ghost use Rattle.sched_core.specs.Own.{ended_row, is_own, is_own_at, own_part_of, own_row_at, is_open_row};
 
-use crate::entry::CoreKind;
-use crate::held::state_now;
-use crate::kind::{claims, frees, spends};
-use crate::rows::{HeldRow, JobRow, OpenRow};
+use crate::effects::{claims, frees, spends, state_now};
+use crate::entry::{CoreKind, Reserved};
+use crate::registrations::Registrations;
+use crate::rows::{HeldRow, JobRow, OpenRow, ServerRow};
 use dist_types::ids::{JobId, ServerId};
 use dist_types::results::JobState;
 use following_rows::Identified;
@@ -45,6 +46,57 @@ impl Identified for BookedRow {
     }
 }
 
+/// The row of a job that is reserved at the registration of a row.
+fn job_of(row: &Option<ServerRow>, number: u64, job: JobId, now: u64) -> Option<JobRow>
+    ensures { result ≡ job_over row.now number job now }
+{
+    match row {
+        Some(row) => Some(JobRow {
+            number,
+            job,
+            reg: row.reg,
+            server: row.server,
+            reserved_at: now,
+            state: None,
+            claimed: false,
+        }),
+        None => None,
+    }
+}
+
+/// The job that is reserved at a registration, with its address.
+fn job_at(rows: &Registrations, reg: u64, number: u64, job: JobId, now: u64) -> Option<JobRow>
+    ensures { result ≡ job_over (find (λ r. r.reg == reg) rows.now.rows) number job now }
+{
+    let row = rows.row(reg);
+    job_of(&row, number, job, now)
+}
+
+/// The reservation that a reserve makes, with the address of its registration.
+fn job_reserved(reserved: &Reserved, rows: &Registrations, number: u64, now: u64) -> Option<JobRow>
+    ensures { result ≡ job_in reserved.now rows.now.rows number now }
+{
+    match reserved {
+        Reserved::Job { job, reg, .. } => job_at(rows, *reg, number, *job, now),
+        Reserved::NoRoom(_) => None,
+        Reserved::Spent => None,
+    }
+}
+
+/// The reservation that an entry of this number makes, with the address of its registration.
+pub fn job_made(kind: &CoreKind, rows: &Registrations, number: u64, now: u64) -> Option<JobRow>
+    ensures { result ≡ job_by kind.now rows.now.rows number now }
+{
+    match kind {
+        CoreKind::Reserve(reserved) => job_reserved(reserved, rows, number, now),
+        CoreKind::Commit { .. } => None,
+        CoreKind::Undo { .. } => None,
+        CoreKind::Beat { .. } => None,
+        CoreKind::Update { .. } => None,
+        CoreKind::Status { .. } => None,
+    }
+}
+
 /// The reservation that was just made, if one was.
 pub fn booked(job: &Option<JobRow>) -> Option<BookedRow>
     ensures { result ≡ option_map booked_new job.now }
@@ -66,6 +118,7 @@ pub fn booked(job: &Option<JobRow>) -> Option<BookedRow>
 }
 
 /// The row of a reservation after an entry.
+#[inline(always)]
 pub fn booked_now(b: &BookedRow, kind: &CoreKind) -> BookedRow
     ensures { result ≡ booked_after kind.now b.now }
 {
@@ -80,6 +133,57 @@ pub fn booked_now(b: &BookedRow, kind: &CoreKind) -> BookedRow
         unspent: b.unspent && !spends(kind, b.job),
         unended: b.unended && !frees(kind, b.job, b.reg),
     }
+}
+
+/// The row of a reservation once it is ended.
+pub fn ended(b: &BookedRow) -> BookedRow
+    ensures { result ≡ ended_row b.now }
+{
+    BookedRow {
+        unended: false,
+        ..*b
+    }
+}
+
+/// Whether the reservation is unended and at the registration.
+fn is_own(b: &BookedRow, reg: u64) -> bool
+    ensures { result ≡ is_own reg b.now }
+{
+    b.unended && b.reg == reg
+}
+
+/// The same of the reservation in a place.
+pub fn is_own_at(rows: &[BookedRow], place: usize, reg: u64) -> bool
+    ensures { result ≡ is_own_at reg rows.now place }
+{
+    match rows.get(place) {
+        Some(b) => is_own(b, reg),
+        None => false,
+    }
+}
+
+/// The reservation, where it is unended and at the registration.
+fn own_part(b: &BookedRow, reg: u64) -> Option<BookedRow>
+    ensures { result ≡ own_part_of reg (Some b.now) }
+{
+    if is_own(b, reg) { Some(*b) } else { None }
+}
+
+/// The same of the reservation in a place.
+pub fn own_row_at(rows: &[BookedRow], place: usize, reg: u64) -> Option<BookedRow>
+    ensures { result ≡ own_row_at reg rows.now place }
+{
+    match rows.get(place) {
+        Some(b) => own_part(b, reg),
+        None => None,
+    }
+}
+
+/// Whether the reservation's job is open.
+pub fn is_open(b: &BookedRow) -> bool
+    ensures { result ≡ is_open_row b.now }
+{
+    open_part(b).is_some()
 }
 
 /// A reservation as an unended one.
@@ -183,21 +287,6 @@ pub fn open_job(found: &Option<BookedRow>) -> Option<OpenRow>
         Some(b) => open_part(b),
         None => None,
     }
-}
-
-/// How many of the first reservations are ended.
-pub fn ended_count(rows: &[BookedRow]) -> usize
-    ensures within { result ≤ length rows.now }
-    ensures ended { AreEnded (take result rows.now) }
-{
-    let mut count = 0;
-    for b in rows {
-        if b.unended {
-            return count;
-        }
-        count += 1;
-    }
-    count
 }
 
 /// The place of the first unended reservation, if there is one.

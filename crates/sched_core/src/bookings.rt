@@ -1,34 +1,32 @@
 //! The reservations: one row each, from its reserving on, found at once by the id of its job.
 ghost use Rattle.std.specs.Prelude.{◌≡◌, ◌==◌, ◌&&◌, ◌<◌, ◌≤◌, ◌+◌, ◌%◌, ◌^◌, ◌++◌, ◌∷◌, [], true, length};
 ghost use Rattle.std.specs.Prelude.{map};
-ghost use Rattle.std.specs.Prelude.{filter, find, option_to_list, slice_index_or, slice_set, if◌then◌else◌};
-ghost use Rattle.std.specs.Prelude.{IsSome, IfSome, OnOk, MatchOption, is_some};
+ghost use Rattle.std.specs.Prelude.{find, slice_index_or, slice_set, if◌then◌else◌};
+ghost use Rattle.std.specs.Prelude.{OnOk, MatchOption};
 ghost use Rattle.std.specs.List.{list_any};
 ghost use Rattle.std.specs.Option.{option_map};
 ghost use Rattle.following_rows.specs.Following.{HasNone, IsRowOf};
 ghost use Rattle.sched_core.specs.Log.{same_job};
-ghost use Rattle.sched_core.specs.Rule.{is_left};
 ghost use Rattle.sched_core.specs.declared.booked.BookedRow.{BookedRow};
-ghost use Rattle.sched_core.specs.Booked.{held_view, jobs_by_id, unspent_view, open_view, open_part_of};
-ghost use Rattle.sched_core.specs.Books.{booked_after, LeavesOthers, LeavesEnded};
+ghost use Rattle.sched_core.specs.Booked.{held_view, jobs_by_id, unspent_view, open_view};
+ghost use Rattle.sched_core.specs.Books.{booked_after, LeavesOthers};
+ghost use Rattle.sched_core.specs.Own.{ended_row, ended_job, ended_jobs, ended_in, ended_in_all};
 
-use crate::booked::{self, BookedRow, booked_now, ended_count, open_part};
+use crate::booked::{self, BookedRow, booked_now, is_open};
 use crate::entry::CoreKind;
 use crate::rows::{Jobs, OpenRow};
-use crate::rules::left_standing;
 use dist_types::ids::{JobId, ServerId};
 use following_rows::Following;
 use std::alloc::{AllocError, Global};
 use std::marker::Model;
 
-/// The reservations, how many jobs are open, how many reservations are unspent, and how many of the first are
-/// ended. Contracts see the id of the first job, the rows, and whether there is room for one more.
+/// The reservations, how many jobs are open, and how many reservations are unspent. Contracts see the id of
+/// the first job, the rows, and whether there is room for one more.
 #[derive(Drop)]
 pub struct Bookings {
     rows: Following<BookedRow>,
     open_ones: usize,
     unspent: usize,
-    ended: usize,
 }
 
 impl Model for Bookings {
@@ -40,7 +38,7 @@ impl Model for Bookings {
 
     ghost view = { λ b. b.rows };
 
-    ghost invariant = { λ b. AreCounted b.rows.rows b.open_ones b.unspent b.ended };
+    ghost invariant = { λ b. AreCounted b.rows.rows b.open_ones b.unspent };
 }
 
 /// The count after one of those that are counted came or went.
@@ -54,23 +52,6 @@ fn recounted(count: usize, was: bool, is: bool) -> usize
     } else {
         if was { count - 1 } else { count }
     }
-}
-
-/// Whether the reservation's job is open.
-fn is_open(b: &BookedRow) -> bool
-    ensures { result ≡ is_some (open_part_of b.now) }
-{
-    open_part(b).is_some()
-}
-
-/// How many open jobs of those are at none of the pruned registrations.
-fn left_of(rows: &[BookedRow], pruned: &[u64]) -> u64
-    ensures { result ≡ length (filter (λ o. is_left pruned.now o.reg) (open_view rows.now)) }
-{
-    rows.iter()
-        .filter_map(|b| open_part(b))
-        .filter(|o| left_standing(pruned, o.reg))
-        .count() as u64
 }
 
 /// How many rows stand before that whose id is 0, if there is one.
@@ -92,7 +73,6 @@ impl Bookings {
             rows: Following::new(alloc, first),
             open_ones: 0,
             unspent: 0,
-            ended: 0,
         }
     }
 
@@ -118,22 +98,11 @@ impl Bookings {
         self.open_ones
     }
 
-    /// How many open jobs are at none of the pruned registrations.
-    pub fn open_left(&self, pruned: &[u64]) -> u64
-        ensures { result ≡ length (filter (λ o. is_left pruned.now o.reg) (open_view self.now.rows)) }
+    /// The reservations, in the order of their reserving.
+    pub fn rows(&self) -> &[BookedRow]
+        ensures { result.now ≡ self.now.rows }
     {
-        if pruned.is_empty() {
-            return self.open_ones as u64;
-        }
-        left_of(self.live(), pruned)
-    }
-
-    /// The reservations from the first on that may be unended.
-    pub fn live(&self) -> &[BookedRow]
-        ensures held { held_view result.now ≡ held_view self.now.rows }
-        ensures opens { open_view result.now ≡ open_view self.now.rows }
-    {
-        &self.rows.rows()[self.ended..]
+        self.rows.rows()
     }
 
     /// The unended reservations, by rising job id.
@@ -197,7 +166,25 @@ impl Bookings {
         self.rows.make_room()
     }
 
+    // Gives the reservation in a place another row.
+    #[inline(always)]
+    fn write(&mut self, place: usize, old: &BookedRow, new: BookedRow)
+        requires within { place < length self.old.rows }
+        requires was { (d : BookedRow) → old.now ≡ slice_index_or self.old.rows place d }
+        requires same { old.now.job.0 ≡ new.job.0 }
+        ensures rows { self.new.rows ≡ slice_set self.old.rows place new }
+        ensures first { self.new.first ≡ self.old.first }
+        ensures room { self.new.has_room ≡ self.old.has_room }
+    {
+        let was_open = is_open(old);
+        let opens = is_open(&new);
+        self.open_ones = recounted(self.open_ones, was_open, opens);
+        self.unspent = recounted(self.unspent, old.unspent, new.unspent);
+        self.rows.put(place, new);
+    }
+
     // Gives the reservation in a place its row after an entry.
+    #[inline(always)]
     fn change(&mut self, place: usize, kind: &CoreKind)
         requires { place < length self.old.rows }
         ensures rows { (d : BookedRow) → self.new.rows ≡ slice_set self.old.rows place
@@ -207,15 +194,12 @@ impl Bookings {
     {
         let old = self.rows.at(place);
         let new = booked_now(&old, kind);
-        let was_open = is_open(&old);
-        let opens = is_open(&new);
-        self.open_ones = recounted(self.open_ones, was_open, opens);
-        self.unspent = recounted(self.unspent, old.unspent, new.unspent);
-        self.rows.put(place, new);
+        self.write(place, &old, new);
     }
 
-    // What an entry does that names one job alone.
-    fn settle(&mut self, job: JobId, kind: &CoreKind)
+    /// What an entry does that names one job alone.
+    #[inline(always)]
+    pub fn settle(&mut self, job: JobId, kind: &CoreKind)
         requires { LeavesOthers kind.now job }
         ensures rows { self.new.rows ≡ map (booked_after kind.now) self.old.rows }
         ensures first { self.new.first ≡ self.old.first }
@@ -227,46 +211,66 @@ impl Bookings {
         }
     }
 
-    // What an entry does that names registrations: it goes over the reservations that may be unended.
-    fn sweep(&mut self, kind: &CoreKind)
-        requires { LeavesEnded kind.now }
-        ensures rows { self.new.rows ≡ map (booked_after kind.now) self.old.rows }
+    // Ends the reservation in a place.
+    fn end(&mut self, place: usize)
+        requires { place < length self.old.rows }
+        ensures rows { (d : BookedRow) → self.new.rows ≡ slice_set self.old.rows place
+            (ended_row (slice_index_or self.old.rows place d)) }
         ensures first { self.new.first ≡ self.old.first }
         ensures room { self.new.has_room ≡ self.old.has_room }
     {
-        let first = self.ended;
-        let end = self.rows.len();
-        for place in first..end {
-            self.change(place, kind);
-        }
-        self.pass_ended();
+        let old = self.rows.at(place);
+        let new = booked::ended(&old);
+        self.write(place, &old, new);
     }
 
-    // Counts the first reservations anew that are ended.
-    fn pass_ended(&mut self)
-        ensures { self.new ≡ self.old }
-    {
-        self.ended += ended_count(&self.rows.rows()[self.ended..]);
-    }
-
-    // What an entry does to the reservations that were made before it.
-    fn pass(&mut self, kind: &CoreKind)
-        ensures rows { self.new.rows ≡ map (booked_after kind.now) self.old.rows }
+    /// Ends the reservation of a job, if there is one.
+    pub fn end_job(&mut self, job: JobId)
+        ensures rows { self.new.rows ≡ map (ended_job job) self.old.rows }
         ensures first { self.new.first ≡ self.old.first }
         ensures room { self.new.has_room ≡ self.old.has_room }
     {
-        match kind {
-            CoreKind::Reserve(_) => (),
-            CoreKind::Commit { job, .. } => self.settle(*job, kind),
-            CoreKind::Undo { job, .. } => self.settle(*job, kind),
-            CoreKind::Beat { .. } => self.sweep(kind),
-            CoreKind::Update { job, .. } => self.settle(*job, kind),
-            CoreKind::Status { .. } => self.sweep(kind),
+        match self.rows.place_of(job.0) {
+            Some(place) => self.end(place),
+            None => (),
         }
     }
 
-    // Adds a reservation that is new, whose job has the next id. It takes no memory.
-    fn push(&mut self, row: BookedRow)
+    /// Ends the reservation in a place, where it is at the registration.
+    fn end_at(&mut self, place: usize, reg: u64)
+        ensures rows { self.new.rows ≡ ended_in reg place self.old.rows }
+        ensures first { self.new.first ≡ self.old.first }
+        ensures room { self.new.has_room ≡ self.old.has_room }
+    {
+        if booked::is_own_at(self.rows.rows(), place, reg) {
+            self.end(place);
+        }
+    }
+
+    /// Ends the reservations in those places that are at the registration.
+    pub fn end_each(&mut self, places: &[usize], reg: u64)
+        ensures rows { self.new.rows ≡ ended_in_all reg places.now self.old.rows }
+        ensures first { self.new.first ≡ self.old.first }
+        ensures room { self.new.has_room ≡ self.old.has_room }
+    {
+        for place in places {
+            self.end_at(*place, reg);
+        }
+    }
+
+    /// Ends the reservations of those jobs.
+    pub fn end_jobs(&mut self, jobs: &[JobId])
+        ensures rows { self.new.rows ≡ map (ended_jobs jobs.now) self.old.rows }
+        ensures first { self.new.first ≡ self.old.first }
+        ensures room { self.new.has_room ≡ self.old.has_room }
+    {
+        for job in jobs {
+            self.end_job(*job);
+        }
+    }
+
+    /// Adds a reservation that is new, whose job has the next id. It takes no memory.
+    pub fn push(&mut self, row: BookedRow)
         requires room { self.old.has_room ≡ true }
         requires follows { row.job.0 ≡ (self.old.first + length self.old.rows) % 2 ^ 64 }
         ensures rows { self.new.rows ≡ self.old.rows ++ row ∷ [] }
@@ -276,19 +280,5 @@ impl Bookings {
         self.open_ones = recounted(self.open_ones, false, opens);
         self.unspent = recounted(self.unspent, false, row.unspent);
         self.rows.push(row);
-    }
-
-    /// Takes an entry into the books, and the reservation that it makes, if it makes one. It takes no memory.
-    pub fn absorb(&mut self, kind: &CoreKind, made: Option<BookedRow>)
-        requires room { IsSome made → self.old.has_room ≡ true }
-        requires follows { IfSome made (λ b. b.job.0 ≡ (self.old.first + length self.old.rows) % 2 ^ 64) }
-        ensures rows { self.new.rows ≡ map (booked_after kind.now) self.old.rows ++ option_to_list made }
-        ensures first { self.new.first ≡ self.old.first }
-    {
-        self.pass(kind);
-        match made {
-            Some(row) => self.push(row),
-            None => (),
-        }
     }
 }

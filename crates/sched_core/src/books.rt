@@ -1,42 +1,50 @@
 //! What the scheduler keeps beside its log. Contracts see it as lists; what the calls ask is asked here.
 ghost use Rattle.std.specs.Prelude.{◌≡◌, ◌==◌, ◌&&◌, ◌<◌, ◌≤◌, ◌+◌, ◌*◌, ◌^◌, ℕ, IfOk, OnOk, true, find};
-ghost use Rattle.std.specs.Prelude.{◌%◌, length, max, IfSome};
+ghost use Rattle.std.specs.Prelude.{◌%◌, Some, length, filter, max, IfSome};
 ghost use Rattle.std.specs.List.{list_any};
 ghost use Rattle.std.specs.Option.{option_map};
 ghost use Rattle.sched_core.specs.Log.{same_job};
 ghost use Rattle.sched_core.specs.Pick.{pick};
 ghost use Rattle.sched_core.specs.Prune.{prune};
-ghost use Rattle.sched_core.specs.Rule.{noted_over, reserved_at, beat_over, counts_over};
-ghost use Rattle.sched_core.specs.Books.{MayRegister, MayReserve, no_lists, lists_next, booked_by};
+ghost use Rattle.sched_core.specs.Rule.{noted_over, reserved_at, beat_over, counts_over, reaped_by};
+ghost use Rattle.sched_core.specs.Rule.{is_left};
+ghost use Rattle.sched_core.specs.Reap.{reap};
+ghost use Rattle.sched_core.specs.Laws.{AreRising};
+ghost use Rattle.sched_core.specs.Own.{HasRoomFor, HasJobRoom, AreReapedApart};
+ghost use Rattle.sched_core.specs.Books.{MayRegister, no_lists, lists_next, booked_by};
 ghost use Rattle.sched_core.specs.Booked.{held_view, jobs_by_id, unspent_view, open_view};
 ghost use Rattle.sched_core.specs.Books.{rows_next};
 ghost use Rattle.sched_core.specs.Registrations.{AreFew, AreSoundRows, decide_looks};
 
-use crate::booked::booked;
+use crate::booked::{booked, job_made};
 use crate::bookings::Bookings;
 use crate::change::{absorb_rows, push_row};
 use crate::entry::{CoreEntry, CoreKind, Reserved};
 use crate::registrations::Registrations;
 use crate::rows::{Jobs, OpenRow, ServerRow, Servers};
-use crate::{decide, held, standing};
+use crate::{decide, own, standing};
 use dist_types::ids::{JobId, ServerId, ServerNonce};
 use dist_types::results::SchedulerStatusResult;
 use dist_types::text::{Bytes, Items};
+use numbered_lists::NumberedLists;
 use std::alloc::{AllocError, Global};
 use std::marker::{Brand, Model};
 use std::sync::ledger::{Blank, Ledger};
 use winner_tree::Steps;
 
-/// The answers to what is asked of the log. Contracts see its lists, and whether there is room for one
-/// registration more and for one reservation more.
+/// The answers to what is asked of the log. Contracts see its lists, whether there is room for one
+/// registration more, and the registration at which there is room for one reservation more, if there is
+/// one.
 #[derive(Drop)]
 pub struct Books {
     rows: Registrations,
     bookings: Bookings,
+    own: NumberedLists,
 }
 
 impl Model for Books {
     ghost use Rattle.sched_core.specs.Books.{Kept};
+    ghost use Rattle.sched_core.specs.Own.{AreOwn, room_for};
 
     ghost Value = { Kept };
 
@@ -44,10 +52,20 @@ impl Model for Books {
       lists = record { rows = b.rows.rows; booked = b.bookings.rows };
       first = b.bookings.first;
       has_row_room = b.rows.places.has_left;
-      has_job_room = b.bookings.has_room;
+      job_room = room_for b.bookings.has_room b.own.ready;
       places = b.rows.places.count;
       top = b.rows.places.top;
     } };
+
+    ghost invariant = { λ b. AreOwn b.bookings.rows b.own.lists };
+}
+
+/// The reservations of a registration, if there is one.
+fn load_of(row: &Option<ServerRow>) -> u64 {
+    match row {
+        Some(row) => row.load,
+        None => 0,
+    }
 }
 
 impl Books {
@@ -61,6 +79,7 @@ impl Books {
         Books {
             rows: Registrations::new(alloc),
             bookings: Bookings::new(alloc, first),
+            own: NumberedLists::new(alloc),
         }
     }
 
@@ -124,10 +143,50 @@ impl Books {
 
     /// The numbers of a status that prunes those registrations.
     pub fn counts(&self, pruned: &[u64], now: u64) -> SchedulerStatusResult
-        requires { pruned.now ≡ prune now self.now.lists.rows }
+        requires are { pruned.now ≡ prune now self.now.lists.rows }
+        requires rising { AreRising pruned.now }
         ensures { result ≡ counts_over self.now.lists.rows (open_view self.now.lists.booked) now }
     {
-        decide::counts(&self.rows, &self.bookings, pruned, now)
+        let left = self.open_left(pruned);
+        decide::counts(&self.rows, pruned, left, now)
+    }
+
+    // How many open jobs are at none of those registrations, whose numbers rise.
+    fn open_left(&self, pruned: &[u64]) -> u64
+        requires { AreRising pruned.now }
+        ensures { result ≡ length (filter (λ o. is_left pruned.now o.reg) (open_view self.now.lists.booked)) }
+    {
+        own::open_left(&self.bookings, &self.own, pruned)
+    }
+
+    // The jobs that a heartbeat of the registration reaps.
+    fn reaped_at(&self, alloc: Global, reg: u64, now: u64) -> Result<Vec<JobId>, AllocError>
+        ensures { IfOk result (λ v. v.items ≡ reap now reg (held_view self.now.lists.booked)) }
+    {
+        own::reaped_jobs(alloc, self.bookings.rows(), self.own.of(reg), reg, now)
+    }
+
+    // The jobs that a heartbeat with this nonce reaps, where that registration stands at its address.
+    fn reaped(
+        &self,
+        alloc: Global,
+        there: &Option<ServerRow>,
+        now: u64,
+        nonce: ServerNonce,
+    ) -> Result<Vec<JobId>, AllocError>
+        ensures { IfOk result (λ v. v.items ≡
+            reaped_by now nonce (held_view self.now.lists.booked) there.now) }
+    {
+        match there {
+            Some(row) => {
+                if row.nonce == nonce {
+                    self.reaped_at(alloc, row.reg, now)
+                } else {
+                    Ok(Vec::new(alloc))
+                }
+            }
+            None => Ok(Vec::new(alloc)),
+        }
     }
 
     /// What becomes of a reserve, where so many ids were given before. Refused for want of memory alone.
@@ -163,7 +222,7 @@ impl Books {
     {
         let pruned = self.pruned(alloc, now)?;
         let there = self.rows.survivor(now, server);
-        let reaped = decide::reaped(alloc, self.bookings.live(), &there, now, nonce)?;
+        let reaped = self.reaped(alloc, &there, now, nonce)?;
         let key = Bytes::from_slice(alloc, key)?;
         let kind = CoreKind::Beat {
             server,
@@ -220,23 +279,42 @@ impl Books {
         self.rows.make_room(alloc)
     }
 
-    /// Makes room for one reservation more. Refused for want of memory alone; the lists stay.
-    pub fn make_job_room(&mut self) -> Result<(), AllocError>
+    // Makes room for one reservation more at a registration. Refused for want of memory alone; the lists
+    // stay.
+    fn make_room_at(&mut self, alloc: Global, reg: u64) -> Result<(), AllocError>
         ensures lists { self.new.lists ≡ self.old.lists }
         ensures first { self.new.first ≡ self.old.first }
-        ensures room { OnOk result (self.new.has_job_room ≡ true) }
+        ensures room { OnOk result (self.new.job_room ≡ Some reg) }
         ensures top { self.new.top ≡ self.old.top }
         ensures places { self.new.places ≡ self.old.places }
     {
-        self.bookings.make_room()
+        let row = self.rows.row(reg);
+        own::make_room(alloc, &mut self.bookings, &mut self.own, reg, load_of(&row))
+    }
+
+    /// Makes room for the reservation that a reserve makes. Refused for want of memory alone; the lists stay.
+    pub fn make_job_room(&mut self, alloc: Global, reserved: &Reserved) -> Result<(), AllocError>
+        ensures lists { self.new.lists ≡ self.old.lists }
+        ensures first { self.new.first ≡ self.old.first }
+        ensures room { OnOk result (HasRoomFor reserved.now self.new.job_room) }
+        ensures top { self.new.top ≡ self.old.top }
+        ensures places { self.new.places ≡ self.old.places }
+    {
+        match reserved {
+            Reserved::Job { reg, .. } => self.make_room_at(alloc, *reg),
+            Reserved::NoRoom(_) => Ok(()),
+            Reserved::Spent => Ok(()),
+        }
     }
 
     /// Takes an entry of this number into the books. It takes no memory.
+    #[inline(always)]
     pub fn absorb<L: Ledger>(&mut self, step: &CoreEntry, number: u64, steps: &mut Steps<L>)
         requires sound { AreSoundRows (rows_next self.old.lists step.now number) }
         requires above { self.old.top ≤ number }
         requires row_room { MayRegister step.now.kind → self.old.has_row_room ≡ true }
-        requires job_room { MayReserve step.now.kind → self.old.has_job_room ≡ true }
+        requires job_room { HasJobRoom step.now.kind self.old.job_room }
+        requires apart { AreReapedApart step.now.kind }
         requires follows { IfSome (booked_by step.now.kind self.old.lists.rows number step.now.now)
             (λ b. b.job.0 ≡ (self.old.first + length self.old.lists.booked) % 2 ^ 64) }
         ensures lists { self.new.lists ≡ lists_next self.old.lists step.entry.now number }
@@ -246,10 +324,10 @@ impl Books {
         ensures looks { (h : ℕ) → self.old.places ≤ 2 ^ h
             → AreFew step.entry.now.kind h steps.old steps.new }
     {
-        let job = held::job_made(&step.kind, &self.rows, number, step.now);
+        let job = job_made(&step.kind, &self.rows, number, step.now);
         let made = booked(&job);
         absorb_rows(&mut self.rows, &self.bookings, step, steps);
         push_row(&mut self.rows, standing::row_made(step, number), steps);
-        self.bookings.absorb(&step.kind, made);
+        own::absorb(&mut self.bookings, &mut self.own, &step.kind, made);
     }
 }

@@ -1,24 +1,28 @@
 //! What an entry does to the registrations that stand, one by one.
 ghost use Rattle.std.specs.Prelude.{◌≡◌, ◌≤◌, ◌+◌, ◌*◌, ◌^◌, ◌++◌, ℕ, true, false, None, IsSome, IfSome};
-ghost use Rattle.std.specs.Prelude.{map, ◌&&◌};
+ghost use Rattle.std.specs.Prelude.{map, ◌&&◌, ◌∷◌, [], if◌then◌else◌};
+ghost use Rattle.std.specs.List.{AllByRecursion};
 ghost use Rattle.std.specs.Prelude.{filter, not, length, option_to_list};
 ghost use Rattle.std.specs.Option.{option_map};
 ghost use Rattle.sched_core.specs.Log.{names, is_this};
 ghost use Rattle.sched_core.specs.Books.{row_after, row_freed, row_lowered, row_stays, served_by, settled};
-ghost use Rattle.sched_core.specs.Books.{FreesNoOther};
+ghost use Rattle.sched_core.specs.Books.{FreesNoOther, place_if, lowered_in};
 ghost use Rattle.sched_core.specs.Changes.{row_changed, row_changed_at, row_changed_if, row_forgiven};
 ghost use Rattle.sched_core.specs.Changes.{row_reserved, row_renewed};
 ghost use Rattle.sched_core.specs.Registrations.{AreFew, reserve_looks, AreSoundRows};
 ghost use Rattle.sched_core.specs.Reservation.{frees_by};
-ghost use Rattle.sched_core.specs.Booked.{held_view, open_view};
+ghost use Rattle.sched_core.specs.Booked.{held_view, open_view, open_in};
+ghost use Rattle.sched_core.specs.declared.change.Change.TheVariants.{See, Lower};
+ghost use Rattle.sched_core.specs.Laws.{AreDistinct};
+ghost use Rattle.sched_core.specs.Own.{AreReapedApart, row_without};
 
-use crate::booked::BookedRow;
+use crate::booked::{self, BookedRow};
 use crate::bookings::Bookings;
+use crate::effects::{frees, heard, is_number};
 use crate::entry::{CoreEntry, CoreKind, Reserved};
-use crate::kind::{frees, heard};
 use crate::registrations::Registrations;
 use crate::rows::ServerRow;
-use crate::standing::{one_more, place_if_heard};
+use crate::standing::{one_more, place_if_heard, place_of};
 use dist_types::ids::{JobId, ServerId};
 use std::sync::ledger::Ledger;
 use winner_tree::Steps;
@@ -36,9 +40,12 @@ pub enum Change {
     Note(u64),
     /// Its last sign at that moment.
     See(u64),
+    /// One reservation less, and its last sign at that moment.
+    LowerAndSee(u64),
 }
 
 /// The row after a change.
+#[inline(always)]
 pub fn changed(row: ServerRow, change: Change) -> ServerRow
     ensures { result ≡ row_changed change row }
 {
@@ -60,10 +67,16 @@ pub fn changed(row: ServerRow, change: Change) -> ServerRow
             seen: moment,
             ..row
         },
+        Change::LowerAndSee(moment) => ServerRow {
+            load: row.load.saturating_sub(1),
+            seen: moment,
+            ..row
+        },
     }
 }
 
 /// Changes the registration of that number, if there is a number.
+#[inline(always)]
 fn apply_if<L: Ledger>(
     rows: &mut Registrations,
     reg: Option<u64>,
@@ -92,6 +105,7 @@ fn forgive<L: Ledger>(rows: &mut Registrations, numbers: &[u64], steps: &mut Ste
 }
 
 /// What a reserve does.
+#[inline(always)]
 fn reserve<L: Ledger>(rows: &mut Registrations, reserved: &Reserved, steps: &mut Steps<L>)
     ensures rows { rows.new.rows ≡ map (row_reserved reserved.now) rows.old.rows }
     ensures places { rows.new.places ≡ rows.old.places }
@@ -239,28 +253,48 @@ fn free_job<L: Ledger>(
     }
 }
 
-/// Takes the reservations of those that an entry ends from the loads of their registrations.
-fn free_each<L: Ledger>(
+/// Takes the reservation of a job, where it is unended, from the load of its registration.
+fn free_one<L: Ledger>(
     rows: &mut Registrations,
-    bookings: &[BookedRow],
-    kind: &CoreKind,
+    bookings: &Bookings,
+    job: JobId,
     steps: &mut Steps<L>,
 )
-    ensures rows { rows.new.rows ≡ map (row_freed kind.now (held_view bookings.now)) rows.old.rows }
+    ensures rows { rows.new.rows ≡ map (row_without (job ∷ []) (held_view bookings.now.rows)) rows.old.rows }
     ensures places { rows.new.places ≡ rows.old.places }
 {
-    for b in bookings {
-        lower_if(rows, freed(b, kind), b.reg, steps);
+    match bookings.row(job) {
+        Some(b) => lower_if(rows, b.unended, b.reg, steps),
+        None => (),
     }
 }
 
-/// Takes the reservations that an entry ends from the loads of their registrations.
+/// Takes the reservations of different jobs, where they are unended, from the loads of their registrations.
+fn free_each<L: Ledger>(
+    rows: &mut Registrations,
+    bookings: &Bookings,
+    jobs: &[JobId],
+    steps: &mut Steps<L>,
+)
+    requires { AreDistinct jobs.now }
+    ensures rows { rows.new.rows ≡ map (row_without jobs.now (held_view bookings.now.rows)) rows.old.rows }
+    ensures places { rows.new.places ≡ rows.old.places }
+{
+    for job in jobs {
+        free_one(rows, bookings, *job, steps);
+    }
+}
+
+/// Takes the reservations that an entry ends from the loads of their registrations, where it leaves all these
+/// standing.
 fn free_rows<L: Ledger>(
     rows: &mut Registrations,
     bookings: &Bookings,
     kind: &CoreKind,
     steps: &mut Steps<L>,
 )
+    requires stay { AllByRecursion (λ r. row_stays kind.now r ≡ true) rows.old.rows }
+    requires apart { AreReapedApart kind.now }
     ensures rows { rows.new.rows ≡ map (row_freed kind.now (held_view bookings.now.rows)) rows.old.rows }
     ensures places { rows.new.places ≡ rows.old.places }
 {
@@ -268,20 +302,22 @@ fn free_rows<L: Ledger>(
         CoreKind::Reserve(_) => (),
         CoreKind::Commit { .. } => (),
         CoreKind::Undo { job, .. } => free_job(rows, bookings, *job, kind, steps),
-        CoreKind::Beat { .. } => free_each(rows, bookings.live(), kind, steps),
+        CoreKind::Beat { reaped, .. } => free_each(rows, bookings, reaped.get(), steps),
         CoreKind::Update { job, .. } => free_job(rows, bookings, *job, kind, steps),
-        CoreKind::Status { .. } => free_each(rows, bookings.live(), kind, steps),
+        CoreKind::Status { .. } => (),
     }
 }
 
 /// What an entry does to the registrations that stood before it: those that it ends are taken out, and the
 /// others get their loads, last signs and errors.
+#[inline(always)]
 fn settle<L: Ledger>(
     rows: &mut Registrations,
     bookings: &Bookings,
     step: &CoreEntry,
     steps: &mut Steps<L>,
 )
+    requires { AreReapedApart step.now.kind }
     ensures rows { rows.new.rows ≡
         settled step.entry.now (held_view bookings.now.rows) (open_view bookings.now.rows) rows.old.rows }
     ensures places { rows.new.places ≡ rows.old.places }
@@ -291,13 +327,64 @@ fn settle<L: Ledger>(
     change_rows(rows, step, bookings, steps);
 }
 
-/// The same. A reserve looks at no more nodes of the trees than it must.
+/// Takes one reservation from the load of a registration, if one is given, and then gives that of the other
+/// number, if there is one, its last sign. Where both are one it is changed once.
+#[inline(always)]
+fn lower_and_see<L: Ledger>(
+    rows: &mut Registrations,
+    lowered: Option<u64>,
+    seen: Option<u64>,
+    now: u64,
+    steps: &mut Steps<L>,
+)
+    ensures rows { rows.new.rows ≡
+        map (row_changed_if (See now) seen) (map (row_changed_if Lower lowered) rows.old.rows) }
+    ensures places { rows.new.places ≡ rows.old.places }
+{
+    match lowered {
+        Some(reg) => {
+            if is_number(seen, reg) {
+                rows.change(reg, Change::LowerAndSee(now), steps);
+            } else {
+                apply_if(rows, lowered, Change::Lower, steps);
+                apply_if(rows, seen, Change::See(now), steps);
+            }
+        }
+        None => apply_if(rows, seen, Change::See(now), steps),
+    }
+}
+
+/// The registration of the reservation that was found, where an entry ends it.
+fn lowered_in(found: &Option<BookedRow>, kind: &CoreKind) -> Option<u64>
+    ensures { result ≡ lowered_in kind.now found.now }
+{
+    match found {
+        Some(b) => { if freed(b, kind) { Some(b.reg) } else { None } }
+        None => None,
+    }
+}
+
+/// The registration of the open job of the reservation that was found, where it counts.
+fn seen_in(found: &Option<BookedRow>, heard: bool) -> Option<u64>
+    ensures { result ≡ (if heard then place_if (open_in found.now) else None) }
+{
+    if heard {
+        let open = booked::open_job(found);
+        place_of(&open)
+    } else {
+        None
+    }
+}
+
+/// The same. A reserve looks at no more nodes of the trees than it must, and an update changes one row once.
+#[inline(always)]
 pub fn absorb_rows<L: Ledger>(
     rows: &mut Registrations,
     bookings: &Bookings,
     step: &CoreEntry,
     steps: &mut Steps<L>,
 )
+    requires { AreReapedApart step.now.kind }
     ensures rows { rows.new.rows ≡
         settled step.entry.now (held_view bookings.now.rows) (open_view bookings.now.rows) rows.old.rows }
     ensures places { rows.new.places ≡ rows.old.places }
@@ -309,12 +396,18 @@ pub fn absorb_rows<L: Ledger>(
         CoreKind::Commit { .. } => settle(rows, bookings, step, steps),
         CoreKind::Undo { .. } => settle(rows, bookings, step, steps),
         CoreKind::Beat { .. } => settle(rows, bookings, step, steps),
-        CoreKind::Update { .. } => settle(rows, bookings, step, steps),
+        CoreKind::Update { job, answer, .. } => {
+            let found = bookings.row(*job);
+            let lowered = lowered_in(&found, &step.kind);
+            let seen = seen_in(&found, heard(*answer));
+            lower_and_see(rows, lowered, seen, step.now, steps);
+        }
         CoreKind::Status { .. } => settle(rows, bookings, step, steps),
     }
 }
 
 /// Adds a registration, if there is one.
+#[inline(always)]
 pub fn push_row<L: Ledger>(rows: &mut Registrations, row: Option<ServerRow>, steps: &mut Steps<L>)
     requires room { IsSome row → rows.old.places.has_left ≡ true }
     requires above { IfSome row (λ r. rows.old.places.top ≤ r.reg) }

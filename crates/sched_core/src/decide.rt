@@ -1,19 +1,13 @@
 //! What a call decides over the registrations that stand.
-ghost use Rattle.std.specs.Prelude.{◌≡◌, ◌≤◌, ◌<◌, ◌+◌, ◌^◌, ◌&&◌, ℕ, IfOk, length, map, filter};
+ghost use Rattle.std.specs.Prelude.{◌≡◌, ◌≤◌, ◌<◌, ◌+◌, ◌^◌, [], ℕ, IfOk};
 ghost use Rattle.sched_core.specs.Pick.{pick, forgiven};
 ghost use Rattle.sched_core.specs.Prune.{prune};
-ghost use Rattle.sched_core.specs.Reap.{is_reaped, reap};
-ghost use Rattle.sched_core.specs.Rule.{noted_over, reserved_at, reaped_by, counts_over};
-ghost use Rattle.sched_core.specs.Booked.{held_part_of, held_view, open_view};
+ghost use Rattle.sched_core.specs.Rule.{noted_over, reserved_at, counts_over};
 ghost use Rattle.sched_core.specs.Registrations.{decide_looks};
 
-use crate::booked::{BookedRow, held_part};
-use crate::bookings::Bookings;
 use crate::entry::Reserved;
 use crate::registrations::Registrations;
-use crate::rows::ServerRow;
-use crate::rules::reapable;
-use dist_types::ids::{JobId, ServerId, ServerNonce};
+use dist_types::ids::{JobId, ServerId};
 use dist_types::results::SchedulerStatusResult;
 use dist_types::text::Items;
 use std::alloc::{AllocError, Global};
@@ -49,79 +43,20 @@ pub fn pruned<L: Ledger>(
     rows.pruned(alloc, now, &mut steps)
 }
 
-/// The numbers of a status that prunes those registrations.
+/// The numbers of a status that prunes those registrations, where so many open jobs are left.
 pub fn counts(
     rows: &Registrations,
-    bookings: &Bookings,
     pruned: &[u64],
+    open_left: u64,
     now: u64,
 ) -> SchedulerStatusResult
     requires { pruned.now ≡ prune now rows.now.rows }
-    ensures { result ≡ counts_over rows.now.rows (open_view bookings.now.rows) now }
+    ensures { result ≡ record (counts_over rows.now.rows [] now) { in_progress = open_left } }
 {
     SchedulerStatusResult {
         num_servers: (rows.len() - pruned.len()) as u64,
-        num_cpus: rows.cpus_left(now),
-        in_progress: bookings.open_left(pruned),
-    }
-}
-
-/// Whether a heartbeat of the registration reaps the reservation.
-fn reaps(b: &BookedRow, reg: u64, now: u64) -> bool
-    ensures { result ≡ (b.now.unended && is_reaped now reg (held_part_of b.now)) }
-{
-    let held = held_part(b);
-    b.unended && reapable(&held, reg, now)
-}
-
-/// The jobs among those reservations that are reaped so.
-fn jobs_to_reap(
-    alloc: Global,
-    bookings: &[BookedRow],
-    reg: u64,
-    now: u64,
-) -> Result<Vec<JobId>, AllocError>
-    ensures { IfOk result (λ v. v.items ≡ map (λ b. b.job)
-        (filter (λ b. b.unended && is_reaped now reg (held_part_of b)) bookings.now)) }
-{
-    bookings
-        .iter()
-        .filter(|b| reaps(b, reg, now))
-        .map(|b| b.job)
-        .collect(alloc)
-}
-
-/// The jobs among those reservations that a heartbeat of the registration reaps.
-fn reaped_jobs(
-    alloc: Global,
-    bookings: &[BookedRow],
-    reg: u64,
-    now: u64,
-) -> Result<Vec<JobId>, AllocError>
-    ensures { IfOk result (λ v. v.items ≡ reap now reg (held_view bookings.now)) }
-{
-    jobs_to_reap(alloc, bookings, reg, now)
-}
-
-/// The jobs that a heartbeat with this nonce reaps, where that registration stands at its address.
-pub fn reaped(
-    alloc: Global,
-    bookings: &[BookedRow],
-    there: &Option<ServerRow>,
-    now: u64,
-    nonce: ServerNonce,
-) -> Result<Vec<JobId>, AllocError>
-    ensures { IfOk result (λ v. v.items ≡ reaped_by now nonce (held_view bookings.now) there.now) }
-{
-    match there {
-        Some(row) => {
-            if row.nonce == nonce {
-                reaped_jobs(alloc, bookings, row.reg, now)
-            } else {
-                Ok(Vec::new(alloc))
-            }
-        }
-        None => Ok(Vec::new(alloc)),
+        num_cpus: rows.cpus_left(pruned),
+        in_progress: open_left,
     }
 }
 

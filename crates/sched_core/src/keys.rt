@@ -1,17 +1,21 @@
-//! The keys of the registrations that stand.
-ghost use Rattle.std.specs.Prelude.{◌≡◌, ◌<◌, ◌≤◌, ◌==◌, IfOk, IfErr, filter, Some, None, true};
-ghost use Rattle.std.specs.Prelude.{if◌then◌else◌, vec_len, vec_capacity};
-ghost use Rattle.std.specs.List.{AllByRecursion, list_any};
-ghost use Rattle.sched_core.specs.Standing.{key_at};
+//! The keys of the registrations that stand, under their numbers.
+ghost use Rattle.std.specs.Prelude.{◌≡◌, ◌<◌, ◌≤◌, ◌==◌, IfOk, IfErr, OnOk, IsSome, Some, None, true};
+ghost use Rattle.std.specs.Prelude.{if◌then◌else◌};
+ghost use Rattle.std.specs.Prelude.{nat_eq};
+ghost use Rattle.std.specs.List.{list_any};
+ghost use Rattle.std.specs.Option.{option_copied};
+ghost use Rattle.lookup_table.specs.Lookup.{value_at};
+ghost use Rattle.sched_core.specs.Rows.{servers_of};
 ghost use Rattle.sched_core.specs.Answers.{IsTokenAt};
-ghost use Rattle.sched_core.specs.Books.{key_stays};
+ghost use Rattle.sched_core.specs.Books.{kept_by, keys_of, with_key, without, without_this, ended_keys};
 
-use crate::entry::CoreEntry;
+use crate::entry::{CoreEntry, CoreKind};
 use crate::error::SchedError;
-use crate::kind::ends;
 use dist_types::ids::JobId;
 use dist_types::roles::JobAuthorizer;
 use dist_types::text::Text;
+use lookup_table::LookupTable;
+use std::alloc::AllocError;
 use std::marker::Model;
 
 /// The authorizer under the key that a registration's own heartbeat carried.
@@ -29,15 +33,6 @@ impl<A: JobAuthorizer> Model for RegistrationKey<A> {
     ghost view = { λ k. (k.reg, A.key_of k.key) };
 }
 
-impl<A: JobAuthorizer> RegistrationKey<A> {
-    /// Whether an entry leaves its registration standing.
-    fn stays(&self, step: &CoreEntry) -> bool
-        ensures { result ≡ key_stays step.entry.now self.now }
-    {
-        !ends(&step.kind, self.reg)
-    }
-}
-
 /// The key that a heartbeat of this number brings, where it makes a registration.
 pub fn key_made<A: JobAuthorizer>(is_new: bool, number: u64, key: A) -> Option<RegistrationKey<A>>
     ensures { result ≡ (if is_new then Some (number, A.key_of key) else None) }
@@ -49,13 +44,89 @@ pub fn key_made<A: JobAuthorizer>(is_new: bool, number: u64, key: A) -> Option<R
     }
 }
 
-/// Takes out the keys of the registrations that an entry ends.
-pub fn end_keys<A: JobAuthorizer>(keys: &mut Vec<RegistrationKey<A>>, step: &CoreEntry)
-    ensures items { keys.new.items ≡ filter (key_stays step.entry.now) keys.old.items }
-    ensures len { vec_len keys.new ≤ vec_len keys.old }
-    ensures capacity { vec_capacity keys.new ≡ vec_capacity keys.old }
+/// Makes room for one key more. Refused for want of memory alone; the keys stay.
+pub fn make_room<A: JobAuthorizer>(keys: &mut LookupTable<u64, A>) -> Result<(), AllocError>
+    ensures keys { kept_by A.key_of keys.new.entries ≡ kept_by A.key_of keys.old.entries }
+    ensures room { OnOk result (0 < keys.new.spare) }
 {
-    keys.retain(|key| key.stays(step));
+    keys.make_room(1)
+}
+
+/// Adds the key of a registration. It takes no memory.
+fn put<A: JobAuthorizer>(keys: &mut LookupTable<u64, A>, held: RegistrationKey<A>)
+    requires { 0 < keys.old.spare }
+    ensures { kept_by A.key_of keys.new.entries ≡ with_key (Some held) (kept_by A.key_of keys.old.entries) }
+{
+    let RegistrationKey { reg, key } = held;
+    keys.put(reg, key);
+}
+
+/// Adds the key of a registration, if there is one. It takes no memory.
+#[inline(always)]
+pub fn put_key<A: JobAuthorizer>(keys: &mut LookupTable<u64, A>, key: Option<RegistrationKey<A>>)
+    requires room { IsSome key → 0 < keys.old.spare }
+    ensures { kept_by A.key_of keys.new.entries ≡ with_key key (kept_by A.key_of keys.old.entries) }
+{
+    match key {
+        Some(key) => put(keys, key),
+        None => (),
+    }
+}
+
+/// Takes out the key of the registration of that number.
+fn end_one<A: JobAuthorizer>(keys: &mut LookupTable<u64, A>, number: u64)
+    ensures keys { kept_by A.key_of keys.new.entries
+        ≡ without_this (Some number) (kept_by A.key_of keys.old.entries) }
+    ensures spare { keys.old.spare ≤ keys.new.spare }
+{
+    keys.take_out(&number);
+}
+
+/// Takes out the keys of the registrations of those numbers.
+fn end_each<A: JobAuthorizer>(keys: &mut LookupTable<u64, A>, numbers: &[u64])
+    ensures keys { kept_by A.key_of keys.new.entries
+        ≡ without numbers.now (kept_by A.key_of keys.old.entries) }
+    ensures spare { keys.old.spare ≤ keys.new.spare }
+{
+    for number in numbers {
+        end_one(keys, *number);
+    }
+}
+
+/// Takes out the key of the registration of that number, if there is a number.
+fn end_if<A: JobAuthorizer>(keys: &mut LookupTable<u64, A>, number: Option<u64>)
+    ensures keys { kept_by A.key_of keys.new.entries
+        ≡ without_this number (kept_by A.key_of keys.old.entries) }
+    ensures spare { keys.old.spare ≤ keys.new.spare }
+{
+    match number {
+        Some(number) => end_one(keys, number),
+        None => (),
+    }
+}
+
+/// Takes out the keys of the registrations that an entry ends, and touches no other.
+#[inline(always)]
+pub fn end_keys<A: JobAuthorizer>(keys: &mut LookupTable<u64, A>, kind: &CoreKind)
+    ensures keys { kept_by A.key_of keys.new.entries
+        ≡ ended_keys kind.now (kept_by A.key_of keys.old.entries) }
+    ensures spare { keys.old.spare ≤ keys.new.spare }
+{
+    match kind {
+        CoreKind::Reserve(_) => (),
+        CoreKind::Commit { .. } => (),
+        CoreKind::Undo { .. } => (),
+        CoreKind::Beat {
+            pruned,
+            replaced,
+            ..
+        } => {
+            end_each(keys, pruned.get());
+            end_if(keys, *replaced);
+        }
+        CoreKind::Update { .. } => (),
+        CoreKind::Status { pruned, .. } => end_each(keys, pruned.get()),
+    }
 }
 
 /// A job's token of an authorizer. Refused for want of memory alone.
@@ -69,22 +140,27 @@ fn token_of<A: JobAuthorizer>(authorizer: &A, job: JobId) -> Result<Text, SchedE
     }
 }
 
+/// The authorizer of a number, if there is one.
+fn authorizer_of<A: JobAuthorizer>(keys: &LookupTable<u64, A>, number: u64) -> Option<&A>
+    ensures { option_copied result ≡ value_at nat_eq number keys.now.entries }
+{
+    keys.get(&number)
+}
+
 /// The job's token under the key of a registration that stands. Refused for want of memory alone.
 pub fn token_at<A: JobAuthorizer>(
-    keys: &[RegistrationKey<A>],
+    keys: &LookupTable<u64, A>,
     log: &[CoreEntry],
     reg: u64,
     job: JobId,
 ) -> Result<Text, SchedError>
-    requires keys { AllByRecursion (λ k. key_at log.now k.0 ≡ Some k.1) keys.now }
-    requires stands { list_any (λ k. k.0 == reg) keys.now ≡ true }
+    requires keys { kept_by A.key_of keys.now.entries ≡ keys_of log.now }
+    requires stands { list_any (λ r. r.reg == reg) (servers_of log.now) ≡ true }
     ensures token { IfOk result (IsTokenAt A.key_of A.token_for log.now reg job) }
     ensures memory { IfErr result (λ e. e ≡ SchedError.Memory) }
 {
-    for key in keys {
-        if key.reg == reg {
-            return token_of(&key.key, job);
-        }
+    match authorizer_of(keys, reg) {
+        Some(key) => token_of(key, job),
+        None => unreachable!(),
     }
-    unreachable!()
 }

@@ -8,6 +8,7 @@
 //! `SchedError` and, in its own clauses, `rule`, `IsLegal` and the answers read off an entry.
 #![tactic(auto)]
 
+mod addresses;
 pub mod answers;
 mod booked;
 mod bookings;
@@ -15,21 +16,22 @@ mod books;
 pub mod call;
 mod change;
 mod decide;
+pub mod effects;
 pub mod entry;
 pub mod error;
-mod held;
 mod keys;
-pub mod kind;
 pub mod laws;
+mod own;
 mod places;
+mod processors;
 mod registrations;
 pub mod reservation;
 pub mod rows;
 pub mod rules;
-mod spending;
 mod standing;
 pub mod start;
 pub mod state;
 pub mod texts;
+mod tickets;
 
 pub use standing::HEARTBEAT_TIMEOUT;

@@ -10,11 +10,12 @@ ghost use Rattle.sched_core.specs.Registrations.{load_if_room, load_key_of, erro
 ghost use Rattle.sched_core.specs.Registrations.{sign_key_of, no_rows, trees_of, AreSoundRows};
 
 use crate::change::{Change, changed};
-use crate::places;
 use crate::rows::{ServerRow, Servers};
 use crate::rules::{ERROR_TIMEOUT, is_roomy};
 use crate::standing::HEARTBEAT_TIMEOUT;
+use crate::{addresses, places, processors};
 use dist_types::ids::ServerId;
+use lookup_table::LookupTable;
 use numbered_slots::Numbered;
 use ranked_rows::{Ranked, Ranks};
 use std::alloc::{AllocError, Global};
@@ -93,12 +94,14 @@ impl Ranked for ServerRow {
 #[derive(Drop)]
 pub struct Registrations {
     ranks: Ranks<ServerRow>,
+    addresses: LookupTable<ServerId, u64>,
+    cpus: u128,
 }
 
 impl Model for Registrations {
-    ghost use Rattle.std.specs.Prelude.{length, nat_lt};
+    ghost use Rattle.std.specs.Prelude.{◌+◌, ◌≤◌, length, nat_lt};
     ghost use Rattle.numbered_slots.specs.Slots.{rows_in, top};
-    ghost use Rattle.sched_core.specs.Registrations.{AreSoundRows, PlacedRows};
+    ghost use Rattle.sched_core.specs.Registrations.{AreIndexed, PlacedRows};
 
     ghost Value = { PlacedRows };
 
@@ -111,7 +114,8 @@ impl Model for Registrations {
       };
     } };
 
-    ghost invariant = { λ r. AreSoundRows (rows_in r.ranks.places) };
+    ghost invariant = { λ r. AreIndexed (rows_in r.ranks.places) r.addresses.entries r.cpus
+        × (length r.ranks.places ≤ length r.ranks.numbers + r.addresses.spare) };
 }
 
 /// The rows anew in so many places. Refused for want of memory alone.
@@ -155,6 +159,8 @@ impl Registrations {
     {
         Registrations {
             ranks: Ranks::new(alloc),
+            addresses: LookupTable::new(alloc),
+            cpus: 0,
         }
     }
 
@@ -184,22 +190,26 @@ impl Registrations {
         ensures row { result ≡ at_address server self.now.rows }
         ensures sound { AreSoundRows self.now.rows }
     {
-        places::row_at(self.ranks.places(), server)
+        match addresses::number_at(&self.addresses, server) {
+            Some(number) => self.ranks.row(number),
+            None => None,
+        }
     }
 
     /// The registration at an address, where it is not silent for too long.
     pub fn survivor(&self, now: u64, server: ServerId) -> Option<ServerRow>
         ensures { result ≡ at_address server (left now self.now.rows) }
     {
-        let row = places::row_at(self.ranks.places(), server);
+        let row = self.at(server);
         places::if_heard(row, now)
     }
 
-    /// How many processors are left once the registrations are pruned that are silent for too long.
-    pub fn cpus_left(&self, now: u64) -> u64
-        ensures { result ≡ min (2 ^ 64 - 1) (sum_by (λ r. r.cpus) (left now self.now.rows)) }
+    /// How many processors are left once those registrations are pruned.
+    pub fn cpus_left(&self, pruned: &[u64]) -> u64
+        ensures { (now : ℕ) → pruned.now ≡ prune now self.now.rows →
+            result ≡ min (2 ^ 64 - 1) (sum_by (λ r. r.cpus) (left now self.now.rows)) }
     {
-        places::cpus_left(self.ranks.places(), now)
+        processors::sum_without(&self.ranks, self.cpus, pruned)
     }
 
     /// The registration that the next reservation goes to.
@@ -248,14 +258,19 @@ impl Registrations {
     }
 
     /// Changes the registration of that number. Nothing changes where there is none.
+    #[inline(always)]
     pub fn change<L: Ledger>(&mut self, reg: u64, change: Change, steps: &mut Steps<L>)
         ensures rows { self.new.rows ≡ map (row_changed_at change reg) self.old.rows }
         ensures places { self.new.places ≡ self.old.places }
         ensures looks { (h : ℕ) → self.old.places.count ≤ 2 ^ h →
             steps.new ≤ steps.old + trees_of change * (2 * h + 1) }
     {
-        match self.ranks.row(reg) {
-            Some(row) => self.ranks.put(changed(row, change), steps),
+        match self.ranks.place_of(reg) {
+            Some(place) => {
+                let row = self.ranks.at(place);
+                let new = changed(row, change);
+                self.ranks.put_at(place, &row, new, steps);
+            }
             None => (),
         }
     }
@@ -265,7 +280,14 @@ impl Registrations {
         ensures rows { self.new.rows ≡ filter (λ r. not (reg == r.reg)) self.old.rows }
         ensures places { self.new.places ≡ self.old.places }
     {
-        self.ranks.take_out(reg, steps);
+        match self.ranks.row(reg) {
+            Some(row) => {
+                addresses::remove(&mut self.addresses, row.server);
+                self.cpus = processors::lowered(self.cpus, &row);
+                self.ranks.take_out(reg, steps);
+            }
+            None => (),
+        }
     }
 
     /// Adds a registration whose number is above all others. It takes no memory.
@@ -277,6 +299,9 @@ impl Registrations {
         ensures count { self.new.places.count ≡ self.old.places.count }
         ensures top { self.new.places.top ≡ row.reg + 1 }
     {
+        let _count = self.ranks.count();
+        addresses::put(&mut self.addresses, row.server, row.reg);
+        self.cpus = processors::raised(self.cpus, &row);
         self.ranks.push(row, steps);
     }
 
@@ -292,6 +317,7 @@ impl Registrations {
             return Ok(());
         }
         let places = places_for(self.ranks.count(), self.ranks.len())?;
+        addresses::make_room(&mut self.addresses, places)?;
         self.ranks = renewed::<Brand>(alloc, &self.ranks, places, Blank::new(1))?;
         Ok(())
     }

@@ -1,21 +1,20 @@
 //! The rows of the registrations that stand, and what one entry does to them.
-ghost use Rattle.std.specs.Prelude.{◌≡◌, ◌<◌, ◌≤◌, ◌+◌, ◌++◌, ◌∷◌, ◌||◌, ◌==◌, [], ◌-◌, ◌^◌, IfOk, IsSome};
-ghost use Rattle.std.specs.Prelude.{None, true, false, map, filter, find, length, min, sum_by};
-ghost use Rattle.std.specs.Prelude.{option_to_list, vec_len, vec_capacity, if◌then◌else◌};
+ghost use Rattle.std.specs.Prelude.{◌≡◌, ◌<◌, ◌≤◌, ◌+◌, ◌++◌, ◌∷◌, ◌==◌, [], ◌-◌};
+ghost use Rattle.std.specs.Prelude.{None, true, find};
+ghost use Rattle.std.specs.Prelude.{vec_len, vec_capacity, if◌then◌else◌};
 ghost use Rattle.sched_core.specs.Log.{same_job};
-ghost use Rattle.sched_core.specs.Prune.{is_expired, prune, left, at_address};
-ghost use Rattle.sched_core.specs.Rule.{replaced_by, says_new, counts_over, status_by};
-ghost use Rattle.sched_core.specs.Books.{row_by, row_stays, row_lowered, row_freed, place_if};
+ghost use Rattle.sched_core.specs.Prune.{is_expired};
+ghost use Rattle.sched_core.specs.Rule.{replaced_by, says_new, status_by};
+ghost use Rattle.sched_core.specs.Books.{row_by, place_if};
 ghost use Rattle.sched_core.specs.Books.{one_more_if};
 ghost use Rattle.sched_core.specs.Booked.{open_view};
 
 use crate::bookings::Bookings;
 use crate::entry::{CoreEntry, CoreKind};
 use crate::rows::{OpenRow, ServerRow};
-use dist_types::ids::{JobId, ServerId, ServerNonce};
+use dist_types::ids::{JobId, ServerNonce};
 use dist_types::results::SchedulerStatusResult;
 use dist_types::text::Items;
-use std::alloc::{AllocError, Global};
 
 /// A registration whose last sign is older is pruned, in milliseconds.
 pub const HEARTBEAT_TIMEOUT: u64 = 90000;
@@ -27,35 +26,8 @@ pub fn is_silent(row: &ServerRow, now: u64) -> bool
     now.saturating_sub(row.seen) > HEARTBEAT_TIMEOUT
 }
 
-/// The numbers of the registrations whose last sign is too long ago. Refused for want of memory alone.
-pub fn pruned_numbers(alloc: Global, rows: &[ServerRow], now: u64) -> Result<Vec<u64>, AllocError>
-    ensures { IfOk result (λ v. v.items ≡ prune now rows.now) }
-{
-    rows.iter()
-        .filter(|row| is_silent(row, now))
-        .map(|row| row.reg)
-        .collect(alloc)
-}
-
-/// The registration at an address, among those that are not pruned.
-pub fn survivor(rows: &[ServerRow], now: u64, server: ServerId) -> Option<ServerRow>
-    ensures { result ≡ at_address server (left now rows.now) }
-{
-    rows.iter()
-        .copied()
-        .filter(|row| !is_silent(row, now))
-        .find(|row| row.server == server)
-}
-
-/// The registration at an address.
-pub fn row_at(rows: &[ServerRow], server: ServerId) -> Option<ServerRow>
-    ensures { result ≡ at_address server rows.now }
-{
-    rows.iter().copied().find(|row| row.server == server)
-}
-
 /// The registration of an open job, if there is one.
-fn place_of(found: &Option<OpenRow>) -> Option<u64>
+pub fn place_of(found: &Option<OpenRow>) -> Option<u64>
     ensures { result ≡ place_if found.now }
 {
     match found {
@@ -85,6 +57,7 @@ pub fn one_more(more: bool, n: u64) -> u64
 }
 
 /// The registration that an entry of this number makes.
+#[inline(always)]
 pub fn row_made(step: &CoreEntry, number: u64) -> Option<ServerRow>
     ensures { result ≡ row_by step.entry.now.kind number step.entry.now.now }
 {
@@ -144,37 +117,6 @@ pub fn is_new(there: &Option<ServerRow>, nonce: ServerNonce) -> bool
     }
 }
 
-/// How many processors are left once those that are silent are pruned, at most 2^64 - 1.
-fn cpus_left(rows: &[ServerRow], now: u64) -> u64
-    ensures { result ≡ min (2 ^ 64 - 1) (sum_by (λ r. r.cpus) (left now rows.now)) }
-{
-    let mut total = 0u64;
-    for row in rows {
-        if !is_silent(row, now) {
-            total = total.saturating_add(row.cpus);
-        }
-    }
-    total
-}
-
-/// How many registrations are left once those that are silent are pruned.
-fn count_left(rows: &[ServerRow], now: u64) -> usize
-    ensures { result ≡ length (left now rows.now) }
-{
-    rows.iter().filter(|row| !is_silent(row, now)).count()
-}
-
-/// The numbers of a status, where no job is open.
-pub fn counts(rows: &[ServerRow], now: u64) -> SchedulerStatusResult
-    ensures { result ≡ counts_over rows.now [] now }
-{
-    SchedulerStatusResult {
-        num_servers: count_left(rows, now) as u64,
-        num_cpus: cpus_left(rows, now),
-        in_progress: 0,
-    }
-}
-
 /// The entry of a status.
 pub fn status_entry(now: u64, pruned: Vec<u64>, counts: SchedulerStatusResult) -> CoreEntry
     ensures { result ≡ status_by now pruned.items counts }
@@ -188,20 +130,8 @@ pub fn status_entry(now: u64, pruned: Vec<u64>, counts: SchedulerStatusResult) -
     CoreEntry { now, kind }
 }
 
-/// Adds an element, if there is one, where there is room for it.
-pub fn push_some<T: Drop>(items: &mut Vec<T>, item: Option<T>)
-    requires { IsSome item → vec_len items.old < vec_capacity items.old }
-    ensures items { items.new.items ≡ items.old.items ++ option_to_list item }
-    ensures len { vec_len items.new ≡ vec_len items.old + length (option_to_list item) }
-    ensures capacity { vec_capacity items.old ≤ vec_capacity items.new }
-{
-    match item {
-        Some(x) => push_reserved(items, x),
-        None => (),
-    }
-}
-
 /// Adds an element where there is room for it.
+#[inline(always)]
 pub fn push_reserved<T: Drop>(items: &mut Vec<T>, item: T)
     requires { vec_len items.old < vec_capacity items.old }
     ensures items { items.new.items ≡ items.old.items ++ item ∷ [] }

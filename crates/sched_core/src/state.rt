@@ -15,26 +15,28 @@ ghost use Rattle.sched_core.specs.Rows.{servers_of, jobs_of, job_row, unended_by
 ghost use Rattle.sched_core.specs.Answers.{Leaves, IsPicked, RefusesReserve, committed_by, undo_answer};
 ghost use Rattle.sched_core.specs.Answers.{updated_by};
 ghost use Rattle.sched_core.specs.Laws.{IsLegal, IsLawful, IsRule};
-ghost use Rattle.sched_core.specs.Books.{IsState, MayRegister, MayReserve, Kept, key_by};
+ghost use Rattle.sched_core.specs.Books.{IsState, MayRegister, Kept, key_by, kept_by};
+ghost use Rattle.sched_core.specs.Own.{HasRoomFor, HasJobRoom};
 ghost use Rattle.sched_core.specs.Books.{unspent_next};
 ghost use Rattle.sched_core.specs.Booked.{unspent_view};
 ghost use Rattle.sched_core.specs.declared.call.Call.TheVariants as call;
 
 use crate::answers::{Committed, Picked, Undone};
 use crate::books::Books;
-use crate::entry::{CoreEntry, CoreKind};
+use crate::entry::{CoreEntry, CoreKind, Reserved};
 use crate::error::SchedError;
 use crate::keys::{self, RegistrationKey};
 use crate::laws::legal_logs_are_lawful;
 use crate::reservation::Reservation;
 use crate::rows::{Jobs, Servers};
 use crate::start::Start;
-use crate::{rules, spending, standing};
+use crate::{rules, standing, tickets};
 use dist_types::ids::{JobId, ServerId, ServerNonce};
 use dist_types::results::{
     HeartbeatServerResult, JobState, SchedulerStatusResult, UpdateJobStateResult,
 };
 use dist_types::roles::JobAuthorizer;
+use lookup_table::LookupTable;
 use std::alloc::{AllocError, Global};
 use std::marker::{Brand, Model};
 use std::sync::ledger::{Blank, Ledger};
@@ -56,7 +58,7 @@ pub struct SchedState<A: JobAuthorizer> {
 #[derive(Drop)]
 struct Journal<A: JobAuthorizer> {
     books: Books,
-    keys: Vec<RegistrationKey<A>>,
+    keys: LookupTable<u64, A>,
     log: Vec<CoreEntry>,
 }
 
@@ -66,11 +68,12 @@ impl<A: JobAuthorizer> Model for SchedState<A> {
 
     ghost Value = { Core };
 
-    ghost use Rattle.sched_core.specs.Books.{IsState};
+    ghost use Rattle.sched_core.specs.Books.{IsState, kept_by};
 
     ghost view = { λ s. record { start = s.start; log = s.journal.log.items } };
 
-    ghost invariant = { λ s. IsState s.start s.journal.books s.journal.keys.items s.journal.log.items
+    ghost invariant = { λ s. IsState s.start s.journal.books (kept_by A.key_of s.journal.keys.entries)
+        s.journal.log.items
         (vec_len s.journal.log) (vec_capacity s.journal.log) };
 }
 
@@ -92,7 +95,7 @@ impl<A: JobAuthorizer> SchedState<A> {
             start: Start { base, count },
             journal: Journal {
                 books: Books::new(alloc, base.wrapping_add(count)),
-                keys: Vec::new(alloc),
+                keys: LookupTable::new(alloc),
                 log: Vec::new(alloc),
             },
         }
@@ -194,8 +197,13 @@ impl<A: JobAuthorizer> SchedState<A> {
             .journal
             .books
             .reserved(self.alloc, now, self.start.base, given, steps)?;
-        make_job_room(&mut self.journal.books, &mut self.journal.log)?;
-        let made = spending::made(
+        make_job_room(
+            self.alloc,
+            &mut self.journal.books,
+            &mut self.journal.log,
+            &reserved,
+        )?;
+        let made = tickets::made(
             &self.journal.books,
             &self.journal.keys,
             &self.journal.log,
@@ -204,7 +212,7 @@ impl<A: JobAuthorizer> SchedState<A> {
         let kind = CoreKind::Reserve(reserved);
         let entry = CoreEntry { now, kind };
         take(self.start, &mut self.journal, entry, None, steps);
-        spending::answer(made)
+        tickets::answer(made)
     }
 
     /// Spends a reservation at the moment `now`, in milliseconds: keeps its job in the state Pending or
@@ -227,7 +235,7 @@ impl<A: JobAuthorizer> SchedState<A> {
         let kind = CoreKind::Commit { job, state, kept };
         let entry = CoreEntry { now, kind };
         take_uncounted::<A, Brand>(self.start, &mut self.journal, entry, None, Blank::new(1));
-        spending::committed(kept, alloc)
+        tickets::committed(kept, alloc)
     }
 
     /// Gives a reservation back at the moment `now`, in milliseconds, which is noted as the error of the
@@ -252,7 +260,7 @@ impl<A: JobAuthorizer> SchedState<A> {
         let kind = CoreKind::Undo { job, noted, ended };
         let entry = CoreEntry { now, kind };
         take_uncounted::<A, Brand>(self.start, &mut self.journal, entry, None, Blank::new(1));
-        spending::undone(noted, ended)
+        tickets::undone(noted, ended)
     }
 
     /// Takes a heartbeat at the moment `now`, in milliseconds: prunes the registrations that are silent
@@ -325,7 +333,7 @@ impl<A: JobAuthorizer> SchedState<A> {
         };
         let entry = CoreEntry { now, kind };
         take_uncounted::<A, Brand>(self.start, &mut self.journal, entry, None, Blank::new(1));
-        spending::updated(answer, state)
+        tickets::updated(answer, state)
     }
 
     /// Prunes the registrations that are silent for too long at the moment `now`, in milliseconds, and
@@ -357,20 +365,25 @@ fn make_log_room(books: &Books, log: &mut Vec<CoreEntry>) -> Result<(), AllocErr
     log.reserve(books.unspent_count() + 2)
 }
 
-/// Makes room for what a reserve may add. Refused for want of memory alone; the lists stay.
-fn make_job_room(books: &mut Books, log: &mut Vec<CoreEntry>) -> Result<(), AllocError>
+/// Makes room for what a reserve adds. Refused for want of memory alone; the lists stay.
+fn make_job_room(
+    alloc: Global,
+    books: &mut Books,
+    log: &mut Vec<CoreEntry>,
+    reserved: &Reserved,
+) -> Result<(), AllocError>
     ensures lists { books.new.lists ≡ books.old.lists }
     ensures log { log.new.items ≡ log.old.items }
     ensures log_room { vec_len log.old + length (unspent_view books.old.lists.booked) ≤ vec_capacity log.old →
         vec_len log.new + length (unspent_view books.old.lists.booked) ≤ vec_capacity log.new }
     ensures first { books.new.first ≡ books.old.first }
-    ensures room { OnOk result (books.new.has_job_room ≡ true) }
+    ensures room { OnOk result (HasRoomFor reserved.now books.new.job_room) }
     ensures top { books.new.top ≡ books.old.top }
     ensures places { books.new.places ≡ books.old.places }
     ensures spare { OnOk result
         (vec_len log.new + length (unspent_view books.old.lists.booked) + 2 ≤ vec_capacity log.new) }
 {
-    books.make_job_room()?;
+    books.make_job_room(alloc, reserved)?;
     make_log_room(books, log)
 }
 
@@ -378,11 +391,11 @@ fn make_job_room(books: &mut Books, log: &mut Vec<CoreEntry>) -> Result<(), Allo
 fn make_row_room<A: JobAuthorizer>(
     alloc: Global,
     books: &mut Books,
-    keys: &mut Vec<RegistrationKey<A>>,
+    keys: &mut LookupTable<u64, A>,
     log: &mut Vec<CoreEntry>,
 ) -> Result<(), AllocError>
     ensures lists { books.new.lists ≡ books.old.lists }
-    ensures keys { keys.new.items ≡ keys.old.items }
+    ensures keys { kept_by A.key_of keys.new.entries ≡ kept_by A.key_of keys.old.entries }
     ensures log { log.new.items ≡ log.old.items }
     ensures log_room { vec_len log.old + length (unspent_view books.old.lists.booked) ≤ vec_capacity log.old →
         vec_len log.new + length (unspent_view books.old.lists.booked) ≤ vec_capacity log.new }
@@ -390,16 +403,17 @@ fn make_row_room<A: JobAuthorizer>(
     ensures room { OnOk result (books.new.has_row_room ≡ true) }
     ensures top { books.new.top ≤ books.old.top }
     ensures places { books.new.places ≤ max books.old.places (2 * max 1 (length books.old.lists.rows)) }
-    ensures keys_room { OnOk result (vec_len keys.new < vec_capacity keys.new) }
+    ensures keys_room { OnOk result (0 < keys.new.spare) }
     ensures spare { OnOk result
         (vec_len log.new + length (unspent_view books.old.lists.booked) + 2 ≤ vec_capacity log.new) }
 {
     books.make_row_room(alloc)?;
-    keys.reserve(1)?;
+    keys::make_room(keys)?;
     make_log_room(books, log)
 }
 
 /// Takes the next entry into the books and the log. It takes no memory.
+#[inline(always)]
 fn take<A: JobAuthorizer, L: Ledger>(
     start: Start,
     journal: &mut Journal<A>,
@@ -407,28 +421,29 @@ fn take<A: JobAuthorizer, L: Ledger>(
     key: Option<RegistrationKey<A>>,
     steps: &mut Steps<L>,
 )
-    requires state { IsState start journal.old.books journal.old.keys.items journal.old.log.items
-        (vec_len journal.old.log) (vec_capacity journal.old.log) }
+    requires state { IsState start journal.old.books (kept_by A.key_of journal.old.keys.entries)
+        journal.old.log.items (vec_len journal.old.log) (vec_capacity journal.old.log) }
     requires rule { IsRule (record { start = start; log = journal.old.log.items }) step }
     requires key { key ≡ key_by step.kind (length journal.old.log.items) }
     requires row_room { MayRegister step.kind → journal.old.books.has_row_room ≡ true }
-    requires job_room { MayReserve step.kind → journal.old.books.has_job_room ≡ true }
-    requires keys_room { MayRegister step.kind → vec_len journal.old.keys < vec_capacity journal.old.keys }
+    requires job_room { HasJobRoom step.kind journal.old.books.job_room }
+    requires keys_room { MayRegister step.kind → 0 < journal.old.keys.spare }
     requires log_room { vec_len journal.old.log + 1 +
         length (unspent_next journal.old.books.lists step (length journal.old.log.items))
         ≤ vec_capacity journal.old.log }
-    ensures state { IsState start journal.new.books journal.new.keys.items journal.new.log.items
-        (vec_len journal.new.log) (vec_capacity journal.new.log) }
+    ensures state { IsState start journal.new.books (kept_by A.key_of journal.new.keys.entries)
+        journal.new.log.items (vec_len journal.new.log) (vec_capacity journal.new.log) }
     ensures log { journal.new.log.items ≡ journal.old.log.items ++ step ∷ [] }
     ensures looks { (h : ℕ) → journal.old.books.places ≤ 2 ^ h → AreFew step.kind h steps.old steps.new }
 {
     journal.books.absorb(&step, journal.log.len() as u64, steps);
-    keys::end_keys(&mut journal.keys, &step);
-    standing::push_some(&mut journal.keys, key);
+    keys::end_keys(&mut journal.keys, &step.kind);
+    keys::put_key(&mut journal.keys, key);
     standing::push_reserved(&mut journal.log, step);
 }
 
 /// The same, where nobody counts.
+#[inline(always)]
 fn take_uncounted<A: JobAuthorizer, L: Ledger>(
     start: Start,
     journal: &mut Journal<A>,
@@ -439,18 +454,18 @@ fn take_uncounted<A: JobAuthorizer, L: Ledger>(
     requires name { blank.name ≡ L.name }
     requires parts { blank.parts ≡ L.parts }
     requires some { 0 < blank.parts }
-    requires state { IsState start journal.old.books journal.old.keys.items journal.old.log.items
-        (vec_len journal.old.log) (vec_capacity journal.old.log) }
+    requires state { IsState start journal.old.books (kept_by A.key_of journal.old.keys.entries)
+        journal.old.log.items (vec_len journal.old.log) (vec_capacity journal.old.log) }
     requires rule { IsRule (record { start = start; log = journal.old.log.items }) step }
     requires key { key ≡ key_by step.kind (length journal.old.log.items) }
     requires row_room { MayRegister step.kind → journal.old.books.has_row_room ≡ true }
-    requires job_room { MayReserve step.kind → journal.old.books.has_job_room ≡ true }
-    requires keys_room { MayRegister step.kind → vec_len journal.old.keys < vec_capacity journal.old.keys }
+    requires job_room { HasJobRoom step.kind journal.old.books.job_room }
+    requires keys_room { MayRegister step.kind → 0 < journal.old.keys.spare }
     requires log_room { vec_len journal.old.log + 1 +
         length (unspent_next journal.old.books.lists step (length journal.old.log.items))
         ≤ vec_capacity journal.old.log }
-    ensures state { IsState start journal.new.books journal.new.keys.items journal.new.log.items
-        (vec_len journal.new.log) (vec_capacity journal.new.log) }
+    ensures state { IsState start journal.new.books (kept_by A.key_of journal.new.keys.entries)
+        journal.new.log.items (vec_len journal.new.log) (vec_capacity journal.new.log) }
     ensures log { journal.new.log.items ≡ journal.old.log.items ++ step ∷ [] }
 {
     let mut steps = Steps::<L>::new(blank);

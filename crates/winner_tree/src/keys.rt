@@ -1,6 +1,6 @@
 //! The keys by which the scheduler picks.
-ghost use Rattle.std.specs.Prelude.{◌≡◌};
-ghost use Rattle.winner_tree.specs.Keys.{load_before, moment_before};
+ghost use Rattle.std.specs.Prelude.{◌≡◌, nat_lt};
+ghost use Rattle.winner_tree.specs.Keys.{less_or, load_before, moment_before};
 ghost use Rattle.winner_tree.specs.KeyLaws.{load_one_way, load_through, load_apart};
 ghost use Rattle.winner_tree.specs.KeyLaws.{moment_one_way, moment_through, moment_apart};
 
@@ -18,6 +18,16 @@ pub struct LoadKey {
     pub number: u64,
 }
 
+/// Whether the load is less, or they are equal and the number is less.
+fn goes_first(a: &LoadKey, b: &LoadKey) -> bool
+    ensures { result ≡ less_or a.now.load b.now.load (nat_lt a.now.number b.now.number) }
+{
+    if a.load != b.load {
+        return a.load < b.load;
+    }
+    a.number < b.number
+}
+
 impl Key for LoadKey {
     ghost before = { load_before };
 
@@ -27,7 +37,12 @@ impl Key for LoadKey {
 
     ghost apart = { load_apart };
 
+    #[tactic(auto, using(crate::proofs::KeyLemmas::equal_cpus))]
     fn is_before(&self, other: &Self) -> bool {
+        // Of the same processors the loads alone tell, with no product.
+        if self.cpus == other.cpus {
+            return goes_first(self, other);
+        }
         let own = u128::from(self.load) * u128::from(other.cpus.max(1));
         let others = u128::from(other.load) * u128::from(self.cpus.max(1));
         if own != others {

@@ -1,6 +1,7 @@
 use Rattle.std.proofs.Common.{◌∙◌}
 use Rattle.sched_core.specs.Booked.{held_view, open_view}
 use Rattle.sched_core.proofs.ChangeLemmas.{reserve_whole}
+use Rattle.sched_core.proofs.UpdateLemmas.{update_whole}
 use Rattle.sched_core.proofs.change.absorb_rows.Goals as goal
 
 pub returns-in-Reserve-clause-rows : goal.returns-in-Reserve-clause-rows
@@ -20,6 +21,14 @@ returns-in-Undo-clause-looks g c = rw c.in-Undo.is (λ h le. tt)
 
 pub returns-in-Beat-clause-looks : goal.returns-in-Beat-clause-looks
 returns-in-Beat-clause-looks g c = rw c.in-Beat.is (λ h le. tt)
+
+pub returns-in-Update-clause-rows : goal.returns-in-Update-clause-rows
+returns-in-Update-clause-rows g c =
+    c.lower_and_see.ensures.rows
+    ∙ update_whole c.args.step.now c.in-Update.server c.in-Update.job c.in-Update.state c.in-Update.answer
+    c.args.bookings.now.rows c.args.rows.now.rows c.row-found.result c.lowered_in-lowered.result
+    c.seen_in-seen.result c.in-Update.is c.row-found.ensures c.lowered_in-lowered.ensures
+    (rw c.heard.ensures at c.seen_in-seen.ensures)
 
 pub returns-in-Update-clause-looks : goal.returns-in-Update-clause-looks
 returns-in-Update-clause-looks g c = rw c.in-Update.is (λ h le. tt)

@@ -1,22 +1,30 @@
-use Rattle.std.proofs.Common.{[], refl, ap, ◌∙◌, sym, arith}
-use Rattle.sched_core.proofs.Lists.{map-same}
-use Rattle.sched_core.specs.Books.{row_freed}
-use Rattle.sched_core.proofs.FreeLemmas.{freed-more}
+use Rattle.std.proofs.Common.{◌≤◌, length, refl, ap, ◌∙◌, arith, map}
+use Rattle.std.proofs.lemmas.List.{get_or_default}
+use Rattle.sched_core.specs.Own.{row_without}
+use Rattle.sched_core.specs.Booked.{held_view}
+use Rattle.sched_core.proofs.OwnRowLemmas.{drop_none}
+use Rattle.sched_core.proofs.FreeLemmas.{without_next, without_last}
 use Rattle.sched_core.proofs.change.free_each.Goals as goal
 
-pub loop-b-init : goal.loop-b-init
-loop-b-init g c = (
-  sym (map-same (row_freed c.args.kind.now [])
-      (λ r. ap (λ n. record r { load = n }) (omega arith)) c.args.rows.now.rows),
+pub loop-job-init : goal.loop-job-init
+loop-job-init g c = (
+  ap (λ js. map (row_without js (held_view c.args.bookings.now.rows)) c.args.rows.now.rows)
+      (drop_none c.args.jobs.now),
   refl,
 )
 
-pub loop-b-preserved : goal.loop-b-preserved
-loop-b-preserved g c = (
-  freed-more c.args.kind.now c.args.bookings.now c.loop-b.b-index c.b-item.result c.args.rows.now.rows
-      c.loop-b.rows.rows c.lower_if.new.rows.rows c.loop-b-test.true c.b-item.is c.loop-b.invariant.0
-      (λ t. c.lower_if.ensures.freed (c.freed.ensures ∙ t))
-      (λ t. c.lower_if.ensures.kept (c.freed.ensures ∙ t)),
-  c.lower_if.ensures.places
-      ∙ c.loop-b.invariant.1,
+pub loop-job-preserved : goal.loop-job-preserved
+loop-job-preserved g c = (
+  without_next c.args.jobs.now c.loop-job.job-index _ (held_view c.args.bookings.now.rows)
+      c.args.rows.now.rows c.loop-job.rows.rows c.free_one.new.rows.rows c.requires c.loop-job-test.true
+      (get_or_default c.args.jobs.now c.loop-job.job-index _ _ c.loop-job-test.true)
+      c.loop-job.invariant.0 c.free_one.ensures.rows,
+  c.free_one.ensures.places ∙ c.loop-job.invariant.1,
 )
+
+pub returns-clause-rows : goal.returns-clause-rows
+returns-clause-rows g c =
+    let le : length c.args.jobs.now ≤ c.loop-job.job-index = omega (arith, c.loop-job-test.false) in
+    without_last c.args.jobs.now c.loop-job.job-index (held_view c.args.bookings.now.rows)
+    c.args.rows.now.rows
+    c.loop-job.rows.rows le c.loop-job.invariant.0

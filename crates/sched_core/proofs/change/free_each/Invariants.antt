@@ -1,9 +1,9 @@
-use Rattle.std.proofs.Common.{◌≡◌, map, take}
-use Rattle.sched_core.specs.Books.{row_freed}
+use Rattle.std.proofs.Common.{◌≡◌, map, drop}
+use Rattle.sched_core.specs.Own.{row_without}
 use Rattle.sched_core.specs.Booked.{held_view}
 use Rattle.sched_core.proofs.change.free_each.Given as goal
 
-abbrev pub invariant-loop-b : goal.invariant-loop-b
-invariant-loop-b g l = (l.rows.rows
-    ≡ map (row_freed l.kind (held_view (take l.b-index l.bookings))) l.initial.rows.rows)
+abbrev pub invariant-loop-job : goal.invariant-loop-job
+invariant-loop-job g l = (map (row_without (drop l.job-index l.jobs) (held_view l.bookings.rows)) l.rows.rows
+    ≡ map (row_without l.jobs (held_view l.bookings.rows)) l.initial.rows.rows)
     × (l.rows.places ≡ l.initial.rows.places)

@@ -13,4 +13,4 @@ returns c =
     let servers : c.len.result - length c.args.pruned.now ≡ length (left c.args.now rows) =
     ap (λ n. n - length c.args.pruned.now) c.len.ensures
     ∙ sym (left_count c.args.now rows c.args.pruned.now c.requires).1 in
-    rw (servers, c.cpus_left.ensures, c.open_left.ensures, c.requires) refl
+    rw (servers, c.cpus_left.ensures c.args.now c.requires) refl

@@ -1,13 +1,14 @@
-use Rattle.std.proofs.Common.{◌≡◌, [], ◌∷◌, ◌++◌, ◌+◌, length, filter, refl, ap, ◌∙◌, sym, subst}
+use Rattle.std.proofs.Common.{◌≡◌, [], ◌∷◌, ◌++◌, ◌+◌, length, refl, ap, ◌∙◌, sym, subst}
 use Rattle.std.proofs.Common.{arith, length-append}
-use Rattle.std.specs.Prelude.{option_to_list}
-use Rattle.sched_core.specs.Books.{AreBooks, job_by, key_by, key_stays, lists_next, rows_next, unspent_next}
+use Rattle.sched_core.specs.Books.{AreBooks, job_by, key_by, keys_next, kept_by, with_key, lists_next}
+use Rattle.sched_core.specs.Books.{rows_next, unspent_next}
 use Rattle.sched_core.specs.Registrations.{AreSoundRows}
 use Rattle.sched_core.specs.Booked.{unspent_view}
 use Rattle.sched_core.proofs.LegalLemmas.{legal-push}
 use Rattle.sched_core.proofs.BookedLemmas.{unspent_after}
-use Rattle.sched_core.proofs.BookLemmas.{absorbed, next_follows}
+use Rattle.sched_core.proofs.BookLemmas.{absorbed, next_follows, reaped_apart}
 use Rattle.sched_core.proofs.ChangeLemmas.{sound_rows}
+use Rattle.sched_core.proofs.KeyLemmas.{key_registers}
 use Rattle.sched_core.proofs.MostLemmas.{most_grows}
 use Rattle.sched_core.proofs.state.take.Goals as goal
 
@@ -18,9 +19,9 @@ absorb-requires-clause-sound g c =
     let lists = a.journal.now.books.lists in
     let number : c.len.result ≡ length log = c.len.ensures ∙ a.journal.now.log.ok.0 in
     let books : AreBooks (lists_next lists a.step (length log))
-    (filter (key_stays a.step) a.journal.now.keys.items ++ option_to_list (key_by a.step.kind (length log)))
+    (keys_next a.step (length log) (kept_by g.A.JobAuthorizer.key_of a.journal.now.keys.entries))
     (log ++ a.step ∷ []) =
-    absorbed a.start lists a.journal.now.keys.items _ log a.step c.requires.state.fits
+    absorbed a.start lists _ _ log a.step c.requires.state.fits
     c.requires.state.books c.requires.state.legal c.requires.rule refl in
     subst (λ n. AreSoundRows (rows_next lists a.step n)) (sym number)
     (subst AreSoundRows (sym books.rows) (sound_rows a.start (log ++ a.step ∷ []) c.requires.state.fits
@@ -33,11 +34,24 @@ absorb-requires-clause-above g c =
     let top = c.requires.state.top in
     omega (arith, number, top)
 
+pub absorb-requires-clause-apart : goal.absorb-requires-clause-apart
+absorb-requires-clause-apart g c =
+    let a = c.args in
+    reaped_apart (record { start = a.start; log = a.journal.now.log.items }) a.step
+    a.journal.now.books.lists.booked c.requires.state.books.apart c.requires.state.books.held c.requires.rule
+
 pub absorb-requires-clause-follows : goal.absorb-requires-clause-follows
 absorb-requires-clause-follows g c =
     let a = c.args in
-    next_follows a.start a.journal.now.books.first a.journal.now.books.lists a.journal.now.keys.items
+    next_follows a.start a.journal.now.books.first a.journal.now.books.lists _
     a.journal.now.log.items a.step c.len.result c.requires.state.books c.requires.rule c.requires.state.first
+
+pub put_key-requires-clause-room : goal.put_key-requires-clause-room
+put_key-requires-clause-room g c κs within = rw c.requires.key (λ some.
+    let room = c.requires.keys_room
+    (key_registers c.args.step.kind (length c.args.journal.now.log.items) some) in
+    let more = c.end_keys.ensures.spare in
+    omega (arith, room, more))
 
 pub returns-clause-state : goal.returns-clause-state
 returns-clause-state g c =
@@ -59,15 +73,15 @@ returns-clause-state g c =
     let places = c.absorb.ensures.places in
     let few = c.requires.state.places in
     let grown = most_grows log a.step in
+    let keys : kept_by g.A.JobAuthorizer.key_of c.put_key.new.keys.entries
+    ≡ keys_next a.step (length log) (kept_by g.A.JobAuthorizer.key_of a.journal.now.keys.entries) =
+    c.put_key.ensures ∙ ap (λ k. with_key k (kept_by g.A.JobAuthorizer.key_of c.end_keys.new.keys.entries))
+    c.requires.key
+    ∙ ap (with_key (key_by a.step.kind (length log))) c.end_keys.ensures.keys in
     record {
-      books = rw (
-        c.push_reserved.ensures.items,
-        c.push_some.ensures.items,
-        c.end_keys.ensures.items,
-        c.requires.key,
-        does,
-      ) (absorbed a.start a.journal.now.books.lists a.journal.now.keys.items _ log a.step
-          c.requires.state.fits c.requires.state.books c.requires.state.legal c.requires.rule refl);
+      books = rw (c.push_reserved.ensures.items, does)
+          (absorbed a.start a.journal.now.books.lists _ _ log a.step
+          c.requires.state.fits c.requires.state.books c.requires.state.legal c.requires.rule keys);
       fits = c.requires.state.fits;
       legal = rw c.push_reserved.ensures.items
           (legal-push a.start [] log a.step c.requires.state.legal c.requires.rule);

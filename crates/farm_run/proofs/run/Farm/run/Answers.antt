@@ -1,9 +1,10 @@
-use Rattle.std.proofs.Common.{◌≡◌, ◌+◌, ◌++◌, ◌∷◌, [], take, ap, ◌∙◌, sym}
-use Rattle.std.proofs.lemmas.List.{take_more}
+use Rattle.std.proofs.Common.{◌≡◌, ◌+◌, ◌++◌, ◌∷◌, [], take, ap, ◌∙◌, sym, subst, arith}
+use Rattle.std.proofs.lemmas.List.{take_more, take_all}
 use Rattle.std.proofs.lemmas.Result.{err_from_is_err_and}
 use Rattle.farm_run.proofs.NextLemmas.{run_lawful}
 use Rattle.farm_run.proofs.ReliableLemmas.{run_reliable}
 use Rattle.farm_run.specs.Weather.{calm, free}
+use Rattle.farm_run.specs.Farm.{Runs}
 use Rattle.farm_run.proofs.FarmLemmas.{Runs-push, Runs-entries, Runs-is, Runs-own, Runs-calm, Runs-builds}
 use Rattle.farm_run.proofs.FarmLemmas.{Runs-stopped}
 use Rattle.farm_run.proofs.run.Farm.run.Goals as goal
@@ -70,6 +71,13 @@ returns-in_err-farm-clause-stopped_calmly g c =
     c.in_err-farm.field-0.0.entries c.loop-event.invariant c.in_err-farm.ensures.err
     c.in_err-farm.ensures.calmly own)
     )
+
+-- all events were run
+pub returns-clause-ok : goal.returns-clause-ok
+returns-clause-ok g c =
+    subst (λ events. Runs c.args.self events c.loop-event.farm)
+    (take_all c.loop-event.event-index c.args.events.now (omega (arith, c.loop-event-test.false)))
+    c.loop-event.invariant
 
 pub returns-clause-laws : goal.returns-clause-laws
 returns-clause-laws g c = run_lawful c.loop-event.farm.setup c.loop-event.farm.entries c.obey.ensures.fits

@@ -13,9 +13,9 @@ invariant_of-self g c =
       c.enter.ensures.keys,
       c.enter-2.ensures.keys,
       c.enter-3.ensures.keys,
-      c.load_key.ensures,
-      c.error_key.ensures,
-      c.sign_key.ensures,
+      c.load_key-2.ensures,
+      c.error_key-2.ensures,
+      c.sign_key-2.ensures,
       c.self.invariant.by_load,
       c.self.invariant.by_error,
       c.self.invariant.by_sign,
@@ -26,12 +26,12 @@ invariant_of-self g c =
     })
 
 pub returns-clause-looks : goal.returns-clause-looks
-returns-clause-looks g c = rw (← c.self.view_is, ← c.row-old.ensures.row)
+returns-clause-looks g c = rw (← c.self.view_is)
     (put_looks g.T.Ranked.load_of g.T.Ranked.error_of
     g.T.Ranked.sign_of c.self.inside.slots.places c.self.inside.loads c.self.inside.errors
     c.self.inside.signs
-    c.row-old.result (Some c.args.row) c.args.steps.now c.enter.new.steps c.enter-2.new.steps
+    (Some c.args.old.now) (Some c.args.row) c.args.steps.now c.enter.new.steps c.enter-2.new.steps
     c.enter-3.new.steps
-    c.self.invariant (rw (c.load_in.ensures, c.load_key.ensures) at c.enter.ensures.looks)
-    (rw (c.error_in.ensures, c.error_key.ensures) at c.enter-2.ensures.looks)
-    (rw (c.sign_in.ensures, c.sign_key.ensures) at c.enter-3.ensures.looks))
+    c.self.invariant (rw (c.load_key.ensures, c.load_key-2.ensures) at c.enter.ensures.looks)
+    (rw (c.error_key.ensures, c.error_key-2.ensures) at c.enter-2.ensures.looks)
+    (rw (c.sign_key.ensures, c.sign_key-2.ensures) at c.enter-3.ensures.looks))

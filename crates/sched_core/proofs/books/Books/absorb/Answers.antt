@@ -1,5 +1,5 @@
 use Rattle.std.proofs.Common.{◌∙◌}
-use Rattle.sched_core.proofs.BookLemmas.{made_reserves}
+use Rattle.sched_core.proofs.BookLemmas.{made_by, room_made}
 use Rattle.sched_core.proofs.RegistrationLemmas.{row_by_number, above_number, few_pushed}
 use Rattle.sched_core.proofs.books.Books.absorb.Goals as goal
 
@@ -14,12 +14,18 @@ pub push_row-requires-clause-sound : goal.push_row-requires-clause-sound
 push_row-requires-clause-sound g c = rw (c.row_made.ensures, c.absorb_rows.ensures.rows)
     (rw (← c.self.view_is) at c.requires.sound)
 
+pub absorb-requires-clause-made : goal.absorb-requires-clause-made
+absorb-requires-clause-made g c =
+    let s = c.self.inside in
+    rw (c.booked-made.ensures, c.job_made-job.ensures)
+    (made_by c.args.step.now.kind s.rows.rows c.args.number c.args.step.now.now)
+
 pub absorb-requires-clause-room : goal.absorb-requires-clause-room
 absorb-requires-clause-room g c =
     let s = c.self.inside in
-    rw (c.booked-made.ensures, c.job_made-job.ensures) (λ some.
-    (rw (← c.self.view_is) at c.requires.job_room)
-    (made_reserves c.args.step.now.kind s.rows.rows c.args.number c.args.step.now.now some))
+    rw (c.booked-made.ensures, c.job_made-job.ensures)
+    (room_made c.args.step.now.kind s.rows.rows c.args.number c.args.step.now.now _
+    (rw (← c.self.view_is) at c.requires.job_room))
 
 pub absorb-requires-clause-follows : goal.absorb-requires-clause-follows
 absorb-requires-clause-follows g c = rw (c.booked-made.ensures, c.job_made-job.ensures)

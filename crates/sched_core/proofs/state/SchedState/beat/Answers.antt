@@ -20,7 +20,7 @@ take_uncounted-requires-clause-rule g c κs within =
     (call.Beat a.now a.server a.nonce a.cpus (g.A.JobAuthorizer.key_of a.key), (some, few), entry)
 
 pub take_uncounted-requires-clause-job_room : goal.take_uncounted-requires-clause-job_room
-take_uncounted-requires-clause-job_room g c κs within = rw c.in_ok-entry.ensures (λ may. absurd may)
+take_uncounted-requires-clause-job_room g c κs within = rw c.in_ok-entry.ensures tt
 
 pub take_uncounted-requires-clause-log_room : goal.take_uncounted-requires-clause-log_room
 take_uncounted-requires-clause-log_room g c κs within = rw c.in_ok-make_row_room.ensures.lists
@@ -33,7 +33,7 @@ take_uncounted-requires-clause-state g c κs within =
     let j = c.self.inside.journal in
     let new = c.make_row_room.new in
     let roomy = c.in_ok-make_row_room.ensures in
-    still_state c.self.inside.start j.books new.books j.keys.items new.keys.items j.log.items new.log.items
+    still_state c.self.inside.start j.books new.books _ _ j.log.items new.log.items
     (vec_len j.log) (vec_capacity j.log) (vec_len new.log) (vec_capacity new.log) c.self.invariant roomy.lists
     roomy.keys roomy.log roomy.log_room roomy.first roomy.top roomy.places
 
@@ -42,6 +42,6 @@ invariant_of-self g c =
     let j = c.self.inside.journal in
     let new = c.make_row_room.new in
     let roomy = c.make_row_room.ensures in
-    still_state c.self.inside.start j.books new.books j.keys.items new.keys.items j.log.items new.log.items
+    still_state c.self.inside.start j.books new.books _ _ j.log.items new.log.items
     (vec_len j.log) (vec_capacity j.log) (vec_len new.log) (vec_capacity new.log) c.self.invariant roomy.lists
     roomy.keys roomy.log roomy.log_room roomy.first roomy.top roomy.places

@@ -48,7 +48,7 @@ take-requires-clause-state g c κs within =
     let roomy = c.in_ok-make_job_room.ensures in
     let top = roomy.top in
     let places = roomy.places in
-    still_state c.self.inside.start j.books new.books j.keys.items j.keys.items j.log.items new.log.items
+    still_state c.self.inside.start j.books new.books _ _ j.log.items new.log.items
     (vec_len j.log) (vec_capacity j.log) (vec_len new.log) (vec_capacity new.log) c.self.invariant roomy.lists
     refl roomy.log roomy.log_room roomy.first (omega (arith, top)) (omega (arith, places))
 

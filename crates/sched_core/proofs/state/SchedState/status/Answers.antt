@@ -7,15 +7,26 @@ use Rattle.sched_core.specs.Log.{logged}
 use Rattle.sched_core.specs.Rows.{servers_of, open_rows}
 use Rattle.sched_core.specs.Rule.{counts_over}
 use Rattle.sched_core.proofs.BookLemmas.{log_room-one, counts_are}
+use Rattle.sched_core.specs.Prune.{is_expired}
+use Rattle.sched_core.proofs.ChangeLemmas.{sound_rows}
+use Rattle.sched_core.proofs.RisingLemmas.{rising-filter}
 use Rattle.sched_core.proofs.MostLemmas.{roomy_log}
 use Rattle.sched_core.proofs.state.SchedState.status.Goals as goal
+
+pub counts-answer-requires-clause-rising : goal.counts-answer-requires-clause-rising
+counts-answer-requires-clause-rising g c =
+    let s = c.self.inside in
+    let sound = sound_rows s.start s.journal.log.items c.self.invariant.fits c.self.invariant.legal in
+    rw (c.deref.ensures.value, c.in_ok-pruned.ensures, c.self.invariant.books.rows) (rising-filter (λ r.
+    r.reg) (is_expired c.args.now)
+    (servers_of s.journal.log.items) sound.rising)
 
 pub take_uncounted-requires-clause-rule : goal.take_uncounted-requires-clause-rule
 take_uncounted-requires-clause-rule g c κs within =
     let s = c.self.inside in
     let counts : c.counts-answer.result
     ≡ counts_over (servers_of s.journal.log.items) (open_rows s.journal.log.items) c.args.now =
-    c.counts-answer.ensures ∙ counts_are s.journal.books.lists s.journal.keys.items s.journal.log.items
+    c.counts-answer.ensures ∙ counts_are s.journal.books.lists _ s.journal.log.items
     c.args.now c.self.invariant.books in
     let entry = rw (c.in_ok-pruned.ensures, counts, c.self.invariant.books.rows) at
     c.status_entry-entry.ensures in
@@ -26,7 +37,7 @@ pub take_uncounted-requires-clause-row_room : goal.take_uncounted-requires-claus
 take_uncounted-requires-clause-row_room g c κs within = rw c.status_entry-entry.ensures (λ may. absurd may)
 
 pub take_uncounted-requires-clause-job_room : goal.take_uncounted-requires-clause-job_room
-take_uncounted-requires-clause-job_room g c κs within = rw c.status_entry-entry.ensures (λ may. absurd may)
+take_uncounted-requires-clause-job_room g c κs within = rw c.status_entry-entry.ensures tt
 
 pub take_uncounted-requires-clause-keys_room : goal.take_uncounted-requires-clause-keys_room
 take_uncounted-requires-clause-keys_room g c κs within = rw c.status_entry-entry.ensures (λ may. absurd may)
@@ -40,7 +51,7 @@ take_uncounted-requires-clause-log_room g c κs within =
 pub take_uncounted-requires-clause-state : goal.take_uncounted-requires-clause-state
 take_uncounted-requires-clause-state g c κs within =
     let j = c.self.inside.journal in
-    roomy_log c.self.inside.start j.books j.keys.items j.log.items c.make_log_room.new.log.items
+    roomy_log c.self.inside.start j.books _ j.log.items c.make_log_room.new.log.items
     (vec_len j.log) (vec_capacity j.log) (vec_len c.make_log_room.new.log)
     (vec_capacity c.make_log_room.new.log) c.self.invariant c.in_ok-make_log_room.ensures.log
     c.in_ok-make_log_room.ensures.log_room
@@ -50,7 +61,7 @@ returns-clause-logged g c =
     let s = c.self.inside in
     let counts : c.counts-answer.result
     ≡ counts_over (servers_of s.journal.log.items) (open_rows s.journal.log.items) c.args.now =
-    c.counts-answer.ensures ∙ counts_are s.journal.books.lists s.journal.keys.items s.journal.log.items
+    c.counts-answer.ensures ∙ counts_are s.journal.books.lists _ s.journal.log.items
     c.args.now c.self.invariant.books in
     let entry = rw (c.in_ok-pruned.ensures, counts, c.self.invariant.books.rows) at
     c.status_entry-entry.ensures in
@@ -61,5 +72,5 @@ pub returns-clause-answer : goal.returns-clause-answer
 returns-clause-answer g c =
     let s = c.self.inside in
     rw (← c.self.view_is) (c.counts-answer.ensures
-    ∙ counts_are s.journal.books.lists s.journal.keys.items s.journal.log.items c.args.now
+    ∙ counts_are s.journal.books.lists _ s.journal.log.items c.args.now
     c.self.invariant.books)

@@ -25,7 +25,7 @@ take_uncounted-requires-clause-rule g c κs within =
     let answer : c.answer_by-answer.result ≡ advance (open_rows s.journal.log.items) a.server a.job a.state =
     rw (
       c.open_job-found.ensures,
-      open_found s.journal.books.lists s.journal.keys.items s.journal.log.items a.job
+      open_found s.journal.books.lists _ s.journal.log.items a.job
           c.self.invariant.books,
     ) at c.answer_by-answer.ensures in
     subst (λ l. IsRule (core_of s.start l) step) (sym c.in_ok-make_log_room.ensures.log) (
@@ -49,7 +49,7 @@ returns-clause-logged g c =
     let answer : c.answer_by-answer.result ≡ advance (open_rows s.journal.log.items) a.server a.job a.state =
     rw (
       c.open_job-found.ensures,
-      open_found s.journal.books.lists s.journal.keys.items s.journal.log.items a.job
+      open_found s.journal.books.lists _ s.journal.log.items a.job
           c.self.invariant.books,
     ) at c.answer_by-answer.ensures in
     rw (← c.self.view_is, c.take_uncounted.ensures.log, c.in_ok-make_log_room.ensures.log)
@@ -64,7 +64,7 @@ returns-clause-answer g c = λ refused.
     let answer : c.answer_by-answer.result ≡ advance (open_rows s.journal.log.items) a.server a.job a.state =
     rw (
       c.open_job-found.ensures,
-      open_found s.journal.books.lists s.journal.keys.items s.journal.log.items a.job
+      open_found s.journal.books.lists _ s.journal.log.items a.job
           c.self.invariant.books,
     ) at c.answer_by-answer.ensures in
     rw (← c.self.view_is) (c.updated.ensures ∙ ap (λ r. verdict r a.state) answer)
@@ -76,7 +76,7 @@ returns-clause-err g c =
     let answer : c.answer_by-answer.result ≡ advance (open_rows s.journal.log.items) a.server a.job a.state =
     rw (
       c.open_job-found.ensures,
-      open_found s.journal.books.lists s.journal.keys.items s.journal.log.items a.job
+      open_found s.journal.books.lists _ s.journal.log.items a.job
           c.self.invariant.books,
     ) at c.answer_by-answer.ensures in
     rw (
@@ -92,7 +92,7 @@ returns-clause-err g c =
 pub take_uncounted-requires-clause-state : goal.take_uncounted-requires-clause-state
 take_uncounted-requires-clause-state g c κs within =
     let j = c.self.inside.journal in
-    roomy_log c.self.inside.start j.books j.keys.items j.log.items c.make_log_room.new.log.items
+    roomy_log c.self.inside.start j.books _ j.log.items c.make_log_room.new.log.items
     (vec_len j.log) (vec_capacity j.log) (vec_len c.make_log_room.new.log)
     (vec_capacity c.make_log_room.new.log) c.self.invariant c.in_ok-make_log_room.ensures.log
     c.in_ok-make_log_room.ensures.log_room

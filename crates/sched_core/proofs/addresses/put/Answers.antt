@@ -1,0 +1,12 @@
+use Rattle.std.proofs.Common.{refl}
+use Rattle.sched_core.proofs.ServerLemmas.{puts_server}
+use Rattle.sched_core.proofs.addresses.put.Goals as goal
+
+pub returns-clause-entries : goal.returns-clause-entries
+returns-clause-entries c = puts_server _ (
+  λ a b p q. refl,
+  λ a b p q. refl,
+  λ a b p q. refl,
+  λ a b p q. refl,
+) c.args.server _
+    c.args.addresses.now.entries c.put.new.self.entries c.put.ensures.values

@@ -1,0 +1,18 @@
+use Rattle.std.proofs.Common.{rules, arith, ◌≡◌, ◌≤◌, ◌+◌, ◌*◌, [], refl, length, max, vec_len, vec_capacity}
+use Rattle.sched_core.specs.Books.{AreBooks, no_lists, kept_by}
+use Rattle.sched_core.specs.Booked.{unspent_view}
+use Rattle.sched_core.specs.Laws.{IsLegal}
+use Rattle.sched_core.specs.Most.{most_standing}
+use Rattle.sched_core.proofs.BookLemmas.{no_books}
+use Rattle.sched_core.proofs.state.SchedState.with_job_ids.Goals as goal
+
+pub invariant_of-result : goal.invariant_of-result
+invariant_of-result g c = record {
+  books = rw (c.new.ensures.lists, c.new-2.ensures, c.new-3.ensures.items) no_books;
+  fits = c.ranges.count.fits;
+  legal = rw c.new-3.ensures.items tt;
+  log_room = rw (c.new.ensures.lists, c.new-3.ensures.len) (omega arith);
+  first = c.new.ensures.first;
+  top = rw (c.new.ensures.top, c.new-3.ensures.items) (omega arith);
+  places = rw c.new.ensures.places (omega arith);
+}

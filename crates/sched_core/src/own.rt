@@ -1,0 +1,266 @@
+//! The reservations of a registration, by the list that is kept of their places.
+ghost use Rattle.std.specs.Prelude.{◌≡◌, ◌+◌, ◌%◌, ◌^◌, ◌++◌, ◌∷◌, [], Some, IfOk, IfSome, OnOk, length, map};
+ghost use Rattle.std.specs.Prelude.{filter, option_to_list};
+ghost use Rattle.std.specs.List.{filter_map};
+ghost use Rattle.sched_core.specs.Reap.{is_reaped, reap};
+ghost use Rattle.sched_core.specs.Rule.{is_left};
+ghost use Rattle.sched_core.specs.Laws.{AreRising};
+ghost use Rattle.sched_core.specs.Books.{booked_after};
+ghost use Rattle.sched_core.specs.Booked.{held_part_of, held_view, open_view};
+ghost use Rattle.sched_core.specs.Own.{is_own_at, own_row_at, IsOwnList, AreOwn, is_open_row, room_for};
+ghost use Rattle.sched_core.specs.Own.{ended_at, ended_at_all, ended_if, ended_jobs, IsMadeBy};
+
+use crate::booked::{BookedRow, held_part, is_open, is_own_at, own_row_at};
+use crate::bookings::Bookings;
+use crate::entry::CoreKind;
+use crate::rules::reapable;
+use dist_types::ids::JobId;
+use numbered_lists::NumberedLists;
+use std::alloc::{AllocError, Global};
+
+/// Whether a heartbeat of the registration reaps the reservation, which is unended.
+fn reaps(b: &BookedRow, reg: u64, now: u64) -> bool
+    ensures { result ≡ is_reaped now reg (held_part_of b.now) }
+{
+    let held = held_part(b);
+    reapable(&held, reg, now)
+}
+
+/// The jobs of the reservations in those places that a heartbeat of the registration reaps.
+fn jobs_to_reap(
+    alloc: Global,
+    rows: &[BookedRow],
+    places: &[usize],
+    reg: u64,
+    now: u64,
+) -> Result<Vec<JobId>, AllocError>
+    ensures { IfOk result (λ v. v.items ≡ map (λ b. b.job)
+        (filter (λ b. is_reaped now reg (held_part_of b)) (filter_map (own_row_at reg rows.now)
+        places.now))) }
+{
+    places
+        .iter()
+        .filter_map(|place| own_row_at(rows, *place, reg))
+        .filter(|b| reaps(b, reg, now))
+        .map(|b| b.job)
+        .collect(alloc)
+}
+
+/// The jobs that a heartbeat of the registration reaps, where the places are its own. Refused for want of
+/// memory alone.
+pub fn reaped_jobs(
+    alloc: Global,
+    rows: &[BookedRow],
+    places: &[usize],
+    reg: u64,
+    now: u64,
+) -> Result<Vec<JobId>, AllocError>
+    requires { IsOwnList reg rows.now places.now }
+    ensures { IfOk result (λ v. v.items ≡ reap now reg (held_view rows.now)) }
+{
+    jobs_to_reap(alloc, rows, places, reg, now)
+}
+
+/// How many of the reservations in those places are unended, at the registration, and have an open job.
+fn open_at(rows: &[BookedRow], places: &[usize], reg: u64) -> usize
+    ensures { result ≡ length (filter is_open_row (filter_map (own_row_at reg rows.now) places.now)) }
+{
+    places
+        .iter()
+        .filter_map(|place| own_row_at(rows, *place, reg))
+        .filter(|b| is_open(b))
+        .count()
+}
+
+/// How many open jobs are at none of the pruned registrations, whose numbers rise.
+pub fn open_left(bookings: &Bookings, own: &NumberedLists, pruned: &[u64]) -> u64
+    requires own { AreOwn bookings.now.rows own.now.lists }
+    requires rising { AreRising pruned.now }
+    ensures { result ≡ length (filter (λ o. is_left pruned.now o.reg) (open_view bookings.now.rows)) }
+{
+    let mut left = bookings.open_count();
+    for number in pruned {
+        left -= open_at(bookings.rows(), own.of(*number), *number);
+    }
+    left as u64
+}
+
+/// Those of the places that have an unended reservation at the registration.
+fn kept_places(
+    alloc: Global,
+    rows: &[BookedRow],
+    places: &[usize],
+    reg: u64,
+) -> Result<Vec<usize>, AllocError>
+    ensures { IfOk result (λ v. v.items ≡ filter (is_own_at reg rows.now) places.now) }
+{
+    places
+        .iter()
+        .copied()
+        .filter(|place| is_own_at(rows, *place, reg))
+        .collect(alloc)
+}
+
+/// Drops from the list of a registration what is ended. Refused for want of memory alone.
+fn sweep(
+    alloc: Global,
+    bookings: &Bookings,
+    own: &mut NumberedLists,
+    reg: u64,
+) -> Result<(), AllocError>
+    requires own { AreOwn bookings.now.rows own.old.lists }
+    requires ready { own.old.ready ≡ Some reg }
+    ensures own { AreOwn bookings.now.rows own.new.lists }
+    ensures ready { OnOk result (own.new.ready ≡ Some reg) }
+{
+    let kept = kept_places(alloc, bookings.rows(), own.of(reg), reg)?;
+    own.replace(reg, kept);
+    own.make_room(reg)
+}
+
+/// Whether a list of so many places has too many for so many unended reservations.
+fn is_long(places: usize, load: u64) -> bool {
+    places as u64 >= load.saturating_mul(2).saturating_add(8)
+}
+
+/// Makes room for one reservation more at a registration with so many. Refused for want of memory alone; the
+/// reservations stay.
+pub fn make_room(
+    alloc: Global,
+    bookings: &mut Bookings,
+    own: &mut NumberedLists,
+    reg: u64,
+    load: u64,
+) -> Result<(), AllocError>
+    requires { AreOwn bookings.old.rows own.old.lists }
+    ensures rows { bookings.new.rows ≡ bookings.old.rows }
+    ensures first { bookings.new.first ≡ bookings.old.first }
+    ensures own { AreOwn bookings.new.rows own.new.lists }
+    ensures room { OnOk result (room_for bookings.new.has_room own.new.ready ≡ Some reg) }
+{
+    bookings.make_room()?;
+    own.make_room(reg)?;
+    if is_long(own.of(reg).len(), load) {
+        return sweep(alloc, bookings, own, reg);
+    }
+    Ok(())
+}
+
+/// Ends the reservations of a registration.
+fn end_own(bookings: &mut Bookings, own: &mut NumberedLists, reg: u64)
+    requires { AreOwn bookings.old.rows own.old.lists }
+    ensures rows { bookings.new.rows ≡ map (ended_at reg) bookings.old.rows }
+    ensures first { bookings.new.first ≡ bookings.old.first }
+    ensures own { AreOwn bookings.new.rows own.new.lists }
+{
+    bookings.end_each(own.of(reg), reg);
+    own.forget(reg);
+}
+
+/// Ends the reservations of those registrations.
+fn end_all(bookings: &mut Bookings, own: &mut NumberedLists, numbers: &[u64])
+    requires { AreOwn bookings.old.rows own.old.lists }
+    ensures rows { bookings.new.rows ≡ map (ended_at_all numbers.now) bookings.old.rows }
+    ensures first { bookings.new.first ≡ bookings.old.first }
+    ensures own { AreOwn bookings.new.rows own.new.lists }
+{
+    for number in numbers {
+        end_own(bookings, own, *number);
+    }
+}
+
+/// Ends the reservations of a registration, if there is one.
+fn end_if(bookings: &mut Bookings, own: &mut NumberedLists, number: Option<u64>)
+    requires { AreOwn bookings.old.rows own.old.lists }
+    ensures rows { bookings.new.rows ≡ map (ended_if number) bookings.old.rows }
+    ensures first { bookings.new.first ≡ bookings.old.first }
+    ensures own { AreOwn bookings.new.rows own.new.lists }
+{
+    match number {
+        Some(number) => end_own(bookings, own, number),
+        None => (),
+    }
+}
+
+/// Adds a reservation that is new, whose job has the next id. It takes no memory.
+fn push(bookings: &mut Bookings, own: &mut NumberedLists, row: BookedRow)
+    requires own { AreOwn bookings.old.rows own.old.lists }
+    requires room { room_for bookings.old.has_room own.old.ready ≡ Some row.reg }
+    requires follows { row.job.0 ≡ (bookings.old.first + length bookings.old.rows) % 2 ^ 64 }
+    ensures rows { bookings.new.rows ≡ bookings.old.rows ++ row ∷ [] }
+    ensures first { bookings.new.first ≡ bookings.old.first }
+    ensures own { AreOwn bookings.new.rows own.new.lists }
+{
+    own.push(row.reg, bookings.made());
+    bookings.push(row);
+}
+
+/// The same, if there is one.
+fn push_if(bookings: &mut Bookings, own: &mut NumberedLists, made: Option<BookedRow>)
+    requires own { AreOwn bookings.old.rows own.old.lists }
+    requires room { IfSome made (λ b. room_for bookings.old.has_room own.old.ready ≡ Some b.reg) }
+    requires follows { IfSome made
+        (λ b. b.job.0 ≡ (bookings.old.first + length bookings.old.rows) % 2 ^ 64) }
+    ensures rows { bookings.new.rows ≡ bookings.old.rows ++ option_to_list made }
+    ensures first { bookings.new.first ≡ bookings.old.first }
+    ensures own { AreOwn bookings.new.rows own.new.lists }
+{
+    match made {
+        Some(row) => push(bookings, own, row),
+        None => (),
+    }
+}
+
+/// What a heartbeat does to the reservations that were made before it.
+fn beat(
+    bookings: &mut Bookings,
+    own: &mut NumberedLists,
+    pruned: &[u64],
+    replaced: Option<u64>,
+    reaped: &[JobId],
+)
+    requires { AreOwn bookings.old.rows own.old.lists }
+    ensures rows { bookings.new.rows
+        ≡ map (ended_jobs reaped.now) (map (ended_if replaced) (map (ended_at_all pruned.now)
+        bookings.old.rows)) }
+    ensures first { bookings.new.first ≡ bookings.old.first }
+    ensures own { AreOwn bookings.new.rows own.new.lists }
+{
+    end_all(bookings, own, pruned);
+    end_if(bookings, own, replaced);
+    bookings.end_jobs(reaped);
+}
+
+/// Takes an entry into the books, and the reservation that it makes, if it makes one. It takes no memory.
+#[inline(always)]
+pub fn absorb(
+    bookings: &mut Bookings,
+    own: &mut NumberedLists,
+    kind: &CoreKind,
+    made: Option<BookedRow>,
+)
+    requires own { AreOwn bookings.old.rows own.old.lists }
+    requires made { IsMadeBy kind.now made }
+    requires room { IfSome made (λ b. room_for bookings.old.has_room own.old.ready ≡ Some b.reg) }
+    requires follows { IfSome made
+        (λ b. b.job.0 ≡ (bookings.old.first + length bookings.old.rows) % 2 ^ 64) }
+    ensures rows { bookings.new.rows ≡ map (booked_after kind.now) bookings.old.rows ++ option_to_list made }
+    ensures first { bookings.new.first ≡ bookings.old.first }
+    ensures own { AreOwn bookings.new.rows own.new.lists }
+{
+    match kind {
+        CoreKind::Reserve(_) => push_if(bookings, own, made),
+        CoreKind::Commit { job, .. } => bookings.settle(*job, kind),
+        CoreKind::Undo { job, .. } => bookings.settle(*job, kind),
+        CoreKind::Beat {
+            pruned,
+            replaced,
+            reaped,
+            ..
+        } => {
+            beat(bookings, own, pruned.get(), *replaced, reaped.get());
+        }
+        CoreKind::Update { job, .. } => bookings.settle(*job, kind),
+        CoreKind::Status { pruned, .. } => end_all(bookings, own, pruned.get()),
+    }
+}
