@@ -6,36 +6,46 @@ use dist_types::addr::Addr;
 use dist_types::ids::{ServerId, ServerNonce};
 use dist_types::results::JobState;
 
-/// How many servers there are.
-pub const SERVERS: u64 = 200;
-
 /// Where a moment jumps, it jumps by one of these, in milliseconds: to the edge of what is timed out, or past
 /// it.
 const JUMPS: &[u64] = &[
     1, 500, 59999, 60000, 60001, 89999, 90000, 90001, 299999, 300000, 300001, 400000,
 ];
 
-/// The numbers, and the clock. In a calm history the clock jumps seldom, so that most servers stand.
+/// How often the clock of a history jumps.
+#[derive(Clone, Copy, Debug, PartialEq, Eq)]
+pub enum Pace {
+    /// Seldom, so that most servers stand.
+    Calm,
+    /// Once in 150 calls.
+    Brisk,
+    /// Once in three calls.
+    Wild,
+}
+
+/// The numbers, and the clock.
 #[derive(Drop)]
 pub struct Draws {
     seed: u64,
     clock: u64,
-    is_calm: bool,
+    pace: Pace,
+    servers: u64,
 }
 
 impl Draws {
-    /// The numbers from a seed on.
-    pub fn new(seed: u64, is_calm: bool) -> Self {
+    /// The numbers from a seed on, for so many servers.
+    pub fn new(seed: u64, pace: Pace, servers: u64) -> Self {
         Draws {
             seed,
             clock: 2000000,
-            is_calm,
+            pace,
+            servers,
         }
     }
 
-    /// Whether the clock jumps seldom.
-    pub fn is_calm(&self) -> bool {
-        self.is_calm
+    /// How often the clock jumps.
+    pub fn pace(&self) -> Pace {
+        self.pace
     }
 
     /// The next number, below the limit.
@@ -71,9 +81,14 @@ impl Draws {
     /// The moment of the next call. The clock goes on a little, and now and then jumps for good; the moment
     /// itself jumps once in so many times.
     pub fn moment(&mut self, times: u64) -> u64 {
-        let by = self.below(if self.is_calm { 100 } else { 200 });
+        let (step, jumps) = match self.pace {
+            Pace::Calm => (100, 2000),
+            Pace::Brisk => (200, 150),
+            Pace::Wild => (200, 3),
+        };
+        let by = self.below(step);
         self.clock = self.clock.saturating_add(by);
-        if self.comes(if self.is_calm { 2000 } else { 150 }) {
+        if self.comes(jumps) {
             self.clock = self.jump();
         }
         if self.comes(times) {
@@ -85,10 +100,9 @@ impl Draws {
 
     /// The moment of a call that prunes: it jumps more seldom, and in a calm history ten times more so.
     pub fn pruning_moment(&mut self, times: u64) -> u64 {
-        let times = if self.is_calm {
-            times.saturating_mul(10)
-        } else {
-            times
+        let times = match self.pace {
+            Pace::Calm => times.saturating_mul(10),
+            Pace::Brisk | Pace::Wild => times,
         };
         self.moment(times)
     }
@@ -100,7 +114,7 @@ impl Draws {
 
     /// A server.
     pub fn server(&mut self) -> ServerId {
-        numbered(self.below(SERVERS))
+        numbered(self.below(self.servers))
     }
 
     /// A nonce, mostly the same.

@@ -1,20 +1,43 @@
-//! Twenty histories of 2,000 calls with 200 servers.
+//! Twenty histories of 2,000 calls with 200 servers, and three hundred of 60 calls with three.
 use crate::arms::{ARMS, Arm};
-use crate::draws::{Draws, SERVERS, numbered};
+use crate::draws::{Draws, Pace, numbered};
 use crate::pair::{Pair, State, key};
 use dist_types::ids::{JobId, ServerNonce};
 use dist_types::results::JobState;
 use sched_core::answers::Picked;
 use sched_core::reservation::Reservation;
+use sched_core::start::Start;
 use sched_core::state::SchedState;
 use std::alloc::Global;
 use std::process::Abort;
 use std::test::Fail;
 
-/// How many histories a test makes; there are four tests.
-const HISTORIES: u64 = 5;
+/// What a history is made of.
+#[derive(Clone, Copy)]
+struct Shape {
+    /// How many servers there are.
+    servers: u64,
+    /// How many of them are registered before the calls that are drawn.
+    registered: u64,
+    /// How many calls are drawn.
+    calls: u64,
+    /// After how many calls the books are compared, again and again.
+    between: u64,
+}
 
-const CALLS: u64 = 2000;
+const LONG: Shape = Shape {
+    servers: 200,
+    registered: 200,
+    calls: 1800,
+    between: 50,
+};
+
+const SHORT: Shape = Shape {
+    servers: 3,
+    registered: 0,
+    calls: 60,
+    between: 1,
+};
 
 /// How often each arm comes at least, in the histories of a test.
 const LEAST: usize = 5;
@@ -30,8 +53,9 @@ struct Run {
 
 impl Run {
     /// The other scheduler gives the same ids, under other numbers.
-    fn new(rt: &impl Abort, alloc: Global, draws: Draws, base: u64, count: u64) -> Self {
-        let mut other: State = SchedState::with_job_ids(alloc, base.wrapping_add(count), 0);
+    fn new(rt: &impl Abort, alloc: Global, draws: Draws, start: Start) -> Self {
+        let first = start.base.wrapping_add(start.count);
+        let mut other: State = SchedState::with_job_ids(alloc, first, 0);
         let answer = other.beat(
             0,
             numbered(0),
@@ -41,7 +65,7 @@ impl Run {
         );
         assert!(rt; answer.is_ok());
         Run {
-            pair: Pair::new(alloc, base, count),
+            pair: Pair::new(alloc, start),
             held: Vec::new(alloc),
             other,
             draws,
@@ -143,11 +167,11 @@ impl Run {
     /// Of how many calls beside 34 others: in turn 400 calls with many reserves and 400 with few.
     fn reserves(&self, place: u64) -> u64 {
         if place / 400 % 2 == 1 {
-            6
-        } else if self.draws.is_calm() {
-            22
-        } else {
-            60
+            return 6;
+        }
+        match self.draws.pace() {
+            Pace::Calm | Pace::Wild => 22,
+            Pace::Brisk => 60,
         }
     }
 
@@ -192,46 +216,63 @@ fn next_state(state: Option<JobState>, drawn: JobState) -> JobState {
     }
 }
 
-/// One history: each server is registered, and then come the calls. The books are compared after every 50.
-fn history(rt: &impl Abort, alloc: Global, draws: Draws, base: u64, count: u64) -> Pair {
-    let mut run = Run::new(rt, alloc, draws, base, count);
-    for number in 0..SERVERS {
+/// One history of that shape, whose ids begin there.
+fn history(rt: &impl Abort, alloc: Global, shape: Shape, draws: Draws, start: Start) -> Pair {
+    let mut run = Run::new(rt, alloc, draws, start);
+    for number in 0..shape.registered {
         let moment = run.draws.pruning_moment(100);
         let now = run.at(rt, moment);
         let cpus = run.draws.below(2).saturating_add(1);
         run.pair
             .beat(rt, now, numbered(number), ServerNonce::new(7), cpus);
     }
-    for place in 0..CALLS - SERVERS {
+    for place in 0..shape.calls {
         run.call(rt, place);
-        if place % 50 == 49 {
+        if place % shape.between == shape.between - 1 {
             run.pair.compare_books(rt);
         }
     }
     run.close()
 }
 
-/// Five histories, of which two are not calm: of some the ids wrap, of some they end. Each answer, each entry
-/// and the books are the plain scheduler's, and every arm of the rule comes.
-fn five_histories(rt: &impl Abort, alloc: Global, first: u64) {
-    let mut came = Vec::new(alloc);
-    for place in 0..HISTORIES {
-        let seed = first.wrapping_add(place);
-        let draws = Draws::new(seed, place < 3);
-        let pair = match seed % 4 {
-            0 => history(rt, alloc, draws, 4096, u64::MAX - 250),
-            1 => history(rt, alloc, draws, u64::MAX - 150, 0),
-            2 => history(rt, alloc, draws, u64::MAX - 300, 200),
-            _ => history(rt, alloc, draws, u64::MAX - 500, u64::MAX - 350),
-        };
-        for arm in pair.arms() {
-            came.push(*arm).expect(rt, "memory");
-        }
+/// Adds the arms that came in a history.
+fn add_arms(rt: &impl Abort, came: &mut Vec<Arm>, arms: &[Arm]) {
+    for arm in arms {
+        came.push(*arm).expect(rt, "memory");
     }
+}
+
+/// Each arm came as often as it is to.
+fn compare_arms(rt: &impl Abort, came: &[Arm]) {
     for arm in ARMS {
         let times = came.iter().filter(|other| **other == *arm).count();
         assert_eq!(rt; (*arm, times >= LEAST), (*arm, true));
     }
+}
+
+/// Where the ids of a long history begin: some wrap, some end.
+fn long_start(seed: u64) -> Start {
+    let (base, count) = match seed % 4 {
+        0 => (4096, u64::MAX - 250),
+        1 => (u64::MAX - 150, 0),
+        2 => (u64::MAX - 300, 200),
+        _ => (u64::MAX - 500, u64::MAX - 350),
+    };
+    Start { base, count }
+}
+
+/// Five long histories, of which two are not calm. Each answer, each entry and the books are the plain
+/// scheduler's, and every arm of the rule comes.
+fn five_histories(rt: &impl Abort, alloc: Global, first: u64) {
+    let mut came = Vec::new(alloc);
+    for place in 0..5u64 {
+        let seed = first.wrapping_add(place);
+        let pace = if place < 3 { Pace::Calm } else { Pace::Brisk };
+        let draws = Draws::new(seed, pace, LONG.servers);
+        let pair = history(rt, alloc, LONG, draws, long_start(seed));
+        add_arms(rt, &mut came, pair.arms());
+    }
+    compare_arms(rt, &came);
 }
 
 #[test]
@@ -255,5 +296,29 @@ fn histories_from_10(rt: HostRuntime) -> Result<(), Fail> {
 #[test]
 fn histories_from_15(rt: HostRuntime) -> Result<(), Fail> {
     five_histories(&rt, rt.alloc(), 15);
+    Ok(())
+}
+
+/// Where the ids of a short history begin: some wrap, some end.
+fn short_start(seed: u64) -> Start {
+    let (base, count) = match seed % 10 {
+        0 => (u64::MAX - 2, 0),
+        1 => (4096, u64::MAX - 6),
+        _ => (4096, 0),
+    };
+    Start { base, count }
+}
+
+/// Three hundred histories of sixty calls that begin with no server; the books are compared after each call.
+#[test]
+fn short_histories(rt: HostRuntime) -> Result<(), Fail> {
+    let alloc = rt.alloc();
+    let mut came = Vec::new(alloc);
+    for seed in 0..300u64 {
+        let draws = Draws::new(seed, Pace::Wild, SHORT.servers);
+        let pair = history(&rt, alloc, SHORT, draws, short_start(seed));
+        add_arms(&rt, &mut came, pair.arms());
+    }
+    compare_arms(&rt, &came);
     Ok(())
 }

@@ -19,6 +19,7 @@ use sched_core::call::Call;
 use sched_core::entry::CoreKind;
 use sched_core::reservation::Reservation;
 use sched_core::rows::{JobRow, ServerRow};
+use sched_core::start::Start;
 use sched_core::state::SchedState;
 use std::alloc::Global;
 use std::process::Abort;
@@ -40,11 +41,11 @@ pub(crate) fn key(rt: &impl Abort, alloc: Global) -> JWTJobAuthorizer {
 }
 
 impl Pair {
-    pub(crate) fn new(alloc: Global, base: u64, count: u64) -> Self {
+    pub(crate) fn new(alloc: Global, start: Start) -> Self {
         Pair {
             alloc,
-            state: SchedState::with_job_ids(alloc, base, count),
-            plain: PlainState::new(alloc, base, count),
+            state: SchedState::with_job_ids(alloc, start.base, start.count),
+            plain: PlainState::new(alloc, start.base, start.count),
             arms: Vec::new(alloc),
         }
     }

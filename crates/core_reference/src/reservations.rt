@@ -13,7 +13,6 @@ ghost use Rattle.core_reference.specs.Lists.{job_stays, job_after, job_placed};
 ghost use Rattle.core_reference.specs.Plain.{unspent_row};
 
 use crate::effects::{begins, claims, closes, complete, frees, moves, spends};
-use crate::questions::push_if;
 use dist_types::ids::{JobId, ServerId};
 use dist_types::results::JobState;
 use sched_core::entry::{CoreEntry, CoreKind, Reserved};
@@ -31,6 +30,19 @@ pub struct Unspent {
     pub reg: u64,
     /// The address of that registration.
     pub server: ServerId,
+}
+
+/// Adds an element, if there is one. Refused for want of memory alone.
+pub(crate) fn push_if<T: Drop>(items: &mut Vec<T>, item: Option<T>) -> Result<(), AllocError>
+    ensures { OnOk result (items.new.items ≡ items.old.items ++ option_to_list item) }
+{
+    match item {
+        Some(x) => {
+            items.push(x)?;
+            Ok(())
+        }
+        None => Ok(()),
+    }
 }
 
 /// The state after a move, if there is one.

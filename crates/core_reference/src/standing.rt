@@ -9,7 +9,7 @@ ghost use Rattle.sched_core.specs.Reservation.{frees_by};
 ghost use Rattle.core_reference.specs.Plain.{row_less};
 
 use crate::effects::{ends, forgives, frees, heard, is_number, notes, renews, takes};
-use crate::questions::push_if;
+use crate::reservations::push_if;
 use crate::rules::open_job;
 use dist_types::ids::JobId;
 use sched_core::entry::{CoreEntry, CoreKind};
