@@ -228,7 +228,7 @@ fn history(rt: &impl Abort, alloc: Global, shape: Shape, draws: Draws, start: St
     }
     for place in 0..shape.calls {
         run.call(rt, place);
-        if place % shape.between == shape.between - 1 {
+        if place.saturating_add(1) % shape.between.max(1) == 0 {
             run.pair.compare_books(rt);
         }
     }
