@@ -1,6 +1,6 @@
 -- The verdict on what is configured, one more.
 use Rattle.std.proofs.Common.{◌≡◌, ℕ, ◌+◌, ◌<◌, zero, suc, List, [], ◌∷◌, ◌++◌, take, drop, length, get_or}
-use Rattle.std.proofs.Common.{Result, Ok, Err, refl, sym, ap, ◌∙◌, arith}
+use Rattle.std.proofs.Common.{Result, sym, ap, ◌∙◌, arith}
 use Rattle.disk_cache.specs.declared.config.DistToolchainConfig.{DistToolchainConfig}
 use Rattle.disk_cache.specs.declared.toolchain_error.ToolchainError.{ToolchainError}
 use Rattle.disk_cache.specs.Configs.{judged_from, and_next, beside, config_of, compiler_of}

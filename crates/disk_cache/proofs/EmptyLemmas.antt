@@ -1,20 +1,17 @@
 -- What emptying a directory leaves.
 use Rattle.std.proofs.Common.{◌≡◌, ℕ, ◌+◌, ◌<◌, ◌≤◌, zero, suc, Bool, true, false, cond, not, ◌||◌, List, []}
-use Rattle.std.proofs.Common.{◌∷◌, ◌++◌, length, drop, map, filter, get_or, nat_eq, Option, Some, None}
-use Rattle.std.proofs.Common.{is_some, option_map, Result, Ok, refl, sym, ap, subst, ◌∙◌, true≢false, arith}
-use Rattle.std.specs.List.{list_any, starts_with, cons_option}
-use Rattle.std.specs.Map.{lookup}
+use Rattle.std.proofs.Common.{◌∷◌, ◌++◌, length, drop, map, filter, get_or, Option, Some, None}
+use Rattle.std.proofs.Common.{option_map, refl, sym, ap, subst, ◌∙◌, true≢false, arith}
+use Rattle.std.specs.List.{list_any, cons_option}
 use Rattle.std.specs.Str.{bytes_eq}
 use Rattle.std.proofs.Math.Seq.{take-append_seam}
 use Rattle.std.proofs.lemmas.Slice.Eq.{bytes_eq-Decides}
 use Rattle.lru_disk_cache.specs.Files.{Files, file_at, without, front, is_behind, found_behind, found_under}
-use Rattle.lru_disk_cache.specs.Files.{Same}
-use Rattle.lru_disk_cache.specs.Held.{Held, Holds, Became, Never, Changes}
+use Rattle.lru_disk_cache.specs.Held.{Held, Holds, Became}
 use Rattle.lru_disk_cache.specs.Disk.{ButUnder}
 use Rattle.lru_disk_cache.specs.Archives.{archives_in, archive_in, archive_path, archive_key, id_of}
 use Rattle.lru_disk_cache.specs.Cleaned.{found_of}
 use Rattle.lru_disk_cache.specs.declared.folder.Found.{Found}
-use Rattle.lru_disk_cache.specs.declared.fault.FolderFault.{FolderFault}
 use Rattle.lru_disk_cache.proofs.Became.{became_then, became_from}
 use Rattle.lru_disk_cache.proofs.Distinct.{apart}
 use Rattle.lru_disk_cache.proofs.InStep.{in_more}

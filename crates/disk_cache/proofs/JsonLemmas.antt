@@ -1,9 +1,8 @@
 -- JSON in bytes, and objects of texts.
-use Rattle.std.proofs.Common.{◌≡◌, ◌≤◌, ℕ, max, List, [], ◌∷◌, Bool, true, false, cond, Some, None, Option}
-use Rattle.std.proofs.Common.{is_some, option_map, unwrap_or, is_eq, BTreeMap, String, Global, Ordering, Less}
+use Rattle.std.proofs.Common.{◌≡◌, ◌≤◌, ℕ, List, [], ◌∷◌, Bool, true, false, cond, Some, None, Option}
+use Rattle.std.proofs.Common.{is_some, unwrap_or, is_eq, BTreeMap, String, Global, Ordering, Less}
 use Rattle.std.proofs.Common.{Equal, Greater, refl, sym, ap, ◌∙◌, true≢false, arith}
 use Rattle.std.specs.Option.{option_and_then}
-use Rattle.std.specs.BTreeMap.{insert_entry}
 use Rattle.std.specs.Cmp.Lexicographic.{slice_cmp}
 use Rattle.std.specs.Map.{lookup}
 use Rattle.std.specs.Ordering.{nat_cmp, match_ordering}
@@ -12,7 +11,7 @@ use Rattle.std.proofs.lemmas.Str.{IsUtf8-from_is_utf8, is_utf8-from_IsUtf8}
 use Rattle.std.proofs.lemmas.Map.Text.{is_eq-slice_cmp}
 use Rattle.serde_json.specs.Data.{Data, null, boolean, number, string, array, object, Members, no_members}
 use Rattle.serde_json.specs.Data.{member, put, depth, members_depth}
-use Rattle.serde_json.specs.Find.{get, get_member, as_str, as_object}
+use Rattle.serde_json.specs.Find.{get, get_member, as_str}
 use Rattle.serde_json.specs.Read.{read, max_depth}
 use Rattle.serde_json.specs.View.{view, members_view}
 use Rattle.serde_json.specs.declared.value.Value.{Value, Object}

@@ -3,6 +3,7 @@ pub mod EmptyLemmas
 pub mod JsonLemmas
 pub mod NameLemmas
 pub mod OpenLemmas
+pub mod OthersLemmas
 pub mod PutLemmas
 pub mod SaveLemmas
 pub mod ShelfLemmas

@@ -1,5 +1,5 @@
 -- What an opening leaves, and why it fails.
-use Rattle.std.proofs.Common.{◌≡◌, ◌≤◌, ◌⊎◌, ℕ, Bool, true, false, cond, nat_le, List, [], ◌∷◌, ◌++◌, codes}
+use Rattle.std.proofs.Common.{◌≡◌, ◌⊎◌, ℕ, Bool, true, false, cond, nat_le, List, [], ◌∷◌, ◌++◌, codes}
 use Rattle.std.proofs.Common.{filter, Option, Some, None, IsSome, is_some, is_err, Result, Ok, Err, inl, inr}
 use Rattle.std.proofs.Common.{refl, sym, ap, subst, ◌∙◌, true≢false, rules}
 use Rattle.std.specs.Str.{bytes_eq}
@@ -9,24 +9,24 @@ use Rattle.lru_disk_cache.specs.Files.{Files, file_at, front}
 use Rattle.lru_disk_cache.specs.Held.{Held, Holds, Became, Lacks}
 use Rattle.lru_disk_cache.specs.Disk.{ButUnder}
 use Rattle.lru_disk_cache.specs.Entries.{trim}
-use Rattle.lru_disk_cache.specs.Archives.{Archives, archives_in, opened_archives}
+use Rattle.lru_disk_cache.specs.Archives.{Archives, opened_archives}
 use Rattle.lru_disk_cache.specs.Store.{IoCause}
 use Rattle.lru_disk_cache.specs.declared.error.Error.TheVariants.{Io}
 use Rattle.lru_disk_cache.specs.declared.fault.FolderFault.{FolderFault}
 use Rattle.lru_disk_cache.specs.declared.fault.FolderFault.TheVariants.{Missing, Failed}
 use Rattle.lru_disk_cache.specs.declared.fault.FolderFault.TheVariants.{Memory as OutOfMemory}
 use Rattle.lru_disk_cache.proofs.Distinct.{apart}
-use Rattle.lru_disk_cache.proofs.Became.{became_then, became_from, untold}
+use Rattle.lru_disk_cache.proofs.Became.{became_then, became_from}
 use Rattle.disk_cache.specs.declared.config.DistToolchainConfig.{DistToolchainConfig}
 use Rattle.disk_cache.specs.declared.names.Names.{Names}
 use Rattle.disk_cache.specs.declared.toolchain_error.ToolchainError.{ToolchainError}
 use Rattle.disk_cache.specs.declared.toolchain_error.ToolchainError.TheVariants.{Cache, DuplicateConfig}
 use Rattle.disk_cache.specs.declared.toolchain_error.ToolchainError.TheVariants.{ConflictConfig, BadWeakMap}
 use Rattle.disk_cache.specs.declared.toolchain_error.ToolchainError.TheVariants.{Memory}
-use Rattle.disk_cache.specs.Configs.{judged_from, config_verdict, config_of, compiler_of, says_no_dist, clash}
+use Rattle.disk_cache.specs.Configs.{judged_from, config_verdict, config_of, compiler_of, says_no_dist}
 use Rattle.disk_cache.specs.Configs.{beside, and_next}
 use Rattle.disk_cache.specs.Names.{AreNames, IsBeside, cache_path, weak_path, temp_dir, temp_path}
-use Rattle.disk_cache.specs.Opening.{IsEmpty, AreApart, SameArchives, ButOwn, OpeningFails}
+use Rattle.disk_cache.specs.Opening.{IsEmpty, SameArchives, ButOwn, OpeningFails}
 use Rattle.disk_cache.specs.Saving.{ButTwo, LoadFails}
 use Rattle.disk_cache.specs.WeakMaps.{Weak, weak_map_at, weak_map_of}
 use Rattle.disk_cache.proofs.NameLemmas.{weak_outside, temp_beside_weak, cache_apart_temp, temp_there}

@@ -1,5 +1,5 @@
 -- Putting where memory ran out before anything was done.
-use Rattle.std.proofs.Common.{◌≡◌, ℕ, List, Option, Some, None, Result, Ok, Err, refl}
+use Rattle.std.proofs.Common.{ℕ, List, Option, Some, None, Err, refl}
 use Rattle.dist_types.specs.declared.fault.Memory.{Memory as OutOfMem}
 use Rattle.lru_disk_cache.specs.Files.{Same}
 use Rattle.lru_disk_cache.proofs.Became.{became_same}

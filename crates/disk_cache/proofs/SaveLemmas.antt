@@ -1,11 +1,10 @@
 -- What writing a file under another name and renaming it leaves.
-use Rattle.std.proofs.Common.{◌≡◌, ◌≤◌, ℕ, false, List, Option, Some, None, Result, Ok, Err, OnOk, is_some}
+use Rattle.std.proofs.Common.{◌≡◌, ◌≤◌, ℕ, false, List, Option, Some, None, Result, Ok, Err, is_some}
 use Rattle.std.proofs.Common.{inl, inr, refl, sym, ap, subst, ◌∙◌, true≢false, arith}
 use Rattle.std.specs.Option.{option_map}
 use Rattle.std.specs.Str.{bytes_eq}
 use Rattle.dist_types.specs.Cause.{Rose}
 use Rattle.lru_disk_cache.specs.Files.{Files, file_at, put, put_found, without, moved, PartWritten, DoneOrNot}
-use Rattle.lru_disk_cache.specs.Files.{Same}
 use Rattle.lru_disk_cache.specs.Held.{Held, Holds, Lacks, Never, Became, Changes}
 use Rattle.lru_disk_cache.specs.declared.fault.FolderFault.{FolderFault}
 use Rattle.lru_disk_cache.specs.declared.fault.FolderFault.TheVariants.{Missing, Failed, Memory}

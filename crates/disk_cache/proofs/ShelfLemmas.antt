@@ -1,14 +1,14 @@
 -- What a call of the cache leaves of a client's toolchains.
-use Rattle.std.proofs.Common.{◌≡◌, ℕ, List, Option, Some, IsSome, refl, sym, ap, subst, ◌∙◌}
-use Rattle.lru_disk_cache.specs.Files.{Files, file_at, front}
-use Rattle.lru_disk_cache.specs.Held.{Held, Holds, Became}
+use Rattle.std.proofs.Common.{◌≡◌, ℕ, List, Option, IsSome, sym, subst, ◌∙◌}
+use Rattle.lru_disk_cache.specs.Files.{file_at, front}
+use Rattle.lru_disk_cache.specs.Held.{Held, Became}
 use Rattle.lru_disk_cache.specs.Archives.{Archives, IsArchiveStore}
 use Rattle.lru_disk_cache.specs.Disk.{ButUnder}
 use Rattle.lru_disk_cache.proofs.Became.{became_from}
 use Rattle.disk_cache.specs.declared.names.Names.{Names}
 use Rattle.disk_cache.specs.Names.{cache_path, weak_path}
 use Rattle.disk_cache.specs.Shelf.{IsShelf}
-use Rattle.disk_cache.specs.WeakMaps.{weak_map_at, weak_map_of}
+use Rattle.disk_cache.specs.WeakMaps.{weak_map_of}
 use Rattle.disk_cache.proofs.NameLemmas.{weak_outside}
 
 pub shelf_kept : (n : Names) (path later : List ℕ) (capacity size : ℕ) (archives others : Archives)

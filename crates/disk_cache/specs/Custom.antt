@@ -1,10 +1,10 @@
 -- Archives that are configured for compilers.
-use Rattle.std.specs.Prelude.{◌≡◌, ℕ, ◌≤◌, List, [], ◌∷◌, ◌++◌, Bool, if◌then◌else◌, Option, Some, None}
+use Rattle.std.specs.Prelude.{◌≡◌, ℕ, List, [], ◌∷◌, ◌++◌, if◌then◌else◌, Option, Some, None}
 use Rattle.std.specs.Prelude.{Result, Ok, Err, String, string_bytes}
 use Rattle.std.specs.Str.{bytes_eq}
 use Rattle.std.specs.declared.alloc.Global.{Global}
-use Rattle.lru_disk_cache.specs.Files.{Files, file_at, Same}
-use Rattle.lru_disk_cache.specs.Held.{Held, Holds, Became}
+use Rattle.lru_disk_cache.specs.Files.{file_at, Same}
+use Rattle.lru_disk_cache.specs.Held.{Holds, Became}
 use Rattle.lru_disk_cache.specs.Archives.{id_of}
 use Rattle.lru_disk_cache.specs.declared.error.Error.TheVariants.{Io}
 use Rattle.lru_disk_cache.specs.declared.fault.FolderFault.TheVariants.{Memory as OutOfMemory}

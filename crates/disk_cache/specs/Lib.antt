@@ -2,6 +2,7 @@ pub mod Configs
 pub mod Custom
 pub mod Names
 pub mod Opening
+pub mod Others
 pub mod Putting
 pub mod Saving
 pub mod Shelf

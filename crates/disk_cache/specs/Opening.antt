@@ -1,5 +1,5 @@
 -- What an opening of a client's toolchains finds, and why it fails.
-use Rattle.std.specs.Prelude.{◌≡◌, ℕ, false, List, ◌++◌, Option, Some, None, IsSome, Result, Ok, Err}
+use Rattle.std.specs.Prelude.{◌≡◌, ℕ, false, List, ◌++◌, None, IsSome, Err}
 use Rattle.std.specs.Str.{bytes_eq}
 use Rattle.lru_disk_cache.specs.Files.{Files, file_at, front}
 use Rattle.lru_disk_cache.specs.Held.{Held, Holds}

@@ -1,5 +1,5 @@
 -- What holds of the parts of a client's toolchains, whatever failed so far.
-use Rattle.std.specs.Prelude.{◌≡◌, ℕ, List, Some, IsSome}
+use Rattle.std.specs.Prelude.{◌≡◌, ℕ, List, IsSome}
 use Rattle.lru_disk_cache.specs.Held.{Held, Holds}
 use Rattle.lru_disk_cache.specs.Archives.{Archives, IsArchiveStore}
 use Rattle.disk_cache.specs.declared.names.Names.{Names}

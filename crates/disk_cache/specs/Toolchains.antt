@@ -1,11 +1,10 @@
 -- What a client keeps of its toolchains, and why a call of it failed.
-use Rattle.std.specs.Prelude.{◌≡◌, ℕ, ◌≤◌, List, [], ◌∷◌, Bool, if◌then◌else◌, Option, Some, None, IsSome}
-use Rattle.std.specs.Str.{bytes_eq}
+use Rattle.std.specs.Prelude.{◌≡◌, ℕ, List, Some, IsSome}
 use Rattle.disk_cache.specs.WeakMaps.{Weak, weak_map_at}
-use Rattle.lru_disk_cache.specs.Files.{Files, file_at, Same}
+use Rattle.lru_disk_cache.specs.Files.{Same}
 use Rattle.lru_disk_cache.specs.Held.{Held, Holds, Became, Lacks}
 use Rattle.lru_disk_cache.specs.Archives.{Archives, IsArchiveStore}
-use Rattle.lru_disk_cache.specs.Store.{IoCause, error_of}
+use Rattle.lru_disk_cache.specs.Store.{error_of}
 use Rattle.lru_disk_cache.specs.declared.error.Error.{Error}
 use Rattle.lru_disk_cache.specs.declared.error.Error.TheVariants.{Memory as NoMemory}
 use Rattle.lru_disk_cache.specs.declared.fault.FolderFault.{FolderFault}

@@ -10,9 +10,10 @@ ghost use Rattle.disk_cache.specs.Custom.{TellsCustom, Takes, Unread, IsCustom, 
 ghost use Rattle.disk_cache.specs.Custom.{custom_as, custom_told, customs_seen};
 ghost use Rattle.disk_cache.specs.Names.{cache_path, temp_dir};
 ghost use Rattle.disk_cache.specs.Opening.{IsEmpty, ButOwn, OpeningFails};
+ghost use Rattle.disk_cache.specs.Others.{KeepsBeside, KeepsOthers};
 ghost use Rattle.disk_cache.specs.Putting.{Gets, IsFound, ReadsCustom, FindsArchive, LooksUp, found_of};
 ghost use Rattle.disk_cache.specs.Putting.{looked_of};
-ghost use Rattle.disk_cache.specs.Putting.{Records, RecordsStored, Stores, IsStocked, Packs, Packages};
+ghost use Rattle.disk_cache.specs.Putting.{Records, RecordsStored, KeptOrRecorded, Stores, IsStocked, Packs, Packages};
 ghost use Rattle.disk_cache.specs.Putting.{PutsCustom, PutsPackage, LooksThenPackages, Puts};
 ghost use Rattle.disk_cache.specs.Putting.{archives_seen, bytes_seen, placed_as, placed_seen};
 ghost use Rattle.disk_cache.specs.Toolchains.{IsClient, IsWritten, with_state};
@@ -169,9 +170,10 @@ impl<F: Folder> ClientToolchains<F> {
     /// has it.
     ///
     /// Refused as `ToolchainError::Cache` of `Error::Io`, where the archive was not read, and for want of
-    /// memory.
+    /// memory. No file but those of the cache is changed.
     pub fn get_toolchain(&mut self, tc: &Toolchain) -> Result<Option<Vec<u8>>, ToolchainError>
         ensures gets { Gets tc.now (archives_seen result) self.old self.new }
+        ensures beside { KeepsBeside self.old self.new }
         ensures later { self.old.held.faults ≤ self.new.held.faults }
         ensures stands { IsClient self.new }
     {
@@ -192,6 +194,7 @@ impl<F: Folder> ClientToolchains<F> {
     ) -> Option<Result<(Toolchain, String, String), ToolchainError>>
         ensures tells { TellsCustom (custom_of compiler_path.now self.old.configs) compiler_path.now
             (customs_seen result) self.old self.new }
+        ensures beside { KeepsBeside self.old self.new }
         ensures later { self.old.held.faults ≤ self.new.held.faults }
         ensures stands { IsClient self.new }
     {
@@ -217,6 +220,7 @@ impl<F: Folder> ClientToolchains<F> {
     ) -> Result<(Toolchain, Option<(String, String)>), ToolchainError>
         ensures puts { Puts (packager.new ≡ packager.old) (packs packager.old) (refusals packager.old)
             (refusals packager.new) compiler_path.now weak_key.now (placed_seen result) self.old self.new }
+        ensures others { KeepsOthers weak_key.now self.old self.new }
         ensures later { self.old.held.faults ≤ self.new.held.faults }
         ensures stands { IsClient self.new }
     {
@@ -248,8 +252,10 @@ impl<F: Folder> ClientToolchains<F> {
     }
 
     // The archive of a toolchain.
+    #[tactic(auto, using(crate::proofs::OthersLemmas::beside_same))]
     fn archive_of(&mut self, tc: &Toolchain) -> Result<Option<Vec<u8>>, ToolchainError>
         ensures gets { Gets tc.now (archives_seen result) self.old self.new }
+        ensures beside { KeepsBeside self.old self.new }
         ensures later { self.old.held.faults ≤ self.new.held.faults }
     {
         match self.taken_archive(tc) {
@@ -262,12 +268,14 @@ impl<F: Folder> ClientToolchains<F> {
     }
 
     // What is told of the archive that is configured for a compiler.
+    #[tactic(auto, using(crate::proofs::OthersLemmas::beside_same))]
     fn tell_custom(
         &mut self,
         path: &str,
     ) -> Option<Result<(Toolchain, String, String), ToolchainError>>
         ensures tells { TellsCustom (custom_of path.now self.old.configs) path.now (customs_seen result)
             self.old self.new }
+        ensures beside { KeepsBeside self.old self.new }
         ensures later { self.old.held.faults ≤ self.new.held.faults }
     {
         match self.custom_of(path) {
@@ -288,6 +296,7 @@ impl<F: Folder> ClientToolchains<F> {
     ) -> Result<(Toolchain, Option<(String, String)>), ToolchainError>
         ensures puts { Puts (packager.new ≡ packager.old) (packs packager.old) (refusals packager.old)
             (refusals packager.new) path.now key.now (placed_seen result) self.old self.new }
+        ensures others { KeepsOthers key.now self.old self.new }
         ensures later { self.old.held.faults ≤ self.new.held.faults }
     {
         match self.place(path, key, packager) {
@@ -348,6 +357,7 @@ impl<F: Folder> ClientToolchains<F> {
             v.items)) }
         ensures same { OnOk result (self.new ≡ self.old) }
         ensures fails { IfErr result (λ e. Unread archive.now e self.old self.new) }
+        ensures beside { KeepsBeside self.old self.new }
         ensures later { self.old.held.faults ≤ self.new.held.faults }
     {
         match self.cache.read_aside(archive.get()) {
@@ -359,6 +369,7 @@ impl<F: Folder> ClientToolchains<F> {
     // The same, as an archive that was found.
     fn read_whole(&mut self, archive: &Text) -> Result<Option<Vec<u8>>, ToolchainError>
         ensures reads { ReadsCustom archive.now (archives_seen result) self.old self.new }
+        ensures beside { KeepsBeside self.old self.new }
         ensures later { self.old.held.faults ≤ self.new.held.faults }
     {
         match self.read_custom(archive) {
@@ -374,6 +385,7 @@ impl<F: Folder> ClientToolchains<F> {
             self.new.held }
         ensures fails { IfErr result (λ e. FindFails tc.now e self.old.archives self.new.archives
             self.old.held self.new.held) }
+        ensures beside { KeepsBeside self.old self.new }
         ensures later { self.old.held.faults ≤ self.new.held.faults }
     {
         match self.cache.get_file(tc) {
@@ -385,6 +397,7 @@ impl<F: Folder> ClientToolchains<F> {
     // The archive of a toolchain in the cache: none where it is not listed.
     fn find_archive(&mut self, tc: &Toolchain) -> Result<Option<Vec<u8>>, ToolchainError>
         ensures finds { FindsArchive tc.now (archives_seen result) self.old self.new }
+        ensures beside { KeepsBeside self.old self.new }
         ensures later { self.old.held.faults ≤ self.new.held.faults }
     {
         match self.find(tc) {
@@ -394,8 +407,10 @@ impl<F: Folder> ClientToolchains<F> {
     }
 
     // Takes the SHA-256 of a configured archive, unless it was taken for its compiler.
+    #[tactic(auto, using(crate::proofs::OthersLemmas::beside_same))]
     fn take(&mut self, path: &str, custom: CustomToolchain) -> Result<Custom, ToolchainError>
         ensures takes { Takes (taken_of path.now self.old.taken) path.now custom result self.old self.new }
+        ensures beside { KeepsBeside self.old self.new }
         ensures later { self.old.held.faults ≤ self.new.held.faults }
     {
         match self.taken_id(path) {
@@ -407,6 +422,7 @@ impl<F: Folder> ClientToolchains<F> {
     // Takes the SHA-256 of a configured archive.
     fn take_first(&mut self, path: &str, custom: CustomToolchain) -> Result<Custom, ToolchainError>
         ensures takes { Takes None path.now custom result self.old self.new }
+        ensures beside { KeepsBeside self.old self.new }
         ensures later { self.old.held.faults ≤ self.new.held.faults }
     {
         match self.read_custom(&custom.archive) {
@@ -416,6 +432,7 @@ impl<F: Folder> ClientToolchains<F> {
     }
 
     // Notes the SHA-256 of a configured archive that was read.
+    #[tactic(auto, using(crate::proofs::OthersLemmas::beside_same))]
     fn note(
         &mut self,
         path: &str,
@@ -426,6 +443,7 @@ impl<F: Folder> ClientToolchains<F> {
         ensures noted { OnOk result (self.new ≡ with_state self.old self.old.archives self.old.weak
             (self.old.taken ++ taking path.now (id_of bytes.now) custom.archive ∷ []) self.old.held) }
         ensures err { IfErr result (λ e. (e ≡ ToolchainError.Memory) × (self.new ≡ self.old)) }
+        ensures beside { KeepsBeside self.old self.new }
     {
         let id = toolchain_of(bytes);
         let Ok(taken) = taking(self.alloc, path, id, &custom.archive) else {
@@ -446,8 +464,10 @@ impl<F: Folder> ClientToolchains<F> {
 
     // The recorded toolchain of a weak key, whose archive is listed and was read; none where one is to be
     // packaged.
+    #[tactic(auto, using(crate::proofs::OthersLemmas::beside_same))]
     fn look_up(&mut self, key: &str) -> Result<Option<Toolchain>, ToolchainError>
         ensures looks { LooksUp (recorded_id key.now self.old.weak) result self.old self.new }
+        ensures beside { KeepsBeside self.old self.new }
         ensures later { self.old.held.faults ≤ self.new.held.faults }
     {
         match self.recorded_id(key) {
@@ -459,6 +479,7 @@ impl<F: Folder> ClientToolchains<F> {
     // A recorded toolchain, whose archive is listed and was read; none where one is to be packaged.
     fn look_for(&mut self, tc: Toolchain) -> Result<Option<Toolchain>, ToolchainError>
         ensures looks { LooksUp (Some tc) result self.old self.new }
+        ensures beside { KeepsBeside self.old self.new }
         ensures later { self.old.held.faults ≤ self.new.held.faults }
     {
         match self.find(&tc) {
@@ -470,6 +491,7 @@ impl<F: Folder> ClientToolchains<F> {
     // Stores bytes as the archive of their SHA-256.
     fn store(&mut self, bytes: &[u8]) -> Result<Toolchain, Error>
         ensures stores { Stores bytes.now result self.old self.new }
+        ensures beside { KeepsBeside self.old self.new }
         ensures later { self.old.held.faults ≤ self.new.held.faults }
     {
         match self.cache.insert_package(bytes) {
@@ -479,8 +501,12 @@ impl<F: Folder> ClientToolchains<F> {
     }
 
     // Records an id under a weak key.
+    #[tactic(auto, using(crate::proofs::OthersLemmas::own_of_two, crate::proofs::OthersLemmas::own_same))]
     fn record(&mut self, key: &str, tc: &Toolchain) -> Result<(), ToolchainError>
         ensures records { Records key.now tc.now result self.old self.new }
+        ensures dir { self.new.dir ≡ self.old.dir }
+        ensures own { Became (ButOwn self.old.dir) self.old.held.files self.new.held.files }
+        ensures kept { KeptOrRecorded key.now tc.now self.old self.new }
         ensures later { self.old.held.faults ≤ self.new.held.faults }
     {
         let Ok(weak) = self.weak.with_recorded(self.alloc, key, tc) else {
@@ -499,8 +525,10 @@ impl<F: Folder> ClientToolchains<F> {
     }
 
     // Records the id of an archive that was stored.
+    #[tactic(auto, using(crate::proofs::OthersLemmas::others_recorded))]
     fn record_stored(&mut self, key: &str, tc: Toolchain) -> Result<Toolchain, ToolchainError>
         ensures records { RecordsStored key.now tc result self.old self.new }
+        ensures others { KeepsOthers key.now self.old self.new }
         ensures later { self.old.held.faults ≤ self.new.held.faults }
     {
         match self.record(key, &tc) {
@@ -510,8 +538,10 @@ impl<F: Folder> ClientToolchains<F> {
     }
 
     // Stores what was packed, and records its id.
+    #[tactic(auto, using(crate::proofs::OthersLemmas::others_of))]
     fn stock(&mut self, key: &str, bytes: &[u8]) -> Result<Toolchain, ToolchainError>
         ensures stocks { IsStocked key.now bytes.now result self.old self.new }
+        ensures others { KeepsOthers key.now self.old self.new }
         ensures later { self.old.held.faults ≤ self.new.held.faults }
     {
         match self.store(bytes) {
@@ -521,6 +551,7 @@ impl<F: Folder> ClientToolchains<F> {
     }
 
     // Packs, stores what was packed, and records its id.
+    #[tactic(auto, using(crate::proofs::OthersLemmas::beside_same, crate::proofs::OthersLemmas::others_of))]
     fn package(
         &mut self,
         key: &str,
@@ -528,6 +559,7 @@ impl<F: Folder> ClientToolchains<F> {
     ) -> Result<Toolchain, ToolchainError>
         ensures packages { Packages (packs packager.old) (refusals packager.old) (refusals packager.new)
             key.now result self.old self.new }
+        ensures others { KeepsOthers key.now self.old self.new }
         ensures later { self.old.held.faults ≤ self.new.held.faults }
     {
         match packed(self.alloc(), packager) {
@@ -544,6 +576,7 @@ impl<F: Folder> ClientToolchains<F> {
     ) -> Result<Placed, ToolchainError>
         ensures puts { PutsPackage (packs packager.old) (refusals packager.old) (refusals packager.new)
             key.now result self.old self.new }
+        ensures others { KeepsOthers key.now self.old self.new }
         ensures later { self.old.held.faults ≤ self.new.held.faults }
     {
         match self.package(key, packager) {
@@ -553,6 +586,7 @@ impl<F: Folder> ClientToolchains<F> {
     }
 
     // The third and the fourth case.
+    #[tactic(auto, using(crate::proofs::OthersLemmas::others_then, crate::proofs::OthersLemmas::others_of))]
     fn look_then_package(
         &mut self,
         key: &str,
@@ -560,6 +594,7 @@ impl<F: Folder> ClientToolchains<F> {
     ) -> Result<Placed, ToolchainError>
         ensures puts { LooksThenPackages (packager.new ≡ packager.old) (packs packager.old) (refusals
             packager.old) (refusals packager.new) key.now result self.old self.new }
+        ensures others { KeepsOthers key.now self.old self.new }
         ensures later { self.old.held.faults ≤ self.new.held.faults }
     {
         match self.look_up(key) {
@@ -574,6 +609,7 @@ impl<F: Folder> ClientToolchains<F> {
     // The second case.
     fn put_custom(&mut self, path: &str, custom: CustomToolchain) -> Result<Placed, ToolchainError>
         ensures puts { PutsCustom path.now custom result self.old self.new }
+        ensures beside { KeepsBeside self.old self.new }
         ensures later { self.old.held.faults ≤ self.new.held.faults }
     {
         match self.take(path, custom) {
@@ -583,6 +619,7 @@ impl<F: Folder> ClientToolchains<F> {
     }
 
     // The four cases.
+    #[tactic(auto, using(crate::proofs::OthersLemmas::beside_same, crate::proofs::OthersLemmas::others_of))]
     fn place(
         &mut self,
         path: &str,
@@ -591,6 +628,7 @@ impl<F: Folder> ClientToolchains<F> {
     ) -> Result<Placed, ToolchainError>
         ensures puts { Puts (packager.new ≡ packager.old) (packs packager.old) (refusals packager.old)
             (refusals packager.new) path.now key.now result self.old self.new }
+        ensures others { KeepsOthers key.now self.old self.new }
         ensures later { self.old.held.faults ≤ self.new.held.faults }
     {
         match self.choice_of(path) {

@@ -1,4 +1,4 @@
-use Rattle.std.proofs.Common.{◌≡◌, ◌∙◌, Err, None, Some, IsSome, sym, ap, subst}
+use Rattle.std.proofs.Common.{◌≡◌, ◌∙◌, None, Some, IsSome, sym, subst}
 use Rattle.lru_disk_cache.specs.Files.{front}
 use Rattle.lru_disk_cache.specs.Held.{Holds, Became}
 use Rattle.lru_disk_cache.specs.Disk.{ButUnder}

@@ -1,4 +1,4 @@
-use Rattle.std.proofs.Common.{◌≡◌, ◌∙◌, Err, refl, ap, subst}
+use Rattle.std.proofs.Common.{◌∙◌, refl, ap, subst}
 use Rattle.disk_cache.specs.Configs.{IsChoice, config_of}
 use Rattle.disk_cache.specs.declared.config.Choice.TheVariants.{Archive}
 use Rattle.disk_cache.proofs.PutLemmas.{put_starved}

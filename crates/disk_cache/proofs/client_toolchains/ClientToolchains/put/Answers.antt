@@ -1,4 +1,3 @@
-use Rattle.std.proofs.Common.{◌≡◌, Ok, sym, subst}
 use Rattle.disk_cache.proofs.client_toolchains.ClientToolchains.put.Goals as goal
 
 pub returns-in-Ok-clause-puts : goal.returns-in-Ok-clause-puts

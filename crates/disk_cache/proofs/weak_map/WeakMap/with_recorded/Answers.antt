@@ -1,5 +1,4 @@
 use Rattle.std.proofs.Common.{is_some, unwrap_or, [], ap, ◌∙◌}
-use Rattle.serde_json.specs.View.{view}
 use Rattle.disk_cache.specs.WeakMaps.{with_recorded}
 use Rattle.disk_cache.proofs.JsonLemmas.{has_texts, recorded_value}
 use Rattle.disk_cache.proofs.weak_map.WeakMap.with_recorded.Goals as goal
