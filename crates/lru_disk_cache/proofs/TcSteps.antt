@@ -160,6 +160,7 @@ looked_fails id key d e old new (Err (Io fault)) fit is keys h = (
   ap (λ (k : Disk). unkeyed k.entries) h.0
       ∙ (ap (λ k. unkeyed (promoted_key k d.entries)) is ∙ sym (promoted_key_un id d.entries fit keys)),
   h.1,
+  subst IsSome (listed_un id key d.entries fit is keys) h.2,
 )
 looked_fails id key d e old new (Err NoMemory) fit is keys h = elim h [
   | inl same ↦ inl (ap (λ (k : Disk). unkeyed k.entries) same)
@@ -219,7 +220,11 @@ pub removed_fails : (id key : List ℕ) (d e : Disk) (old new : Held) (result : 
     → IfErr result (λ x. RemoveFails key x d e old new)
     → IfErr result (λ x. DropFails id x (unkeyed d.entries) (unkeyed e.entries) old new)
 removed_fails id key d e old new (Ok x) fit is keys h = tt
-removed_fails id key d e old new (Err (Io fault)) fit is keys h = (out_un id key d e fit is keys h.0, h.1)
+removed_fails id key d e old new (Err (Io fault)) fit is keys h = (
+  out_un id key d e fit is keys h.0,
+  h.1,
+  subst IsSome (listed_un id key d.entries fit is keys) h.2,
+)
 removed_fails id key d e old new (Err NoMemory) fit is keys h =
     elim h [
       | inl same ↦ inl (ap (λ (k : Disk). unkeyed k.entries) same)

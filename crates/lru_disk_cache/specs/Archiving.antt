@@ -1,6 +1,6 @@
 -- What each call of a cache of archives answers and leaves.
 use Rattle.std.specs.Prelude.{◌≡◌, ℕ, ◌-◌, ◌≤◌, ◌⊎◌, not, nat_lt, if◌then◌else◌, List, None, Some, Result, Ok}
-use Rattle.std.specs.Prelude.{Err, length}
+use Rattle.std.specs.Prelude.{Err, IsSome, length}
 use Rattle.std.specs.List.{AllByRecursion}
 use Rattle.std.specs.Map.{lookup}
 use Rattle.std.specs.Str.{bytes_eq}
@@ -55,10 +55,12 @@ StoreFails capacity id bytes FileNotInCache a b old new = ⊥
 StoreFails capacity id bytes NotPending a b old new = ⊥
 StoreFails capacity id bytes WriterRefused a b old new = ⊥
 
--- Why a look-up failed, and what it leaves: Io leaves the archive listed, as the most recent.
+-- Why a look-up failed, and what it leaves: Io comes only where the archive is listed, and leaves it so, as
+-- the most recent.
 abbrev pub FindFails : List ℕ → Error → Archives → Archives → Held → Held → Type 0
 FindFails id FileNotInCache a b old new = (b ≡ a) × (new ≡ old) × (lookup (bytes_eq id) a ≡ None)
 FindFails id (Io fault) a b old new = (b ≡ promoted_key id a) × IoCause fault old new
+    × IsSome (lookup (bytes_eq id) a)
 FindFails id NoMemory a b old new = (b ≡ a) ⊎ (b ≡ promoted_key id a)
 FindFails id BadKey a b old new = ⊥
 FindFails id FileTooLarge a b old new = ⊥
@@ -67,9 +69,10 @@ FindFails id NotPending a b old new = ⊥
 FindFails id WrongDigest a b old new = ⊥
 FindFails id WriterRefused a b old new = ⊥
 
--- Why a removal failed, and what it leaves: Io leaves the archive unlisted.
+-- Why a removal failed, and what it leaves: Io comes only where the archive is listed, and leaves it unlisted.
 abbrev pub DropFails : List ℕ → Error → Archives → Archives → Held → Held → Type 0
 DropFails id (Io fault) a b old new = (b ≡ without_key id a) × IoCause fault old new
+    × IsSome (lookup (bytes_eq id) a)
 DropFails id NoMemory a b old new = (b ≡ a) ⊎ (b ≡ without_key id a)
 DropFails id FileNotInCache a b old new = ⊥
 DropFails id BadKey a b old new = ⊥
