@@ -319,7 +319,7 @@ stored_keyed key id bytes d e old new (Err PendingSpace) is fit digest h ok fail
 stored_keyed key id bytes d e old new (Err (Io fault)) is fit digest h ok fails kept left content =
     left_keyed key (room_beside d (length bytes)) d e old new h fails.0 left
 stored_keyed key id bytes d e old new (Err NoMemory) is fit digest h ok fails kept left content =
-    left_keyed key (room_beside d (length bytes)) d e old new h fails left
+    left_keyed key (room_beside d (length bytes)) d e old new h fails.0 left
 stored_keyed key id bytes d e old new (Err FileNotInCache) is fit digest h ok fails kept left content =
     absurd fails
 stored_keyed key id bytes d e old new (Err NotPending) is fit digest h ok fails kept left content =
@@ -351,7 +351,7 @@ stored_fails id key bytes d e old new (Ok x) fit is keys none archive insert h =
 stored_fails id key bytes d e old new (Err (Io fault)) fit is keys none archive insert h =
     (left_by id key bytes d e fit is keys none h.0, h.1, archive)
 stored_fails id key bytes d e old new (Err NoMemory) fit is keys none archive insert h =
-    left_by id key bytes d e fit is keys none h
+    left_by id key bytes d e fit is keys none h.0
 stored_fails id key bytes d e old new (Err BadKey) fit is keys none archive insert h =
     absurd (admitted (insert_verdict d key (length bytes)) BadKey insert h.2)
 stored_fails id key bytes d e old new (Err FileTooLarge) fit is keys none archive insert h =

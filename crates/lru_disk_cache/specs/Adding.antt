@@ -16,7 +16,7 @@ use Rattle.lru_disk_cache.specs.Entries.{Entries, trim, IsEnd}
 use Rattle.lru_disk_cache.specs.Disk.{Left, stored, without_each}
 use Rattle.lru_disk_cache.specs.Reserved.{Reservation, AddEntry, held_size, is_pending, is_sure}
 use Rattle.lru_disk_cache.specs.Reserved.{without_number, unsure}
-use Rattle.lru_disk_cache.specs.Store.{Disk, room_beside, error_of, Refuses, IoCause}
+use Rattle.lru_disk_cache.specs.Store.{Disk, room_beside, insert_verdict, error_of, Refuses, IoCause}
 
 -- ---- a reservation is made
 
@@ -45,13 +45,15 @@ pub record RoomBy (limit : ℕ) (old new : Disk) : Type 0 where
   pub entries : IsEnd new.entries old.entries
   pub needed : trim limit new.entries ≡ trim limit old.entries
 
--- why it failed
+-- Why it failed. The folder is asked, and memory taken, only where the verdict admits.
 abbrev pub PrepareFails : List ℕ → ℕ → Error → Disk → Disk → Held → Held → Type 0
 PrepareFails key size BadKey d e old new = Refuses key size BadKey d e old new
 PrepareFails key size FileTooLarge d e old new = Refuses key size FileTooLarge d e old new
 PrepareFails key size PendingSpace d e old new = Refuses key size PendingSpace d e old new
 PrepareFails key size (Io fault) d e old new = RoomBy (room_beside d size) d e × IoCause fault old new
+    × (insert_verdict d key size ≡ Ok (tt {0}))
 PrepareFails key size NoMemory d e old new = RoomBy (room_beside d size) d e
+    × (insert_verdict d key size ≡ Ok (tt {0}))
 PrepareFails key size FileNotInCache d e old new = ⊥
 PrepareFails key size NotPending d e old new = ⊥
 PrepareFails key size WrongDigest d e old new = ⊥

@@ -118,13 +118,15 @@ pub record LeftBy (key : List ℕ) (limit : ℕ) (old new : Disk) : Type 0 where
 abbrev pub Refuses : List ℕ → ℕ → Error → Disk → Disk → Held → Held → Type 0
 Refuses key size error d e old new = (e ≡ d) × (new ≡ old) × (insert_verdict d key size ≡ Err error)
 
--- why an insert failed, and what it leaves
+-- Why an insert failed, and what it leaves. The folder is asked, and memory taken, only where the verdict admits.
 abbrev pub InsertFails : List ℕ → ℕ → Error → Disk → Disk → Held → Held → Type 0
 InsertFails key size BadKey d e old new = Refuses key size BadKey d e old new
 InsertFails key size FileTooLarge d e old new = Refuses key size FileTooLarge d e old new
 InsertFails key size PendingSpace d e old new = Refuses key size PendingSpace d e old new
 InsertFails key size (Io fault) d e old new = LeftBy key (room_beside d size) d e × IoCause fault old new
+    × (insert_verdict d key size ≡ Ok (tt {0}))
 InsertFails key size NoMemory d e old new = LeftBy key (room_beside d size) d e
+    × (insert_verdict d key size ≡ Ok (tt {0}))
 InsertFails key size FileNotInCache d e old new = ⊥
 InsertFails key size NotPending d e old new = ⊥
 InsertFails key size WrongDigest d e old new = ⊥
