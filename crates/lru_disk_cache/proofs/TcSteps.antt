@@ -351,7 +351,7 @@ stored_fails id key bytes d e old new (Ok x) fit is keys none archive insert h =
 stored_fails id key bytes d e old new (Err (Io fault)) fit is keys none archive insert h =
     (left_by id key bytes d e fit is keys none h.0, h.1, archive)
 stored_fails id key bytes d e old new (Err NoMemory) fit is keys none archive insert h =
-    left_by id key bytes d e fit is keys none h.0
+    (left_by id key bytes d e fit is keys none h.0, archive)
 stored_fails id key bytes d e old new (Err BadKey) fit is keys none archive insert h =
     absurd (admitted (insert_verdict d key (length bytes)) BadKey insert h.2)
 stored_fails id key bytes d e old new (Err FileTooLarge) fit is keys none archive insert h =

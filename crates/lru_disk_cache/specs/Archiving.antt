@@ -39,7 +39,7 @@ RefusesArchive capacity id bytes error a b old new = (b ≡ a) × (new ≡ old)
     × (archive_verdict capacity id bytes ≡ Err error)
 
 -- Why storing an archive failed, and what it leaves: the list as it was, or that id unlisted and then some of
--- the least recent gone, none more than had to go.
+-- the least recent gone, none more than had to go. Io and want of memory come only where the verdict admits.
 abbrev pub StoreFails : ℕ → List ℕ → List ℕ → Error → Archives → Archives → Held → Held → Type 0
 StoreFails capacity id bytes WrongDigest a b old new =
     RefusesArchive capacity id bytes WrongDigest a b old new
@@ -49,6 +49,7 @@ StoreFails capacity id bytes (Io fault) a b old new =
     Left id (capacity - length bytes) a b × IoCause fault old new
     × (archive_verdict capacity id bytes ≡ Ok (tt {0}))
 StoreFails capacity id bytes NoMemory a b old new = Left id (capacity - length bytes) a b
+    × (archive_verdict capacity id bytes ≡ Ok (tt {0}))
 StoreFails capacity id bytes BadKey a b old new = ⊥
 StoreFails capacity id bytes PendingSpace a b old new = ⊥
 StoreFails capacity id bytes FileNotInCache a b old new = ⊥
