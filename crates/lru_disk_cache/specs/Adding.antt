@@ -89,11 +89,12 @@ EntryCause e d Memory old new = ⊥
 abbrev pub RefusesEntry : AddEntry → Disk → Disk → Held → Held → Type 0
 RefusesEntry entry d e old new = (e ≡ d) × (new ≡ old) × (is_pending entry d.pending ≡ false)
 
--- why writing failed
+-- Why writing failed. The folder is asked, and memory taken, only where the entry is pending.
 abbrev pub WriteFails : AddEntry → Error → Disk → Disk → Held → Held → Type 0
 WriteFails entry NotPending d e old new = RefusesEntry entry d e old new
 WriteFails entry (Io fault) d e old new = EntryCause entry d fault old new
-WriteFails entry NoMemory d e old new = Unit {0}
+    × (is_pending entry d.pending ≡ true)
+WriteFails entry NoMemory d e old new = is_pending entry d.pending ≡ true
 WriteFails entry BadKey d e old new = ⊥
 WriteFails entry FileTooLarge d e old new = ⊥
 WriteFails entry PendingSpace d e old new = ⊥
@@ -146,13 +147,14 @@ abbrev pub RefusesCommit : AddEntry → Error → Disk → Disk → Held → Hel
 RefusesCommit entry error d e old new =
     (e ≡ d) × (new ≡ old) × ((n : ℕ) × HasSize d entry old n × (commit_verdict d entry n ≡ Err error))
 
--- why it failed
+-- Why it failed. The folder is asked, and memory taken, only where the entry is pending.
 abbrev pub CommitFails : AddEntry → Error → Disk → Disk → Held → Held → Type 0
 CommitFails entry NotPending d e old new = RefusesEntry entry d e old new
 CommitFails entry FileTooLarge d e old new = RefusesCommit entry FileTooLarge d e old new
 CommitFails entry PendingSpace d e old new = RefusesCommit entry PendingSpace d e old new
 CommitFails entry (Io fault) d e old new = CommitBroke entry d e old × EntryCause entry d fault old new
-CommitFails entry NoMemory d e old new = CommitBroke entry d e old
+    × (is_pending entry d.pending ≡ true)
+CommitFails entry NoMemory d e old new = CommitBroke entry d e old × (is_pending entry d.pending ≡ true)
 CommitFails entry BadKey d e old new = ⊥
 CommitFails entry FileNotInCache d e old new = ⊥
 CommitFails entry WrongDigest d e old new = ⊥
