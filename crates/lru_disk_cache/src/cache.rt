@@ -251,8 +251,8 @@ impl<F: Folder> LruDiskCache<F> {
     /// The content of the file of a key, which becomes the most recent.
     ///
     /// Refused as `Error::FileNotInCache` exactly where the key is not listed, which leaves all as it was;
-    /// as `Error::Io`, which leaves it listed and most recent; and for want of memory, which leaves it
-    /// listed, in its place or most recent.
+    /// as `Error::Io`, only where it is, which leaves it listed and most recent; and for want of memory,
+    /// which leaves the list as it was, or the key most recent.
     pub fn get_file(&mut self, key: &str) -> Result<Vec<u8>>
         ensures ok { OnOk result (self.new.disk ≡ looked_up self.old.disk key.now) }
         ensures found { OnOk result (IsSome (lookup (bytes_eq key.now) self.old.disk.entries)) }
@@ -291,8 +291,8 @@ impl<F: Folder> LruDiskCache<F> {
 
     /// Takes a key out and removes its file. It answers Ok where the key is not listed.
     ///
-    /// Refused as `Error::Io`, which leaves the key out, and for want of memory, which leaves it listed or
-    /// out.
+    /// Refused as `Error::Io`, only where the key is listed, which leaves it out, and for want of memory,
+    /// which leaves the list as it was, or the key out.
     pub fn remove(&mut self, key: &str) -> Result<()>
         ensures ok { OnOk result (self.new.disk ≡ removed self.old.disk key.now) }
         ensures gone { OnOk result (IsSome (lookup (bytes_eq key.now) self.old.disk.entries)

@@ -190,8 +190,8 @@ impl<F: Folder> TcCache<F> {
     /// toolchain's id.
     ///
     /// Refused as `Error::FileNotInCache` exactly where it is not listed, which leaves all as it was; as
-    /// `Error::Io`, which leaves it listed and most recent; and for want of memory, which leaves it listed,
-    /// in its place or most recent.
+    /// `Error::Io`, only where it is, which leaves it listed and most recent; and for want of memory, which
+    /// leaves the list as it was, or the archive most recent.
     pub fn get_file(&mut self, tc: &Toolchain) -> Result<Vec<u8>>
         ensures ok { OnOk result (self.new.archives ≡ promoted_key tc.now self.old.archives) }
         ensures found { OnOk result (IsSome (lookup (bytes_eq tc.now) self.old.archives)) }
@@ -254,8 +254,8 @@ impl<F: Folder> TcCache<F> {
 
     /// Takes the archive of a toolchain out and removes its file. It answers Ok where it is not listed.
     ///
-    /// Refused as `Error::Io`, which leaves it unlisted, and for want of memory, which leaves it listed or
-    /// not.
+    /// Refused as `Error::Io`, only where it is listed, which leaves it unlisted, and for want of memory,
+    /// which leaves the list as it was, or the archive unlisted.
     pub fn remove(&mut self, tc: &Toolchain) -> Result<()>
         ensures ok { OnOk result (self.new.archives ≡ without_key tc.now self.old.archives) }
         ensures gone { OnOk result (IsSome (lookup (bytes_eq tc.now) self.old.archives)
