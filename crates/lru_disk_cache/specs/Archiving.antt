@@ -70,7 +70,8 @@ FindFails id NotPending a b old new = ⊥
 FindFails id WrongDigest a b old new = ⊥
 FindFails id WriterRefused a b old new = ⊥
 
--- Why a removal failed, and what it leaves: Io comes only where the archive is listed, and leaves it unlisted.
+-- Why a removal failed, and what it leaves: Io comes only where the archive is listed, and leaves it
+-- unlisted.
 abbrev pub DropFails : List ℕ → Error → Archives → Archives → Held → Held → Type 0
 DropFails id (Io fault) a b old new = (b ≡ without_key id a) × IoCause fault old new
     × IsSome (lookup (bytes_eq id) a)

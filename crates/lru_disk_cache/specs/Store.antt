@@ -118,7 +118,8 @@ pub record LeftBy (key : List ℕ) (limit : ℕ) (old new : Disk) : Type 0 where
 abbrev pub Refuses : List ℕ → ℕ → Error → Disk → Disk → Held → Held → Type 0
 Refuses key size error d e old new = (e ≡ d) × (new ≡ old) × (insert_verdict d key size ≡ Err error)
 
--- Why an insert failed, and what it leaves. The folder is asked, and memory taken, only where the verdict admits.
+-- Why an insert failed, and what it leaves. The folder is asked, and memory taken, only where the verdict
+-- admits.
 abbrev pub InsertFails : List ℕ → ℕ → Error → Disk → Disk → Held → Held → Type 0
 InsertFails key size BadKey d e old new = Refuses key size BadKey d e old new
 InsertFails key size FileTooLarge d e old new = Refuses key size FileTooLarge d e old new

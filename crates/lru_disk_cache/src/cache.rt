@@ -11,7 +11,7 @@ ghost use Rattle.lru_disk_cache.specs.Key.{is_key, temp_name};
 ghost use Rattle.lru_disk_cache.specs.Entries.{total, IsTable};
 ghost use Rattle.lru_disk_cache.specs.Opened.{InStep, Shows};
 ghost use Rattle.lru_disk_cache.specs.Disk.{Stands, ButAt, ButUnder, IsTemp, Keeps, SameAt, staying, dropped};
-ghost use Rattle.lru_disk_cache.specs.Disk.{files_stored, without_key, OnlyRemoved};
+ghost use Rattle.lru_disk_cache.specs.Disk.{files_stored, without_key, OnlyRemoved, RemovedUnder};
 ghost use Rattle.lru_disk_cache.specs.Reserved.{held_size, KeepsReserved};
 
 use crate::error::{Error, Result, io};
@@ -73,7 +73,7 @@ impl<F: Folder> LruDiskCache<F> {
 
     /// Opens a cache of `size` bytes of the files below a path. Those are removed that are no key's or larger
     /// than that, and the least recent where the others exceed it. Where that fails, as `Error::Io` or for
-    /// want of memory, the folder is handed back.
+    /// want of memory, the folder is handed back, of which no more than files below the path are removed.
     pub fn new(
         alloc: Global,
         mut folder: F,
@@ -95,6 +95,8 @@ impl<F: Folder> LruDiskCache<F> {
         ensures steady { IfOk result (λ c. (F.held c.folder).faults ≡ (F.held folder).faults) }
         ensures later { IfErr result (λ e. (F.held folder).faults ≤ (F.held e.1).faults) }
         ensures fails { IfErr result (λ e. OpenFails e.0 (F.held folder) (F.held e.1)) }
+        ensures left { IfErr result (λ e. Became (RemovedUnder (front path.now)) (F.held folder).files
+            (F.held e.1).files) }
     {
         let Ok((path, root)) = place_of(alloc, path) else {
             return Err((Error::Memory, folder));
