@@ -1,11 +1,10 @@
 -- What an opening leaves, whether it succeeds or not: files below its root are only removed.
 use Rattle.std.proofs.Common.{◌≡◌, ◌++◌, List, ℕ, Option, Some, None, Result, Ok, Err, refl, sym, subst, ◌∙◌}
 use Rattle.std.proofs.Common.{IfErr, inl, inr}
-use Rattle.std.specs.Str.{bytes_eq}
-use Rattle.lru_disk_cache.specs.Files.{Files, file_at, without, DoneOrNot}
+use Rattle.lru_disk_cache.specs.Files.{Files, without, DoneOrNot}
 use Rattle.lru_disk_cache.specs.Held.{Held, Lacks, Became, Changes}
 use Rattle.lru_disk_cache.specs.declared.fault.FolderFault.{FolderFault}
-use Rattle.lru_disk_cache.specs.Disk.{OnlyRemoved, ButAt, ButUnder, RemovedAt, RemovedUnder, SameAt}
+use Rattle.lru_disk_cache.specs.Disk.{OnlyRemoved, ButUnder, RemovedAt, RemovedUnder, SameAt}
 use Rattle.lru_disk_cache.proofs.Became.{became_map, became_same, became_then, became_of}
 use Rattle.lru_disk_cache.proofs.Exactly.{without_was}
 use Rattle.lru_disk_cache.proofs.Lookups.{without_other}

@@ -1,4 +1,4 @@
-use Rattle.lru_disk_cache.proofs.Removals.{same_part_at, same_then_part}
+use Rattle.lru_disk_cache.proofs.Removals.{same_then_part}
 use Rattle.lru_disk_cache.proofs.cleaning.clean_one.Goals as goal
 
 pub returns-clause-part : goal.returns-clause-part

@@ -1,5 +1,5 @@
 -- That the sizes fit is what the type of the opened table says: of its fields, and of the list's in them.
-use Rattle.std.proofs.Common.{rules, ◌≡◌, ℕ, List, ◌+◌, ◌≤◌, subst}
+use Rattle.std.proofs.Common.{rules, ℕ, List, ◌≤◌, subst}
 use denote.Laws.{Is}
 use denote.Enum.Declared as declared
 use Rattle.std.specs.contracts.result.Result as result
@@ -7,7 +7,6 @@ use Rattle.lru_metered.specs.Metered.{Metered}
 use Rattle.lru_disk_cache.specs.contracts.table.Table as table
 use Rattle.lru_disk_cache.specs.contracts.fault.FolderFault as fault
 use Rattle.lru_disk_cache.specs.Entries.{Listed, total}
-use Rattle.lru_disk_cache.specs.Store.{IsStore}
 use Rattle.lru_disk_cache.proofs.Removals.{none_spared}
 use Rattle.lru_disk_cache.specs.Files.{front}
 use Rattle.lru_disk_cache.specs.Held.{Became}
