@@ -136,7 +136,7 @@ store_refused (error.Io fault) capacity tc bytes gone n old new before after g e
           w.rest;
     })
 store_refused error.Memory capacity tc bytes gone n old new before after g e unlisted distinct h =
-    let w = went tc (capacity - length bytes) old new n unlisted distinct e h in
+    let w = went tc (capacity - length bytes) old new n unlisted distinct e h.0 in
     inr (take n (ids (dropped (capacity - length bytes) old)), w.front, w.rest)
 store_refused error.FileNotInCache capacity tc bytes gone n old new before after g e unlisted distinct h =
     absurd h
@@ -159,7 +159,7 @@ store_shorter error.FileTooLarge capacity tc bytes old new before after unlisted
 store_shorter (error.Io fault) capacity tc bytes old new before after unlisted distinct h =
     (went tc (capacity - length bytes) old new (length old - length new) unlisted distinct refl h.0).short
 store_shorter error.Memory capacity tc bytes old new before after unlisted distinct h =
-    (went tc (capacity - length bytes) old new (length old - length new) unlisted distinct refl h).short
+    (went tc (capacity - length bytes) old new (length old - length new) unlisted distinct refl h.0).short
 store_shorter error.FileNotInCache capacity tc bytes old new before after unlisted distinct h = absurd h
 store_shorter error.PendingSpace capacity tc bytes old new before after unlisted distinct h = absurd h
 store_shorter error.BadKey capacity tc bytes old new before after unlisted distinct h = absurd h

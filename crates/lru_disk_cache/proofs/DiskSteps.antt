@@ -6,10 +6,9 @@ use Rattle.std.specs.List.{IsDistinct}
 use Rattle.std.specs.Map.{keys_of, lookup}
 use Rattle.std.specs.Option.{option_map}
 use Rattle.std.specs.Str.{bytes_eq}
-use Rattle.lru_disk_cache.specs.Files.{Files, file_at, size_at, put, without, touched, appended}
+use Rattle.lru_disk_cache.specs.Files.{Files, file_at, put, without, touched, appended}
 use Rattle.lru_disk_cache.specs.Held.{Held, Became, BecameBy}
 use Rattle.lru_disk_cache.specs.Key.{is_key, temp_name}
-use Rattle.lru_disk_cache.specs.Entries.{Entries}
 use Rattle.lru_disk_cache.specs.Disk.{AllKeys, Avoids, IsTemp, dropped, files_placed, files_stored, stored}
 use Rattle.lru_disk_cache.specs.Disk.{without_key}
 use Rattle.lru_disk_cache.specs.Reserved.{Reservation, AddEntry, AllReserved, is_of, is_pending}

@@ -170,7 +170,7 @@ later_of (Err Memory) old new h = h
 
 -- ---- what is only removed
 
-without_was : (p q b : List ℕ) (files : Files) → file_at (without p files) q ≡ Some b
+pub without_was : (p q b : List ℕ) (files : Files) → file_at (without p files) q ≡ Some b
     → file_at files q ≡ Some b
 without_was p q b files found = by (bytes_eq p q) refl
   where

@@ -13,7 +13,7 @@ use Rattle.lru_disk_cache.specs.Files.{Files, file_at, without, is_behind}
 use Rattle.lru_disk_cache.specs.Held.{Held, Holds, Became, Lacks}
 use Rattle.lru_disk_cache.specs.declared.folder.Found.{Found}
 use Rattle.lru_disk_cache.specs.Archives.{id_of, archive_key}
-use Rattle.lru_disk_cache.specs.Disk.{ButUnder}
+use Rattle.lru_disk_cache.specs.Disk.{ButUnder, RemovedAt, RemovedUnder}
 use Rattle.lru_disk_cache.specs.Cleaned.{found_of, under, is_sound, Cleaned}
 use Rattle.lru_disk_cache.proofs.Became.{became_from}
 use Rattle.lru_disk_cache.proofs.Distinct.{apart, distinct_filtered, without_distinct}
@@ -271,6 +271,36 @@ still_there root capacity i found file old now found_is below file_is so_far fil
     (b.2.1 ∙ ap (λ l. filter (is_sound root capacity) (take i (under root b.0)) ++ l) w.2) in
     let here : file.path ≡ w.0.0 = ap (λ (x : Found). x.path) (file_is ∙ w.1) in
     true≢false (ap is_some (sym there ∙ (ap (file_at files) (sym here) ∙ lacks)))
+
+-- what a part of its removal changes lies below the root
+pub one_spared : (root : List ℕ) (capacity i : ℕ) (found : List Found) (file : Found) (old now : Held)
+    (new : Option Files) → Holds old (λ f. found ≡ map found_of (under root f)) → i < length found
+    → file ≡ get_or found i file → Became (SoFar root capacity i) old.files now.files
+    → Became (RemovedAt file.path) now.files new → Became (RemovedUnder root) now.files new
+one_spared root capacity i found file old now new found_is below file_is so_far step =
+    by now.files refl step
+  where
+    by : (o : Option Files) → now.files ≡ o → Became (RemovedAt file.path) o new
+        → Became (RemovedUnder root) o new
+    by None told h = h
+    by (Some files) told h =
+        let b = became_from (SoFar root capacity i) old.files now.files files so_far told in
+        let w = nth found (under root b.0) i file (found_is b.0 b.1) below in
+        let front = filter (is_sound root capacity) (take i (under root b.0)) in
+        let rest = drop (suc i) (under root b.0) in
+        let so : under root files ≡ front ++ w.0 ∷ rest = b.2.1 ∙ ap (λ l. front ++ l) w.2 in
+        let Q : Files → Type 0 = λ l. AllByRecursion (λ q. is_behind root q ≡ true) (keys_of l) in
+        let behind = at_middle (λ q. is_behind root q ≡ true) front w.0 rest (subst Q so (all_behind root files))
+        in
+        let here : file.path ≡ w.0.0 = ap (λ (x : Found). x.path) (file_is ∙ w.1) in (
+          h.0,
+          h.1,
+          (
+            h.2.0,
+            λ q away. h.2.1 q (ap (λ p. bytes_eq p q) (here ∙ begins w.0.0 root behind)
+                ∙ away (drop (length root) w.0.0)),
+          ),
+        )
 
 -- a path of another length is no archive's
 pub wrong_length : (root path bytes : List ℕ) (capacity : ℕ) → ¬ (length path ≡ length root + 68)

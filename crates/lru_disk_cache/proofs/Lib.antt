@@ -7,6 +7,7 @@ pub mod Fills
 pub mod Listings
 pub mod Opens
 pub mod Paths
+pub mod Removals
 pub mod Renames
 pub mod Reopening
 pub mod Sorting

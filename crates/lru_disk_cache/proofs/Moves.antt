@@ -19,18 +19,18 @@ use Rattle.lru_disk_cache.specs.Moving.{MoveFails, WriterFails, WithFails, Store
 
 -- where the file that is to be moved is not measured
 pub move_failed : (key path : List ℕ) (d e : Disk) (error : Error) (old new : Held) → e ≡ d
-    → CallFails (Lacks path) error old new → MoveFails key path error d e old new
-move_failed key path d e (Io Missing) old new is h = (inl is, inr (is, h.0, h.1))
-move_failed key path d e (Io Failed) old new is h = (inl is, h)
-move_failed key path d e (Io Memory) old new is h = absurd h
-move_failed key path d e NoMemory old new is h = inl is
-move_failed key path d e BadKey old new is h = absurd h
-move_failed key path d e FileTooLarge old new is h = absurd h
-move_failed key path d e FileNotInCache old new is h = absurd h
-move_failed key path d e PendingSpace old new is h = absurd h
-move_failed key path d e NotPending old new is h = absurd h
-move_failed key path d e WrongDigest old new is h = absurd h
-move_failed key path d e WriterRefused old new is h = absurd h
+    → is_key key ≡ true → CallFails (Lacks path) error old new → MoveFails key path error d e old new
+move_failed key path d e (Io Missing) old new is fit h = (inl is, inr (is, h.0, h.1), fit)
+move_failed key path d e (Io Failed) old new is fit h = (inl is, h, fit)
+move_failed key path d e (Io Memory) old new is fit h = absurd h
+move_failed key path d e NoMemory old new is fit h = (inl is, fit)
+move_failed key path d e BadKey old new is fit h = absurd h
+move_failed key path d e FileTooLarge old new is fit h = absurd h
+move_failed key path d e FileNotInCache old new is fit h = absurd h
+move_failed key path d e PendingSpace old new is fit h = absurd h
+move_failed key path d e NotPending old new is fit h = absurd h
+move_failed key path d e WrongDigest old new is fit h = absurd h
+move_failed key path d e WriterRefused old new is fit h = absurd h
 
 -- a verdict of BadKey says that the key is none
 bad_key : (key : List ℕ) (size : ℕ) (d : Disk) → insert_verdict d key size ≡ Err BadKey → is_key key ≡ false
@@ -53,17 +53,17 @@ bad_key key size d h = by (is_key key) refl h
 
 module _ (wrote : Result (Unit {0}) WriteFault → List ℕ → Type 0) where
   -- where the closure wrote nothing
-  pub with_failed : (key : List ℕ) (d : Disk) (error : Error) (old : Held) → WriterFails wrote error
-      → WithFails wrote key error d d old old
-  with_failed key d WriterRefused old h = (refl, refl, h)
-  with_failed key d NoMemory old h = inl (refl, refl)
-  with_failed key d BadKey old h = absurd h
-  with_failed key d FileTooLarge old h = absurd h
-  with_failed key d FileNotInCache old h = absurd h
-  with_failed key d (Io fault) old h = absurd h
-  with_failed key d PendingSpace old h = absurd h
-  with_failed key d NotPending old h = absurd h
-  with_failed key d WrongDigest old h = absurd h
+  pub with_failed : (key : List ℕ) (d : Disk) (error : Error) (old : Held) → is_key key ≡ true
+      → WriterFails wrote error → WithFails wrote key error d d old old
+  with_failed key d WriterRefused old fit h = (refl, refl, h, fit)
+  with_failed key d NoMemory old fit h = inl (refl, refl, fit)
+  with_failed key d BadKey old fit h = absurd h
+  with_failed key d FileTooLarge old fit h = absurd h
+  with_failed key d FileNotInCache old fit h = absurd h
+  with_failed key d (Io fault) old fit h = absurd h
+  with_failed key d PendingSpace old fit h = absurd h
+  with_failed key d NotPending old fit h = absurd h
+  with_failed key d WrongDigest old fit h = absurd h
 
   -- and where what it wrote is not stored
   pub with_fails : (key bytes : List ℕ) (d e : Disk) (result : Result (Unit {0}) Error) (old new : Held)

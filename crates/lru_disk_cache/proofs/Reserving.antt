@@ -523,23 +523,25 @@ named_reserved path root from to key es ps old new root_is named to_is fit keys 
 
 -- why a call on the temporary file of an entry failed
 pub write_fails : {T : Type 0} (e : AddEntry) (d now : Disk) (path : List ℕ) (result : Result T Error)
-    (old new : Held) → IsStore old d → path ≡ entry_path d e
+    (old new : Held) → IsStore old d → path ≡ entry_path d e → is_pending e d.pending ≡ true
     → IfErr result (λ x. CallFails (Lacks path) x old new) → IfErr result (λ x. WriteFails e x d now old new)
-write_fails e d now path (Ok x) old new h is fails = tt
-write_fails e d now path (Err (Io Missing)) old new h is fails =
-    not_told old.files (is_sure e d.pending)
-    (λ f told. sure_there d.root e d.pending f h.reserved (h.sure f told)
-    (ap (file_at f) (sym is) ∙ fails.1 f told))
-write_fails e d now path (Err (Io Failed)) old new h is fails = fails
-write_fails e d now path (Err (Io Memory)) old new h is fails = fails
-write_fails e d now path (Err NoMemory) old new h is fails = tt
-write_fails e d now path (Err BadKey) old new h is fails = absurd fails
-write_fails e d now path (Err FileTooLarge) old new h is fails = absurd fails
-write_fails e d now path (Err FileNotInCache) old new h is fails = absurd fails
-write_fails e d now path (Err PendingSpace) old new h is fails = absurd fails
-write_fails e d now path (Err NotPending) old new h is fails = absurd fails
-write_fails e d now path (Err WrongDigest) old new h is fails = absurd fails
-write_fails e d now path (Err WriterRefused) old new h is fails = absurd fails
+write_fails e d now path (Ok x) old new h is pending fails = tt
+write_fails e d now path (Err (Io Missing)) old new h is pending fails = (
+  not_told old.files (is_sure e d.pending)
+      (λ f told. sure_there d.root e d.pending f h.reserved (h.sure f told)
+      (ap (file_at f) (sym is) ∙ fails.1 f told)),
+  pending,
+)
+write_fails e d now path (Err (Io Failed)) old new h is pending fails = (fails, pending)
+write_fails e d now path (Err (Io Memory)) old new h is pending fails = (fails, pending)
+write_fails e d now path (Err NoMemory) old new h is pending fails = pending
+write_fails e d now path (Err BadKey) old new h is pending fails = absurd fails
+write_fails e d now path (Err FileTooLarge) old new h is pending fails = absurd fails
+write_fails e d now path (Err FileNotInCache) old new h is pending fails = absurd fails
+write_fails e d now path (Err PendingSpace) old new h is pending fails = absurd fails
+write_fails e d now path (Err NotPending) old new h is pending fails = absurd fails
+write_fails e d now path (Err WrongDigest) old new h is pending fails = absurd fails
+write_fails e d now path (Err WriterRefused) old new h is pending fails = absurd fails
 
 pub closed_ok : (P : Type 0) (answer : Result (Unit {0}) FolderFault)
     (result : Result (Unit {0}) (Error × Option AddEntry)) → result ≡ abandon_answer answer → OnOk answer P

@@ -160,6 +160,7 @@ looked_fails id key d e old new (Err (Io fault)) fit is keys h = (
   ap (λ (k : Disk). unkeyed k.entries) h.0
       ∙ (ap (λ k. unkeyed (promoted_key k d.entries)) is ∙ sym (promoted_key_un id d.entries fit keys)),
   h.1,
+  subst IsSome (listed_un id key d.entries fit is keys) h.2,
 )
 looked_fails id key d e old new (Err NoMemory) fit is keys h = elim h [
   | inl same ↦ inl (ap (λ (k : Disk). unkeyed k.entries) same)
@@ -219,7 +220,11 @@ pub removed_fails : (id key : List ℕ) (d e : Disk) (old new : Held) (result : 
     → IfErr result (λ x. RemoveFails key x d e old new)
     → IfErr result (λ x. DropFails id x (unkeyed d.entries) (unkeyed e.entries) old new)
 removed_fails id key d e old new (Ok x) fit is keys h = tt
-removed_fails id key d e old new (Err (Io fault)) fit is keys h = (out_un id key d e fit is keys h.0, h.1)
+removed_fails id key d e old new (Err (Io fault)) fit is keys h = (
+  out_un id key d e fit is keys h.0,
+  h.1,
+  subst IsSome (listed_un id key d.entries fit is keys) h.2,
+)
 removed_fails id key d e old new (Err NoMemory) fit is keys h =
     elim h [
       | inl same ↦ inl (ap (λ (k : Disk). unkeyed k.entries) same)
@@ -314,7 +319,7 @@ stored_keyed key id bytes d e old new (Err PendingSpace) is fit digest h ok fail
 stored_keyed key id bytes d e old new (Err (Io fault)) is fit digest h ok fails kept left content =
     left_keyed key (room_beside d (length bytes)) d e old new h fails.0 left
 stored_keyed key id bytes d e old new (Err NoMemory) is fit digest h ok fails kept left content =
-    left_keyed key (room_beside d (length bytes)) d e old new h fails left
+    left_keyed key (room_beside d (length bytes)) d e old new h fails.0 left
 stored_keyed key id bytes d e old new (Err FileNotInCache) is fit digest h ok fails kept left content =
     absurd fails
 stored_keyed key id bytes d e old new (Err NotPending) is fit digest h ok fails kept left content =
@@ -346,7 +351,7 @@ stored_fails id key bytes d e old new (Ok x) fit is keys none archive insert h =
 stored_fails id key bytes d e old new (Err (Io fault)) fit is keys none archive insert h =
     (left_by id key bytes d e fit is keys none h.0, h.1, archive)
 stored_fails id key bytes d e old new (Err NoMemory) fit is keys none archive insert h =
-    left_by id key bytes d e fit is keys none h
+    (left_by id key bytes d e fit is keys none h.0, archive)
 stored_fails id key bytes d e old new (Err BadKey) fit is keys none archive insert h =
     absurd (admitted (insert_verdict d key (length bytes)) BadKey insert h.2)
 stored_fails id key bytes d e old new (Err FileTooLarge) fit is keys none archive insert h =

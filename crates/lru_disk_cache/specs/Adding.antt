@@ -16,7 +16,7 @@ use Rattle.lru_disk_cache.specs.Entries.{Entries, trim, IsEnd}
 use Rattle.lru_disk_cache.specs.Disk.{Left, stored, without_each}
 use Rattle.lru_disk_cache.specs.Reserved.{Reservation, AddEntry, held_size, is_pending, is_sure}
 use Rattle.lru_disk_cache.specs.Reserved.{without_number, unsure}
-use Rattle.lru_disk_cache.specs.Store.{Disk, room_beside, error_of, Refuses, IoCause}
+use Rattle.lru_disk_cache.specs.Store.{Disk, room_beside, insert_verdict, error_of, Refuses, IoCause}
 
 -- ---- a reservation is made
 
@@ -45,13 +45,15 @@ pub record RoomBy (limit : ℕ) (old new : Disk) : Type 0 where
   pub entries : IsEnd new.entries old.entries
   pub needed : trim limit new.entries ≡ trim limit old.entries
 
--- why it failed
+-- Why it failed. The folder is asked, and memory taken, only where the verdict admits.
 abbrev pub PrepareFails : List ℕ → ℕ → Error → Disk → Disk → Held → Held → Type 0
 PrepareFails key size BadKey d e old new = Refuses key size BadKey d e old new
 PrepareFails key size FileTooLarge d e old new = Refuses key size FileTooLarge d e old new
 PrepareFails key size PendingSpace d e old new = Refuses key size PendingSpace d e old new
 PrepareFails key size (Io fault) d e old new = RoomBy (room_beside d size) d e × IoCause fault old new
+    × (insert_verdict d key size ≡ Ok (tt {0}))
 PrepareFails key size NoMemory d e old new = RoomBy (room_beside d size) d e
+    × (insert_verdict d key size ≡ Ok (tt {0}))
 PrepareFails key size FileNotInCache d e old new = ⊥
 PrepareFails key size NotPending d e old new = ⊥
 PrepareFails key size WrongDigest d e old new = ⊥
@@ -87,11 +89,12 @@ EntryCause e d Memory old new = ⊥
 abbrev pub RefusesEntry : AddEntry → Disk → Disk → Held → Held → Type 0
 RefusesEntry entry d e old new = (e ≡ d) × (new ≡ old) × (is_pending entry d.pending ≡ false)
 
--- why writing failed
+-- Why writing failed. The folder is asked, and memory taken, only where the entry is pending.
 abbrev pub WriteFails : AddEntry → Error → Disk → Disk → Held → Held → Type 0
 WriteFails entry NotPending d e old new = RefusesEntry entry d e old new
 WriteFails entry (Io fault) d e old new = EntryCause entry d fault old new
-WriteFails entry NoMemory d e old new = Unit {0}
+    × (is_pending entry d.pending ≡ true)
+WriteFails entry NoMemory d e old new = is_pending entry d.pending ≡ true
 WriteFails entry BadKey d e old new = ⊥
 WriteFails entry FileTooLarge d e old new = ⊥
 WriteFails entry PendingSpace d e old new = ⊥
@@ -144,13 +147,14 @@ abbrev pub RefusesCommit : AddEntry → Error → Disk → Disk → Held → Hel
 RefusesCommit entry error d e old new =
     (e ≡ d) × (new ≡ old) × ((n : ℕ) × HasSize d entry old n × (commit_verdict d entry n ≡ Err error))
 
--- why it failed
+-- Why it failed. The folder is asked, and memory taken, only where the entry is pending.
 abbrev pub CommitFails : AddEntry → Error → Disk → Disk → Held → Held → Type 0
 CommitFails entry NotPending d e old new = RefusesEntry entry d e old new
 CommitFails entry FileTooLarge d e old new = RefusesCommit entry FileTooLarge d e old new
 CommitFails entry PendingSpace d e old new = RefusesCommit entry PendingSpace d e old new
 CommitFails entry (Io fault) d e old new = CommitBroke entry d e old × EntryCause entry d fault old new
-CommitFails entry NoMemory d e old new = CommitBroke entry d e old
+    × (is_pending entry d.pending ≡ true)
+CommitFails entry NoMemory d e old new = CommitBroke entry d e old × (is_pending entry d.pending ≡ true)
 CommitFails entry BadKey d e old new = ⊥
 CommitFails entry FileNotInCache d e old new = ⊥
 CommitFails entry WrongDigest d e old new = ⊥

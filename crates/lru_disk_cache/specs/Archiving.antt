@@ -1,6 +1,6 @@
 -- What each call of a cache of archives answers and leaves.
 use Rattle.std.specs.Prelude.{◌≡◌, ℕ, ◌-◌, ◌≤◌, ◌⊎◌, not, nat_lt, if◌then◌else◌, List, None, Some, Result, Ok}
-use Rattle.std.specs.Prelude.{Err, length}
+use Rattle.std.specs.Prelude.{Err, IsSome, length}
 use Rattle.std.specs.List.{AllByRecursion}
 use Rattle.std.specs.Map.{lookup}
 use Rattle.std.specs.Str.{bytes_eq}
@@ -39,7 +39,7 @@ RefusesArchive capacity id bytes error a b old new = (b ≡ a) × (new ≡ old)
     × (archive_verdict capacity id bytes ≡ Err error)
 
 -- Why storing an archive failed, and what it leaves: the list as it was, or that id unlisted and then some of
--- the least recent gone, none more than had to go.
+-- the least recent gone, none more than had to go. Io and want of memory come only where the verdict admits.
 abbrev pub StoreFails : ℕ → List ℕ → List ℕ → Error → Archives → Archives → Held → Held → Type 0
 StoreFails capacity id bytes WrongDigest a b old new =
     RefusesArchive capacity id bytes WrongDigest a b old new
@@ -49,16 +49,19 @@ StoreFails capacity id bytes (Io fault) a b old new =
     Left id (capacity - length bytes) a b × IoCause fault old new
     × (archive_verdict capacity id bytes ≡ Ok (tt {0}))
 StoreFails capacity id bytes NoMemory a b old new = Left id (capacity - length bytes) a b
+    × (archive_verdict capacity id bytes ≡ Ok (tt {0}))
 StoreFails capacity id bytes BadKey a b old new = ⊥
 StoreFails capacity id bytes PendingSpace a b old new = ⊥
 StoreFails capacity id bytes FileNotInCache a b old new = ⊥
 StoreFails capacity id bytes NotPending a b old new = ⊥
 StoreFails capacity id bytes WriterRefused a b old new = ⊥
 
--- Why a look-up failed, and what it leaves: Io leaves the archive listed, as the most recent.
+-- Why a look-up failed, and what it leaves: Io comes only where the archive is listed, and leaves it so, as
+-- the most recent.
 abbrev pub FindFails : List ℕ → Error → Archives → Archives → Held → Held → Type 0
 FindFails id FileNotInCache a b old new = (b ≡ a) × (new ≡ old) × (lookup (bytes_eq id) a ≡ None)
 FindFails id (Io fault) a b old new = (b ≡ promoted_key id a) × IoCause fault old new
+    × IsSome (lookup (bytes_eq id) a)
 FindFails id NoMemory a b old new = (b ≡ a) ⊎ (b ≡ promoted_key id a)
 FindFails id BadKey a b old new = ⊥
 FindFails id FileTooLarge a b old new = ⊥
@@ -67,9 +70,11 @@ FindFails id NotPending a b old new = ⊥
 FindFails id WrongDigest a b old new = ⊥
 FindFails id WriterRefused a b old new = ⊥
 
--- Why a removal failed, and what it leaves: Io leaves the archive unlisted.
+-- Why a removal failed, and what it leaves: Io comes only where the archive is listed, and leaves it
+-- unlisted.
 abbrev pub DropFails : List ℕ → Error → Archives → Archives → Held → Held → Type 0
 DropFails id (Io fault) a b old new = (b ≡ without_key id a) × IoCause fault old new
+    × IsSome (lookup (bytes_eq id) a)
 DropFails id NoMemory a b old new = (b ≡ a) ⊎ (b ≡ without_key id a)
 DropFails id FileNotInCache a b old new = ⊥
 DropFails id BadKey a b old new = ⊥

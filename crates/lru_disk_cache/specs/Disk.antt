@@ -37,6 +37,10 @@ OnlyRemoved old new = (q bytes : List ℕ) → file_at new q ≡ Some bytes → 
 abbrev pub ButAt : List ℕ → Files → Files → Type 0
 ButAt path old new = (q : List ℕ) → bytes_eq path q ≡ false → file_at new q ≡ file_at old q
 
+-- the file at this path is removed or as it was, and each other is as it was
+abbrev pub RemovedAt : List ℕ → Files → Files → Type 0
+RemovedAt path old new = OnlyRemoved old new × ButAt path old new
+
 -- no entry has its file at this path
 abbrev pub Avoids : List ℕ → List ℕ → Entries → Type 0
 Avoids root path entries = AllByRecursion (λ e. bytes_eq (root ++ e.0) path ≡ false) entries
@@ -57,6 +61,10 @@ SameBelow root old new = (k : List ℕ) → file_at new (root ++ k) ≡ file_at 
 abbrev pub ButUnder : List ℕ → Files → Files → Type 0
 ButUnder root old new = (q : List ℕ) → ((k : List ℕ) → bytes_eq (root ++ k) q ≡ false)
     → file_at new q ≡ file_at old q
+
+-- files below the root are removed or as they were, and each other is as it was
+abbrev pub RemovedUnder : List ℕ → Files → Files → Type 0
+RemovedUnder root old new = OnlyRemoved old new × ButUnder root old new
 
 -- the file at each path outside the root but one is as it was
 abbrev pub ButUnderAnd : List ℕ → List ℕ → Files → Files → Type 0

@@ -18,6 +18,14 @@ folder_files s = s.files.items
 abbrev pub folder_calls : MemFolder → Calls
 folder_calls s = s.calls
 
+-- how many calls were made
+abbrev pub folder_count : MemFolder → ℕ
+folder_count s = s.calls.count
+
+-- the numbers of the calls that are to fail stay
+abbrev pub SameNumbers : Calls → Calls → Type 0
+SameNumbers old new = (new.before ≡ old.before) × (new.after ≡ old.after)
+
 -- what it tells
 abbrev pub folder_held : MemFolder → Held
 folder_held s = record { files = Some s.files.items; faults = s.calls.faults }

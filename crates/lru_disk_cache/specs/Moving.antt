@@ -1,5 +1,5 @@
 -- What storing a file of the folder, or what a closure writes, answers and leaves.
-use Rattle.std.specs.Prelude.{◌≡◌, ℕ, ◌⊎◌, false, List, [], None, Some, Result, Ok, Err, length}
+use Rattle.std.specs.Prelude.{◌≡◌, ℕ, ◌⊎◌, true, false, List, [], None, Some, Result, Ok, Err, length}
 use Rattle.std.specs.Borrow.{MutBor}
 use Rattle.std.specs.Fn.{Once, FnOnceReturnsAtMut}
 use Rattle.dist_types.specs.Cause.{Rose}
@@ -43,13 +43,15 @@ abbrev pub RefusesMove : List ℕ → List ℕ → Error → Disk → Disk → H
 RefusesMove key path error d e old new =
     (e ≡ d) × (new ≡ old) × ((n : ℕ) × IsSized path old n × (insert_verdict d key n ≡ Err error))
 
--- why storing a file of the folder failed, and what it leaves
+-- Why storing a file of the folder failed, and what it leaves. The folder is asked, and memory taken, only
+-- where the key is one.
 abbrev pub MoveFails : List ℕ → List ℕ → Error → Disk → Disk → Held → Held → Type 0
 MoveFails key path BadKey d e old new = (e ≡ d) × (new ≡ old) × (is_key key ≡ false)
 MoveFails key path FileTooLarge d e old new = RefusesMove key path FileTooLarge d e old new
 MoveFails key path PendingSpace d e old new = RefusesMove key path PendingSpace d e old new
 MoveFails key path (Io fault) d e old new = MoveBroke key path d e old × MoveCause path fault d e old new
-MoveFails key path NoMemory d e old new = MoveBroke key path d e old
+    × (is_key key ≡ true)
+MoveFails key path NoMemory d e old new = MoveBroke key path d e old × (is_key key ≡ true)
 MoveFails key path FileNotInCache d e old new = ⊥
 MoveFails key path NotPending d e old new = ⊥
 MoveFails key path WrongDigest d e old new = ⊥
@@ -80,12 +82,13 @@ WriterFails wrote WrongDigest = ⊥
 abbrev pub OfBytes : (Result (Unit {0}) WriteFault → List ℕ → Type 0) → (List ℕ → Type 0) → Type 0
 OfBytes wrote fails = (bytes : List ℕ) × wrote (Ok (tt {0})) bytes × fails bytes
 
--- why storing what a closure writes failed, and what it leaves
+-- Why storing what a closure writes failed, and what it leaves. The closure is called only where the key is
+-- one.
 abbrev pub WithFails : (Result (Unit {0}) WriteFault → List ℕ → Type 0) → List ℕ → Error → Disk → Disk → Held
     → Held → Type 0
 WithFails wrote key BadKey d e old new = (e ≡ d) × (new ≡ old) × (is_key key ≡ false)
 WithFails wrote key WriterRefused d e old new = (e ≡ d) × (new ≡ old)
-    × ((bytes : List ℕ) × wrote (Err Refused) bytes)
+    × ((bytes : List ℕ) × wrote (Err Refused) bytes) × (is_key key ≡ true)
 WithFails wrote key FileTooLarge d e old new =
     OfBytes wrote (λ bytes. InsertFails key (length bytes) FileTooLarge d e old new)
 WithFails wrote key PendingSpace d e old new =
@@ -93,7 +96,8 @@ WithFails wrote key PendingSpace d e old new =
 WithFails wrote key (Io fault) d e old new =
     OfBytes wrote (λ bytes. InsertFails key (length bytes) (Io fault) d e old new)
 WithFails wrote key NoMemory d e old new =
-    ((e ≡ d) × (new ≡ old)) ⊎ OfBytes wrote (λ bytes. InsertFails key (length bytes) NoMemory d e old new)
+    ((e ≡ d) × (new ≡ old) × (is_key key ≡ true))
+    ⊎ OfBytes wrote (λ bytes. InsertFails key (length bytes) NoMemory d e old new)
 WithFails wrote key FileNotInCache d e old new = ⊥
 WithFails wrote key NotPending d e old new = ⊥
 WithFails wrote key WrongDigest d e old new = ⊥

@@ -1,6 +1,6 @@
 -- A disk cache: its disk and its folder, and what each call leaves.
 use Rattle.std.specs.Prelude.{◌≡◌, ℕ, ◌+◌, ◌-◌, ◌≤◌, [], ◌⊎◌, not, nat_lt, if◌then◌else◌, List, None, Result}
-use Rattle.std.specs.Prelude.{Ok, Err}
+use Rattle.std.specs.Prelude.{Ok, Err, IsSome}
 use Rattle.std.specs.Map.{lookup}
 use Rattle.std.specs.Str.{bytes_eq}
 use Rattle.dist_types.specs.Cause.{Rose}
@@ -118,22 +118,26 @@ pub record LeftBy (key : List ℕ) (limit : ℕ) (old new : Disk) : Type 0 where
 abbrev pub Refuses : List ℕ → ℕ → Error → Disk → Disk → Held → Held → Type 0
 Refuses key size error d e old new = (e ≡ d) × (new ≡ old) × (insert_verdict d key size ≡ Err error)
 
--- why an insert failed, and what it leaves
+-- Why an insert failed, and what it leaves. The folder is asked, and memory taken, only where the verdict
+-- admits.
 abbrev pub InsertFails : List ℕ → ℕ → Error → Disk → Disk → Held → Held → Type 0
 InsertFails key size BadKey d e old new = Refuses key size BadKey d e old new
 InsertFails key size FileTooLarge d e old new = Refuses key size FileTooLarge d e old new
 InsertFails key size PendingSpace d e old new = Refuses key size PendingSpace d e old new
 InsertFails key size (Io fault) d e old new = LeftBy key (room_beside d size) d e × IoCause fault old new
+    × (insert_verdict d key size ≡ Ok (tt {0}))
 InsertFails key size NoMemory d e old new = LeftBy key (room_beside d size) d e
+    × (insert_verdict d key size ≡ Ok (tt {0}))
 InsertFails key size FileNotInCache d e old new = ⊥
 InsertFails key size NotPending d e old new = ⊥
 InsertFails key size WrongDigest d e old new = ⊥
 InsertFails key size WriterRefused d e old new = ⊥
 
--- why a look-up failed, and what it leaves
+-- Why a look-up failed, and what it leaves. The folder is asked only where the key is listed.
 abbrev pub LookUpFails : List ℕ → Error → Disk → Disk → Held → Held → Type 0
 LookUpFails key FileNotInCache d e old new = (e ≡ d) × (new ≡ old) × (lookup (bytes_eq key) d.entries ≡ None)
 LookUpFails key (Io fault) d e old new = (e ≡ looked_up d key) × IoCause fault old new
+    × IsSome (lookup (bytes_eq key) d.entries)
 LookUpFails key NoMemory d e old new = (e ≡ d) ⊎ (e ≡ looked_up d key)
 LookUpFails key BadKey d e old new = ⊥
 LookUpFails key FileTooLarge d e old new = ⊥
@@ -142,9 +146,10 @@ LookUpFails key NotPending d e old new = ⊥
 LookUpFails key WrongDigest d e old new = ⊥
 LookUpFails key WriterRefused d e old new = ⊥
 
--- why a removal failed, and what it leaves
+-- Why a removal failed, and what it leaves. The folder is asked only where the key is listed.
 abbrev pub RemoveFails : List ℕ → Error → Disk → Disk → Held → Held → Type 0
 RemoveFails key (Io fault) d e old new = (e ≡ removed d key) × IoCause fault old new
+    × IsSome (lookup (bytes_eq key) d.entries)
 RemoveFails key NoMemory d e old new = (e ≡ d) ⊎ (e ≡ removed d key)
 RemoveFails key FileNotInCache d e old new = ⊥
 RemoveFails key BadKey d e old new = ⊥

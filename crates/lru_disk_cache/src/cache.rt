@@ -11,7 +11,7 @@ ghost use Rattle.lru_disk_cache.specs.Key.{is_key, temp_name};
 ghost use Rattle.lru_disk_cache.specs.Entries.{total, IsTable};
 ghost use Rattle.lru_disk_cache.specs.Opened.{InStep, Shows};
 ghost use Rattle.lru_disk_cache.specs.Disk.{Stands, ButAt, ButUnder, IsTemp, Keeps, SameAt, staying, dropped};
-ghost use Rattle.lru_disk_cache.specs.Disk.{files_stored, without_key, OnlyRemoved};
+ghost use Rattle.lru_disk_cache.specs.Disk.{files_stored, without_key, OnlyRemoved, RemovedUnder};
 ghost use Rattle.lru_disk_cache.specs.Reserved.{held_size, KeepsReserved};
 
 use crate::error::{Error, Result, io};
@@ -73,7 +73,7 @@ impl<F: Folder> LruDiskCache<F> {
 
     /// Opens a cache of `size` bytes of the files below a path. Those are removed that are no key's or larger
     /// than that, and the least recent where the others exceed it. Where that fails, as `Error::Io` or for
-    /// want of memory, the folder is handed back.
+    /// want of memory, the folder is handed back, of which no more than files below the path are removed.
     pub fn new(
         alloc: Global,
         mut folder: F,
@@ -95,6 +95,8 @@ impl<F: Folder> LruDiskCache<F> {
         ensures steady { IfOk result (λ c. (F.held c.folder).faults ≡ (F.held folder).faults) }
         ensures later { IfErr result (λ e. (F.held folder).faults ≤ (F.held e.1).faults) }
         ensures fails { IfErr result (λ e. OpenFails e.0 (F.held folder) (F.held e.1)) }
+        ensures left { IfErr result (λ e. Became (RemovedUnder (front path.now)) (F.held folder).files
+            (F.held e.1).files) }
     {
         let Ok((path, root)) = place_of(alloc, path) else {
             return Err((Error::Memory, folder));
@@ -251,8 +253,8 @@ impl<F: Folder> LruDiskCache<F> {
     /// The content of the file of a key, which becomes the most recent.
     ///
     /// Refused as `Error::FileNotInCache` exactly where the key is not listed, which leaves all as it was;
-    /// as `Error::Io`, which leaves it listed and most recent; and for want of memory, which leaves it
-    /// listed, in its place or most recent.
+    /// as `Error::Io`, only where it is, which leaves it listed and most recent; and for want of memory,
+    /// which leaves the list as it was, or the key most recent.
     pub fn get_file(&mut self, key: &str) -> Result<Vec<u8>>
         ensures ok { OnOk result (self.new.disk ≡ looked_up self.old.disk key.now) }
         ensures found { OnOk result (IsSome (lookup (bytes_eq key.now) self.old.disk.entries)) }
@@ -291,8 +293,8 @@ impl<F: Folder> LruDiskCache<F> {
 
     /// Takes a key out and removes its file. It answers Ok where the key is not listed.
     ///
-    /// Refused as `Error::Io`, which leaves the key out, and for want of memory, which leaves it listed or
-    /// out.
+    /// Refused as `Error::Io`, only where the key is listed, which leaves it out, and for want of memory,
+    /// which leaves the list as it was, or the key out.
     pub fn remove(&mut self, key: &str) -> Result<()>
         ensures ok { OnOk result (self.new.disk ≡ removed self.old.disk key.now) }
         ensures gone { OnOk result (IsSome (lookup (bytes_eq key.now) self.old.disk.entries)

@@ -7,7 +7,7 @@ ghost use Rattle.std.specs.Str.{bytes_eq};
 ghost use Rattle.dist_types.specs.Toolchain.{is_lower_hex};
 ghost use Rattle.lru_disk_cache.specs.Files.{file_at, front, without};
 ghost use Rattle.lru_disk_cache.specs.Held.{Holds, Became, BecameBy, Lacks};
-ghost use Rattle.lru_disk_cache.specs.Disk.{Counts};
+ghost use Rattle.lru_disk_cache.specs.Disk.{SameAt, RemovedAt, RemovedUnder, Counts};
 ghost use Rattle.lru_disk_cache.specs.Archives.{is_id, archive_key};
 ghost use Rattle.lru_disk_cache.specs.Cleaned.{found_of, under, is_sound, Cleaned, is_archive_key};
 ghost use Rattle.lru_disk_cache.specs.Cleaned.{are_archive_keys};
@@ -59,6 +59,7 @@ fn is_sound<F: Folder>(
         (λ b. Holds (F.held folder.old) (λ files. (bytes : List ℕ) → file_at files file.now.path ≡ Some bytes
         → file.now.size ≡ length bytes → b ≡ is_sound root.now capacity (file.now.path, bytes))) }
     ensures same { OnOk result ((F.held folder.new).files ≡ (F.held folder.old).files) }
+    ensures kept { Became SameAt (F.held folder.old).files (F.held folder.new).files }
     ensures counts { Counts result (F.held folder.old) (F.held folder.new) }
 {
     if file.size > capacity {
@@ -77,6 +78,7 @@ fn discard<F: Folder>(folder: &mut F, path: &Text) -> Result<(), FolderFault>
     ensures found { ¬ (result ≡ Err FolderFault.Missing) }
     ensures exact { OnOk result (Became (λ old new. new ≡ without path.now old) (F.held folder.old).files
         (F.held folder.new).files) }
+    ensures part { Became (RemovedAt path.now) (F.held folder.old).files (F.held folder.new).files }
     ensures counts { Counts result (F.held folder.old) (F.held folder.new) }
 {
     match folder.remove(path.get()) {
@@ -88,6 +90,7 @@ fn discard<F: Folder>(folder: &mut F, path: &Text) -> Result<(), FolderFault>
 }
 
 // Removes a file that was found, unless it is sound.
+#[tactic(auto, using(crate::proofs::Removals::same_part_at))]
 fn clean_one<F: Folder>(
     folder: &mut F,
     root: &Text,
@@ -99,6 +102,7 @@ fn clean_one<F: Folder>(
         (Became (λ old new. (bytes : List ℕ) → file_at old file.now.path ≡ Some bytes
         → file.now.size ≡ length bytes → new ≡ (if is_sound root.now capacity (file.now.path, bytes) then old
         else without file.now.path old)) (F.held folder.old).files (F.held folder.new).files) }
+    ensures part { Became (RemovedAt file.now.path) (F.held folder.old).files (F.held folder.new).files }
     ensures counts { Counts result (F.held folder.old) (F.held folder.new) }
 {
     if is_sound(folder, root, capacity, file)? {
@@ -118,6 +122,7 @@ fn clean_all<F: Folder>(
     requires distinct { Holds (F.held folder.old) (λ files. IsDistinct bytes_eq (keys_of files)) }
     ensures cleaned { OnOk result (Became (Cleaned root.now capacity) (F.held folder.old).files
         (F.held folder.new).files) }
+    ensures spares { Became (RemovedUnder root.now) (F.held folder.old).files (F.held folder.new).files }
     ensures counts { Counts result (F.held folder.old) (F.held folder.new) }
 {
     for file in found {
@@ -136,6 +141,7 @@ pub(crate) fn clean<F: Folder>(
     requires { root.now ≡ front path.now }
     ensures cleaned { OnOk result (Became (Cleaned root.now capacity) (F.held folder.old).files
         (F.held folder.new).files) }
+    ensures spares { Became (RemovedUnder root.now) (F.held folder.old).files (F.held folder.new).files }
     ensures counts { Counts result (F.held folder.old) (F.held folder.new) }
 {
     let found = folder.list(path.get())?;

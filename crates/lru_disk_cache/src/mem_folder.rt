@@ -4,6 +4,7 @@ ghost use Rattle.std.specs.List.{IsDistinct};
 ghost use Rattle.std.specs.Map.{keys_of};
 ghost use Rattle.std.specs.Str.{bytes_eq};
 ghost use Rattle.std.proofs.Props.{props};
+ghost use Rattle.dist_types.specs.Cause.{counted};
 ghost use Rattle.lru_disk_cache.specs.Files.{Files, file_at, size_at, put, without, moved, touched, appended};
 ghost use Rattle.lru_disk_cache.specs.Files.{found_under, PartWritten, PartAppended, DoneOrNot, Same};
 ghost use Rattle.lru_disk_cache.specs.Held.{Held, Lacks, Never, Changes};
@@ -50,7 +51,7 @@ impl MemFolder {
 
 impl Folder for MemFolder {
     ghost use Rattle.lru_disk_cache.specs.InMemory.{folder_held, folder_files, folder_calls, verdict, left};
-    ghost use Rattle.lru_disk_cache.specs.InMemory.{there, Acts};
+    ghost use Rattle.lru_disk_cache.specs.InMemory.{folder_count, SameNumbers, there, Acts};
 
     ghost held = { folder_held };
 
@@ -63,6 +64,8 @@ impl Folder for MemFolder {
         ensures exact { Acts (λ v. v.items) result
             (verdict (folder_calls self.old) (Some (found_under under.now (folder_files self.old))))
             (folder_files self.old) (folder_files self.old) (folder_files self.new) }
+        ensures calls { folder_count self.new ≡ counted (folder_count self.old) }
+        ensures listed { SameNumbers (folder_calls self.old) (folder_calls self.new) }
     {
         let breaks = self.calls.begin()?;
         let begun = front_of(self.alloc, under)?;
@@ -79,6 +82,8 @@ impl Folder for MemFolder {
         ensures exact { Acts (λ v. v.items) result
             (verdict (folder_calls self.old) (file_at (folder_files self.old) path.now))
             (folder_files self.old) (folder_files self.old) (folder_files self.new) }
+        ensures calls { folder_count self.new ≡ counted (folder_count self.old) }
+        ensures listed { SameNumbers (folder_calls self.old) (folder_calls self.new) }
     {
         let breaks = self.calls.begin()?;
         let Some(bytes) = content(&self.files, path) else {
@@ -95,6 +100,8 @@ impl Folder for MemFolder {
 
         ensures exact { Acts (λ v. v) result (verdict (folder_calls self.old) (Some (tt {0})))
             (folder_files self.old) (folder_files self.old) (folder_files self.new) }
+        ensures calls { folder_count self.new ≡ counted (folder_count self.old) }
+        ensures listed { SameNumbers (folder_calls self.old) (folder_calls self.new) }
     {
         let _path = path;
         let breaks = self.calls.begin()?;
@@ -109,6 +116,8 @@ impl Folder for MemFolder {
         ensures exact { Acts (λ v. v) result
             (verdict (folder_calls self.old) (size_at (folder_files self.old) path.now))
             (folder_files self.old) (folder_files self.old) (folder_files self.new) }
+        ensures calls { folder_count self.new ≡ counted (folder_count self.old) }
+        ensures listed { SameNumbers (folder_calls self.old) (folder_calls self.new) }
     {
         let breaks = self.calls.begin()?;
         let Some(bytes) = content(&self.files, path) else {
@@ -128,6 +137,8 @@ impl Folder for MemFolder {
             (left (folder_calls self.old) (there (folder_files self.old) path.now) (folder_files self.old)
             (appended path.now bytes.now (folder_files self.old))) (folder_files self.old)
             (folder_files self.new) }
+        ensures calls { folder_count self.new ≡ counted (folder_count self.old) }
+        ensures listed { SameNumbers (folder_calls self.old) (folder_calls self.new) }
     {
         let breaks = self.calls.begin()?;
         let Some(there) = content(&self.files, path) else {
@@ -146,6 +157,8 @@ impl Folder for MemFolder {
             (left (folder_calls self.old) (Some (tt {0})) (folder_files self.old)
             (put path.now bytes.now (folder_files self.old))) (folder_files self.old)
             (folder_files self.new) }
+        ensures calls { folder_count self.new ≡ counted (folder_count self.old) }
+        ensures listed { SameNumbers (folder_calls self.old) (folder_calls self.new) }
     {
         let breaks = self.calls.begin()?;
         put(self.alloc, &mut self.files, path, bytes)?;
@@ -160,6 +173,8 @@ impl Folder for MemFolder {
             (verdict (folder_calls self.old) (there (folder_files self.old) path.now))
             (left (folder_calls self.old) (there (folder_files self.old) path.now) (folder_files self.old)
             (without path.now (folder_files self.old))) (folder_files self.old) (folder_files self.new) }
+        ensures calls { folder_count self.new ≡ counted (folder_count self.old) }
+        ensures listed { SameNumbers (folder_calls self.old) (folder_calls self.new) }
     {
         let breaks = self.calls.begin()?;
         if content(&self.files, path).is_none() {
@@ -177,6 +192,8 @@ impl Folder for MemFolder {
             (verdict (folder_calls self.old) (there (folder_files self.old) path.now))
             (left (folder_calls self.old) (there (folder_files self.old) path.now) (folder_files self.old)
             (touched path.now (folder_files self.old))) (folder_files self.old) (folder_files self.new) }
+        ensures calls { folder_count self.new ≡ counted (folder_count self.old) }
+        ensures listed { SameNumbers (folder_calls self.old) (folder_calls self.new) }
     {
         let breaks = self.calls.begin()?;
         let Some(bytes) = content(&self.files, path) else {
@@ -195,6 +212,8 @@ impl Folder for MemFolder {
             (verdict (folder_calls self.old) (there (folder_files self.old) from.now))
             (left (folder_calls self.old) (there (folder_files self.old) from.now) (folder_files self.old)
             (moved from.now to.now (folder_files self.old))) (folder_files self.old) (folder_files self.new) }
+        ensures calls { folder_count self.new ≡ counted (folder_count self.old) }
+        ensures listed { SameNumbers (folder_calls self.old) (folder_calls self.new) }
     {
         let breaks = self.calls.begin()?;
         let Some(bytes) = content(&self.files, from) else {

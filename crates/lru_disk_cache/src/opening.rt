@@ -8,7 +8,7 @@ ghost use Rattle.std.specs.Str.{bytes_eq};
 ghost use Rattle.lru_disk_cache.specs.Files.{front};
 ghost use Rattle.lru_disk_cache.specs.Held.{Holds, Became};
 ghost use Rattle.lru_disk_cache.specs.Entries.{Entries, total, trim};
-ghost use Rattle.lru_disk_cache.specs.Disk.{Stands, AllKeys, OnlyRemoved, ButUnder, Counts};
+ghost use Rattle.lru_disk_cache.specs.Disk.{Stands, AllKeys, OnlyRemoved, ButUnder, RemovedUnder, Counts};
 ghost use Rattle.lru_disk_cache.specs.Opened.{stripped, keyed, kept, opened, Shows, InStep};
 
 use crate::fault::FolderFault;
@@ -29,6 +29,7 @@ fn stripped<'a>(root: &str, path: &'a str) -> Option<&'a str>
 
 /// Keeps a file that was found, where its key is one and its size is within the capacity, and else removes
 /// it.
+#[tactic(auto, using(crate::proofs::Removals::none_spared, crate::proofs::Removals::spared_at))]
 fn sort_one<F: Folder>(
     folder: &mut F,
     root: &Text,
@@ -44,6 +45,7 @@ fn sort_one<F: Folder>(
     ensures removed { OnOk result (Became OnlyRemoved (F.held folder.old).files (F.held folder.new).files) }
     ensures others { OnOk result
         (Became (ButUnder root.now) (F.held folder.old).files (F.held folder.new).files) }
+    ensures spares { Became (RemovedUnder root.now) (F.held folder.old).files (F.held folder.new).files }
     ensures counts { Counts result (F.held folder.old) (F.held folder.new) }
 {
     let Some(key) = stripped(root.get(), file.path.get()) else {
@@ -63,6 +65,7 @@ fn sort_one<F: Folder>(
 }
 
 /// Sorts out all files that were found.
+#[tactic(auto, using(crate::proofs::Removals::spared_both))]
 fn sort_out<F: Folder>(
     folder: &mut F,
     root: &Text,
@@ -77,6 +80,7 @@ fn sort_out<F: Folder>(
     ensures removed { OnOk result (Became OnlyRemoved (F.held folder.old).files (F.held folder.new).files) }
     ensures others { OnOk result
         (Became (ButUnder root.now) (F.held folder.old).files (F.held folder.new).files) }
+    ensures spares { Became (RemovedUnder root.now) (F.held folder.old).files (F.held folder.new).files }
     ensures counts { Counts result (F.held folder.old) (F.held folder.new) }
 {
     for file in found {
@@ -117,6 +121,7 @@ fn drop_old<'a, F: Folder>(
     ensures removed { OnOk result (Became OnlyRemoved (F.held folder.old).files (F.held folder.new).files) }
     ensures others { OnOk result
         (Became (ButUnder root.now) (F.held folder.old).files (F.held folder.new).files) }
+    ensures spares { Became (RemovedUnder root.now) (F.held folder.old).files (F.held folder.new).files }
     ensures counts { Counts result (F.held folder.old) (F.held folder.new) }
 {
     let first = first_kept(good, capacity);
@@ -175,6 +180,7 @@ pub(crate) fn open<F: Folder>(
     ensures removed { OnOk result (Became OnlyRemoved (F.held folder.old).files (F.held folder.new).files) }
     ensures others { OnOk result
         (Became (ButUnder root.now) (F.held folder.old).files (F.held folder.new).files) }
+    ensures spares { Became (RemovedUnder root.now) (F.held folder.old).files (F.held folder.new).files }
     ensures counts { Counts result (F.held folder.old) (F.held folder.new) }
 {
     let alloc = root.alloc();

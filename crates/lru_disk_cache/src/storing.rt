@@ -13,7 +13,7 @@ ghost use Rattle.lru_disk_cache.specs.Adding.{files_prepared, CallFails};
 ghost use Rattle.lru_disk_cache.specs.Disk.{Stands, Avoids, ButAt, ButListed, ButUnder, ButUnderAnd};
 ghost use Rattle.lru_disk_cache.specs.Disk.{ButThese, IsTemp, Keeps, Counts, Drops, stored, staying, dropped};
 ghost use Rattle.lru_disk_cache.specs.Disk.{without_each, files_placed, files_stored, without_key, Left};
-ghost use Rattle.lru_disk_cache.specs.Disk.{OnlyRemoved, SameAt};
+ghost use Rattle.lru_disk_cache.specs.Disk.{OnlyRemoved, RemovedAt, SameAt};
 
 use crate::error::{self, io};
 use crate::fault::FolderFault;
@@ -49,6 +49,8 @@ pub(crate) fn remove_file<F: Folder>(
     ensures gone { OnOk result (Holds (F.held folder.new) (Lacks (root.now ++ key.now))) }
     ensures removed { OnOk result (Became OnlyRemoved (F.held folder.old).files (F.held folder.new).files) }
     ensures others { Became (ButAt (root.now ++ key.now)) (F.held folder.old).files
+        (F.held folder.new).files }
+    ensures part { Became (RemovedAt (root.now ++ key.now)) (F.held folder.old).files
         (F.held folder.new).files }
     ensures counts { Counts result (F.held folder.old) (F.held folder.new) }
 {

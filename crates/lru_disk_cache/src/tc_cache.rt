@@ -6,7 +6,7 @@ ghost use Rattle.std.specs.Str.{bytes_eq};
 ghost use Rattle.lru_disk_cache.specs.Files.{file_at, front, put, moved, PartWritten, DoneOrNot, Same};
 ghost use Rattle.lru_disk_cache.specs.Held.{Holds, Became, Lacks, Never, Changes};
 ghost use Rattle.lru_disk_cache.specs.Entries.{total, promoted_key};
-ghost use Rattle.lru_disk_cache.specs.Disk.{ButUnder, IsOutside, without_key};
+ghost use Rattle.lru_disk_cache.specs.Disk.{ButUnder, RemovedUnder, IsOutside, without_key};
 ghost use Rattle.lru_disk_cache.specs.Archives.{id_of, archive_path, opened_archives, paths_under, IsInStep};
 ghost use Rattle.lru_disk_cache.specs.Archives.{IsArchiveStore};
 ghost use Rattle.lru_disk_cache.specs.Cleaned.{are_archive_keys};
@@ -58,7 +58,7 @@ impl<F: Folder> TcCache<F> {
     /// Opens a cache of `cache_size` bytes of the archives below a path, which is empty or a key. A file is
     /// removed that does not stand where its SHA-256 says or that is larger than that, and the least recent
     /// where the others exceed it. Where that fails, as `Error::Io` or for want of memory, the folder is
-    /// handed back.
+    /// handed back, of which no more than files below the path are removed.
     pub fn new(
         alloc: Global,
         mut folder: F,
@@ -82,6 +82,8 @@ impl<F: Folder> TcCache<F> {
         ensures steady { IfOk result (λ t. (F.held t.folder).faults ≡ (F.held folder).faults) }
         ensures later { IfErr result (λ e. (F.held folder).faults ≤ (F.held e.1).faults) }
         ensures fails { IfErr result (λ e. OpenFails e.0 (F.held folder) (F.held e.1)) }
+        ensures left { IfErr result (λ e. Became (RemovedUnder (front cache_dir.now)) (F.held folder).files
+            (F.held e.1).files) }
     {
         let Ok((path, root)) = place_of(alloc, cache_dir) else {
             return Err((Error::Memory, folder));
@@ -190,8 +192,8 @@ impl<F: Folder> TcCache<F> {
     /// toolchain's id.
     ///
     /// Refused as `Error::FileNotInCache` exactly where it is not listed, which leaves all as it was; as
-    /// `Error::Io`, which leaves it listed and most recent; and for want of memory, which leaves it listed,
-    /// in its place or most recent.
+    /// `Error::Io`, only where it is, which leaves it listed and most recent; and for want of memory, which
+    /// leaves the list as it was, or the archive most recent.
     pub fn get_file(&mut self, tc: &Toolchain) -> Result<Vec<u8>>
         ensures ok { OnOk result (self.new.archives ≡ promoted_key tc.now self.old.archives) }
         ensures found { OnOk result (IsSome (lookup (bytes_eq tc.now) self.old.archives)) }
@@ -254,8 +256,8 @@ impl<F: Folder> TcCache<F> {
 
     /// Takes the archive of a toolchain out and removes its file. It answers Ok where it is not listed.
     ///
-    /// Refused as `Error::Io`, which leaves it unlisted, and for want of memory, which leaves it listed or
-    /// not.
+    /// Refused as `Error::Io`, only where it is listed, which leaves it unlisted, and for want of memory,
+    /// which leaves the list as it was, or the archive unlisted.
     pub fn remove(&mut self, tc: &Toolchain) -> Result<()>
         ensures ok { OnOk result (self.new.archives ≡ without_key tc.now self.old.archives) }
         ensures gone { OnOk result (IsSome (lookup (bytes_eq tc.now) self.old.archives)

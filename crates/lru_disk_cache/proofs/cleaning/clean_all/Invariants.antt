@@ -1,6 +1,7 @@
 -- Of the files so far those are left that are sound, and of the others all.
 use Rattle.std.proofs.Common.{◌≡◌}
 use Rattle.lru_disk_cache.specs.Held.{Became}
+use Rattle.lru_disk_cache.specs.Disk.{RemovedUnder}
 use Rattle.lru_disk_cache.proofs.Judged.{SoFar}
 use Rattle.lru_disk_cache.proofs.cleaning.clean_all.Given as goal
 
@@ -8,4 +9,5 @@ abbrev pub invariant-loop-file : goal.invariant-loop-file
 invariant-loop-file g l =
     Became (SoFar l.root l.capacity l.file-index) (g.F.Folder.held l.fn.folder).files
     (g.F.Folder.held l.folder).files
+    × Became (RemovedUnder l.root) (g.F.Folder.held l.fn.folder).files (g.F.Folder.held l.folder).files
     × ((g.F.Folder.held l.folder).faults ≡ (g.F.Folder.held l.fn.folder).faults)

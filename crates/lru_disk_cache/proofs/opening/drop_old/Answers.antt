@@ -1,5 +1,6 @@
 use Rattle.std.proofs.Common.{◌∙◌, arith}
 use Rattle.lru_disk_cache.proofs.Exactly.{removed_both, outside_at, outside_both}
+use Rattle.lru_disk_cache.proofs.Removals.{spared_at, spared_both}
 use Rattle.lru_disk_cache.proofs.Sorting.{one_gone}
 use Rattle.lru_disk_cache.proofs.opening.drop_old.Goals as goal
 
@@ -17,5 +18,13 @@ loop-key-preserved g c =
       outside_both c.args.root.now old now new c.loop-key.invariant.2
           (outside_at c.args.root.now c.loop-key-item.result.0 now new
           c.in_ok-remove_file.ensures.others),
-      c.in_ok-remove_file.ensures.counts ∙ c.loop-key.invariant.3,
+      spared_both c.args.root.now old now new c.loop-key.invariant.3
+          (spared_at c.args.root.now c.loop-key-item.result.0 now new c.remove_file.ensures.part),
+      c.in_ok-remove_file.ensures.counts ∙ c.loop-key.invariant.4,
     )
+
+pub returns-in_err-remove_file-clause-spares : goal.returns-in_err-remove_file-clause-spares
+returns-in_err-remove_file-clause-spares g c = spared_both c.args.root.now (g.F.Folder.held c.args.folder.now).files
+    (g.F.Folder.held c.loop-key.folder).files (g.F.Folder.held c.remove_file.new.folder).files c.loop-key.invariant.3
+    (spared_at c.args.root.now c.loop-key-item.result.0 (g.F.Folder.held c.loop-key.folder).files
+    (g.F.Folder.held c.remove_file.new.folder).files c.remove_file.ensures.part)

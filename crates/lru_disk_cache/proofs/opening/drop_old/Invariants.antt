@@ -1,7 +1,7 @@
 -- The folder shows what is still to go and what stays.
 use Rattle.std.proofs.Common.{◌≡◌, drop}
 use Rattle.lru_disk_cache.specs.Held.{Became}
-use Rattle.lru_disk_cache.specs.Disk.{OnlyRemoved, ButUnder}
+use Rattle.lru_disk_cache.specs.Disk.{OnlyRemoved, ButUnder, RemovedUnder}
 use Rattle.lru_disk_cache.specs.Opened.{Shows}
 use Rattle.lru_disk_cache.proofs.opening.drop_old.Given as goal
 
@@ -10,4 +10,5 @@ invariant-loop-key g l =
     Shows l.root (g.F.Folder.held l.folder) (drop l.key-index l.good)
     × Became OnlyRemoved (g.F.Folder.held l.fn.folder).files (g.F.Folder.held l.folder).files
     × Became (ButUnder l.root) (g.F.Folder.held l.fn.folder).files (g.F.Folder.held l.folder).files
+    × Became (RemovedUnder l.root) (g.F.Folder.held l.fn.folder).files (g.F.Folder.held l.folder).files
     × ((g.F.Folder.held l.folder).faults ≡ (g.F.Folder.held l.fn.folder).faults)

@@ -6,6 +6,7 @@ use Rattle.lru_disk_cache.proofs.Opens.{keys_from_empty, kept_from_empty, room_i
 use Rattle.lru_disk_cache.specs.Held.{Never}
 use Rattle.lru_disk_cache.proofs.CallLemmas.{left_same}
 use Rattle.lru_disk_cache.proofs.Exactly.{removed_twice, outside_twice}
+use Rattle.lru_disk_cache.proofs.Removals.{same_spared, spared_both}
 use Rattle.lru_disk_cache.proofs.opening.open.Goals as goal
 
 pub list_all-requires : goal.list_all-requires
@@ -81,3 +82,42 @@ returns-clause-others g c =
     (left_same Never c.list.result (g.F.Folder.held c.args.folder.now)
     (g.F.Folder.held c.list.new.self) c.list.ensures.leaves) c.in_ok-sort_out.ensures.others
     c.in_ok-rest.ensures.others
+
+pub returns-in_err-found-clause-spares : goal.returns-in_err-found-clause-spares
+returns-in_err-found-clause-spares g c = (same_spared c.args.root.now (g.F.Folder.held c.args.folder.now).files (g.F.Folder.held c.list.new.self).files
+    (left_same Never c.list.result (g.F.Folder.held c.args.folder.now) (g.F.Folder.held c.list.new.self)
+    c.list.ensures.leaves))
+
+pub returns-in_err-sort_out-clause-spares : goal.returns-in_err-sort_out-clause-spares
+returns-in_err-sort_out-clause-spares g c = (spared_both c.args.root.now (g.F.Folder.held c.args.folder.now).files (g.F.Folder.held c.list.new.self).files (g.F.Folder.held c.sort_out.new.folder).files
+    (same_spared c.args.root.now (g.F.Folder.held c.args.folder.now).files (g.F.Folder.held c.list.new.self).files
+    (left_same Never c.list.result (g.F.Folder.held c.args.folder.now) (g.F.Folder.held c.list.new.self)
+    c.list.ensures.leaves)) c.sort_out.ensures.spares)
+
+pub returns-in_err-rest-clause-spares : goal.returns-in_err-rest-clause-spares
+returns-in_err-rest-clause-spares g c = (spared_both c.args.root.now (g.F.Folder.held c.args.folder.now).files (g.F.Folder.held c.sort_out.new.folder).files (g.F.Folder.held c.drop_old.new.folder).files
+    (spared_both c.args.root.now (g.F.Folder.held c.args.folder.now).files (g.F.Folder.held c.list.new.self).files (g.F.Folder.held c.sort_out.new.folder).files
+    (same_spared c.args.root.now (g.F.Folder.held c.args.folder.now).files (g.F.Folder.held c.list.new.self).files
+    (left_same Never c.list.result (g.F.Folder.held c.args.folder.now) (g.F.Folder.held c.list.new.self)
+    c.list.ensures.leaves)) c.sort_out.ensures.spares) c.drop_old.ensures.spares)
+
+pub returns-in_default-clause-spares : goal.returns-in_default-clause-spares
+returns-in_default-clause-spares g c = (spared_both c.args.root.now (g.F.Folder.held c.args.folder.now).files (g.F.Folder.held c.sort_out.new.folder).files (g.F.Folder.held c.drop_old.new.folder).files
+    (spared_both c.args.root.now (g.F.Folder.held c.args.folder.now).files (g.F.Folder.held c.list.new.self).files (g.F.Folder.held c.sort_out.new.folder).files
+    (same_spared c.args.root.now (g.F.Folder.held c.args.folder.now).files (g.F.Folder.held c.list.new.self).files
+    (left_same Never c.list.result (g.F.Folder.held c.args.folder.now) (g.F.Folder.held c.list.new.self)
+    c.list.ensures.leaves)) c.sort_out.ensures.spares) c.drop_old.ensures.spares)
+
+pub returns-in_default-list_all-clause-spares : goal.returns-in_default-list_all-clause-spares
+returns-in_default-list_all-clause-spares g c = (spared_both c.args.root.now (g.F.Folder.held c.args.folder.now).files (g.F.Folder.held c.sort_out.new.folder).files (g.F.Folder.held c.drop_old.new.folder).files
+    (spared_both c.args.root.now (g.F.Folder.held c.args.folder.now).files (g.F.Folder.held c.list.new.self).files (g.F.Folder.held c.sort_out.new.folder).files
+    (same_spared c.args.root.now (g.F.Folder.held c.args.folder.now).files (g.F.Folder.held c.list.new.self).files
+    (left_same Never c.list.result (g.F.Folder.held c.args.folder.now) (g.F.Folder.held c.list.new.self)
+    c.list.ensures.leaves)) c.sort_out.ensures.spares) c.drop_old.ensures.spares)
+
+pub returns-clause-spares : goal.returns-clause-spares
+returns-clause-spares g c = (spared_both c.args.root.now (g.F.Folder.held c.args.folder.now).files (g.F.Folder.held c.sort_out.new.folder).files (g.F.Folder.held c.drop_old.new.folder).files
+    (spared_both c.args.root.now (g.F.Folder.held c.args.folder.now).files (g.F.Folder.held c.list.new.self).files (g.F.Folder.held c.sort_out.new.folder).files
+    (same_spared c.args.root.now (g.F.Folder.held c.args.folder.now).files (g.F.Folder.held c.list.new.self).files
+    (left_same Never c.list.result (g.F.Folder.held c.args.folder.now) (g.F.Folder.held c.list.new.self)
+    c.list.ensures.leaves)) c.sort_out.ensures.spares) c.drop_old.ensures.spares)

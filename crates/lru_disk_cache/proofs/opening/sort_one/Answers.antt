@@ -2,6 +2,7 @@ use Rattle.std.proofs.Common.{Some, sym, ap, ◌∙◌}
 use Rattle.lru_disk_cache.specs.Opened.{stripped}
 use Rattle.lru_disk_cache.proofs.Exactly.{outside_ok}
 use Rattle.lru_disk_cache.proofs.Sorting.{one_dropped, one_kept}
+use Rattle.lru_disk_cache.proofs.Removals.{spared_at}
 use Rattle.lru_disk_cache.proofs.opening.sort_one.Goals as goal
 
 pub returns-then-not-is_key-clause-shows : goal.returns-then-not-is_key-clause-shows
@@ -39,3 +40,11 @@ returns-then-file-capacity-clause-others g c =
     (g.F.Folder.held c.args.folder.now).files
     (g.F.Folder.held c.remove_file-then-file-capacity.new.folder).files
     c.remove_file-then-file-capacity.ensures.others
+
+pub returns-then-not-is_key-clause-spares : goal.returns-then-not-is_key-clause-spares
+returns-then-not-is_key-clause-spares g c = spared_at c.args.root.now c.in_ok-key.key (g.F.Folder.held c.args.folder.now).files (g.F.Folder.held c.remove_file.new.folder).files
+    c.remove_file.ensures.part
+
+pub returns-then-file-capacity-clause-spares : goal.returns-then-file-capacity-clause-spares
+returns-then-file-capacity-clause-spares g c = spared_at c.args.root.now c.in_ok-key.key (g.F.Folder.held c.args.folder.now).files
+    (g.F.Folder.held c.remove_file-then-file-capacity.new.folder).files c.remove_file-then-file-capacity.ensures.part

@@ -1,6 +1,7 @@
 use Rattle.std.proofs.Common.{◌+◌, ◌<◌, drop, length, refl, ◌∙◌, arith}
 use Rattle.lru_disk_cache.specs.Opened.{keyed}
 use Rattle.lru_disk_cache.proofs.Exactly.{none_removed, none_outside, removed_both, outside_both}
+use Rattle.lru_disk_cache.proofs.Removals.{none_spared, spared_both}
 use Rattle.lru_disk_cache.proofs.Sorting.{none_kept, kept_more, shows_more}
 use Rattle.lru_disk_cache.proofs.opening.sort_out.Goals as goal
 
@@ -11,6 +12,7 @@ loop-file-init g c =
       c.requires,
       none_removed files,
       none_outside c.args.root.now files,
+      none_spared c.args.root.now files,
       refl,
     )
 
@@ -30,5 +32,10 @@ loop-file-preserved g c =
           c.loop-file.invariant.1),
       removed_both old now new c.loop-file.invariant.2 c.in_ok-sort_one.ensures.removed,
       outside_both c.args.root.now old now new c.loop-file.invariant.3 c.in_ok-sort_one.ensures.others,
-      c.in_ok-sort_one.ensures.counts ∙ c.loop-file.invariant.4,
+      spared_both c.args.root.now old now new c.loop-file.invariant.4 c.sort_one.ensures.spares,
+      c.in_ok-sort_one.ensures.counts ∙ c.loop-file.invariant.5,
     )
+
+pub returns-in_err-sort_one-clause-spares : goal.returns-in_err-sort_one-clause-spares
+returns-in_err-sort_one-clause-spares g c = spared_both c.args.root.now (g.F.Folder.held c.args.folder.now).files
+    (g.F.Folder.held c.loop-file.folder).files (g.F.Folder.held c.sort_one.new.folder).files c.loop-file.invariant.4 c.sort_one.ensures.spares

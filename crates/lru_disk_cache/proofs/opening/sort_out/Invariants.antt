@@ -1,7 +1,7 @@
 -- What is kept of the files so far, and with the others what the folder shows.
 use Rattle.std.proofs.Common.{◌≡◌, ◌++◌, take, drop}
 use Rattle.lru_disk_cache.specs.Held.{Became}
-use Rattle.lru_disk_cache.specs.Disk.{OnlyRemoved, ButUnder}
+use Rattle.lru_disk_cache.specs.Disk.{OnlyRemoved, ButUnder, RemovedUnder}
 use Rattle.lru_disk_cache.specs.Opened.{keyed, kept, Shows}
 use Rattle.lru_disk_cache.proofs.opening.sort_out.Given as goal
 
@@ -11,4 +11,5 @@ invariant-loop-file g l =
     × Shows l.root (g.F.Folder.held l.folder) (l.good.items ++ keyed l.root (drop l.file-index l.found))
     × Became OnlyRemoved (g.F.Folder.held l.fn.folder).files (g.F.Folder.held l.folder).files
     × Became (ButUnder l.root) (g.F.Folder.held l.fn.folder).files (g.F.Folder.held l.folder).files
+    × Became (RemovedUnder l.root) (g.F.Folder.held l.fn.folder).files (g.F.Folder.held l.folder).files
     × ((g.F.Folder.held l.folder).faults ≡ (g.F.Folder.held l.fn.folder).faults)

@@ -1,6 +1,7 @@
 use Rattle.std.proofs.Common.{◌++◌, ◌∙◌, ap, Err}
 use Rattle.lru_disk_cache.proofs.CallLemmas.{removed_at, gone_ok, taken_ok, taken_missing}
 use Rattle.lru_disk_cache.proofs.Exactly.{removed_only}
+use Rattle.lru_disk_cache.proofs.Removals.{removed_part}
 use Rattle.lru_disk_cache.proofs.storing.remove_file.Goals as goal
 
 pub returns-in-Ok-clause-others : goal.returns-in-Ok-clause-others
@@ -46,3 +47,23 @@ pub returns-in-Err-Missing-clause-removed : goal.returns-in-Err-Missing-clause-r
 returns-in-Err-Missing-clause-removed g c =
     removed_only (c.args.root.now ++ c.args.key.now) (g.F.Folder.held c.args.folder.now).files
     (g.F.Folder.held c.remove.new.self).files (returns-in-Err-Missing-clause-exact g c)
+
+pub returns-in-Ok-clause-part : goal.returns-in-Ok-clause-part
+returns-in-Ok-clause-part g c =
+    removed_part c.get.result.now (c.args.root.now ++ c.args.key.now) c.remove.result _ _
+    (c.get.ensures.text ∙ c.in_ok-path.ensures.path) c.remove.ensures.removes
+
+pub returns-in-Err-Missing-clause-part : goal.returns-in-Err-Missing-clause-part
+returns-in-Err-Missing-clause-part g c =
+    removed_part c.get.result.now (c.args.root.now ++ c.args.key.now) c.remove.result _ _
+    (c.get.ensures.text ∙ c.in_ok-path.ensures.path) c.remove.ensures.removes
+
+pub returns-in-Err-Failed-clause-part : goal.returns-in-Err-Failed-clause-part
+returns-in-Err-Failed-clause-part g c =
+    removed_part c.get.result.now (c.args.root.now ++ c.args.key.now) c.remove.result _ _
+    (c.get.ensures.text ∙ c.in_ok-path.ensures.path) c.remove.ensures.removes
+
+pub returns-clause-part : goal.returns-clause-part
+returns-clause-part g c =
+    removed_part c.get.result.now (c.args.root.now ++ c.args.key.now) c.remove.result _ _
+    (c.get.ensures.text ∙ c.in_ok-path.ensures.path) c.remove.ensures.removes

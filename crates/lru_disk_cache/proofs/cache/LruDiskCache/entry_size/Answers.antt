@@ -71,4 +71,5 @@ returns-clause-fails g c =
     (disk_of c.self.inside.path c.self.inside.root c.self.inside.table c.self.inside.pending)
     (disk_of c.self.inside.path c.self.inside.root c.self.inside.table c.self.inside.pending)
     c.in-Some.temp.now c.measure.result (g.F.Folder.held c.self.inside.folder)
-    (g.F.Folder.held c.measure.new.folder) c.self.invariant t.0 c.measure.ensures.fails)
+    (g.F.Folder.held c.measure.new.folder) c.self.invariant t.0 t.1
+    c.measure.ensures.fails)

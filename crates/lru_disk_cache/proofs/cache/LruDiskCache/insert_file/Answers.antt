@@ -1,4 +1,4 @@
-use Rattle.std.proofs.Common.{rules, ◌+◌, ◌≤◌, ap, subst, ◌∙◌, arith}
+use Rattle.std.proofs.Common.{rules, ◌+◌, ◌≤◌, sym, ap, subst, ◌∙◌, arith}
 use Rattle.lru_disk_cache.specs.Held.{Became}
 use Rattle.lru_disk_cache.specs.Key.{names_temporary}
 use Rattle.lru_disk_cache.specs.Reserved.{KeepsReserved, held_size}
@@ -145,7 +145,7 @@ pub returns-in-Err-clause-fails : goal.returns-in-Err-clause-fails
 returns-in-Err-clause-fails g c =
     move_failed c.args.key.now c.args.path.now c.args.self.now.disk c.path_size.new.self.disk c.in-Err.error
     (g.F.Folder.held c.args.self.now.folder) (g.F.Folder.held c.path_size.new.self.folder)
-    c.path_size.ensures.disk c.in-Err.ensures.fails
+    c.path_size.ensures.disk (sym c.is_key.ensures ∙ c.if-not-is_key.false) c.in-Err.ensures.fails
 
 pub returns-in-Ok-move_in-clause-ok : goal.returns-in-Ok-move_in-clause-ok
 returns-in-Ok-move_in-clause-ok g c = search rules

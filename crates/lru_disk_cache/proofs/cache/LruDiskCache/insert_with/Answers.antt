@@ -1,4 +1,4 @@
-use Rattle.std.proofs.Common.{◌≡◌, ◌++◌, length, Some, Ok, sym, subst}
+use Rattle.std.proofs.Common.{◌≡◌, ◌++◌, ◌∙◌, length, Some, Ok, sym, subst}
 use Rattle.lru_disk_cache.specs.Files.{file_at}
 use Rattle.lru_disk_cache.specs.Held.{Holds}
 use Rattle.lru_disk_cache.specs.Store.{inserted, insert_verdict}
@@ -32,7 +32,8 @@ returns-in-Ok-clause-fails g c =
 pub returns-in-Err-clause-fails : goal.returns-in-Err-clause-fails
 returns-in-Err-clause-fails g c =
     with_failed (Wrote g.W.FnOnce (λ v. v.items) c.args.with) c.args.key.now c.args.self.now.disk
-    c.in-Err.error (g.F.Folder.held c.args.self.now.folder) c.in-Err.ensures.fails
+    c.in-Err.error (g.F.Folder.held c.args.self.now.folder) (sym c.is_key.ensures ∙ c.if-not-is_key.false)
+    c.in-Err.ensures.fails
 
 pub returns-in-Err-clause-left : goal.returns-in-Err-clause-left
 returns-in-Err-clause-left g c =

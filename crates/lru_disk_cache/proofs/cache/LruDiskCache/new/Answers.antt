@@ -1,5 +1,5 @@
 -- That the sizes fit is what the type of the opened table says: of its fields, and of the list's in them.
-use Rattle.std.proofs.Common.{rules, ◌≡◌, ℕ, List, ◌+◌, ◌≤◌, subst}
+use Rattle.std.proofs.Common.{rules, ℕ, List, ◌≤◌, subst}
 use denote.Laws.{Is}
 use denote.Enum.Declared as declared
 use Rattle.std.specs.contracts.result.Result as result
@@ -7,7 +7,10 @@ use Rattle.lru_metered.specs.Metered.{Metered}
 use Rattle.lru_disk_cache.specs.contracts.table.Table as table
 use Rattle.lru_disk_cache.specs.contracts.fault.FolderFault as fault
 use Rattle.lru_disk_cache.specs.Entries.{Listed, total}
-use Rattle.lru_disk_cache.specs.Store.{IsStore}
+use Rattle.lru_disk_cache.proofs.Removals.{none_spared}
+use Rattle.lru_disk_cache.specs.Files.{front}
+use Rattle.lru_disk_cache.specs.Held.{Became}
+use Rattle.lru_disk_cache.specs.Disk.{RemovedUnder}
 use Rattle.lru_disk_cache.proofs.cache.LruDiskCache.new.Goals as goal
 
 pub invariant_of-result : goal.invariant_of-result
@@ -30,3 +33,10 @@ invariant_of-result g c =
 
 pub returns-in-Ok-open-clause-stands : goal.returns-in-Ok-open-clause-stands
 returns-in-Ok-open-clause-stands g c = invariant_of-result g c
+
+pub returns-in_default-clause-left : goal.returns-in_default-clause-left
+returns-in_default-clause-left g c = none_spared (front c.args.path.now) (g.F.Folder.held c.args.folder).files
+
+pub returns-in-Err-clause-left : goal.returns-in-Err-clause-left
+returns-in-Err-clause-left g c = subst (λ r. Became (RemovedUnder r) (g.F.Folder.held c.args.folder).files
+    (g.F.Folder.held c.open.new.folder).files) c.in-Ok.ensures.1 c.open.ensures.spares

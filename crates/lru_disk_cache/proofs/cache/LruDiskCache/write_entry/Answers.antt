@@ -83,7 +83,8 @@ returns-clause-fails g c =
     (disk_of c.self.inside.path c.self.inside.root c.self.inside.table c.self.inside.pending)
     (disk_of c.self.inside.path c.self.inside.root c.self.inside.table c.self.inside.pending)
     c.in-Some.temp.now c.add_to.result (g.F.Folder.held c.self.inside.folder)
-    (g.F.Folder.held c.add_to.new.folder) c.self.invariant t.0 c.add_to.ensures.fails)
+    (g.F.Folder.held c.add_to.new.folder) c.self.invariant t.0 t.1
+    c.add_to.ensures.fails)
 
 pub returns-clause-others : goal.returns-clause-others
 returns-clause-others g c =

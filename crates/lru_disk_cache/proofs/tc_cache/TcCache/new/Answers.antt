@@ -1,4 +1,4 @@
-use Rattle.std.proofs.Common.{◌≡◌, ◌∙◌, List, ℕ, true, false, map, ap}
+use Rattle.std.proofs.Common.{◌≡◌, ◌∙◌, List, ℕ, true, false, map, ap, subst}
 use Rattle.lru_disk_cache.specs.Files.{front}
 use Rattle.lru_disk_cache.specs.Held.{Holds, Became}
 use Rattle.lru_disk_cache.specs.Disk.{ButUnder}
@@ -8,6 +8,8 @@ use Rattle.lru_disk_cache.specs.Cleaned.{are_archive_keys}
 use Rattle.lru_disk_cache.proofs.OverFolder.{hold_new, opened_new, relists_new, keys_new, in_step_new}
 use Rattle.lru_disk_cache.proofs.OverFolder.{cleared_new, outside_new, made_ok, made_fails}
 use Rattle.lru_disk_cache.proofs.Insides.{archives_of}
+use Rattle.lru_disk_cache.proofs.Removals.{none_spared, spared_both, spared_of, handed_back}
+use Rattle.lru_disk_cache.specs.Disk.{RemovedUnder}
 use Rattle.lru_disk_cache.proofs.tc_cache.TcCache.new.Goals as goal
 
 pub over-requires-clause-hold : goal.over-requires-clause-hold
@@ -84,3 +86,26 @@ returns-in-Ok-new-clause-others g c =
     (g.F.Folder.held c.clean.new.folder) (g.F.Folder.held c.in-Ok-new.cache.folder) c.in-Ok-new.cache.disk
     c.in-Ok.ensures.1 c.in-Ok-clean.ensures.cleaned
     (c.in-Ok-new.ensures.stands.root ∙ ap front c.in-Ok-new.ensures.empty.0) c.in-Ok-new.ensures.others)
+
+pub returns-in_default-clause-left : goal.returns-in_default-clause-left
+returns-in_default-clause-left g c = none_spared (front c.args.cache_dir.now) (g.F.Folder.held c.args.folder).files
+
+pub returns-in-Err-clause-left : goal.returns-in-Err-clause-left
+returns-in-Err-clause-left g c = (subst (λ r. Became (RemovedUnder r) (g.F.Folder.held c.args.folder).files (g.F.Folder.held c.clean.new.folder).files)
+    c.in-Ok.ensures.1 c.clean.ensures.spares)
+
+pub returns-clause-left : goal.returns-clause-left
+returns-clause-left g c = spared_both (front c.args.cache_dir.now) (g.F.Folder.held c.args.folder).files (g.F.Folder.held c.clean.new.folder).files
+    (g.F.Folder.held c.in-Err-new.refusal.1).files (subst (λ r. Became (RemovedUnder r) (g.F.Folder.held c.args.folder).files (g.F.Folder.held c.clean.new.folder).files)
+    c.in-Ok.ensures.1 c.clean.ensures.spares) c.in-Err-new.ensures.left
+
+pub returns-in-Ok-new-clause-left : goal.returns-in-Ok-new-clause-left
+returns-in-Ok-new-clause-left g c = handed_back g.F.Folder.held (λ o. Became (RemovedUnder (front c.args.cache_dir.now)) (g.F.Folder.held c.args.folder).files o)
+    c.in-Ok-new.cache.folder c.over.result c.over.ensures.folder
+    (spared_both (front c.args.cache_dir.now) (g.F.Folder.held c.args.folder).files (g.F.Folder.held c.clean.new.folder).files
+    (g.F.Folder.held c.in-Ok-new.cache.folder).files (subst (λ r. Became (RemovedUnder r) (g.F.Folder.held c.args.folder).files (g.F.Folder.held c.clean.new.folder).files)
+    c.in-Ok.ensures.1 c.clean.ensures.spares)
+    (spared_of c.in-Ok-new.cache.disk.root (front c.args.cache_dir.now) (g.F.Folder.held c.clean.new.folder).files
+    (g.F.Folder.held c.in-Ok-new.cache.folder).files
+    (c.in-Ok-new.ensures.stands.root ∙ ap front c.in-Ok-new.ensures.empty.0) c.in-Ok-new.ensures.removed
+    c.in-Ok-new.ensures.others))
