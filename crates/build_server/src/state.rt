@@ -145,6 +145,7 @@ impl<F: Folder> ServerState<F> {
     }
 
     // Stores an archive under a job, after Ready was accepted.
+    #[tactic(auto, using(crate::proofs::StoreLemmas::others_same))]
     fn take_in(&mut self, job: JobId, archive: &[u8]) -> Result<Submitted, ServerFault>
         ensures taken { TakesIn job archive.now self.old self.new result }
     {
