@@ -5,7 +5,7 @@ use Rattle.std.specs.Prelude.{nat_lt, not}
 use Rattle.std.specs.List.{IsDistinct}
 use Rattle.std.specs.Map.{keys_of}
 use Rattle.std.specs.Str.{bytes_eq}
-use Rattle.lru_disk_cache.specs.Archives.{Archives, id_of}
+use Rattle.lru_disk_cache.specs.Archives.{Archives, IsArchiveStore, id_of}
 use Rattle.lru_disk_cache.specs.Archiving.{archive_verdict, with_archive, StoreFails}
 use Rattle.lru_disk_cache.proofs.Became.{became_same}
 use Rattle.lru_disk_cache.specs.Disk.{Left, dropped, ButUnder}
@@ -28,6 +28,20 @@ use Rattle.build_server.proofs.ListLemmas.{front_of_dropped, ids-append, take_fr
 -- files that are as they were are so outside of a directory
 pub others_same : (path : List ℕ) (files : Option Files) → Became (ButUnder (front path)) files files
 others_same path files = became_same (ButUnder (front path)) files (λ f q outside. refl)
+
+none_differ : IsDistinct bytes_eq []
+unfolding IsDistinct
+none_differ = tt
+
+-- no archives stand in any folder
+pub none_stand : (path : List ℕ) (capacity : ℕ) (archives : Archives) (held : Held) → archives ≡ []
+    → IsArchiveStore path capacity archives held
+none_stand path capacity archives held e = subst (λ l. IsArchiveStore path capacity l held) (sym e) record {
+  ids = record {};
+  distinct = none_differ;
+  fits = omega arith;
+  verified = λ files told. record {};
+}
 
 -- the verdict of the cache, as that of a submission
 by_tests : (same big : Bool) (x : Submitted) → cond (not same) (Err error.WrongDigest)

@@ -110,6 +110,18 @@ pub(crate) fn store<F: Folder>(
     }
 }
 
+/// What holds of the archives, whatever failed so far.
+pub(crate) fn shown<F: Folder>(cache: &TcCache<F>)
+    ensures stands { IsArchiveStore cache.now.path cache.now.capacity cache.now.archives
+        (F.held cache.now.folder) }
+{
+    let mut archives = cache.archives();
+    let Some((first, _)) = archives.next() else {
+        return;
+    };
+    let _listed = cache.contains_toolchain(&first);
+}
+
 /// Reads an archive that is listed.
 pub(crate) fn read<F: Folder>(cache: &mut TcCache<F>, tc: Toolchain) -> Result<Taken, Memory>
     requires listed { is_listed tc cache.old.archives ≡ true }
