@@ -1,15 +1,17 @@
 -- What a store comes to, put together from the cache's own clauses.
 use Rattle.std.proofs.Common.{◌≡◌, inl, inr, ℕ, ◌-◌, ◌≤◌, Bool, true, false, cond, List, [], ◌∷◌, ◌++◌}
-use Rattle.std.proofs.Common.{length, take, Ok, Err, refl, sym, ◌∙◌, ap, subst, arith, length-append}
+use Rattle.std.proofs.Common.{length, take, Option, Ok, Err, refl, sym, ◌∙◌, ap, subst, arith, length-append}
 use Rattle.std.specs.Prelude.{nat_lt, not}
 use Rattle.std.specs.List.{IsDistinct}
 use Rattle.std.specs.Map.{keys_of}
 use Rattle.std.specs.Str.{bytes_eq}
-use Rattle.lru_disk_cache.specs.Archives.{Archives, id_of}
+use Rattle.lru_disk_cache.specs.Archives.{Archives, IsArchiveStore, id_of}
 use Rattle.lru_disk_cache.specs.Archiving.{archive_verdict, with_archive, StoreFails}
-use Rattle.lru_disk_cache.specs.Disk.{Left, dropped}
+use Rattle.lru_disk_cache.proofs.Became.{became_same}
+use Rattle.lru_disk_cache.specs.Disk.{Left, dropped, ButUnder}
 use Rattle.lru_disk_cache.specs.Entries.{trim}
-use Rattle.lru_disk_cache.specs.Held.{Held}
+use Rattle.lru_disk_cache.specs.Files.{Files, front}
+use Rattle.lru_disk_cache.specs.Held.{Held, Became}
 use Rattle.lru_disk_cache.specs.Store.{IoCause}
 use Rattle.lru_disk_cache.specs.declared.error.Error.{Error}
 use Rattle.lru_disk_cache.specs.declared.error.Error.TheVariants as error
@@ -22,6 +24,24 @@ use Rattle.build_server.specs.declared.submit.Submitted.{Submitted}
 use Rattle.build_server.specs.declared.submit.Submitted.TheVariants.{Stored, Digest, Capacity, Folder}
 use Rattle.build_server.proofs.ListLemmas.{without_unlisted, dropped-trim, gone_out, none_gone}
 use Rattle.build_server.proofs.ListLemmas.{front_of_dropped, ids-append, take_front}
+
+-- files that are as they were are so outside of a directory
+pub others_same : (path : List ℕ) (files : Option Files) → Became (ButUnder (front path)) files files
+others_same path files = became_same (ButUnder (front path)) files (λ f q outside. refl)
+
+none_differ : IsDistinct bytes_eq []
+unfolding IsDistinct
+none_differ = tt
+
+-- no archives stand in any folder
+pub none_stand : (path : List ℕ) (capacity : ℕ) (archives : Archives) (held : Held) → archives ≡ []
+    → IsArchiveStore path capacity archives held
+none_stand path capacity archives held e = subst (λ l. IsArchiveStore path capacity l held) (sym e) record {
+  ids = record {};
+  distinct = none_differ;
+  fits = omega arith;
+  verified = λ files told. record {};
+}
 
 -- the verdict of the cache, as that of a submission
 by_tests : (same big : Bool) (x : Submitted) → cond (not same) (Err error.WrongDigest)
@@ -112,6 +132,7 @@ store_refused error.WrongDigest capacity tc bytes gone n old new before after g 
             (λ w. w.faults) h.1,
       );
       archives = h.0;
+      untouched = λ _. h.1;
     }
 store_refused error.FileTooLarge capacity tc bytes gone n old new before after g e unlisted distinct h =
     record {
@@ -121,6 +142,7 @@ store_refused error.FileTooLarge capacity tc bytes gone n old new before after g
             (λ w. w.faults) h.1,
       );
       archives = h.0;
+      untouched = λ _. h.1;
     }
 store_refused (error.Io fault) capacity tc bytes gone n old new before after g e unlisted distinct h =
     let w = went tc (capacity - length bytes) old new n unlisted distinct e h.0 in
@@ -134,6 +156,7 @@ store_refused (error.Io fault) capacity tc bytes gone n old new before after g e
       );
       archives =
           w.rest;
+      untouched = λ u. absurd u;
     })
 store_refused error.Memory capacity tc bytes gone n old new before after g e unlisted distinct h =
     let w = went tc (capacity - length bytes) old new n unlisted distinct e h.0 in
@@ -188,4 +211,5 @@ store_made capacity tc bytes gone old new before after g unlisted distinct made 
       ∙ ap (λ l. l ++ (tc, length bytes) ∷ [])
       (ap (λ l. trim (capacity - length bytes) l) (without_unlisted tc old unlisted)
       ∙ (trimmed (capacity - length bytes) old distinct ∙ ap (λ l. without_ids l old) (sym g)));
+  untouched = λ u. absurd u;
 }

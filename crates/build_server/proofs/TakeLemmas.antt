@@ -7,6 +7,7 @@ use Rattle.lru_disk_cache.specs.Entries.{promoted_key}
 use Rattle.build_server.specs.Books.{Books, Table, is_job, held_for, without_job, is_listed, KeepsStep}
 use Rattle.build_server.specs.Rules.{Finds, FolderHeld, SamePlace, IsTaken}
 use Rattle.build_server.specs.Stores.{Reads}
+use Rattle.build_server.proofs.StoreLemmas.{others_same}
 use Rattle.build_server.specs.declared.run.Taken.{Taken}
 use Rattle.build_server.specs.declared.run.Taken.TheVariants as taken
 
@@ -21,6 +22,15 @@ not_held job (h ∷ hs) e = by (is_job job h.0) (not_held job hs) e
     by true rest e = cc
     by false rest e = ap (λ l. h ∷ l) (rest e)
 
+-- nothing changed but the jobs
+still : (old : Books) (held : Table) → SamePlace old (record old { held = held })
+still old held = record {
+  capacity = refl;
+  path = refl;
+  others = others_same old.path old.folder.files;
+  later = omega arith;
+}
+
 -- nothing was held
 nothing_held : (job : JobId) (old : Books) → held_for job old.held ≡ None → IsTaken job old old taken.None
 nothing_held job old e = record {
@@ -28,7 +38,7 @@ nothing_held job old e = record {
   held = sym (not_held job old.held e);
   archives = refl;
   step = λ _ s. s;
-  place = record { capacity = refl; path = refl; later = omega arith };
+  place = still old old.held;
 }
 
 pub took_none : (job : JobId) (old seen : Books) (outcome : Taken) → old ≡ seen
@@ -54,7 +64,7 @@ took_unlisted job tc old seen new outcome same e unlisted made is =
       held = refl;
       archives = refl;
       step = λ _ s. s;
-      place = record { capacity = refl; path = refl; later = omega arith };
+      place = still old (without_job job old.held);
     }
 
 -- its archive was read, or the folder failed

@@ -12,9 +12,10 @@ use Rattle.dist_types.specs.declared.results.SubmitToolchainResult.{SubmitToolch
 use Rattle.dist_types.specs.declared.results.SubmitToolchainResult.TheVariants as answer
 use Rattle.dist_types.specs.declared.results.UpdateJobStateResult.{UpdateJobStateResult}
 use Rattle.lru_disk_cache.specs.Archives.{Archives, id_of}
-use Rattle.lru_disk_cache.specs.Disk.{dropped}
+use Rattle.lru_disk_cache.specs.Disk.{dropped, ButUnder}
 use Rattle.lru_disk_cache.specs.Entries.{promoted_key}
-use Rattle.lru_disk_cache.specs.Held.{Held, Holds}
+use Rattle.lru_disk_cache.specs.Files.{front}
+use Rattle.lru_disk_cache.specs.Held.{Held, Holds, Became}
 use Rattle.build_server.specs.Books.{Books, held_for, placed, without_job, is_listed, ids, without_ids, Fails}
 use Rattle.build_server.specs.Books.{KeepsStep}
 use Rattle.build_server.specs.declared.fault.ServerFault.{ServerFault}
@@ -99,10 +100,12 @@ abbrev pub MayDrop : ℕ → List ℕ → Archives → List (List ℕ) → Type 
 MayDrop capacity bytes archives gone = (rest : List (List ℕ))
     × (ids (dropped (capacity - length bytes) archives) ≡ gone ++ rest)
 
--- what no call changes
+-- what no call changes: the capacity, the path, and each file outside of the archives' directory, where files
+-- are told; the folder's count of faults never falls
 pub record SamePlace (old new : Books) : Type 0 where
   pub capacity : new.capacity ≡ old.capacity
   pub path : new.path ≡ old.path
+  pub others : Became (ButUnder (front old.path)) old.folder.files new.folder.files
   pub later : old.folder.faults ≤ new.folder.faults
 
 -- the folder did not fail in it
@@ -110,11 +113,19 @@ abbrev pub NotFolder : Submitted → Type 0
 NotFolder (submitted.Folder dropped) = ⊥
 NotFolder other = Unit {0}
 
--- an archive was submitted under a job, after Ready was accepted
+-- no store was begun
+abbrev pub IsUnstored : Submitted → Type 0
+IsUnstored (submitted.Stored size dropped) = ⊥
+IsUnstored (submitted.Folder dropped) = ⊥
+IsUnstored other = Unit {0}
+
+-- an archive was submitted under a job, after Ready was accepted: where no store was begun, the folder is as
+-- it was
 pub record IsSubmitted (job : JobId) (bytes : List ℕ) (old new : Books) (outcome : Submitted) : Type 0 where
   pub comes : Comes (submit_verdict old (held_for job old.held) bytes) outcome old.folder new.folder
   pub held : new.held ≡ old.held
   pub archives : new.archives ≡ archives_after_submit (held_for job old.held) outcome old.archives
+  pub untouched : IsUnstored outcome → new.folder ≡ old.folder
   pub step : NotFolder outcome → KeepsStep old new
   pub place : SamePlace old new
 

@@ -7,7 +7,7 @@ use Rattle.lru_disk_cache.specs.Held.{Held, Holds}
 use Rattle.lru_disk_cache.specs.declared.error.Error.{Error}
 use Rattle.lru_disk_cache.specs.declared.error.Error.TheVariants as error
 use Rattle.build_server.specs.Books.{without_ids, Fails}
-use Rattle.build_server.specs.Rules.{store_verdict, MayDrop, Comes, archives_after_submit}
+use Rattle.build_server.specs.Rules.{store_verdict, MayDrop, Comes, archives_after_submit, IsUnstored}
 use Rattle.build_server.specs.declared.fault.ServerFault.{ServerFault}
 use Rattle.build_server.specs.declared.fault.ServerFault.TheVariants as fault
 use Rattle.build_server.specs.declared.run.Taken.{Taken}
@@ -15,11 +15,12 @@ use Rattle.build_server.specs.declared.run.Taken.TheVariants as taken
 use Rattle.build_server.specs.declared.submit.Submitted.{Submitted}
 use Rattle.build_server.specs.declared.submit.Submitted.TheVariants as submitted
 
--- a store ended so: which outcome, and the archives behind it
+-- a store ended so: which outcome, and the archives behind it; where none was begun, the folder is as it was
 pub record IsStored (capacity : ℕ) (tc bytes : List ℕ) (outcome : Submitted) (old new : Archives)
     (before after : Held) : Type 0 where
   pub comes : Comes (store_verdict capacity old tc bytes) outcome before after
   pub archives : new ≡ archives_after_submit (Some tc) outcome old
+  pub untouched : IsUnstored outcome → after ≡ before
 
 -- what want of memory leaves of a store: the list as it was, or some of those gone that it would drop
 abbrev pub StoreStarved : ℕ → List ℕ → Archives → Archives → Type 0

@@ -84,7 +84,11 @@ impl BuilderIncoming for EchoBuilder {
         _command: &CompileCommand,
         outputs: &[Text],
         inputs: &[u8],
-    ) -> Result<BuildResult, BuildFault> {
+    ) -> Result<BuildResult, BuildFault>
+        ensures echoes { IfOk result (λ built. built ≡ echo_of outputs.now inputs.now) }
+        ensures err { IfErr result (λ e. e ≡ BuildFault.Memory) }
+        ensures cause { result ≡ Err BuildFault.Refused → Rose 0 0 }
+    {
         match echo(self.alloc, outputs, inputs) {
             Ok(built) => Ok(built),
             Err(_) => Err(BuildFault::Memory),

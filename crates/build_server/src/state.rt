@@ -1,12 +1,13 @@
 //! `ServerState` and its calls.
 ghost use Rattle.std.specs.Prelude.{◌≡◌, []};
+ghost use Rattle.lru_disk_cache.specs.Archives.{IsArchiveStore};
 ghost use Rattle.build_server.specs.Books.{AreRising};
 ghost use Rattle.build_server.specs.Rules.{Assigns, Submits, Begins, TakesIn, TakesOut, need_by};
 
 use crate::fault::{ServerFault, Update, fault_of};
 use crate::keeping::Keeping;
 use crate::run::{RunHeld, Taken};
-use crate::store::{read, store};
+use crate::store::{read, shown, store};
 use crate::submit::{Submit, Submitted};
 use crate::table::{Held, HeldTable};
 use dist_types::ids::JobId;
@@ -126,7 +127,9 @@ impl<F: Folder> ServerState<F> {
     /// size whose SHA-256 is its id, where files are told.
     pub fn archives(&self) -> Archives<'_>
         ensures rest { result ≡ self.now.archives }
+        ensures stands { IsArchiveStore self.now.path self.now.capacity self.now.archives self.now.folder }
     {
+        shown(&self.cache);
         self.cache.archives()
     }
 
@@ -145,6 +148,7 @@ impl<F: Folder> ServerState<F> {
     }
 
     // Stores an archive under a job, after Ready was accepted.
+    #[tactic(auto, using(crate::proofs::StoreLemmas::others_same))]
     fn take_in(&mut self, job: JobId, archive: &[u8]) -> Result<Submitted, ServerFault>
         ensures taken { TakesIn job archive.now self.old self.new result }
     {

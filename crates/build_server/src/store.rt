@@ -2,8 +2,10 @@
 ghost use Rattle.std.specs.Prelude.{◌≡◌, ◌≤◌, ◌-◌, length, take, is_some, true, false, IfOk, IfErr, OnOk, Ok};
 ghost use Rattle.std.specs.Prelude.{Err};
 ghost use Rattle.lru_disk_cache.specs.Archives.{IsInStep, IsArchiveStore};
-ghost use Rattle.lru_disk_cache.specs.Disk.{dropped};
+ghost use Rattle.lru_disk_cache.specs.Disk.{dropped, ButUnder};
 ghost use Rattle.lru_disk_cache.specs.Entries.{total};
+ghost use Rattle.lru_disk_cache.specs.Files.{front};
+ghost use Rattle.lru_disk_cache.specs.Held.{Became};
 ghost use Rattle.build_server.specs.Books.{ids, is_listed};
 ghost use Rattle.build_server.specs.Rules.{NotFolder, FolderHeld};
 ghost use Rattle.build_server.specs.Stores.{Stores, MayRefuse, refusal, Reads};
@@ -76,6 +78,7 @@ fn refused(e: Error, mut gone: Vec<Toolchain>, went: usize) -> Result<Submitted,
 }
 
 /// Stores an archive that is not listed.
+#[tactic(auto, using(crate::proofs::StoreLemmas::others_same))]
 pub(crate) fn store<F: Folder>(
     alloc: Global,
     cache: &mut TcCache<F>,
@@ -91,6 +94,8 @@ pub(crate) fn store<F: Folder>(
         → IsInStep cache.old.path (F.held cache.old.folder) cache.old.archives
         → IsInStep cache.new.path (F.held cache.new.folder) cache.new.archives) }
     ensures at { (cache.new.path ≡ cache.old.path) × (cache.new.capacity ≡ cache.old.capacity) }
+    ensures others { Became (ButUnder (front cache.old.path)) (F.held cache.old.folder).files
+        (F.held cache.new.folder).files }
     ensures later { (F.held cache.old.folder).faults ≤ (F.held cache.new.folder).faults }
 {
     let size = archive.len() as u64;
@@ -105,6 +110,18 @@ pub(crate) fn store<F: Folder>(
     }
 }
 
+/// What holds of the archives, whatever failed so far.
+pub(crate) fn shown<F: Folder>(cache: &TcCache<F>)
+    ensures stands { IsArchiveStore cache.now.path cache.now.capacity cache.now.archives
+        (F.held cache.now.folder) }
+{
+    let mut archives = cache.archives();
+    let Some((first, _)) = archives.next() else {
+        return;
+    };
+    let _listed = cache.contains_toolchain(&first);
+}
+
 /// Reads an archive that is listed.
 pub(crate) fn read<F: Folder>(cache: &mut TcCache<F>, tc: Toolchain) -> Result<Taken, Memory>
     requires listed { is_listed tc cache.old.archives ≡ true }
@@ -114,6 +131,8 @@ pub(crate) fn read<F: Folder>(cache: &mut TcCache<F>, tc: Toolchain) -> Result<T
         → IsInStep cache.old.path (F.held cache.old.folder) cache.old.archives
         → IsInStep cache.new.path (F.held cache.new.folder) cache.new.archives) }
     ensures at { (cache.new.path ≡ cache.old.path) × (cache.new.capacity ≡ cache.old.capacity) }
+    ensures others { Became (ButUnder (front cache.old.path)) (F.held cache.old.folder).files
+        (F.held cache.new.folder).files }
     ensures later { (F.held cache.old.folder).faults ≤ (F.held cache.new.folder).faults }
 {
     match cache.get_file(&tc) {

@@ -1,6 +1,6 @@
 -- Runs whose inputs a packager packs.
-use Rattle.std.proofs.Common.{◌≡◌, ℕ, ◌≤◌, List, [], ◌∷◌, ◌++◌, codes, length, Option, Some, None, Result, Ok}
-use Rattle.std.proofs.Common.{Err, refl, sym, ap, subst, ◌∙◌, append_assoc}
+use Rattle.std.proofs.Common.{◌≡◌, ◌≢◌, ℕ, ◌≤◌, List, [], ◌∷◌, ◌++◌, codes, length, Option, Some, None, Result}
+use Rattle.std.proofs.Common.{Ok, Err, refl, sym, ap, subst, ◌∙◌, append_assoc}
 use Rattle.std.specs.Fmt.{decimal}
 use Rattle.std.specs.Int.{w32, to_be_bytes}
 use Rattle.dist_types.specs.Addr.{addr_text}
@@ -68,12 +68,14 @@ pub asked_as : {M : Type 0} (at : List ℕ → Option (M × List ℕ)) (host : L
     (sent made told : List ℕ) (answer : Result M CallError) (old new : ClientParts)
     → sent ≡ made → made ≡ told → Asks at host port sent answer old.asked new.asked
     → (answer ≡ Err LinkFault → Rose old.faults new.faults)
+    → (answer ≢ Err LinkFault → new.faults ≡ old.faults)
     → old.faults ≤ new.faults → new ≡ with_dialer old new.asked new.faults
     → IsAsked at host port told answer old new
-asked_as at host port sent made told answer old new is_made is_told asks cause later changes =
+asked_as at host port sent made told answer old new is_made is_told asks cause steady later changes =
     record {
       asks = subst (λ q. Asks at host port q answer old.asked new.asked) (is_made ∙ is_told) asks;
       cause = cause;
+      steady = steady;
       later = later;
       changes = changes;
     }

@@ -1,6 +1,6 @@
 -- What a client is, and what its calls ask, answer and leave.
-use Rattle.std.specs.Prelude.{◌≡◌, ◌⊎◌, ◌<◌, ◌≤◌, ◌^◌, ℕ, List, [], length, map, unwrap_or, Bool, Option}
-use Rattle.std.specs.Prelude.{Some, None, Result, Ok, Err, String, string_bytes, Vec}
+use Rattle.std.specs.Prelude.{◌≡◌, ◌≢◌, ◌⊎◌, ◌<◌, ◌≤◌, ◌^◌, ℕ, List, [], length, map, unwrap_or, Bool}
+use Rattle.std.specs.Prelude.{Option, Some, None, Result, Ok, Err, String, string_bytes, Vec}
 use Rattle.std.specs.declared.alloc.Global.{Global}
 use Rattle.dist_types.specs.Cause.{Rose}
 use Rattle.dist_types.specs.declared.command.CompileCommand.{CompileCommand}
@@ -68,12 +68,13 @@ with_toolchains c toolchains =
       faults = c.faults;
     }
 
--- A host was asked once, or memory ran out; LinkFault came only where the dialer's count rose, and nothing
--- else changed.
+-- A host was asked once, or memory ran out; LinkFault came only where the dialer's count rose, whatever else
+-- came left the count as it was, and nothing else changed.
 pub record IsAsked {M : Type 0} (at : List ℕ → Option (M × List ℕ)) (host : List ℕ) (port : ℕ)
     (request : List ℕ) (answer : Result M CallError) (old new : ClientParts) : Type 0 where
   pub asks : Asks at host port request answer old.asked new.asked
   pub cause : answer ≡ Err LinkFault → Rose old.faults new.faults
+  pub steady : answer ≢ Err LinkFault → new.faults ≡ old.faults
   pub later : old.faults ≤ new.faults
   pub changes : new ≡ with_dialer old new.asked new.faults
 

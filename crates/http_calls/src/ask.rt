@@ -1,5 +1,5 @@
 //! Asking a server over a dialer, and hearing what its reply says.
-ghost use Rattle.std.specs.Prelude.{◌≡◌, ◌≤◌, Err, OnOk, unwrap_or};
+ghost use Rattle.std.specs.Prelude.{◌≡◌, ◌≢◌, ◌≤◌, Err, unwrap_or};
 ghost use Rattle.dist_types.specs.Cause.{Rose};
 ghost use Rattle.url.specs.Host.{host_text};
 ghost use Rattle.url.specs.Parts.{host_or_empty};
@@ -44,7 +44,8 @@ impl fmt::Display for DialedHost {
     }
 }
 
-/// Asks a host at a port, and answers what the reply says: LinkFault exactly where the dialer failed.
+/// Asks a host at a port, and answers what the reply says: LinkFault exactly where the dialer failed, whose
+/// count of faults stays elsewhere.
 fn ask<M: Message, D: Dialer>(
     alloc: Global,
     dialer: &mut D,
@@ -54,7 +55,7 @@ fn ask<M: Message, D: Dialer>(
 ) -> Result<M, CallError>
     ensures asks { Asks M.at host.now port request.now result (D.asked dialer.old) (D.asked dialer.new) }
     ensures cause { result ≡ Err CallError.LinkFault → Rose (D.faults dialer.old) (D.faults dialer.new) }
-    ensures steady { OnOk result (D.faults dialer.new ≡ D.faults dialer.old) }
+    ensures steady { result ≢ Err CallError.LinkFault → D.faults dialer.new ≡ D.faults dialer.old }
     ensures later { D.faults dialer.old ≤ D.faults dialer.new }
 {
     match dialer.ask(host, port, request) {
@@ -76,7 +77,7 @@ pub(crate) fn ask_url<M: Message, D: Dialer>(
     ensures asks { Asks M.at (host_text (host_or_empty url.now)) (unwrap_or url.now.port 80) request.now
         result (D.asked dialer.old) (D.asked dialer.new) }
     ensures cause { result ≡ Err CallError.LinkFault → Rose (D.faults dialer.old) (D.faults dialer.new) }
-    ensures steady { OnOk result (D.faults dialer.new ≡ D.faults dialer.old) }
+    ensures steady { result ≢ Err CallError.LinkFault → D.faults dialer.new ≡ D.faults dialer.old }
     ensures later { D.faults dialer.old ≤ D.faults dialer.new }
 {
     let answer = ask(alloc, dialer, host_text(url), port_of(url), request);
@@ -93,7 +94,7 @@ pub(crate) fn ask_server<M: Message, D: Dialer>(
     ensures asks { Asks M.at (dialed_host server) (port_at server) request.now result (D.asked dialer.old)
         (D.asked dialer.new) }
     ensures cause { result ≡ Err CallError.LinkFault → Rose (D.faults dialer.old) (D.faults dialer.new) }
-    ensures steady { OnOk result (D.faults dialer.new ≡ D.faults dialer.old) }
+    ensures steady { result ≢ Err CallError.LinkFault → D.faults dialer.new ≡ D.faults dialer.old }
     ensures later { D.faults dialer.old ≤ D.faults dialer.new }
 {
     let addr = server.addr();

@@ -18,7 +18,7 @@ use path_pkg::unix::PathTransformer;
 ///
 /// A call that asks adds exactly one row to the record of its dialer, and its answer is that call resumed
 /// with the reply of that row (`ParseError`, `Status`); it is `LinkFault` only where the dialer's count of
-/// faults rose. Want of memory may hide each.
+/// faults rose, and every other answer leaves that count as it was. Want of memory may hide each.
 pub trait Client {
     /// Its parts: whom it asks, under which token, with which toolchains, and its dialer's record and count.
     ghost seen: { Self → ClientParts };

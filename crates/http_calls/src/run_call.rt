@@ -1,6 +1,6 @@
 //! The call that asks a job's server to run it.
-ghost use Rattle.std.specs.Prelude.{◌≡◌, ◌≤◌, ◌^◌, ◌⊎◌, ◌↔◌, Ok, Err, Result, ⊤, IsErr, List, ℕ, IfOk, IfErr};
-ghost use Rattle.std.specs.Prelude.{length, map, string_bytes};
+ghost use Rattle.std.specs.Prelude.{◌≡◌, ◌≤◌, ◌<◌, ◌^◌, ◌⊎◌, ◌↔◌, Ok, Err, Result, ⊤, IsErr, List, ℕ};
+ghost use Rattle.std.specs.Prelude.{IfOk, IfErr, OnOk, length, map, string_bytes};
 ghost use Rattle.dist_types.specs.declared.token_error.TokenError.{TokenError};
 ghost use Rattle.dist_wire.specs.Reading as wire;
 ghost use Rattle.dist_wire.specs.Written as spelling;
@@ -100,6 +100,8 @@ impl RunCall {
         ensures err { IfErr result (λ e. (e ≡ CallError.Memory) ⊎ ((e ≡ CallError.HeadTooLong)
             × (2 ^ 32 ≤ length (spelling.run_text
             (record { command = command; outputs = map string_bytes outputs.items }))))) }
+        ensures low { OnOk result (length (spelling.run_text
+            (record { command = command; outputs = map string_bytes outputs.items })) < 2 ^ 32) }
     {
         let outputs = names_of(alloc, outputs)?;
         let run = RunJobHttpRequest { command, outputs };

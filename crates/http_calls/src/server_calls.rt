@@ -239,6 +239,7 @@ pub(crate) fn run_request(
         → IsWithinLimits (run_with (addr_text server) token.now job run.now inputs.now)
         → (verdict : ℕ → List ℕ → Result ⊤ TokenError) → verdict job.0 token.now ≡ Ok tt
         → AsksRun verdict bytes job run.now inputs.now) }
+    ensures low { OnOk result (length (spelling.run_text run.now) < 2 ^ 32) }
     ensures err { IfErr result (λ e. (e ≡ CallError.Memory)
         ⊎ ((e ≡ CallError.HeadTooLong) × (2 ^ 32 ≤ length (spelling.run_text run.now)))) }
 {

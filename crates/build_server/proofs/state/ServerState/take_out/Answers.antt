@@ -32,6 +32,7 @@ returns-in-Ok g c = record {
       c.in-Ok.ensures.in_step (record {
         capacity = c.read.ensures.at.1;
         path = c.read.ensures.at.0;
+        others = c.read.ensures.others;
         later = c.read.ensures.later;
       }) c.new-in-Ok.ensures.taken;
 }
