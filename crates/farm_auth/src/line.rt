@@ -1,5 +1,6 @@
 //! The line that a command for an authority writes.
-ghost use Rattle.std.specs.Prelude.{◌≡◌, ◌≢◌, ◌⊎◌, Some, None, IfOk, IfErr, OnOk, OnErr, option_map, string_bytes};
+ghost use Rattle.std.specs.Prelude.{◌≡◌, ◌≢◌, ◌⊎◌, Some, None, IfOk, IfErr, OnOk, OnErr};
+ghost use Rattle.std.specs.Prelude.{option_map, string_bytes};
 ghost use Rattle.rand_core.specs.Stream.{fill_bytes};
 ghost use Rattle.dist_token.specs.Verdict.{bytes_of};
 ghost use Rattle.farm_auth.specs.Line.{random_line, token_line, auth_line, stream_left, IsLineFault};
