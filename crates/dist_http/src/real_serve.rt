@@ -40,6 +40,7 @@ impl<G> RealServe<G> {
         requires serves { ServerCall.IsAlwaysCallable server }
         ensures starts { result.starts
             ≡ record { random = random; cpus = cpus; limit = None; timeout_ms = 30000 } }
+        ensures faults { result.faults ≡ 0 }
     {
         RealServe::with_starts(scheduler, server, Starts::new(random, cpus))
     }
@@ -49,6 +50,7 @@ impl<G> RealServe<G> {
         requires schedules { SchedulerCall.IsAlwaysCallable scheduler }
         requires serves { ServerCall.IsAlwaysCallable server }
         ensures starts { result.starts ≡ starts }
+        ensures faults { result.faults ≡ 0 }
     {
         RealServe {
             scheduler,

@@ -1,5 +1,6 @@
 //! The line that a command for an authority writes.
-ghost use Rattle.std.specs.Prelude.{◌≡◌, ◌⊎◌, Some, None, IfOk, IfErr, OnOk, option_map, string_bytes};
+ghost use Rattle.std.specs.Prelude.{◌≡◌, ◌≢◌, ◌⊎◌, Some, None, IfOk, IfErr, OnOk, OnErr};
+ghost use Rattle.std.specs.Prelude.{option_map, string_bytes};
 ghost use Rattle.rand_core.specs.Stream.{fill_bytes};
 ghost use Rattle.dist_token.specs.Verdict.{bytes_of};
 ghost use Rattle.farm_auth.specs.Line.{random_line, token_line, auth_line, stream_left, IsLineFault};
@@ -20,8 +21,9 @@ fn random_bytes<R: Rng>(
     random: &mut R,
     num_bytes: usize,
 ) -> Result<Vec<u8>, AllocError>
-    ensures { IfOk result (λ bytes. (bytes.items, R.stream random.new) ≡ fill_bytes num_bytes
+    ensures bytes { IfOk result (λ bytes. (bytes.items, R.stream random.new) ≡ fill_bytes num_bytes
         (R.stream random.old)) }
+    ensures undrawn { OnErr result (R.stream random.new ≡ R.stream random.old) }
 {
     let mut bytes = Vec::new(alloc);
     bytes.resize(num_bytes, 0)?;
@@ -38,6 +40,8 @@ fn random_line<R: Rng>(
 ) -> Result<String, AllocError>
     ensures line { IfOk result (λ line. string_bytes line ≡ random_line num_bytes (R.stream random.old)) }
     ensures left { OnOk result (R.stream random.new ≡ (fill_bytes num_bytes (R.stream random.old)).1) }
+    ensures drawn { (R.stream random.new ≡ R.stream random.old)
+        ⊎ (R.stream random.new ≡ (fill_bytes num_bytes (R.stream random.old)).1) }
 {
     let bytes = random_bytes(alloc, random, num_bytes)?;
     let mut line = URL_SAFE_NO_PAD.encode(alloc, &bytes)?;
@@ -84,7 +88,7 @@ fn token_line(alloc: Global, secret_key: &str, server_id: ServerId) -> Result<St
 }
 
 /// The line that a command for an authority writes. Refused where its key is not base64url, and for want
-/// of memory.
+/// of memory; a refusal draws nothing from the stream, and want of memory nothing or what the line takes.
 pub fn auth_line<R: Rng>(
     alloc: Global,
     auth: &AuthSubcommand,
@@ -94,6 +98,9 @@ pub fn auth_line<R: Rng>(
     ensures left { OnOk result (R.stream random.new ≡ stream_left auth.now (R.stream random.old)) }
     ensures err { IfErr result (λ e. (e ≡ FarmFault.Memory)
         ⊎ ((auth_line auth.now (R.stream random.old) ≡ None) × IsLineFault e)) }
+    ensures drawn { (R.stream random.new ≡ R.stream random.old)
+        ⊎ (R.stream random.new ≡ stream_left auth.now (R.stream random.old)) }
+    ensures undrawn { IfErr result (λ e. e ≢ FarmFault.Memory → R.stream random.new ≡ R.stream random.old) }
 {
     match auth {
         AuthSubcommand::Base64 { num_bytes } => match random_line(alloc, random, *num_bytes) {

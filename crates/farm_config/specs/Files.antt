@@ -1,5 +1,5 @@
 -- Files by name, and what those in memory show.
-use Rattle.std.specs.Prelude.{ℕ, List, find, Option, option_map}
+use Rattle.std.specs.Prelude.{ℕ, List, find, Option, None, option_map}
 use Rattle.std.specs.Str.{bytes_eq}
 use Rattle.farm_config.specs.declared.files.NamedFile.{NamedFile}
 use Rattle.farm_config.specs.declared.files.MemFiles.{MemFiles}
@@ -25,6 +25,10 @@ files_calls d = d.calls
 -- how often reading failed
 abbrev pub files_faults : MemFiles → ℕ
 files_faults d = d.faults
+
+-- the files of the system, which are not told
+abbrev pub real_files : {S F D : Type 0} → RealFiles S F D → Option (List NamedFile)
+real_files d = None
 
 -- how often reading a file of the system failed
 abbrev pub real_files_faults : {S F D : Type 0} → RealFiles S F D → ℕ

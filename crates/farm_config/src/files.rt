@@ -2,7 +2,7 @@
 ghost use Rattle.std.specs.Prelude.{◌≡◌, ◌≢◌, ◌≤◌, ◌↔◌, ◌⊎◌, List, ℕ, Option, Some, None, Err, IfOk, IfSome};
 ghost use Rattle.std.specs.Prelude.{OnOk, length, option_map};
 ghost use Rattle.dist_types.specs.Cause.{Rose, counted};
-ghost use Rattle.farm_config.specs.Files.{file_at, real_files_faults};
+ghost use Rattle.farm_config.specs.Files.{file_at, real_files, real_files_faults};
 ghost use Rattle.farm_config.specs.declared.files.NamedFile.{NamedFile};
 
 use dist_types::fault::raise;
@@ -205,8 +205,23 @@ impl<S: fs::Files + Drop> Files for RealFiles<S> {
     ghost faults = { λ d. d.faults };
 
     /// The bytes, at most 2,147,483,648; a longer file is a fault, and so are a folder and a file that may
-    /// not be read.
-    fn read(&mut self, name: &str) -> Result<Vec<u8>, FileFault> {
+    /// not be read. Each fault is counted once.
+    fn read(&mut self, name: &str) -> Result<Vec<u8>, FileFault>
+        ensures ok { IfOk result (λ bytes. IfSome None (λ told. file_at name.now told ≡ Some bytes.items)) }
+        ensures missing { IfSome None (λ told.
+            (result ≡ Err FileFault.Missing) ↔ (file_at name.now told ≡ None)) }
+        ensures kept { real_files self.new ≡ real_files self.old }
+        ensures steady { OnOk result (real_files_faults self.new ≡ real_files_faults self.old) }
+        ensures uncounted { result ≢ Err FileFault.Failed
+            → real_files_faults self.new ≡ real_files_faults self.old }
+        ensures later { real_files_faults self.old ≤ real_files_faults self.new }
+        ensures cause { result ≡ Err FileFault.Failed
+            → Rose (real_files_faults self.old) (real_files_faults self.new) }
+
+        ensures counted { result ≡ Err FileFault.Failed
+            → real_files_faults self.new ≡ counted (real_files_faults self.old) }
+        ensures short { IfOk result (λ bytes. length bytes.items ≤ 2147483648) }
+    {
         match contents(self.alloc, &self.system, name) {
             Ok(bytes) => Ok(bytes),
             Err(FileFault::Missing) => Err(FileFault::Missing),

@@ -133,8 +133,8 @@ fn command_of<D: Files>(
 }
 
 /// The command that words ask for; the first is the program's name. Usage exactly where they stand in no
-/// row, unless memory ran out. Where a command has a configuration, its file is read, once, and its first
-/// fault is told.
+/// row, unless memory ran out, and then the count of faults is as it was. Where a command has a
+/// configuration, the first fault of its file is told.
 pub fn try_parse_from<D: Files>(
     alloc: Global,
     words: &[String],

@@ -1,5 +1,6 @@
 //! The connections that a listener of the system accepts, as tasks.
 ghost use Rattle.std.specs.Prelude.{◌≡◌};
+ghost use Rattle.std.specs.Net.Socket.{socket_flowinfo, socket_scope_id};
 ghost use Rattle.http_connections.specs.Socket.{addr_of};
 
 use crate::served::Served;
@@ -32,9 +33,11 @@ pub struct Accepting<'a, R: Clock> {
     timeout_ms: u64,
 }
 
-/// An address as the system takes it.
+/// An address as the system takes it: its IP and its port, without a flow label and without a scope.
 pub fn socket_addr(addr: Addr) -> SocketAddr
-    ensures { addr_of result ≡ addr }
+    ensures address { addr_of result ≡ addr }
+    ensures no_label { socket_flowinfo result ≡ 0 }
+    ensures no_scope { socket_scope_id result ≡ 0 }
 {
     match addr {
         Addr::V4(octets, port) => SocketAddr::new(IpAddr::V4(Ipv4Addr::from_octets(octets)), port),

@@ -1,4 +1,5 @@
 pub mod Checks
+pub mod Chosen
 pub mod Connection
 pub mod Replied
 pub mod Requested

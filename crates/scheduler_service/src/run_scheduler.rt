@@ -1,4 +1,9 @@
 //! A scheduler on a runtime of the system: its listener, its checks and its workers.
+ghost use Rattle.std.specs.Prelude.{◌≡◌, Some, IfOk};
+ghost use Rattle.dist_types.specs.Real.{real_asked, real_dialer_faults};
+ghost use Rattle.dist_token.specs.Verdict.{bytes_of};
+ghost use Rattle.scheduler_service.specs.Chosen.{server_check_of, IsChosen};
+
 use crate::checks::{ClientCheck, ServerCheck};
 use crate::workers::{Kit, serve_scheduler_workers};
 use base64::engine::general_purpose::URL_SAFE_NO_PAD;
@@ -21,15 +26,21 @@ use std::thread::Threads;
 use std::time::Clock;
 
 /// The key that a text in base64url says.
-fn key_of(alloc: Global, text: &str) -> Result<Vec<u8>, StartFault> {
+#[tactic(auto, unfolding(dist_token::specs::Verdict::bytes_of, base64::specs::GeneralPurpose::decoded_of))]
+fn key_of(alloc: Global, text: &str) -> Result<Vec<u8>, StartFault>
+    ensures { IfOk result (λ key. bytes_of text.now ≡ Some key.items) }
+{
     match URL_SAFE_NO_PAD.decode(alloc, text.as_bytes()) {
         Ok(key) => Ok(key),
         Err(_) => Err(StartFault),
     }
 }
 
-/// The check of servers' tokens that a configuration chooses.
-fn server_check(alloc: Global, auth: &ServerAuth) -> Result<ServerCheck, StartFault> {
+/// The check of servers' tokens that a configuration chooses. Refused where memory ran out, or where its key
+/// is not base64url.
+fn server_check(alloc: Global, auth: &ServerAuth) -> Result<ServerCheck, StartFault>
+    ensures { IfOk result (λ check. server_check_of auth.now ≡ Some check) }
+{
     match auth {
         ServerAuth::Insecure => {
             let token = String::from_str(alloc, INSECURE_DIST_SERVER_TOKEN)?;
@@ -54,7 +65,9 @@ type SchedulerDialer<'a, R> = TcpDialer<LimitedNet<'a, R>>;
 fn client_check<'a, R: Net + Clock>(
     sharing: &Sharing<'a, R>,
     auth: &ClientAuth,
-) -> Result<ClientCheck<SchedulerDialer<'a, R>>, StartFault> {
+) -> Result<ClientCheck<SchedulerDialer<'a, R>>, StartFault>
+    ensures { IfOk result (λ check. IsChosen real_asked real_dialer_faults auth.now check) }
+{
     match auth {
         ClientAuth::Insecure => {
             let token = String::from_str(sharing.alloc, INSECURE_DIST_CLIENT_TOKEN)?;
@@ -90,7 +103,9 @@ type SchedulerKit<'a, R> = Kit<
 fn scheduler_kit<'a, R: Net + Clock>(
     sharing: &Sharing<'a, R>,
     auth: &ClientAuth,
-) -> Result<SchedulerKit<'a, R>, StartFault> {
+) -> Result<SchedulerKit<'a, R>, StartFault>
+    ensures { IfOk result (λ kit. IsChosen real_asked real_dialer_faults auth.now kit.client) }
+{
     let client = client_check(sharing, auth)?;
     Ok(Kit {
         tasks: sharing.tasks(),
