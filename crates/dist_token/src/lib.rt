@@ -13,14 +13,8 @@ pub mod laws;
 pub mod mac;
 mod parts;
 pub mod proxy;
-#[cfg(test)]
-mod proxy_tests;
 mod rounds;
 pub mod server_token;
 pub mod signing_key;
-#[cfg(test)]
-mod tests;
 mod token;
-#[cfg(test)]
-mod vectors;
 mod verdict;
