@@ -1,6 +1,6 @@
-"""Writes crates/dist_token/src/vectors.rt: tokens made by Python's hmac, hashlib and base64.
+"""Writes crates/token_tests/src/vectors.rt: tokens made by Python's hmac, hashlib and base64.
 
-    python3 vectors/make.py > crates/dist_token/src/vectors.rt
+    python3 vectors/make.py > crates/token_tests/src/vectors.rt
 
 The random numbers come from a fixed seed, so each run writes the same table. Every row is checked once
 more before it is written: the token is cut at its dots, decoded, and its MAC compared by
@@ -58,7 +58,7 @@ def main():
     print("//! them. The file is written by `vectors/make.py`.")
     print()
     print("/// A key in hex, a job and its token.")
-    print(f"pub const TOKENS: [(&str, u64, &str); {ROWS}] = [")
+    print("pub(crate) const TOKENS: &[(&str, u64, &str)] = &[")
     for key, job, text in rows():
         print("    (")
         print(f'        "{key.hex()}",')
