@@ -159,8 +159,13 @@ store_refused (error.Io fault) capacity tc bytes gone n old new before after g e
       untouched = λ u. absurd u;
     })
 store_refused error.Memory capacity tc bytes gone n old new before after g e unlisted distinct h =
-    let w = went tc (capacity - length bytes) old new n unlisted distinct e h in
-    inr (take n (ids (dropped (capacity - length bytes) old)), w.front, w.rest)
+    let w = went tc (capacity - length bytes) old new n unlisted distinct e h.0 in
+    inr (
+      take n (ids (dropped (capacity - length bytes) old)),
+      subst (λ v. IsFrontOfDropped v (take n (ids (dropped (capacity - length bytes) old))))
+          (sym (admitted capacity old tc bytes h.1)) w.front,
+      w.rest,
+    )
 store_refused error.FileNotInCache capacity tc bytes gone n old new before after g e unlisted distinct h =
     absurd h
 store_refused error.PendingSpace capacity tc bytes gone n old new before after g e unlisted distinct h =
@@ -182,7 +187,7 @@ store_shorter error.FileTooLarge capacity tc bytes old new before after unlisted
 store_shorter (error.Io fault) capacity tc bytes old new before after unlisted distinct h =
     (went tc (capacity - length bytes) old new (length old - length new) unlisted distinct refl h.0).short
 store_shorter error.Memory capacity tc bytes old new before after unlisted distinct h =
-    (went tc (capacity - length bytes) old new (length old - length new) unlisted distinct refl h).short
+    (went tc (capacity - length bytes) old new (length old - length new) unlisted distinct refl h.0).short
 store_shorter error.FileNotInCache capacity tc bytes old new before after unlisted distinct h = absurd h
 store_shorter error.PendingSpace capacity tc bytes old new before after unlisted distinct h = absurd h
 store_shorter error.BadKey capacity tc bytes old new before after unlisted distinct h = absurd h

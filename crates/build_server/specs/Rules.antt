@@ -95,11 +95,6 @@ archives_after_submit (Some tc) (submitted.Stored size dropped) archives =
 archives_after_submit tc (submitted.Folder dropped) archives = without_ids dropped archives
 archives_after_submit tc other archives = archives
 
--- some of those went that a store of these bytes would drop
-abbrev pub MayDrop : ℕ → List ℕ → Archives → List (List ℕ) → Type 0
-MayDrop capacity bytes archives gone = (rest : List (List ℕ))
-    × (ids (dropped (capacity - length bytes) archives) ≡ gone ++ rest)
-
 -- what no call changes: the capacity, the path, and each file outside of the archives' directory, where files
 -- are told; the folder's count of faults never falls
 pub record SamePlace (old new : Books) : Type 0 where
@@ -129,11 +124,12 @@ pub record IsSubmitted (job : JobId) (bytes : List ℕ) (old new : Books) (outco
   pub step : NotFolder outcome → KeepsStep old new
   pub place : SamePlace old new
 
--- What want of memory leaves of a submission: all as it was, or some of those gone that the store would drop.
+-- What want of memory leaves of a submission: the archives as they were, or, where a store was due, a front of
+-- those gone that it would drop.
 pub record SubmitStarved (job : JobId) (bytes : List ℕ) (old new : Books) : Type 0 where
   pub held : new.held ≡ old.held
   pub archives : (new.archives ≡ old.archives)
-      ⊎ ((gone : List (List ℕ)) × MayDrop old.capacity bytes old.archives gone
+      ⊎ ((gone : List (List ℕ)) × IsFrontOfDropped (submit_verdict old (held_for job old.held) bytes) gone
       × (new.archives ≡ without_ids gone old.archives))
   pub place : SamePlace old new
 

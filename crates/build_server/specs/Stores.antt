@@ -7,7 +7,7 @@ use Rattle.lru_disk_cache.specs.Held.{Held, Holds}
 use Rattle.lru_disk_cache.specs.declared.error.Error.{Error}
 use Rattle.lru_disk_cache.specs.declared.error.Error.TheVariants as error
 use Rattle.build_server.specs.Books.{without_ids, Fails}
-use Rattle.build_server.specs.Rules.{store_verdict, MayDrop, Comes, archives_after_submit, IsUnstored}
+use Rattle.build_server.specs.Rules.{store_verdict, IsFrontOfDropped, Comes, archives_after_submit, IsUnstored}
 use Rattle.build_server.specs.declared.fault.ServerFault.{ServerFault}
 use Rattle.build_server.specs.declared.fault.ServerFault.TheVariants as fault
 use Rattle.build_server.specs.declared.run.Taken.{Taken}
@@ -22,16 +22,18 @@ pub record IsStored (capacity : ℕ) (tc bytes : List ℕ) (outcome : Submitted)
   pub archives : new ≡ archives_after_submit (Some tc) outcome old
   pub untouched : IsUnstored outcome → after ≡ before
 
--- what want of memory leaves of a store: the list as it was, or some of those gone that it would drop
-abbrev pub StoreStarved : ℕ → List ℕ → Archives → Archives → Type 0
-StoreStarved capacity bytes old new =
-    (new ≡ old) ⊎ ((gone : List (List ℕ)) × MayDrop capacity bytes old gone × (new ≡ without_ids gone old))
+-- What want of memory leaves of a store: the list as it was, or, where the verdict admits, a front of those gone
+-- that it would drop.
+abbrev pub StoreStarved : ℕ → List ℕ → List ℕ → Archives → Archives → Type 0
+StoreStarved capacity tc bytes old new =
+    (new ≡ old) ⊎ ((gone : List (List ℕ)) × IsFrontOfDropped (store_verdict capacity old tc bytes) gone
+    × (new ≡ without_ids gone old))
 
 abbrev pub Stores : ℕ → List ℕ → List ℕ → Result Submitted ServerFault → Archives → Archives → Held → Held
     → Type 0
 Stores capacity tc bytes (Ok outcome) old new before after =
     IsStored capacity tc bytes outcome old new before after
-Stores capacity tc bytes (Err fault.Memory) old new before after = StoreStarved capacity bytes old new
+Stores capacity tc bytes (Err fault.Memory) old new before after = StoreStarved capacity tc bytes old new
 Stores capacity tc bytes (Err other) old new before after = ⊥
 
 -- how a store may be refused

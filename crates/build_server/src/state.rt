@@ -86,7 +86,8 @@ impl<F: Folder> ServerState<F> {
     /// or Memory where the update says so, and nothing changes. Else, in this order: None where the job is
     /// not held, Listed where the archive is listed, Digest where its SHA-256 is not the toolchain's id,
     /// Capacity where it is larger than the cache, and Stored; Folder where the folder failed, which some of
-    /// those may have gone before that the store would drop. Want of memory may leave the same.
+    /// those may have gone before that the store would drop. Want of memory leaves the archives as they were,
+    /// or, where a store was due, the same.
     pub fn end_submit(
         &mut self,
         submit: Submit,
