@@ -27,12 +27,14 @@ struct Peer {
 
 /// A check that asks this peer, which gives these replies.
 fn asking(
+    rt: &impl Abort,
     alloc: Global,
     peer: &Peer,
     replies: &[&str],
 ) -> Result<ProxyTokenCheck<MemDialer>, Fail> {
     let dialer = dialer(alloc, replies, Vec::from_slice(alloc, peer.fails)?)?;
     let url = Url::parse(alloc, peer.url)?;
+    assert_eq!(rt; url.scheme(), "http");
     Ok(ProxyTokenCheck::new(alloc, dialer, url, peer.cache_secs))
 }
 
@@ -70,7 +72,7 @@ fn kept_for_sixty_seconds(rt: HostRuntime) -> Result<(), Fail> {
         cache_secs: Some(60),
         fails: &[],
     };
-    let mut check = asking(rt.alloc(), &peer, &[YES, YES, NO, YES])?;
+    let mut check = asking(&rt, rt.alloc(), &peer, &[YES, YES, NO, YES])?;
     keep(&rt, &mut check);
     compare_first(&rt, &check);
     let shown = check.visible(&TokenError::LinkFault)?;
@@ -116,7 +118,7 @@ fn refused_or_not_kept(rt: HostRuntime) -> Result<(), Fail> {
         cache_secs: None,
         fails: &[9],
     };
-    let mut check = asking(rt.alloc(), &peer, &replies)?;
+    let mut check = asking(&rt, rt.alloc(), &peer, &replies)?;
     refuse(&rt, &mut check);
     compare_tenth(&rt, &check);
     Ok(())
