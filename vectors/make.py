@@ -58,7 +58,7 @@ def main():
     print("//! them. The file is written by `vectors/make.py`.")
     print()
     print("/// A key in hex, a job and its token.")
-    print("pub(crate) const TOKENS: &[(&str, u64, &str)] = &[")
+    print(f"pub(crate) const TOKENS: [(&str, u64, &str); {ROWS}] = [")
     for key, job, text in rows():
         print("    (")
         print(f'        "{key.hex()}",')

@@ -17,25 +17,19 @@ fn dialer(alloc: Global, replies: &[&str], fails: Vec<u64>) -> Result<MemDialer,
     Ok(MemDialer::new(alloc, all, fails))
 }
 
-/// How a check is made: where its peer is, for how long it keeps an answer, and which of its calls fail.
-#[derive(Clone, Copy)]
-struct Peer {
-    url: &'static str,
+/// A check that asks the peer at this URL, which gives these replies, and the calls of these numbers fail.
+fn asking<R: Abort + AllocGlobal>(
+    rt: &R,
+    at: &str,
     cache_secs: Option<u64>,
-    fails: &'static [u64],
-}
-
-/// A check that asks this peer, which gives these replies.
-fn asking(
-    rt: &impl Abort,
-    alloc: Global,
-    peer: &Peer,
     replies: &[&str],
+    fails: Vec<u64>,
 ) -> Result<ProxyTokenCheck<MemDialer>, Fail> {
-    let dialer = dialer(alloc, replies, Vec::from_slice(alloc, peer.fails)?)?;
-    let url = Url::parse(alloc, peer.url)?;
+    let alloc = rt.alloc();
+    let dialer = dialer(alloc, replies, fails)?;
+    let url = Url::parse(alloc, at)?;
     assert_eq!(rt; url.scheme(), "http");
-    Ok(ProxyTokenCheck::new(alloc, dialer, url, peer.cache_secs))
+    Ok(ProxyTokenCheck::new(alloc, dialer, url, cache_secs))
 }
 
 const YES: &str = "HTTP/1.1 200 OK\r\nContent-Length: 0\r\n\r\n";
@@ -67,12 +61,9 @@ fn compare_first(rt: &impl Abort, check: &ProxyTokenCheck<MemDialer>) {
 
 #[test]
 fn kept_for_sixty_seconds(rt: HostRuntime) -> Result<(), Fail> {
-    let peer = Peer {
-        url: "http://proxy/auth?x=1",
-        cache_secs: Some(60),
-        fails: &[],
-    };
-    let mut check = asking(&rt, rt.alloc(), &peer, &[YES, YES, NO, YES])?;
+    let replies = [YES, YES, NO, YES];
+    let none = Vec::new(rt.alloc());
+    let mut check = asking(&rt, "http://proxy/auth?x=1", Some(60), &replies, none)?;
     keep(&rt, &mut check);
     compare_first(&rt, &check);
     let shown = check.visible(&TokenError::LinkFault)?;
@@ -113,12 +104,9 @@ fn refused_or_not_kept(rt: HostRuntime) -> Result<(), Fail> {
         "HTTP/1.1 299 Odd\r\n\r\n",
         YES,
     ];
-    let peer = Peer {
-        url: "http://[::1]:8080/",
-        cache_secs: None,
-        fails: &[9],
-    };
-    let mut check = asking(&rt, rt.alloc(), &peer, &replies)?;
+    let mut fails = Vec::new(rt.alloc());
+    fails.push(9)?;
+    let mut check = asking(&rt, "http://[::1]:8080/", None, &replies, fails)?;
     refuse(&rt, &mut check);
     compare_tenth(&rt, &check);
     Ok(())

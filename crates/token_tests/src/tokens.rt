@@ -172,7 +172,7 @@ fn assert_vector(
 #[test]
 fn tokens_of_another_program(rt: HostRuntime) -> Result<(), Fail> {
     for (key, job, token) in TOKENS {
-        assert_vector(&rt, rt.alloc(), key, *job, token)?;
+        assert_vector(&rt, rt.alloc(), key, job, token)?;
     }
     Ok(())
 }

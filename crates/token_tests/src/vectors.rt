@@ -2,7 +2,7 @@
 //! them. The file is written by `vectors/make.py`.
 
 /// A key in hex, a job and its token.
-pub(crate) const TOKENS: &[(&str, u64, &str)] = &[
+pub(crate) const TOKENS: [(&str, u64, &str); 56] = [
     (
         "78",
         0,
