@@ -12,6 +12,7 @@ use dist_types::text::Bytes;
 use sched::pass::Pass;
 use sched::scheduler::Scheduler;
 use std::alloc::{AllocError, Global};
+use std::process::Abort;
 use std::sync::Wait;
 use std::test::Fail;
 
@@ -21,13 +22,32 @@ pub type TestScheduler = Scheduler<JWTJobAuthorizer>;
 /// A status request.
 pub const STATUS: &[u8] = b"GET /api/v1/scheduler/status HTTP/1.1\r\n\r\n";
 
+/// A scheduler with its first pass, and what it asks build servers through.
+#[derive(Drop)]
+pub struct Desk {
+    scheduler: TestScheduler,
+    pass: Pass,
+    dialer: MemDialer,
+}
+
+impl Desk {
+    /// A scheduler whose first job has the id `base`, over a dialer with this reply.
+    pub fn new(alloc: Global, base: u64, reply: &[u8]) -> Result<Self, Fail> {
+        let dialer = dialer(alloc, reply)?;
+        let (scheduler, pass) = TestScheduler::new(alloc, base)?;
+        Ok(Desk {
+            scheduler,
+            pass,
+            dialer,
+        })
+    }
+}
+
 /// Serves one connection from port 40000, of a scheduler whose clients show `c1` and whose servers `s1`.
 pub fn serve<R: Wait, L: Link>(
     rt: &R,
     alloc: Global,
-    scheduler: &TestScheduler,
-    pass: &mut Pass,
-    dialer: &mut MemDialer,
+    desk: &mut Desk,
     link: &mut L,
 ) -> Result<Served, AllocError> {
     let peer = Addr::V4([127, 0, 0, 1], 40000);
@@ -37,11 +57,11 @@ pub fn serve<R: Wait, L: Link>(
     let served = serve_scheduler_connection(
         rt,
         alloc,
-        scheduler,
-        pass,
+        &desk.scheduler,
+        &mut desk.pass,
         link,
         peer,
-        dialer,
+        &mut desk.dialer,
         &mut clock,
         &mut client,
         &server,
@@ -88,36 +108,71 @@ fn holds(bytes: &[u8], text: &[u8]) -> bool {
 }
 
 /// The reply to one request.
-fn reply<R: Wait>(
-    rt: &R,
-    alloc: Global,
-    scheduler: &TestScheduler,
-    pass: &mut Pass,
-    dialer: &mut MemDialer,
-    request: &[u8],
-) -> Result<MemLink, Fail> {
+fn reply<R: Wait>(rt: &R, alloc: Global, desk: &mut Desk, request: &[u8]) -> Result<MemLink, Fail> {
     let mut link = link(alloc, request, &[], &[])?;
-    match serve(rt, alloc, scheduler, pass, dialer, &mut link)? {
+    match serve(rt, alloc, desk, &mut link)? {
         Served::Answered => Ok(link),
         _ => Err(Fail::from("not answered")),
     }
+}
+
+/// A heartbeat is answered.
+fn beat<R: Wait + Abort>(rt: &R, alloc: Global, desk: &mut Desk) -> Result<(), Fail> {
+    let beat = reply(rt, alloc, desk, BEAT)?;
+    assert!(rt; beat.sink().bytes().starts_with(b"HTTP/1.1 200 OK\r\n"));
+    Ok(())
+}
+
+/// An allocation is answered with the fault of its server.
+fn refuse<R: Wait + Abort>(rt: &R, alloc: Global, desk: &mut Desk) -> Result<(), Fail> {
+    let refused = reply(rt, alloc, desk, ALLOC)?;
+    let bytes = refused.sink().bytes();
+    assert!(rt; bytes.starts_with(b"HTTP/1.1 500 Internal Server Error\r\n"));
+    assert!(rt; holds(bytes, b"\"description\":\"Error 503\""));
+    assert!(rt; holds(bytes, b"job un-assigned from the server"));
+    Ok(())
 }
 
 /// A server that answers 503 to an assignment: its job is un-assigned, and the reply tells both.
 #[test]
 fn refused_assignment(rt: HostRuntime) -> Result<(), Fail> {
     let alloc = rt.alloc();
-    let (scheduler, mut pass) = TestScheduler::new(alloc, 4096)?;
-    let mut dialer = dialer(alloc, b"HTTP/1.1 503 Service Unavailable\r\n\r\n")?;
-    let beat = reply(&rt, alloc, &scheduler, &mut pass, &mut dialer, BEAT)?;
-    assert!(&rt; beat.sink().bytes().starts_with(b"HTTP/1.1 200 OK\r\n"));
-    let refused = reply(&rt, alloc, &scheduler, &mut pass, &mut dialer, ALLOC)?;
-    let bytes = refused.sink().bytes();
-    assert!(&rt; bytes.starts_with(b"HTTP/1.1 500 Internal Server Error\r\n"));
-    assert!(&rt; holds(bytes, b"\"description\":\"Error 503\""));
-    assert!(&rt; holds(bytes, b"job un-assigned from the server"));
-    assert_eq!(&rt; pass.count(), 3);
-    assert_eq!(&rt; dialer.asked().len(), 1);
+    let mut desk = Desk::new(alloc, 4096, b"HTTP/1.1 503 Service Unavailable\r\n\r\n")?;
+    beat(&rt, alloc, &mut desk)?;
+    refuse(&rt, alloc, &mut desk)?;
+    assert_eq!(&rt; desk.pass.count(), 3);
+    assert_eq!(&rt; desk.dialer.asked().len(), 1);
+    Ok(())
+}
+
+/// An allocation is answered with the job's place.
+fn allocate<R: Wait + Abort>(rt: &R, alloc: Global, desk: &mut Desk) -> Result<(), Fail> {
+    let given = reply(rt, alloc, desk, ALLOC)?;
+    assert!(rt; given.sink().bytes().starts_with(b"HTTP/1.1 200 OK\r\n"));
+    let place = [
+        0u8, 16, 0, 0, 0, 0, 0, 0, 0, 0, 0, 0, 127, 0, 0, 1, 5, 41, 0,
+    ];
+    assert!(rt; given.sink().bytes().ends_with(place.as_slice()));
+    Ok(())
+}
+
+/// The server of the heartbeat was asked to take the job, and nobody else.
+fn asked_once(rt: &impl Abort, desk: &Desk) {
+    let asked = desk.dialer.asked();
+    assert_eq!(rt; asked.len(), 1);
+    assert_eq!(rt; (asked[0].host.get(), asked[0].port), ("127.0.0.1", 10501));
+    let target = b"POST /api/v1/distserver/assign_job/4096 HTTP/1.1\r\nHost: 127.0.0.1:10501\r\n";
+    assert!(rt; asked[0].request.get().starts_with(target));
+}
+
+/// A status counts one server, one processor and one job.
+fn count<R: Wait + Abort>(rt: &R, alloc: Global, desk: &mut Desk) -> Result<(), Fail> {
+    let mut counted = reply(rt, alloc, desk, STATUS)?;
+    let counts = [
+        1u8, 0, 0, 0, 0, 0, 0, 0, 1, 0, 0, 0, 0, 0, 0, 0, 1, 0, 0, 0, 0, 0, 0, 0,
+    ];
+    assert!(rt; counted.sink().bytes().ends_with(counts.as_slice()));
+    assert_eq!(rt; read_up_to(alloc, &mut counted, 1)?.len(), 0);
     Ok(())
 }
 
@@ -125,26 +180,10 @@ fn refused_assignment(rt: HostRuntime) -> Result<(), Fail> {
 #[test]
 fn assigned(rt: HostRuntime) -> Result<(), Fail> {
     let alloc = rt.alloc();
-    let (scheduler, mut pass) = TestScheduler::new(alloc, 4096)?;
     let ready = b"HTTP/1.1 200 OK\r\nContent-Length: 5\r\n\r\n\x01\0\0\0\0";
-    let mut dialer = dialer(alloc, ready)?;
-    reply(&rt, alloc, &scheduler, &mut pass, &mut dialer, BEAT)?;
-    let given = reply(&rt, alloc, &scheduler, &mut pass, &mut dialer, ALLOC)?;
-    assert!(&rt; given.sink().bytes().starts_with(b"HTTP/1.1 200 OK\r\n"));
-    let place = [
-        0u8, 16, 0, 0, 0, 0, 0, 0, 0, 0, 0, 0, 127, 0, 0, 1, 5, 41, 0,
-    ];
-    assert!(&rt; given.sink().bytes().ends_with(place.as_slice()));
-    let asked = dialer.asked();
-    assert_eq!(&rt; asked.len(), 1);
-    assert_eq!(&rt; (asked[0].host.get(), asked[0].port), ("127.0.0.1", 10501));
-    let target = b"POST /api/v1/distserver/assign_job/4096 HTTP/1.1\r\nHost: 127.0.0.1:10501\r\n";
-    assert!(&rt; asked[0].request.get().starts_with(target));
-    let mut counted = reply(&rt, alloc, &scheduler, &mut pass, &mut dialer, STATUS)?;
-    let counts = [
-        1u8, 0, 0, 0, 0, 0, 0, 0, 1, 0, 0, 0, 0, 0, 0, 0, 1, 0, 0, 0, 0, 0, 0, 0,
-    ];
-    assert!(&rt; counted.sink().bytes().ends_with(counts.as_slice()));
-    assert_eq!(&rt; read_up_to(alloc, &mut counted, 1)?.len(), 0);
-    Ok(())
+    let mut desk = Desk::new(alloc, 4096, ready)?;
+    beat(&rt, alloc, &mut desk)?;
+    allocate(&rt, alloc, &mut desk)?;
+    asked_once(&rt, &desk);
+    count(&rt, alloc, &mut desk)
 }

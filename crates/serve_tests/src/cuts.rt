@@ -1,5 +1,5 @@
 //! Cut and lying links: what is replied, and exactly how many bytes are taken.
-use crate::calls::{STATUS, TestScheduler, dialer, link, serve};
+use crate::calls::{Desk, STATUS, link, serve};
 use crate::slow::SlowLink;
 use dist_http::Served;
 use dist_types::source::read_up_to;
@@ -15,10 +15,9 @@ const OK: &[u8] = b"HTTP/1.1 200 OK\r\n";
 
 /// What serving bytes in memory came to: whether it was answered so, and how many bytes were left.
 fn left<R: Wait>(rt: &R, alloc: Global, bytes: &[u8], line: &[u8]) -> Result<(bool, usize), Fail> {
-    let (scheduler, mut pass) = TestScheduler::new(alloc, 1)?;
-    let mut dialer = dialer(alloc, b"")?;
+    let mut desk = Desk::new(alloc, 1, b"")?;
     let mut link = link(alloc, bytes, &[], &[])?;
-    let served = serve(rt, alloc, &scheduler, &mut pass, &mut dialer, &mut link)?;
+    let served = serve(rt, alloc, &mut desk, &mut link)?;
     let answered = served == Served::Answered && link.sink().bytes().starts_with(line);
     let rest = read_up_to(alloc, &mut link, bytes.len())?;
     Ok((answered, rest.len()))
@@ -31,10 +30,9 @@ fn left_slowly<R: Wait>(
     bytes: &[u8],
     line: &[u8],
 ) -> Result<(bool, usize), Fail> {
-    let (scheduler, mut pass) = TestScheduler::new(alloc, 1)?;
-    let mut dialer = dialer(alloc, b"")?;
+    let mut desk = Desk::new(alloc, 1, b"")?;
     let mut link = SlowLink::new(alloc, Vec::from_slice(alloc, bytes)?);
-    let served = serve(rt, alloc, &scheduler, &mut pass, &mut dialer, &mut link)?;
+    let served = serve(rt, alloc, &mut desk, &mut link)?;
     let answered = served == Served::Answered && link.out.starts_with(line);
     Ok((answered, bytes.len().saturating_sub(link.taken())))
 }
@@ -95,16 +93,24 @@ fn long_head(alloc: Global, len: usize) -> Result<Vec<u8>, Fail> {
     Ok(bytes)
 }
 
+/// What serving a head of so many bytes came to, and how many bytes were left.
+fn left_of_head<R: Wait>(
+    rt: &R,
+    alloc: Global,
+    len: usize,
+    line: &[u8],
+) -> Result<(bool, usize), Fail> {
+    let bytes = long_head(alloc, len)?;
+    left(rt, alloc, &bytes, line)
+}
+
 /// A head of 65,536 bytes is read; of one that is longer, 65,537 bytes are taken.
 #[test]
 fn longest_head(rt: HostRuntime) -> Result<(), Fail> {
     let alloc = rt.alloc();
-    let longest = long_head(alloc, 65_536)?;
-    assert_eq!(&rt; left(&rt, alloc, &longest, OK)?, (true, 3));
-    let longer = long_head(alloc, 65_537)?;
-    assert_eq!(&rt; left(&rt, alloc, &longer, BAD_HEAD)?, (true, 3));
-    let far = long_head(alloc, 65_540)?;
-    assert_eq!(&rt; left(&rt, alloc, &far, BAD_HEAD)?, (true, 6));
+    assert_eq!(&rt; left_of_head(&rt, alloc, 65_536, OK)?, (true, 3));
+    assert_eq!(&rt; left_of_head(&rt, alloc, 65_537, BAD_HEAD)?, (true, 3));
+    assert_eq!(&rt; left_of_head(&rt, alloc, 65_540, BAD_HEAD)?, (true, 6));
     Ok(())
 }
 
@@ -115,10 +121,9 @@ fn failing<R: Wait>(
     reads: &[u64],
     writes: &[u64],
 ) -> Result<(Served, usize), Fail> {
-    let (scheduler, mut pass) = TestScheduler::new(alloc, 1)?;
-    let mut dialer = dialer(alloc, b"")?;
+    let mut desk = Desk::new(alloc, 1, b"")?;
     let mut link = link(alloc, STATUS, reads, writes)?;
-    let served = serve(rt, alloc, &scheduler, &mut pass, &mut dialer, &mut link)?;
+    let served = serve(rt, alloc, &mut desk, &mut link)?;
     Ok((served, link.sink().bytes().len()))
 }
 

@@ -7,6 +7,8 @@ mod calls;
 #[cfg(test)]
 mod cuts;
 #[cfg(test)]
+mod drawn;
+#[cfg(test)]
 mod gate;
 #[cfg(test)]
 mod loopback;

@@ -42,7 +42,7 @@ fn counts<R: Net + Clock>(rt: &R, alloc: Global, port: u16) -> Option<SchedulerS
 }
 
 /// A scheduler at this port, which lets everybody in.
-fn config(port: u16) -> SchedulerConfig {
+pub fn config(port: u16) -> SchedulerConfig {
     SchedulerConfig {
         public_addr: Addr::V4([127, 0, 0, 1], port),
         client_auth: ClientAuth::Insecure,

@@ -35,7 +35,7 @@ fn reply<R: Net + Clock>(rt: &R, alloc: Global, port: u16) -> Option<Vec<u8>> {
 }
 
 /// A server at this port, whose scheduler nobody is.
-fn config(alloc: Global, folder: &str, port: u16) -> Result<ServerConfig, Fail> {
+pub fn config(alloc: Global, folder: &str, port: u16) -> Result<ServerConfig, Fail> {
     let Ok(scheduler_url) = Url::parse(alloc, "http://127.0.0.1:1") else {
         return Err(Fail::from("no URL"));
     };
