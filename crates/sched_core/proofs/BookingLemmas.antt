@@ -4,15 +4,12 @@ use Rattle.std.proofs.Common.{◌≡◌, ℕ, zero, suc, ◌+◌, ◌-◌, ◌^�
 use Rattle.std.proofs.Common.{false, cond}
 use Rattle.std.proofs.Common.{not, ◌&&◌, ◌||◌, map, filter, length, get_or, set, take, drop, Option, Some}
 use Rattle.std.proofs.Common.{None, refl}
-use Rattle.std.proofs.Common.{ap, ◌∙◌, sym, subst, arith, append-nil, length-append, eq-eqb, eqb-true, sum_by}
+use Rattle.std.proofs.Common.{ap, ◌∙◌, sym, arith, length-append, eq-eqb, sum_by}
 use Rattle.std.specs.Prelude.{◌==◌, find, if◌then◌else◌, MatchOption, is_some}
 use Rattle.std.specs.List.{list_any, cons_option}
 use Rattle.std.specs.Option.{option_map}
-use Rattle.std.proofs.lemmas.Bool.{false≢true}
-use Rattle.std.proofs.lemmas.List.{map-append, append_assoc, length-map, length-set, take_more, drop_more}
-use Rattle.std.proofs.lemmas.List.{take-append-drop}
-use Rattle.std.proofs.lemmas.List.{get_or_default, length-take, length-drop}
-use Rattle.std.proofs.lemmas.List.Elements.{filter-append, filter_map-append}
+use Rattle.std.proofs.lemmas.List.{map-append, length-set, drop_more}
+use Rattle.std.proofs.lemmas.List.{get_or_default, length-drop}
 use Rattle.std.proofs.lemmas.List.Sums.{sum_by-cons, sum_by-set, sum_by_push, sum_by_more_le}
 use Rattle.dist_types.specs.declared.addr.Addr.{Addr}
 use Rattle.dist_types.specs.declared.ids.JobId.{JobId}
@@ -20,10 +17,9 @@ use Rattle.dist_types.specs.declared.results.JobState.{JobState}
 use Rattle.following_rows.specs.Following.{HasNone, IsRowOf, IsPlaceOf}
 use Rattle.sched_core.specs.declared.booked.BookedRow.{BookedRow}
 use Rattle.sched_core.specs.declared.entry.CoreKind.{CoreKind}
-use Rattle.sched_core.specs.declared.entry.CoreKind.TheVariants.{Beat, Reserve, Commit, Undo, Update, Status}
+use Rattle.sched_core.specs.declared.entry.CoreKind.TheVariants.{Reserve, Commit, Undo, Update}
 use Rattle.sched_core.specs.declared.entry.Reserved.{Reserved}
 use Rattle.sched_core.specs.declared.entry.UpdateAnswer.{UpdateAnswer}
-use Rattle.sched_core.specs.declared.rows.HeldRow.{HeldRow}
 use Rattle.sched_core.specs.declared.rows.OpenRow.{OpenRow}
 use Rattle.sched_core.specs.Log.{same_job}
 use Rattle.sched_core.specs.Reservation.{spends_by, frees_by, claims_by, is_accepted, is_started, is_complete}
@@ -33,8 +29,8 @@ use Rattle.sched_core.specs.Booked.{UnspentRow, held_part_of, unspent_part_of, o
 use Rattle.sched_core.specs.Booked.{job_view, job_part_of}
 use Rattle.sched_core.specs.Booked.{unspent_view, open_view, AreCounted, IsFirstHeld, is_unspent_in}
 use Rattle.sched_core.specs.Booked.{is_held_in, address_in, open_in}
-use Rattle.sched_core.proofs.Lists.{map-map, filter-map, filter-filter, list_any-map}
-use Rattle.sched_core.proofs.AllLemmas.{is_false, true_false, same_job-sym, all-append}
+use Rattle.sched_core.proofs.Lists.{list_any-map}
+use Rattle.sched_core.proofs.AllLemmas.{is_false, true_false, same_job-sym}
 
 -- what an entry leaves as it is
 

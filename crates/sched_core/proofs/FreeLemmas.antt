@@ -1,13 +1,13 @@
 -- The loads after one more reservation that an entry ends.
 use Rattle.std.proofs.Common.{◌≡◌, ℕ, zero, suc, ◌+◌, ◌-◌, ◌<◌, ◌≤◌, Option, subst, List, [], ◌∷◌, ◌++◌}
 use Rattle.std.proofs.Common.{Bool, true, false, cond, ◌&&◌, map}
-use Rattle.std.proofs.Common.{drop, not, ◌||◌, length, get_or, refl, ap, ◌∙◌, sym, arith, eqb-true, eq-eqb}
+use Rattle.std.proofs.Common.{drop, ◌||◌, length, get_or, refl, ap, ◌∙◌, sym, arith, eqb-true, eq-eqb}
 use Rattle.std.proofs.Common.{filter, append-nil}
 use Rattle.std.specs.Prelude.{◌==◌}
 use Rattle.std.specs.Prelude.{count_by}
-use Rattle.std.specs.List.{AllByRecursion, list_any}
+use Rattle.std.specs.List.{AllByRecursion}
 use Rattle.std.proofs.lemmas.Bool.{false≢true}
-use Rattle.std.proofs.lemmas.List.{drop_more, map-append, append_assoc}
+use Rattle.std.proofs.lemmas.List.{map-append, append_assoc}
 use Rattle.std.proofs.lemmas.List.Elements.{filter-append}
 use Rattle.std.proofs.lemmas.List.Sums.{sum_by_push, sum_by-cons, sum_by-append}
 use Rattle.dist_types.specs.declared.addr.Addr.{Addr}

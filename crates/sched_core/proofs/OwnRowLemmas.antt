@@ -1,15 +1,15 @@
 -- The reservations of a registration, and the list of their places: what ends them, one more, and what is
 -- read.
-use Rattle.std.proofs.Common.{◌≡◌, ℕ, zero, suc, ◌+◌, ◌-◌, ◌<◌, ◌≤◌, List, [], ◌∷◌, ◌++◌, Bool, true}
+use Rattle.std.proofs.Common.{◌≡◌, ℕ, zero, suc, ◌+◌, ◌<◌, ◌≤◌, List, [], ◌∷◌, ◌++◌, Bool, true}
 use Rattle.std.proofs.Common.{false, cond}
 use Rattle.std.proofs.Common.{not, ◌&&◌, ◌||◌, map, filter, length, get_or, set, take, drop, Option, Some}
 use Rattle.std.proofs.Common.{None}
 use Rattle.std.proofs.Common.{refl, ap, ◌∙◌, sym, subst, arith, append-nil, length-append, eqb-true, eq-eqb}
-use Rattle.std.specs.Prelude.{◌==◌, if◌then◌else◌, slice_get, is_some, option_to_list}
-use Rattle.std.specs.List.{AllByRecursion, filter_map, cons_option, list_any}
+use Rattle.std.specs.Prelude.{◌==◌, slice_get, option_to_list}
+use Rattle.std.specs.List.{AllByRecursion, filter_map, cons_option}
 use Rattle.std.specs.Option.{option_map}
 use Rattle.std.proofs.lemmas.Bool.{false≢true}
-use Rattle.std.proofs.lemmas.List.{map-append, length-map, take_more, drop_more}
+use Rattle.std.proofs.lemmas.List.{map-append, take_more, drop_more}
 use Rattle.std.proofs.lemmas.List.Elements.{filter-append}
 use Rattle.dist_types.specs.declared.addr.Addr.{Addr}
 use Rattle.dist_types.specs.declared.ids.JobId.{JobId}
@@ -26,7 +26,7 @@ use Rattle.sched_core.specs.Reap.{is_reaped, reap}
 use Rattle.sched_core.specs.Rule.{is_left}
 use Rattle.sched_core.specs.Reservation.{frees_by}
 use Rattle.sched_core.specs.Books.{booked_after}
-use Rattle.sched_core.specs.Booked.{held_part_of, held_view, open_part_of, open_view}
+use Rattle.sched_core.specs.Booked.{held_part_of, held_view, open_view}
 use Rattle.sched_core.specs.Own.{is_own, is_own_in, is_own_at, own_part_of, own_row_at, own_places}
 use Rattle.sched_core.specs.Own.{IsOwnList, AreOwn}
 use Rattle.sched_core.specs.Own.{is_open_row, ended_row, ended_at, ended_at_all, ended_if, ended_job}

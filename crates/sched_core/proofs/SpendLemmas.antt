@@ -1,48 +1,59 @@
--- What is asked of the books of a reservation that is spent is what the log tells of it.
-use Rattle.std.proofs.Common.{◌≡◌, ℕ, List, true, ◌&&◌, map, Option, Some, ap, ◌∙◌, sym}
-use Rattle.std.specs.Prelude.{Bool, ◌==◌, option_and_then}
-use Rattle.std.specs.List.{AllByRecursion, list_any, find}
-use Rattle.std.specs.Option.{option_map}
-use Rattle.dist_types.specs.declared.addr.Addr.{Addr}
+-- What spends a reservation: a commit or an undo of its job. It makes no registration and no reservation, and
+-- it is for one of those that are unspent.
+use Rattle.std.proofs.Common.{◌≡◌, ℕ, List, Bool, true, ◌&&◌, Option, None, refl, ap, ◌∙◌}
+use Rattle.std.specs.Prelude.{◌==◌}
+use Rattle.std.specs.List.{list_any}
+use Rattle.std.proofs.lemmas.Bool.{false≢true}
 use Rattle.dist_types.specs.declared.ids.JobId.{JobId}
-use Rattle.sched_core.specs.declared.entry.CoreEntry.{CoreEntry}
-use Rattle.sched_core.specs.declared.rows.ServerRow.{ServerRow}
-use Rattle.sched_core.specs.declared.rows.HeldRow.{HeldRow}
+use Rattle.dist_types.specs.declared.results.JobState.{JobState}
+use Rattle.sched_core.specs.declared.entry.CoreKind.{CoreKind}
+use Rattle.sched_core.specs.declared.entry.CoreKind.TheVariants.{Reserve, Commit, Undo, Beat, Update, Status}
 use Rattle.sched_core.specs.Booked.{UnspentRow}
 use Rattle.sched_core.specs.Log.{same_job}
-use Rattle.sched_core.specs.Standing.{address_of}
-use Rattle.sched_core.specs.Reservation.{unspent, unended}
-use Rattle.sched_core.specs.Rows.{servers_of, held_rows}
-use Rattle.sched_core.specs.Rule.{is_among, place_at, noted_over}
-use Rattle.sched_core.specs.Books.{place_of_unspent, place_of_booking}
-use Rattle.sched_core.proofs.StateLemmas.{spent_among, held_among, spent_address}
+use Rattle.sched_core.specs.Own.{HasJobRoom}
+use Rattle.sched_core.specs.Reservation.{spends_by}
+use Rattle.sched_core.specs.Rule.{undo_by}
+use Rattle.sched_core.specs.Books.{MayRegister, SpendsOne, key_by}
+use Rattle.sched_core.proofs.AllLemmas.{and_right, any-weaker, same_job-sym, same_job-trans}
 
--- a reservation of a number and a job, under the names that its parts have in a call
-module _ (log : List CoreEntry) (number : ℕ) (job : JobId) (n : ℕ) (j : JobId) (numbered : number ≡ n)
-    (of_job : job ≡ j) where
-  -- whether it is unspent
-  pub own_is : (us : List UnspentRow) (found : Bool)
-      → found ≡ list_any (λ u. (u.number == number) && same_job u.job job) us
-      → map place_of_unspent us ≡ map place_of_booking (unspent log) → is_among (unspent log) n j ≡ found
-  own_is us found is same =
-      ap (λ m. is_among (unspent log) m j) (sym numbered) ∙ ap (is_among (unspent log) number) (sym of_job)
-      ∙ sym (spent_among us log number job same) ∙ sym is
+-- what holds of each commit and each undo of a job holds of what spends it
+by_spender : (P : CoreKind → Type 0) (job : JobId)
+    → ((j : JobId) (state : JobState) (kept : Bool) → same_job j job ≡ true → P (Commit j state kept))
+    → ((j : JobId) (noted : Option ℕ) (ended : Bool) → same_job j job ≡ true → P (Undo j noted ended))
+    → (kind : CoreKind) → spends_by kind job ≡ true → P kind
+by_spender P job commits undoes (Commit j state kept) spends = commits j state kept spends
+by_spender P job commits undoes (Undo j noted ended) spends = undoes j noted ended spends
+by_spender P job commits undoes (Reserve reserved) spends = absurd (false≢true spends)
+by_spender P job commits undoes (Beat server nonce cpus key pruned reaped replaced is_new) spends =
+    absurd (false≢true spends)
+by_spender P job commits undoes (Update server j state answer) spends = absurd (false≢true spends)
+by_spender P job commits undoes (Status pruned servers cpus jobs) spends = absurd (false≢true spends)
 
-  -- whether it is unended
-  pub held_is : (held : List HeldRow) (found : Bool)
-      → found ≡ list_any (λ h. (h.number == number) && same_job h.job job) held
-      → held ≡ held_rows log → found ≡ is_among (unended log) n j
-  held_is held found is same = is ∙ held_among held log number job same
-      ∙ ap (λ m. is_among (unended log) m job) numbered ∙ ap (is_among (unended log) n) of_job
+module _ (job : JobId) (kind : CoreKind) (spends : spends_by kind job ≡ true) where
+  pub spends_no_key : (number : ℕ) → None ≡ key_by kind number
+  spends_no_key number = by_spender (λ k. None ≡ key_by k number) job (λ j state kept same. refl)
+      (λ j noted ended same. refl) kind spends
 
-  -- the registration that stands at its address
-  pub noted_is : (us : List UnspentRow) (rows : List ServerRow) (server : Option Addr) (noted : Option ℕ)
-      → server ≡ option_map (λ u. u.server) (find (λ u. (u.number == number) && same_job u.job job) us)
-      → noted ≡ noted_over rows server → rows ≡ servers_of log
-      → AllByRecursion (λ u. (place_at log u.number ≡ Some u.reg) × (address_of log u.reg ≡ Some u.server)) us
-      → list_any (λ u. (u.number == number) && same_job u.job job) us ≡ true
-      → noted ≡ noted_over (servers_of log) (option_and_then (address_of log) (place_at log n))
-  noted_is us rows server noted at is stands placed owned =
-      is ∙ ap (λ rs. noted_over rs server) stands
-      ∙ ap (noted_over (servers_of log)) (at ∙ spent_address us log number job placed owned)
-      ∙ ap (λ m. noted_over (servers_of log) (option_and_then (address_of log) (place_at log m))) numbered
+  pub registers_none : {A : Type 0} → MayRegister kind → A
+  registers_none {A} may = by_spender (λ k. MayRegister k → A) job (λ j state kept same m. absurd m)
+      (λ j noted ended same m. absurd m) kind spends may
+
+  pub wants_no_room : (room : Option ℕ) → HasJobRoom kind room
+  wants_no_room room = by_spender (λ k. HasJobRoom k room) job (λ j state kept same. tt)
+      (λ j noted ended same. tt) kind spends
+
+  -- the test of the number and the job finds one that it spends
+  pub spends_one : (us : List UnspentRow) (number : ℕ)
+      → list_any (λ u. (u.number == number) && same_job u.job job) us ≡ true → SpendsOne kind us
+  spends_one us number some =
+      let found : (j : JobId) → same_job j job ≡ true → list_any (λ u. same_job j u.job) us ≡ true =
+      λ j same. any-weaker (λ u. (u.number == number) && same_job u.job job) (λ u. same_job j u.job)
+      (λ u t. same_job-trans j job u.job same
+      (same_job-sym u.job job (and_right (u.number == number) (same_job u.job job) t))) us some in
+      by_spender (λ k. SpendsOne k us) job (λ j state kept same. found j same)
+      (λ j noted ended same. found j same) kind spends
+
+pub undo_same : (now : ℕ) (job : JobId) (noted other : Option ℕ) (ended gone : Bool) → noted ≡ other → ended ≡ gone
+    → undo_by noted ended now job ≡ undo_by other gone now job
+undo_same now job noted other ended gone same so =
+    ap (λ n. undo_by n ended now job) same ∙ ap (λ b. undo_by other b now job) so

@@ -25,7 +25,7 @@ use Rattle.sched_core.specs.Answers.{Leaves, verdict}
 use Rattle.sched_core.specs.Rule.{is_among, place_at, reserved_at}
 use Rattle.sched_core.specs.Books.{IsAtRow, place_of_unspent, place_of_booking}
 use Rattle.sched_core.proofs.Lists.{list_any-map, map-map}
-use Rattle.sched_core.proofs.AllLemmas.{and_left, and_right, same_job-sym, any-weaker}
+use Rattle.sched_core.proofs.AllLemmas.{and_left}
 use Rattle.sched_core.proofs.FactLemmas.{pick_there}
 use Rattle.sched_core.proofs.SortLemmas.{found_first, sorted-map}
 use Rattle.sched_core.proofs.KeptLemmas.{rows_addressed}
@@ -137,14 +137,6 @@ spent_address us log number job all some =
     ∙ ap (option_and_then (address_of log)) (sym at.2.0)
     ∙ ap (λ n. option_and_then (address_of log) (place_at log n))
     (eqb-true at.0.number number (and_left (at.0.number == number) (same_job at.0.job job) at.3))
-
--- the test of the number and the job finds one that the entry spends
-pub spends_one : (us : List UnspentRow) (number : ℕ) (job : JobId)
-    → list_any (λ u. (u.number == number) && same_job u.job job) us ≡ true
-    → list_any (λ u. same_job job u.job) us ≡ true
-spends_one us number job some = any-weaker (λ u. (u.number == number) && same_job u.job job)
-    (λ u. same_job job u.job)
-    (λ u t. same_job-sym u.job job (and_right (u.number == number) (same_job u.job job) t)) us some
 
 -- what an update answers is no want of memory
 pub on_ok : {T E : Type 0} (r : Result T E) (P : Type 0) → P → OnOk r P

@@ -1,9 +1,9 @@
 -- The reservations of one registration, and the list that is kept of their places.
-use Rattle.std.specs.Prelude.{◌≡◌, ◌≤◌, ◌<◌, ℕ, zero, suc, List, [], ◌∷◌, length, map, filter, Bool, true}
+use Rattle.std.specs.Prelude.{◌≡◌, ◌<◌, ℕ, zero, suc, List, [], ◌∷◌, length, map, filter, Bool, true}
 use Rattle.std.specs.Prelude.{false}
 use Rattle.std.specs.Prelude.{◌-◌, not, ◌&&◌, ◌==◌, Option, Some, None, if◌then◌else◌, slice_get, is_some}
 use Rattle.std.specs.Prelude.{count_by}
-use Rattle.std.specs.List.{AllByRecursion, filter_map}
+use Rattle.std.specs.List.{AllByRecursion}
 use Rattle.dist_types.specs.declared.ids.JobId.{JobId}
 use Rattle.numbered_lists.specs.Numbered.{list_at}
 use Rattle.sched_core.specs.declared.booked.BookedRow.{BookedRow}

@@ -2,15 +2,16 @@
 ghost use Rattle.std.specs.Prelude.{◌≡◌, ◌↔◌, ◌⊎◌, ◌<◌, ◌≤◌, ◌+◌, ◌^◌, ◌++◌, ◌∷◌, [], Err, Some, IfOk};
 ghost use Rattle.std.specs.Prelude.{IfErr};
 ghost use Rattle.std.specs.Prelude.{OnOk, OnErr, IsErrOf, length, map, true, if◌then◌else◌, option_to_list};
-ghost use Rattle.std.specs.Prelude.{◌*◌, ℕ, max, vec_len, vec_capacity};
+ghost use Rattle.std.specs.Prelude.{◌*◌, ℕ, max, vec_len, vec_capacity, option_and_then};
 ghost use Rattle.sched_core.specs.Most.{most_standing, forgiven_count};
 ghost use Rattle.sched_core.specs.Registrations.{AreFew};
 ghost use Rattle.std.specs.List.{AllByRecursion};
 ghost use Rattle.sched_core.specs.Log.{Core, logged};
 ghost use Rattle.sched_core.specs.Standing.{address_of};
-ghost use Rattle.sched_core.specs.Reservation.{bookings, unspent};
+ghost use Rattle.sched_core.specs.Reservation.{bookings, unspent, unended, spends_by};
 ghost use Rattle.sched_core.specs.Job.{open_jobs};
 ghost use Rattle.sched_core.specs.Rule.{rule, says_new_entry, counts_of, is_among, is_initial};
+ghost use Rattle.sched_core.specs.Rule.{place_at, noted_over};
 ghost use Rattle.sched_core.specs.Rows.{servers_of, jobs_of, job_row, unended_by_id};
 ghost use Rattle.sched_core.specs.Answers.{Leaves, IsPicked, RefusesReserve, committed_by, undo_answer};
 ghost use Rattle.sched_core.specs.Answers.{updated_by};
@@ -228,13 +229,12 @@ impl<A: JobAuthorizer> SchedState<A> {
         let number = r.number();
         let job = r.job_id();
         let alloc = r.into_alloc();
-        if !self.journal.books.is_unspent(number, job) {
+        if !self.owns(number, job) {
             return Committed::Foreign(job);
         }
-        let kept = self.journal.books.is_held(number, job);
+        let kept = self.holds(number, job);
         let kind = CoreKind::Commit { job, state, kept };
-        let entry = CoreEntry { now, kind };
-        take_uncounted::<A, Brand>(self.start, &mut self.journal, entry, None, Blank::new(1));
+        self.spend(number, job, CoreEntry { now, kind });
         tickets::committed(kept, alloc)
     }
 
@@ -251,16 +251,52 @@ impl<A: JobAuthorizer> SchedState<A> {
         let number = r.number();
         let job = r.job_id();
         r.spend();
-        if !self.journal.books.is_unspent(number, job) {
+        if !self.owns(number, job) {
             return Undone::Foreign;
         }
-        let server = self.journal.books.unspent_address(number, job);
-        let noted = self.journal.books.noted(server);
-        let ended = self.journal.books.is_held(number, job);
+        let noted = self.noted(number, job);
+        let ended = self.holds(number, job);
         let kind = CoreKind::Undo { job, noted, ended };
-        let entry = CoreEntry { now, kind };
-        take_uncounted::<A, Brand>(self.start, &mut self.journal, entry, None, Blank::new(1));
+        self.spend(number, job, CoreEntry { now, kind });
         tickets::undone(noted, ended)
+    }
+
+    /// Whether this state made the reservation of that number and job, and it is unspent.
+    #[inline(always)]
+    fn owns(&self, number: u64, job: JobId) -> bool
+        ensures { result ≡ is_among (unspent self.now.log) number job }
+    {
+        self.journal.books.is_unspent(number, job)
+    }
+
+    /// Whether the reservation of that number and job is unended.
+    #[inline(always)]
+    fn holds(&self, number: u64, job: JobId) -> bool
+        ensures { result ≡ is_among (unended self.now.log) number job }
+    {
+        self.journal.books.is_held(number, job)
+    }
+
+    /// The registration that stands at the address of an unspent reservation, if there is one.
+    #[inline(always)]
+    fn noted(&self, number: u64, job: JobId) -> Option<u64>
+        requires { is_among (unspent self.now.log) number job ≡ true }
+        ensures { result ≡ noted_over (servers_of self.now.log)
+            (option_and_then (address_of self.now.log) (place_at self.now.log number)) }
+    {
+        let server = self.journal.books.unspent_address(number, job);
+        self.journal.books.noted(server)
+    }
+
+    /// Enters what spends a reservation: there is room for it since the reserve.
+    #[inline(always)]
+    fn spend(&mut self, number: u64, job: JobId, entry: CoreEntry)
+        requires owned { is_among (unspent self.old.log) number job ≡ true }
+        requires spends { spends_by entry.kind job ≡ true }
+        requires rule { IsRule self.old entry }
+        ensures { self.new ≡ logged self.old entry }
+    {
+        take_uncounted::<A, Brand>(self.start, &mut self.journal, entry, None, Blank::new(1));
     }
 
     /// Takes a heartbeat at the moment `now`, in milliseconds: prunes the registrations that are silent

@@ -1,8 +1,7 @@
-use Rattle.std.proofs.Common.{◌≡◌, ◌++◌, map, ap, ◌∙◌, sym, append-nil}
+use Rattle.std.proofs.Common.{◌++◌, ap, ◌∙◌}
 use Rattle.std.specs.Prelude.{option_to_list}
-use Rattle.sched_core.specs.Books.{booked_after}
 use Rattle.sched_core.proofs.BookingLemmas.{reserve_leaves, commit_leaves, undo_leaves, update_leaves}
-use Rattle.sched_core.proofs.OwnRowLemmas.{own_after, beat_is, status_is, none_more}
+use Rattle.sched_core.proofs.OwnRowLemmas.{own_after, beat_is, none_more}
 use Rattle.sched_core.proofs.own.absorb.Goals as goal
 
 pub returns-in-Reserve-clause-rows : goal.returns-in-Reserve-clause-rows

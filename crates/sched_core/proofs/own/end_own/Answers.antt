@@ -1,4 +1,3 @@
-use Rattle.std.proofs.Common.{◌∙◌}
 use Rattle.sched_core.proofs.OwnRowLemmas.{ended_each, own_forgotten}
 use Rattle.sched_core.proofs.own.end_own.Goals as goal
 

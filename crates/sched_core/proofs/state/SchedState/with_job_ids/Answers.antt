@@ -1,8 +1,4 @@
-use Rattle.std.proofs.Common.{rules, arith, ◌≡◌, ◌≤◌, ◌+◌, ◌*◌, [], refl, length, max, vec_len, vec_capacity}
-use Rattle.sched_core.specs.Books.{AreBooks, no_lists, kept_by}
-use Rattle.sched_core.specs.Booked.{unspent_view}
-use Rattle.sched_core.specs.Laws.{IsLegal}
-use Rattle.sched_core.specs.Most.{most_standing}
+use Rattle.std.proofs.Common.{arith}
 use Rattle.sched_core.proofs.BookLemmas.{no_books}
 use Rattle.sched_core.proofs.state.SchedState.with_job_ids.Goals as goal
 

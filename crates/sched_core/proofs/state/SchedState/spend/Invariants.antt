@@ -1,4 +1,4 @@
-use Rattle.sched_core.proofs.state.SchedState.undo.Given as goal
+use Rattle.sched_core.proofs.state.SchedState.spend.Given as goal
 
 abbrev pub ghosts-take_uncounted : goal.ghosts-take_uncounted
 ghosts-take_uncounted g a = record { name = a.blank.name; parts = a.blank.parts }
