@@ -16,7 +16,7 @@ use Rattle.farm_script.specs.declared.setup.Setup.{Setup}
 use Rattle.farm_script.specs.Setups.{IsSetup}
 use Rattle.farm_script.proofs.FirstFaultyLemmas.{first_faulty}
 use Rattle.farm_script.proofs.SpelledLemmas.{script_is_said}
-use Rattle.farm_run.specs.RunText.{IsRunText, IsReadText}
+use Rattle.farm_entries.specs.RunText.{IsRunText, IsReadText}
 use Rattle.farm_script.specs.Setups.{AreApart}
 use Rattle.farm.specs.Command.{NamesLine, Side, IsReadWhole, IsFarmRun}
 

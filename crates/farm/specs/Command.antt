@@ -22,7 +22,7 @@ use Rattle.farm_words.specs.declared.command.AuthSubcommand.{AuthSubcommand}
 use Rattle.farm_words.specs.Asked.{Invocation, asked_by}
 use Rattle.farm_words.specs.Parsed.{IsParsed}
 use Rattle.farm_auth.specs.Line.{auth_line, stream_left}
-use Rattle.farm_run.specs.RunText.{IsRunText}
+use Rattle.farm_entries.specs.RunText.{IsRunText}
 use Rattle.farm_storm.specs.Summary.{IsStormText}
 
 -- ---- texts and statuses

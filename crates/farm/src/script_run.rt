@@ -2,7 +2,7 @@
 ghost use Rattle.std.specs.Prelude.{◌≡◌, ◌⊎◌, string_bytes, IfOk, IfErr};
 ghost use Rattle.farm_script.specs.FirstFaulty.{IsFirstFaulty};
 ghost use Rattle.farm_script.specs.declared.fault.FarmFault.TheVariants as fault;
-ghost use Rattle.farm_run.specs.RunText.{IsReadText};
+ghost use Rattle.farm_entries.specs.RunText.{IsReadText};
 ghost use Rattle.farm.specs.Command.{NamesLine};
 
 use farm_run::begin;

@@ -7,7 +7,7 @@ use Rattle.std.proofs.lemmas.Bool.{cases_lt}
 use Rattle.std.proofs.lemmas.Option.{same_Some}
 use Rattle.dist_types.specs.declared.addr.Addr.{Addr}
 use Rattle.farm_script.specs.Setups.{AreApart}
-use Rattle.farm_run.specs.Passage.{IsBegun}
+use Rattle.farm_entries.specs.Passage.{IsBegun}
 use Rattle.lru_disk_cache.specs.Archives.{Archives}
 use Rattle.std.specs.List.{IsDistinct}
 use Rattle.std.specs.Map.{keys_of}
@@ -16,14 +16,14 @@ use Rattle.lru_disk_cache.specs.Files.{Files}
 use Rattle.lru_disk_cache.specs.Held.{Held}
 use Rattle.build_server.specs.Builds.{Builder}
 use Rattle.farm_script.specs.declared.setup.SetupServer.{SetupServer as Script}
-use Rattle.farm_run.specs.declared.site.SiteServer.{SiteServer}
+use Rattle.farm_entries.specs.declared.site.SiteServer.{SiteServer}
 use Rattle.farm_run.specs.Begins.{IsBegunAs, AreBegun}
-use Rattle.farm_run.specs.Passage.{AreOwn}
-use Rattle.farm_run.specs.Post.{Post, outside_of}
-use Rattle.farm_run.specs.Servers.{server_begun}
-use Rattle.farm_run.specs.Sites.{site_server}
-use Rattle.farm_run.specs.Stations.{now_of, IsWell, AreStations}
-use Rattle.farm_run.specs.Weather.{Outside}
+use Rattle.farm_entries.specs.Passage.{AreOwn}
+use Rattle.farm_stations.specs.Post.{Post, outside_of}
+use Rattle.farm_entries.specs.Servers.{server_begun}
+use Rattle.farm_entries.specs.Sites.{site_server}
+use Rattle.farm_stations.specs.Stations.{now_of, IsWell, AreStations}
+use Rattle.farm_entries.specs.Weather.{Outside}
 use Rattle.farm_run.proofs.ServerLemmas.{stations_none, stations_push}
 
 -- ---- lists

@@ -8,14 +8,14 @@ use Rattle.std.proofs.lemmas.Option.{same_Some}
 use Rattle.dist_types.specs.declared.addr.Addr.{Addr}
 use Rattle.lru_disk_cache.specs.Held.{Held}
 use Rattle.build_server.specs.Builds.{Builder}
-use Rattle.farm_run.specs.declared.entry.Entry.{Entry}
-use Rattle.farm_run.specs.declared.site.Site.{Site as Setup}
-use Rattle.farm_run.specs.declared.site.SiteServer.{SiteServer}
-use Rattle.farm_run.specs.Passage.{reached, StaysOwn, AreOwn, IsStill, Moves, IsMoved}
-use Rattle.farm_run.specs.Post.{Post as Station, outside_of}
-use Rattle.farm_run.specs.Stations.{AreStations}
+use Rattle.farm_entries.specs.declared.entry.Entry.{Entry}
+use Rattle.farm_entries.specs.declared.site.Site.{Site as Setup}
+use Rattle.farm_entries.specs.declared.site.SiteServer.{SiteServer}
+use Rattle.farm_entries.specs.Passage.{reached, StaysOwn, AreOwn, IsStill, Moves, IsMoved}
+use Rattle.farm_stations.specs.Post.{Post as Station, outside_of}
+use Rattle.farm_stations.specs.Stations.{AreStations}
 use Rattle.farm_run.specs.Stops.{folders_in, in_front, builders_in, IsCutOff}
-use Rattle.farm_run.specs.Weather.{Outside, Weather}
+use Rattle.farm_entries.specs.Weather.{Outside, Weather}
 use Rattle.farm_run.proofs.BeginLemmas.{map_end}
 use Rattle.farm_run.proofs.ServerLemmas.{get_set_same, get_set_other, within}
 use Rattle.farm_run.proofs.StandLemmas.{get_map, set_map}

@@ -7,20 +7,21 @@ use Rattle.farm_script.specs.declared.fault.FarmFault.{FarmFault}
 use Rattle.farm_script.specs.declared.setup.Setup.{Setup as Script}
 use Rattle.farm_script.specs.Script.{script}
 use Rattle.farm_script.specs.Setups.{IsSetup}
-use Rattle.farm_run.specs.declared.entry.Entry.{Entry}
-use Rattle.farm_run.specs.declared.site.Site.{Site}
-use Rattle.farm_run.specs.Builds.{AreBuilds, HasToken, HasWords}
-use Rattle.farm_run.specs.Farm.{Farmed, with_entries, Runs, AreLawful}
-use Rattle.farm_run.specs.Next.{IsNext, EachNext, IsRun}
-use Rattle.farm_run.specs.Passage.{AreOwn, IsMoved}
-use Rattle.farm_run.specs.Printed.{run_text}
-use Rattle.farm_run.specs.RunText.{IsReadText}
-use Rattle.farm_run.specs.Sites.{site_of}
-use Rattle.farm_run.specs.Weather.{Weather, calm, free}
-use Rattle.farm_run.proofs.BuildLemmas.{run_builds}
+use Rattle.farm_entries.specs.declared.entry.Entry.{Entry}
+use Rattle.farm_entries.specs.declared.site.Site.{Site}
+use Rattle.farm_entries.specs.Builds.{AreBuilds, HasToken, HasWords}
+use Rattle.farm_run.specs.Farm.{Farmed, with_entries, Runs}
+use Rattle.farm_entries.specs.Lawful.{AreLawful}
+use Rattle.farm_entries.specs.Next.{IsNext, EachNext, IsRun}
+use Rattle.farm_entries.specs.Passage.{AreOwn, IsMoved}
+use Rattle.farm_entries.specs.Printed.{run_text}
+use Rattle.farm_entries.specs.RunText.{IsReadText}
+use Rattle.farm_entries.specs.Sites.{site_of}
+use Rattle.farm_entries.specs.Weather.{Weather, calm, free}
+use Rattle.farm_laws.proofs.BuildLemmas.{run_builds}
 use Rattle.farm_run.proofs.PassageLemmas.{passage_calm, passage-push}
-use Rattle.farm_run.proofs.ReliableLemmas.{is_reliable}
-use Rattle.farm_run.proofs.ShownLemmas.{has_token}
+use Rattle.farm_laws.proofs.ReliableLemmas.{is_reliable}
+use Rattle.farm_laws.proofs.ShownLemmas.{has_token}
 
 -- a run goes on by one event
 pub Runs-push : (old : Farmed) (events : List Event) (event : Event) (mid new : Farmed) (w : Weather)

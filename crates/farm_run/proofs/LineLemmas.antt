@@ -9,7 +9,7 @@ use Rattle.sched_core.specs.Standing.{address_of}
 use Rattle.sched_core.specs.Reservation.{Booking, is_claimed}
 use Rattle.sched_core.specs.Job.{state_of}
 use Rattle.sched_core.specs.Rows.{job_row}
-use Rattle.farm_run.specs.Printed.{job_line, job_text}
+use Rattle.farm_entries.specs.Printed.{job_line, job_text}
 
 abbrev pub row_line : JobRow → List ℕ
 row_line j = job_line j.job j.reg j.state j.claimed

@@ -1,9 +1,7 @@
 -- What each kind of event makes, and what is kept after it.
 use Rattle.std.proofs.Common.{◌≡◌, ◌≢◌, ◌⊎◌, inl, inr, ℕ, zero, suc, ◌<◌, ◌^◌, Bool, true, false, ◌&&◌}
-use Rattle.std.proofs.Common.{nat_lt}
-use Rattle.std.proofs.Common.{List, [], ◌∷◌, ◌++◌, length, map, take, drop, set, Option, Some, None, Result}
-use Rattle.std.proofs.Common.{Ok}
-use Rattle.std.proofs.Common.{Err, refl, sym, ap, subst, ◌∙◌, arith}
+use Rattle.std.proofs.Common.{nat_lt, List, [], ◌∷◌, ◌++◌, length, map, take, set, Option, Some, None}
+use Rattle.std.proofs.Common.{Result, Ok, Err, refl, sym, ap, subst, ◌∙◌, arith}
 use Rattle.std.specs.Prelude.{slice_get}
 use Rattle.std.proofs.lemmas.Bool.{cases_eq, ne_eqb}
 use Rattle.std.proofs.lemmas.List.{length-set, length-take}
@@ -11,57 +9,57 @@ use Rattle.std.proofs.lemmas.Option.{same_Some, slice_get_within}
 use Rattle.dist_types.specs.Addr.{◌>>=◌}
 use Rattle.dist_types.specs.declared.addr.Addr.{Addr}
 use Rattle.dist_types.specs.declared.outgoing.CallFault.{CallFault}
-use Rattle.dist_types.specs.declared.results.AssignJobResult.{AssignJobResult}
 use Rattle.sched_core.proofs.Lists.{end_cut}
 use Rattle.sched_core.specs.Log.{Core}
 use Rattle.sched_core.specs.Reservation.{unspent}
 use Rattle.sched_core.specs.Rule.{is_among}
-use Rattle.sched_core.specs.Ticket.{Ticket}
-use Rattle.farm_run.specs.declared.site.Site.{Site as Setup}
+use Rattle.farm_entries.specs.declared.site.Site.{Site as Setup}
 use Rattle.farm_script.specs.declared.event.Event.{Event}
-use Rattle.farm_run.specs.declared.entry.Effect.{Effect}
-use Rattle.farm_run.specs.declared.entry.Entry.{Entry}
-use Rattle.farm_run.specs.declared.entry.EntryWord.TheVariants.{Void}
-use Rattle.farm_run.specs.declared.entry.OutCall.{OutCall}
-use Rattle.farm_run.specs.declared.pending.Ask.{Ask}
-use Rattle.farm_run.specs.declared.pending.Ask.TheVariants.{Assign, Report}
-use Rattle.farm_run.specs.declared.pending.Told.{Told}
-use Rattle.farm_run.specs.declared.pending.Told.TheVariants as told
-use Rattle.farm_run.specs.declared.entry.Step.{Step}
-use Rattle.farm_run.specs.declared.entry.StepKind.{StepKind}
-use Rattle.farm_run.specs.declared.entry.StepKind.TheVariants as kinds
-use Rattle.farm_run.specs.Post.{Post as Station, outside_of}
+use Rattle.farm_entries.specs.declared.entry.Effect.{Effect}
+use Rattle.farm_entries.specs.declared.entry.Entry.{Entry}
+use Rattle.farm_entries.specs.declared.entry.EntryWord.TheVariants.{Void}
+use Rattle.farm_entries.specs.declared.entry.OutCall.{OutCall}
+use Rattle.farm_entries.specs.declared.pending.Ask.{Ask}
+use Rattle.farm_entries.specs.declared.pending.Ask.TheVariants.{Assign, Report}
+use Rattle.farm_entries.specs.declared.pending.Told.{Told}
+use Rattle.farm_entries.specs.declared.pending.Told.TheVariants as told
+use Rattle.farm_entries.specs.declared.entry.Step.{Step}
+use Rattle.farm_entries.specs.declared.entry.StepKind.{StepKind}
+use Rattle.farm_entries.specs.declared.entry.StepKind.TheVariants as kinds
+use Rattle.farm_stations.specs.Post.{Post as Station, outside_of}
 use Rattle.dist_types.specs.declared.ids.JobId.{JobId}
 use Rattle.dist_types.specs.declared.results.UpdateJobStateResult.{UpdateJobStateResult}
-use Rattle.dist_wire.specs.declared.run.RunJobHttpRequest.{RunJobHttpRequest}
 use Rattle.build_server.specs.declared.run.Outcome.{Outcome}
 use Rattle.farm_script.specs.declared.event.EventKind.{EventKind}
 use Rattle.farm_script.specs.declared.event.EventKind.TheVariants.{Request, Deliver, Fail, Return, Answer}
 use Rattle.farm_script.specs.declared.event.EventKind.TheVariants.{Beat, Restart}
-use Rattle.farm_run.specs.Servers.{ServerNow, restart_by, server_now, is_over}
-use Rattle.farm_run.specs.Stations.{AreStations, HasApart}
-use Rattle.farm_run.proofs.FreeLemmas.{goes_free, next_free}
+use Rattle.farm_entries.specs.Servers.{ServerNow, restart_by, server_now, is_over}
+use Rattle.farm_stations.specs.Stations.{AreStations, HasApart}
+use Rattle.farm_laws.proofs.FreeLemmas.{goes_free, next_free}
 use Rattle.farm_run.proofs.StandLemmas.{stands_same}
 use Rattle.farm_run.specs.declared.pending.Made.{Made}
-use Rattle.farm_run.specs.declared.pending.Pending.{Pending}
-use Rattle.farm_run.specs.Begun.{IsBegunBy, IsFirstCall, IsMadeBy, IsCallOf, Keeps, outcome_of, completion_by}
-use Rattle.farm_run.specs.Begun.{completion_at, completion_of}
-use Rattle.farm_run.specs.Calls.{settles_by, is_void, is_of, settled_at, waiting_at}
-use Rattle.farm_run.specs.Effects.{entry_of, effect_of, word_effect}
-use Rattle.farm_run.specs.Farm.{with_core, IsWaiting, IsKept, kept_at, AreKept, IsAfter, IsReceived, IsMadeSo}
-use Rattle.farm_run.specs.Farm.{IsSound, IsFarm, Stands}
-use Rattle.farm_run.specs.Passage.{IsMoved}
-use Rattle.farm_run.specs.Weather.{Weather, calm, free}
-use Rattle.farm_run.specs.Next.{GoesOn, Follows, IsServed, IsSettled, IsMade, IsNext}
-use Rattle.farm_run.specs.Seen.{core_log, core_of}
-use Rattle.farm_run.specs.Settled.{assignment_end, ReadyEnds, StartedEnds, complete_end, Reports, Lives}
-use Rattle.farm_run.specs.Settled.{ReportsIn, IsOwnBy}
-use Rattle.farm_run.specs.Ways.{Way, way_of, brought_at, to_nothing, to_nobody, to_scheduler, to_server}
-use Rattle.farm_run.specs.Ways.{to_call, to_beat, to_restart}
-use Rattle.farm_run.proofs.CallLemmas.{waiting-end}
-use Rattle.farm_run.proofs.NextLemmas.{call_ticket, settles_it, way_settles, sound_next, sound_none}
-use Rattle.farm_run.proofs.RunLemmas.{core_of-push, IsRun-push}
+use Rattle.farm_entries.specs.declared.pending.Pending.{Pending}
+use Rattle.farm_entries.specs.Begun.{IsBegunBy, IsFirstCall, IsMadeBy, IsCallOf, Keeps, outcome_of}
+use Rattle.farm_entries.specs.Begun.{completion_by, completion_at, completion_of}
+use Rattle.farm_entries.specs.Calls.{settles_by, is_void, is_of, settled_at, waiting_at}
+use Rattle.farm_entries.specs.Effects.{entry_of, effect_of, word_effect}
+use Rattle.farm_entries.specs.Seen.{with_core}
+use Rattle.farm_entries.specs.Waiting.{IsWaiting, IsKept, kept_at, AreKept}
+use Rattle.farm_run.specs.Farm.{IsAfter, IsReceived}
+use Rattle.farm_run.specs.Farm.{IsMadeSo, IsFarm, Stands}
+use Rattle.farm_entries.specs.Lawful.{IsSound}
+use Rattle.farm_entries.specs.Passage.{IsMoved}
+use Rattle.farm_entries.specs.Weather.{Weather, calm, free}
+use Rattle.farm_entries.specs.Next.{GoesOn, Follows, IsServed, IsSettled, IsMade, IsNext}
+use Rattle.farm_entries.specs.Seen.{core_log, core_of}
+use Rattle.farm_entries.specs.Settled.{complete_end, Lives, ReportsIn, IsOwnBy}
+use Rattle.farm_entries.specs.Ways.{Way, way_of, brought_at, to_nothing, to_nobody, to_scheduler, to_server}
+use Rattle.farm_entries.specs.Ways.{to_call, to_beat, to_restart}
+use Rattle.farm_laws.proofs.CallLemmas.{waiting-end}
+use Rattle.farm_laws.proofs.NextLemmas.{call_ticket, settles_it, way_settles, sound_next, sound_none}
+use Rattle.farm_laws.proofs.RunLemmas.{core_of-push, IsRun-push}
 use Rattle.farm_run.proofs.WaitLemmas.{call-end, kept-left, kept-settled, kept-push}
+use Rattle.farm_laws.proofs.LoudLemmas.{goes_loud}
 
 -- ---- entries that settle nothing
 
@@ -252,61 +250,7 @@ after_settled setup log e ps n reply kept names o made how = record {
     own lt = subst (λ (o : Option Pending). IsKept setup (log ++ e ∷ []) n o) (sym (none_left lt))
         (settled lt how)
 
--- ---- what goes on is not void, and reports the end of a run once
-
-end_loud : (s : Core) (root : ℕ) (json : Bool) (at : ℕ) (t : Ticket) (r : Result AssignJobResult CallFault)
-    → is_void (assignment_end s root json at t r).word ≡ false
-end_loud s root json at t (Ok a) = refl
-end_loud s root json at t (Err f) = refl
-
-ready_loud : (s : ServerNow) (root : ℕ) (json : Bool) (job : JobId) (archive : List ℕ)
-    (r : Result UpdateJobStateResult CallFault) (x : Effect) → ReadyEnds free s root json job archive r x
-    → is_void x.word ≡ false
-ready_loud s root json job archive (Ok u) x is = ap (λ (y : Effect). is_void y.word) is.2
-ready_loud s root json job archive (Err f) x is = ap (λ (y : Effect). is_void y.word) is
-
-started_loud : (setup : Setup) (s : ServerNow) (root : ℕ) (job : JobId) (run : RunJobHttpRequest)
-    (inputs : List ℕ) (r : Result UpdateJobStateResult CallFault) (x : Effect)
-    → StartedEnds free setup s root job run inputs r x → is_void x.word ≡ false
-started_loud setup s root job run inputs (Ok u) x is = ap (λ (y : Effect). is_void y.word) is.2
-started_loud setup s root job run inputs (Err f) x is = ap (λ (y : Effect). is_void y.word) is
-
-complete_loud : (addr : Addr) (root : ℕ) (json : Bool) (job : JobId) (outcome : Outcome)
-    (r : Result UpdateJobStateResult CallFault) → is_void (complete_end addr root json job outcome r).word
-    ≡ false
-complete_loud addr root json job outcome (Ok u) = refl
-complete_loud addr root json job outcome (Err f) = refl
-
-reports_loud : (setup : Setup) (s : ServerNow) (bytes : List ℕ) (root : ℕ) (json : Bool)
-    (reply : Option (List ℕ)) (t : Told) (x : Effect) → Reports free setup s bytes root json reply t x
-    → is_void x.word ≡ false
-reports_loud setup s bytes root json reply (told.Ready job at) x is =
-    ready_loud s root json job (drop at bytes) is.0 x is.2
-reports_loud setup s bytes root json reply (told.Started job run at) x is =
-    started_loud setup s root job run (drop at bytes) is.0 x is.2
-reports_loud setup s bytes root json reply (told.Complete job outcome) x is =
-    ap (λ (y : Effect). is_void y.word) is.2 ∙ complete_loud s.setup.addr root json job outcome is.0
-reports_loud setup s bytes root json reply told.Heartbeat x is = ap (λ (y : Effect). is_void y.word) is.2
-
-lives_loud : (setup : Setup) (life : ℕ) (s : ServerNow) (bytes : List ℕ) (root : ℕ) (json : Bool)
-    (reply : Option (List ℕ)) (t : Told) (over : Bool) (x : Effect)
-    → Lives free setup life s bytes root json reply t over x → is_void x.word ≡ false
-lives_loud setup life s bytes root json reply t true x is = ap (λ (y : Effect). is_void y.word) is
-lives_loud setup life s bytes root json reply t false x is = reports_loud setup s bytes root json reply t x is
-
-report_loud : (setup : Setup) (life : ℕ) (bytes : List ℕ) (root : ℕ) (json : Bool) (reply : Option (List ℕ))
-    (t : Told) (o : Option ServerNow) (x : Effect) → ReportsIn free setup life bytes root json reply t o x
-    → is_void x.word ≡ false
-report_loud setup life bytes root json reply t None x is = ap (λ (y : Effect). is_void y.word) is
-report_loud setup life bytes root json reply t (Some s) x is = lives_loud setup life s bytes root json reply t
-    (is_over life s) x is
-
-pub goes_loud : (setup : Setup) (log : List Entry) (at root : ℕ) (json : Bool) (reply : Option (List ℕ))
-    (ask : Ask) (x : Effect) → GoesOn free setup log at root json reply ask x → is_void x.word ≡ false
-goes_loud setup log at root json reply (Assign t) x is = ap (λ (y : Effect). is_void y.word) is.2
-    ∙ end_loud (core_of setup log) root json at t is.0
-goes_loud setup log at root json reply (Report server life t) x is =
-    report_loud setup life (brought_at log root) root json reply t (server_now setup log server) x is
+-- ---- the end of a run is reported once
 
 -- no report of a run's end follows on one
 no_second : (addr : Addr) (root : ℕ) (json : Bool) (job : JobId) (outcome : Outcome)

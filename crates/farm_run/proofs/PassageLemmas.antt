@@ -7,14 +7,14 @@ use Rattle.std.proofs.lemmas.Option.{same_Some}
 use Rattle.dist_types.specs.declared.addr.Addr.{Addr}
 use Rattle.build_server.specs.Builds.{Builder}
 use Rattle.farm_script.specs.declared.event.Event.{Event}
-use Rattle.farm_run.specs.declared.site.Site.{Site as Setup}
-use Rattle.farm_run.specs.declared.entry.Entry.{Entry}
+use Rattle.farm_entries.specs.declared.site.Site.{Site as Setup}
+use Rattle.farm_entries.specs.declared.entry.Entry.{Entry}
 use Rattle.farm_run.specs.Farm.{AddsNext, StepsTo}
-use Rattle.farm_run.specs.Next.{IsNext, EachNext, IsRun}
-use Rattle.farm_run.specs.Passage.{reached, StaysOwn, AreOwn, IsStill, Moves, IsMoved, Passage}
-use Rattle.farm_run.specs.Weather.{Outside, Weather, calm, free, weather_by}
-use Rattle.farm_run.proofs.FreeLemmas.{next_free}
-use Rattle.farm_run.proofs.RunLemmas.{IsRun-push}
+use Rattle.farm_entries.specs.Next.{IsNext, EachNext, IsRun}
+use Rattle.farm_entries.specs.Passage.{reached, StaysOwn, AreOwn, IsStill, Moves, IsMoved, Passage}
+use Rattle.farm_entries.specs.Weather.{Outside, Weather, calm, free, weather_by}
+use Rattle.farm_laws.proofs.FreeLemmas.{next_free}
+use Rattle.farm_laws.proofs.RunLemmas.{IsRun-push}
 use Rattle.farm_run.proofs.ServerLemmas.{get_set_same, get_set_other, within}
 
 -- ---- farms whose folders and builders are their own

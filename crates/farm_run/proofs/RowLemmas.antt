@@ -22,11 +22,11 @@ use Rattle.sched_core.specs.declared.entry.CoreKind.TheVariants as core
 use Rattle.sched_core.specs.declared.entry.Reserved.TheVariants as reserve
 use Rattle.http_routes.specs.declared.route.SchedRouted.{SchedRouted}
 use Rattle.http_routes.specs.declared.route.SchedRouted.TheVariants as asked
-use Rattle.farm_run.specs.Settled.{IsOutcome, assignment_end}
-use Rattle.farm_run.specs.Next.{GoesOn}
-use Rattle.farm_run.specs.Seen.{core_of}
-use Rattle.farm_run.specs.declared.pending.Ask.TheVariants.{Assign}
-use Rattle.farm_run.proofs.NextLemmas.{served_core}
+use Rattle.farm_entries.specs.Settled.{IsOutcome, assignment_end}
+use Rattle.farm_entries.specs.Next.{GoesOn}
+use Rattle.farm_entries.specs.Seen.{core_of}
+use Rattle.farm_entries.specs.declared.pending.Ask.TheVariants.{Assign}
+use Rattle.farm_laws.proofs.NextLemmas.{served_core}
 use Rattle.build_server.specs.Rules.{assign_verdict}
 use Rattle.build_server.specs.declared.fault.ServerFault.{ServerFault}
 use Rattle.build_server.specs.declared.run.Outcome.{Outcome}
@@ -34,35 +34,36 @@ use Rattle.http_routes.specs.declared.server_route.ServerRouted.{ServerRouted}
 use Rattle.http_routes.specs.declared.server_route.ServerRouted.TheVariants as server_asked
 use Rattle.farm_script.specs.declared.event.Event.{Event}
 use Rattle.farm_script.specs.declared.event.EventKind.TheVariants.{Restart}
-use Rattle.farm_run.specs.declared.site.Site.{Site as Setup}
-use Rattle.farm_run.specs.declared.site.SiteServer.{SiteServer as SetupServer}
-use Rattle.farm_run.specs.declared.entry.Effect.{Effect}
-use Rattle.farm_run.specs.declared.entry.Entry.{Entry}
-use Rattle.farm_run.specs.declared.entry.EntryWord.TheVariants.{Void, Down, Died}
-use Rattle.farm_run.specs.declared.entry.Step.{Step}
+use Rattle.farm_entries.specs.declared.site.Site.{Site as Setup}
+use Rattle.farm_entries.specs.declared.site.SiteServer.{SiteServer as SetupServer}
+use Rattle.farm_entries.specs.declared.entry.Effect.{Effect}
+use Rattle.farm_entries.specs.declared.entry.Entry.{Entry}
+use Rattle.farm_entries.specs.declared.entry.EntryWord.TheVariants.{Void, Down, Died}
+use Rattle.farm_entries.specs.declared.entry.Step.{Step}
 use Rattle.farm_run.specs.declared.pending.Made.{Made}
-use Rattle.farm_run.specs.declared.pending.Pending.{Pending}
-use Rattle.farm_run.specs.declared.pending.Told.{Told}
-use Rattle.farm_run.specs.declared.pending.Told.TheVariants as told
-use Rattle.farm_run.specs.Post.{Post as Station, outside_of}
-use Rattle.farm_run.specs.Answers.{hears, alloc_effect, answer_to, IsAnswered}
-use Rattle.farm_run.specs.Begun.{IsBegunBy, Keeps}
-use Rattle.farm_run.specs.Effects.{word_effect, entry_of}
+use Rattle.farm_entries.specs.declared.pending.Pending.{Pending}
+use Rattle.farm_entries.specs.declared.pending.Told.{Told}
+use Rattle.farm_entries.specs.declared.pending.Told.TheVariants as told
+use Rattle.farm_stations.specs.Post.{Post as Station, outside_of}
+use Rattle.farm_entries.specs.Answers.{hears, alloc_effect, answer_to, IsAnswered}
+use Rattle.farm_entries.specs.Begun.{IsBegunBy, Keeps}
+use Rattle.farm_entries.specs.Effects.{word_effect, entry_of}
 use Rattle.farm_run.specs.Farm.{IsFarm, IsReceived, IsMadeSo}
-use Rattle.farm_run.specs.Served.{assigned, served, books_of, IsServerAnswered, beat_effect}
-use Rattle.farm_run.specs.Served.{AsksServer, told_of, report_of}
+use Rattle.farm_entries.specs.Served.{assigned, served, books_of, IsServerAnswered, beat_effect}
+use Rattle.farm_entries.specs.Served.{AsksServer, told_of, report_of}
 use Rattle.http_routes.specs.declared.server_route.ServerAsked.{ServerAsked}
-use Rattle.farm_run.specs.Servers.{ServerNow, stepped, server_of, server_at, server_now, is_over}
-use Rattle.farm_run.specs.Settled.{ReadyEnds, StartedEnds, complete_end, Reports, Lives, ReportsIn}
-use Rattle.farm_run.specs.Weather.{Weather, calm, weather_of, opened_effect}
-use Rattle.farm_run.specs.Passage.{reached_in, reached, LeavesOutside, Moves, IsMoved}
+use Rattle.farm_entries.specs.Servers.{ServerNow, stepped, server_of, server_at, server_now, is_over}
+use Rattle.farm_entries.specs.Settled.{ReadyEnds, StartedEnds, complete_end, Reports, Lives, ReportsIn}
+use Rattle.farm_entries.specs.Weather.{Weather, calm, weather_of, opened_effect}
+use Rattle.farm_entries.specs.Passage.{reached_in, reached, LeavesOutside, Moves, IsMoved}
 use Rattle.farm_run.proofs.StandLemmas.{get_map, set_map}
 use Rattle.lru_disk_cache.specs.Archives.{Archives}
 use Rattle.farm_script.specs.declared.event.EventKind.{EventKind}
-use Rattle.farm_run.specs.Stations.{now_of, IsWell, AreStations, IsStepAt, IsRestartAt}
-use Rattle.farm_run.specs.Ways.{Way, way_of, server_way, way_to, beat_way, restart_way, to_nothing, to_nobody}
-use Rattle.farm_run.specs.Ways.{to_scheduler, to_server, to_beat, to_restart}
-use Rattle.farm_run.specs.Calls.{settles_by}
+use Rattle.farm_stations.specs.Stations.{now_of, IsWell, AreStations, IsStepAt, IsRestartAt}
+use Rattle.farm_entries.specs.Ways.{Way, way_of, server_way, way_to, beat_way, restart_way, to_nothing}
+use Rattle.farm_entries.specs.Ways.{to_nobody}
+use Rattle.farm_entries.specs.Ways.{to_scheduler, to_server, to_beat, to_restart}
+use Rattle.farm_entries.specs.Calls.{settles_by}
 use Rattle.farm_run.proofs.MadeLemmas.{received_made, idle_stands}
 use Rattle.farm_run.proofs.ServerLemmas.{IsFound, place_found, place_none, station_there, stations_gone}
 use Rattle.farm_run.proofs.ServerLemmas.{stations_restarted, IsStepOf, station_now}

@@ -32,20 +32,20 @@ use Rattle.sched_core.specs.declared.entry.CoreKind.TheVariants as core
 use Rattle.sched_core.specs.declared.entry.Reserved.TheVariants.{Job, NoRoom, Spent}
 use Rattle.sched_core.specs.declared.entry.UpdateAnswer.{UpdateAnswer}
 use Rattle.sched_core.specs.declared.entry.UpdateAnswer.TheVariants.{Accepted, Unknown, Wrong, Transition}
-use Rattle.farm_run.specs.declared.site.Site.{Site as Setup}
-use Rattle.farm_run.specs.declared.entry.Effect.{Effect}
-use Rattle.farm_run.specs.declared.entry.Reply.{Reply}
+use Rattle.farm_entries.specs.declared.site.Site.{Site as Setup}
+use Rattle.farm_entries.specs.declared.entry.Effect.{Effect}
+use Rattle.farm_entries.specs.declared.entry.Reply.{Reply}
 use Rattle.farm_script.specs.declared.fault.FarmFault.{FarmFault}
 use Rattle.farm_run.specs.declared.pending.Made.{Made}
-use Rattle.farm_run.specs.declared.pending.Pending.{Pending}
+use Rattle.farm_entries.specs.declared.pending.Pending.{Pending}
 use Rattle.http_routes.specs.Replies.{alloc_response, update_response, update_reply, commit_response}
-use Rattle.farm_run.specs.Answers.{Asks, alloc_effect}
-use Rattle.farm_run.specs.Begun.{IsAssignment, IsBegunBy, Keeps}
-use Rattle.farm_run.specs.Effects.{reply_effect, reply_to}
-use Rattle.farm_run.specs.Farm.{with_core}
-use Rattle.farm_run.specs.Settled.{assignment_end}
-use Rattle.farm_run.specs.Ways.{to_scheduler}
-use Rattle.farm_run.proofs.CallLemmas.{get_end}
+use Rattle.farm_entries.specs.Answers.{Asks, alloc_effect}
+use Rattle.farm_entries.specs.Begun.{IsAssignment, IsBegunBy, Keeps}
+use Rattle.farm_entries.specs.Effects.{reply_effect, reply_to}
+use Rattle.farm_entries.specs.Seen.{with_core}
+use Rattle.farm_entries.specs.Settled.{assignment_end}
+use Rattle.farm_entries.specs.Ways.{to_scheduler}
+use Rattle.farm_laws.proofs.CallLemmas.{get_end}
 
 -- the last entry of a log that one was added to
 pub last_is : (s new : Core) (made x : CoreEntry) → new ≡ logged s made

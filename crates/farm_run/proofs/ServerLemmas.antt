@@ -1,16 +1,15 @@
 -- Where a server stands in its setup, and what an entry leaves of the others.
 use Rattle.std.proofs.Common.{◌≡◌, ◌≢◌, ℕ, zero, suc, ◌+◌, ◌-◌, ◌<◌, ◌≤◌, Bool, true, false, cond, List, []}
-use Rattle.std.proofs.Common.{◌∷◌, ◌++◌, length, map, set, Option, Some, None, refl, sym, ap, subst, ◌∙◌, inl}
-use Rattle.std.proofs.Common.{inr, arith}
+use Rattle.std.proofs.Common.{◌∷◌, ◌++◌, length, map, set, Option, Some, None, refl, sym, ap, subst, ◌∙◌}
+use Rattle.std.proofs.Common.{inl, inr, arith}
 use Rattle.std.specs.Borrow.{Bor}
-use Rattle.std.specs.Prelude.{slice_get, position, find, fold, is_some, MatchOption}
+use Rattle.std.specs.Prelude.{slice_get, position, find, is_some, MatchOption}
 use Rattle.std.specs.Slice.{IsItemAt}
 use Rattle.std.specs.List.{position_from, AllByRecursion}
 use Rattle.std.proofs.lemmas.Iterator.Adapters.{position_from-zero}
 use Rattle.std.specs.Option.{option_map}
 use Rattle.std.proofs.lemmas.Bool.{cases_eq}
 use Rattle.std.proofs.lemmas.List.{length-set}
-use Rattle.std.proofs.lemmas.List.Sums.{fold-append}
 use Rattle.std.proofs.lemmas.Option.{same_Some, slice_get_read}
 use Rattle.dist_types.specs.Addr.{same_addr}
 use Rattle.dist_types.specs.declared.addr.Addr.{Addr}
@@ -19,18 +18,18 @@ use Rattle.sched_core.proofs.AllLemmas.{is_false, true_false}
 use Rattle.farm_script.specs.declared.event.Event.{Event}
 use Rattle.farm_script.specs.declared.event.EventKind.TheVariants.{Restart}
 use Rattle.farm_script.specs.Setups.{AreApart}
-use Rattle.farm_run.specs.declared.site.Site.{Site as Setup}
-use Rattle.farm_run.specs.declared.site.SiteServer.{SiteServer as SetupServer}
-use Rattle.farm_run.specs.declared.entry.Effect.{Effect}
-use Rattle.farm_run.specs.declared.entry.Entry.{Entry}
-use Rattle.farm_run.specs.declared.entry.Step.{Step}
-use Rattle.farm_run.specs.declared.entry.StepKind.{StepKind}
-use Rattle.farm_run.specs.declared.entry.StepKind.TheVariants as kinds
-use Rattle.farm_run.specs.Post.{Post as Station}
-use Rattle.farm_run.specs.Effects.{entry_of}
-use Rattle.farm_run.specs.Servers.{ServerNow, server_begun, kind_after, restart_by, restarted, stepped}
-use Rattle.farm_run.specs.Servers.{server_after, server_of, server_at, server_now}
-use Rattle.farm_run.specs.Stations.{now_of, IsWell, AreWell, IsStation, AreStations, IsStepAt, HasApart}
+use Rattle.farm_entries.specs.declared.site.Site.{Site as Setup}
+use Rattle.farm_entries.specs.declared.site.SiteServer.{SiteServer as SetupServer}
+use Rattle.farm_entries.specs.declared.entry.Effect.{Effect}
+use Rattle.farm_entries.specs.declared.entry.Entry.{Entry}
+use Rattle.farm_entries.specs.declared.entry.Step.{Step}
+use Rattle.farm_entries.specs.declared.entry.StepKind.TheVariants as kinds
+use Rattle.farm_stations.specs.Post.{Post as Station}
+use Rattle.farm_entries.specs.Effects.{entry_of}
+use Rattle.farm_entries.specs.Servers.{ServerNow, kind_after, restart_by, restarted, stepped, server_of}
+use Rattle.farm_entries.specs.Servers.{server_at, server_now}
+use Rattle.farm_stations.specs.Stations.{now_of, IsWell, AreWell, IsStation, AreStations, IsStepAt, HasApart}
+use Rattle.farm_entries.proofs.StepLemmas.{server-push, server_setup}
 
 -- ---- places
 
@@ -164,42 +163,6 @@ not_same : (a b : Addr) → a ≢ b → same_addr a b ≡ false
 not_same a b differ = is_false (same_addr a b) (λ on. differ (same_is a b on))
 
 -- ---- one more entry
-
-pub server-push : (s : SetupServer) (log : List Entry) (e : Entry)
-    → server_of s (log ++ e ∷ []) ≡ server_after (server_of s log) e
-server-push s log e = fold-append server_after (server_begun s) log (e ∷ [])
-
-stepped_setup : (step : Option Step) (s : ServerNow) → (stepped step s).setup ≡ s.setup
-stepped_setup None s = refl
-stepped_setup (Some step) s = by_test (same_addr step.server s.setup.addr)
-  where
-    open_kind : (k : StepKind) → (kind_after k s).setup ≡ s.setup
-    open_kind (kinds.Heard as_what) = refl
-    open_kind (kinds.Assigned job tc ready) = refl
-    open_kind (kinds.Submitted job outcome) = refl
-    open_kind (kinds.Ran job ran result) = refl
-    open_kind (kinds.Finished job) = refl
-    open_kind (kinds.Unreported job) = refl
-    open_kind (kinds.Opened archives) = refl
-
-    by_test : (b : Bool) → (cond b (kind_after step.kind s) s).setup ≡ s.setup
-    by_test true = open_kind step.kind
-    by_test false = refl
-
-restarted_setup : (o : Option (List ℕ × ℕ)) (s : ServerNow) → (restarted o s).setup ≡ s.setup
-restarted_setup None s = refl
-restarted_setup (Some p) s = refl
-
-after_setup : (s : ServerNow) (e : Entry) → (server_after s e).setup ≡ s.setup
-after_setup s e = stepped_setup e.step (restarted (restart_by s.setup.addr e.event.kind) s)
-    ∙ restarted_setup (restart_by s.setup.addr e.event.kind) s
-
-fold_setup : (s : ServerNow) (log : List Entry) → (fold server_after s log).setup ≡ s.setup
-fold_setup s [] = refl
-fold_setup s (e ∷ es) = fold_setup (server_after s e) es ∙ after_setup s e
-
-pub server_setup : (s : SetupServer) (log : List Entry) → (server_of s log).setup ≡ s
-server_setup s log = fold_setup (server_begun s) log
 
 -- that a step is of the server at an address, or none
 abbrev pub IsStepOf : Addr → Option Step → Type 0

@@ -10,21 +10,21 @@ use Rattle.farm_script.specs.declared.event.Event.{Event}
 use Rattle.farm_script.specs.declared.event.EventKind.{EventKind}
 use Rattle.farm_script.specs.declared.event.EventKind.TheVariants.{Request, Deliver, Fail, Return, Answer}
 use Rattle.farm_script.specs.declared.event.EventKind.TheVariants.{Beat, Restart}
-use Rattle.farm_run.specs.declared.site.Site.{Site as Setup}
-use Rattle.farm_run.specs.declared.site.SiteServer.{SiteServer as SetupServer}
-use Rattle.farm_run.specs.declared.entry.Effect.{Effect}
-use Rattle.farm_run.specs.declared.entry.Entry.{Entry}
-use Rattle.farm_run.specs.declared.entry.Step.{Step}
-use Rattle.farm_run.specs.declared.entry.StepKind.{StepKind}
-use Rattle.farm_run.specs.declared.entry.StepKind.TheVariants as kinds
-use Rattle.farm_run.specs.Effects.{entry_of}
+use Rattle.farm_entries.specs.declared.site.Site.{Site as Setup}
+use Rattle.farm_entries.specs.declared.site.SiteServer.{SiteServer as SetupServer}
+use Rattle.farm_entries.specs.declared.entry.Effect.{Effect}
+use Rattle.farm_entries.specs.declared.entry.Entry.{Entry}
+use Rattle.farm_entries.specs.declared.entry.Step.{Step}
+use Rattle.farm_entries.specs.declared.entry.StepKind.{StepKind}
+use Rattle.farm_entries.specs.declared.entry.StepKind.TheVariants as kinds
+use Rattle.farm_entries.specs.Effects.{entry_of}
 use Rattle.farm_run.specs.Farm.{Stands}
-use Rattle.farm_run.specs.Passage.{reaches, reached_in, reached, LeavesTo, LeavesOutside, AreOwn, Moves}
-use Rattle.farm_run.specs.Passage.{IsMoved}
-use Rattle.farm_run.specs.Post.{Post as Station, outside_of}
-use Rattle.farm_run.specs.Servers.{restart_by}
-use Rattle.farm_run.specs.Stations.{AreStations, IsStepAt, HasApart}
-use Rattle.farm_run.specs.Weather.{Outside, calm, weather_by, weather_of}
+use Rattle.farm_entries.specs.Passage.{reaches, reached_in, reached, LeavesTo, LeavesOutside, AreOwn, Moves}
+use Rattle.farm_entries.specs.Passage.{IsMoved}
+use Rattle.farm_stations.specs.Post.{Post as Station, outside_of}
+use Rattle.farm_entries.specs.Servers.{restart_by}
+use Rattle.farm_stations.specs.Stations.{AreStations, IsStepAt, HasApart}
+use Rattle.farm_entries.specs.Weather.{Outside, calm, weather_by, weather_of}
 use Rattle.farm_run.proofs.ServerLemmas.{IsStepOf, stations_same, stations_stepped}
 
 -- ---- lists

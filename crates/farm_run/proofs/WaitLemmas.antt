@@ -6,16 +6,17 @@ use Rattle.std.proofs.lemmas.List.{length-append}
 use Rattle.std.proofs.lemmas.Option.{slice_get_past}
 use Rattle.dist_types.specs.Addr.{◌>>=◌}
 use Rattle.sched_core.proofs.Lists.{end_cut}
-use Rattle.farm_run.specs.declared.site.Site.{Site as Setup}
-use Rattle.farm_run.specs.declared.entry.Entry.{Entry}
-use Rattle.farm_run.specs.declared.pending.Pending.{Pending}
-use Rattle.farm_run.specs.Begun.{IsMadeBy, IsCallOf}
-use Rattle.farm_run.specs.Calls.{settled_at, is_settled, waiting_at}
-use Rattle.farm_run.specs.Effects.{effect_of}
-use Rattle.farm_run.specs.Farm.{IsKept, kept_at, AreKept, IsAfter}
-use Rattle.farm_run.specs.Ways.{way_of}
-use Rattle.farm_run.proofs.CallLemmas.{get_left, get_end, waiting-push}
-use Rattle.farm_run.proofs.NumberLemmas.{take_left, take_end}
+use Rattle.farm_entries.specs.declared.site.Site.{Site as Setup}
+use Rattle.farm_entries.specs.declared.entry.Entry.{Entry}
+use Rattle.farm_entries.specs.declared.pending.Pending.{Pending}
+use Rattle.farm_entries.specs.Begun.{IsMadeBy, IsCallOf}
+use Rattle.farm_entries.specs.Calls.{settled_at, is_settled, waiting_at}
+use Rattle.farm_entries.specs.Effects.{effect_of}
+use Rattle.farm_entries.specs.Waiting.{IsKept, kept_at, AreKept}
+use Rattle.farm_run.specs.Farm.{IsAfter}
+use Rattle.farm_entries.specs.Ways.{way_of}
+use Rattle.farm_laws.proofs.CallLemmas.{get_left, get_end, waiting-push}
+use Rattle.farm_laws.proofs.NumberLemmas.{take_left, take_end}
 
 -- what is kept of a call of before
 pub call-left : (setup : Setup) (log : List Entry) (e : Entry) (n : ℕ) (p : Pending) → n < length log

@@ -4,10 +4,10 @@ use Rattle.lru_disk_cache.specs.Archives.{Archives}
 use Rattle.lru_disk_cache.specs.Held.{Held}
 use Rattle.build_server.specs.Builds.{Builder}
 use Rattle.farm_script.specs.declared.setup.SetupServer.{SetupServer}
-use Rattle.farm_run.specs.declared.site.SiteServer.{SiteServer}
-use Rattle.farm_run.specs.Passage.{IsBegun}
-use Rattle.farm_run.specs.Sites.{site_server}
-use Rattle.farm_run.specs.Weather.{Outside}
+use Rattle.farm_entries.specs.declared.site.SiteServer.{SiteServer}
+use Rattle.farm_entries.specs.Passage.{IsBegun}
+use Rattle.farm_entries.specs.Sites.{site_server}
+use Rattle.farm_entries.specs.Weather.{Outside}
 
 -- a server begins over that folder and with that builder
 pub record IsBegunAs (s : SetupServer) (folder : Held) (builder : Builder) (t : SiteServer)

@@ -1,37 +1,29 @@
 -- What contracts see of a farm, and what its runs do.
-use Rattle.std.specs.Prelude.{◌≡◌, ℕ, ◌^◌, ◌<◌, List, [], ◌∷◌, ◌++◌, length, take, map, slice_get, true}
-use Rattle.std.specs.Prelude.{Option, Some, None}
-use Rattle.std.specs.List.{AllByRecursion}
-use Rattle.dist_types.specs.Addr.{◌>>=◌}
-use Rattle.sched_core.specs.declared.start.Start.{Start}
-use Rattle.sched_core.specs.Log.{Core, logged}
-use Rattle.sched_core.specs.Reservation.{bookings, unspent}
-use Rattle.sched_core.specs.Job.{commits, open_jobs}
-use Rattle.sched_core.specs.Standing.{standing}
-use Rattle.sched_core.specs.Rule.{is_among}
-use Rattle.sched_core.specs.Laws.{IsLegal, AreDistinct, IsHeldOnce, HasOrder, IsBounded}
-use Rattle.sched_core.specs.Ticket.{Ticket}
+use Rattle.std.specs.Prelude.{◌≡◌, ℕ, ◌^◌, ◌<◌, List, [], ◌∷◌, ◌++◌, length, map}
+use Rattle.std.specs.Prelude.{Option, None}
+use Rattle.sched_core.specs.Log.{Core}
 use Rattle.sched_core.specs.declared.entry.CoreEntry.{CoreEntry}
-use Rattle.farm_run.specs.declared.site.Site.{Site as Setup}
+use Rattle.farm_entries.specs.declared.site.Site.{Site as Setup}
 use Rattle.farm_script.specs.declared.event.Event.{Event}
 use Rattle.farm_run.specs.declared.desk.Desk.{Desk}
-use Rattle.farm_run.specs.declared.entry.Effect.{Effect}
-use Rattle.farm_run.specs.declared.entry.Entry.{Entry}
+use Rattle.farm_entries.specs.declared.entry.Effect.{Effect}
+use Rattle.farm_entries.specs.declared.entry.Entry.{Entry}
 use Rattle.dist_types.specs.declared.addr.Addr.{Addr}
 use Rattle.farm_run.specs.declared.pending.Made.{Made}
-use Rattle.farm_run.specs.declared.pending.Pending.{Pending}
-use Rattle.farm_run.specs.Post.{Post as Station, outside_of}
-use Rattle.farm_run.specs.Begun.{IsCallOf, IsBegunBy, Keeps}
-use Rattle.farm_run.specs.Calls.{waiting_at}
-use Rattle.farm_run.specs.Effects.{entry_of}
-use Rattle.farm_run.specs.Next.{IsServed, IsMade, IsNext, IsRun}
-use Rattle.farm_run.specs.Passage.{IsMoved, Passage}
-use Rattle.farm_run.specs.Seen.{ids_start, core_log, core_of}
-use Rattle.farm_run.specs.Servers.{restart_by}
-use Rattle.farm_run.specs.Stations.{AreStations, HasApart}
-use Rattle.farm_run.specs.Tickets.{ticket_at}
-use Rattle.farm_run.specs.Ways.{Way}
-use Rattle.farm_run.specs.Weather.{Outside, Weather, calm, free}
+use Rattle.farm_entries.specs.declared.pending.Pending.{Pending}
+use Rattle.farm_stations.specs.Post.{Post as Station, outside_of}
+use Rattle.farm_entries.specs.Begun.{IsBegunBy, Keeps}
+use Rattle.farm_entries.specs.Effects.{entry_of}
+use Rattle.farm_entries.specs.Next.{IsServed, IsMade, IsNext, IsRun}
+use Rattle.farm_entries.specs.Passage.{IsMoved, Passage}
+use Rattle.farm_entries.specs.Seen.{core_of}
+use Rattle.farm_entries.specs.Servers.{restart_by}
+use Rattle.farm_stations.specs.Stations.{AreStations, HasApart}
+use Rattle.farm_entries.specs.Ways.{Way}
+use Rattle.farm_entries.specs.Weather.{Outside, Weather, free}
+use Rattle.farm_entries.specs.Waiting.{IsKept, kept_at, AreKept}
+use Rattle.farm_entries.specs.Seen.{with_core}
+use Rattle.farm_entries.specs.Lawful.{IsSound}
 
 -- how the farm was set up, the entries so far, and what is outside of each server, in the order of the setup
 pub record Farmed : Type 0 where
@@ -48,26 +40,6 @@ with_entries farm more outside = record {
 }
 
 -- ---- the calls that wait
-
--- What is kept for the call of entry n: it waits, and that is what its entry tells of it.
-pub record IsWaiting (setup : Setup) (log : List Entry) (n : ℕ) (p : Pending) : Type 0 where
-  pub entry : Entry
-  pub waits : waiting_at log n ≡ Some entry
-  pub call : IsCallOf setup log n p
-
--- nothing is kept where no call waits
-abbrev pub IsKept : Setup → List Entry → ℕ → Option Pending → Type 0
-IsKept setup log n None = waiting_at log n ≡ None
-IsKept setup log n (Some p) = IsWaiting setup log n p
-
--- what is kept at that place
-abbrev pub kept_at : List (Option Pending) → ℕ → Option Pending
-kept_at ps n = slice_get ps n >>= λ o. o
-
--- a place is kept for each entry
-pub record AreKept (setup : Setup) (log : List Entry) (ps : List (Option Pending)) : Type 0 where
-  pub size : length ps ≡ length log
-  pub each : (n : ℕ) → IsKept setup log n (kept_at ps n)
 
 -- what is kept for the entries before one more, and what for itself
 pub record IsAfter (setup : Setup) (log : List Entry) (e : Entry) (ps : List (Option Pending))
@@ -102,42 +74,9 @@ pub record IsMadeSo (setup : Setup) (log : List Entry) (event : Event) (way : Wa
 
 -- ---- the desk
 
--- the scheduler with the core entry that was made, if any
-abbrev pub with_core : Core → Option CoreEntry → Core
-with_core core None = core
-with_core core (Some e) = logged core e
-
 -- the desk once its scheduler made that core entry, if any
 abbrev pub acted : Desk → Option CoreEntry → Desk
 acted desk made = record desk { state = with_core desk.state made }
-
--- ---- what every run has
-
--- the core log is legal, and the reservation of each call that waits is unspent
-pub record IsSound (setup : Setup) (log : List Entry) : Type 0 where
-  pub legal : IsLegal (ids_start setup) (core_log log)
-  pub own : (n : ℕ) (w : Entry) (t : Ticket) → waiting_at log n ≡ Some w → ticket_at log n ≡ Some t
-      → is_among (unspent (core_log log)) t.number t.job ≡ true
-
--- Each core entry is the core rule's over those before it; so different reservations have different jobs,
--- each open job has exactly one unended reservation, at a registration that stands, the states of a committed
--- job begin with pending or ready and leave none out from there on, and a registration with c processors has
--- a load of at most c + 1 + c/8.
-pub record IsLawful (start : Start) (log : List CoreEntry) : Type 0 where
-  pub legal : IsLegal start log
-  pub ids : AreDistinct (map (λ b. b.job) (bookings log))
-  pub held : AllByRecursion (λ c. IsHeldOnce log c.job) (open_jobs log)
-  pub states : AllByRecursion HasOrder (commits log)
-  pub loads : AllByRecursion (IsBounded log) (standing log)
-
--- after each front of the entries
-abbrev pub AreLawful : Setup → List Entry → Type 0
-AreLawful setup entries = (n : ℕ) → IsLawful (ids_start setup)
-    (core_log (take n entries))
-
--- each event, whatever it is, has a next entry in calm weather
-abbrev pub HasNext : Setup → List Entry → Type 0
-HasNext setup log = (event : Event) → (e : Entry) × IsNext calm setup log event e
 
 -- ---- farms
 

@@ -3,14 +3,14 @@ use Rattle.std.specs.Prelude.{◌≡◌, ◌≢◌, ◌≤◌, ℕ, List, [], �
 use Rattle.lru_disk_cache.specs.Held.{Held}
 use Rattle.build_server.specs.Builds.{Builder}
 use Rattle.sched_core.specs.Log.{Core}
-use Rattle.farm_run.specs.declared.site.Site.{Site as Setup}
-use Rattle.farm_run.specs.declared.entry.Entry.{Entry}
-use Rattle.farm_run.specs.declared.pending.Pending.{Pending}
+use Rattle.farm_entries.specs.declared.site.Site.{Site as Setup}
+use Rattle.farm_entries.specs.declared.entry.Entry.{Entry}
+use Rattle.farm_entries.specs.declared.pending.Pending.{Pending}
 use Rattle.farm_run.specs.Farm.{IsFarm}
-use Rattle.farm_run.specs.Next.{IsRun}
-use Rattle.farm_run.specs.Passage.{StaysOwn, AreOwn}
-use Rattle.farm_run.specs.Post.{Post as Station, outside_of}
-use Rattle.farm_run.specs.Weather.{Outside, calm}
+use Rattle.farm_entries.specs.Next.{IsRun}
+use Rattle.farm_entries.specs.Passage.{StaysOwn, AreOwn}
+use Rattle.farm_stations.specs.Post.{Post as Station, outside_of}
+use Rattle.farm_entries.specs.Weather.{Outside, calm}
 
 -- what each server's folder tells, in the order of the setup
 abbrev pub folders_in : List Outside → List Held

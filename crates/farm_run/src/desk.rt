@@ -1,6 +1,6 @@
 //! The scheduler of a farm at its desk.
-use crate::site::Site;
 use dist_token::job_token::JWTJobAuthorizer;
+use farm_entries::site::Site;
 use sched_core::state::SchedState;
 use std::alloc::Global;
 

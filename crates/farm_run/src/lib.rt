@@ -2,20 +2,20 @@
 //!
 //! The contract: a run has one entry for each event, each *next* over the entries before it, and there is
 //! one such list; after each front of it the scheduler's laws hold; what is printed is the text of the
-//! farm and of that list.
+//! farm and of that list. Entries, the laws of runs and the builders of listed answers stand in the crates
+//! below, and are exported again here.
 //!
 //! The layer above is `farm`, whose command reads a script, runs it and writes the text. Tests and replays
 //! use `setup`, `Farm::new`, `Farm::run`, `Farm::history` and `print_run`.
 #![tactic(auto)]
 
+pub use farm_entries::{entry, site};
+pub use farm_laws::{build_laws, laws};
+pub use farm_stations::builder;
+
 mod arrivals;
 pub mod begin;
-pub mod build_laws;
-pub mod builder;
-mod copies;
 mod desk;
-pub mod entry;
-pub mod laws;
 mod lookup;
 mod pending;
 pub mod print;
@@ -26,7 +26,4 @@ mod serve;
 mod servers;
 mod settle;
 mod settlements;
-pub mod site;
-mod station;
-mod text;
 mod words;

@@ -2,12 +2,12 @@
 ghost use Rattle.std.specs.Prelude.{◌≡◌, position, slice_get};
 ghost use Rattle.std.specs.Option.{option_map};
 ghost use Rattle.dist_types.specs.Addr.{same_addr};
-ghost use Rattle.farm_run.specs.Calls.{call_at, delivery_at};
-ghost use Rattle.farm_run.specs.Ways.{is_inside, caller_of, stepper, brought_at};
+ghost use Rattle.farm_entries.specs.Calls.{call_at, delivery_at};
+ghost use Rattle.farm_entries.specs.Ways.{is_inside, caller_of, stepper, brought_at};
 
-use crate::entry::{Entry, OutCall, Step};
-use crate::site::Site;
 use dist_types::addr::Addr;
+use farm_entries::entry::{Entry, OutCall, Step};
+use farm_entries::site::Site;
 use farm_script::event::EventKind;
 
 /// The call of that number, if it was made.

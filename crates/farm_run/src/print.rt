@@ -1,90 +1,24 @@
 //! The printed run.
-ghost use Rattle.std.specs.Prelude.{◌≡◌, ◌+◌, ◌++◌, ◌<◌, ◌^◌, Some, slice_get, OnOk, IfOk, IfErr};
+ghost use Rattle.std.specs.Prelude.{◌≡◌, ◌++◌, Some, slice_get, OnOk, IfOk, IfErr};
 ghost use Rattle.std.specs.Prelude.{string_bytes};
 ghost use Rattle.std.specs.List.{flat_map};
-ghost use Rattle.farm_run.specs.Printed.{entry_text, entries_text, core_count, row_text, job_text, held_text};
-ghost use Rattle.farm_run.specs.Printed.{kept_archive_text, server_text, books_text, standing_text, run_text};
-ghost use Rattle.farm_run.specs.Servers.{server_of};
-ghost use Rattle.farm_run.specs.Seen.{core_log};
+ghost use Rattle.farm_entries.specs.Printed.{job_text, held_text, kept_archive_text, server_text, books_text};
+ghost use Rattle.farm_entries.specs.Printed.{standing_text, run_text};
+ghost use Rattle.farm_entries.specs.Servers.{server_of};
+ghost use Rattle.farm_entries.specs.Seen.{core_log};
 ghost use Rattle.sched_core.specs.Rows.{unended_by_id};
 ghost use Rattle.farm_script.specs.declared.fault.FarmFault.TheVariants as fault;
 
-use crate::entry::Entry;
 use crate::run::Farm;
-use crate::site::SiteServer;
-use crate::station::Station;
-use crate::text::{
-    ArchiveLine, CallLine, CoreLine, HeldLine, JobLine, Kind, ReplyLine, RowLine, StepLine,
-    WordLine,
-};
-use build_server::Held;
 use dist_types::addr::Addr;
 use dist_types::builder::BuilderIncoming;
+use farm_entries::site::SiteServer;
 use farm_script::fault::FarmFault;
-use lru_disk_cache::Archives;
+use farm_stations::station::Station;
+use farm_text::lines::{push_archives, push_entries, push_held, push_rows};
+use farm_text::text::JobLine;
 use lru_disk_cache::folder::Folder;
-use sched_core::rows::Servers;
 use std::alloc::{AllocError, Global};
-
-/// Writes the lines of an entry.
-fn push_entry(
-    out: &mut String,
-    number: u64,
-    core_number: u64,
-    entry: &Entry,
-) -> Result<(), AllocError>
-    ensures { OnOk result (string_bytes out.new ≡ string_bytes out.old ++ entry_text number core_number
-        entry.entry.now) }
-{
-    let at = entry.event.at;
-    let kind = Kind(&entry.event.kind);
-    let core = CoreLine {
-        number: core_number,
-        core: &entry.core,
-    };
-    let step = StepLine(&entry.step);
-    let call = CallLine(&entry.call);
-    let reply = ReplyLine(&entry.reply);
-    let word = WordLine(entry.word);
-    write!(
-        out,
-        "entry {number} {at} {kind}\n{core}{step}{call}{reply}{word}"
-    )
-}
-
-/// How many core entries there are after an entry.
-fn core_numbers(core_number: u64, entry: &Entry) -> u64
-    requires { core_number + 1 < 2 ^ 64 }
-    ensures { result ≡ core_number + core_count entry.entry.now.core }
-{
-    match &entry.core {
-        Some(_) => core_number + 1,
-        None => core_number,
-    }
-}
-
-/// Writes the lines of all entries.
-fn push_entries(out: &mut String, entries: &[Entry]) -> Result<(), AllocError>
-    ensures { OnOk result (string_bytes out.new ≡ string_bytes out.old ++ entries_text 0 0 entries.now) }
-{
-    let mut core_number = 0u64;
-    for (number, entry) in entries.iter().enumerate() {
-        push_entry(out, number as u64, core_number, entry)?;
-        core_number = core_numbers(core_number, entry);
-    }
-    Ok(())
-}
-
-/// Writes the lines of the registrations that stand.
-fn push_rows(out: &mut String, servers: Servers<'_>) -> Result<(), AllocError>
-    ensures { OnOk result (string_bytes out.new ≡ string_bytes out.old ++ flat_map row_text servers.entry) }
-{
-    for row in servers {
-        let line = RowLine(row);
-        write!(out, "{line}")?;
-    }
-    Ok(())
-}
 
 /// Writes the lines of the reservations that are unended.
 fn push_jobs<F: Folder + Drop, B: BuilderIncoming + Drop>(
@@ -96,30 +30,6 @@ fn push_jobs<F: Folder + Drop, B: BuilderIncoming + Drop>(
 {
     for row in farm.jobs() {
         let line = JobLine(row);
-        write!(out, "{line}")?;
-    }
-    Ok(())
-}
-
-/// Writes the lines of jobs that a server holds.
-fn push_held(out: &mut String, addr: Addr, held: Held<'_>) -> Result<(), AllocError>
-    ensures { OnOk result
-        (string_bytes out.new ≡ string_bytes out.old ++ flat_map (held_text addr) held.entry) }
-{
-    for (job, tc) in held {
-        let line = HeldLine { addr, job, tc };
-        write!(out, "{line}")?;
-    }
-    Ok(())
-}
-
-/// Writes the lines of a server's archives.
-fn push_archives(out: &mut String, addr: Addr, archives: Archives<'_>) -> Result<(), AllocError>
-    ensures { OnOk result (string_bytes out.new ≡ string_bytes out.old ++ flat_map
-        (kept_archive_text addr) archives.entry) }
-{
-    for (tc, size) in archives {
-        let line = ArchiveLine { addr, tc, size };
         write!(out, "{line}")?;
     }
     Ok(())

@@ -3,12 +3,12 @@ ghost use Rattle.std.specs.Prelude.{◌≡◌, ◌+◌, ◌≤◌, ◌++◌, [],
 ghost use Rattle.std.specs.Option.{option_map};
 ghost use Rattle.build_server.specs.Builds.{builder_of};
 ghost use Rattle.farm_script.specs.declared.fault.FarmFault.TheVariants as fault;
-ghost use Rattle.farm_run.specs.Post.{outside_of};
+ghost use Rattle.farm_stations.specs.Post.{outside_of};
 ghost use Rattle.farm_run.specs.Stops.{folders_in, builders_in, in_front};
 
-use crate::station::Station;
 use dist_types::builder::BuilderIncoming;
 use farm_script::fault::FarmFault;
+use farm_stations::station::Station;
 use lru_disk_cache::folder::Folder;
 use std::alloc::Global;
 use std::marker::Model;

@@ -5,37 +5,39 @@ ghost use Rattle.build_server.specs.Builds.{builder_of};
 ghost use Rattle.sched_core.specs.Job.{open_jobs};
 ghost use Rattle.sched_core.specs.Rows.{servers_of, jobs_of, job_row, unended_by_id};
 ghost use Rattle.farm_script.specs.declared.fault.FarmFault.TheVariants as fault;
-ghost use Rattle.farm_run.specs.declared.site.SiteServer.{SiteServer};
-ghost use Rattle.farm_run.specs.Builds.{AreBuilds, HasToken, HasWords};
-ghost use Rattle.farm_run.specs.Farm.{IsFarm, IsMadeSo, AreLawful, HasNext, acted, AddsNext, StepsTo, Runs};
-ghost use Rattle.farm_run.specs.Next.{IsRun};
-ghost use Rattle.farm_run.specs.Passage.{AreOwn};
-ghost use Rattle.farm_run.specs.Printed.{ids_given};
-ghost use Rattle.farm_run.specs.Reliable.{IsReliable};
-ghost use Rattle.farm_run.specs.Seen.{core_log};
-ghost use Rattle.farm_run.specs.Servers.{server_of};
-ghost use Rattle.farm_run.specs.Stations.{now_of, AreStations, HasApart};
-ghost use Rattle.farm_run.specs.Post.{outside_of};
+ghost use Rattle.farm_entries.specs.declared.site.SiteServer.{SiteServer};
+ghost use Rattle.farm_entries.specs.Builds.{AreBuilds, HasToken, HasWords};
+ghost use Rattle.farm_run.specs.Farm.{IsFarm, IsMadeSo, acted, AddsNext, StepsTo, Runs};
+ghost use Rattle.farm_entries.specs.Lawful.{AreLawful, HasNext};
+ghost use Rattle.farm_entries.specs.Next.{IsRun};
+ghost use Rattle.farm_entries.specs.Passage.{AreOwn};
+ghost use Rattle.farm_entries.specs.Printed.{ids_given};
+ghost use Rattle.farm_entries.specs.Reliable.{IsReliable};
+ghost use Rattle.farm_entries.specs.Seen.{core_log};
+ghost use Rattle.farm_entries.specs.Servers.{server_of};
+ghost use Rattle.farm_stations.specs.Stations.{now_of, AreStations, HasApart};
+ghost use Rattle.farm_stations.specs.Post.{outside_of};
 ghost use Rattle.farm_run.specs.Stops.{folders_in, builders_in, IsCutOff, AreHandedBack};
-ghost use Rattle.farm_run.specs.Ways.{way_of};
-ghost use Rattle.farm_run.specs.Weather.{Outside, calm, free};
+ghost use Rattle.farm_entries.specs.Ways.{way_of};
+ghost use Rattle.farm_entries.specs.Weather.{Outside, calm, free};
 
 use crate::arrivals::{arrive, deliver, restart, send_beat};
 use crate::desk::Desk;
-use crate::entry::Entry;
 use crate::lookup::{delivery_at, is_inside};
-use crate::pending::{Made, Pending, idle, release, undo_last};
+use crate::pending::{Made, idle, release, undo_last};
 use crate::room::Room;
 use crate::serve::{Arrival, Stamp};
 use crate::settle::Settlement;
 use crate::settlements::take_back;
-use crate::site::Site;
-use crate::station::Station;
 use crate::words::{has_addresses, has_count};
 use dist_types::builder::BuilderIncoming;
 use dist_types::text::Items;
+use farm_entries::entry::Entry;
+use farm_entries::pending::Pending;
+use farm_entries::site::Site;
 use farm_script::event::{Event, EventKind};
 use farm_script::fault::FarmFault;
+use farm_stations::station::Station;
 use lru_disk_cache::folder::Folder;
 use sched_core::rows::{Jobs, Servers};
 use sched_core::state::SchedState;
@@ -63,7 +65,7 @@ pub struct Farm<F: Folder + Drop, B: BuilderIncoming + Drop> {
 impl<F: Folder + Drop, B: BuilderIncoming + Drop> Model for Farm<F, B> {
     ghost use Rattle.std.specs.Prelude.{map};
     ghost use Rattle.farm_run.specs.Farm.{Farmed};
-    ghost use Rattle.farm_run.specs.Post.{outside_of};
+    ghost use Rattle.farm_stations.specs.Post.{outside_of};
 
     ghost Value = { Farmed };
 
@@ -283,7 +285,7 @@ impl<F: Folder + Drop, B: BuilderIncoming + Drop> Farm<F, B> {
     }
 
     /// That over the entries each event, whatever it is, has a next one.
-    #[tactic(auto, using(crate::proofs::ThereLemmas::has_next))]
+    #[tactic(auto, using(farm_laws::proofs::ThereLemmas::has_next))]
     pub fn goes_on(&self)
         ensures { HasNext self.now.setup self.now.entries }
     {

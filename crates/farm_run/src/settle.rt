@@ -4,15 +4,15 @@ ghost use Rattle.dist_types.specs.declared.outgoing.CallFault.{CallFault as Caus
 ghost use Rattle.dist_types.specs.declared.results.AssignJobResult.{AssignJobResult as Answer};
 ghost use Rattle.sched_core.specs.Reservation.{unspent};
 ghost use Rattle.sched_core.specs.Rule.{is_among, is_initial};
-ghost use Rattle.farm_run.specs.Farm.{with_core};
-ghost use Rattle.farm_run.specs.Settled.{IsOutcome, assignment_end};
+ghost use Rattle.farm_entries.specs.Seen.{with_core};
+ghost use Rattle.farm_entries.specs.Settled.{IsOutcome, assignment_end};
 ghost use Rattle.farm_script.specs.declared.fault.FarmFault.TheVariants as fault;
 
-use crate::entry::Effect;
 use crate::serve::{last_copy, reply};
 use dist_token::job_token::JWTJobAuthorizer;
 use dist_types::outgoing::CallFault;
 use dist_types::results::AssignJobResult;
+use farm_entries::entry::Effect;
 use farm_script::fault::FarmFault;
 use http_routes::call_reply::assigned;
 use http_routes::fault::RouteFault;

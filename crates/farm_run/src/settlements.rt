@@ -2,30 +2,31 @@
 ghost use Rattle.std.specs.Prelude.{◌≡◌, slice_get, map, IfOk, IfErr, OnOk, OnErr, Some, None, option_copied};
 ghost use Rattle.farm_script.specs.declared.event.Event.{Event as Happening};
 ghost use Rattle.farm_script.specs.declared.fault.FarmFault.TheVariants as fault;
-ghost use Rattle.farm_run.specs.declared.site.SiteServer.{SiteServer as Site};
-ghost use Rattle.farm_run.specs.Begun.{Keeps, completion_at, completion_of};
+ghost use Rattle.farm_entries.specs.declared.site.SiteServer.{SiteServer as Site};
+ghost use Rattle.farm_entries.specs.Begun.{Keeps, completion_at, completion_of};
 ghost use Rattle.farm_run.specs.Farm.{IsFarm, IsMadeSo, Stands, acted};
-ghost use Rattle.farm_run.specs.Next.{Follows};
-ghost use Rattle.farm_run.specs.Passage.{LeavesOutside, StaysOwn};
-ghost use Rattle.farm_run.specs.Post.{Post, outside_of};
-ghost use Rattle.farm_run.specs.Seen.{core_of};
-ghost use Rattle.farm_run.specs.Servers.{stepped, server_now};
-ghost use Rattle.farm_run.specs.Settled.{IsOwnBy, ReportsIn};
-ghost use Rattle.farm_run.specs.Stations.{now_of, IsWell, AreWell, AreStations, IsStepAt, HasApart};
+ghost use Rattle.farm_entries.specs.Next.{Follows};
+ghost use Rattle.farm_entries.specs.Passage.{LeavesOutside, StaysOwn};
+ghost use Rattle.farm_stations.specs.Post.{Post, outside_of};
+ghost use Rattle.farm_entries.specs.Seen.{core_of};
+ghost use Rattle.farm_entries.specs.Servers.{stepped, server_now};
+ghost use Rattle.farm_entries.specs.Settled.{IsOwnBy, ReportsIn};
+ghost use Rattle.farm_stations.specs.Stations.{now_of, IsWell, AreWell, AreStations, IsStepAt, HasApart};
 ghost use Rattle.farm_run.specs.Stops.{IsCutOff};
-ghost use Rattle.farm_run.specs.Ways.{way_of, to_call};
-ghost use Rattle.farm_run.specs.Weather.{Weather, weather_of};
+ghost use Rattle.farm_entries.specs.Ways.{way_of, to_call};
+ghost use Rattle.farm_entries.specs.Weather.{Weather, weather_of};
 
 use crate::desk::Desk;
-use crate::entry::{Effect, Entry, EntryWord};
 use crate::lookup::{brought_at, place_of};
-use crate::pending::{Ask, Made, Pending, Told, drop_told, idle, take_at};
+use crate::pending::{Made, drop_told, idle, take_at};
 use crate::reports::{Back, go_on as go_on_report};
 use crate::settle::{Settlement, Turn, end_assignment};
-use crate::site::SiteServer;
-use crate::station::Station;
 use dist_types::builder::BuilderIncoming;
+use farm_entries::entry::{Effect, Entry, EntryWord};
+use farm_entries::pending::{Ask, Pending, Told};
+use farm_entries::site::SiteServer;
 use farm_script::fault::FarmFault;
+use farm_stations::station::Station;
 use lru_disk_cache::folder::Folder;
 
 /// A call of the server at a place of the setup goes on by its reply, where the life that made it goes on.

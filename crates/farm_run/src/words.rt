@@ -3,8 +3,8 @@ ghost use Rattle.std.specs.Prelude.{◌<◌, ◌^◌};
 ghost use Rattle.std.specs.List.{AllByRecursion};
 ghost use Rattle.dist_types.specs.Addr.{IsAddr};
 
-use crate::site::{Site, SiteServer};
 use dist_types::addr::Addr;
+use farm_entries::site::{Site, SiteServer};
 
 // Each number of an address fits its type.
 fn fits(address: Addr)

@@ -6,15 +6,15 @@ use Rattle.dist_types.specs.declared.addr.Addr.{Addr}
 use Rattle.dist_types.specs.declared.addr.Addr.TheVariants.{V4, V6}
 use Rattle.farm_script.specs.Setups.{AreApart}
 use Rattle.farm_script.specs.declared.event.Event.{Event}
-use Rattle.farm_run.specs.declared.entry.Entry.{Entry}
+use Rattle.farm_entries.specs.declared.entry.Entry.{Entry}
 use Rattle.farm_run.specs.Farm.{Farmed, with_entries, Runs, StepsTo}
-use Rattle.farm_run.specs.declared.site.Site.{Site}
-use Rattle.farm_run.specs.Next.{IsNext, EachNext}
-use Rattle.farm_run.specs.Passage.{reached, AreOwn, IsMoved, Passage}
-use Rattle.farm_run.specs.Sites.{site_of}
-use Rattle.farm_run.specs.Weather.{Outside, Weather, calm}
+use Rattle.farm_entries.specs.declared.site.Site.{Site}
+use Rattle.farm_entries.specs.Next.{IsNext, EachNext}
+use Rattle.farm_entries.specs.Passage.{reached, AreOwn, IsMoved, Passage}
+use Rattle.farm_entries.specs.Sites.{site_of}
+use Rattle.farm_entries.specs.Weather.{Outside, Weather, calm}
 use Rattle.farm_run.proofs.PassageLemmas.{moves_own}
-use Rattle.farm_run.proofs.RunLemmas.{EachNext-push}
+use Rattle.farm_laws.proofs.RunLemmas.{EachNext-push}
 use Rattle.farm_storm.specs.Deeds.{storm_deeds}
 use Rattle.farm_storm.specs.Places.{deed_at}
 use Rattle.farm_storm.specs.Storm.{local, event_of, storm_setup, storm_events}

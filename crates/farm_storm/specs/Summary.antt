@@ -11,15 +11,15 @@ use Rattle.build_server.specs.declared.submit.Submitted.{Submitted}
 use Rattle.build_server.specs.declared.submit.Submitted.TheVariants as submitted
 use Rattle.farm_script.specs.Texts.{◌⧺◌}
 use Rattle.farm_run.specs.Farm.{Farmed}
-use Rattle.farm_run.specs.Next.{EachNext}
-use Rattle.farm_run.specs.Passage.{AreOwn}
-use Rattle.farm_run.specs.Sites.{site_of}
-use Rattle.farm_run.specs.Weather.{calm}
-use Rattle.farm_run.specs.Seen.{core_log}
-use Rattle.farm_run.specs.declared.entry.Entry.{Entry}
-use Rattle.farm_run.specs.declared.entry.Step.{Step}
-use Rattle.farm_run.specs.declared.entry.StepKind.{StepKind}
-use Rattle.farm_run.specs.declared.entry.StepKind.TheVariants as step
+use Rattle.farm_entries.specs.Next.{EachNext}
+use Rattle.farm_entries.specs.Passage.{AreOwn}
+use Rattle.farm_entries.specs.Sites.{site_of}
+use Rattle.farm_entries.specs.Weather.{calm}
+use Rattle.farm_entries.specs.Seen.{core_log}
+use Rattle.farm_entries.specs.declared.entry.Entry.{Entry}
+use Rattle.farm_entries.specs.declared.entry.Step.{Step}
+use Rattle.farm_entries.specs.declared.entry.StepKind.{StepKind}
+use Rattle.farm_entries.specs.declared.entry.StepKind.TheVariants as step
 use Rattle.farm_storm.specs.declared.sums.Sums.{Sums}
 use Rattle.farm_storm.specs.declared.summary.Counted.{Counted}
 use Rattle.farm_storm.specs.declared.summary.Counted.TheVariants.{Core, Reserved, Built, Stored, Listed}

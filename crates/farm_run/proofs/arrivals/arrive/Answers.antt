@@ -1,11 +1,11 @@
 use Rattle.std.proofs.Common.{ap, sym, ◌∙◌, List, Option, None}
 use Rattle.std.specs.Prelude.{slice_get}
-use Rattle.farm_run.specs.Post.{Post as Station}
+use Rattle.farm_stations.specs.Post.{Post as Station}
 use Rattle.sched_core.specs.declared.entry.CoreEntry.{CoreEntry}
-use Rattle.farm_run.specs.declared.entry.Effect.{Effect}
+use Rattle.farm_entries.specs.declared.entry.Effect.{Effect}
 use Rattle.farm_run.specs.declared.pending.Made.{Made}
 use Rattle.farm_run.specs.Farm.{acted}
-use Rattle.farm_run.specs.Stations.{now_of}
+use Rattle.farm_stations.specs.Stations.{now_of}
 use Rattle.farm_run.proofs.ServerLemmas.{place_found, station_there, are_well}
 use Rattle.farm_run.proofs.StandLemmas.{stands_same, stands_stepped}
 use Rattle.farm_run.proofs.RowLemmas.{answered_of, answered_reaches, scheduler_step, server_core}

@@ -1,11 +1,11 @@
 use Rattle.std.proofs.Common.{◌≡◌, ◌∙◌, ap, List, length, set, refl, sym, subst, Some}
 use Rattle.std.specs.Prelude.{slice_get, is_some}
 use Rattle.std.proofs.lemmas.Option.{same_Some, slice_get_read}
-use Rattle.farm_run.specs.declared.site.SiteServer.{SiteServer as SetupServer}
-use Rattle.farm_run.specs.Post.{Post, outside_of}
-use Rattle.farm_run.specs.Served.{IsServerAnswered}
-use Rattle.farm_run.specs.Stations.{now_of}
-use Rattle.farm_run.specs.Weather.{Outside}
+use Rattle.farm_entries.specs.declared.site.SiteServer.{SiteServer as SetupServer}
+use Rattle.farm_stations.specs.Post.{Post, outside_of}
+use Rattle.farm_entries.specs.Served.{IsServerAnswered}
+use Rattle.farm_stations.specs.Stations.{now_of}
+use Rattle.farm_entries.specs.Weather.{Outside}
 use Rattle.farm_run.proofs.CutLemmas.{cut_at, on_err}
 use Rattle.farm_run.proofs.RowLemmas.{kept_same, step_same}
 use Rattle.farm_run.proofs.StandLemmas.{leaves_same}

@@ -1,9 +1,9 @@
 use Rattle.std.proofs.Common.{◌≡◌, List, length, set, refl, ap, sym, subst, Some}
 use Rattle.std.specs.Prelude.{slice_get}
 use Rattle.std.proofs.lemmas.Option.{slice_get_read}
-use Rattle.farm_run.specs.declared.site.SiteServer.{SiteServer as SetupServer}
+use Rattle.farm_entries.specs.declared.site.SiteServer.{SiteServer as SetupServer}
 use Rattle.farm_run.specs.declared.pending.Made.{Made}
-use Rattle.farm_run.specs.Stations.{IsRestartedSo}
+use Rattle.farm_stations.specs.Stations.{IsRestartedSo}
 use Rattle.farm_run.proofs.CutLemmas.{cut_at, on_err}
 use Rattle.farm_run.proofs.RowLemmas.{no_restart, restart_at}
 use Rattle.farm_run.proofs.arrivals.restart.Goals as goal

@@ -1,10 +1,10 @@
 use Rattle.std.proofs.Common.{◌≡◌, ◌∙◌, ap, List, length, refl, sym, subst, Some, None}
 use Rattle.std.specs.Prelude.{slice_get}
 use Rattle.std.proofs.lemmas.Option.{slice_get_read}
-use Rattle.farm_run.specs.declared.site.SiteServer.{SiteServer as SetupServer}
+use Rattle.farm_entries.specs.declared.site.SiteServer.{SiteServer as SetupServer}
 use Rattle.farm_run.proofs.ServerLemmas.{IsFound, found_is}
 use Rattle.farm_run.proofs.RowLemmas.{beat_received, no_beat_received, closed_beat_received}
-use Rattle.farm_run.specs.declared.entry.Effect.{Effect}
+use Rattle.farm_entries.specs.declared.entry.Effect.{Effect}
 use Rattle.farm_run.proofs.arrivals.send_beat.Goals as goal
 
 pub returns-in-None-clause-received : goal.returns-in-None-clause-received

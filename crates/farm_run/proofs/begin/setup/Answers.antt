@@ -2,8 +2,8 @@ use Rattle.std.proofs.Common.{◌∙◌, [], List, Some, ap, map, subst, sym}
 use Rattle.farm_script.specs.declared.setup.SetupScheduler.{SetupScheduler}
 use Rattle.farm_script.specs.declared.setup.SetupServer.{SetupServer}
 use Rattle.farm_run.specs.Farm.{Farmed}
-use Rattle.farm_run.specs.Passage.{AreOwn}
-use Rattle.farm_run.specs.Sites.{site_server}
+use Rattle.farm_entries.specs.Passage.{AreOwn}
+use Rattle.farm_entries.specs.Sites.{site_server}
 use Rattle.farm_run.proofs.BeginLemmas.{apart_own}
 use Rattle.farm_run.proofs.begin.setup.Goals as goal
 

@@ -1,7 +1,7 @@
 use Rattle.std.proofs.Common.{Bool, sym, ap, ◌∙◌}
 use Rattle.std.specs.Prelude.{is_some, ◌||◌}
-use Rattle.farm_run.specs.Servers.{server_at}
-use Rattle.farm_run.specs.Ways.{is_inside}
+use Rattle.farm_entries.specs.Servers.{server_at}
+use Rattle.farm_entries.specs.Ways.{is_inside}
 use Rattle.farm_run.proofs.ServerLemmas.{inside_is}
 use Rattle.farm_run.proofs.lookup.is_inside.Goals as goal
 

@@ -1,7 +1,7 @@
 use Rattle.std.proofs.Common.{◌≡◌, ◌++◌, string_bytes, take}
 use Rattle.std.specs.List.{flat_map}
-use Rattle.farm_run.specs.Printed.{server_text}
-use Rattle.farm_run.specs.Servers.{server_of}
+use Rattle.farm_entries.specs.Printed.{server_text}
+use Rattle.farm_entries.specs.Servers.{server_of}
 use Rattle.farm_run.proofs.print.push_servers.Given as goal
 
 -- the lines of the servers so far

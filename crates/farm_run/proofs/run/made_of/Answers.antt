@@ -1,12 +1,12 @@
 use Rattle.std.proofs.Common.{◌≡◌, ℕ, List, Bool, cond, Option, Some, None, length, refl, sym, ap, ◌∙◌, rules}
 use Rattle.sched_core.specs.declared.entry.CoreEntry.{CoreEntry}
 use Rattle.farm_script.specs.declared.event.EventKind.TheVariants as kind
-use Rattle.farm_run.specs.Calls.{settles_by, delivery_at}
+use Rattle.farm_entries.specs.Calls.{settles_by, delivery_at}
 use Rattle.farm_run.specs.Farm.{acted}
-use Rattle.farm_run.specs.Servers.{restart_by, server_now}
-use Rattle.farm_run.specs.Ways.{way_of, way_to, beat_way, return_way, to_nothing, to_call}
+use Rattle.farm_entries.specs.Servers.{restart_by, server_now}
+use Rattle.farm_entries.specs.Ways.{way_of, way_to, beat_way, return_way, to_nothing, to_call}
 use Rattle.farm_run.proofs.MadeLemmas.{idle_made, received_made}
-use Rattle.farm_run.specs.Weather.{calm}
+use Rattle.farm_entries.specs.Weather.{calm}
 use Rattle.farm_run.proofs.ServerLemmas.{are_well}
 use Rattle.farm_run.proofs.StandLemmas.{stands_same}
 use Rattle.farm_run.proofs.RowLemmas.{restart_core, restart_made}

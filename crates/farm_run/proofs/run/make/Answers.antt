@@ -1,7 +1,7 @@
 use Rattle.std.proofs.Common.{ap, map}
 use Rattle.farm_run.specs.declared.desk.Desk.{Desk}
-use Rattle.farm_run.specs.Effects.{entry_of}
-use Rattle.farm_run.specs.Post.{outside_of}
+use Rattle.farm_entries.specs.Effects.{entry_of}
+use Rattle.farm_stations.specs.Post.{outside_of}
 use Rattle.farm_run.proofs.CutLemmas.{cut_moved}
 use Rattle.farm_run.proofs.MadeLemmas.{farm_next}
 use Rattle.farm_run.proofs.run.make.Goals as goal

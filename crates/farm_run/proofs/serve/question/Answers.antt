@@ -4,7 +4,7 @@ use Rattle.dist_token.specs.Verdict.{server_verdict}
 use Rattle.http_routes.specs.Admission.{equal_admission}
 use Rattle.http_routes.specs.Asked.{IsAskedUnder}
 use Rattle.farm_script.specs.declared.setup.SetupAuth.{SetupAuth}
-use Rattle.farm_run.specs.Seen.{serves}
+use Rattle.farm_entries.specs.Seen.{serves}
 use Rattle.farm_run.proofs.serve.question.Goals as goal
 
 pub returns-in_ok-question-in-Jwt-clause-ok : goal.returns-in_ok-question-in-Jwt-clause-ok

@@ -2,7 +2,7 @@ use Rattle.std.proofs.Common.{subst}
 use Rattle.std.proofs.Common.{List, ℕ}
 use Rattle.dist_token.specs.Verdict.{job_verdict}
 use Rattle.http_routes.specs.ServerRoute.{IsServerAsked}
-use Rattle.farm_run.specs.Stations.{now_of}
+use Rattle.farm_stations.specs.Stations.{now_of}
 use Rattle.farm_run.proofs.RowLemmas.{server_answered, server_kept}
 use Rattle.farm_run.proofs.servers.serve_at.Goals as goal
 

@@ -1,10 +1,10 @@
 use Rattle.std.proofs.Common.{ap, subst, sym, ◌∙◌}
 use Rattle.std.specs.Prelude.{option_copied}
-use Rattle.farm_run.specs.declared.entry.Effect.{Effect}
-use Rattle.farm_run.specs.declared.pending.Ask.{Ask}
+use Rattle.farm_entries.specs.declared.entry.Effect.{Effect}
+use Rattle.farm_entries.specs.declared.pending.Ask.{Ask}
 use Rattle.farm_run.specs.declared.pending.Made.{Made}
-use Rattle.farm_run.specs.Next.{GoesOn}
-use Rattle.farm_run.specs.Weather.{calm}
+use Rattle.farm_entries.specs.Next.{GoesOn}
+use Rattle.farm_entries.specs.Weather.{calm}
 use Rattle.farm_run.proofs.StandLemmas.{stands_same}
 use Rattle.farm_run.proofs.RowLemmas.{end_step, goes_assigned}
 use Rattle.farm_run.proofs.settlements.go_on.Goals as goal

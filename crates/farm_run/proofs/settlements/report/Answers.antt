@@ -1,15 +1,15 @@
 use Rattle.std.proofs.Common.{◌≡◌, Some, sym, ap, subst, ◌∙◌}
 use Rattle.std.specs.Prelude.{option_copied}
 use Rattle.dist_types.specs.declared.addr.Addr.{Addr}
-use Rattle.farm_run.specs.declared.entry.Effect.{Effect}
+use Rattle.farm_entries.specs.declared.entry.Effect.{Effect}
 use Rattle.farm_run.specs.declared.pending.Made.{Made}
-use Rattle.farm_run.specs.declared.pending.Pending.{Pending}
-use Rattle.farm_run.specs.Begun.{Keeps, completion_at}
-use Rattle.farm_run.specs.Stations.{now_of}
-use Rattle.farm_run.proofs.NextLemmas.{reports_in_core}
-use Rattle.farm_run.specs.Post.{outside_of}
-use Rattle.farm_run.specs.Weather.{calm, weather_of}
-use Rattle.farm_run.proofs.FreeLemmas.{report_free}
+use Rattle.farm_entries.specs.declared.pending.Pending.{Pending}
+use Rattle.farm_entries.specs.Begun.{Keeps, completion_at}
+use Rattle.farm_stations.specs.Stations.{now_of}
+use Rattle.farm_laws.proofs.NextLemmas.{reports_in_core}
+use Rattle.farm_stations.specs.Post.{outside_of}
+use Rattle.farm_entries.specs.Weather.{calm, weather_of}
+use Rattle.farm_laws.proofs.FreeLemmas.{report_free}
 use Rattle.farm_run.proofs.ServerLemmas.{place_found, are_well}
 use Rattle.farm_run.proofs.StandLemmas.{stands_same, stands_reported}
 use Rattle.farm_run.proofs.RowLemmas.{report_step, no_report, report_there}

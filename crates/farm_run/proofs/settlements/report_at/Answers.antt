@@ -1,9 +1,9 @@
 use Rattle.std.proofs.Common.{◌≡◌, ◌∙◌, List, length, set, refl, sym, subst, Some}
 use Rattle.std.specs.Prelude.{slice_get, option_copied}
 use Rattle.std.proofs.lemmas.Option.{same_Some, slice_get_read}
-use Rattle.farm_run.specs.declared.site.SiteServer.{SiteServer as SetupServer}
-use Rattle.farm_run.specs.declared.pending.Pending.{Pending}
-use Rattle.farm_run.specs.Begun.{Keeps, completion_at}
+use Rattle.farm_entries.specs.declared.site.SiteServer.{SiteServer as SetupServer}
+use Rattle.farm_entries.specs.declared.pending.Pending.{Pending}
+use Rattle.farm_entries.specs.Begun.{Keeps, completion_at}
 use Rattle.farm_run.proofs.CutLemmas.{cut_at, on_err}
 use Rattle.farm_run.proofs.RowLemmas.{report_same}
 use Rattle.farm_run.proofs.settlements.report_at.Goals as goal

@@ -1,6 +1,6 @@
 use Rattle.std.proofs.Common.{◌≡◌, ◌+◌, ◌++◌, ◌∷◌, [], take, ap, sym, ◌∙◌}
 use Rattle.std.proofs.lemmas.List.{take_more}
-use Rattle.farm_run.specs.declared.entry.Entry.{Entry}
+use Rattle.farm_entries.specs.declared.entry.Entry.{Entry}
 use Rattle.farm_storm.specs.Summary.{counts}
 use Rattle.farm_storm.proofs.CountLemmas.{count_more, at_most_one_more}
 use Rattle.farm_storm.proofs.summary.count_of.Goals as goal

@@ -2,7 +2,7 @@ use Rattle.std.proofs.Common.{◌≡◌, ◌+◌, ◌++◌, ◌∷◌, [], List,
 use Rattle.std.proofs.lemmas.Iterator.Adapters.{YieldsList-from_vec}
 use Rattle.std.proofs.lemmas.Iterator.Consumers.{YieldsList-turn, YieldsList-end}
 use Rattle.build_server.specs.Builds.{Builder, builder_of}
-use Rattle.farm_run.specs.Post.{Post, outside_of}
+use Rattle.farm_stations.specs.Post.{Post, outside_of}
 use Rattle.farm_run.specs.Stops.{folders_in, builders_in, in_front}
 use Rattle.farm_run.proofs.BeginLemmas.{length_end}
 use Rattle.farm_run.proofs.CutLemmas.{folder_back, builder_back}

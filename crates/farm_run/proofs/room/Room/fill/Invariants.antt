@@ -1,6 +1,6 @@
 use Rattle.std.proofs.Common.{◌≡◌, ◌≤◌, length, map, vec_len, vec_capacity}
 use Rattle.build_server.specs.Builds.{builder_of}
-use Rattle.farm_run.specs.Post.{outside_of}
+use Rattle.farm_stations.specs.Post.{outside_of}
 use Rattle.farm_run.specs.Stops.{folders_in, builders_in}
 use Rattle.farm_run.proofs.room.Room.fill.Given as goal
 

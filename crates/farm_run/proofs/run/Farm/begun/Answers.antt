@@ -1,7 +1,7 @@
 use Rattle.std.proofs.Common.{◌≡◌, List, arith, subst, sym}
-use Rattle.farm_run.specs.declared.entry.Entry.{Entry}
-use Rattle.farm_run.specs.Next.{IsRun}
-use Rattle.farm_run.specs.Weather.{calm}
+use Rattle.farm_entries.specs.declared.entry.Entry.{Entry}
+use Rattle.farm_entries.specs.Next.{IsRun}
+use Rattle.farm_entries.specs.Weather.{calm}
 use Rattle.farm_run.proofs.MadeLemmas.{begun_farm}
 use Rattle.farm_run.proofs.run.Farm.begun.Goals as goal
 

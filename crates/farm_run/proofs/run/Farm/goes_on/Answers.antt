@@ -1,4 +1,4 @@
-use Rattle.farm_run.proofs.ThereLemmas.{has_next}
+use Rattle.farm_laws.proofs.ThereLemmas.{has_next}
 use Rattle.farm_run.proofs.run.Farm.goes_on.Goals as goal
 
 pub returns : goal.returns

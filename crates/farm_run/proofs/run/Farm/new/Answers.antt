@@ -1,7 +1,7 @@
 use Rattle.std.proofs.Common.{◌∙◌, List, ap, map}
 use Rattle.farm_script.specs.declared.setup.SetupScheduler.{SetupScheduler}
 use Rattle.farm_script.specs.declared.setup.SetupServer.{SetupServer}
-use Rattle.farm_run.specs.declared.site.SiteServer.{SiteServer}
+use Rattle.farm_entries.specs.declared.site.SiteServer.{SiteServer}
 use Rattle.farm_run.proofs.BeginLemmas.{apart_handed}
 use Rattle.farm_run.proofs.run.Farm.new.Goals as goal
 

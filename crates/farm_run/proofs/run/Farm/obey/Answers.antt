@@ -1,8 +1,8 @@
 use Rattle.std.proofs.Common.{subst}
 use Rattle.farm_run.specs.Farm.{Farmed}
-use Rattle.farm_run.specs.Next.{IsRun}
-use Rattle.farm_run.specs.Passage.{AreOwn}
-use Rattle.farm_run.specs.Weather.{calm}
+use Rattle.farm_entries.specs.Next.{IsRun}
+use Rattle.farm_entries.specs.Passage.{AreOwn}
+use Rattle.farm_entries.specs.Weather.{calm}
 use Rattle.farm_run.proofs.run.Farm.obey.Goals as goal
 
 pub returns-clause-calmly : goal.returns-clause-calmly

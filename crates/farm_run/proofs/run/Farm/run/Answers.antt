@@ -1,9 +1,9 @@
 use Rattle.std.proofs.Common.{◌≡◌, ◌+◌, ◌++◌, ◌∷◌, [], take, ap, ◌∙◌, sym, subst, arith}
 use Rattle.std.proofs.lemmas.List.{take_more, take_all}
 use Rattle.std.proofs.lemmas.Result.{err_from_is_err_and}
-use Rattle.farm_run.proofs.NextLemmas.{run_lawful}
-use Rattle.farm_run.proofs.ReliableLemmas.{run_reliable}
-use Rattle.farm_run.specs.Weather.{calm, free}
+use Rattle.farm_laws.proofs.NextLemmas.{run_lawful}
+use Rattle.farm_laws.proofs.ReliableLemmas.{run_reliable}
+use Rattle.farm_entries.specs.Weather.{calm, free}
 use Rattle.farm_run.specs.Farm.{Runs}
 use Rattle.farm_run.proofs.FarmLemmas.{Runs-push, Runs-entries, Runs-is, Runs-own, Runs-calm, Runs-builds}
 use Rattle.farm_run.proofs.FarmLemmas.{Runs-stopped}

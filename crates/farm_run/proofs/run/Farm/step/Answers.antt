@@ -1,7 +1,7 @@
 use Rattle.std.proofs.Common.{◌≡◌, ◌≤◌, List, length, ap, map, subst, sym, ◌∙◌}
-use Rattle.farm_run.specs.declared.site.Site.{Site}
+use Rattle.farm_entries.specs.declared.site.Site.{Site}
 use Rattle.farm_run.specs.Farm.{Farmed}
-use Rattle.farm_run.specs.Post.{outside_of}
+use Rattle.farm_stations.specs.Post.{outside_of}
 use Rattle.farm_run.specs.Stops.{IsCutOff}
 use Rattle.farm_run.proofs.CutLemmas.{cut_room}
 use Rattle.farm_run.proofs.PassageLemmas.{step_of, calm_next}

@@ -1,5 +1,0 @@
-use Rattle.farm_run.proofs.SettleLemmas.{settled_once}
-use Rattle.farm_run.proofs.build_laws.calls_are_settled_once.Goals as goal
-
-pub returns : goal.returns
-returns c = settled_once

@@ -1,5 +1,0 @@
-use Rattle.farm_run.proofs.GrantLemmas.{returns_grant}
-use Rattle.farm_run.proofs.build_laws.returned_reports_are_granted.Goals as goal
-
-pub returns : goal.returns
-returns c = λ w setup events entries words each. returns_grant w setup words events entries each

@@ -1,5 +1,0 @@
-use Rattle.farm_run.proofs.ReliableLemmas.{is_reliable}
-use Rattle.farm_run.proofs.build_laws.runs_are_reliable.Goals as goal
-
-pub returns : goal.returns
-returns c = is_reliable

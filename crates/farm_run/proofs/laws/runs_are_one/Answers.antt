@@ -1,5 +1,0 @@
-use Rattle.farm_run.proofs.OneLemmas.{one_run}
-use Rattle.farm_run.proofs.laws.runs_are_one.Goals as goal
-
-pub returns : goal.returns
-returns c = one_run

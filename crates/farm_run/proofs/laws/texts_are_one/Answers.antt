@@ -1,5 +1,0 @@
-use Rattle.farm_run.proofs.OneLemmas.{one_text}
-use Rattle.farm_run.proofs.laws.texts_are_one.Goals as goal
-
-pub returns : goal.returns
-returns c = one_text

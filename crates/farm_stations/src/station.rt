@@ -1,0 +1,625 @@
+//! The stations of a farm's build servers.
+ghost use Rattle.std.specs.Prelude.{◌≡◌, ◌≢◌, ◌≤◌, [], true, false, not, codes, is_some, is_none, ◌&&◌, ◌||◌};
+ghost use Rattle.std.specs.Prelude.{slice_get, IfOk, IfErr, OnOk, OnErr, MatchOption, Some, None, Ok, Err};
+ghost use Rattle.std.specs.Option.{option_map};
+ghost use Rattle.lru_disk_cache.specs.Archives.{opened_archives, IsInStep};
+ghost use Rattle.lru_disk_cache.specs.Entries.{total};
+ghost use Rattle.lru_disk_cache.specs.Held.{Holds};
+ghost use Rattle.lru_disk_cache.specs.Store.{OpenFails};
+ghost use Rattle.build_server.specs.Books.{held_for, placed};
+ghost use Rattle.build_server.specs.Builds.{builder_of, Builds, ran_of, built_of, outcome_by};
+ghost use Rattle.build_server.specs.Rules.{assign_verdict};
+ghost use Rattle.dist_types.specs.declared.results.AssignJobResult.{AssignJobResult as Answer};
+ghost use Rattle.farm_entries.specs.Passage.{StaysOwn};
+ghost use Rattle.farm_stations.specs.Post.{shelf, closed_over, outside_of, is_io, IsReopened, IsTelling};
+ghost use Rattle.farm_entries.specs.Sites.{site_server};
+ghost use Rattle.farm_entries.specs.Passage.{IsBegun};
+ghost use Rattle.farm_entries.specs.Reliable.{reopened};
+ghost use Rattle.farm_entries.specs.Served.{books_of, build_answer};
+ghost use Rattle.farm_entries.specs.Servers.{server_begun, stepped};
+ghost use Rattle.farm_stations.specs.Stations.{now_of, IsWell, BuildsBy};
+ghost use Rattle.farm_entries.specs.Weather.{Stores, Works, Opens, weather_of, failed_after_submit};
+ghost use Rattle.farm_entries.specs.Weather.{failed_after_run, order_of};
+ghost use Rattle.farm_entries.specs.declared.entry.StepKind.TheVariants as kinds;
+ghost use Rattle.farm_script.specs.declared.fault.FarmFault.TheVariants as fault;
+ghost use Rattle.build_server.specs.declared.fault.ServerFault.TheVariants as server_fault;
+
+use crate::builder::build_answer;
+use build_server::Held;
+use build_server::fault::ServerFault;
+use build_server::run::{Ran, RunDone, RunHeld};
+use build_server::state::ServerState;
+use build_server::submit::Submitted;
+use dist_token::job_token::JWTJobAuthorizer;
+use dist_types::builder::BuilderIncoming;
+use dist_types::ids::{JobId, ServerNonce};
+use dist_types::outgoing::CallFault;
+use dist_types::results::{AssignJobResult, UpdateJobStateResult};
+use dist_types::roles::JobAuthorizer;
+use dist_types::text::Items;
+use dist_types::toolchain::Toolchain;
+use dist_wire::run::RunJobHttpRequest;
+use farm_entries::site::SiteServer;
+use farm_script::fault::FarmFault;
+use farm_script::setup::SetupServer;
+use lru_disk_cache::folder::Folder;
+use lru_disk_cache::laws::reopening_gives_the_archives;
+use lru_disk_cache::{Archives, Error, TcCache};
+use std::alloc::{AllocError, Global};
+use std::marker::Model;
+
+/// A build server of a farm: its life, what it keeps over its folder, and its builder.
+#[derive(Drop)]
+pub struct Station<F: Folder + Drop, B: BuilderIncoming + Drop> {
+    /// How often it was restarted.
+    life: u64,
+    nonce: ServerNonce,
+    /// Under the key of its life.
+    authorizer: JWTJobAuthorizer,
+    /// What it keeps, where it runs.
+    state: Option<ServerState<F>>,
+    /// Its folder, where its last opening failed.
+    closed: Option<F>,
+    /// Whether its folder failed since its last opening began.
+    failed: bool,
+    /// How many builds its builder was asked for.
+    builds: u64,
+    /// A builder that was handed in; none where the farm made the builder, with a folder in memory.
+    builder: Option<B>,
+}
+
+impl<F: Folder + Drop, B: BuilderIncoming + Drop> Model for Station<F, B> {
+    ghost use Rattle.std.specs.Prelude.{is_some, ◌||◌, true};
+    ghost use Rattle.std.specs.Option.{option_map};
+    ghost use Rattle.build_server.specs.Builds.{builder_of};
+    ghost use Rattle.std.specs.Prelude.{◌≡◌, None};
+    ghost use Rattle.farm_stations.specs.Post.{Post, shelf, IsTelling};
+
+    ghost Value = { Post };
+
+    ghost view = { λ st. record {
+      life = st.life;
+      nonce = st.nonce;
+      authorizer = st.authorizer;
+      running = is_some st.state;
+      state = shelf st.state (option_map F.held st.closed);
+      failed = st.failed;
+      builds = st.builds;
+      builder = option_map (builder_of B.built B.refusals) st.builder;
+    } };
+
+    // Where the farm made the builder, its folder tells its files; and it has its folder.
+    ghost invariant = { λ st. (st.builder ≡ None → IsTelling F.held)
+        × ((is_some st.state || is_some st.closed) ≡ true) };
+}
+
+/// A server that holds nothing, over what its folder has. Where that fails the folder is handed back.
+fn open<F: Folder + Drop>(
+    alloc: Global,
+    folder: F,
+    capacity: u64,
+) -> Result<ServerState<F>, (Error, F)>
+    ensures held { IfOk result (λ s. s.held ≡ []) }
+    ensures archives { IfOk result (λ s. Holds (F.held folder)
+        (λ files. s.archives ≡ opened_archives (codes "tc") capacity files)) }
+    ensures at { IfOk result (λ s. (s.capacity ≡ capacity) × (s.path ≡ codes "tc")) }
+    ensures step { IfOk result (λ s. IsInStep s.path s.folder s.archives) }
+    ensures steady { IfOk result (λ s. s.folder.faults ≡ (F.held folder).faults) }
+    ensures fails { IfErr result (λ e. OpenFails e.0 (F.held folder) (F.held e.1)) }
+{
+    match TcCache::new(alloc, folder, "tc", capacity) {
+        Ok(cache) => Ok(ServerState::new(alloc, cache)),
+        Err(refused) => Err(refused),
+    }
+}
+
+/// That the archives of a cache fit its capacity.
+fn fits<F: Folder + Drop>(cache: &TcCache<F>)
+    ensures { total cache.now.archives ≤ cache.now.capacity }
+{
+    match cache.archives().next() {
+        None => {}
+        Some((tc, _)) => {
+            let _ = cache.contains_toolchain(&tc);
+        }
+    }
+}
+
+/// The same over the folder of a server that ran. Where its archives were those of the files, they are so
+/// again.
+fn open_again<F: Folder + Drop>(
+    alloc: Global,
+    state: ServerState<F>,
+    capacity: u64,
+) -> Result<ServerState<F>, (Error, F)>
+    requires at { (state.capacity ≡ capacity) × (state.path ≡ codes "tc") }
+    ensures opened { IfOk result (IsReopened F.held true capacity state) }
+    ensures fails { IfErr result (λ e. OpenFails e.0 state.folder (F.held e.1)) }
+{
+    let cache = state.into_cache();
+    fits(&cache);
+    reopening_gives_the_archives();
+    open(alloc, cache.into_folder(), capacity)
+}
+
+/// The same over the folder of a server that was shut.
+fn open_shut<F: Folder + Drop>(
+    alloc: Global,
+    folder: F,
+    capacity: u64,
+) -> Result<ServerState<F>, (Error, F)>
+    ensures opened { IfOk result (IsReopened F.held false capacity (closed_over (Some (F.held folder)))) }
+    ensures fails { IfErr result (λ e. OpenFails e.0 (F.held folder) (F.held e.1)) }
+{
+    match open(alloc, folder, capacity) {
+        Ok(state) => Ok(state),
+        Err(refused) => Err(refused),
+    }
+}
+
+/// The same over the folder of a server, whether it ran or was shut.
+fn open_over<F: Folder + Drop>(
+    alloc: Global,
+    state: Option<ServerState<F>>,
+    closed: Option<F>,
+    capacity: u64,
+) -> Result<ServerState<F>, (Error, F)>
+    requires there { (is_some state || is_some closed) ≡ true }
+    requires at { is_some state ≡ true → ((shelf state (option_map F.held closed)).capacity ≡ capacity)
+        × ((shelf state (option_map F.held closed)).path ≡ codes "tc") }
+    ensures opened { IfOk result
+        (IsReopened F.held (is_some state) capacity (shelf state (option_map F.held closed))) }
+    ensures fails { IfErr result (λ e. OpenFails e.0 (shelf state (option_map F.held closed)).folder
+        (F.held e.1)) }
+{
+    match state {
+        Some(state) => match open_again(alloc, state, capacity) {
+            Ok(state) => Ok(state),
+            Err(refused) => Err(refused),
+        },
+        None => match closed {
+            Some(folder) => match open_shut(alloc, folder, capacity) {
+                Ok(state) => Ok(state),
+                Err(refused) => Err(refused),
+            },
+            None => unreachable!(),
+        },
+    }
+}
+
+/// The archives of a server, least recent first. Refused for want of memory alone.
+fn list_of<F: Folder + Drop>(
+    alloc: Global,
+    state: &ServerState<F>,
+) -> Result<Items<(Toolchain, u64)>, AllocError>
+    ensures { IfOk result (λ list. list ≡ state.now.archives) }
+{
+    let list = state.archives().collect(alloc)?;
+    Ok(Items::new(list))
+}
+
+/// Whether the folder failed in a submission.
+fn broke(outcome: &Submitted) -> bool
+    ensures { result ≡ failed_after_submit outcome.now false }
+{
+    match outcome {
+        Submitted::None => false,
+        Submitted::Listed => false,
+        Submitted::Stored(_, _) => false,
+        Submitted::Digest => false,
+        Submitted::Capacity => false,
+        Submitted::Folder(_) => true,
+    }
+}
+
+/// Whether the folder failed in a run.
+fn broke_in(ran: Ran) -> bool
+    ensures { result ≡ failed_after_run ran false }
+{
+    match ran {
+        Ran::None => false,
+        Ran::Unlisted(_) => false,
+        Ran::Folder(_) => true,
+        Ran::Built(_) => false,
+        Ran::Refused(_) => false,
+    }
+}
+
+/// Whether an opening failed by its folder.
+fn is_io(error: &Error) -> bool
+    ensures io { result ≡ is_io error.now }
+{
+    match error {
+        Error::Io(_) => true,
+        Error::Memory => false,
+        Error::FileTooLarge => false,
+        Error::FileNotInCache => false,
+        Error::PendingSpace => false,
+        Error::BadKey => false,
+        Error::NotPending => false,
+        Error::WrongDigest => false,
+        Error::WriterRefused => false,
+    }
+}
+
+/// A build of what was taken out, by a builder of the farm's own of which that line is due.
+fn build_listed(
+    alloc: Global,
+    server: &SiteServer,
+    builds: u64,
+    held: RunHeld,
+    run: &RunJobHttpRequest,
+    inputs: &[u8],
+) -> Result<RunDone, FarmFault>
+    ensures goes { IfOk result (λ done. outcome_by held
+        (build_answer (slice_get server.now.builder builds) run.now.outputs inputs.now) ≡ Ok done) }
+    ensures err { IfErr result (λ e. e ≡ fault.Memory) }
+{
+    let line = server.builder.get().get(builds as usize);
+    let heard = match build_answer(alloc, line, run.outputs.get(), inputs) {
+        Ok(heard) => heard,
+        Err(_) => {
+            held.give_up();
+            return Err(FarmFault::Memory);
+        }
+    };
+    match held.build_as(heard) {
+        Ok(done) => Ok(done),
+        Err((held, _)) => {
+            held.give_up();
+            Err(FarmFault::Memory)
+        }
+    }
+}
+
+/// A build of what was taken out, by a builder that was handed in.
+fn build_with<B: BuilderIncoming + Drop>(
+    builder: &mut B,
+    held: RunHeld,
+    run: &RunJobHttpRequest,
+    inputs: &[u8],
+) -> Result<RunDone, FarmFault>
+    ensures builds { IfOk result (λ done. Builds held (order_of run.now inputs.now)
+        (builder_of B.built B.refusals builder.old) (builder_of B.built B.refusals builder.new) (Ok done)) }
+    ensures err { IfErr result (λ e. e ≡ fault.Memory) }
+{
+    match held.build(builder, &run.command, run.outputs.get(), inputs) {
+        Ok(done) => Ok(done),
+        Err((held, _)) => {
+            held.give_up();
+            Err(FarmFault::Memory)
+        }
+    }
+}
+
+/// A build of what was taken out, by a builder that was handed in or one of the farm's own.
+fn build<B: BuilderIncoming + Drop>(
+    alloc: Global,
+    server: &SiteServer,
+    builds: u64,
+    builder: &mut Option<B>,
+    held: RunHeld,
+    run: &RunJobHttpRequest,
+    inputs: &[u8],
+) -> Result<RunDone, FarmFault>
+    ensures goes { IfOk result (λ done. BuildsBy server.now builds
+        (option_map (builder_of B.built B.refusals) builder.old)
+        (option_map (builder_of B.built B.refusals) builder.new) held run.now inputs.now done) }
+    ensures kept { is_some builder.new ≡ is_some builder.old }
+    ensures err { IfErr result (λ e. e ≡ fault.Memory) }
+{
+    match builder {
+        None => {
+            let done = build_listed(alloc, server, builds, held, run, inputs)?;
+            Ok(done)
+        }
+        Some(builder) => {
+            let done = build_with(builder, held, run, inputs)?;
+            Ok(done)
+        }
+    }
+}
+
+impl<F: Folder + Drop, B: BuilderIncoming + Drop> Station<F, B> {
+    /// A server as it was set up, over that folder, with a builder that was handed in or none, and what its
+    /// opening found. Refused for want of memory alone.
+    pub fn begun(
+        alloc: Global,
+        server: &SetupServer,
+        folder: F,
+        builder: Option<B>,
+    ) -> Result<(Self, Option<Items<(Toolchain, u64)>>), FarmFault>
+        requires tells { option_map (builder_of B.built B.refusals) builder ≡ None → IsTelling F.held }
+        ensures now { IfOk result (λ p. now_of (site_server p.1 server.now) p.0
+            ≡ server_begun (site_server p.1 server.now)) }
+        ensures well { IfOk result (λ p. IsWell (site_server p.1 server.now) p.0) }
+        ensures begun { IfOk result (λ p. IsBegun server.now.capacity
+            (option_map (builder_of B.built B.refusals) builder) (F.held folder) p.1 (outside_of p.0)) }
+        ensures err { IfErr result (λ e. e ≡ fault.Memory) }
+    {
+        let authorizer = JWTJobAuthorizer::of_key(Vec::from_slice(alloc, server.key.get())?);
+        match open(alloc, folder, server.capacity) {
+            Ok(state) => {
+                let found = list_of(alloc, &state)?;
+                let station = Station {
+                    life: 0,
+                    nonce: server.nonce,
+                    authorizer,
+                    state: Some(state),
+                    closed: None,
+                    failed: false,
+                    builds: 0,
+                    builder,
+                };
+                Ok((station, Some(found)))
+            }
+            Err((error, folder)) => {
+                if !is_io(&error) || builder.is_none() {
+                    return Err(FarmFault::Memory);
+                }
+                let station = Station {
+                    life: 0,
+                    nonce: server.nonce,
+                    authorizer,
+                    state: None,
+                    closed: Some(folder),
+                    failed: true,
+                    builds: 0,
+                    builder,
+                };
+                Ok((station, None))
+            }
+        }
+    }
+
+    /// The number of its life.
+    pub fn life(&self) -> u64
+        ensures { result ≡ self.now.life }
+    {
+        self.life
+    }
+
+    /// The nonce of its life.
+    pub fn nonce(&self) -> ServerNonce
+        ensures { result ≡ self.now.nonce }
+    {
+        self.nonce
+    }
+
+    /// What makes and takes the tokens of its life.
+    pub fn authorizer(&self) -> &JWTJobAuthorizer
+        ensures { result.now ≡ self.now.authorizer }
+    {
+        &self.authorizer
+    }
+
+    /// Whether it runs.
+    pub fn is_running(&self) -> bool
+        ensures { result ≡ self.now.running }
+    {
+        self.state.is_some()
+    }
+
+    // Whether it is one of the farm's own that does not run, as none is.
+    fn is_shut(&self) -> bool
+        ensures { result ≡ (is_none self.now.builder && not self.now.running) }
+    {
+        self.builder.is_none() && self.state.is_none()
+    }
+
+    /// The jobs that it holds, by rising id, where it runs.
+    pub fn held(&self) -> Option<Held<'_>>
+        ensures { MatchOption result (self.now.state.held ≡ []) (λ h. h ≡ self.now.state.held) }
+    {
+        match &self.state {
+            None => None,
+            Some(state) => Some(state.held()),
+        }
+    }
+
+    /// Its archives, least recent first, where it runs.
+    pub fn archives(&self) -> Option<Archives<'_>>
+        ensures { MatchOption result (self.now.state.archives ≡ []) (λ a. a ≡ self.now.state.archives) }
+    {
+        match &self.state {
+            None => None,
+            Some(state) => Some(state.archives()),
+        }
+    }
+
+    /// Its folder, and its builder where that was handed in.
+    pub fn into_parts(self) -> (F, Option<B>)
+        ensures folder { F.held result.0 ≡ self.state.folder }
+        ensures builder { option_map (builder_of B.built B.refusals) result.1 ≡ self.builder }
+    {
+        let Station {
+            life: _,
+            nonce: _,
+            authorizer: _,
+            state,
+            closed,
+            failed: _,
+            builds: _,
+            builder,
+        } = self;
+        match state {
+            Some(state) => (state.into_cache().into_folder(), builder),
+            None => match closed {
+                Some(folder) => (folder, builder),
+                None => unreachable!(),
+            },
+        }
+    }
+
+    /// Assigns a job. Want of memory, and that the job is held, change nothing.
+    pub fn assign(
+        &mut self,
+        server: &SiteServer,
+        job: JobId,
+        tc: Toolchain,
+    ) -> Result<AssignJobResult, ServerFault>
+        requires well { IsWell server.now self.old }
+        ensures verdict { result ≢ Err server_fault.Memory
+            → result ≡ assign_verdict (books_of (now_of server.now self.old)) job tc }
+        ensures after { IfOk result (λ a. now_of server.now self.new
+            ≡ stepped (Some (record {
+              server = server.now.addr;
+              kind = kinds.Assigned job tc (not a.need_toolchain);
+            })) (now_of server.now self.old)) }
+        ensures outside { outside_of self.new ≡ outside_of self.old }
+        ensures still_well { OnOk result (IsWell server.now self.new) }
+        ensures same { OnErr result (self.new ≡ self.old) }
+    {
+        let _capacity = server.capacity;
+        match &mut self.state {
+            None => Err(ServerFault::Memory),
+            Some(state) => state.assign(job, tc),
+        }
+    }
+
+    /// Submits an archive under a job, after Ready was accepted. That a folder of the farm's own fails is
+    /// told as want of memory, which no farm meets.
+    pub fn submit(
+        &mut self,
+        server: &SiteServer,
+        job: JobId,
+        archive: &[u8],
+        accepted: UpdateJobStateResult,
+    ) -> Result<Submitted, FarmFault>
+        requires well { IsWell server.now self.old }
+        ensures stores { IfOk result (λ o. Stores (weather_of (outside_of self.old) (outside_of self.new))
+            (now_of server.now self.old) job archive.now o) }
+        ensures after { IfOk result (λ o. now_of server.now self.new
+            ≡ stepped (Some (record { server = server.now.addr; kind = kinds.Submitted job o }))
+            (now_of server.now self.old)) }
+        ensures own { StaysOwn (outside_of self.old) (outside_of self.new) }
+        ensures still_well { OnOk result (IsWell server.now self.new) }
+        ensures err { IfErr result (λ e. e ≡ fault.Memory) }
+    {
+        let _capacity = server.capacity;
+        let outcome = match &mut self.state {
+            None => return Err(FarmFault::Memory),
+            Some(state) => {
+                let submit = state.begin_submit(job);
+                match state.end_submit(submit, Ok(accepted), archive) {
+                    Ok(outcome) => outcome,
+                    Err(_) => return Err(FarmFault::Memory),
+                }
+            }
+        };
+        if !broke(&outcome) {
+            return Ok(outcome);
+        }
+        if self.builder.is_none() {
+            return Err(FarmFault::Memory);
+        }
+        self.failed = true;
+        Ok(outcome)
+    }
+
+    /// Takes a job out and builds it, after Started was accepted. That a folder of the farm's own fails is
+    /// told as want of memory, which no farm meets.
+    pub fn run(
+        &mut self,
+        alloc: Global,
+        server: &SiteServer,
+        job: JobId,
+        run: &RunJobHttpRequest,
+        inputs: &[u8],
+        accepted: UpdateJobStateResult,
+    ) -> Result<RunDone, FarmFault>
+        requires well { IsWell server.now self.old }
+        ensures works { IfOk result (λ done. Works (weather_of (outside_of self.old) (outside_of self.new))
+            (now_of server.now self.old) (held_for job self.old.state.held) run.now inputs.now done) }
+        ensures after { IfOk result (λ done. now_of server.now self.new
+            ≡ stepped (Some (record {
+              server = server.now.addr;
+              kind = kinds.Ran job (ran_of done) (built_of done);
+            })) (now_of server.now self.old)) }
+        ensures own { StaysOwn (outside_of self.old) (outside_of self.new) }
+        ensures still_well { OnOk result (IsWell server.now self.new) }
+        ensures err { IfErr result (λ e. e ≡ fault.Memory) }
+    {
+        let held = match &mut self.state {
+            None => return Err(FarmFault::Memory),
+            Some(state) => match state.begin_run(job, Ok(accepted)) {
+                Ok(held) => held,
+                Err(_) => return Err(FarmFault::Memory),
+            },
+        };
+        let due = held.is_due();
+        let done = build(
+            alloc,
+            server,
+            self.builds,
+            &mut self.builder,
+            held,
+            run,
+            inputs,
+        )?;
+        if due {
+            self.builds = self.builds.saturating_add(1);
+        }
+        if !broke_in(done.ran()) {
+            return Ok(done);
+        }
+        if self.builder.is_none() {
+            let _ = done.end_run(Err(CallFault::Lost));
+            return Err(FarmFault::Memory);
+        }
+        self.failed = true;
+        Ok(done)
+    }
+
+    /// Starts again with that key and nonce: its next life, which holds nothing. It lists the archives that
+    /// are there; none where the opening fails by its folder. Refused for want of memory alone, as which a
+    /// fault of a folder of the farm's own is told.
+    pub fn restart(
+        &mut self,
+        alloc: Global,
+        server: &SiteServer,
+        key: &[u8],
+        nonce: ServerNonce,
+    ) -> Result<Option<Items<(Toolchain, u64)>>, FarmFault>
+        requires well { IsWell server.now self.old }
+        ensures opens { IfOk result (λ found. Opens (weather_of (outside_of self.old) (outside_of self.new))
+            (now_of server.now self.old) found) }
+        ensures now { IfOk result (λ found. now_of server.now self.new
+            ≡ reopened (now_of server.now self.old) key.now nonce found) }
+        ensures own { StaysOwn (outside_of self.old) (outside_of self.new) }
+        ensures still_well { OnOk result (IsWell server.now self.new) }
+        ensures err { IfErr result (λ e. e ≡ fault.Memory) }
+    {
+        if self.is_shut() {
+            return Err(FarmFault::Memory);
+        }
+        let authorizer = JWTJobAuthorizer::of_key(Vec::from_slice(alloc, key)?);
+        let state = self.state.take();
+        let closed = self.closed.take();
+        match open_over(alloc, state, closed, server.capacity) {
+            Ok(state) => {
+                let list = list_of(alloc, &state);
+                self.state = Some(state);
+                let Ok(found) = list else {
+                    return Err(FarmFault::Memory);
+                };
+                self.life = self.life.saturating_add(1);
+                self.nonce = nonce;
+                self.authorizer = authorizer;
+                self.failed = false;
+                Ok(Some(found))
+            }
+            Err((error, folder)) => {
+                self.closed = Some(folder);
+                if !is_io(&error) || self.builder.is_none() {
+                    return Err(FarmFault::Memory);
+                }
+                self.life = self.life.saturating_add(1);
+                self.nonce = nonce;
+                self.authorizer = authorizer;
+                self.failed = true;
+                Ok(None)
+            }
+        }
+    }
+}
