@@ -22,7 +22,6 @@ pub mod Stops
 pub mod Tickets
 pub mod Ways
 pub mod Weather
-pub use Rattle.farm_script.specs.Built
 pub use Rattle.farm_script.specs.FirstFaulty
 pub use Rattle.farm_script.specs.Grammar
 pub use Rattle.farm_script.specs.Pieces
