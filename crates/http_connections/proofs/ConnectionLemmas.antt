@@ -1,9 +1,8 @@
 -- The halves of a connection, put together.
-use Rattle.std.proofs.Common.{◌≡◌, ℕ, List, Option, Some, None, Ok, Err, refl, subst, inr}
+use Rattle.std.proofs.Common.{◌≡◌, ℕ, List, Option, Some, None, Ok, refl, subst, inr}
 use Rattle.std.specs.Prelude.{IfSome}
 use Rattle.dist_types.specs.Cause.{Rose}
 use Rattle.dist_types.specs.Content.{Added, Began}
-use Rattle.dist_types.specs.declared.fault.Memory as want
 use Rattle.http_head.specs.declared.request.Request.{Request}
 use Rattle.http_routes.specs.Reply.{reply_text}
 use Rattle.http_routes.specs.declared.reply.Response.{Response}
@@ -22,8 +21,7 @@ pub record Sends (reply : Response) (served : Served) (held now : Option (List �
 
 sends : {A : Type 0} (replies : Option Request → A → A → MadeReply → Type 0) (old new : Shown)
     (before after : A) (request : Option Request) (reply : Response) (served : Served)
-    → IfSome old.left (λ bytes. TakesCut bytes new.left request)
-    → replies request before after (Ok reply)
+    → IfSome old.left (λ bytes. TakesCut bytes new.left request) → replies request before after (Ok reply)
     → Sends reply served old.held new.held old.writes new.writes → Serves replies old new before after served
 sends replies old new before after request reply Answered took did s =
     (request, reply, took, did, s.answered refl)
@@ -51,13 +49,3 @@ sent replies before after request reply served first mid last held wrote now rea
           (subst (λ n. Sends reply served held now n after_writes) steady
           (subst (λ o. Sends reply served o now counted after_writes) kept s));
     }
-
--- after the taking, which wrote nothing, where memory ran out before the reply was made
-pub unmade : {A : Type 0} (replies : Option Request → A → A → MadeReply → Type 0) (before after : A)
-    (request : Option Request) (e : want.Memory)
-    (first last held wrote : Option (List ℕ)) (reads risen writes counted : ℕ)
-    → IfSome first (λ bytes. TakesCut bytes last request) → wrote ≡ held → replies request before after (Err e)
-    → IsServedBy replies (record { left = first; held = held; reads = reads; writes = writes })
-    (record { left = last; held = wrote; reads = risen; writes = counted }) before after Memory
-unmade replies before after request e first last held wrote reads risen writes counted took kept did =
-    record { serves = (kept, inr (request, Err e, took, did)) }

@@ -35,7 +35,8 @@ none_yet replies shown (Some t) a = record {
   served = refl;
 }
 
-served-push : {L A : Type 0} (replies : Addr → Option Request → A → A → MadeReply → Type 0) (shown : L → Shown)
+served-push : {L A : Type 0} (replies : Addr → Option Request → A → A → MadeReply → Type 0)
+    (shown : L → Shown)
     (gone : List (L × Addr)) (back : List (L × Served)) (given : L × Addr) (b : L × Served)
     (before between after : A)
     → AllServed replies shown gone back before between → IsServedBy (replies given.1) (shown given.0)

@@ -49,7 +49,8 @@ asked_equal serves bytes peer now old new asked (inl (r, x, routed, json)) =
     )
 asked_equal serves bytes peer now old new asked (inr (none, is, same)) = (inr (none, is), same)
 
-stays_equal : (o : Option (List ℕ)) (now : ℕ) (old new : List ℕ) → MayBeAsked may_equal o now old new → new ≡ old
+stays_equal : (o : Option (List ℕ)) (now : ℕ) (old new : List ℕ) → MayBeAsked may_equal o now old new
+    → new ≡ old
 stays_equal None now old new same = same
 stays_equal (Some token) now old new asked = asked.1.0
 
