@@ -1,7 +1,6 @@
 pub mod Begins
 pub mod Farm
 pub mod Stops
-pub use Rattle.farm_script.specs.Built
 pub use Rattle.farm_script.specs.FirstFaulty
 pub use Rattle.farm_script.specs.Grammar
 pub use Rattle.farm_script.specs.Pieces

@@ -1,4 +1,3 @@
-pub mod Built
 pub mod FaultText
 pub mod Fields
 pub mod FirstFaulty

@@ -5,13 +5,12 @@ use Rattle.std.specs.Prelude.{IfSome}
 use Rattle.std.proofs.lemmas.List.{append-nil}
 use Rattle.dist_types.specs.declared.addr.Addr.{Addr}
 use Rattle.http_head.specs.declared.request.Request.{Request}
-use Rattle.http_routes.specs.declared.reply.Response.{Response}
-use Rattle.http_connections.specs.Served.{Shown, IsServedBy}
+use Rattle.http_connections.specs.Served.{Shown, MadeReply, IsServedBy}
 use Rattle.http_connections.specs.declared.served.Served.{Served}
 use Rattle.http_connections.specs.Tally.{Tally, Gave, GotBack, AllServed, Worked}
 
 -- so many went and came back, and these are left
-pub record Went {L A : Type 0} (replies : Addr → Option Request → A → A → Response → Type 0)
+pub record Went {L A : Type 0} (replies : Addr → Option Request → A → A → MadeReply → Type 0)
     (shown : L → Shown) (old : Tally L) (new : Option (Tally L)) (before after : A) : Type 0 where
   pub gone : List (L × Addr)
   pub back : List (L × Served)
@@ -20,11 +19,11 @@ pub record Went {L A : Type 0} (replies : Addr → Option Request → A → A �
   pub now : new ≡ Some (record { coming = rest; came = old.came ++ back })
   pub served : AllServed replies shown gone back before after
 
-abbrev pub SoFar : {L A : Type 0} → (Addr → Option Request → A → A → Response → Type 0) → (L → Shown)
+abbrev pub SoFar : {L A : Type 0} → (Addr → Option Request → A → A → MadeReply → Type 0) → (L → Shown)
     → Option (Tally L) → Option (Tally L) → A → A → Type 0
 SoFar replies shown old new before after = IfSome old (λ t. Went replies shown t new before after)
 
-pub none_yet : {L A : Type 0} (replies : Addr → Option Request → A → A → Response → Type 0)
+pub none_yet : {L A : Type 0} (replies : Addr → Option Request → A → A → MadeReply → Type 0)
     (shown : L → Shown) (old : Option (Tally L)) (a : A) → SoFar replies shown old old a a
 none_yet replies shown None a = tt
 none_yet replies shown (Some t) a = record {
@@ -36,7 +35,8 @@ none_yet replies shown (Some t) a = record {
   served = refl;
 }
 
-served-push : {L A : Type 0} (replies : Addr → Option Request → A → A → Response → Type 0) (shown : L → Shown)
+served-push : {L A : Type 0} (replies : Addr → Option Request → A → A → MadeReply → Type 0)
+    (shown : L → Shown)
     (gone : List (L × Addr)) (back : List (L × Served)) (given : L × Addr) (b : L × Served)
     (before between after : A)
     → AllServed replies shown gone back before between → IsServedBy (replies given.1) (shown given.0)
@@ -53,7 +53,7 @@ some_is : {L : Type 0} (x y : Tally L) → Some x ≡ Some y → x ≡ y
 some_is x y e = cc e
 
 -- one link more
-pub one_more : {L A : Type 0} (replies : Addr → Option Request → A → A → Response → Type 0)
+pub one_more : {L A : Type 0} (replies : Addr → Option Request → A → A → MadeReply → Type 0)
     (shown : L → Shown) (first old mid new : Option (Tally L)) (given : L × Addr) (back : L) (served : Served)
     (before between after : A)
     → SoFar replies shown first old before between → Gave given old mid → GotBack back served mid new
@@ -81,7 +81,7 @@ one_more {L} replies shown (Some t) old (Some m) new given back served before be
     }
 
 -- and none is left
-pub all_came : {L A : Type 0} (replies : Addr → Option Request → A → A → Response → Type 0)
+pub all_came : {L A : Type 0} (replies : Addr → Option Request → A → A → MadeReply → Type 0)
     (shown : L → Shown) (first old new : Option (Tally L)) (before after : A)
     → SoFar replies shown first old before after → new ≡ old → IfSome new (λ t. t.coming ≡ [])
     → Worked replies shown first new before after

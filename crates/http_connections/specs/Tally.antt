@@ -3,8 +3,7 @@ use Rattle.std.specs.Prelude.{◌≡◌, List, [], ◌∷◌, ◌++◌, Option, 
 use Rattle.std.specs.Option.{option_map}
 use Rattle.dist_types.specs.declared.addr.Addr.{Addr}
 use Rattle.http_head.specs.declared.request.Request.{Request}
-use Rattle.http_routes.specs.declared.reply.Response.{Response}
-use Rattle.http_connections.specs.Served.{Shown, IsServedBy}
+use Rattle.http_connections.specs.Served.{Shown, MadeReply, IsServedBy}
 use Rattle.http_connections.specs.declared.served.Served.{Served}
 
 -- the links that will be given, each with its peer, and those that came back, each with what serving it
@@ -25,7 +24,7 @@ GotBack {L} link served old new = new ≡ option_map {T = Tally L} {U = Tally L}
 
 -- Each link came back once, in order, and serving it did what its answer says, by a relation for its peer.
 -- What the worker has for its own goes from one connection to the next.
-abbrev pub AllServed : {L A : Type 0} → (Addr → Option Request → A → A → Response → Type 0) → (L → Shown)
+abbrev pub AllServed : {L A : Type 0} → (Addr → Option Request → A → A → MadeReply → Type 0) → (L → Shown)
     → List (L × Addr) → List (L × Served) → A → A → Type 0
 AllServed replies shown [] [] before after = after ≡ before
 AllServed replies shown [] (b ∷ back) before after = ⊥
@@ -35,7 +34,7 @@ AllServed {A = A} replies shown (given ∷ coming) (b ∷ back) before after =
     × AllServed replies shown coming back between after
 
 -- where that is told: no link is left, and each that was coming came back
-abbrev pub Worked : {L A : Type 0} → (Addr → Option Request → A → A → Response → Type 0) → (L → Shown)
+abbrev pub Worked : {L A : Type 0} → (Addr → Option Request → A → A → MadeReply → Type 0) → (L → Shown)
     → Option (Tally L) → Option (Tally L) → A → A → Type 0
 Worked replies shown None new before after = Unit {0}
 Worked {L} replies shown (Some old) new before after =

@@ -11,8 +11,8 @@ use Rattle.http_routes.specs.declared.admission.Admission.{Admission}
 use Rattle.http_routes.specs.declared.refusal.Refusal.{Refusal}
 use Rattle.http_routes.specs.declared.route.Asked.{Asked}
 use Rattle.http_routes.specs.declared.route.SchedRouted.{SchedRouted}
-use Rattle.http_routes.specs.Admission.{client_token, admission_by, Admits, equal_admission}
-use Rattle.http_routes.specs.Asked.{IsAskedOf, IsAskedUnder}
+use Rattle.http_routes.specs.Admission.{client_token, admission_by, Admits, MayBeAsked, equal_admission}
+use Rattle.http_routes.specs.Asked.{IsAskedOf, IsAskedUnder, MayBeAskedBy}
 use Rattle.http_routes.specs.Place.{is_at}
 use Rattle.http_routes.specs.Route.{report_of, asked_of, answered, question_under, IsRouted}
 
@@ -48,6 +48,17 @@ asked_equal serves bytes peer now old new asked (inl (r, x, routed, json)) =
       m.1,
     )
 asked_equal serves bytes peer now old new asked (inr (none, is, same)) = (inr (none, is), same)
+
+stays_equal : (o : Option (List ℕ)) (now : ℕ) (old new : List ℕ) → MayBeAsked may_equal o now old new
+    → new ≡ old
+stays_equal None now old new same = same
+stays_equal (Some token) now old new asked = asked.1.0
+
+-- the check of one token stays, whether it was asked or not
+pub left_equal : (bytes : List ℕ) (now : ℕ) (old new : List ℕ) → MayBeAskedBy may_equal bytes now old new
+    → new ≡ old
+left_equal bytes now old new (inl same) = same
+left_equal bytes now old new (inr (r, x, asked)) = stays_equal (client_token r) now old new asked
 
 -- a request that is at none of the three places tells a job's state, or is refused
 pub elsewhere_asked : (serves : List ℕ → Option Addr) (r : Request) (peer : Addr) (said : Option Admission)

@@ -9,7 +9,7 @@ use Rattle.http_routes.specs.declared.admission.Admission.{Admission}
 use Rattle.http_routes.specs.declared.refusal.Refusal.TheVariants.{BadHead}
 use Rattle.http_routes.specs.declared.route.Asked.{Asked}
 use Rattle.http_routes.specs.declared.route.SchedRouted.TheVariants.{Done}
-use Rattle.http_routes.specs.Admission.{equal_admission}
+use Rattle.http_routes.specs.Admission.{client_token, MayBeAsked, equal_admission}
 use Rattle.http_routes.specs.Refusal.{refusal_response}
 use Rattle.http_routes.specs.Route.{wants_json, question_under, IsRouted}
 
@@ -33,7 +33,14 @@ IsAskedOf may_answer shown serves bytes peer now old asked new =
     × (asked.json ≡ wants_json r))
     ⊎ (IsNoRequest bytes × (asked ≡ bad_question) × (new ≡ old))
 
--- the same, under one token of all clients and one of all servers
+-- what want of memory leaves of that check: it is as it was, or was asked about the token that the bytes show
+-- as a request
+abbrev pub MayBeAskedBy : {K : Type 0} → (K → ℕ → List ℕ → Result ⊤ TokenError → K → Type 0) → List ℕ → ℕ → K
+    → K → Type 0
+MayBeAskedBy may_answer bytes now old new = (new ≡ old)
+    ⊎ ((r : Request) × IsRequest bytes r × MayBeAsked may_answer (client_token r) now old new)
+
+-- what the bytes ask, under one token of all clients and one of all servers
 abbrev pub IsAsked : List ℕ → Addr → List ℕ → List ℕ → Asked → Type 0
 IsAsked bytes peer client expected asked = IsAskedUnder (equal_admission client)
     (plain_server expected) bytes peer asked

@@ -3,15 +3,11 @@ use Rattle.std.specs.Prelude.{ℕ, List, [], ◌∷◌, ◌++◌, codes}
 use Rattle.std.specs.Fmt.{decimal}
 use Rattle.dist_types.specs.Addr.{addr_text}
 use Rattle.dist_types.specs.Ids.{state_text}
-use Rattle.dist_types.specs.declared.ids.JobId.{JobId}
 use Rattle.dist_types.specs.declared.outgoing.CallFault.{CallFault}
 use Rattle.dist_types.specs.declared.outgoing.CallFault.TheVariants.{Lost, Status, Unreadable, BadState}
 use Rattle.dist_types.specs.declared.outgoing.CallFault.TheVariants.{Memory as OutOfMemory}
 use Rattle.sched_core.specs.declared.answers.Undone.{Undone}
 use Rattle.sched_core.specs.declared.answers.Undone.TheVariants.{Unassigned, NotKnown, NoServer, Foreign}
-use Rattle.http_head.specs.declared.error.HttpError.{HttpError}
-use Rattle.http_head.specs.declared.error.HttpError.TheVariants.{BadHead, WrongContentType, ParseError}
-use Rattle.http_head.specs.declared.error.HttpError.TheVariants.{BadRealIp, Unauthorised}
 use Rattle.http_routes.specs.declared.fault.RouteFault.{RouteFault}
 use Rattle.http_routes.specs.declared.fault.BuildFailure.{BuildFailure}
 use Rattle.http_routes.specs.declared.fault.BuildFailure.TheVariants as failure
@@ -23,8 +19,6 @@ use Rattle.http_routes.specs.declared.refusal.RouilleBincodeError.{RouilleBincod
 use Rattle.http_routes.specs.declared.refusal.RouilleBincodeError.TheVariants as input
 use Rattle.http_routes.specs.declared.reply.Response as response
 use Rattle.http_routes.specs.declared.reply.Response.TheVariants as reply
-use Rattle.http_head.specs.declared.word.Word.{Word}
-use Rattle.http_head.specs.declared.word.Word.TheVariants.{BearerAuthFailed}
 use Rattle.http_routes.specs.ErrJson.{err_text}
 use Rattle.http_head.specs.Text.{◌⧺◌}
 
@@ -83,27 +77,3 @@ abbrev pub input_text : RouilleBincodeError → List ℕ
 input_text input.BodyAlreadyExtracted = codes "the body of the request was already extracted"
 input_text input.WrongContentType = codes "the request didn't have a binary content type"
 input_text input.ParseError = codes "error while parsing the bincode body"
-
--- what a reply says beside the word of its refusal
-abbrev pub word_body : Word → List ℕ
-word_body BearerAuthFailed = codes "Fixed token mismatch"
-word_body other = []
-
--- the reply to a refusal
-abbrev pub reply_of : HttpError → response.Response
-reply_of BadHead = reply.BadRequest (err_text (codes "bad request head" ∷ []))
-reply_of WrongContentType = reply.BadRequest (err_text (input_text input.WrongContentType ∷ []))
-reply_of ParseError = reply.BadRequest
-    (err_text (input_text input.ParseError ∷ codes "no message begins the body" ∷ []))
-reply_of BadRealIp = reply.BadRealIp
-reply_of (Unauthorised word) = reply.Unauthorised word (word_body word)
-reply_of other = reply.NotFound
-
--- no server has room, of so many that stand
-abbrev pub no_room_text : ℕ → List ℕ
-no_room_text standing = codes "Insufficient capacity across " ⧺ decimal standing ⧺ codes " available servers"
-
--- the job's reservation ended before its server answered
-abbrev pub dropped_text : JobId → List ℕ
-dropped_text job = codes "Job " ⧺ decimal job.0
-    ⧺ codes " assignment was cleaned up before allocation completed"

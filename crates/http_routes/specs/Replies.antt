@@ -17,6 +17,7 @@ use Rattle.dist_wire.specs.Json.{submit_json, ran_json}
 use Rattle.dist_wire.specs.Response as sent
 use Rattle.dist_wire.specs.Written.{heard_text, status_text, response_text, update_text, assign_text}
 use Rattle.dist_wire.specs.Written.{submit_text, ran_text}
+use Rattle.sched_core.specs.Texts.{dropped_text}
 use Rattle.sched_core.specs.declared.answers.Committed.{Committed}
 use Rattle.sched_core.specs.declared.answers.Committed.TheVariants as committed
 use Rattle.sched_core.specs.declared.entry.UpdateAnswer.{UpdateAnswer}
@@ -27,7 +28,7 @@ use Rattle.http_routes.specs.declared.fault.RouteFault.{RouteFault}
 use Rattle.http_routes.specs.declared.fault.RouteFault.TheVariants.{BadCpus, UnknownJob, WrongServer}
 use Rattle.http_routes.specs.declared.fault.RouteFault.TheVariants.{BadTransition, IdsSpent}
 use Rattle.http_routes.specs.declared.reply.Response.{Response}
-use Rattle.http_routes.specs.Fault.{fault_response_of, dropped_text}
+use Rattle.http_routes.specs.Fault.{fault_response_of}
 use Rattle.http_routes.specs.Reply.{response_of}
 
 -- ---- of the scheduler

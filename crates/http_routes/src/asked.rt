@@ -1,7 +1,7 @@
 //! What the bytes that a peer sent ask of the scheduler.
-ghost use Rattle.std.specs.Prelude.{◌≡◌, IfOk, IfErr, OnOk};
+ghost use Rattle.std.specs.Prelude.{◌≡◌, IfOk, IfErr, OnErr};
 ghost use Rattle.http_routes.specs.Admission.{equal_admission};
-ghost use Rattle.http_routes.specs.Asked.{bad_question, IsAskedOf, IsAskedUnder, IsAsked};
+ghost use Rattle.http_routes.specs.Asked.{bad_question, IsAskedOf, IsAskedUnder, IsAsked, MayBeAskedBy};
 
 use crate::error::HttpError;
 use crate::head::read_head;
@@ -24,7 +24,8 @@ fn bad_question(alloc: Global) -> Result<Asked, HttpError>
 }
 
 /// What the bytes that a peer sent ask of the scheduler at that moment, under its checks of clients and of
-/// servers; bytes that are no request get their reply. Refused for want of memory alone.
+/// servers; bytes that are no request get their reply. The check of clients is asked once at most, about the
+/// token of a request for a job. Refused for want of memory alone.
 pub fn asked_of_checks<K: ClientAuthCheck, V: ServerAuthCheck>(
     alloc: Global,
     bytes: &[u8],
@@ -36,6 +37,7 @@ pub fn asked_of_checks<K: ClientAuthCheck, V: ServerAuthCheck>(
     ensures ok { IfOk result (λ asked. IsAskedOf K.may_answer K.shown (V.server_of server.now)
         bytes.now peer now client.old asked client.new) }
     ensures err { IfErr result (λ e. e ≡ HttpError.Memory) }
+    ensures left { OnErr result (MayBeAskedBy K.may_answer bytes.now now client.old client.new) }
 {
     match read_head(alloc, bytes) {
         Ok(request) => {
@@ -54,9 +56,9 @@ pub fn asked_of_checks<K: ClientAuthCheck, V: ServerAuthCheck>(
     }
 }
 
-/// The same of a scheduler whose clients all have one token. The check stays as it was. Refused for want of
-/// memory alone.
-#[tactic(auto, using(crate::proofs::AskLemmas::asked_equal))]
+/// The same of a scheduler whose clients all have one token. The check stays as it was, for want of memory
+/// too. Refused for want of memory alone.
+#[tactic(auto, using(crate::proofs::AskLemmas::asked_equal, crate::proofs::AskLemmas::left_equal))]
 pub fn asked_under<V: ServerAuthCheck>(
     alloc: Global,
     bytes: &[u8],
@@ -66,7 +68,7 @@ pub fn asked_under<V: ServerAuthCheck>(
 ) -> Result<Asked, HttpError>
     ensures ok { IfOk result
         (IsAskedUnder (equal_admission client.old) (V.server_of server.now) bytes.now peer) }
-    ensures same { OnOk result (client.new ≡ client.old) }
+    ensures same { client.new ≡ client.old }
     ensures err { IfErr result (λ e. e ≡ HttpError.Memory) }
 {
     let asked = asked_of_checks(alloc, bytes, peer, 0, client, server)?;

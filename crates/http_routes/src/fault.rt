@@ -2,7 +2,7 @@
 ghost use Rattle.std.specs.Prelude.{◌≡◌, [], ◌∷◌, IfOk, IfErr};
 ghost use Rattle.http_routes.specs.ErrJson.{texts_of};
 ghost use Rattle.http_routes.specs.Fault.{call_text, failure_text, fault_texts, fault_response_of};
-ghost use Rattle.http_routes.specs.Fault.{no_room_text, dropped_text};
+ghost use Rattle.sched_core.specs.Texts.{no_room_text, dropped_text};
 
 use crate::err_json::ErrJson;
 use crate::error::HttpError;

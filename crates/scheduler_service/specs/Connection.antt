@@ -1,13 +1,18 @@
 -- What serving one connection of a scheduler does.
-use Rattle.std.specs.Prelude.{◌≡◌, ℕ, Option, Some, None}
+use Rattle.std.specs.Prelude.{◌≡◌, ℕ, Bool, List, Option, Some, None, Result, Ok, Err, ⊤}
+use Rattle.dist_types.specs.declared.addr.Addr.{Addr}
+use Rattle.dist_types.specs.declared.fault.Memory as want
+use Rattle.dist_types.specs.declared.token_error.TokenError.{TokenError}
 use Rattle.http_head.specs.declared.request.Request.{Request}
+use Rattle.http_routes.specs.Admission.{client_token, MayBeAsked}
 use Rattle.http_routes.specs.Refusal.{refusal_response}
+use Rattle.http_routes.specs.Route.{IsRouted}
 use Rattle.http_routes.specs.declared.refusal.Refusal.TheVariants.{BadHead}
-use Rattle.http_routes.specs.declared.reply.Response.{Response}
 use Rattle.http_routes.specs.declared.route.SchedRouted.{SchedRouted}
 use Rattle.http_routes.specs.declared.route.SchedRouted.TheVariants.{Done}
 use Rattle.sched.specs.Outside.{Moments, IsRead}
 use Rattle.http_connections.specs.Form.{form_of}
+use Rattle.http_connections.specs.Served.{MadeReply}
 use Rattle.scheduler_service.specs.Replied.{Means, IsDone}
 
 -- what the caller lends beside the link: the means of the handlers, and the check of clients' tokens
@@ -15,18 +20,35 @@ pub record Around (K : Type 0) : Type 0 where
   pub means : Means
   pub client : K
 
--- What was taken asks that at a moment, by a relation that routes requests; what is no request gets the reply
--- to a bad head.
-abbrev pub Asks : {K : Type 0} → (Request → ℕ → K → SchedRouted → K → Type 0) → Option Request → ℕ → K
-    → SchedRouted → K → Type 0
-Asks routes None now old routed new = (routed ≡ Done (refusal_response BadHead)) × (new ≡ old)
-Asks routes (Some request) now old routed new = routes request now old routed new
+-- what is asked, or that memory ran out before that was known
+abbrev pub Routing : Type 0
+Routing = Result SchedRouted want.Memory
 
--- The reply to what was taken: the clock is read once for its route, and what it asks is then done.
-pub record IsReplied {K : Type 0} (routes : Request → ℕ → K → SchedRouted → K → Type 0)
-    (request : Option Request) (old new : Around K) (reply : Response) : Type 0 where
+-- What was taken asks that at a moment: a request by its route, and what is no request gets the reply to a
+-- bad head. Where memory ran out, the check of clients stays, or was asked once about the token that is shown.
+abbrev pub Asks : {K : Type 0} → (K → ℕ → List ℕ → Result ⊤ TokenError → K → Type 0)
+    → (K → TokenError → List ℕ) → (List ℕ → Option Addr) → Addr → Option Request → ℕ → K → Routing → K
+    → Type 0
+Asks may_answer shown serves peer None now old (Ok routed) new =
+    (routed ≡ Done (refusal_response BadHead)) × (new ≡ old)
+Asks may_answer shown serves peer None now old (Err e) new = new ≡ old
+Asks may_answer shown serves peer (Some request) now old (Ok routed) new =
+    IsRouted may_answer shown serves request peer now old routed new
+Asks may_answer shown serves peer (Some request) now old (Err e) new =
+    MayBeAsked may_answer (client_token request) now old new
+
+-- What is asked is done; where memory ran out before it was known, there is no reply, and nothing changes.
+abbrev pub Does : Bool → Routing → Means → Means → MadeReply → Type 0
+Does json (Ok routed) old new made = IsDone json routed old new made
+Does json (Err e) old new made = (made ≡ Err e) × (new ≡ old)
+
+-- The reply to what was taken, or that memory ran out before it was made: the clock is read once for its
+-- route, and what it asks is then done.
+pub record IsReplied {K : Type 0} (may_answer : K → ℕ → List ℕ → Result ⊤ TokenError → K → Type 0)
+    (shown : K → TokenError → List ℕ) (serves : List ℕ → Option Addr) (peer : Addr)
+    (request : Option Request) (old new : Around K) (made : MadeReply) : Type 0 where
   pub between : Moments
   pub read : IsRead old.means.clock between
-  pub routed : SchedRouted
-  pub asks : Asks routes request between.last old.client routed new.client
-  pub done : IsDone (form_of request) routed (record old.means { clock = between }) new.means reply
+  pub routing : Routing
+  pub asks : Asks may_answer shown serves peer request between.last old.client routing new.client
+  pub done : Does (form_of request) routing (record old.means { clock = between }) new.means made

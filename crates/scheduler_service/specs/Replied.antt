@@ -1,5 +1,5 @@
 -- What the scheduler's calls answer, as it is replied: in JSON where that is wanted, else in binary.
-use Rattle.std.specs.Prelude.{◌≡◌, ℕ, List, Bool, Option, Some, None, Result, Ok, Err}
+use Rattle.std.specs.Prelude.{◌≡◌, ℕ, List, Bool, Option, Some, None, Result, Ok, Err, IfOk}
 use Rattle.dist_types.specs.declared.addr.Addr.{Addr}
 use Rattle.dist_types.specs.declared.dialer.Asked.{Asked}
 use Rattle.dist_types.specs.declared.ids.JobId.{JobId}
@@ -24,6 +24,7 @@ use Rattle.http_routes.specs.declared.fault.RouteFault.TheVariants as fault
 use Rattle.http_routes.specs.declared.reply.Response.{Response}
 use Rattle.http_routes.specs.declared.route.SchedRouted.{SchedRouted}
 use Rattle.http_routes.specs.declared.route.SchedRouted.TheVariants.{Alloc, Beat, Update, Status, Done}
+use Rattle.http_connections.specs.Served.{MadeReply}
 use Rattle.scheduler_service.specs.Requested.{IsAskedFor, lent_of}
 
 -- ---- replies
@@ -82,42 +83,46 @@ pub record AsksNobody (old new : Means) : Type 0 where
 abbrev pub requests_over : ℕ → Means → Requests
 requests_over name m = record { rows = None; faults = m.faults; lent = lent_of name m.asked }
 
--- ---- the four calls, each with the answer that its reply tells
+-- ---- the four calls, each with the answer that its reply tells, where there is memory for one
 
 pub record IsHeardAndTold (json : Bool) (server : Addr) (beat : HeartbeatServerHttpRequest) (old new : Told)
-    (clock ticked : Moments) (reply : Response) : Type 0 where
+    (clock ticked : Moments) (made : MadeReply) : Type 0 where
   pub answer : Result HeartbeatServerResult SchedFault
   pub heard : IsHeard server beat.server_nonce beat.num_cpus beat.jwt_key old new clock ticked answer
-  pub told : Replies (heard_response json) fault_of answer reply
+  pub told : IfOk made (Replies (heard_response json) fault_of answer)
 
 pub record IsUpdatedAndTold (json : Bool) (server : Addr) (job : JobId) (state : JobState) (old new : Told)
-    (clock ticked : Moments) (reply : Response) : Type 0 where
+    (clock ticked : Moments) (made : MadeReply) : Type 0 where
   pub answer : Result UpdateJobStateResult SchedFault
   pub updated : IsUpdated job server state old new clock ticked answer
-  pub told : Replies (update_response json) (report_fault server job) answer reply
+  pub told : IfOk made (Replies (update_response json) (report_fault server job) answer)
 
 pub record IsCountedAndTold (json : Bool) (old new : Told) (clock ticked : Moments)
-    (reply : Response) : Type 0 where
+    (made : MadeReply) : Type 0 where
   pub answer : Result SchedulerStatusResult SchedFault
   pub counted : IsCounted old new clock ticked answer
-  pub told : Replies (status_response json) fault_of answer reply
+  pub told : IfOk made (Replies (status_response json) fault_of answer)
 
--- the job's server was asked through the dialer
-pub record IsAllocatedAndTold (json : Bool) (tc : List ℕ) (old new : Means) (reply : Response) : Type 0 where
-  pub name : ℕ
+-- an allocation that asks the job's server through the dialer
+pub record IsAllocated (tc : List ℕ) (old new : Means) (answer : Result AllocJobResult SchedFault) : Type 0
+  where
+    pub name : ℕ
+    pub allocated : IsAllocation IsAskedFor tc old.pass new.pass old.clock new.clock (requests_over name old)
+        (requests_over name new) answer
+
+pub record IsAllocatedAndTold (json : Bool) (tc : List ℕ) (old new : Means) (made : MadeReply) : Type 0 where
   pub answer : Result AllocJobResult SchedFault
-  pub allocated : IsAllocation IsAskedFor tc old.pass new.pass old.clock new.clock (requests_over name old)
-      (requests_over name new) answer
-  pub told : Replies (alloc_response json) fault_of answer reply
+  pub allocated : IsAllocated tc old new answer
+  pub told : IfOk made (Replies (alloc_response json) fault_of answer)
 
--- What is asked of the scheduler is done, and the reply tells its answer; what its route answered changes
--- nothing.
-abbrev pub IsDone : Bool → SchedRouted → Means → Means → Response → Type 0
-IsDone json (Alloc tc) old new reply = IsAllocatedAndTold json tc old new reply
-IsDone json (Beat server beat) old new reply =
-    IsHeardAndTold json server beat old.pass new.pass old.clock new.clock reply × AsksNobody old new
-IsDone json (Update server job state) old new reply =
-    IsUpdatedAndTold json server job state old.pass new.pass old.clock new.clock reply × AsksNobody old new
-IsDone json Status old new reply = IsCountedAndTold json old.pass new.pass old.clock new.clock reply
+-- What is asked of the scheduler is done, and the reply, where it is made, tells its answer; what its route
+-- answered is the reply, and changes nothing.
+abbrev pub IsDone : Bool → SchedRouted → Means → Means → MadeReply → Type 0
+IsDone json (Alloc tc) old new made = IsAllocatedAndTold json tc old new made
+IsDone json (Beat server beat) old new made =
+    IsHeardAndTold json server beat old.pass new.pass old.clock new.clock made × AsksNobody old new
+IsDone json (Update server job state) old new made =
+    IsUpdatedAndTold json server job state old.pass new.pass old.clock new.clock made × AsksNobody old new
+IsDone json Status old new made = IsCountedAndTold json old.pass new.pass old.clock new.clock made
     × AsksNobody old new
-IsDone json (Done response) old new reply = (reply ≡ response) × (new ≡ old)
+IsDone json (Done response) old new made = (made ≡ Ok response) × (new ≡ old)

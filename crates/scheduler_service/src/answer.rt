@@ -5,7 +5,7 @@ ghost use Rattle.sched.specs.Pass.{held_of};
 ghost use Rattle.http_routes.specs.Fault.{fault_response_of};
 ghost use Rattle.scheduler_service.specs.Replied.{fault_of, report_fault, IsTold, IsTellable, IsReportable};
 ghost use Rattle.scheduler_service.specs.Replied.{IsHeardAndTold, IsUpdatedAndTold, IsCountedAndTold};
-ghost use Rattle.scheduler_service.specs.Replied.{IsAllocatedAndTold, IsDone};
+ghost use Rattle.scheduler_service.specs.Replied.{IsAllocated, IsAllocatedAndTold, IsDone};
 
 use crate::asking::Asking;
 use dist_token::job_token::JWTJobAuthorizer;
@@ -13,7 +13,7 @@ use dist_types::clock::Clock;
 use dist_types::dialer::Dialer;
 use dist_types::fault::Memory;
 use dist_types::ids::{JobId, ServerId};
-use dist_types::results::JobState;
+use dist_types::results::{AllocJobResult, JobState};
 use dist_types::roles::JobAuthorizer;
 use dist_types::toolchain::Toolchain;
 use dist_wire::heartbeat::HeartbeatServerHttpRequest;
@@ -91,8 +91,8 @@ fn hear<R: Wait, C: Clock>(
     server: ServerId,
     beat: HeartbeatServerHttpRequest,
 ) -> Result<Response, Memory>
-    ensures told { IfOk result (IsHeardAndTold json server beat pass.old pass.new
-        (moments C.moments C.last clock.old) (moments C.moments C.last clock.new)) }
+    ensures told { IsHeardAndTold json server beat pass.old pass.new
+        (moments C.moments C.last clock.old) (moments C.moments C.last clock.new) result }
     ensures holds { held_of pass.new ≡ held_of pass.old }
 {
     let HeartbeatServerHttpRequest {
@@ -123,8 +123,8 @@ fn update<R: Wait, C: Clock>(
     job: JobId,
     state: JobState,
 ) -> Result<Response, Memory>
-    ensures told { IfOk result (IsUpdatedAndTold json server job state pass.old pass.new
-        (moments C.moments C.last clock.old) (moments C.moments C.last clock.new)) }
+    ensures told { IsUpdatedAndTold json server job state pass.old pass.new
+        (moments C.moments C.last clock.old) (moments C.moments C.last clock.new) result }
     ensures holds { held_of pass.new ≡ held_of pass.old }
 {
     match scheduler.handle_update_job_state(rt, pass, clock, job, server, state) {
@@ -146,8 +146,8 @@ fn count<R: Wait, C: Clock>(
     clock: &mut C,
     json: bool,
 ) -> Result<Response, Memory>
-    ensures told { IfOk result (IsCountedAndTold json pass.old pass.new
-        (moments C.moments C.last clock.old) (moments C.moments C.last clock.new)) }
+    ensures told { IsCountedAndTold json pass.old pass.new
+        (moments C.moments C.last clock.old) (moments C.moments C.last clock.new) result }
     ensures holds { held_of pass.new ≡ held_of pass.old }
 {
     match scheduler.handle_status(rt, pass, clock) {
@@ -160,7 +160,27 @@ fn count<R: Wait, C: Clock>(
 }
 
 /// Allocates a job, and asks its server through the dialer.
-#[tactic(auto, using(crate::proofs::RepliedLemmas::allocated_tellable))]
+fn allocated<R: Wait, D: Dialer, C: Clock>(
+    rt: &R,
+    alloc: Global,
+    scheduler: &Scheduler<JWTJobAuthorizer>,
+    pass: &mut Pass,
+    dialer: &mut D,
+    clock: &mut C,
+    tc: &Toolchain,
+) -> Result<AllocJobResult, SchedFault>
+    ensures allocated { IsAllocated tc.now
+        (record { pass = pass.old; clock = moments C.moments C.last clock.old; asked = D.asked dialer.old; faults = D.faults dialer.old })
+        (record { pass = pass.new; clock = moments C.moments C.last clock.new; asked = D.asked dialer.new; faults = D.faults dialer.new })
+        result }
+    ensures holds { held_of pass.new ≡ held_of pass.old }
+{
+    let mut asking = Asking::new(alloc, dialer);
+    scheduler.handle_alloc_job(rt, pass, clock, &mut asking, tc)
+}
+
+/// The same, and the reply that tells its answer.
+#[tactic(auto, using(crate::proofs::RepliedLemmas::allocation_tellable))]
 fn allocate<R: Wait, D: Dialer, C: Clock>(
     rt: &R,
     alloc: Global,
@@ -171,13 +191,12 @@ fn allocate<R: Wait, D: Dialer, C: Clock>(
     json: bool,
     tc: &Toolchain,
 ) -> Result<Response, Memory>
-    ensures told { IfOk result (IsAllocatedAndTold json tc.now
+    ensures told { IsAllocatedAndTold json tc.now
         (record { pass = pass.old; clock = moments C.moments C.last clock.old; asked = D.asked dialer.old; faults = D.faults dialer.old })
-        (record { pass = pass.new; clock = moments C.moments C.last clock.new; asked = D.asked dialer.new; faults = D.faults dialer.new })) }
+        (record { pass = pass.new; clock = moments C.moments C.last clock.new; asked = D.asked dialer.new; faults = D.faults dialer.new }) result }
     ensures holds { held_of pass.new ≡ held_of pass.old }
 {
-    let mut asking = Asking::new(alloc, dialer);
-    match scheduler.handle_alloc_job(rt, pass, clock, &mut asking, tc) {
+    match allocated(rt, alloc, scheduler, pass, dialer, clock, tc) {
         Ok(answer) => {
             let response = to_allocation(alloc, json, answer)?;
             Ok(response)
@@ -186,7 +205,8 @@ fn allocate<R: Wait, D: Dialer, C: Clock>(
     }
 }
 
-/// Does what is asked of the scheduler. Refused for want of memory alone.
+/// Does what is asked of the scheduler. Refused for want of memory alone: where the call that does it was, or
+/// where there is none for the reply to what it answered.
 pub fn answer<R: Wait, D: Dialer, C: Clock>(
     rt: &R,
     alloc: Global,
@@ -197,9 +217,9 @@ pub fn answer<R: Wait, D: Dialer, C: Clock>(
     json: bool,
     asked: SchedRouted,
 ) -> Result<Response, Memory>
-    ensures told { IfOk result (IsDone json asked
+    ensures told { IsDone json asked
         (record { pass = pass.old; clock = moments C.moments C.last clock.old; asked = D.asked dialer.old; faults = D.faults dialer.old })
-        (record { pass = pass.new; clock = moments C.moments C.last clock.new; asked = D.asked dialer.new; faults = D.faults dialer.new })) }
+        (record { pass = pass.new; clock = moments C.moments C.last clock.new; asked = D.asked dialer.new; faults = D.faults dialer.new }) result }
     ensures holds { held_of pass.new ≡ held_of pass.old }
 {
     match asked {

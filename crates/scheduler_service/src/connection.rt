@@ -1,10 +1,9 @@
 //! Serving one connection of a scheduler: take, answer, send.
-ghost use Rattle.std.specs.Prelude.{◌≡◌, IfOk};
+ghost use Rattle.std.specs.Prelude.{◌≡◌};
 ghost use Rattle.sched.specs.Outside.{moments};
 ghost use Rattle.sched.specs.Pass.{held_of};
 ghost use Rattle.scheduler_service.specs.Connection.{IsReplied};
 ghost use Rattle.http_connections.specs.Served.{IsServedBy};
-ghost use Rattle.http_routes.specs.Route.{IsRouted};
 
 use crate::answer::answer;
 use crate::route::route;
@@ -27,7 +26,8 @@ use sched::scheduler::Scheduler;
 use std::alloc::Global;
 use std::sync::Wait;
 
-/// The reply to what was taken. Refused for want of memory alone.
+/// The reply to what was taken. Refused for want of memory alone: before what is asked was known, and then
+/// nothing is done, or behind what it did.
 fn reply_to<R: Wait, D: Dialer, C: Clock, K: ClientAuthCheck, V: ServerAuthCheck>(
     rt: &R,
     alloc: Global,
@@ -40,8 +40,7 @@ fn reply_to<R: Wait, D: Dialer, C: Clock, K: ClientAuthCheck, V: ServerAuthCheck
     server: &V,
     request: &Option<Request>,
 ) -> Result<Response, Memory>
-    ensures replied { IfOk result
-        (IsReplied (λ r. IsRouted K.may_answer K.shown (V.server_of server.now) r peer) request.now
+    ensures replied { IsReplied K.may_answer K.shown (V.server_of server.now) peer request.now
         (record {
           means = record { pass = pass.old; clock = moments C.moments C.last clock.old; asked = D.asked dialer.old; faults = D.faults dialer.old };
           client = client.old;
@@ -49,7 +48,7 @@ fn reply_to<R: Wait, D: Dialer, C: Clock, K: ClientAuthCheck, V: ServerAuthCheck
         (record {
           means = record { pass = pass.new; clock = moments C.moments C.last clock.new; asked = D.asked dialer.new; faults = D.faults dialer.new };
           client = client.new;
-        })) }
+        }) result }
     ensures holds { held_of pass.new ≡ held_of pass.old }
 {
     let now = clock.now();
@@ -67,8 +66,10 @@ fn reply_to<R: Wait, D: Dialer, C: Clock, K: ClientAuthCheck, V: ServerAuthCheck
 }
 
 /// Takes one request, answers it, and sends the reply. ReadFault and WriteFault come only where that half's
-/// count rose; ReadFault and Memory write nothing. An end of input inside a request gets the reply to a bad
-/// head. Whatever it answers, the pass holds what it held.
+/// count rose; ReadFault and Memory write nothing. After ReadFault nothing is done that was asked; after
+/// Memory neither, where memory ran out before the request was routed, and else what its one call says. An
+/// end of input inside a request gets the reply to a bad head. Whatever it answers, the pass holds what it
+/// held.
 pub fn serve_scheduler_connection<
     R: Wait,
     L: Link,
@@ -88,8 +89,7 @@ pub fn serve_scheduler_connection<
     client: &mut K,
     server: &V,
 ) -> Served
-    ensures served { IsServedBy
-        (IsReplied (λ r. IsRouted K.may_answer K.shown (V.server_of server.now) r peer))
+    ensures served { IsServedBy (IsReplied K.may_answer K.shown (V.server_of server.now) peer)
         (record { left = L.left link.old; held = L.held link.old; reads = L.Source.faults link.old; writes = L.Sink.faults link.old })
         (record { left = L.left link.new; held = L.held link.new; reads = L.Source.faults link.new; writes = L.Sink.faults link.new })
         (record {

@@ -1,7 +1,5 @@
 //! What was taken of a connection asks of the scheduler.
-ghost use Rattle.std.specs.Prelude.{IfOk};
 ghost use Rattle.scheduler_service.specs.Connection.{Asks};
-ghost use Rattle.http_routes.specs.Route.{IsRouted};
 
 use dist_token::checks::{ClientAuthCheck, ServerAuthCheck};
 use dist_types::addr::Addr;
@@ -12,7 +10,7 @@ use http_routes::route::{SchedRouted, scheduler_route};
 use std::alloc::Global;
 
 /// What is asked at a moment, or the reply where there is nothing more to do. Refused for want of memory
-/// alone.
+/// alone, and then the check of clients was asked once at most.
 pub fn route<K: ClientAuthCheck, V: ServerAuthCheck>(
     alloc: Global,
     request: &Option<Request>,
@@ -21,9 +19,8 @@ pub fn route<K: ClientAuthCheck, V: ServerAuthCheck>(
     client: &mut K,
     server: &V,
 ) -> Result<SchedRouted, Memory>
-    ensures { IfOk result (λ routed.
-        Asks (λ r. IsRouted K.may_answer K.shown (V.server_of server.now) r peer)
-        request.now now client.old routed client.new) }
+    ensures { Asks K.may_answer K.shown (V.server_of server.now) peer request.now now client.old result
+        client.new }
 {
     match request {
         None => match refusal_response(alloc, Refusal::BadHead) {

@@ -5,7 +5,6 @@ ghost use Rattle.std.specs.List.{sum_by};
 ghost use Rattle.sched.specs.Outside.{moments};
 ghost use Rattle.sched.specs.Pass.{Told, fresh, count_of, held_of, Rises};
 ghost use Rattle.http_connections.specs.Tally.{Worked};
-ghost use Rattle.http_routes.specs.Route.{IsRouted};
 ghost use Rattle.scheduler_service.specs.Connection.{IsReplied};
 ghost use Rattle.scheduler_service.specs.Workers.{AreJoined, AreTakenBack, around};
 
@@ -58,8 +57,7 @@ fn work<
     server: &V,
     worker: &mut Worker<T, D, C, K>,
 )
-    ensures worked { Worked (λ peer.
-        IsReplied (λ r. IsRouted K.may_answer K.shown (V.server_of server.now) r peer))
+    ensures worked { Worked (IsReplied K.may_answer K.shown (V.server_of server.now))
         (λ l. record {
           left = T.L.left l;
           held = T.L.held l;
@@ -108,7 +106,7 @@ fn work_all<
     workers: &mut [Worker<T, D, C, K>],
 )
     ensures worked { (i : ℕ) (d : _) → i < length workers.old
-        → Worked (λ peer. IsReplied (λ r. IsRouted K.may_answer K.shown (V.server_of server.now) r peer))
+        → Worked (IsReplied K.may_answer K.shown (V.server_of server.now))
         (λ l. record {
           left = T.L.left l;
           held = T.L.held l;
@@ -130,8 +128,7 @@ fn work_all<
         workers,
         threads,
         &|_, w: &mut Worker<T, D, C, K>| -> ()
-            ensures worked { Worked (λ peer.
-                IsReplied (λ r. IsRouted K.may_answer K.shown (V.server_of server.entry.now) r peer))
+            ensures worked { Worked (IsReplied K.may_answer K.shown (V.server_of server.entry.now))
                 (λ l. record {
                   left = T.L.left l;
                   held = T.L.held l;
@@ -261,7 +258,7 @@ pub fn serve_scheduler_kits<
     ensures worked { OnOk result ((passes : List Told) × (length passes ≡ length kits.old.items)
         × AreJoined passes pass.old pass.new
         × ((i : ℕ) (d : _) (p : Told) → i < length kits.old.items
-        → Worked (λ peer. IsReplied (λ r. IsRouted K.may_answer K.shown (V.server_of server.now) r peer))
+        → Worked (IsReplied K.may_answer K.shown (V.server_of server.now))
         (λ l. record {
           left = T.L.left l;
           held = T.L.held l;
@@ -308,7 +305,7 @@ pub fn serve_scheduler_workers<
     ensures worked { IfOk result (λ back. (passes : List Told) × (length passes ≡ length kits.items)
         × AreJoined passes pass.old pass.new
         × ((i : ℕ) (d : _) (p : Told) → i < length kits.items
-        → Worked (λ peer. IsReplied (λ r. IsRouted K.may_answer K.shown (V.server_of server.now) r peer))
+        → Worked (IsReplied K.may_answer K.shown (V.server_of server.now))
         (λ l. record {
           left = T.L.left l;
           held = T.L.held l;

@@ -5,7 +5,6 @@ use Rattle.sched.specs.Outside.{moments}
 use Rattle.sched.specs.Pass.{fresh, count_of, held_of, Rises}
 use Rattle.http_connections.specs.Tally.{Worked}
 use Rattle.http_connections.proofs.KitLemmas.{each_worker, slice_back}
-use Rattle.http_routes.specs.Route.{IsRouted}
 use Rattle.scheduler_service.specs.Connection.{IsReplied}
 use Rattle.scheduler_service.specs.Workers.{around}
 use Rattle.scheduler_service.proofs.HeldLemmas.{sum_same, sum_mapped}
@@ -34,9 +33,8 @@ returns-clause-worked g c =
             (rw c.in_ok-passes-2.ensures.same at c.gather.ensures.joined);
       },
       each_worker (λ w. w.kit) (λ w. w.pass) fresh
-          (λ a p b q. Worked (λ peer.
-          IsReplied (λ r. IsRouted g.K.ClientAuthCheck.may_answer g.K.ClientAuthCheck.shown
-          (g.V.ServerAuthCheck.server_of c.args.server.now) r peer))
+          (λ a p b q. Worked (IsReplied g.K.ClientAuthCheck.may_answer g.K.ClientAuthCheck.shown
+      (g.V.ServerAuthCheck.server_of c.args.server.now))
           (λ l. record {
             left = g.T.L.Source.left l;
             held = g.T.L.Sink.held l;

@@ -2,15 +2,14 @@ use Rattle.std.proofs.Common.{◌≡◌}
 use Rattle.sched.specs.Outside.{moments}
 use Rattle.sched.specs.Pass.{held_of}
 use Rattle.http_connections.proofs.TallyLemmas.{SoFar}
-use Rattle.http_routes.specs.Route.{IsRouted}
 use Rattle.scheduler_service.specs.Connection.{IsReplied}
 use Rattle.scheduler_service.specs.Workers.{around}
 use Rattle.scheduler_service.proofs.workers.work.Given as goal
 
 abbrev pub invariant-loop : goal.invariant-loop
 invariant-loop g l = record {
-  tasks : SoFar (λ peer. IsReplied (λ r. IsRouted g.K.ClientAuthCheck.may_answer g.K.ClientAuthCheck.shown
-      (g.V.ServerAuthCheck.server_of l.server) r peer))
+  tasks : SoFar (IsReplied g.K.ClientAuthCheck.may_answer g.K.ClientAuthCheck.shown
+      (g.V.ServerAuthCheck.server_of l.server))
       (λ c. record {
         left = g.T.L.Source.left c;
         held = g.T.L.Sink.held c;
