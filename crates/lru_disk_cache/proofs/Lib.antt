@@ -36,3 +36,4 @@ pub mod KeySteps
 pub mod DiskSteps
 pub mod Insides
 pub mod Others
+pub mod Whole

@@ -17,3 +17,4 @@ pub mod Real
 pub mod Adding
 pub mod Moving
 pub mod Read
+pub mod Whole

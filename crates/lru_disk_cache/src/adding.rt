@@ -7,6 +7,7 @@ ghost use Rattle.lru_disk_cache.specs.Key.{is_key};
 ghost use Rattle.lru_disk_cache.specs.Disk.{ButAt, ButUnder, Keeps, dropped, files_placed, without_key};
 ghost use Rattle.lru_disk_cache.specs.Reserved.{held_size, is_pending, without_number, IsLeastFree};
 ghost use Rattle.lru_disk_cache.specs.Reserved.{KeepsReserved};
+ghost use Rattle.lru_disk_cache.specs.Whole.{OldOrMoved};
 ghost use Rattle.lru_disk_cache.specs.Adding.{entry_path, prepared, files_prepared, held_beside, room_for};
 ghost use Rattle.lru_disk_cache.specs.Adding.{commit_verdict, committed, abandoned, abandon_answer, HasSize};
 ghost use Rattle.lru_disk_cache.specs.Adding.{PrepareFails, WriteFails, CommitFails, AbandonFails};
@@ -118,7 +119,7 @@ impl<F: Folder> LruDiskCache<F> {
     /// this cache has no open reservation with the entry's number, key and size), `Error::FileTooLarge` and
     /// `Error::PendingSpace`, in this order, which leave all as it was; and as `Error::Io` or for want of
     /// memory, which leave the list as it was, or the key out and some of the least recent gone, none more
-    /// than had to go.
+    /// than had to go. The file of the key is as it was or has all the bytes of the temporary file.
     pub fn commit(
         &mut self,
         entry: LruDiskCacheAddEntry,
@@ -134,6 +135,9 @@ impl<F: Folder> LruDiskCache<F> {
         ensures content { OnOk result
             (Became (λ old new. file_at new (self.old.disk.root ++ entry.key) ≡ file_at old
             (entry_path self.old.disk entry)) (F.held self.old.folder).files (F.held self.new.folder).files) }
+        ensures whole { Became
+            (OldOrMoved (entry_path self.old.disk entry) (self.old.disk.root ++ entry.key))
+            (F.held self.old.folder).files (F.held self.new.folder).files }
         ensures back { IfErr result (λ e. e.1 ≡ entry) }
         ensures fails { IfErr result
             (λ e. CommitFails entry e.0 self.old.disk self.new.disk (F.held self.old.folder)
@@ -263,6 +267,9 @@ impl<F: Folder> LruDiskCache<F> {
             (Became (λ old new. file_at new (self.old.disk.root ++ entry.now.key) ≡ file_at old
             (entry_path self.old.disk entry.now)) (F.held self.old.folder).files
             (F.held self.new.folder).files) }
+        ensures whole { Became
+            (OldOrMoved (entry_path self.old.disk entry.now) (self.old.disk.root ++ entry.now.key))
+            (F.held self.old.folder).files (F.held self.new.folder).files }
         ensures fails { IfErr result
             (λ e. CommitFails entry.now e self.old.disk self.new.disk (F.held self.old.folder)
             (F.held self.new.folder)) }

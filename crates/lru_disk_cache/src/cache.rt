@@ -13,6 +13,7 @@ ghost use Rattle.lru_disk_cache.specs.Opened.{InStep, Shows};
 ghost use Rattle.lru_disk_cache.specs.Disk.{Stands, ButAt, ButUnder, IsTemp, Keeps, SameAt, staying, dropped};
 ghost use Rattle.lru_disk_cache.specs.Disk.{files_stored, without_key, OnlyRemoved, RemovedUnder};
 ghost use Rattle.lru_disk_cache.specs.Reserved.{held_size, KeepsReserved};
+ghost use Rattle.lru_disk_cache.specs.Whole.{OldOr};
 
 use crate::error::{Error, Result, io};
 use crate::fault::FolderFault;
@@ -196,13 +197,16 @@ impl<F: Folder> LruDiskCache<F> {
     ///
     /// Refused as `Error::BadKey`, `Error::FileTooLarge` and `Error::PendingSpace`, in this order, which
     /// leave all as it was; then as `Error::Io` or for want of memory, which leave the list as it was, or
-    /// the key out and some of the least recent gone, none more than had to go.
+    /// the key out and some of the least recent gone, none more than had to go. The file of the key is as
+    /// it was or has all the bytes, never a part of them.
     pub fn insert_bytes(&mut self, key: &str, bytes: &[u8]) -> Result<()>
         ensures ok { OnOk result (self.new.disk ≡ inserted self.old.disk key.now (length bytes.now)) }
         ensures admits { OnOk result (insert_verdict self.old.disk key.now (length bytes.now) ≡ Ok tt) }
         ensures content { OnOk result
             (Holds (F.held self.new.folder)
             (λ files. file_at files (self.old.disk.root ++ key.now) ≡ Some bytes.now)) }
+        ensures whole { Became (OldOr (self.old.disk.root ++ key.now) bytes.now)
+            (F.held self.old.folder).files (F.held self.new.folder).files }
         ensures fails { IfErr result
             (λ e. InsertFails key.now (length bytes.now) e self.old.disk self.new.disk
             (F.held self.old.folder) (F.held self.new.folder)) }

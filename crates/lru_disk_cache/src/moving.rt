@@ -11,6 +11,7 @@ ghost use Rattle.lru_disk_cache.specs.Key.{names_temporary};
 ghost use Rattle.lru_disk_cache.specs.Disk.{Avoids, ButUnderAnd, ButUnder, Keeps, SameAt, dropped};
 ghost use Rattle.lru_disk_cache.specs.Disk.{files_placed, without_key};
 ghost use Rattle.lru_disk_cache.specs.Reserved.{KeepsReserved};
+ghost use Rattle.lru_disk_cache.specs.Whole.{OldOrMoved, OldOrWritten};
 ghost use Rattle.lru_disk_cache.specs.Moving.{IsSized, MoveFails, Wrote, WriterFails, WithFails};
 
 use crate::cache::{LruDiskCache, arrival_from};
@@ -33,7 +34,8 @@ impl<F: Folder> LruDiskCache<F> {
     /// Refused as `Error::BadKey`; as `Error::Io` with `FolderFault::Missing` where there is no such file; as
     /// `Error::FileTooLarge` and `Error::PendingSpace`, in this order, which leave all as it was; then as
     /// `Error::Io` or for want of memory, which leave the list as it was, or the key out and some of the
-    /// least recent gone, none more than had to go.
+    /// least recent gone, none more than had to go. The file of the key is as it was or has all the bytes of
+    /// that file.
     pub fn insert_file(&mut self, key: &str, path: &str) -> Result<()>
         requires apart { bytes_eq (self.old.disk.root ++ key.now) path.now ≡ false }
         requires avoids { Avoids self.old.disk.root path.now self.old.disk.entries }
@@ -47,6 +49,8 @@ impl<F: Folder> LruDiskCache<F> {
         ensures content { OnOk result
             (Became (λ old new. file_at new (self.old.disk.root ++ key.now) ≡ file_at old path.now)
             (F.held self.old.folder).files (F.held self.new.folder).files) }
+        ensures whole { Became (OldOrMoved path.now (self.old.disk.root ++ key.now))
+            (F.held self.old.folder).files (F.held self.new.folder).files }
         ensures fails { IfErr result (λ e. MoveFails key.now path.now e self.old.disk self.new.disk
             (F.held self.old.folder) (F.held self.new.folder)) }
         ensures left { OnErr result
@@ -102,6 +106,9 @@ impl<F: Folder> LruDiskCache<F> {
             × (insert_verdict self.old.disk key.now (length bytes) ≡ Ok tt)
             × (self.new.disk ≡ inserted self.old.disk key.now (length bytes)) × Holds (F.held self.new.folder)
             (λ files. file_at files (self.old.disk.root ++ key.now) ≡ Some bytes)) }
+        ensures whole { Became
+            (OldOrWritten (Wrote W.FnOnce (λ v. v.items) with (Ok tt)) (self.old.disk.root ++ key.now))
+            (F.held self.old.folder).files (F.held self.new.folder).files }
         ensures fails { IfErr result
             (λ e. WithFails (Wrote W.FnOnce (λ v. v.items) with) key.now e self.old.disk self.new.disk
             (F.held self.old.folder) (F.held self.new.folder)) }

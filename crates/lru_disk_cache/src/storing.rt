@@ -14,6 +14,7 @@ ghost use Rattle.lru_disk_cache.specs.Disk.{Stands, Avoids, ButAt, ButListed, Bu
 ghost use Rattle.lru_disk_cache.specs.Disk.{ButThese, IsTemp, Keeps, Counts, Drops, stored, staying, dropped};
 ghost use Rattle.lru_disk_cache.specs.Disk.{without_each, files_placed, files_stored, without_key, Left};
 ghost use Rattle.lru_disk_cache.specs.Disk.{OnlyRemoved, RemovedAt, SameAt};
+ghost use Rattle.lru_disk_cache.specs.Whole.{OldOr, OldOrMoved};
 
 use crate::error::{self, io};
 use crate::fault::FolderFault;
@@ -183,6 +184,8 @@ pub(crate) fn place<F: Folder>(
     ensures content { OnOk result
         (Became (λ old new. file_at new arrival.now.path ≡ file_at old arrival.now.from)
         (F.held folder.old).files (F.held folder.new).files) }
+    ensures whole { Became (OldOrMoved arrival.now.from arrival.now.path) (F.held folder.old).files
+        (F.held folder.new).files }
     ensures others { Became (ButUnderAnd root.now arrival.now.from) (F.held folder.old).files
         (F.held folder.new).files }
     ensures untouched { Became (ButThese root.now arrival.now.from arrival.now.path table.old.entries)
@@ -249,6 +252,8 @@ pub(crate) fn fill<F: Folder>(
     ensures content { OnOk result
         (Became (λ old new. file_at new arrival.now.path ≡ file_at old arrival.now.from)
         (F.held folder.old).files (F.held folder.new).files) }
+    ensures whole { Became (OldOrMoved arrival.now.from arrival.now.path) (F.held folder.old).files
+        (F.held folder.new).files }
     ensures others { Became (ButUnderAnd root.now arrival.now.from) (F.held folder.old).files
         (F.held folder.new).files }
     ensures untouched { Became (ButThese root.now arrival.now.from arrival.now.path table.old.entries)
@@ -295,6 +300,8 @@ pub(crate) fn store<F: Folder>(
     ensures stands { Stands root.now (F.held folder.new) table.new.entries }
     ensures content { OnOk result
         (Holds (F.held folder.new) (λ files. file_at files arrival.now.path ≡ Some bytes.now)) }
+    ensures whole { Became (OldOr arrival.now.path bytes.now) (F.held folder.old).files
+        (F.held folder.new).files }
     ensures others { Became (ButUnder root.now) (F.held folder.old).files (F.held folder.new).files }
     ensures untouched { Became (ButThese root.now arrival.now.from arrival.now.path table.old.entries)
         (F.held folder.old).files (F.held folder.new).files }
@@ -370,6 +377,8 @@ pub(crate) fn move_in<F: Folder>(
     ensures content { OnOk result
         (Became (λ old new. file_at new arrival.now.path ≡ file_at old arrival.now.from)
         (F.held folder.old).files (F.held folder.new).files) }
+    ensures whole { Became (OldOrMoved arrival.now.from arrival.now.path) (F.held folder.old).files
+        (F.held folder.new).files }
     ensures others { Became (ButUnderAnd root.now arrival.now.from) (F.held folder.old).files
         (F.held folder.new).files }
     ensures untouched { Became (ButThese root.now arrival.now.from arrival.now.path table.old.entries)

@@ -6,7 +6,7 @@ ghost use Rattle.std.specs.Str.{bytes_eq};
 ghost use Rattle.lru_disk_cache.specs.Files.{file_at, front, put, moved, PartWritten, DoneOrNot, Same};
 ghost use Rattle.lru_disk_cache.specs.Held.{Holds, Became, Lacks, Never, Changes};
 ghost use Rattle.lru_disk_cache.specs.Entries.{total, promoted_key};
-ghost use Rattle.lru_disk_cache.specs.Disk.{ButUnder, RemovedUnder, IsOutside, without_key};
+ghost use Rattle.lru_disk_cache.specs.Disk.{ButUnder, OnlyRemoved, RemovedUnder, IsOutside, without_key};
 ghost use Rattle.lru_disk_cache.specs.Archives.{id_of, archive_path, opened_archives, paths_under, IsInStep};
 ghost use Rattle.lru_disk_cache.specs.Archives.{IsArchiveStore};
 ghost use Rattle.lru_disk_cache.specs.Cleaned.{are_archive_keys};
@@ -14,6 +14,7 @@ ghost use Rattle.lru_disk_cache.specs.Keyed.{unkeyed, AllHold};
 ghost use Rattle.lru_disk_cache.specs.Archiving.{archive_verdict, with_archive, StoreFails, FindFails};
 ghost use Rattle.lru_disk_cache.specs.Archiving.{DropFails, Relists};
 ghost use Rattle.lru_disk_cache.specs.Moving.{Wrote, StoreWithFails};
+ghost use Rattle.lru_disk_cache.specs.Whole.{OldOr, OldOrWritten};
 
 use crate::archives::{Archives, is_key_of};
 use crate::cache::{LruDiskCache, place_of};
@@ -76,6 +77,8 @@ impl<F: Folder> TcCache<F> {
             (λ t. Holds (F.held t.folder)
             (λ files. paths_under cache_dir.now files ≡ map
             (λ a. archive_path cache_dir.now a.0) t.archives)) }
+        ensures removed { IfOk result
+            (λ t. Became OnlyRemoved (F.held folder).files (F.held t.folder).files) }
         ensures others { IfOk result (λ t. Became (ButUnder (front cache_dir.now)) (F.held folder).files
             (F.held t.folder).files) }
         ensures stands { IfOk result (λ t. IsArchiveStore t.path t.capacity t.archives (F.held t.folder)) }
@@ -160,7 +163,7 @@ impl<F: Folder> TcCache<F> {
     /// Refused as `Error::WrongDigest`, where the SHA-256 of the bytes is not the toolchain's id, and as
     /// `Error::FileTooLarge`, in this order, which leave all as it was; then as `Error::Io` or for want of
     /// memory, which leave the list as it was, or the archive unlisted and some of the least recent gone,
-    /// none more than had to go.
+    /// none more than had to go. The file of the archive is as it was or has all the bytes.
     pub fn insert_bytes(&mut self, tc: &Toolchain, bytes: &[u8]) -> Result<()>
         ensures ok { OnOk result (self.new.archives ≡ with_archive self.old.capacity tc.now
             (length bytes.now) self.old.archives) }
@@ -168,6 +171,8 @@ impl<F: Folder> TcCache<F> {
         ensures content { OnOk result
             (Holds (F.held self.new.folder)
             (λ files. file_at files (archive_path self.old.path tc.now) ≡ Some bytes.now)) }
+        ensures whole { Became (OldOr (archive_path self.old.path tc.now) bytes.now)
+            (F.held self.old.folder).files (F.held self.new.folder).files }
         ensures fails { IfErr result
             (λ e. StoreFails self.old.capacity tc.now bytes.now e self.old.archives self.new.archives
             (F.held self.old.folder) (F.held self.new.folder)) }
@@ -300,6 +305,9 @@ impl<F: Folder> TcCache<F> {
             × (self.new.archives ≡ with_archive self.old.capacity tc.now (length bytes) self.old.archives)
             × Holds (F.held self.new.folder)
             (λ files. file_at files (archive_path self.old.path tc.now) ≡ Some bytes)) }
+        ensures whole { Became
+            (OldOrWritten (Wrote W.FnOnce (λ v. v.items) with (Ok tt)) (archive_path self.old.path tc.now))
+            (F.held self.old.folder).files (F.held self.new.folder).files }
         ensures fails { IfErr result
             (λ e. StoreWithFails (Wrote W.FnOnce (λ v. v.items) with) self.old.capacity tc.now e
             self.old.archives self.new.archives (F.held self.old.folder) (F.held self.new.folder)) }
@@ -332,6 +340,8 @@ impl<F: Folder> TcCache<F> {
         ensures content { OnOk result
             (Holds (F.held self.new.folder)
             (λ files. file_at files (archive_path self.old.path (id_of bytes.now)) ≡ Some bytes.now)) }
+        ensures whole { Became (OldOr (archive_path self.old.path (id_of bytes.now)) bytes.now)
+            (F.held self.old.folder).files (F.held self.new.folder).files }
         ensures fails { IfErr result
             (λ e. StoreFails self.old.capacity (id_of bytes.now) bytes.now e self.old.archives
             self.new.archives (F.held self.old.folder) (F.held self.new.folder)) }
@@ -419,6 +429,8 @@ impl<F: Folder> TcCache<F> {
         ensures content { OnOk result
             (Holds (F.held self.new.folder)
             (λ files. file_at files (archive_path self.old.path tc.now) ≡ Some bytes.now)) }
+        ensures whole { Became (OldOr (archive_path self.old.path tc.now) bytes.now)
+            (F.held self.old.folder).files (F.held self.new.folder).files }
         ensures fails { IfErr result
             (λ e. StoreFails self.old.capacity tc.now bytes.now e self.old.archives self.new.archives
             (F.held self.old.folder) (F.held self.new.folder)) }

@@ -6,6 +6,7 @@ use Rattle.lru_disk_cache.proofs.Fills.{from_kept, content_after, outside_listed
 use Rattle.lru_disk_cache.proofs.Fills.{left_err, listed_untouched, fill_untouched}
 use Rattle.lru_disk_cache.proofs.Standing.{stands_removed, avoids_removed, avoids_end, keeps_then, end_all}
 use Rattle.lru_disk_cache.proofs.Trims.{absent_end}
+use Rattle.lru_disk_cache.proofs.Whole.{listed_moved, listed_then_moved}
 use Rattle.lru_disk_cache.proofs.storing.fill.Goals as goal
 
 pub make_room-requires : goal.make_room-requires
@@ -95,3 +96,21 @@ returns-clause-untouched g c =
     (g.F.Folder.held c.args.folder.now).files (g.F.Folder.held c.make_room.new.folder).files
     (g.F.Folder.held c.place.new.folder).files (ap (λ t. t.entries) c.unlist.ensures.entries)
     c.make_room.ensures.drops.rest c.make_room.ensures.drops.others c.place.ensures.untouched
+
+pub returns-in_err-make_room-clause-whole : goal.returns-in_err-make_room-clause-whole
+returns-in_err-make_room-clause-whole g c =
+    listed_moved c.args.root.now c.args.arrival.now.key c.args.arrival.now.from c.args.arrival.now.path
+    c.unlist.new.self.entries (g.F.Folder.held c.args.folder.now).files
+    (g.F.Folder.held c.make_room.new.folder).files c.requires.path c.unlist.ensures.absent
+    c.make_room.ensures.drops.others
+
+pub returns-clause-whole : goal.returns-clause-whole
+returns-clause-whole g c =
+    listed_then_moved c.args.root.now c.args.arrival.now.key c.args.arrival.now.from c.args.arrival.now.path
+    c.unlist.new.self.entries (g.F.Folder.held c.args.folder.now).files
+    (g.F.Folder.held c.make_room.new.folder).files (g.F.Folder.held c.place.new.folder).files c.requires.path
+    c.unlist.ensures.absent
+    (avoids_removed c.args.root.now c.args.arrival.now.from
+    (bytes_eq c.args.arrival.now.key) c.args.table.now.entries c.unlist.new.self.entries
+    (ap (λ t. t.entries) c.unlist.ensures.entries) c.requires.avoids) c.make_room.ensures.drops.others
+    c.place.ensures.whole

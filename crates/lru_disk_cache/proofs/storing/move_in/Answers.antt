@@ -3,6 +3,7 @@ use Rattle.lru_disk_cache.proofs.CallLemmas.{left_same}
 use Rattle.lru_disk_cache.proofs.Fills.{stands_kept, same_keeps, same_outside, same_untouched, same_sized}
 use Rattle.lru_disk_cache.proofs.Fills.{same_content, same_kept, same_left, outside_then, untouched_then}
 use Rattle.lru_disk_cache.proofs.Fills.{on_err}
+use Rattle.lru_disk_cache.proofs.Whole.{same_moved, same_then_moved}
 use Rattle.lru_disk_cache.proofs.storing.move_in.Goals as goal
 
 pub fill-requires-clause-stands : goal.fill-requires-clause-stands
@@ -92,3 +93,17 @@ returns-clause-left g c =
     (g.F.Folder.held c.make_parents.new.self).files (g.F.Folder.held c.fill.new.folder).files
     (left_same Never c.make_parents.result (g.F.Folder.held c.args.folder.now)
     (g.F.Folder.held c.make_parents.new.self) c.make_parents.ensures.leaves) c.fill.ensures.left
+
+pub returns-in_err-make_parents-clause-whole : goal.returns-in_err-make_parents-clause-whole
+returns-in_err-make_parents-clause-whole g c =
+    same_moved c.args.arrival.now.from c.args.arrival.now.path (g.F.Folder.held c.args.folder.now).files
+    (g.F.Folder.held c.make_parents.new.self).files
+    (left_same Never c.make_parents.result (g.F.Folder.held c.args.folder.now)
+    (g.F.Folder.held c.make_parents.new.self) c.make_parents.ensures.leaves)
+
+pub returns-clause-whole : goal.returns-clause-whole
+returns-clause-whole g c =
+    same_then_moved c.args.arrival.now.from c.args.arrival.now.path (g.F.Folder.held c.args.folder.now).files
+    (g.F.Folder.held c.make_parents.new.self).files (g.F.Folder.held c.fill.new.folder).files
+    (left_same Never c.make_parents.result (g.F.Folder.held c.args.folder.now)
+    (g.F.Folder.held c.make_parents.new.self) c.make_parents.ensures.leaves) c.fill.ensures.whole

@@ -2,6 +2,7 @@ use Rattle.std.proofs.Common.{length, sym, ap, ◌∙◌, Some}
 use Rattle.lru_disk_cache.proofs.Fills.{temp_apart, temp_avoided, keeps_temp, stands_kept, under_temp}
 use Rattle.lru_disk_cache.proofs.Fills.{under_both, kept_behind, left_behind, content_written, on_err}
 use Rattle.lru_disk_cache.proofs.Fills.{temp_untouched, store_untouched}
+use Rattle.lru_disk_cache.proofs.Whole.{temp_new, written_whole}
 use Rattle.std.specs.Option.{option_map}
 use Rattle.lru_disk_cache.proofs.storing.store.Goals as goal
 
@@ -83,3 +84,19 @@ returns-clause-untouched g c =
     store_untouched c.args.root.now c.args.arrival.now.from c.args.arrival.now.path c.args.table.now.entries
     (g.F.Folder.held c.args.folder.now).files (g.F.Folder.held c.write_temp.new.folder).files
     (g.F.Folder.held c.fill.new.folder).files c.write_temp.ensures.others c.fill.ensures.untouched
+
+pub returns-in_err-write_temp-clause-whole : goal.returns-in_err-write_temp-clause-whole
+returns-in_err-write_temp-clause-whole g c =
+    temp_new c.args.arrival.now.from c.args.arrival.now.path c.args.bytes.now
+    (g.F.Folder.held c.args.folder.now).files (g.F.Folder.held c.write_temp.new.folder).files
+    (temp_apart c.args.root.now c.args.arrival.now.path c.args.arrival.now.key c.args.arrival.now.from
+    c.requires.temp c.requires.path c.requires.key) c.write_temp.ensures.others
+
+pub returns-clause-whole : goal.returns-clause-whole
+returns-clause-whole g c =
+    written_whole c.args.arrival.now.from c.args.arrival.now.path c.args.bytes.now
+    (g.F.Folder.held c.args.folder.now) (g.F.Folder.held c.write_temp.new.folder)
+    (g.F.Folder.held c.fill.new.folder)
+    (temp_apart c.args.root.now c.args.arrival.now.path c.args.arrival.now.key c.args.arrival.now.from
+    c.requires.temp c.requires.path c.requires.key) c.write_temp.ensures.others
+    c.in_ok-write_temp.ensures.written c.fill.ensures.whole

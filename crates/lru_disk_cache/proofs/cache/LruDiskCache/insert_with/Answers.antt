@@ -6,6 +6,7 @@ use Rattle.lru_disk_cache.specs.Moving.{Wrote}
 use Rattle.lru_disk_cache.proofs.Moves.{with_failed, with_fails, with_ok}
 use Rattle.lru_disk_cache.proofs.Reserving.{none_reserved}
 use Rattle.lru_disk_cache.proofs.Standing.{none_lost}
+use Rattle.lru_disk_cache.proofs.Whole.{closure_whole}
 use Rattle.lru_disk_cache.proofs.cache.LruDiskCache.insert_with.Goals as goal
 
 pub returns-in-Ok-clause-ok : goal.returns-in-Ok-clause-ok
@@ -42,3 +43,11 @@ returns-in-Err-clause-left g c =
 pub returns-in-Err-clause-reserved : goal.returns-in-Err-clause-reserved
 returns-in-Err-clause-reserved g c = none_reserved c.args.self.now.disk.pending
     (g.F.Folder.held c.args.self.now.folder).files
+
+pub returns-in-Ok-clause-whole : goal.returns-in-Ok-clause-whole
+returns-in-Ok-clause-whole g c =
+    closure_whole (Wrote g.W.FnOnce (λ v. v.items) c.args.with (Ok (tt {0})))
+    (c.args.self.now.disk.root ++ c.args.key.now) c.deref.result.now
+    (g.F.Folder.held c.args.self.now.folder).files (g.F.Folder.held c.insert_bytes.new.self.folder).files
+    (subst (Wrote g.W.FnOnce (λ v. v.items) c.args.with (Ok (tt {0}))) (sym c.deref.ensures.value)
+    c.in-Ok.ensures.ok) c.insert_bytes.ensures.whole

@@ -5,6 +5,7 @@ use Rattle.lru_disk_cache.specs.Archives.{archive_path}
 use Rattle.lru_disk_cache.specs.Archiving.{archive_verdict, with_archive}
 use Rattle.lru_disk_cache.specs.Moving.{Wrote}
 use Rattle.lru_disk_cache.proofs.Moves.{store_failed, store_fails, with_ok}
+use Rattle.lru_disk_cache.proofs.Whole.{closure_whole}
 use Rattle.lru_disk_cache.proofs.tc_cache.TcCache.insert_with.Goals as goal
 
 pub returns-in-Ok-clause-ok : goal.returns-in-Ok-clause-ok
@@ -33,3 +34,11 @@ returns-in-Err-clause-fails g c =
     store_failed (Wrote g.W.FnOnce (λ v. v.items) c.args.with) c.args.self.now.capacity c.args.tc.now
     c.args.self.now.archives c.in-Err.error (g.F.Folder.held c.args.self.now.folder)
     c.in-Err.ensures.fails
+
+pub returns-in-Ok-clause-whole : goal.returns-in-Ok-clause-whole
+returns-in-Ok-clause-whole g c =
+    closure_whole (Wrote g.W.FnOnce (λ v. v.items) c.args.with (Ok (tt {0})))
+    (archive_path c.args.self.now.path c.args.tc.now) c.deref.result.now
+    (g.F.Folder.held c.args.self.now.folder).files (g.F.Folder.held c.insert_bytes.new.self.folder).files
+    (subst (Wrote g.W.FnOnce (λ v. v.items) c.args.with (Ok (tt {0}))) (sym c.deref.ensures.value)
+    c.in-Ok.ensures.ok) c.insert_bytes.ensures.whole

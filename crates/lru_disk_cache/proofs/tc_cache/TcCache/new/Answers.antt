@@ -1,12 +1,14 @@
 use Rattle.std.proofs.Common.{◌≡◌, ◌∙◌, List, ℕ, true, false, map, ap, subst}
 use Rattle.lru_disk_cache.specs.Files.{front}
 use Rattle.lru_disk_cache.specs.Held.{Holds, Became}
-use Rattle.lru_disk_cache.specs.Disk.{ButUnder}
+use Rattle.lru_disk_cache.specs.Disk.{ButUnder, OnlyRemoved}
 use Rattle.lru_disk_cache.specs.Archives.{archive_path, opened_archives, paths_under, IsInStep}
 use Rattle.lru_disk_cache.specs.Archiving.{Relists}
 use Rattle.lru_disk_cache.specs.Cleaned.{are_archive_keys}
 use Rattle.lru_disk_cache.proofs.OverFolder.{hold_new, opened_new, relists_new, keys_new, in_step_new}
 use Rattle.lru_disk_cache.proofs.OverFolder.{cleared_new, outside_new, made_ok, made_fails}
+use Rattle.lru_disk_cache.proofs.Became.{became_map}
+use Rattle.lru_disk_cache.proofs.Exactly.{removed_both}
 use Rattle.lru_disk_cache.proofs.Insides.{archives_of}
 use Rattle.lru_disk_cache.proofs.Removals.{none_spared, spared_both, spared_of, handed_back}
 use Rattle.lru_disk_cache.specs.Disk.{RemovedUnder}
@@ -75,6 +77,18 @@ returns-in-Ok-new-clause-fails g c =
     (λ k. keys_new c.args.cache_dir.now c.in-Ok.root c.args.cache_size (g.F.Folder.held c.args.folder)
     (g.F.Folder.held c.clean.new.folder) (g.F.Folder.held c.in-Ok-new.cache.folder) c.in-Ok-new.cache.disk
     c.in-Ok.ensures.1 c.in-Ok-clean.ensures.cleaned c.in-Ok-new.ensures.opened k)
+
+pub returns-in-Ok-new-clause-removed : goal.returns-in-Ok-new-clause-removed
+returns-in-Ok-new-clause-removed g c =
+    made_ok (λ t. Became OnlyRemoved (g.F.Folder.held c.args.folder).files (g.F.Folder.held t.folder).files)
+    (are_archive_keys c.in-Ok-new.cache.disk.entries ≡ true)
+    (archives_of c.in-Ok-new.cache.disk c.in-Ok-new.cache.folder) c.over.result
+    c.over.ensures.ok c.over.ensures.keys
+    (λ k. removed_both (g.F.Folder.held c.args.folder).files (g.F.Folder.held c.clean.new.folder).files
+    (g.F.Folder.held c.in-Ok-new.cache.folder).files
+    (became_map (RemovedUnder c.in-Ok.root) OnlyRemoved (g.F.Folder.held c.args.folder).files
+    (g.F.Folder.held c.clean.new.folder).files (λ f h r. r.0) c.clean.ensures.spares)
+    c.in-Ok-new.ensures.removed)
 
 pub returns-in-Ok-new-clause-others : goal.returns-in-Ok-new-clause-others
 returns-in-Ok-new-clause-others g c =
