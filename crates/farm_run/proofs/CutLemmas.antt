@@ -11,76 +11,61 @@ use Rattle.build_server.specs.Builds.{Builder}
 use Rattle.farm_entries.specs.declared.entry.Entry.{Entry}
 use Rattle.farm_entries.specs.declared.site.Site.{Site as Setup}
 use Rattle.farm_entries.specs.declared.site.SiteServer.{SiteServer}
-use Rattle.farm_entries.specs.Passage.{reached, StaysOwn, AreOwn, IsStill, Moves, IsMoved}
+use Rattle.farm_entries.specs.Calls.{settles_by}
+use Rattle.farm_entries.specs.Passage.{StaysOwn}
 use Rattle.farm_stations.specs.Post.{Post as Station, outside_of}
 use Rattle.farm_stations.specs.Stations.{AreStations}
-use Rattle.farm_run.specs.Stops.{folders_in, in_front, builders_in, IsCutOff}
-use Rattle.farm_entries.specs.Weather.{Outside, Weather}
+use Rattle.farm_run.specs.Stops.{folders_in, in_front, builders_in, IsReportOf, SettlesReport, ReachesFor, IsCutAt, IsCutFor, IsCutOff}
+use Rattle.farm_script.specs.declared.event.EventKind.{EventKind}
+use Rattle.farm_entries.specs.Weather.{Outside}
 use Rattle.farm_run.proofs.BeginLemmas.{map_end}
-use Rattle.farm_run.proofs.ServerLemmas.{get_set_same, get_set_other, within}
 use Rattle.farm_run.proofs.StandLemmas.{get_map, set_map}
 
 -- ---- events that memory ran out in
 
-stays_same : (was is : Outside) → was ≡ is → StaysOwn was is
-stays_same was is same = ap (λ (o : Outside). is_some o.builder) (sym same)
-
--- one that reached for nothing
-pub cut_none : (os : List Outside) → IsCutOff os os
-cut_none os = record {
-  size = refl;
-  place = 0;
-  others = λ i apart. refl;
-  own = λ i was is before behind. stays_same was is (same_Some was is (sym before ∙ behind));
-}
-
-cut_set : (os : List Outside) (place : ℕ) (old new : Outside) → slice_get os place ≡ Some old
-    → StaysOwn old new → IsCutOff os (set os place new)
-cut_set os place old new there stays = record {
-  size = length-set os place new;
-  place = place;
-  others = λ i apart. get_set_other os place i new (λ same. apart (sym same));
-  own = λ i was is before behind. elim (cases_eq place i) [
-    | inl same ↦
-        let a : old ≡ was = same_Some old was (sym there ∙ ap (slice_get os) same ∙ before) in
-        let b : new ≡ is = same_Some new is (sym (get_set_same os place new (within os place old there))
-        ∙ ap (slice_get (set os place new)) same ∙ behind) in
-        subst (λ (o : Outside). StaysOwn o is) a (subst (λ (o : Outside). StaysOwn old o) b stays)
-    | inr differ ↦ stays_same was is
-        (same_Some was is (sym before ∙ sym (get_set_other os place i new differ) ∙ behind))
-  ];
-}
-
 -- one that reached for the server at a place
-pub cut_at : (sts : List Station) (place : ℕ) (st after : Station) → slice_get sts place ≡ Some st
+pub cut_at : (setup : Setup) (sts : List Station) (place : ℕ) (s : SiteServer) (st after : Station)
+    → slice_get setup.servers place ≡ Some s → slice_get sts place ≡ Some st
     → StaysOwn (outside_of st) (outside_of after)
-    → IsCutOff (map outside_of sts) (map outside_of (set sts place after))
-cut_at sts place st after there stays =
-    subst (IsCutOff (map outside_of sts)) (sym (set_map outside_of sts place after))
-    (cut_set (map outside_of sts) place (outside_of st) (outside_of after)
-    (get_map outside_of sts place st there) stays)
+    → IsCutAt setup s.addr (map outside_of sts) (map outside_of (set sts place after))
+cut_at setup sts place s st after at there stays = record {
+  place = place;
+  server = s;
+  there = at;
+  at = refl;
+  was = outside_of st;
+  is = outside_of after;
+  before = get_map outside_of sts place st there;
+  left = set_map outside_of sts place after;
+  own = stays;
+}
 
-cut_still : (w : Weather) (old new : List Outside) → IsStill w old new → IsCutOff old new
-cut_still w old new is = subst (IsCutOff old) (sym is.left) (cut_none old)
+-- the server that one reached for, told otherwise
+pub cut_as : (P Q : Addr → Type 0) (setup : Setup) (old new : List Outside) → ((a : Addr) → P a → Q a)
+    → IsCutFor P setup old new → IsCutFor Q setup old new
+cut_as P Q setup old new more (inl same) = inl same
+cut_as P Q setup old new more (inr (a, passes, cut)) = inr (a, more a passes, cut)
 
-cut_moves : (setup : Setup) (o : Option Addr) (w : Weather) (old new : List Outside) → Moves setup o w old new
-    → IsCutOff old new
-cut_moves setup None w old new is = cut_still w old new is
-cut_moves setup (Some addr) w old new (inl m) =
-    subst (IsCutOff old) (sym m.left) (cut_set old m.place m.was m.is m.before m.own)
-cut_moves setup (Some addr) w old new (inr m) = cut_still w old new m.still
+-- an event that is to settle a report reaches for who makes it
+pub settles_for : (setup : Setup) (log : List Entry) (k : EventKind) (n : ℕ) (reply : Option (List ℕ))
+    (a : Addr) → ◌≡◌ {A = Option (ℕ × Option (List ℕ))} (settles_by log k) (Some (n, reply))
+    → IsReportOf setup log n a → ReachesFor setup log k a
+settles_for setup log k n reply a settles own =
+    inr (subst (λ (o : Option (ℕ × Option (List ℕ))). SettlesReport setup log o a) (sym settles) own)
 
--- one whose entry was made, but not kept
-pub cut_moved : (setup : Setup) (e : Entry) (w : Weather) (old new : List Outside) → IsMoved setup e w old new
-    → IsCutOff old new
-cut_moved setup e w old new is = cut_moves setup (reached e.event.kind e.step) w old new is
+cut_size : (P : Addr → Type 0) (setup : Setup) (old new : List Outside) → IsCutFor P setup old new
+    → length new ≡ length old
+cut_size P setup old new (inl same) = ap (λ (os : List Outside). length os) same
+cut_size P setup old new (inr (a, passes, cut)) = ap (λ (os : List Outside). length os) cut.left
+    ∙ length-set old cut.place cut.is
 
 -- the stations are as many as before, and there is room for what they hand back
-pub cut_room : (servers : List SiteServer) (log : List Entry) (sts new : List Station) (room : ℕ)
-    → AreStations servers log sts → IsCutOff (map outside_of sts) (map outside_of new)
-    → length servers ≤ room → length new ≤ room
-cut_room servers log sts new room are cut roomy =
-    omega (arith, cut.size, length-map sts outside_of, length-map new outside_of, are.size, roomy)
+pub cut_room : (setup : Setup) (log : List Entry) (k : EventKind) (sts new : List Station) (room : ℕ)
+    → AreStations setup.servers log sts → IsCutOff setup log k (map outside_of sts) (map outside_of new)
+    → length setup.servers ≤ room → length new ≤ room
+cut_room setup log k sts new room are cut roomy =
+    let size = cut_size (ReachesFor setup log k) setup (map outside_of sts) (map outside_of new) cut in
+    omega (arith, size, length-map sts outside_of, length-map new outside_of, are.size, roomy)
 
 pub on_err : {A E P : Type 0} (r : Result A E) → P → OnErr r P
 on_err (Ok a) p = tt

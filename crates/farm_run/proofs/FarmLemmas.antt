@@ -2,7 +2,10 @@
 use Rattle.std.proofs.Common.{◌≡◌, ℕ, ◌<◌, ◌^◌, List, [], ◌∷◌, ◌++◌, Result, Ok, Err, ap, ◌∙◌, sym, subst}
 use Rattle.std.proofs.Common.{append_assoc}
 use Rattle.std.specs.Prelude.{IfOk}
+use Rattle.build_server.specs.Builds.{Builder}
+use Rattle.lru_disk_cache.specs.Held.{Held}
 use Rattle.farm_script.specs.declared.event.Event.{Event}
+use Rattle.farm_script.specs.declared.event.EventKind.{EventKind}
 use Rattle.farm_script.specs.declared.fault.FarmFault.{FarmFault}
 use Rattle.farm_script.specs.declared.setup.Setup.{Setup as Script}
 use Rattle.farm_script.specs.Script.{script}
@@ -11,6 +14,7 @@ use Rattle.farm_entries.specs.declared.entry.Entry.{Entry}
 use Rattle.farm_entries.specs.declared.site.Site.{Site}
 use Rattle.farm_entries.specs.Builds.{AreBuilds, HasToken, HasWords}
 use Rattle.farm_run.specs.Farm.{Farmed, with_entries, Runs}
+use Rattle.farm_run.specs.Stops.{AreHandedBack}
 use Rattle.farm_entries.specs.Lawful.{AreLawful}
 use Rattle.farm_entries.specs.Next.{IsNext, EachNext, IsRun}
 use Rattle.farm_entries.specs.Passage.{AreOwn, IsMoved}
@@ -62,6 +66,16 @@ pub Runs-is : (old : Farmed) (events : List Event) (mid : Farmed) (entries : Lis
 Runs-is old events mid entries run same is =
     subst (λ (s : Site). IsRun free s entries) (ap (λ (m : Farmed). m.setup) run.2)
     (subst (λ (es : List Entry). IsRun free mid.setup es) (sym same) is)
+
+-- what is handed back of them, said of the farm that the run began with
+pub Runs-back : (old : Farmed) (events : List Event) (mid : Farmed) (entries : List Entry) (k : EventKind)
+    (folders : List Held) (builders : List Builder) → Runs old events mid → entries ≡ mid.entries
+    → AreHandedBack mid.setup mid.entries k mid.outside folders builders
+    → AreHandedBack old.setup entries k mid.outside folders builders
+Runs-back old events mid entries k folders builders run same back =
+    subst (λ (s : Site). AreHandedBack s entries k mid.outside folders builders)
+    (ap (λ (m : Farmed). m.setup) run.2)
+    (subst (λ (es : List Entry). AreHandedBack mid.setup es k mid.outside folders builders) (sym same) back)
 
 -- a farm that made its folders and builders itself stays one
 pub Runs-own : (old : Farmed) (events : List Event) (new : Farmed) → Runs old events new → AreOwn old.outside

@@ -45,6 +45,7 @@ use Rattle.farm_entries.specs.Calls.{settles_by, is_void, is_of, settled_at, wai
 use Rattle.farm_entries.specs.Effects.{entry_of, effect_of, word_effect}
 use Rattle.farm_entries.specs.Seen.{with_core}
 use Rattle.farm_entries.specs.Waiting.{IsWaiting, IsKept, kept_at, AreKept}
+use Rattle.farm_run.specs.Stops.{reporter, IsReportOf}
 use Rattle.farm_run.specs.Farm.{IsAfter, IsReceived}
 use Rattle.farm_run.specs.Farm.{IsMadeSo, IsFarm, Stands}
 use Rattle.farm_entries.specs.Lawful.{IsSound}
@@ -465,6 +466,14 @@ pub kept_own : (setup : Setup) (s : Core) (log : List Entry) (ps : List (Option 
     (n : ℕ) (p : Pending) → IsFarm setup s log ps sts → kept_at ps n ≡ Some p → IsOwnBy s.log p.ask
 kept_own setup s log ps sts n p is some = own_by setup s log n p p.ask is.core_is is.sound
     (subst (IsKept setup log n) some (is.kept.each n)) refl
+
+-- what is kept of a report tells who makes it
+pub report_of : (setup : Setup) (s : Core) (log : List Entry) (ps : List (Option Pending))
+    (sts : List Station) (n : ℕ) (p : Pending) (a : Addr) → IsFarm setup s log ps sts
+    → kept_at ps n ≡ Some p → reporter p.ask ≡ Some a → IsReportOf setup log n a
+report_of setup s log ps sts n p a is some own =
+    let waits : IsWaiting setup log n p = subst (IsKept setup log n) some (is.kept.each n) in
+    (p, waits.call, own)
 
 -- ---- farms
 

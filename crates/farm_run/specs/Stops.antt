@@ -1,5 +1,7 @@
 -- What a farm hands back of what is outside of its servers, at its end and where memory ran out in an event.
-use Rattle.std.specs.Prelude.{◌≡◌, ◌≢◌, ◌≤◌, ℕ, List, [], ◌∷◌, length, map, slice_get, Option, Some, None}
+use Rattle.std.specs.Prelude.{◌≡◌, ◌≤◌, ◌⊎◌, ℕ, List, [], ◌∷◌, length, map, set, slice_get, Option, Some}
+use Rattle.std.specs.Prelude.{None}
+use Rattle.dist_types.specs.declared.addr.Addr.{Addr}
 use Rattle.lru_disk_cache.specs.Held.{Held}
 use Rattle.build_server.specs.Builds.{Builder}
 use Rattle.sched_core.specs.Log.{Core}
@@ -8,7 +10,13 @@ use Rattle.farm_entries.specs.declared.entry.Entry.{Entry}
 use Rattle.farm_entries.specs.declared.pending.Pending.{Pending}
 use Rattle.farm_run.specs.Farm.{IsFarm}
 use Rattle.farm_entries.specs.Next.{IsRun}
-use Rattle.farm_entries.specs.Passage.{StaysOwn, AreOwn}
+use Rattle.farm_entries.specs.Passage.{StaysOwn, AreOwn, reached}
+use Rattle.farm_entries.specs.Begun.{IsCallOf}
+use Rattle.farm_entries.specs.Calls.{settles_by}
+use Rattle.farm_entries.specs.declared.pending.Ask.{Ask}
+use Rattle.farm_entries.specs.declared.pending.Ask.TheVariants.{Assign, Report}
+use Rattle.farm_entries.specs.declared.site.SiteServer.{SiteServer}
+use Rattle.farm_script.specs.declared.event.EventKind.{EventKind}
 use Rattle.farm_stations.specs.Post.{Post as Station, outside_of}
 use Rattle.farm_entries.specs.Weather.{Outside, calm}
 
@@ -25,21 +33,54 @@ abbrev pub builders_in : List Outside → List Builder
 builders_in [] = []
 builders_in (o ∷ os) = in_front o.builder (builders_in os)
 
--- What an event leaves outside of the servers in which memory ran out: what was there, but at one server at
--- most. Whether a server's builder is the farm's own stays as it was.
-pub record IsCutOff (old new : List Outside) : Type 0 where
-  pub size : length new ≡ length old
+-- ---- events that memory ran out in
+
+-- the server whose report a call is, if it is one
+abbrev pub reporter : Ask → Option Addr
+reporter (Assign t) = None
+reporter (Report server life told) = Some server
+
+-- the call of that number is a report of the server at the address
+abbrev pub IsReportOf : Setup → List Entry → ℕ → Addr → Type 0
+IsReportOf setup log n addr = (call : Pending) × IsCallOf setup log n call × (reporter call.ask ≡ Some addr)
+
+-- the call that is to be settled is one
+abbrev pub SettlesReport : Setup → List Entry → Option (ℕ × Option (List ℕ)) → Addr → Type 0
+SettlesReport setup log None addr = ⊥
+SettlesReport setup log (Some p) addr = IsReportOf setup log p.0 addr
+
+-- an event reaches for the server at the address: it restarts it, or is to settle a report of it
+abbrev pub ReachesFor : Setup → List Entry → EventKind → Addr → Type 0
+ReachesFor setup log k addr = (reached k None ≡ Some addr) ⊎ SettlesReport setup log (settles_by log k) addr
+
+-- What is outside of the server at the address may have changed, and nothing outside of others. Whether its
+-- builder is the farm's own stays as it was.
+pub record IsCutAt (setup : Setup) (addr : Addr) (old new : List Outside) : Type 0 where
   pub place : ℕ
-  pub others : (i : ℕ) → i ≢ place → slice_get new i ≡ slice_get old i
-  pub own : (i : ℕ) (was is : Outside) → slice_get old i ≡ Some was → slice_get new i ≡ Some is
-      → StaysOwn was is
+  pub server : SiteServer
+  pub there : slice_get setup.servers place ≡ Some server
+  pub at : server.addr ≡ addr
+  pub was : Outside
+  pub is : Outside
+  pub before : slice_get old place ≡ Some was
+  pub left : new ≡ set old place is
+  pub own : StaysOwn was is
+
+-- nothing changed, or what is outside of a server alone at an address that passes
+abbrev pub IsCutFor : (Addr → Type 0) → Setup → List Outside → List Outside → Type 0
+IsCutFor Passes setup old new = (new ≡ old) ⊎ ((addr : Addr) × Passes addr × IsCutAt setup addr old new)
+
+-- What an event leaves outside of the servers in which memory ran out: what was there, but at the one server
+-- that it reaches for.
+abbrev pub IsCutOff : Setup → List Entry → EventKind → List Outside → List Outside → Type 0
+IsCutOff setup log k old new = IsCutFor (ReachesFor setup log k) setup old new
 
 -- What is handed back where memory ran out in an event: the folder of each server and each builder that was
 -- handed in, as that event left them of what was there before it.
-pub record AreHandedBack (before : List Outside) (folders : List Held)
-    (builders : List Builder) : Type 0 where
+pub record AreHandedBack (setup : Setup) (log : List Entry) (k : EventKind) (before : List Outside)
+    (folders : List Held) (builders : List Builder) : Type 0 where
   pub left : List Outside
-  pub cut : IsCutOff before left
+  pub cut : IsCutOff setup log k before left
   pub folders_are : folders ≡ folders_in left
   pub builders_are : builders ≡ builders_in left
 

@@ -14,7 +14,7 @@ ghost use Rattle.farm_entries.specs.Served.{IsServerAnswered};
 ghost use Rattle.farm_entries.specs.Servers.{server_at, server_now};
 ghost use Rattle.farm_stations.specs.Stations.{now_of, IsWell, AreWell, AreStations, IsStepAt, IsRestartedSo};
 ghost use Rattle.farm_stations.specs.Stations.{IsRestartAt, HasApart};
-ghost use Rattle.farm_run.specs.Stops.{IsCutOff};
+ghost use Rattle.farm_run.specs.Stops.{IsCutFor};
 ghost use Rattle.farm_entries.specs.Ways.{way_of, way_to, beat_way, to_server};
 ghost use Rattle.farm_entries.specs.Weather.{calm};
 
@@ -50,7 +50,7 @@ pub(crate) fn arrive<F: Folder + Drop, B: BuilderIncoming + Drop>(
         (λ m. Stands desk.old.setup entries.now m.effect calm stations.old.items stations.new.items) }
     ensures desk { IfOk result (λ m. desk.new ≡ acted desk.old m.effect.core) }
     ensures cut { OnErr result
-        (IsCutOff (map outside_of stations.old.items) (map outside_of stations.new.items)) }
+        (map outside_of stations.new.items ≡ map outside_of stations.old.items) }
     ensures err { IfErr result (λ e. e ≡ fault.Memory) }
 {
     if is_scheduler(&desk.setup, target) {
@@ -104,7 +104,7 @@ pub(crate) fn arrive_at<F: Folder + Drop, B: BuilderIncoming + Drop>(
         → IsStepAt s place st m.effect.step stations.old.items stations.new.items) }
     ensures there { OnOk result ((st : Post) × (slice_get stations.old.items place ≡ Some st)) }
     ensures cut { OnErr result
-        (IsCutOff (map outside_of stations.old.items) (map outside_of stations.new.items)) }
+        (map outside_of stations.new.items ≡ map outside_of stations.old.items) }
     ensures err { IfErr result (λ e. e ≡ fault.Memory) }
 {
     match desk.setup.servers.get().get(place) {
@@ -135,7 +135,7 @@ pub(crate) fn deliver<F: Folder + Drop, B: BuilderIncoming + Drop>(
         (λ m. Stands desk.old.setup entries.now m.effect calm stations.old.items stations.new.items) }
     ensures desk { IfOk result (λ m. desk.new ≡ acted desk.old m.effect.core) }
     ensures cut { OnErr result
-        (IsCutOff (map outside_of stations.old.items) (map outside_of stations.new.items)) }
+        (map outside_of stations.new.items ≡ map outside_of stations.old.items) }
     ensures err { IfErr result (λ e. e ≡ fault.Memory) }
 {
     match call_at(entries, call) {
@@ -225,8 +225,8 @@ pub(crate) fn restart<F: Folder + Drop, B: BuilderIncoming + Drop>(
         → slice_get desk.now.setup.servers place ≡ Some s → slice_get stations.old.items place ≡ Some st
         → (m.pending ≡ None)
         × IsRestartAt s place st key.now nonce m.effect stations.old.items stations.new.items) }
-    ensures cut { OnErr result
-        (IsCutOff (map outside_of stations.old.items) (map outside_of stations.new.items)) }
+    ensures cut { OnErr result (IsCutFor (λ a. addr ≡ a) desk.now.setup
+        (map outside_of stations.old.items) (map outside_of stations.new.items)) }
     ensures err { IfErr result (λ e. e ≡ fault.Memory) }
 {
     match place_of(&desk.setup, addr) {

@@ -2,7 +2,7 @@
 //!
 //! The contract: a run has one entry for each event, each *next* over the entries before it, and there is
 //! one such list; after each front of it the scheduler's laws hold; what is printed is the text of the
-//! farm and of that list. Entries, the laws of runs and the builders of listed answers stand in the crates
+//! farm and of that list. The entries, the laws of runs and the builders of listed answers stand in the crates
 //! below, and are exported again here.
 //!
 //! The layer above is `farm`, whose command reads a script, runs it and writes the text. Tests and replays

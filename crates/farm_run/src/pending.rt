@@ -1,5 +1,5 @@
 //! What is kept of the calls that wait, and how it is let go.
-ghost use Rattle.std.specs.Prelude.{◌≡◌, None, set};
+ghost use Rattle.std.specs.Prelude.{◌≡◌, None, set, vec_len, vec_capacity};
 ghost use Rattle.farm_entries.specs.Effects.{word_effect};
 ghost use Rattle.farm_entries.specs.Waiting.{kept_at};
 
@@ -39,6 +39,8 @@ pub fn idle() -> Made
 pub fn take_at(kept: &mut Vec<Option<Pending>>, place: u64) -> Option<Pending>
     ensures taken { result ≡ kept_at kept.old.items place }
     ensures left { kept.new.items ≡ set kept.old.items place None }
+    ensures room { vec_capacity kept.new ≡ vec_capacity kept.old }
+    ensures places { vec_len kept.new ≡ vec_len kept.old }
 {
     match kept.get_mut(place as usize) {
         Some(slot) => slot.take(),

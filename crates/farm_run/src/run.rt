@@ -1,5 +1,7 @@
 //! A farm, and its runs.
 ghost use Rattle.std.specs.Prelude.{◌≡◌, [], ◌<◌, ◌≤◌, ◌^◌, ℕ, List, length, take, slice_get, map, IfOk};
+ghost use Rattle.std.specs.Prelude.{vec_len, vec_capacity};
+ghost use Rattle.farm_script.specs.declared.event.Event.{Event as Happening};
 ghost use Rattle.std.specs.Prelude.{IfErr, OnOk, OnErr, MatchOption, Some, true, false};
 ghost use Rattle.build_server.specs.Builds.{builder_of};
 ghost use Rattle.sched_core.specs.Job.{open_jobs};
@@ -24,7 +26,7 @@ ghost use Rattle.farm_entries.specs.Weather.{Outside, calm, free};
 use crate::arrivals::{arrive, deliver, restart, send_beat};
 use crate::desk::Desk;
 use crate::lookup::{delivery_at, is_inside};
-use crate::pending::{Made, idle, release, undo_last};
+use crate::pending::{Made, idle, release};
 use crate::room::Room;
 use crate::serve::{Arrival, Stamp};
 use crate::settle::Settlement;
@@ -41,7 +43,7 @@ use farm_stations::station::Station;
 use lru_disk_cache::folder::Folder;
 use sched_core::rows::{Jobs, Servers};
 use sched_core::state::SchedState;
-use std::alloc::{AllocFailed, Global};
+use std::alloc::Global;
 use std::marker::Model;
 
 /// The log of all that came to a farm.
@@ -252,8 +254,8 @@ impl<F: Folder + Drop, B: BuilderIncoming + Drop> Farm<F, B> {
     pub fn step(self, event: &Event) -> Result<Farm<F, B>, Stopped<F, B>>
         ensures ok { IfOk result (StepsTo self event.now) }
         ensures err { IfErr result (λ s. s.entries ≡ self.entries) }
-        ensures back { IfErr result (λ s. AreHandedBack self.outside (map F.held s.folders.items)
-            (map (builder_of B.built B.refusals) s.builders.items)) }
+        ensures back { IfErr result (λ s. AreHandedBack self.setup self.entries event.now.kind self.outside
+            (map F.held s.folders.items) (map (builder_of B.built B.refusals) s.builders.items)) }
         ensures run { OnErr result (IsRun free self.setup self.entries) }
         ensures calmly { OnErr result (AreOwn self.outside → IsRun calm self.setup self.entries) }
     {
@@ -323,12 +325,13 @@ impl<F: Folder + Drop, B: BuilderIncoming + Drop> Farm<F, B> {
         ensures calmly { IfOk result
             (λ farm. AreOwn self.outside → IsReliable calm farm.setup farm.entries) }
         // All hold also of the events before the one that memory ran out in. The folders and builders are
-        // handed back as they were after those events, but at one server at most, which that one reached for.
-        ensures err { IfErr result (λ s. (n : ℕ) × (n < length events.now)
-            × ((outside : List Outside) × Runs self (take n events.now)
+        // handed back as they were after those events, but at the one server that this one reaches for: that
+        // which it restarts, or whose report it settles.
+        ensures err { IfErr result (λ s. (n : ℕ) × ((event : Happening)
+            × (slice_get events.now n ≡ Some event) × ((outside : List Outside) × Runs self (take n events.now)
             (record { setup = self.setup; entries = s.entries; outside = outside })
-            × AreHandedBack outside (map F.held s.folders.items)
-            (map (builder_of B.built B.refusals) s.builders.items))) }
+            × AreHandedBack self.setup s.entries event.kind outside (map F.held s.folders.items)
+            (map (builder_of B.built B.refusals) s.builders.items)))) }
         ensures stopped_laws { IfErr result (λ s. AreLawful self.setup s.entries) }
         ensures stopped_builds { IfErr result (λ s. HasToken self.setup.scheduler.auth
             → AreBuilds self.setup s.entries) }
@@ -359,8 +362,10 @@ fn made_of<F: Folder + Drop, B: BuilderIncoming + Drop>(
         (IsMadeSo desk.old.setup entries.now event.now (way_of desk.old.setup entries.now event.now.kind)
         kept.new.items stations.old.items stations.new.items) }
     ensures desk { IfOk result (λ m. desk.new ≡ acted desk.old m.effect.core) }
-    ensures cut { OnErr result
-        (IsCutOff (map outside_of stations.old.items) (map outside_of stations.new.items)) }
+    ensures cut { OnErr result (IsCutOff desk.old.setup entries.now event.now.kind
+        (map outside_of stations.old.items) (map outside_of stations.new.items)) }
+    ensures room { OnOk result (vec_capacity kept.new ≡ vec_capacity kept.old) }
+    ensures places { OnOk result (vec_len kept.new ≡ vec_len kept.old) }
     ensures err { IfErr result (λ e. e ≡ fault.Memory) }
 {
     let at = event.at;
@@ -445,25 +450,18 @@ fn make<F: Folder + Drop, B: BuilderIncoming + Drop>(
     ensures farm { OnOk result
         (IsFarm desk.new.setup desk.new.state log.new.entries.items log.new.kept.items stations.new.items) }
     ensures same { OnErr result (log.new.entries.items ≡ log.old.entries.items) }
-    ensures cut { OnErr result
-        (IsCutOff (map outside_of stations.old.items) (map outside_of stations.new.items)) }
+    ensures cut { OnErr result (IsCutOff desk.old.setup log.old.entries.items event.now.kind
+        (map outside_of stations.old.items) (map outside_of stations.new.items)) }
     ensures err { IfErr result (λ e. e ≡ fault.Memory) }
 {
     let copy = event.copy(desk.alloc)?;
     log.entries.reserve(1)?;
+    log.kept.reserve(1)?;
     let made = made_of(desk, stations, &log.entries, &mut log.kept, event)?;
     let Made { effect, pending } = made;
-    match log.kept.push(pending) {
-        Ok(()) => {
-            log.entries.push_reserved(Entry::new(copy, effect));
-            Ok(())
-        }
-        Err(full) => {
-            let AllocFailed { value } = full;
-            undo_last(&mut desk.state, value);
-            Err(FarmFault::Memory)
-        }
-    }
+    log.kept.push_reserved(pending);
+    log.entries.push_reserved(Entry::new(copy, effect));
+    Ok(())
 }
 
 /// Makes the entry of an event, and gives whether memory was there for it.
@@ -482,8 +480,8 @@ fn advance<F: Folder + Drop, B: BuilderIncoming + Drop>(
     ensures farm { result ≡ true → IsFarm desk.new.setup desk.new.state log.new.entries.items
         log.new.kept.items stations.new.items }
     ensures same { result ≡ false → log.new.entries.items ≡ log.old.entries.items }
-    ensures cut { result ≡ false
-        → IsCutOff (map outside_of stations.old.items) (map outside_of stations.new.items) }
+    ensures cut { result ≡ false → IsCutOff desk.old.setup log.old.entries.items event.now.kind
+        (map outside_of stations.old.items) (map outside_of stations.new.items) }
 {
     match make(desk, stations, log, event) {
         Ok(()) => true,

@@ -1,4 +1,5 @@
 //! A call that comes back, by its reply or lost.
+ghost use Rattle.std.specs.Prelude.{vec_len, vec_capacity};
 ghost use Rattle.std.specs.Prelude.{◌≡◌, slice_get, map, IfOk, IfErr, OnOk, OnErr, Some, None, option_copied};
 ghost use Rattle.farm_script.specs.declared.event.Event.{Event as Happening};
 ghost use Rattle.farm_script.specs.declared.fault.FarmFault.TheVariants as fault;
@@ -12,7 +13,7 @@ ghost use Rattle.farm_entries.specs.Seen.{core_of};
 ghost use Rattle.farm_entries.specs.Servers.{stepped, server_now};
 ghost use Rattle.farm_entries.specs.Settled.{IsOwnBy, ReportsIn};
 ghost use Rattle.farm_stations.specs.Stations.{now_of, IsWell, AreWell, AreStations, IsStepAt, HasApart};
-ghost use Rattle.farm_run.specs.Stops.{IsCutOff};
+ghost use Rattle.farm_run.specs.Stops.{IsCutFor, IsReportOf, reporter};
 ghost use Rattle.farm_entries.specs.Ways.{way_of, to_call};
 ghost use Rattle.farm_entries.specs.Weather.{Weather, weather_of};
 
@@ -50,7 +51,8 @@ pub(crate) fn report_at<F: Folder + Drop, B: BuilderIncoming + Drop>(
         (Some (now_of s st)) m.effect) }
     ensures there { OnOk result ((st : Post) × (slice_get stations.old.items place ≡ Some st)) }
     ensures cut { OnErr result
-        (IsCutOff (map outside_of stations.old.items) (map outside_of stations.new.items)) }
+        (IsCutFor (λ a. (s : Site) → slice_get desk.now.setup.servers place ≡ Some s → s.addr ≡ a)
+        desk.now.setup (map outside_of stations.old.items) (map outside_of stations.new.items)) }
     ensures err { IfErr result (λ e. e ≡ fault.Memory) }
 {
     match desk.setup.servers.get().get(place) {
@@ -121,8 +123,8 @@ pub(crate) fn report<F: Folder + Drop, B: BuilderIncoming + Drop>(
         (λ m. Keeps (λ p. completion_at back.now.root back.now.json back.now.server back.now.life
         m.effect.step ≡ Some p) m.effect m.pending) }
     ensures core { IfOk result (λ m. m.effect.core ≡ None) }
-    ensures cut { OnErr result
-        (IsCutOff (map outside_of stations.old.items) (map outside_of stations.new.items)) }
+    ensures cut { OnErr result (IsCutFor (λ a. back.now.server ≡ a) desk.now.setup
+        (map outside_of stations.old.items) (map outside_of stations.new.items)) }
     ensures err { IfErr result (λ e. e ≡ fault.Memory) }
 {
     match place_of(&desk.setup, back.server) {
@@ -156,8 +158,8 @@ pub(crate) fn go_on<F: Folder + Drop, B: BuilderIncoming + Drop>(
     ensures kept { IfOk result
         (λ m. Keeps (λ p. completion_of pending pending.ask m.effect.step ≡ Some p) m.effect m.pending) }
     ensures desk { IfOk result (λ m. desk.new ≡ acted desk.old m.effect.core) }
-    ensures cut { OnErr result
-        (IsCutOff (map outside_of stations.old.items) (map outside_of stations.new.items)) }
+    ensures cut { OnErr result (IsCutFor (λ a. reporter pending.ask ≡ Some a) desk.old.setup
+        (map outside_of stations.old.items) (map outside_of stations.new.items)) }
     ensures err { IfErr result (λ e. e ≡ fault.Memory) }
 {
     let Pending { root, json, ask } = pending;
@@ -208,7 +210,10 @@ pub(crate) fn take_back<F: Folder + Drop, B: BuilderIncoming + Drop>(
         kept.new.items stations.old.items stations.new.items m) }
     ensures desk { IfOk result (λ m. desk.new ≡ acted desk.old m.effect.core) }
     ensures cut { OnErr result
-        (IsCutOff (map outside_of stations.old.items) (map outside_of stations.new.items)) }
+        (IsCutFor (IsReportOf desk.old.setup entries.now settlement.now.call)
+        desk.old.setup (map outside_of stations.old.items) (map outside_of stations.new.items)) }
+    ensures room { vec_capacity kept.new ≡ vec_capacity kept.old }
+    ensures places { vec_len kept.new ≡ vec_len kept.old }
     ensures err { IfErr result (λ e. e ≡ fault.Memory) }
 {
     match take_at(kept, settlement.call) {

@@ -6,18 +6,18 @@ use Rattle.farm_stations.specs.Post.{Post, outside_of}
 use Rattle.farm_entries.specs.Served.{IsServerAnswered}
 use Rattle.farm_stations.specs.Stations.{now_of}
 use Rattle.farm_entries.specs.Weather.{Outside}
-use Rattle.farm_run.proofs.CutLemmas.{cut_at, on_err}
+use Rattle.farm_run.proofs.CutLemmas.{on_err}
 use Rattle.farm_run.proofs.RowLemmas.{kept_same, step_same}
-use Rattle.farm_run.proofs.StandLemmas.{leaves_same}
+use Rattle.farm_run.proofs.StandLemmas.{outside_kept, leaves_same}
 use Rattle.farm_run.proofs.arrivals.arrive_at.Goals as goal
 
 pub returns-in_err-made-in-Some-get_mut-clause-cut : goal.returns-in_err-made-in-Some-get_mut-clause-cut
 returns-in_err-made-in-Some-get_mut-clause-cut g c =
     on_err c.from_residual.result
-    (cut_at c.args.stations.now.items c.args.place c.in-Some-get_mut.station.now c.serve_at.new.station
+    (outside_kept c.args.stations.now.items c.args.place c.in-Some-get_mut.station.now c.serve_at.new.station
     (slice_get_read c.args.stations.now.items (length c.args.stations.now.items) c.args.place
     c.in-Some-get_mut.station.now refl c.in-Some-get_mut.ensures.item.3.0 c.in-Some-get_mut.ensures.item.1)
-    (ap (λ (o : Outside). is_some o.builder) c.serve_at.ensures.outside))
+    c.serve_at.ensures.outside)
 
 pub returns-in_ok-made-in-Some-get_mut-clause-answered :
     goal.returns-in_ok-made-in-Some-get_mut-clause-answered

@@ -1,21 +1,27 @@
-use Rattle.std.proofs.Common.{◌≡◌, List, length, set, refl, ap, sym, subst, Some}
+use Rattle.std.proofs.Common.{◌≡◌, inr, List, length, set, refl, ap, sym, subst, Some}
 use Rattle.std.specs.Prelude.{slice_get}
 use Rattle.std.proofs.lemmas.Option.{slice_get_read}
 use Rattle.farm_entries.specs.declared.site.SiteServer.{SiteServer as SetupServer}
 use Rattle.farm_run.specs.declared.pending.Made.{Made}
 use Rattle.farm_stations.specs.Stations.{IsRestartedSo}
 use Rattle.farm_run.proofs.CutLemmas.{cut_at, on_err}
+use Rattle.farm_run.proofs.ServerLemmas.{place_found}
 use Rattle.farm_run.proofs.RowLemmas.{no_restart, restart_at}
 use Rattle.farm_run.proofs.arrivals.restart.Goals as goal
 
 pub returns-in_err-effect-in-Some-get_mut-clause-cut :
     goal.returns-in_err-effect-in-Some-get_mut-clause-cut
 returns-in_err-effect-in-Some-get_mut-clause-cut g c =
-    on_err c.from_residual.result
-    (cut_at c.args.stations.now.items c.in-Some.place c.in-Some-get_mut.station.now c.restart_in.new.station
-    (slice_get_read c.args.stations.now.items (length c.args.stations.now.items) c.in-Some.place
-    c.in-Some-get_mut.station.now refl c.in-Some-get_mut.ensures.item.3.0 c.in-Some-get_mut.ensures.item.1)
-    c.in_err-effect-in-Some-get_mut.ensures.own)
+    let f = place_found c.args.desk.now.setup c.args.addr c.in-Some.place (sym c.in-Some.ensures.place) in
+    on_err c.from_residual.result (inr (
+      f.server.addr,
+      sym f.at,
+      cut_at c.args.desk.now.setup c.args.stations.now.items c.in-Some.place f.server
+          c.in-Some-get_mut.station.now c.restart_in.new.station f.there
+          (slice_get_read c.args.stations.now.items (length c.args.stations.now.items) c.in-Some.place
+          c.in-Some-get_mut.station.now refl c.in-Some-get_mut.ensures.item.3.0 c.in-Some-get_mut.ensures.item.1)
+          c.in_err-effect-in-Some-get_mut.ensures.own,
+    ))
 
 pub returns-in_ok-effect-in-Some-get_mut-clause-none : goal.returns-in_ok-effect-in-Some-get_mut-clause-none
 returns-in_ok-effect-in-Some-get_mut-clause-none g c = λ none.

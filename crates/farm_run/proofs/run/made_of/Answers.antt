@@ -1,10 +1,17 @@
-use Rattle.std.proofs.Common.{◌≡◌, ℕ, List, Bool, cond, Option, Some, None, length, refl, sym, ap, ◌∙◌, rules}
+use Rattle.std.proofs.Common.{◌≡◌, inl, map, ℕ, List, Bool, cond, Option, Some, None, length, refl, sym, ap, ◌∙◌, rules}
 use Rattle.sched_core.specs.declared.entry.CoreEntry.{CoreEntry}
 use Rattle.farm_script.specs.declared.event.EventKind.TheVariants as kind
 use Rattle.farm_entries.specs.Calls.{settles_by, delivery_at}
 use Rattle.farm_run.specs.Farm.{acted}
 use Rattle.farm_entries.specs.Servers.{restart_by, server_now}
 use Rattle.farm_entries.specs.Ways.{way_of, way_to, beat_way, return_way, to_nothing, to_call}
+use Rattle.dist_types.specs.declared.addr.Addr.{Addr}
+use Rattle.std.specs.Option.{option_map}
+use Rattle.farm_script.specs.declared.event.EventKind.{EventKind}
+use Rattle.farm_entries.specs.Passage.{reached}
+use Rattle.farm_stations.specs.Post.{outside_of}
+use Rattle.farm_run.specs.Stops.{IsReportOf, ReachesFor}
+use Rattle.farm_run.proofs.CutLemmas.{cut_as, settles_for, on_err}
 use Rattle.farm_run.proofs.MadeLemmas.{idle_made, received_made}
 use Rattle.farm_entries.specs.Weather.{calm}
 use Rattle.farm_run.proofs.ServerLemmas.{are_well}
@@ -95,3 +102,53 @@ returns-in_ok-made-in-Restart-clause-desk g c =
     c.restart.new.stations.items c.in_ok-made-in-Restart.made c.get-in-Restart.result.now
     c.in-Restart.nonce c.requires.farm.stations c.in_ok-made-in-Restart.ensures.none
     c.in_ok-made-in-Restart.ensures.some))
+
+pub returns-in_err-made-in-Request-clause-cut : goal.returns-in_err-made-in-Request-clause-cut
+returns-in_err-made-in-Request-clause-cut g c =
+    on_err c.from_residual.result (inl c.in_err-made-in-Request.ensures.cut)
+
+pub returns-in_err-made-in-Deliver-clause-cut : goal.returns-in_err-made-in-Deliver-clause-cut
+returns-in_err-made-in-Deliver-clause-cut g c =
+    on_err c.from_residual-in_err-made-in-Deliver.result (inl c.in_err-made-in-Deliver.ensures.cut)
+
+pub returns-in_err-made-in-Fail-clause-cut : goal.returns-in_err-made-in-Fail-clause-cut
+returns-in_err-made-in-Fail-clause-cut g c =
+    on_err c.from_residual-in_err-made-in-Fail.result
+    (cut_as (IsReportOf c.args.desk.now.setup c.args.entries.now c.in-Fail.call)
+    (ReachesFor c.args.desk.now.setup c.args.entries.now c.args.event.now.kind) c.args.desk.now.setup
+    (map outside_of c.args.stations.now.items) (map outside_of c.take_back.new.stations.items)
+    (λ a own. settles_for c.args.desk.now.setup c.args.entries.now c.args.event.now.kind c.in-Fail.call None a
+    (ap (settles_by c.args.entries.now) c.in-Fail.is) own) c.in_err-made-in-Fail.ensures.cut)
+
+pub returns-in_err-made-in-Some-clause-cut : goal.returns-in_err-made-in-Some-clause-cut
+returns-in_err-made-in-Some-clause-cut g c =
+    let there : ◌≡◌ {A = Option (ℕ × List ℕ)} (delivery_at c.args.entries.now c.in-Return.delivery)
+    (Some (c.in-Some.call, c.in-Some.bytes.now)) = search rules in
+    on_err c.from_residual-in_err-made-in-Some.result
+    (cut_as (IsReportOf c.args.desk.now.setup c.args.entries.now c.in-Some.call)
+    (ReachesFor c.args.desk.now.setup c.args.entries.now c.args.event.now.kind) c.args.desk.now.setup
+    (map outside_of c.args.stations.now.items) (map outside_of c.take_back-in-Some.new.stations.items)
+    (λ a own. settles_for c.args.desk.now.setup c.args.entries.now c.args.event.now.kind c.in-Some.call
+    (Some c.in-Some.bytes.now) a (ap (settles_by c.args.entries.now) c.in-Return.is
+    ∙ ap (option_map (λ (p : ℕ × List ℕ). let q : ℕ × Option (List ℕ) = (p.0, Some p.1) in q)) there) own)
+    c.in_err-made-in-Some.ensures.cut)
+
+pub returns-in_err-made-in-Answer-clause-cut : goal.returns-in_err-made-in-Answer-clause-cut
+returns-in_err-made-in-Answer-clause-cut g c =
+    on_err c.from_residual-in_err-made-in-Answer.result
+    (cut_as (IsReportOf c.args.desk.now.setup c.args.entries.now c.in-Answer.call)
+    (ReachesFor c.args.desk.now.setup c.args.entries.now c.args.event.now.kind) c.args.desk.now.setup
+    (map outside_of c.args.stations.now.items) (map outside_of c.take_back-in-Answer.new.stations.items)
+    (λ a own. settles_for c.args.desk.now.setup c.args.entries.now c.args.event.now.kind c.in-Answer.call (Some c.get-in-Answer.result.now) a
+    (ap (settles_by c.args.entries.now) c.in-Answer.is
+    ∙ ap (λ (b : List ℕ). let q : ℕ × Option (List ℕ) = (c.in-Answer.call, Some b) in Some q)
+    (sym c.get-in-Answer.ensures.bytes)) own) c.in_err-made-in-Answer.ensures.cut)
+
+pub returns-in_err-made-in-Restart-clause-cut : goal.returns-in_err-made-in-Restart-clause-cut
+returns-in_err-made-in-Restart-clause-cut g c =
+    on_err c.from_residual-in_err-made-in-Restart.result
+    (cut_as (λ (a : Addr). c.in-Restart.server ≡ a)
+    (ReachesFor c.args.desk.now.setup c.args.entries.now c.args.event.now.kind) c.args.desk.now.setup
+    (map outside_of c.args.stations.now.items) (map outside_of c.restart.new.stations.items)
+    (λ a own. inl (ap (λ (k : EventKind). reached k None) c.in-Restart.is ∙ ap (λ (x : Addr). Some x) own))
+    c.in_err-made-in-Restart.ensures.cut)

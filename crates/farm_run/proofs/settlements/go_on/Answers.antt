@@ -1,10 +1,14 @@
-use Rattle.std.proofs.Common.{ap, subst, sym, ◌∙◌}
+use Rattle.std.proofs.Common.{◌≡◌, map, Some, ap, subst, sym, ◌∙◌}
 use Rattle.std.specs.Prelude.{option_copied}
 use Rattle.farm_entries.specs.declared.entry.Effect.{Effect}
 use Rattle.farm_entries.specs.declared.pending.Ask.{Ask}
 use Rattle.farm_run.specs.declared.pending.Made.{Made}
 use Rattle.farm_entries.specs.Next.{GoesOn}
 use Rattle.farm_entries.specs.Weather.{calm}
+use Rattle.dist_types.specs.declared.addr.Addr.{Addr}
+use Rattle.farm_stations.specs.Post.{outside_of}
+use Rattle.farm_run.specs.Stops.{reporter}
+use Rattle.farm_run.proofs.CutLemmas.{cut_as, on_err}
 use Rattle.farm_run.proofs.StandLemmas.{stands_same}
 use Rattle.farm_run.proofs.RowLemmas.{end_step, goes_assigned}
 use Rattle.farm_run.proofs.settlements.go_on.Goals as goal
@@ -26,3 +30,11 @@ returns-in_ok-effect-in-Assign-clause-follows g c =
           ∙ end_step c.args.desk.now.state c.args.pending.root c.args.pending.json c.args.settlement.now.at
           c.in-Assign.reservation made.0),
     )
+
+pub returns-in_err-made-in-Report-clause-cut : goal.returns-in_err-made-in-Report-clause-cut
+returns-in_err-made-in-Report-clause-cut g c =
+    on_err c.from_residual-in_err-made-in-Report.result
+    (cut_as (λ (a : Addr). c.in-Report.server ≡ a) (λ (a : Addr). reporter c.args.pending.ask ≡ Some a)
+    c.args.desk.now.setup (map outside_of c.args.stations.now.items)
+    (map outside_of c.report.new.stations.items)
+    (λ a own. ap reporter c.in-Report.is ∙ ap (λ (x : Addr). Some x) own) c.in_err-made-in-Report.ensures.cut)

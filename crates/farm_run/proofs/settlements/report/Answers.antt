@@ -1,5 +1,5 @@
-use Rattle.std.proofs.Common.{◌≡◌, Some, sym, ap, subst, ◌∙◌}
-use Rattle.std.specs.Prelude.{option_copied}
+use Rattle.std.proofs.Common.{◌≡◌, map, Some, sym, ap, subst, ◌∙◌}
+use Rattle.std.specs.Prelude.{slice_get, option_copied}
 use Rattle.dist_types.specs.declared.addr.Addr.{Addr}
 use Rattle.farm_entries.specs.declared.entry.Effect.{Effect}
 use Rattle.farm_run.specs.declared.pending.Made.{Made}
@@ -10,6 +10,8 @@ use Rattle.farm_laws.proofs.NextLemmas.{reports_in_core}
 use Rattle.farm_stations.specs.Post.{outside_of}
 use Rattle.farm_entries.specs.Weather.{calm, weather_of}
 use Rattle.farm_laws.proofs.FreeLemmas.{report_free}
+use Rattle.farm_entries.specs.declared.site.SiteServer.{SiteServer as Site}
+use Rattle.farm_run.proofs.CutLemmas.{cut_as, on_err}
 use Rattle.farm_run.proofs.ServerLemmas.{place_found, are_well}
 use Rattle.farm_run.proofs.StandLemmas.{stands_same, stands_reported}
 use Rattle.farm_run.proofs.RowLemmas.{report_step, no_report, report_there}
@@ -32,6 +34,16 @@ returns-in-None-clause-made g c = (
       c.requires.stations
       (ap (λ (m : Made). m.effect.step) c.whole.ensures ∙ ap (λ (x : Effect). x.step) c.of_word.ensures),
 )
+
+pub returns-in_err-made-in-Some-clause-cut : goal.returns-in_err-made-in-Some-clause-cut
+returns-in_err-made-in-Some-clause-cut g c =
+    let f = place_found c.args.desk.now.setup c.args.back.now.server c.in-Some.place
+    (sym c.in-Some.ensures.place) in
+    on_err c.from_residual.result
+    (cut_as (λ (a : Addr). (s : Site) → slice_get c.args.desk.now.setup.servers c.in-Some.place ≡ Some s
+    → s.addr ≡ a) (λ (a : Addr). c.args.back.now.server ≡ a) c.args.desk.now.setup
+    (map outside_of c.args.stations.now.items) (map outside_of c.report_at.new.stations.items)
+    (λ a own. sym f.at ∙ own f.server f.there) c.in_err-made-in-Some.ensures.cut)
 
 pub returns-in_ok-made-in-Some-clause-made : goal.returns-in_ok-made-in-Some-clause-made
 returns-in_ok-made-in-Some-clause-made g c =

@@ -1,4 +1,4 @@
-use Rattle.std.proofs.Common.{◌≡◌, ◌∙◌, List, length, set, refl, sym, subst, Some}
+use Rattle.std.proofs.Common.{◌≡◌, ◌∙◌, inr, List, length, set, refl, ap, sym, subst, Some}
 use Rattle.std.specs.Prelude.{slice_get, option_copied}
 use Rattle.std.proofs.lemmas.Option.{same_Some, slice_get_read}
 use Rattle.farm_entries.specs.declared.site.SiteServer.{SiteServer as SetupServer}
@@ -10,11 +10,20 @@ use Rattle.farm_run.proofs.settlements.report_at.Goals as goal
 
 pub returns-in_err-made-in-Some-get_mut-clause-cut : goal.returns-in_err-made-in-Some-get_mut-clause-cut
 returns-in_err-made-in-Some-get_mut-clause-cut g c =
-    on_err c.from_residual.result
-    (cut_at c.args.stations.now.items c.args.place c.in-Some-get_mut.station.now c.report_in.new.station
-    (slice_get_read c.args.stations.now.items (length c.args.stations.now.items) c.args.place
-    c.in-Some-get_mut.station.now refl c.in-Some-get_mut.ensures.item.3.0 c.in-Some-get_mut.ensures.item.1)
-    c.in_err-made-in-Some-get_mut.ensures.own)
+    let there : slice_get c.args.desk.now.setup.servers c.args.place ≡ Some c.in-Some.server.now =
+    subst (λ (xs : List SetupServer). slice_get xs c.args.place ≡ Some c.in-Some.server.now)
+    c.get.ensures.items
+    (slice_get_read c.get.result.now (length c.get.result.now) c.args.place c.in-Some.server.now refl
+    c.in-Some.ensures.lookup.3.0 c.in-Some.ensures.lookup.1) in
+    on_err c.from_residual.result (inr (
+      c.in-Some.server.now.addr,
+      λ s at. ap (λ (x : SetupServer). x.addr) (same_Some s c.in-Some.server.now (sym at ∙ there)),
+      cut_at c.args.desk.now.setup c.args.stations.now.items c.args.place c.in-Some.server.now
+          c.in-Some-get_mut.station.now c.report_in.new.station there
+          (slice_get_read c.args.stations.now.items (length c.args.stations.now.items) c.args.place
+          c.in-Some-get_mut.station.now refl c.in-Some-get_mut.ensures.item.3.0 c.in-Some-get_mut.ensures.item.1)
+          c.in_err-made-in-Some-get_mut.ensures.own,
+    ))
 
 pub returns-in_ok-made-in-Some-get_mut-clause-kept : goal.returns-in_ok-made-in-Some-get_mut-clause-kept
 returns-in_ok-made-in-Some-get_mut-clause-kept g c = λ s st at bt.

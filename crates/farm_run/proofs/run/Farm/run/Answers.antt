@@ -1,12 +1,14 @@
-use Rattle.std.proofs.Common.{◌≡◌, ◌+◌, ◌++◌, ◌∷◌, [], take, ap, ◌∙◌, sym, subst, arith}
+use Rattle.std.proofs.Common.{◌≡◌, ◌+◌, ◌++◌, ◌∷◌, [], map, take, length, refl, ap, ◌∙◌, sym, subst, arith}
 use Rattle.std.proofs.lemmas.List.{take_more, take_all}
+use Rattle.std.proofs.lemmas.Option.{slice_get_read}
 use Rattle.std.proofs.lemmas.Result.{err_from_is_err_and}
+use Rattle.build_server.specs.Builds.{builder_of}
 use Rattle.farm_laws.proofs.NextLemmas.{run_lawful}
 use Rattle.farm_laws.proofs.ReliableLemmas.{run_reliable}
 use Rattle.farm_entries.specs.Weather.{calm, free}
 use Rattle.farm_run.specs.Farm.{Runs}
 use Rattle.farm_run.proofs.FarmLemmas.{Runs-push, Runs-entries, Runs-is, Runs-own, Runs-calm, Runs-builds}
-use Rattle.farm_run.proofs.FarmLemmas.{Runs-stopped}
+use Rattle.farm_run.proofs.FarmLemmas.{Runs-back, Runs-stopped}
 use Rattle.farm_run.proofs.run.Farm.run.Goals as goal
 
 pub loop-event-preserved : goal.loop-event-preserved
@@ -24,12 +26,21 @@ returns-in_err-farm-clause-err g c =
     let p = err_from_is_err_and c.from_residual.result c.from_residual.ensures.1 in
     rw (p.1, p.2) (
       c.loop-event.event-index,
-      c.loop-event-test.true,
       (
-        c.loop-event.farm.outside,
-        Runs-entries c.args.self (take c.loop-event.event-index c.args.events.now) c.loop-event.farm
-            c.in_err-farm.field-0.0.entries c.loop-event.invariant c.in_err-farm.ensures.err,
-        c.in_err-farm.ensures.back,
+        c.event-item.result,
+        slice_get_read c.args.events.now (length c.args.events.now) c.loop-event.event-index
+            c.event-item.result refl c.loop-event-test.true c.event-item.is,
+        (
+          c.loop-event.farm.outside,
+          Runs-entries c.args.self (take c.loop-event.event-index c.args.events.now) c.loop-event.farm
+              c.in_err-farm.field-0.0.entries c.loop-event.invariant c.in_err-farm.ensures.err,
+          Runs-back c.args.self (take c.loop-event.event-index c.args.events.now) c.loop-event.farm
+              c.in_err-farm.field-0.0.entries c.event-item.result.kind
+              (map g.F.Folder.held c.in_err-farm.field-0.0.folders.items)
+              (map (builder_of g.B.BuilderIncoming.built g.B.BuilderIncoming.refusals)
+              c.in_err-farm.field-0.0.builders.items) c.loop-event.invariant c.in_err-farm.ensures.err
+              c.in_err-farm.ensures.back,
+        ),
       ),
     )
 

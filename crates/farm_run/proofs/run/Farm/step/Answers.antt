@@ -9,7 +9,7 @@ use Rattle.farm_run.proofs.run.Farm.step.Goals as goal
 
 pub stop-requires : goal.stop-requires
 stop-requires g c = record {
-  room = cut_room c.self.inside.desk.setup.servers c.self.inside.log.entries.items
+  room = cut_room c.self.inside.desk.setup c.self.inside.log.entries.items c.args.event.now.kind
       c.self.inside.stations.items c.advance.new.stations.items c.self.inside.room
       c.self.invariant.farm.stations (c.advance.ensures.cut c.if-not-advance.true) c.self.invariant.room_is;
 }
@@ -22,7 +22,8 @@ returns-then-not-advance-clause-err g c =
 pub returns-then-not-advance-clause-back : goal.returns-then-not-advance-clause-back
 returns-then-not-advance-clause-back g c = record {
   left = map outside_of c.advance.new.stations.items;
-  cut = subst (λ (f : Farmed). IsCutOff f.outside (map outside_of c.advance.new.stations.items))
+  cut = subst (λ (f : Farmed). IsCutOff f.setup f.entries c.args.event.now.kind f.outside
+      (map outside_of c.advance.new.stations.items))
       c.self.view_is (c.advance.ensures.cut c.if-not-advance.true);
   folders_are = c.stop.ensures.folders;
   builders_are = c.stop.ensures.builders;
