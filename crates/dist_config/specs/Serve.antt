@@ -1,5 +1,7 @@
 -- The rows of a record of what serves, and what the one in memory shows.
-use Rattle.std.specs.Prelude.{ℕ, List, Result}
+use Rattle.std.specs.Prelude.{◌≡◌, ℕ, ◌⊎◌, if◌then◌else◌, List, [], ◌∷◌, ◌++◌, Result, Ok, Err, IsErr}
+use Rattle.dist_types.specs.Cause.{counted}
+use Rattle.dist_types.specs.InMemory.{is_listed}
 use Rattle.dist_types.specs.declared.fault.Failed.{Failed}
 use Rattle.dist_config.specs.declared.config.SchedulerConfig.{SchedulerConfig}
 use Rattle.dist_config.specs.declared.config.ServerConfig.{ServerConfig}
@@ -30,3 +32,21 @@ serve_faults s = s.faults
 -- the record
 abbrev pub serve_calls : MemServe → List ServeCall
 serve_calls s = s.calls.items
+
+-- how many calls found no memory for their row
+abbrev pub serve_missed : MemServe → ℕ
+serve_missed s = s.missed
+
+-- the answer of a call that finds memory: Failed exactly where it is listed
+abbrev pub serve_verdict : MemServe → Result (Unit {0}) Failed
+serve_verdict s = if is_listed (serve_fails s) (serve_made s) then Err (record {}) else Ok (tt {0})
+
+-- A call leaves one row, of what it answers, which is Failed exactly where the call is listed. Or it found no
+-- memory for its row: then it fails, leaves none, and is counted.
+abbrev pub LeavesRow : (Result (Unit {0}) Failed → ServeCall) → Result (Unit {0}) Failed → MemServe → MemServe
+    → Type 0
+LeavesRow row answer old new =
+    ((serve_calls new ≡ serve_calls old ++ row answer ∷ []) × (answer ≡ serve_verdict old)
+    × (serve_missed new ≡ serve_missed old))
+    ⊎ ((serve_calls new ≡ serve_calls old) × IsErr answer
+    × (serve_missed new ≡ counted (serve_missed old)))
