@@ -56,16 +56,18 @@ def rows():
 def main():
     print("//! Keys, in hex, jobs, and the tokens of the jobs under the keys, as Python's `hmac` and `base64` make")
     print("//! them. The file is written by `vectors/make.py`.")
-    print()
-    print("/// A key in hex, a job and its token.")
-    print(f"pub(crate) const TOKENS: [(&str, u64, &str); {ROWS}] = [")
-    for key, job, text in rows():
-        print("    (")
-        print(f'        "{key.hex()}",')
-        print(f"        {job},")
-        print(f'        "{text}",')
-        print("    ),")
-    print("];")
+    made = list(rows())
+    for name, half in (("FIRST", made[: ROWS // 2]), ("SECOND", made[ROWS // 2 :])):
+        print()
+        print(f"/// The {name.lower()} half: a key in hex, a job and its token.")
+        print(f"pub(crate) const {name}: &[(&str, u64, &str)] = &[")
+        for key, job, text in half:
+            print("    (")
+            print(f'        "{key.hex()}",')
+            print(f"        {job},")
+            print(f'        "{text}",')
+            print("    ),")
+        print("];")
 
 
 main()

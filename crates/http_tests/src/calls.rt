@@ -8,21 +8,25 @@ use http_routes::call_reply::{assigned, read_reply};
 use http_routes::error::HttpError;
 use http_routes::requests::assign_request;
 use std::alloc::Global;
-use std::test::Fail;
+use std::process::Abort;
+
+/// The toolchain whose archive is `abc`.
+pub(crate) fn abc(rt: &impl Abort) -> Toolchain {
+    Toolchain::new("ba7816bf8f01cfea414140de5dae2223b00361a396177a9cb410ff61f20015ad").expect(
+        rt,
+        "a toolchain",
+    )
+}
 
 #[test]
-fn an_assignment_is_written(rt: HostRuntime) -> Result<(), Fail> {
-    let Ok(tc) = Toolchain::new("ba7816bf8f01cfea414140de5dae2223b00361a396177a9cb410ff61f20015ad")
-    else {
-        panic!(rt; "no toolchain");
-    };
+fn an_assignment_is_written(rt: HostRuntime) {
+    let tc = abc(&rt);
     let server = ServerId::new(Addr::V4([127, 0, 0, 1], 10501));
-    let request = assign_request(rt.alloc(), server, JobId(4096), "a.b.c", &tc)?;
-    assert_eq!(rt;
-        request.get(),
-        b"POST /api/v1/distserver/assign_job/4096 HTTP/1.1\r\nHost: 127.0.0.1:10501\r\nAuthorization: Bearer a.b.c\r\nContent-Type: application/octet-stream\r\nContent-Length: 72\r\nConnection: close\r\n\r\n\x40\0\0\0\0\0\0\0ba7816bf8f01cfea414140de5dae2223b00361a396177a9cb410ff61f20015ad".as_slice()
+    let request = assign_request(rt.alloc(), server, JobId(4096), "a.b.c", &tc);
+    assert!(&rt;
+        request.expect(&rt, "a request").get()
+            == b"POST /api/v1/distserver/assign_job/4096 HTTP/1.1\r\nHost: 127.0.0.1:10501\r\nAuthorization: Bearer a.b.c\r\nContent-Type: application/octet-stream\r\nContent-Length: 72\r\nConnection: close\r\n\r\n\x40\0\0\0\0\0\0\0ba7816bf8f01cfea414140de5dae2223b00361a396177a9cb410ff61f20015ad".as_slice()
     );
-    Ok(())
 }
 
 const PENDING: Result<AssignJobResult, CallFault> = Ok(AssignJobResult {
@@ -116,35 +120,40 @@ const ANSWERS: &[(&str, &[u8], Result<AssignJobResult, CallFault>)] = &[
     ("nothing", b"", Err(CallFault::Unreadable)),
 ];
 
-#[test]
-fn replies_to_assignments_are_told(rt: HostRuntime) -> Result<(), Fail> {
-    for (name, bytes, want) in ANSWERS {
-        let told = assigned(rt.alloc(), bytes)?;
-        assert_eq!(rt; told, *want, "{name}");
+/// Whether that is what the bytes say.
+fn is_told(alloc: Global, bytes: &[u8], want: Result<AssignJobResult, CallFault>) -> bool {
+    match assigned(alloc, bytes) {
+        Ok(told) => told == want,
+        Err(_) => false,
     }
-    Ok(())
-}
-
-fn is_accepted(alloc: Global, bytes: &[u8]) -> Result<bool, HttpError> {
-    let answer: UpdateJobStateResult = read_reply(alloc, bytes)?;
-    Ok(matches!(&answer, UpdateJobStateResult::Success))
 }
 
 #[test]
-fn a_reply_is_read_as_its_message(rt: HostRuntime) -> Result<(), Fail> {
-    let accepted = is_accepted(
-        rt.alloc(),
-        b"HTTP/1.1 200 OK\r\nContent-Length: 4\r\n\r\n\0\0\0\0",
-    )?;
-    assert!(rt; accepted);
-    let refused = is_accepted(
-        rt.alloc(),
-        b"HTTP/1.1 500 X\r\nContent-Length: 4\r\n\r\nabcd",
-    );
-    let Err(HttpError::Status(code, body)) = &refused else {
-        panic!(rt; "no status");
-    };
-    assert_eq!(rt; *code, 500);
-    assert_eq!(rt; body.get(), b"abcd".as_slice());
-    Ok(())
+fn replies_to_assignments_are_told(rt: HostRuntime) {
+    for (name, bytes, want) in ANSWERS {
+        assert!(&rt; is_told(rt.alloc(), bytes, *want), "{name}");
+    }
+}
+
+/// Whether the reply says that a report was taken.
+fn is_accepted(alloc: Global, bytes: &[u8]) -> bool {
+    let answer: Result<UpdateJobStateResult, HttpError> = read_reply(alloc, bytes);
+    matches!(&answer, Ok(UpdateJobStateResult::Success))
+}
+
+/// Whether the reply to a report has that status and that body.
+fn is_refused(alloc: Global, bytes: &[u8], status: u16, body: &[u8]) -> bool {
+    let answer: Result<UpdateJobStateResult, HttpError> = read_reply(alloc, bytes);
+    match &answer {
+        Err(HttpError::Status(code, text)) => *code == status && text.get() == body,
+        _ => false,
+    }
+}
+
+#[test]
+fn a_reply_is_read_as_its_message(rt: HostRuntime) {
+    let accepted = b"HTTP/1.1 200 OK\r\nContent-Length: 4\r\n\r\n\0\0\0\0".as_slice();
+    let refused = b"HTTP/1.1 500 X\r\nContent-Length: 4\r\n\r\nabcd".as_slice();
+    assert!(&rt; is_accepted(rt.alloc(), accepted));
+    assert!(&rt; is_refused(rt.alloc(), refused, 500, b"abcd"));
 }

@@ -2,7 +2,6 @@ use http_routes::error::HttpError;
 use http_routes::head::read_head;
 use std::alloc::{AllocError, Global};
 use std::process::Abort;
-use std::test::Fail;
 
 /// What the bytes show, the bytes, and of a request how many fields and bytes of body it has.
 const HEADS: &[(&str, &[u8], Option<(usize, usize)>)] = &[
@@ -172,34 +171,26 @@ const HEADS: &[(&str, &[u8], Option<(usize, usize)>)] = &[
     ),
 ];
 
-fn check_head(
-    rt: &impl Abort,
-    alloc: Global,
-    name: &str,
-    bytes: &[u8],
-    want: Option<(usize, usize)>,
-) {
-    match read_head(alloc, bytes) {
-        Ok(request) => {
-            let fields = request.headers.get().len();
-            let body = request.body.get().len();
-            assert_eq!(rt; Some((fields, body)), want, "{name}");
-        }
-        Err(HttpError::BadHead) => assert!(rt; want.is_none(), "{name}"),
-        Err(_) => panic!(rt; "{name}"),
+/// Whether the bytes are read as a request with so many fields and bytes of body, or refused.
+fn is_read(alloc: Global, bytes: &[u8], want: Option<(usize, usize)>) -> bool {
+    let read = read_head(alloc, bytes);
+    match &read {
+        Ok(request) => want == Some((request.headers.get().len(), request.body.get().len())),
+        Err(HttpError::BadHead) => want.is_none(),
+        Err(_) => false,
     }
 }
 
 #[test]
 fn heads_are_read_by_their_rule(rt: HostRuntime) {
     for (name, bytes, want) in HEADS {
-        check_head(&rt, rt.alloc(), name, bytes, *want);
+        assert!(&rt; is_read(rt.alloc(), bytes, *want), "{name}");
     }
 }
 
-/// A head with so many fields, the last with a value of so many bytes.
-fn head_of(alloc: Global, fields: usize, value: usize) -> Result<Vec<u8>, AllocError> {
-    let mut head = Vec::from_slice(alloc, b"GET / HTTP/1.1\r\n")?;
+/// Writes a head with so many fields, the last with a value of so many bytes.
+fn write_head(head: &mut Vec<u8>, fields: usize, value: usize) -> Result<(), AllocError> {
+    head.extend_from_slice(b"GET / HTTP/1.1\r\n")?;
     for _ in 1..fields {
         head.extend_from_slice(b"A: b\r\n")?;
     }
@@ -207,27 +198,28 @@ fn head_of(alloc: Global, fields: usize, value: usize) -> Result<Vec<u8>, AllocE
     for _ in 0..value {
         head.push(b'x')?;
     }
-    head.extend_from_slice(b"\r\n\r\n")?;
-    Ok(head)
+    head.extend_from_slice(b"\r\n\r\n")
 }
 
+/// The length of such a head, and whether it is read.
+fn limit(rt: &impl Abort, alloc: Global, fields: usize, value: usize) -> (usize, bool) {
+    let mut head = Vec::new(alloc);
+    write_head(&mut head, fields, value).expect(rt, "memory");
+    (head.len(), read_head(alloc, &head).is_ok())
+}
+
+/// The fields, the length of the last one's value, the length of the head, and whether it is read.
+const LIMITS: &[(usize, usize, usize, bool)] = &[
+    (100, 1, 618, true),
+    (101, 1, 624, false),
+    (1, 65513, 65536, true),
+    (1, 65514, 65537, false),
+];
+
 #[test]
-fn heads_have_limits(rt: HostRuntime) -> Result<(), Fail> {
-    // the fields, the length of the last one's value, the length of the head, whether it is read
-    let cases = [
-        (100, 1, 618, true),
-        (101, 1, 624, false),
-        (1, 65513, 65536, true),
-        (1, 65514, 65537, false),
-    ];
-    for (fields, value, len, good) in cases {
-        let head = head_of(rt.alloc(), fields, value)?;
-        assert_eq!(rt; head.len(), len);
-        assert_eq!(rt;
-            read_head(rt.alloc(), &head).is_ok(),
-            good,
-            "{fields} fields, {len} bytes"
-        );
+fn heads_have_limits(rt: HostRuntime) {
+    for (fields, value, len, good) in LIMITS {
+        let limit = limit(&rt, rt.alloc(), *fields, *value);
+        assert!(&rt; limit == (*len, *good), "{fields} fields, {len} bytes");
     }
-    Ok(())
 }

@@ -1,11 +1,9 @@
 //! What each refusal of a request is told, one at a time.
 use dist_types::addr::Addr;
 use http_routes::asked::asked;
-use http_routes::error::HttpError;
 use http_routes::route::SchedRouted;
 use std::alloc::{AllocError, Global};
 use std::process::Abort;
-use std::test::Fail;
 
 const LOCAL: Addr = Addr::V4([127, 0, 0, 1], 40000);
 
@@ -588,61 +586,65 @@ const TARGETS: &[Row] = &[
     ),
 ];
 
-fn request(alloc: Global, line: &str, fields: &[u8], body: &[u8]) -> Result<Vec<u8>, AllocError> {
-    let len = body.len();
-    let line = format!(in alloc; "{line} HTTP/1.1\r\nContent-Length: {len}\r\n")?;
-    let mut bytes = line.into_bytes();
+/// Writes what comes behind the length: the other fields and the body.
+fn write_rest(bytes: &mut Vec<u8>, fields: &[u8], body: &[u8]) -> Result<(), AllocError> {
     bytes.extend_from_slice(fields)?;
     bytes.extend_from_slice(b"\r\n")?;
-    bytes.extend_from_slice(body)?;
-    Ok(bytes)
+    bytes.extend_from_slice(body)
 }
 
-/// The bytes of the reply that is known at once, if one is.
-fn reply_to(alloc: Global, bytes: &[u8], peer: Addr) -> Result<Option<Vec<u8>>, HttpError> {
-    let asked = asked(alloc, bytes, peer, "c1", "s1")?;
-    match &asked.what {
-        SchedRouted::Done(response) => {
-            let reply = response.bytes(alloc)?;
-            Ok(Some(reply))
-        }
-        _ => Ok(None),
+fn request(rt: &impl Abort, alloc: Global, line: &str, fields: &[u8], body: &[u8]) -> Vec<u8> {
+    let len = body.len();
+    let line = format!(in alloc; "{line} HTTP/1.1\r\nContent-Length: {len}\r\n");
+    let mut bytes = line.expect(rt, "memory").into_bytes();
+    write_rest(&mut bytes, fields, body).expect(rt, "memory");
+    bytes
+}
+
+/// Whether that is the reply that is known at once, or that none is.
+fn is_done(alloc: Global, what: &SchedRouted, want: Option<&[u8]>) -> bool {
+    match what {
+        SchedRouted::Done(response) => match response.bytes(alloc) {
+            Ok(reply) => want == Some(reply.as_slice()),
+            Err(_) => false,
+        },
+        _ => want.is_none(),
     }
 }
 
-fn check(rt: &impl Abort, alloc: Global, row: &Row) -> Result<(), Fail> {
+/// Whether a request from this peer has that reply at once, or none.
+fn is_replied(alloc: Global, bytes: &[u8], peer: Addr, want: Option<&[u8]>) -> bool {
+    match asked(alloc, bytes, peer, "c1", "s1") {
+        Ok(asked) => is_done(alloc, &asked.what, want),
+        Err(_) => false,
+    }
+}
+
+fn check(rt: &impl Abort, alloc: Global, row: &Row) {
     let (name, line, fields, body, want) = row;
-    let bytes = request(alloc, line, fields, body)?;
-    let reply = reply_to(alloc, &bytes, LOCAL)?;
-    match reply {
-        Some(reply) => assert_eq!(rt; Some(reply.as_slice()), *want, "{name}"),
-        None => assert!(rt; want.is_none(), "{name}"),
-    }
-    Ok(())
+    let bytes = request(rt, alloc, line, fields, body);
+    assert!(rt; is_replied(alloc, &bytes, LOCAL, *want), "{name}");
 }
 
 #[test]
-fn clients_are_told_each_refusal(rt: HostRuntime) -> Result<(), Fail> {
+fn clients_are_told_each_refusal(rt: HostRuntime) {
     for row in CLIENTS {
-        check(&rt, rt.alloc(), row)?;
+        check(&rt, rt.alloc(), row);
     }
-    Ok(())
 }
 
 #[test]
-fn servers_are_told_each_refusal(rt: HostRuntime) -> Result<(), Fail> {
+fn servers_are_told_each_refusal(rt: HostRuntime) {
     for row in SERVERS {
-        check(&rt, rt.alloc(), row)?;
+        check(&rt, rt.alloc(), row);
     }
-    Ok(())
 }
 
 #[test]
-fn other_targets_are_not_found(rt: HostRuntime) -> Result<(), Fail> {
+fn other_targets_are_not_found(rt: HostRuntime) {
     for row in TARGETS {
-        check(&rt, rt.alloc(), row)?;
+        check(&rt, rt.alloc(), row);
     }
-    Ok(())
 }
 
 /// Bytes that are no request.
@@ -654,28 +656,28 @@ const NO_REQUESTS: &[&[u8]] = &[
 ];
 
 #[test]
-fn bad_heads_are_told_as_such(rt: HostRuntime) -> Result<(), Fail> {
+fn bad_heads_are_told_as_such(rt: HostRuntime) {
     for bytes in NO_REQUESTS {
-        let reply = reply_to(rt.alloc(), bytes, LOCAL)?;
-        assert_eq!(rt; reply.as_deref(), Some(BAD_HEAD));
+        assert!(&rt; is_replied(rt.alloc(), bytes, LOCAL, Some(BAD_HEAD)));
     }
-    Ok(())
 }
 
+/// Peers of a heartbeat of 127.0.0.1, and the reply that is known at once, if one is.
+const PEERS: &[(Addr, Option<&[u8]>)] = &[
+    (Addr::V4([10, 0, 0, 1], 5), Some(MISMATCHED)),
+    (
+        Addr::V6([0, 0, 0, 0, 0, 0xffff, 0x7f00, 1], 40000),
+        Some(MISMATCHED),
+    ),
+    (Addr::V4([127, 0, 0, 1], 5), None),
+];
+
 #[test]
-fn a_heartbeat_comes_from_its_own_ip(rt: HostRuntime) -> Result<(), Fail> {
-    let bytes = request(
-        rt.alloc(),
-        BEAT,
-        b"Authorization: Bearer 127.0.0.1:10501 s1\r\nContent-Type: application/octet-stream\r\n",
-        HEARTBEAT,
-    )?;
-    let elsewhere = reply_to(rt.alloc(), &bytes, Addr::V4([10, 0, 0, 1], 5))?;
-    assert_eq!(rt; elsewhere.as_deref(), Some(MISMATCHED));
-    let mapped = Addr::V6([0, 0, 0, 0, 0, 0xffff, 0x7f00, 1], 40000);
-    let mapped = reply_to(rt.alloc(), &bytes, mapped)?;
-    assert_eq!(rt; mapped.as_deref(), Some(MISMATCHED));
-    let other_port = reply_to(rt.alloc(), &bytes, Addr::V4([127, 0, 0, 1], 5))?;
-    assert!(rt; other_port.is_none());
-    Ok(())
+fn a_heartbeat_comes_from_its_own_ip(rt: HostRuntime) {
+    let fields =
+        b"Authorization: Bearer 127.0.0.1:10501 s1\r\nContent-Type: application/octet-stream\r\n".as_slice();
+    let bytes = request(&rt, rt.alloc(), BEAT, fields, HEARTBEAT);
+    for (peer, want) in PEERS {
+        assert!(&rt; is_replied(rt.alloc(), &bytes, *peer, *want), "from {peer}");
+    }
 }

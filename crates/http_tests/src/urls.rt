@@ -4,7 +4,6 @@ use dist_types::ids::{JobId, ServerId};
 use http_calls::error::CallError;
 use http_calls::urls::{scheduler_alloc_job, scheduler_job_state, server_run_job};
 use std::alloc::Global;
-use std::test::Fail;
 use url::Url;
 
 /// A base, and the URL at which a job is asked for.
@@ -47,11 +46,10 @@ fn is_joined(alloc: Global, base: &str, joined: &str) -> bool {
 }
 
 #[test]
-fn every_http_base_joins(rt: HostRuntime) -> Result<(), Fail> {
+fn every_http_base_joins(rt: HostRuntime) {
     for (base, joined) in BASES {
-        assert!(rt; is_joined(rt.alloc(), base, joined));
+        assert!(&rt; is_joined(rt.alloc(), base, joined));
     }
-    Ok(())
 }
 
 fn set_path(alloc: Global, base: &str) -> Option<Url> {
@@ -78,11 +76,10 @@ fn is_set(alloc: Global, base: &str, joined: &str) -> bool {
 }
 
 #[test]
-fn setting_the_path_agrees(rt: HostRuntime) -> Result<(), Fail> {
+fn setting_the_path_agrees(rt: HostRuntime) {
     for (base, joined) in BASES {
-        assert!(rt; is_set(rt.alloc(), base, joined));
+        assert!(&rt; is_set(rt.alloc(), base, joined));
     }
-    Ok(())
 }
 
 /// Bases that are refused.
@@ -107,11 +104,10 @@ fn is_refused(alloc: Global, base: &str) -> bool {
 }
 
 #[test]
-fn other_bases_are_refused(rt: HostRuntime) -> Result<(), Fail> {
+fn other_bases_are_refused(rt: HostRuntime) {
     for base in OTHERS {
-        assert!(rt; is_refused(rt.alloc(), base));
+        assert!(&rt; is_refused(rt.alloc(), base));
     }
-    Ok(())
 }
 
 /// A server, and the URL at which it is asked to run job 7.
@@ -153,10 +149,9 @@ fn is_read(alloc: Global, server: Addr, text: &str) -> bool {
 }
 
 #[test]
-fn servers_have_urls(rt: HostRuntime) -> Result<(), Fail> {
+fn servers_have_urls(rt: HostRuntime) {
     for (server, text) in SERVERS {
-        assert!(rt; is_at(rt.alloc(), *server, text));
-        assert!(rt; is_read(rt.alloc(), *server, text));
+        assert!(&rt; is_at(rt.alloc(), *server, text));
+        assert!(&rt; is_read(rt.alloc(), *server, text));
     }
-    Ok(())
 }

@@ -4,20 +4,17 @@ use dist_types::addr::Addr;
 use dist_types::clock::MemClock;
 use dist_types::ids::{JobId, ServerId, ServerNonce};
 use dist_types::outgoing::{CallFault, SchedulerOutgoing};
-use dist_types::results::{AssignJobResult, HeartbeatServerResult, JobState};
+use dist_types::results::{AssignJobResult, JobState};
 use dist_types::roles::JobAuthorizer;
 use dist_types::toolchain::Toolchain;
-use sched::fault::SchedFault;
 use sched::pass::Pass;
 use sched::scheduler::Scheduler;
 use std::alloc::Global;
+use std::process::Abort;
 use std::sync::Wait;
 
 /// The scheduler of the tests.
 pub type TestScheduler = Scheduler<JWTJobAuthorizer>;
-
-/// The SHA-256 of `abc` (FIPS 180-4, appendix B.1).
-pub const ABC: &str = "ba7816bf8f01cfea414140de5dae2223b00361a396177a9cb410ff61f20015ad";
 
 /// Answers each assignment with a state, or with a status that is not 200.
 #[derive(Drop)]
@@ -62,18 +59,37 @@ pub fn still(alloc: Global) -> MemClock {
     MemClock::new(Vec::new(alloc))
 }
 
-/// A heartbeat of the server at port 10501 with one processor.
-pub fn beat<R: Wait>(
+/// The toolchain whose archive is `abc` (FIPS 180-4, appendix B.1).
+pub fn abc(rt: &impl Abort) -> Toolchain {
+    Toolchain::new("ba7816bf8f01cfea414140de5dae2223b00361a396177a9cb410ff61f20015ad").expect(
+        rt,
+        "a toolchain",
+    )
+}
+
+/// A scheduler whose first job is 4096, and its first pass.
+pub fn scheduler(rt: &impl Abort, alloc: Global) -> (TestScheduler, Pass) {
+    TestScheduler::with_job_id_base(alloc, 4096).expect(rt, "memory")
+}
+
+/// A heartbeat of the server at port 10501 with one processor. Whether it makes a registration.
+pub fn beat<R: Abort + Wait>(
     rt: &R,
     alloc: Global,
     scheduler: &TestScheduler,
     pass: &mut Pass,
-) -> Result<HeartbeatServerResult, SchedFault> {
-    let key = match Vec::from_slice(alloc, &[1u8, 2, 2]) {
-        Ok(key) => JWTJobAuthorizer::of_key(key),
-        Err(_) => return Err(SchedFault::Memory),
-    };
+) -> bool {
+    let key = JWTJobAuthorizer::of_key([1u8, 2, 2].to_vec(alloc).expect(rt, "memory"));
     let nonce = ServerNonce::new(7);
     let mut clock = still(alloc);
-    scheduler.handle_heartbeat_server(rt, pass, &mut clock, server(10501), nonce, 1, key)
+    let answer = scheduler.handle_heartbeat_server(
+        rt,
+        pass,
+        &mut clock,
+        server(10501),
+        nonce,
+        1,
+        key,
+    );
+    answer.expect(rt, "a heartbeat").is_new
 }

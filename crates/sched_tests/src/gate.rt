@@ -1,14 +1,14 @@
 //! No lock is held while a server is asked.
-use crate::answers::{ABC, TestScheduler, beat, still};
+use crate::answers::{TestScheduler, abc, beat, still};
 use dist_types::ids::{JobId, ServerId};
 use dist_types::outgoing::{CallFault, SchedulerOutgoing};
 use dist_types::results::{AllocJobResult, AssignJobResult, JobState};
 use dist_types::toolchain::Toolchain;
 use sched::pass::Pass;
 use std::alloc::Global;
+use std::process::Abort;
 use std::sync::Wait;
 use std::sync::atomic::{AtomicBool, Ordering};
-use std::test::Fail;
 use std::thread;
 use std::thread::Threads;
 
@@ -65,8 +65,22 @@ impl SchedulerOutgoing for Held<'_> {
     }
 }
 
+/// Allocates a job, whose assignment is held. Whether the job was given.
+fn first<R: Abort + Wait>(
+    rt: &R,
+    alloc: Global,
+    scheduler: &TestScheduler,
+    pass: &mut Pass,
+    gate: &Gate,
+) -> bool {
+    let tc = abc(rt);
+    let mut held = Held(gate);
+    let answer = scheduler.handle_alloc_job(rt, pass, &mut still(alloc), &mut held, &tc);
+    matches!(&answer, Ok(AllocJobResult::Success { .. }))
+}
+
 /// Waits until the first call has begun, makes a heartbeat, and says so.
-fn second<R: Wait>(
+fn second<R: Abort + Wait>(
     rt: &R,
     alloc: Global,
     scheduler: &TestScheduler,
@@ -74,40 +88,31 @@ fn second<R: Wait>(
     gate: &Gate,
 ) -> bool {
     let waited = is_set(&gate.begun);
-    let heard = beat(rt, alloc, scheduler, pass).is_ok();
+    beat(rt, alloc, scheduler, pass);
     gate.answered.store(true, Ordering::SeqCst);
-    waited && heard
+    waited
 }
 
 /// Whether the assignment was let go and the heartbeat answered behind it, and how many entries both made.
-fn both<R: Threads + Wait + Sync>(rt: &R, alloc: Global, gate: &Gate) -> Result<(bool, u64), Fail> {
-    let (scheduler, mut pass) = TestScheduler::new(alloc, 4096)?;
-    beat(rt, alloc, &scheduler, &mut pass)?;
-    let mut other = scheduler.split(rt, &mut pass)?;
-    let tc = Toolchain::new(ABC)?;
-    let mut held = Held(gate);
-    let mut clock = still(alloc);
-    let (given, heard) = thread::join(
+fn both<R: Abort + Threads + Wait + Sync>(rt: &R, alloc: Global, gate: &Gate) -> (bool, u64) {
+    let (scheduler, mut pass) = TestScheduler::new(alloc, 4096).expect(rt, "memory");
+    beat(rt, alloc, &scheduler, &mut pass);
+    let mut other = scheduler.split(rt, &mut pass).expect(rt, "memory");
+    let (let_go, heard) = thread::join(
         rt,
-        || scheduler.handle_alloc_job(rt, &mut pass, &mut clock, &mut held, &tc),
+        || first(rt, alloc, &scheduler, &mut pass, gate),
         || second(rt, alloc, &scheduler, &mut other, gate),
     );
-    let let_go = match &given {
-        Ok(AllocJobResult::Success { .. }) => true,
-        Ok(AllocJobResult::Fail { .. }) => false,
-        Err(_) => false,
-    };
     scheduler.join(&mut pass, other);
-    Ok((let_go && heard, pass.count()))
+    (let_go && heard, pass.count())
 }
 
 /// A heartbeat is answered while an assignment is asked.
 #[test]
-fn gate_assign(rt: HostRuntime) -> Result<(), Fail> {
+fn gate_assign(rt: HostRuntime) {
     let gate = Gate {
         begun: AtomicBool::new(false),
         answered: AtomicBool::new(false),
     };
-    assert_eq!(&rt; both(&rt, rt.alloc(), &gate)?, (true, 4));
-    Ok(())
+    assert_eq!(&rt; both(&rt, rt.alloc(), &gate), (true, 4));
 }
