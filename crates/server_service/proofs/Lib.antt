@@ -1,2 +1,3 @@
 pub mod PeerLemmas
+pub mod RanLemmas
 pub mod ToldLemmas

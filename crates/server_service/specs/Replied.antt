@@ -1,7 +1,8 @@
 -- What a build server's calls answer, as it is replied: in JSON where that is wanted, else in binary.
-use Rattle.std.specs.Prelude.{◌≡◌, ℕ, List, drop, Bool, Option, Some, None, Result, Ok, Err, ⊤}
+use Rattle.std.specs.Prelude.{◌≡◌, ℕ, List, drop, Bool, Option, Some, None, Result, Ok, Err, ⊤, IfOk}
 use Rattle.dist_types.specs.Outgoing.{Peer}
 use Rattle.dist_types.specs.declared.dialer.Asked.{Asked}
+use Rattle.dist_types.specs.declared.fault.Memory as want
 use Rattle.dist_types.specs.declared.ids.JobId.{JobId}
 use Rattle.dist_types.specs.declared.results.AssignJobResult.{AssignJobResult}
 use Rattle.dist_types.specs.declared.results.RunJobResult.{RunJobResult}
@@ -28,6 +29,7 @@ use Rattle.http_routes.specs.declared.reply.Response.{Response}
 use Rattle.http_routes.specs.declared.server_route.ServerRouted.{ServerRouted}
 use Rattle.http_routes.specs.declared.server_route.ServerRouted.TheVariants.{Assign, Submit, Run, Done}
 use Rattle.http_connections.specs.Form.{form_of}
+use Rattle.http_connections.specs.Served.{MadeReply}
 use Rattle.server_service.specs.Routed.{routed_of, body_of}
 use Rattle.server_service.specs.Told.{IsToldOf, lent_of}
 
@@ -73,53 +75,74 @@ pub record Means : Type 0 where
 abbrev pub telling : ℕ → Peer → Dialing → Reports
 telling name peer d = record { rows = None; faults = d.faults; lent = lent_of name peer d.asked }
 
--- ---- the three calls, each with the answer that its reply tells
+-- ---- the three calls, each with the answer that its reply tells, where there is memory for one
 
 -- the job is assigned by the keeper
 pub record IsAssignedAndTold (json : Bool) (job : JobId) (tc : List ℕ) (kept turned : Option Books)
-    (reply : Response) : Type 0 where
+    (made : MadeReply) : Type 0 where
   pub answer : Result AssignJobResult ServerFault
   pub turns : Turns (λ old new. Assigns job tc old new answer) kept turned
   pub tells : TellsAssign job answer
-  pub told : Replies (assign_response json) answer reply
+  pub told : IfOk made (Replies (assign_response json) answer)
 
 -- the body is submitted as the job's archive, from a reader that never fails
-pub record IsSubmittedAndTold (peer : Peer) (json : Bool) (job : JobId) (body : List ℕ)
-    (kept turned : Option Books) (old new : Dialing) (reply : Response) : Type 0 where
+pub record IsSubmitted (peer : Peer) (job : JobId) (body : List ℕ) (kept turned : Option Books)
+    (old new : Dialing) (answer : Result SubmitToolchainResult ServerFault) : Type 0 where
   pub name : ℕ
   pub left : Option (List ℕ)
-  pub answer : Result SubmitToolchainResult ServerFault
   pub submitted : IsSubmitOn IsToldOf job kept turned (telling name peer old) (telling name peer new)
       (record { left = Some body; faults = 0 }) (record { left = left; faults = 0 }) answer
-  pub told : Replies (submit_response json) answer reply
+
+pub record IsSubmittedAndTold (peer : Peer) (json : Bool) (job : JobId) (body : List ℕ)
+    (kept turned : Option Books) (old new : Dialing) (made : MadeReply) : Type 0 where
+  pub answer : Result SubmitToolchainResult ServerFault
+  pub submitted : IsSubmitted peer job body kept turned old new answer
+  pub told : IfOk made (Replies (submit_response json) answer)
 
 -- what a run asks for, whose inputs begin at that place of the body
 abbrev pub order_of : RunJobHttpRequest → List ℕ → ℕ → Order
 order_of run body at = record { command = run.command; outputs = run.outputs; inputs = drop at body }
 
 -- the job is run
-pub record IsRunAndTold (peer : Peer) (json : Bool) (job : JobId) (order : Order) (old new : Means)
-    (reply : Response) : Type 0 where
+pub record IsRun (peer : Peer) (job : JobId) (order : Order) (old new : Means)
+    (answer : Result RunJobResult ServerFault) : Type 0 where
   pub name : ℕ
-  pub answer : Result RunJobResult ServerFault
   pub ran : IsRunOn IsToldOf job order old.kept new.kept (telling name peer old.dialing)
       (telling name peer new.dialing)
       old.builder new.builder answer
-  pub told : Replies (run_response json) answer reply
 
--- What is asked of a server is done, and the reply tells its answer; what its route answered changes nothing.
-abbrev pub IsDone : Peer → Bool → List ℕ → ServerRouted → Means → Means → Response → Type 0
-IsDone peer json body (Assign job tc) old new reply =
-    IsAssignedAndTold json job tc old.kept new.kept reply × (new.dialing ≡ old.dialing)
-    × (new.builder ≡ old.builder)
-IsDone peer json body (Submit job) old new reply =
-    IsSubmittedAndTold peer json job body old.kept new.kept old.dialing new.dialing reply
-    × (new.builder ≡ old.builder)
-IsDone peer json body (Run job run at) old new reply = IsRunAndTold peer json job
-    (order_of run body at) old new reply
-IsDone peer json body (Done response) old new reply = (reply ≡ response) × (new ≡ old)
+pub record IsRunAndTold (peer : Peer) (json : Bool) (job : JobId) (order : Order) (old new : Means)
+    (made : MadeReply) : Type 0 where
+  pub answer : Result RunJobResult ServerFault
+  pub ran : IsRun peer job order old new answer
+  pub told : IfOk made (Replies (run_response json) answer)
 
--- The reply to what was taken: what it asks by its route is done, under the tokens that the verdict accepts.
+-- What is asked of a server is done, and the reply, where it is made, tells its answer; what its route
+-- answered is the reply, and changes nothing.
+abbrev pub IsDone : Peer → Bool → List ℕ → ServerRouted → Means → Means → MadeReply → Type 0
+IsDone peer json body (Assign job tc) old new made =
+    IsAssignedAndTold json job tc old.kept new.kept made × (new.dialing ≡ old.dialing)
+    × (new.builder ≡ old.builder)
+IsDone peer json body (Submit job) old new made =
+    IsSubmittedAndTold peer json job body old.kept new.kept old.dialing new.dialing made
+    × (new.builder ≡ old.builder)
+IsDone peer json body (Run job run at) old new made = IsRunAndTold peer json job
+    (order_of run body at) old new made
+IsDone peer json body (Done response) old new made = (made ≡ Ok response) × (new ≡ old)
+
+-- what is asked, or that memory ran out before that was known
+abbrev pub Routing : Type 0
+Routing = Result ServerRouted want.Memory
+
+-- What is asked is done; where memory ran out before it was known, there is no reply, and nothing changes.
+abbrev pub Does : Peer → Bool → List ℕ → Routing → Means → Means → MadeReply → Type 0
+Does peer json body (Ok routed) old new made = IsDone peer json body routed old new made
+Does peer json body (Err e) old new made = (made ≡ Err e) × (new ≡ old)
+
+-- The reply to what was taken, or that memory ran out before it was made: what it asks by its route is done,
+-- under the tokens that the verdict accepts.
 pub record IsReplied (verdict : ℕ → List ℕ → Result ⊤ TokenError) (peer : Peer) (request : Option Request)
-    (old new : Means) (reply : Response) : Type 0 where
-  pub done : IsDone peer (form_of request) (body_of request) (routed_of verdict request) old new reply
+    (old new : Means) (made : MadeReply) : Type 0 where
+  pub routing : Routing
+  pub routes : IfOk routing (λ routed. routed ≡ routed_of verdict request)
+  pub done : Does peer (form_of request) (body_of request) routing old new made

@@ -5,7 +5,8 @@ ghost use Rattle.http_calls.specs.Urls.{IsHttp};
 ghost use Rattle.http_routes.specs.Fault.{fault_response_of};
 ghost use Rattle.http_routes.specs.Replies.{run_response};
 ghost use Rattle.server_service.specs.Replied.{failure_of, fault_of, IsTold, IsAssignedAndTold};
-ghost use Rattle.server_service.specs.Replied.{IsSubmittedAndTold, IsRunAndTold, IsDone, order_of};
+ghost use Rattle.server_service.specs.Replied.{IsSubmitted, IsSubmittedAndTold, IsRun, IsRunAndTold};
+ghost use Rattle.server_service.specs.Replied.{IsDone, order_of};
 ghost use Rattle.server_service.specs.Told.{peer_of};
 
 use crate::body::BodySource;
@@ -14,10 +15,12 @@ use crate::telling::Telling;
 use build_server::fault::{BuildCause, ServerFault};
 use build_server::keeping::{Keeping, assign_on, run_on, submit_from};
 use dist_types::builder::BuilderIncoming;
+use dist_types::command::CompileCommand;
 use dist_types::dialer::Dialer;
 use dist_types::fault::Memory;
 use dist_types::ids::JobId;
-use dist_types::results::RunJobResult;
+use dist_types::results::{RunJobResult, SubmitToolchainResult};
+use dist_types::text::Text;
 use dist_types::toolchain::Toolchain;
 use dist_wire::run::RunJobHttpRequest;
 use http_routes::fault::{BuildFailure, RouteFault};
@@ -68,7 +71,7 @@ fn assign<K: Keeping>(
     job: JobId,
     tc: Toolchain,
 ) -> Result<Response, Memory>
-    ensures { IfOk result (IsAssignedAndTold json job tc (K.kept keeper.old) (K.kept keeper.new)) }
+    ensures { IsAssignedAndTold json job tc (K.kept keeper.old) (K.kept keeper.new) result }
 {
     match assign_on(keeper, job, tc) {
         Ok(answer) => {
@@ -80,6 +83,27 @@ fn assign<K: Keeping>(
 }
 
 /// Submits a body as the archive of a job's toolchain.
+fn submitted<K: Keeping, D: Dialer>(
+    alloc: Global,
+    keeper: &mut K,
+    dialer: &mut D,
+    scheduler: &Url,
+    scheduler_auth: &str,
+    job: JobId,
+    body: &[u8],
+) -> Result<SubmitToolchainResult, ServerFault>
+    requires http { IsHttp scheduler.now }
+    ensures submitted { IsSubmitted (peer_of scheduler.now scheduler_auth.now) job body.now
+        (K.kept keeper.old) (K.kept keeper.new)
+        (record { asked = D.asked dialer.old; faults = D.faults dialer.old })
+        (record { asked = D.asked dialer.new; faults = D.faults dialer.new }) result }
+{
+    let mut telling = Telling::new(alloc, dialer, scheduler, scheduler_auth);
+    let mut archive = BodySource::new(body);
+    submit_from(alloc, keeper, &mut telling, job, &mut archive)
+}
+
+/// The same, and the reply that tells its answer.
 fn submit<K: Keeping, D: Dialer>(
     alloc: Global,
     keeper: &mut K,
@@ -91,15 +115,20 @@ fn submit<K: Keeping, D: Dialer>(
     body: &[u8],
 ) -> Result<Response, Memory>
     requires http { IsHttp scheduler.now }
-    ensures told { IfOk result
-        (IsSubmittedAndTold (peer_of scheduler.now scheduler_auth.now) json job body.now
+    ensures told { IsSubmittedAndTold (peer_of scheduler.now scheduler_auth.now) json job body.now
         (K.kept keeper.old) (K.kept keeper.new)
         (record { asked = D.asked dialer.old; faults = D.faults dialer.old })
-        (record { asked = D.asked dialer.new; faults = D.faults dialer.new })) }
+        (record { asked = D.asked dialer.new; faults = D.faults dialer.new }) result }
 {
-    let mut telling = Telling::new(alloc, dialer, scheduler, scheduler_auth);
-    let mut archive = BodySource::new(body);
-    match submit_from(alloc, keeper, &mut telling, job, &mut archive) {
+    match submitted(
+        alloc,
+        keeper,
+        dialer,
+        scheduler,
+        scheduler_auth,
+        job,
+        body,
+    ) {
         Ok(answer) => {
             let response = to_submission(alloc, json, &answer)?;
             Ok(response)
@@ -117,6 +146,48 @@ fn reply_ran(alloc: Global, json: bool, answer: RunJobResult) -> Result<Response
 }
 
 /// Runs a job over these inputs.
+fn ran<K: Keeping, D: Dialer, B: BuilderIncoming>(
+    alloc: Global,
+    keeper: &mut K,
+    dialer: &mut D,
+    builder: &mut B,
+    scheduler: &Url,
+    scheduler_auth: &str,
+    job: JobId,
+    command: &CompileCommand,
+    outputs: &[Text],
+    inputs: &[u8],
+) -> Result<RunJobResult, ServerFault>
+    requires http { IsHttp scheduler.now }
+    ensures ran { IsRun (peer_of scheduler.now scheduler_auth.now) job
+        (record { command = command.now; outputs = outputs.now; inputs = inputs.now })
+        (record {
+          kept = K.kept keeper.old;
+          dialing = record { asked = D.asked dialer.old; faults = D.faults dialer.old };
+          builder = builder_of B.built B.refusals builder.old;
+        })
+        (record {
+          kept = K.kept keeper.new;
+          dialing = record { asked = D.asked dialer.new; faults = D.faults dialer.new };
+          builder = builder_of B.built B.refusals builder.new;
+        }) result }
+{
+    let mut telling = Telling::new(alloc, dialer, scheduler, scheduler_auth);
+    match run_on(
+        keeper,
+        &mut telling,
+        builder,
+        job,
+        command,
+        outputs,
+        inputs,
+    ) {
+        Ok(answer) => Ok(answer),
+        Err(fault) => Err(fault),
+    }
+}
+
+/// The same, and the reply that tells its answer.
 fn run<K: Keeping, D: Dialer, B: BuilderIncoming>(
     alloc: Global,
     keeper: &mut K,
@@ -130,7 +201,7 @@ fn run<K: Keeping, D: Dialer, B: BuilderIncoming>(
     inputs: &[u8],
 ) -> Result<Response, Memory>
     requires http { IsHttp scheduler.now }
-    ensures told { IfOk result (IsRunAndTold (peer_of scheduler.now scheduler_auth.now) json job
+    ensures told { IsRunAndTold (peer_of scheduler.now scheduler_auth.now) json job
         (record { command = run.now.command; outputs = run.now.outputs; inputs = inputs.now })
         (record {
           kept = K.kept keeper.old;
@@ -141,14 +212,16 @@ fn run<K: Keeping, D: Dialer, B: BuilderIncoming>(
           kept = K.kept keeper.new;
           dialing = record { asked = D.asked dialer.new; faults = D.faults dialer.new };
           builder = builder_of B.built B.refusals builder.new;
-        })) }
+        }) result }
 {
-    let mut telling = Telling::new(alloc, dialer, scheduler, scheduler_auth);
     let outputs = run.outputs.get();
-    match run_on(
+    match ran(
+        alloc,
         keeper,
-        &mut telling,
+        dialer,
         builder,
+        scheduler,
+        scheduler_auth,
         job,
         &run.command,
         outputs,
@@ -159,7 +232,8 @@ fn run<K: Keeping, D: Dialer, B: BuilderIncoming>(
     }
 }
 
-/// Does what is asked of a build server, whose scheduler stands at a base. Refused for want of memory alone.
+/// Does what is asked of a build server, whose scheduler stands at a base. Refused for want of memory alone:
+/// where the call that does it was, or where there is none for the reply to what it answered.
 pub fn answer<K: Keeping, D: Dialer, B: BuilderIncoming>(
     alloc: Global,
     keeper: &mut K,
@@ -172,7 +246,7 @@ pub fn answer<K: Keeping, D: Dialer, B: BuilderIncoming>(
     asked: ServerRouted,
 ) -> Result<Response, Memory>
     requires http { IsHttp scheduler.now }
-    ensures done { IfOk result (IsDone (peer_of scheduler.now scheduler_auth.now) json body.now asked
+    ensures done { IsDone (peer_of scheduler.now scheduler_auth.now) json body.now asked
         (record {
           kept = K.kept keeper.old;
           dialing = record { asked = D.asked dialer.old; faults = D.faults dialer.old };
@@ -182,7 +256,7 @@ pub fn answer<K: Keeping, D: Dialer, B: BuilderIncoming>(
           kept = K.kept keeper.new;
           dialing = record { asked = D.asked dialer.new; faults = D.faults dialer.new };
           builder = builder_of B.built B.refusals builder.new;
-        })) }
+        }) result }
 {
     match asked {
         ServerRouted::Assign(job, tc) => assign(alloc, keeper, json, job, tc),

@@ -1,5 +1,4 @@
 //! Serving one connection of a build server: take, answer, send.
-ghost use Rattle.std.specs.Prelude.{IfOk};
 ghost use Rattle.build_server.specs.Builds.{builder_of};
 ghost use Rattle.dist_token.specs.Verdict.{job_verdict};
 ghost use Rattle.http_calls.specs.Urls.{IsHttp};
@@ -25,7 +24,8 @@ use http_routes::reply::Response;
 use std::alloc::Global;
 use url::Url;
 
-/// The reply to what was taken. Refused for want of memory alone.
+/// The reply to what was taken. Refused for want of memory alone: before what is asked was known, and then
+/// nothing is done, or behind what it did.
 fn reply_to<K: Keeping, D: Dialer, B: BuilderIncoming>(
     alloc: Global,
     keeper: &mut K,
@@ -37,8 +37,7 @@ fn reply_to<K: Keeping, D: Dialer, B: BuilderIncoming>(
     request: &Option<Request>,
 ) -> Result<Response, Memory>
     requires http { IsHttp scheduler.now }
-    ensures replied { IfOk result
-        (IsReplied (job_verdict key.now) (peer_of scheduler.now scheduler_auth.now) request.now
+    ensures replied { IsReplied (job_verdict key.now) (peer_of scheduler.now scheduler_auth.now) request.now
         (record {
           kept = K.kept keeper.old;
           dialing = record { asked = D.asked dialer.old; faults = D.faults dialer.old };
@@ -48,7 +47,7 @@ fn reply_to<K: Keeping, D: Dialer, B: BuilderIncoming>(
           kept = K.kept keeper.new;
           dialing = record { asked = D.asked dialer.new; faults = D.faults dialer.new };
           builder = builder_of B.built B.refusals builder.new;
-        })) }
+        }) result }
 {
     let routed = route(alloc, request, key)?;
     answer(
@@ -66,8 +65,9 @@ fn reply_to<K: Keeping, D: Dialer, B: BuilderIncoming>(
 
 /// Takes one request, answers it, and sends the reply. The scheduler stands at a base of scheme `http`, and
 /// is told under the token `scheduler_auth`; the tokens of jobs are those of the key. ReadFault and
-/// WriteFault come only where that half's count rose; ReadFault and Memory write nothing. An end of input
-/// inside a request gets the reply to a bad head.
+/// WriteFault come only where that half's count rose; ReadFault and Memory write nothing. After ReadFault
+/// nothing is done that was asked; after Memory neither, where memory ran out before the request was routed,
+/// and else what its one call says. An end of input inside a request gets the reply to a bad head.
 pub fn serve_server_connection<L: Link, D: Dialer, K: Keeping, B: BuilderIncoming>(
     alloc: Global,
     keeper: &mut K,
