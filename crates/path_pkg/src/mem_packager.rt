@@ -56,6 +56,8 @@ impl MemPackager {
             (packager_refusals self.new) }
         ensures steady { OnOk result (packager_refusals self.new ≡ packager_refusals self.old) }
         ensures later { packager_refusals self.old ≤ packager_refusals self.new }
+        ensures no_memory { result ≡ Err PackFault.Memory → packager_refusals self.new ≡ packager_refusals
+            self.old }
         ensures bytes { packager_bytes self.new ≡ packager_bytes self.old }
         ensures refuses { packager_refuses self.new ≡ packager_refuses self.old }
         ensures calls { packager_calls self.new ≡ counted (packager_calls self.old) }
@@ -88,11 +90,16 @@ impl ToolchainPackager for MemPackager {
         ensures later { packager_refusals self.old ≤ packager_refusals self.new }
         ensures cause { result ≡ Err PackFault.Refused → Rose (packager_refusals self.old)
             (packager_refusals self.new) }
+        ensures no_memory { result ≡ Err PackFault.Memory → packager_refusals self.new ≡ packager_refusals
+            self.old }
 
         ensures listed { result ≡ Err PackFault.Refused → is_listed (packager_refuses self.old)
             (packager_calls self.old) ≡ true }
         ensures unlisted { OnOk result (is_listed (packager_refuses self.old) (packager_calls self.old) ≡
             false) }
+        ensures counted { result ≡ Err PackFault.Refused → packager_refusals self.new ≡ counted
+            (packager_refusals self.old) }
+        ensures refuses { packager_refuses self.new ≡ packager_refuses self.old }
         ensures calls { packager_calls self.new ≡ counted (packager_calls self.old) }
         ensures bytes { packager_bytes self.new ≡ packager_bytes self.old }
     {
@@ -118,11 +125,16 @@ impl InputsPackager for MemPackager {
         ensures later { packager_refusals self.old ≤ packager_refusals self.new }
         ensures cause { result ≡ Err PackFault.Refused → Rose (packager_refusals self.old)
             (packager_refusals self.new) }
+        ensures no_memory { result ≡ Err PackFault.Memory → packager_refusals self.new ≡ packager_refusals
+            self.old }
 
         ensures listed { result ≡ Err PackFault.Refused → is_listed (packager_refuses self.old)
             (packager_calls self.old) ≡ true }
         ensures unlisted { OnOk result (is_listed (packager_refuses self.old) (packager_calls self.old) ≡
             false) }
+        ensures counted { result ≡ Err PackFault.Refused → packager_refusals self.new ≡ counted
+            (packager_refusals self.old) }
+        ensures refuses { packager_refuses self.new ≡ packager_refuses self.old }
         ensures calls { packager_calls self.new ≡ counted (packager_calls self.old) }
         ensures bytes { packager_bytes self.new ≡ packager_bytes self.old }
     {

@@ -151,7 +151,7 @@ fn has_path_below(prefix: &str, paths: &[Text]) -> bool
 }
 
 impl Tree for MemTree {
-    ghost use Rattle.std.specs.Prelude.{Some};
+    ghost use Rattle.std.specs.Prelude.{Some, None, Err, ◌⊎◌};
     ghost use Rattle.path_pkg.specs.Told.{WhereTold, LeavesTree};
     ghost use Rattle.path_pkg.specs.Resolved.{target_kind_at, content_at, paths_below};
     ghost use Rattle.path_pkg.specs.InMemory.{tree_told, tree_nodes, tree_fails, tree_misnames, tree_calls};
@@ -178,6 +178,8 @@ impl Tree for MemTree {
     fn read(&mut self, path: &str) -> Result<Vec<u8>, TreeFault>
         ensures content { IfOk result
             (λ v. WhereTold (tree_told self.old) (λ t. content_at t path.now ≡ Some v.items)) }
+        ensures no_file { WhereTold (tree_told self.old) (λ t. content_at t path.now ≡ None
+            → (result ≡ Err TreeFault.Failed) ⊎ (result ≡ Err TreeFault.Memory)) }
         ensures leaves { LeavesTree result (tree_told self.old) (tree_told self.new) }
 
         ensures exact { Answers (λ v. v.items) (read_verdict self.old path.now) result }

@@ -8,7 +8,7 @@ use crate::unix::PathTransformer;
 
 /// Packs a toolchain.
 pub trait ToolchainPackager {
-    /// How often it refused.
+    /// How often it refused. Want of memory does not raise it.
     ghost refusals: { Self → ℕ };
 
     /// The bytes that it appends, where it tells them.
@@ -20,12 +20,13 @@ pub trait ToolchainPackager {
         ensures appends { HasAppended out.old.items out.new.items }
         ensures steady { OnOk result (refusals self.new ≡ refusals self.old) }
         ensures later { refusals self.old ≤ refusals self.new }
-        ensures cause { result ≡ Err PackFault.Refused → Rose (refusals self.old) (refusals self.new) };
+        ensures cause { result ≡ Err PackFault.Refused → Rose (refusals self.old) (refusals self.new) }
+        ensures no_memory { result ≡ Err PackFault.Memory → refusals self.new ≡ refusals self.old };
 }
 
 /// Packs the inputs of a compile command.
 pub trait InputsPackager {
-    /// How often it refused.
+    /// How often it refused. Want of memory does not raise it.
     ghost refusals: { Self → ℕ };
 
     /// The bytes that it appends, where it tells them.
@@ -37,12 +38,13 @@ pub trait InputsPackager {
         ensures appends { HasAppended out.old.items out.new.items }
         ensures steady { OnOk result (refusals self.new ≡ refusals self.old) }
         ensures later { refusals self.old ≤ refusals self.new }
-        ensures cause { result ≡ Err PackFault.Refused → Rose (refusals self.old) (refusals self.new) };
+        ensures cause { result ≡ Err PackFault.Refused → Rose (refusals self.old) (refusals self.new) }
+        ensures no_memory { result ≡ Err PackFault.Memory → refusals self.new ≡ refusals self.old };
 }
 
 /// Packs the outputs of a compile command again.
 pub trait OutputsRepackager {
-    /// How often it refused.
+    /// How often it refused. Want of memory does not raise it.
     ghost refusals: { Self → ℕ };
 
     /// The bytes that it appends, where it tells them.
@@ -54,5 +56,6 @@ pub trait OutputsRepackager {
         ensures appends { HasAppended out.old.items out.new.items }
         ensures steady { OnOk result (refusals self.new ≡ refusals self.old) }
         ensures later { refusals self.old ≤ refusals self.new }
-        ensures cause { result ≡ Err PackFault.Refused → Rose (refusals self.old) (refusals self.new) };
+        ensures cause { result ≡ Err PackFault.Refused → Rose (refusals self.old) (refusals self.new) }
+        ensures no_memory { result ≡ Err PackFault.Memory → refusals self.new ≡ refusals self.old };
 }

@@ -1,5 +1,5 @@
 //! Trees of directories, files and links: what is asked of one.
-ghost use Rattle.std.specs.Prelude.{◌≡◌, IfOk, Some, None, Err, map, string_bytes};
+ghost use Rattle.std.specs.Prelude.{◌≡◌, ◌⊎◌, IfOk, Some, None, Err, map, string_bytes};
 ghost use Rattle.path_pkg.specs.Told.{Told, WhereTold, LeavesTree, IsInByteOrder};
 ghost use Rattle.path_pkg.specs.Resolved.{target_kind_at, content_at, paths_below};
 ghost use Rattle.path_pkg.specs.Tree.{kind_at, link_at};
@@ -43,6 +43,8 @@ pub trait Tree: Links {
     fn read(&mut self, path: &str) -> Result<Vec<u8>, TreeFault>
         ensures content { IfOk result
             (λ v. WhereTold (Self.told self.old) (λ t. content_at t path.now ≡ Some v.items)) }
+        ensures no_file { WhereTold (Self.told self.old) (λ t. content_at t path.now ≡ None
+            → (result ≡ Err TreeFault.Failed) ⊎ (result ≡ Err TreeFault.Memory)) }
         ensures leaves { LeavesTree result (Self.told self.old) (Self.told self.new) };
 
     /// All paths below a directory, in byte order. No link is followed.
