@@ -8,12 +8,13 @@ use Rattle.std.proofs.Math.Seq.{take-append_seam}
 use Rattle.std.proofs.lemmas.Slice.Eq.{bytes_eq-Decides}
 use Rattle.lru_disk_cache.specs.Files.{Files, file_at, without, front, is_behind, found_behind, found_under}
 use Rattle.lru_disk_cache.specs.Held.{Held, Holds, Became}
-use Rattle.lru_disk_cache.specs.Disk.{ButUnder}
+use Rattle.lru_disk_cache.specs.Disk.{ButUnder, OnlyRemoved, RemovedAt, RemovedUnder}
 use Rattle.lru_disk_cache.specs.Archives.{archives_in, archive_in, archive_path, archive_key, id_of}
 use Rattle.lru_disk_cache.specs.Cleaned.{found_of}
 use Rattle.lru_disk_cache.specs.declared.folder.Found.{Found}
-use Rattle.lru_disk_cache.proofs.Became.{became_then, became_from}
+use Rattle.lru_disk_cache.proofs.Became.{became_map, became_then, became_from}
 use Rattle.lru_disk_cache.proofs.Distinct.{apart}
+use Rattle.lru_disk_cache.proofs.Exactly.{without_was}
 use Rattle.lru_disk_cache.proofs.InStep.{in_more}
 use Rattle.lru_disk_cache.proofs.Lookups.{itself, without_other, without_same}
 use Rattle.lru_disk_cache.proofs.Strips.{begins}
@@ -32,6 +33,7 @@ pub record Emptying (under : List ℕ) (found : List Found) (i : ℕ) (old new :
       → file_at new q ≡ None
   pub others : ButUnder (front under) old new
   pub archives : (path : List ℕ) → AreApart path under → SameArchives path old new
+  pub removed : OnlyRemoved old new
 
 -- ---- at first
 
@@ -72,6 +74,7 @@ emptying_first under found files is = record {
   left = λ q behind none. none_among (front under) q files behind (ap (is_among q) (sym is) ∙ none);
   others = λ q away. refl;
   archives = λ path beside. refl;
+  removed = λ q b found. found;
 }
 
 -- ---- one more
@@ -148,7 +151,23 @@ emptying_more under found i f old mid lt is h =
           archives_without path f.path mid
           (subst (λ (p : List ℕ). IsBeside path p) (sym name)
           (beside (drop (length (front under)) f.path))) ∙ h.archives path beside;
+      removed = λ q b found. h.removed q b (without_was f.path q b mid found);
     }
+
+-- one more, whose removal failed
+emptying_part : (under : List ℕ) (found : List Found) (i : ℕ) (f : Found) (old mid new : Files)
+    → i < length found → f ≡ get_or found i f → Emptying under found i old mid → RemovedAt f.path mid new
+    → RemovedUnder (front under) old new
+emptying_part under found i f old mid new lt is h part =
+    let within : i < length (found_under under old) = subst (λ (l : List Found). i < length l) h.all lt in
+    let at : f ≡ get_or (found_under under old) i f = is ∙ ap (λ (l : List Found). get_or l i f) h.all in
+    let behind : is_behind (front under) f.path ≡ true = all_behind (front under) old i f within at in
+    let name : f.path ≡ front under ++ drop (length (front under)) f.path = begins f.path (front under) behind
+    in (
+      λ q b there. h.removed q b (part.0 q b there),
+      λ q away. part.1 q (ap (λ (p : List ℕ). bytes_eq p q) name ∙ away (drop (length (front under)) f.path))
+          ∙ h.others q away,
+    )
 
 -- ---- at the end
 
@@ -189,6 +208,19 @@ listed_more under found i f one two three lt is a b =
     (Emptying under found (i + 1)) one two three
     (λ x y z h gone. subst (λ (l : Files). Emptying under found (i + 1) x l) (sym gone)
     (emptying_more under found i f x y lt is h)) a b
+
+pub listed_part : (under : List ℕ) (found : List Found) (i : ℕ) (f : Found) (one two three : Option Files)
+    → i < length found → f ≡ get_or found i f → Became (Emptying under found i) one two
+    → Became (RemovedAt f.path) two three → Became (RemovedUnder (front under)) one three
+listed_part under found i f one two three lt is a b =
+    became_then (Emptying under found i) (RemovedAt f.path) (RemovedUnder (front under)) one two three
+    (λ x y z h part. emptying_part under found i f x y z lt is h part) a b
+
+pub listed_removed : (under : List ℕ) (found : List Found) (i : ℕ) (one two : Option Files)
+    → Became (Emptying under found i) one two → Became (RemovedUnder (front under)) one two
+listed_removed under found i one two h =
+    became_map (Emptying under found i) (RemovedUnder (front under)) one two
+    (λ x y e. (e.removed, e.others)) h
 
 pub listed_last : (under : List ℕ) (found : List Found) (i : ℕ) (old new : Held) → length found ≤ i
     → Became (Emptying under found i) old.files new.files → Holds new (IsEmpty under)

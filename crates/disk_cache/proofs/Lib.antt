@@ -1,6 +1,7 @@
 pub mod ConfigLemmas
 pub mod EmptyLemmas
 pub mod JsonLemmas
+pub mod LeftLemmas
 pub mod NameLemmas
 pub mod OpenLemmas
 pub mod OthersLemmas

@@ -12,7 +12,8 @@ use Rattle.lru_disk_cache.proofs.Became.{became_of, became_then, became_from}
 use Rattle.lru_disk_cache.proofs.Distinct.{apart as apart_of}
 use Rattle.lru_disk_cache.proofs.Lookups.{without_same, put_same, put_other, part_other, moved_other}
 use Rattle.lru_disk_cache.proofs.Lookups.{moved_there}
-use Rattle.disk_cache.specs.Saving.{ButTwo, OldOr, SaveFails}
+use Rattle.lru_disk_cache.specs.Whole.{OldOr}
+use Rattle.disk_cache.specs.Saving.{ButTwo, SaveFails}
 
 became_done : (E : Files → Files → Type 0) (done : Files → Files) (old : Option Files)
     → ((f : Files) → E f (done f)) → Became E old (option_map done old)

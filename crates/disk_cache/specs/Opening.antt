@@ -1,5 +1,5 @@
 -- What an opening of a client's toolchains finds, and why it fails.
-use Rattle.std.specs.Prelude.{◌≡◌, ℕ, false, List, ◌++◌, None, IsSome, Err}
+use Rattle.std.specs.Prelude.{◌≡◌, ℕ, false, List, ◌++◌, None, Some, IsSome, Err}
 use Rattle.std.specs.Str.{bytes_eq}
 use Rattle.lru_disk_cache.specs.Files.{Files, file_at, front}
 use Rattle.lru_disk_cache.specs.Held.{Held, Holds}
@@ -12,7 +12,8 @@ use Rattle.disk_cache.specs.declared.toolchain_error.ToolchainError.TheVariants.
 use Rattle.disk_cache.specs.declared.toolchain_error.ToolchainError.TheVariants.{DuplicateConfig}
 use Rattle.disk_cache.specs.declared.toolchain_error.ToolchainError.TheVariants.{ConflictConfig, Memory}
 use Rattle.disk_cache.specs.Configs.{config_verdict}
-use Rattle.disk_cache.specs.Names.{IsBeside, cache_path, temp_dir, weak_path}
+use Rattle.disk_cache.specs.Names.{IsBeside, cache_path, temp_dir, temp_path, weak_path}
+use Rattle.disk_cache.specs.Saving.{OldOrBegun}
 use Rattle.disk_cache.specs.WeakMaps.{weak_map_at}
 
 -- no file stands below a directory
@@ -32,6 +33,15 @@ abbrev pub ButOwn : List ℕ → Files → Files → Type 0
 ButOwn dir old new =
     (q : List ℕ) → IsBeside (cache_path dir) q → IsBeside (temp_dir dir) q
     → bytes_eq (weak_path dir) q ≡ false → file_at new q ≡ file_at old q
+
+-- What a refused opening leaves of the files. Those of the cache, and those of what was still being written
+-- but the weak map's, are removed or as they were. The weak map's is as it was, or there was none and nothing
+-- is recorded in it. Each other is as it was.
+pub record LeftOpen (dir : List ℕ) (old new : Files) : Type 0 where
+  pub others : ButOwn dir old new
+  pub removed : (q bytes : List ℕ) → bytes_eq (temp_path dir) q ≡ false → bytes_eq (weak_path dir) q ≡ false
+      → file_at new q ≡ Some bytes → file_at old q ≡ Some bytes
+  pub weak : OldOrBegun dir old new
 
 -- what is configured is refused, behind a weak map that was read
 abbrev pub RefusesConfigs : ToolchainError → List ℕ → List DistToolchainConfig → Held → Type 0

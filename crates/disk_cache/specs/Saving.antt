@@ -1,5 +1,5 @@
 -- What writing and reading the file of the weak map leaves, and why it fails.
-use Rattle.std.specs.Prelude.{◌≡◌, ◌⊎◌, ◌≤◌, ℕ, false, List, Some, None}
+use Rattle.std.specs.Prelude.{◌≡◌, ◌⊎◌, ◌≤◌, ℕ, false, List, [], Some, None}
 use Rattle.std.specs.Str.{bytes_eq}
 use Rattle.dist_types.specs.Cause.{Rose}
 use Rattle.lru_disk_cache.specs.Files.{Files, file_at}
@@ -11,6 +11,7 @@ use Rattle.lru_disk_cache.specs.declared.fault.FolderFault.TheVariants.{Missing,
 use Rattle.lru_disk_cache.specs.declared.fault.FolderFault.TheVariants.{Memory as OutOfMemory}
 use Rattle.disk_cache.specs.declared.toolchain_error.ToolchainError.{ToolchainError}
 use Rattle.disk_cache.specs.declared.toolchain_error.ToolchainError.TheVariants.{Cache, BadWeakMap, Memory}
+use Rattle.disk_cache.specs.Names.{weak_path}
 use Rattle.disk_cache.specs.WeakMaps.{weak_map_at}
 
 -- the file at each path but these two is as it was
@@ -18,9 +19,15 @@ abbrev pub ButTwo : List ℕ → List ℕ → Files → Files → Type 0
 ButTwo one two old new = (q : List ℕ) → bytes_eq one q ≡ false → bytes_eq two q ≡ false
     → file_at new q ≡ file_at old q
 
--- the file at a path is as it was, or has these bytes
-abbrev pub OldOr : List ℕ → List ℕ → Files → Files → Type 0
-OldOr path text old new = (file_at new path ≡ file_at old path) ⊎ (file_at new path ≡ Some text)
+-- the file of the weak map is as it was, or an empty weak map
+abbrev pub OldOrEmpty : List ℕ → Files → Files → Type 0
+OldOrEmpty dir old new =
+    (file_at new (weak_path dir) ≡ file_at old (weak_path dir)) ⊎ (weak_map_at dir new ≡ Some [])
+
+-- the file of the weak map is as it was, or there was none and it is an empty weak map
+abbrev pub OldOrBegun : List ℕ → Files → Files → Type 0
+OldOrBegun dir old new = (file_at new (weak_path dir) ≡ file_at old (weak_path dir))
+    ⊎ ((file_at old (weak_path dir) ≡ None) × (weak_map_at dir new ≡ Some []))
 
 -- why a file was not saved: Failed only where the count rose, Missing only where files are not told; the
 -- count never falls

@@ -9,7 +9,7 @@ ghost use Rattle.disk_cache.specs.Configs.{config_of, config_verdict, custom_of,
 ghost use Rattle.disk_cache.specs.Custom.{TellsCustom, Takes, Unread, IsCustom, taken_of, last_taken, taking};
 ghost use Rattle.disk_cache.specs.Custom.{custom_as, custom_told, customs_seen};
 ghost use Rattle.disk_cache.specs.Names.{cache_path, temp_dir};
-ghost use Rattle.disk_cache.specs.Opening.{IsEmpty, ButOwn, OpeningFails};
+ghost use Rattle.disk_cache.specs.Opening.{IsEmpty, ButOwn, LeftOpen, OpeningFails};
 ghost use Rattle.disk_cache.specs.Others.{KeepsBeside, KeepsOthers};
 ghost use Rattle.disk_cache.specs.Putting.{Gets, IsFound, ReadsCustom, FindsArchive, LooksUp, found_of};
 ghost use Rattle.disk_cache.specs.Putting.{looked_of};
@@ -110,7 +110,8 @@ impl<F: Folder> ClientToolchains<F> {
         }
     }
 
-    /// The same, but that the folder is handed back where it is refused.
+    /// The same, but that the folder is handed back where it is refused: no more than the client's own files
+    /// are removed, and the weak map reads as it did.
     pub fn open(
         alloc: Global,
         mut folder: F,
@@ -132,6 +133,9 @@ impl<F: Folder> ClientToolchains<F> {
         ensures steady { IfOk result (λ t. t.held.faults ≡ (F.held folder).faults) }
         ensures fails { IfErr result (λ e. OpeningFails e.0 cache_dir.now configs.now (F.held folder)
             (F.held e.1)) }
+        ensures left { IfErr result (λ e. Became (LeftOpen cache_dir.now) (F.held folder).files
+            (F.held e.1).files) }
+        ensures later { IfErr result (λ e. (F.held folder).faults ≤ (F.held e.1).faults) }
     {
         let Ok(names) = names_of(alloc, cache_dir) else {
             return Err((ToolchainError::Memory, folder));

@@ -2,7 +2,7 @@
 ghost use Rattle.std.specs.Prelude.{◌≡◌, ℕ, List, Err, OnOk};
 ghost use Rattle.lru_disk_cache.specs.Files.{front, without};
 ghost use Rattle.lru_disk_cache.specs.Held.{Holds, Became};
-ghost use Rattle.lru_disk_cache.specs.Disk.{ButUnder, Counts};
+ghost use Rattle.lru_disk_cache.specs.Disk.{ButUnder, Counts, RemovedAt, RemovedUnder};
 ghost use Rattle.disk_cache.specs.Names.{AreNames, temp_dir};
 ghost use Rattle.disk_cache.specs.Opening.{IsEmpty, AreApart, SameArchives};
 
@@ -15,6 +15,7 @@ use lru_disk_cache::folder::Folder;
 fn discard<F: Folder>(folder: &mut F, path: &Text) -> Result<(), FolderFault>
     ensures exact { OnOk result (Became (λ old new. new ≡ without path.now old) (F.held folder.old).files
         (F.held folder.new).files) }
+    ensures part { Became (RemovedAt path.now) (F.held folder.old).files (F.held folder.new).files }
     ensures counts { Counts result (F.held folder.old) (F.held folder.new) }
     ensures found { ¬ (result ≡ Err FolderFault.Missing) }
 {
@@ -33,6 +34,8 @@ pub(crate) fn empty<F: Folder>(folder: &mut F, under: &Text) -> Result<(), Folde
         folder.new).files) }
     ensures archives { (path : List ℕ) → AreApart path under.now → OnOk result (Became (SameArchives path)
         (F.held folder.old).files (F.held folder.new).files) }
+    ensures left { Became (RemovedUnder (front under.now)) (F.held folder.old).files
+        (F.held folder.new).files }
     ensures counts { Counts result (F.held folder.old) (F.held folder.new) }
 {
     let found = match folder.list(under.get()) {
@@ -56,6 +59,8 @@ pub(crate) fn prepare<F: Folder>(folder: &mut F, names: &Names) -> Result<(), Fo
         folder.old).files (F.held folder.new).files) }
     ensures archives { (path : List ℕ) → AreApart path (temp_dir names.now.dir) → OnOk result (Became
         (SameArchives path) (F.held folder.old).files (F.held folder.new).files) }
+    ensures left { Became (RemovedUnder (front (temp_dir names.now.dir))) (F.held folder.old).files
+        (F.held folder.new).files }
     ensures counts { Counts result (F.held folder.old) (F.held folder.new) }
 {
     match empty(folder, &names.temp_dir) {

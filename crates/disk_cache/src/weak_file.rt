@@ -4,7 +4,8 @@ ghost use Rattle.lru_disk_cache.specs.Files.{file_at};
 ghost use Rattle.lru_disk_cache.specs.Held.{Holds, Became, Lacks};
 ghost use Rattle.lru_disk_cache.specs.Archives.{IsArchiveStore};
 ghost use Rattle.disk_cache.specs.Names.{AreNames, weak_path, temp_path};
-ghost use Rattle.disk_cache.specs.Saving.{ButTwo, OldOr, SaveFails, BeginFails, LoadFails};
+ghost use Rattle.lru_disk_cache.specs.Whole.{OldOr};
+ghost use Rattle.disk_cache.specs.Saving.{ButTwo, OldOrEmpty, OldOrBegun, SaveFails, BeginFails, LoadFails};
 ghost use Rattle.disk_cache.specs.WeakMaps.{weak_map_in, weak_map_at};
 
 use crate::names::Names;
@@ -66,6 +67,8 @@ fn begin<F: Folder>(
     ensures written { IfOk result (λ map. Holds (F.held cache.new.folder) (λ files. weak_map_at
         names.now.dir files ≡ Some map)) }
     ensures gone { OnOk result (Holds (F.held cache.new.folder) (Lacks (temp_path names.now.dir))) }
+    ensures weak { Became (OldOrEmpty names.now.dir) (F.held cache.old.folder).files
+        (F.held cache.new.folder).files }
     ensures others { Became (ButTwo (temp_path names.now.dir) (weak_path names.now.dir)) (F.held
         cache.old.folder).files (F.held cache.new.folder).files }
     ensures steady { OnOk result ((F.held cache.new.folder).faults ≡ (F.held cache.old.folder).faults) }
@@ -115,6 +118,8 @@ pub(crate) fn load<F: Folder>(
         names.now.dir files ≡ Some map)) }
     ensures clean { Holds (F.held cache.old.folder) (Lacks (temp_path names.now.dir)) → OnOk result (Holds
         (F.held cache.new.folder) (Lacks (temp_path names.now.dir))) }
+    ensures weak { Became (OldOrBegun names.now.dir) (F.held cache.old.folder).files
+        (F.held cache.new.folder).files }
     ensures others { Became (ButTwo (temp_path names.now.dir) (weak_path names.now.dir)) (F.held
         cache.old.folder).files (F.held cache.new.folder).files }
     ensures steady { OnOk result ((F.held cache.new.folder).faults ≡ (F.held cache.old.folder).faults) }

@@ -4,7 +4,11 @@ use Rattle.lru_disk_cache.specs.Disk.{ButUnder}
 use Rattle.lru_disk_cache.proofs.Became.{became_map}
 use Rattle.lru_disk_cache.proofs.Fills.{counts_after}
 use Rattle.disk_cache.specs.Opening.{SameArchives}
-use Rattle.disk_cache.proofs.EmptyLemmas.{Emptying, listed_first, listed_more, listed_last}
+use Rattle.lru_disk_cache.specs.Held.{Never}
+use Rattle.lru_disk_cache.proofs.CallLemmas.{left_same}
+use Rattle.lru_disk_cache.proofs.Removals.{same_spared}
+use Rattle.disk_cache.proofs.EmptyLemmas.{Emptying, listed_first, listed_more, listed_last, listed_part}
+use Rattle.disk_cache.proofs.EmptyLemmas.{listed_removed}
 use Rattle.disk_cache.proofs.emptied.empty.Goals as goal
 
 pub loop-file-init : goal.loop-file-init
@@ -52,3 +56,23 @@ returns-clause-archives g c = λ path beside.
     became_map (Emptying c.args.under.now c.deref-file-items.result.now c.loop-file.file-index)
     (SameArchives path) (g.F.Folder.held c.args.folder.now).files
     (g.F.Folder.held c.loop-file.folder).files (λ x y h. h.archives path beside) c.loop-file.invariant.0
+
+pub returns-in-Err-clause-left : goal.returns-in-Err-clause-left
+returns-in-Err-clause-left g c =
+    same_spared (front c.args.under.now) (g.F.Folder.held c.args.folder.now).files
+    (g.F.Folder.held c.list.new.self).files
+    (left_same Never c.list.result (g.F.Folder.held c.args.folder.now) (g.F.Folder.held c.list.new.self)
+    c.list.ensures.leaves)
+
+pub returns-in-Err-discard-clause-left : goal.returns-in-Err-discard-clause-left
+returns-in-Err-discard-clause-left g c =
+    listed_part c.args.under.now c.deref-file-items.result.now c.loop-file.file-index c.file-item.result
+    (g.F.Folder.held c.args.folder.now).files (g.F.Folder.held c.loop-file.folder).files
+    (g.F.Folder.held c.discard.new.folder).files (omega (arith, c.loop-file-test.true)) c.file-item.is
+    c.loop-file.invariant.0 c.discard.ensures.part
+
+pub returns-clause-left : goal.returns-clause-left
+returns-clause-left g c =
+    listed_removed c.args.under.now c.deref-file-items.result.now c.loop-file.file-index
+    (g.F.Folder.held c.args.folder.now).files (g.F.Folder.held c.loop-file.folder).files
+    c.loop-file.invariant.0

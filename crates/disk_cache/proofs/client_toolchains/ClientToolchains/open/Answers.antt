@@ -1,12 +1,13 @@
-use Rattle.std.proofs.Common.{◌≡◌, ◌∙◌, None, Some, IsSome, sym, subst}
+use Rattle.std.proofs.Common.{◌≡◌, ◌∙◌, None, Some, IsSome, refl, sym, subst}
 use Rattle.lru_disk_cache.specs.Files.{front}
 use Rattle.lru_disk_cache.specs.Held.{Holds, Became}
 use Rattle.lru_disk_cache.specs.Disk.{ButUnder}
 use Rattle.lru_disk_cache.specs.Archives.{opened_archives}
 use Rattle.lru_disk_cache.proofs.Became.{untold}
 use Rattle.disk_cache.specs.Names.{cache_path, temp_dir}
-use Rattle.disk_cache.specs.Opening.{IsEmpty, ButOwn, OpeningFails}
+use Rattle.disk_cache.specs.Opening.{IsEmpty, ButOwn, LeftOpen, OpeningFails}
 use Rattle.disk_cache.specs.WeakMaps.{weak_map_at}
+use Rattle.disk_cache.proofs.LeftLemmas.{left_none, emptied_left, refused_left, loaded_left}
 use Rattle.disk_cache.proofs.NameLemmas.{cache_apart_temp}
 use Rattle.disk_cache.proofs.OpenLemmas.{open_archives, open_weak, open_temp, open_others, open_empty}
 use Rattle.disk_cache.proofs.OpenLemmas.{load_fails, judge_fails, some_of}
@@ -88,3 +89,33 @@ returns-clause-others g c =
     (held c.in-Ok-new.cache.folder) c.in-Ok.ensures.names c.get.ensures.text
     c.in-Ok-prepare.ensures.others c.in-Ok-new.ensures.others
     (held c.load.new.cache.folder) c.in-Ok-load.ensures.others)
+
+pub returns-in_default-clause-left : goal.returns-in_default-clause-left
+returns-in_default-clause-left g c =
+    left_none c.args.cache_dir.now (g.F.Folder.held c.args.folder).files
+
+pub returns-in-Err-clause-left : goal.returns-in-Err-clause-left
+returns-in-Err-clause-left g c =
+    let held = g.F.Folder.held in
+    emptied_left c.in-Ok.names c.args.cache_dir.now c.in-Ok.names.cache (held c.args.folder)
+    (held c.prepare.new.folder) c.in-Ok.ensures.dir c.in-Ok.ensures.names refl c.prepare.ensures.left
+
+pub returns-in-Err-load-clause-left : goal.returns-in-Err-load-clause-left
+returns-in-Err-load-clause-left g c =
+    let held = g.F.Folder.held in
+    subst (λ f. Became (LeftOpen c.args.cache_dir.now) (held c.args.folder).files (held f).files)
+    (sym c.into_folder.ensures)
+    (loaded_left c.in-Ok.names c.args.cache_dir.now c.get.result.now (held c.args.folder)
+    (held c.prepare.new.folder) c.in-Ok.ensures.dir c.in-Ok.ensures.names c.get.ensures.text
+    c.prepare.ensures.left (held c.in-Ok-new.cache.folder) (held c.load.new.cache.folder)
+    c.in-Ok-new.ensures.removed c.in-Ok-new.ensures.others c.load.ensures.others c.load.ensures.weak)
+
+pub returns-in-Err-judge-clause-left : goal.returns-in-Err-judge-clause-left
+returns-in-Err-judge-clause-left g c =
+    let held = g.F.Folder.held in
+    subst (λ f. Became (LeftOpen c.args.cache_dir.now) (held c.args.folder).files (held f).files)
+    (sym c.into_folder-in-Err-judge.ensures)
+    (loaded_left c.in-Ok.names c.args.cache_dir.now c.get.result.now (held c.args.folder)
+    (held c.prepare.new.folder) c.in-Ok.ensures.dir c.in-Ok.ensures.names c.get.ensures.text
+    c.prepare.ensures.left (held c.in-Ok-new.cache.folder) (held c.load.new.cache.folder)
+    c.in-Ok-new.ensures.removed c.in-Ok-new.ensures.others c.load.ensures.others c.load.ensures.weak)
