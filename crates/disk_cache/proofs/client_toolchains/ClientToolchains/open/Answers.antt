@@ -119,3 +119,20 @@ returns-in-Err-judge-clause-left g c =
     (held c.prepare.new.folder) c.in-Ok.ensures.dir c.in-Ok.ensures.names c.get.ensures.text
     c.prepare.ensures.left (held c.in-Ok-new.cache.folder) (held c.load.new.cache.folder)
     c.in-Ok-new.ensures.removed c.in-Ok-new.ensures.others c.load.ensures.others c.load.ensures.weak)
+
+pub returns-in-Err-new-clause-left : goal.returns-in-Err-new-clause-left
+returns-in-Err-new-clause-left g c =
+    let held = g.F.Folder.held in
+    refused_left c.in-Ok.names c.args.cache_dir.now c.get.result.now (held c.args.folder)
+    (held c.prepare.new.folder) c.in-Ok.ensures.dir c.in-Ok.ensures.names c.get.ensures.text
+    c.prepare.ensures.left (held c.in-Err-new.folder) c.in-Err-new.ensures.left
+
+pub returns-in_default-copy_all-clause-left : goal.returns-in_default-copy_all-clause-left
+returns-in_default-copy_all-clause-left g c =
+    let held = g.F.Folder.held in
+    subst (λ f. Became (LeftOpen c.args.cache_dir.now) (held c.args.folder).files (held f).files)
+    (sym c.into_folder-in_default-copy_all.ensures)
+    (loaded_left c.in-Ok.names c.args.cache_dir.now c.get.result.now (held c.args.folder)
+    (held c.prepare.new.folder) c.in-Ok.ensures.dir c.in-Ok.ensures.names c.get.ensures.text
+    c.prepare.ensures.left (held c.in-Ok-new.cache.folder) (held c.load.new.cache.folder)
+    c.in-Ok-new.ensures.removed c.in-Ok-new.ensures.others c.load.ensures.others c.load.ensures.weak)
