@@ -120,15 +120,7 @@ fn submit<K: Keeping, D: Dialer>(
         (record { asked = D.asked dialer.old; faults = D.faults dialer.old })
         (record { asked = D.asked dialer.new; faults = D.faults dialer.new }) result }
 {
-    match submitted(
-        alloc,
-        keeper,
-        dialer,
-        scheduler,
-        scheduler_auth,
-        job,
-        body,
-    ) {
+    match submitted(alloc, keeper, dialer, scheduler, scheduler_auth, job, body) {
         Ok(answer) => {
             let response = to_submission(alloc, json, &answer)?;
             Ok(response)
@@ -173,15 +165,7 @@ fn ran<K: Keeping, D: Dialer, B: BuilderIncoming>(
         }) result }
 {
     let mut telling = Telling::new(alloc, dialer, scheduler, scheduler_auth);
-    match run_on(
-        keeper,
-        &mut telling,
-        builder,
-        job,
-        command,
-        outputs,
-        inputs,
-    ) {
+    match run_on(keeper, &mut telling, builder, job, command, outputs, inputs) {
         Ok(answer) => Ok(answer),
         Err(fault) => Err(fault),
     }

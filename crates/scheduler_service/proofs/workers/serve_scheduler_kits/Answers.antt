@@ -34,7 +34,7 @@ returns-clause-worked g c =
       },
       each_worker (λ w. w.kit) (λ w. w.pass) fresh
           (λ a p b q. Worked (IsReplied g.K.ClientAuthCheck.may_answer g.K.ClientAuthCheck.shown
-      (g.V.ServerAuthCheck.server_of c.args.server.now))
+          (g.V.ServerAuthCheck.server_of c.args.server.now))
           (λ l. record {
             left = g.T.L.Source.left l;
             held = g.T.L.Sink.held l;
