@@ -3,9 +3,9 @@ use crate::calls::{Desk, STATUS, link, serve};
 use crate::slow::SlowLink;
 use dist_http::Served;
 use dist_types::source::read_up_to;
-use std::alloc::Global;
+use std::alloc::{AllocError, Global};
+use std::process::Abort;
 use std::sync::Wait;
-use std::test::Fail;
 
 /// The status line of a bad head.
 const BAD_HEAD: &[u8] = b"HTTP/1.1 400 Bad Request\r\n";
@@ -14,27 +14,22 @@ const BAD_HEAD: &[u8] = b"HTTP/1.1 400 Bad Request\r\n";
 const OK: &[u8] = b"HTTP/1.1 200 OK\r\n";
 
 /// What serving bytes in memory came to: whether it was answered so, and how many bytes were left.
-fn left<R: Wait>(rt: &R, alloc: Global, bytes: &[u8], line: &[u8]) -> Result<(bool, usize), Fail> {
-    let mut desk = Desk::new(alloc, 1, b"")?;
-    let mut link = link(alloc, bytes, &[], &[])?;
-    let served = serve(rt, alloc, &mut desk, &mut link)?;
+fn left<R: Abort + Wait>(rt: &R, alloc: Global, bytes: &[u8], line: &[u8]) -> (bool, usize) {
+    let mut desk = Desk::new(rt, alloc, 1, b"");
+    let mut link = link(rt, alloc, bytes, &[], &[]);
+    let served = serve(rt, alloc, &mut desk, &mut link);
     let answered = served == Served::Answered && link.sink().bytes().starts_with(line);
-    let rest = read_up_to(alloc, &mut link, bytes.len())?;
-    Ok((answered, rest.len()))
+    let rest = read_up_to(alloc, &mut link, bytes.len()).expect(rt, "a read");
+    (answered, rest.len())
 }
 
 /// The same one byte a call.
-fn left_slowly<R: Wait>(
-    rt: &R,
-    alloc: Global,
-    bytes: &[u8],
-    line: &[u8],
-) -> Result<(bool, usize), Fail> {
-    let mut desk = Desk::new(alloc, 1, b"")?;
-    let mut link = SlowLink::new(alloc, Vec::from_slice(alloc, bytes)?);
-    let served = serve(rt, alloc, &mut desk, &mut link)?;
+fn left_slowly<R: Abort + Wait>(rt: &R, alloc: Global, bytes: &[u8], line: &[u8]) -> (bool, usize) {
+    let mut desk = Desk::new(rt, alloc, 1, b"");
+    let mut link = SlowLink::new(alloc, Vec::from_slice(alloc, bytes).expect(rt, "memory"));
+    let served = serve(rt, alloc, &mut desk, &mut link);
     let answered = served == Served::Answered && link.out.starts_with(line);
-    Ok((answered, bytes.len().saturating_sub(link.taken())))
+    (answered, bytes.len().saturating_sub(link.taken()))
 }
 
 /// Bytes, the status line of their reply, and how many of them are left.
@@ -63,75 +58,68 @@ const CASES: &[(&[u8], &[u8], usize)] = &[
 ];
 
 #[test]
-fn exactly_the_cut(rt: HostRuntime) -> Result<(), Fail> {
+fn exactly_the_cut(rt: HostRuntime) {
     let alloc = rt.alloc();
     for (bytes, line, rest) in CASES {
-        assert_eq!(&rt; left(&rt, alloc, bytes, line)?, (true, *rest));
-        assert_eq!(&rt; left_slowly(&rt, alloc, bytes, line)?, (true, *rest));
+        assert!(&rt; left(&rt, alloc, bytes, line) == (true, *rest));
+        assert!(&rt; left_slowly(&rt, alloc, bytes, line) == (true, *rest));
     }
-    Ok(())
 }
 
 /// A request that is cut at any byte is a bad head, and all of it is taken.
 #[test]
-fn cut_at_every_byte(rt: HostRuntime) -> Result<(), Fail> {
+fn cut_at_every_byte(rt: HostRuntime) {
     let alloc = rt.alloc();
     for n in 0..STATUS.len() {
-        assert_eq!(&rt; left(&rt, alloc, &STATUS[..n], BAD_HEAD)?, (true, 0));
+        assert!(&rt; left(&rt, alloc, &STATUS[..n], BAD_HEAD) == (true, 0));
     }
-    Ok(())
 }
 
-/// A status request with so many bytes in its head, and three behind it.
-fn long_head(alloc: Global, len: usize) -> Result<Vec<u8>, Fail> {
-    let front: &[u8] = b"GET /api/v1/scheduler/status HTTP/1.1\r\nX: ";
-    let mut bytes = Vec::from_slice(alloc, front)?;
-    for _ in front.len() + 4..len {
+/// What stands before the field's value in a long head.
+const FRONT: &[u8] = b"GET /api/v1/scheduler/status HTTP/1.1\r\nX: ";
+
+/// Writes a status request with so many bytes in its head, and three behind it.
+fn write_long(bytes: &mut Vec<u8>, len: usize) -> Result<(), AllocError> {
+    bytes.extend_from_slice(FRONT)?;
+    for _ in FRONT.len() + 4..len {
         bytes.push(b'a')?;
     }
-    bytes.extend_from_slice(b"\r\n\r\nGET")?;
-    Ok(bytes)
+    bytes.extend_from_slice(b"\r\n\r\nGET")
 }
 
 /// What serving a head of so many bytes came to, and how many bytes were left.
-fn left_of_head<R: Wait>(
-    rt: &R,
-    alloc: Global,
-    len: usize,
-    line: &[u8],
-) -> Result<(bool, usize), Fail> {
-    let bytes = long_head(alloc, len)?;
+fn left_of_head<R: Abort + Wait>(rt: &R, alloc: Global, len: usize, line: &[u8]) -> (bool, usize) {
+    let mut bytes = Vec::new(alloc);
+    write_long(&mut bytes, len).expect(rt, "memory");
     left(rt, alloc, &bytes, line)
 }
 
 /// A head of 65,536 bytes is read; of one that is longer, 65,537 bytes are taken.
 #[test]
-fn longest_head(rt: HostRuntime) -> Result<(), Fail> {
+fn longest_head(rt: HostRuntime) {
     let alloc = rt.alloc();
-    assert_eq!(&rt; left_of_head(&rt, alloc, 65_536, OK)?, (true, 3));
-    assert_eq!(&rt; left_of_head(&rt, alloc, 65_537, BAD_HEAD)?, (true, 3));
-    assert_eq!(&rt; left_of_head(&rt, alloc, 65_540, BAD_HEAD)?, (true, 6));
-    Ok(())
+    assert!(&rt; left_of_head(&rt, alloc, 65_536, OK) == (true, 3));
+    assert!(&rt; left_of_head(&rt, alloc, 65_537, BAD_HEAD) == (true, 3));
+    assert!(&rt; left_of_head(&rt, alloc, 65_540, BAD_HEAD) == (true, 6));
 }
 
 /// What serving a link came to whose reads and writes of these numbers fail, and how much was written.
-fn failing<R: Wait>(
+fn failing<R: Abort + Wait>(
     rt: &R,
     alloc: Global,
     reads: &[u64],
     writes: &[u64],
-) -> Result<(Served, usize), Fail> {
-    let mut desk = Desk::new(alloc, 1, b"")?;
-    let mut link = link(alloc, STATUS, reads, writes)?;
-    let served = serve(rt, alloc, &mut desk, &mut link)?;
-    Ok((served, link.sink().bytes().len()))
+) -> (Served, usize) {
+    let mut desk = Desk::new(rt, alloc, 1, b"");
+    let mut link = link(rt, alloc, STATUS, reads, writes);
+    let served = serve(rt, alloc, &mut desk, &mut link);
+    (served, link.sink().bytes().len())
 }
 
 /// A failing read writes nothing, and a peer that never reads is a write fault.
 #[test]
-fn faults(rt: HostRuntime) -> Result<(), Fail> {
+fn faults(rt: HostRuntime) {
     let alloc = rt.alloc();
-    assert!(&rt; failing(&rt, alloc, &[7], &[])? == (Served::ReadFault, 0));
-    assert!(&rt; failing(&rt, alloc, &[], &[0])? == (Served::WriteFault, 0));
-    Ok(())
+    assert!(&rt; failing(&rt, alloc, &[7], &[]) == (Served::ReadFault, 0));
+    assert!(&rt; failing(&rt, alloc, &[], &[0]) == (Served::WriteFault, 0));
 }

@@ -9,7 +9,6 @@ use dist_types::fault::Failed;
 use http_connections::start::Start;
 use rand_xoshiro::SplitMix64;
 use std::process::Abort;
-use std::test::Fail;
 
 /// The first start of `starts`: its word and its key are the first five words of SplitMix64 from the state 1,
 /// as a Python program computes them.
@@ -54,25 +53,25 @@ fn serve_thrice(
     scheduler: &SchedulerConfig,
     server: &ServerConfig,
 ) {
-    assert_eq!(rt; serve.scheduler(scheduler), Ok(()));
-    assert_eq!(rt; serve.server(server), Ok(()));
-    assert_eq!(rt; serve.scheduler(scheduler), Err(Failed));
+    assert!(rt; serve.scheduler(scheduler) == Ok(()));
+    assert!(rt; serve.server(server) == Ok(()));
+    assert!(rt; serve.scheduler(scheduler) == Err(Failed));
 }
 
 #[test]
-fn each_call_gets_the_start_that_was_drawn(rt: HostRuntime) -> Result<(), Fail> {
+fn each_call_gets_the_start_that_was_drawn(rt: HostRuntime) {
     let alloc = rt.alloc();
-    let scheduler = config(1);
-    let server = server_config(alloc, "/tmp/sccache-dist-test", 1)?;
-    let mut serve = RealServe::with_starts(
-        Box::new(alloc, |_config: &SchedulerConfig, start| {
-            serve_at(start, FIRST)
-        })?,
-        Box::new(alloc, |_config: &ServerConfig, start| {
-            serve_at(start, SECOND)
-        })?,
-        starts(Some(3), 100),
-    );
-    serve_thrice(&rt, &mut serve, &scheduler, &server);
-    Ok(())
+    let at_scheduler = config(1);
+    let at_server = server_config(&rt, alloc, 1);
+    let scheduler = Box::new(alloc, |_config: &SchedulerConfig, start| {
+        serve_at(start, FIRST)
+    });
+    let server = Box::new(alloc, |_config: &ServerConfig, start| {
+        serve_at(start, SECOND)
+    });
+    let (Ok(scheduler), Ok(server)) = (scheduler, server) else {
+        panic!(&rt; "memory");
+    };
+    let mut serve = RealServe::with_starts(scheduler, server, starts(Some(3), 100));
+    serve_thrice(&rt, &mut serve, &at_scheduler, &at_server);
 }

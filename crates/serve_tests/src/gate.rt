@@ -1,19 +1,20 @@
 //! Connections are served at once, and not one after another.
 ghost use Rattle.std.specs.Prelude.{None};
 
-use crate::calls::{STATUS, TestScheduler, dialer};
+use crate::calls::{STATUS, TestScheduler, client, dialer, server};
 use dist_http::{Kit, Served, Tasks, serve_scheduler_workers};
-use dist_token::checks::{EqCheck, PlainServerCheck};
+use dist_token::checks::EqCheck;
 use dist_types::addr::Addr;
 use dist_types::clock::MemClock;
+use dist_types::dialer::MemDialer;
 use dist_types::fault::{Failed, raise};
 use dist_types::link::Link;
 use dist_types::sink::Sink;
 use dist_types::source::Source;
-use std::alloc::{AllocError, Global};
+use std::alloc::Global;
+use std::process::Abort;
 use std::sync::Wait;
 use std::sync::atomic::{AtomicBool, AtomicU64, Ordering};
-use std::test::Fail;
 use std::thread;
 use std::thread::Threads;
 
@@ -139,46 +140,49 @@ impl<'a> Tasks for OneLink<'a> {
     }
 }
 
+/// One link to serve, and what it is served with.
+type OneKit<'a> = Kit<OneLink<'a>, MemDialer, MemClock, EqCheck>;
+
 /// A kit with one link.
-fn kit(
-    alloc: Global,
-    gate: &Gate,
-) -> Result<Kit<OneLink<'_>, dist_types::dialer::MemDialer, MemClock, EqCheck>, AllocError> {
-    Ok(Kit {
+fn kit<'a>(rt: &impl Abort, alloc: Global, gate: &'a Gate) -> OneKit<'a> {
+    Kit {
         tasks: OneLink {
             gate,
             given: false,
             served: None,
         },
-        dialer: dialer(alloc, b"")?,
+        dialer: dialer(rt, alloc, b""),
         clock: MemClock::new(Vec::new(alloc)),
-        client: EqCheck::new(String::from_str(alloc, "c1")?),
-    })
+        client: client(rt, alloc),
+    }
+}
+
+/// Whether all links were answered.
+fn are_answered(kits: &[OneKit<'_>]) -> bool {
+    let mut answered = true;
+    for kit in kits {
+        answered = answered && kit.tasks.served == Some(Served::Answered);
+    }
+    answered
 }
 
 /// Whether both links were answered, and how many entries that made.
-fn both<R: Threads + Wait + Sync>(rt: &R, alloc: Global, gate: &Gate) -> Result<(bool, u64), Fail> {
-    let (scheduler, mut pass) = TestScheduler::new(alloc, 1)?;
-    let server = PlainServerCheck::new(String::from_str(alloc, "s1")?);
-    let mut kits = Vec::new(alloc);
-    kits.push(kit(alloc, gate)?)?;
-    kits.push(kit(alloc, gate)?)?;
-    let back = serve_scheduler_workers(rt, alloc, &scheduler, &mut pass, kits, &server)?;
-    let mut answered = true;
-    for kit in &back {
-        answered = answered && kit.tasks.served == Some(Served::Answered);
-    }
-    Ok((answered, pass.count()))
+fn both<R: Abort + Threads + Wait + Sync>(rt: &R, alloc: Global, gate: &Gate) -> (bool, u64) {
+    let (scheduler, mut pass) = TestScheduler::new(alloc, 1).expect(rt, "memory");
+    let server = server(rt, alloc);
+    let kits = vec![in alloc; kit(rt, alloc, gate), kit(rt, alloc, gate)].expect(rt, "memory");
+    let back = serve_scheduler_workers(rt, alloc, &scheduler, &mut pass, kits, &server);
+    let answered = are_answered(&back.expect(rt, "memory"));
+    (answered, pass.count())
 }
 
 /// The first of two links is held until the second was answered.
 #[test]
-fn gate_workers(rt: HostRuntime) -> Result<(), Fail> {
+fn gate_workers(rt: HostRuntime) {
     let gate = Gate {
         begun: AtomicBool::new(false),
         answered: AtomicBool::new(false),
         tickets: AtomicU64::new(0),
     };
-    assert_eq!(&rt; both(&rt, rt.alloc(), &gate)?, (true, 2));
-    Ok(())
+    assert!(&rt; both(&rt, rt.alloc(), &gate) == (true, 2));
 }

@@ -15,8 +15,8 @@ use http_routes::call_reply::answer;
 use rand_core::SeedableRng;
 use rand_xoshiro::SplitMix64;
 use std::alloc::Global;
-use std::net::{Net, TcpListener, TcpStream};
-use std::test::Fail;
+use std::net::{Net, OpenListener, TcpListener, TcpStream};
+use std::process::Abort;
 use std::thread;
 use std::time::{Clock, Duration};
 
@@ -24,21 +24,43 @@ use std::time::{Clock, Duration};
 const MAX_TRIES: u64 = 500;
 
 /// A port that nobody listens at.
-pub fn free_port<R: Net>(net: &R) -> std::io::Result<u16> {
-    let listener = TcpListener::bind(net, "127.0.0.1:0")?;
-    Ok(std::net::OpenListener::local_addr(&listener)?.port())
+pub fn free_port<R: Abort + Net>(rt: &R) -> u16 {
+    let listener = TcpListener::bind(rt, "127.0.0.1:0").expect(rt, "a port");
+    listener.local_addr().expect(rt, "an address").port()
 }
 
-/// Asks for the counts until there is a reply.
-fn counts<R: Net + Clock>(rt: &R, alloc: Global, port: u16) -> Option<SchedulerStatusResult> {
-    let mut dialer = TcpDialer::new(alloc, rt);
+/// Asks for the status until there is a reply.
+fn ask<R: Clock, D: Dialer>(rt: &R, dialer: &mut D, port: u16) -> Option<Vec<u8>> {
     for _ in 0..MAX_TRIES {
         match dialer.ask("127.0.0.1", port, STATUS) {
-            Ok(reply) => return answer(alloc, &reply).ok()?.ok(),
+            Ok(reply) => return Some(reply),
             Err(_) => thread::sleep(rt, Duration::from_millis(10)),
         }
     }
     None
+}
+
+/// The reply to a status request at this port, once there is one.
+pub fn reply<R: Net + Clock>(rt: &R, alloc: Global, port: u16) -> Option<Vec<u8>> {
+    let mut dialer = TcpDialer::new(alloc, rt);
+    ask(rt, &mut dialer, port)
+}
+
+/// The counts of servers, processors and jobs that a reply tells.
+fn counts_in(alloc: Global, reply: &[u8]) -> Option<(u64, u64, u64)> {
+    let counts: Result<Result<SchedulerStatusResult, _>, _> = answer(alloc, reply);
+    match &counts {
+        Ok(Ok(counts)) => Some((counts.num_servers, counts.num_cpus, counts.in_progress)),
+        _ => None,
+    }
+}
+
+/// Asks for the counts until there is a reply.
+fn counts<R: Net + Clock>(rt: &R, alloc: Global, port: u16) -> Option<(u64, u64, u64)> {
+    match reply(rt, alloc, port) {
+        Some(reply) => counts_in(alloc, &reply),
+        None => None,
+    }
 }
 
 /// A scheduler at this port, which lets everybody in.
@@ -63,57 +85,51 @@ pub fn starts(limit: Option<u64>, timeout_ms: u64) -> Starts<SplitMix64> {
 
 /// A scheduler that ends after one connection answers a status request.
 #[test]
-fn one_status(rt: HostRuntime) -> Result<(), Fail> {
+fn one_status(rt: HostRuntime) {
     let alloc = rt.alloc();
-    let port = free_port(&rt)?;
+    let port = free_port(&rt);
     let config = config(port);
-    let mut serve = RealServe::with_starts(
-        Box::new(alloc, move |config: &SchedulerConfig, start| {
-            serve_scheduler(&rt, alloc, config, start)
-        })?,
-        Box::new(alloc, |_config: &ServerConfig, _start| Err(StartFault))?,
-        starts(Some(1), 2_000),
-    );
+    let scheduler = Box::new(alloc, move |config: &SchedulerConfig, start| {
+        serve_scheduler(&rt, alloc, config, start)
+    });
+    let server = Box::new(alloc, |_config: &ServerConfig, _start| Err(StartFault));
+    let (Ok(scheduler), Ok(server)) = (scheduler, server) else {
+        panic!(&rt; "memory");
+    };
+    let mut serve = RealServe::with_starts(scheduler, server, starts(Some(1), 2_000));
     let (counts, served) = thread::join(
         &rt,
         || counts(&rt, alloc, port),
         || serve.scheduler(&config),
     );
-    assert_eq!(&rt; served, Ok(()));
-    let counts = counts.ok_or("no reply")?;
-    assert_eq!(&rt;
-        (counts.num_servers, counts.num_cpus, counts.in_progress),
-        (0, 0, 0)
-    );
-    Ok(())
+    assert!(&rt; served == Ok(()));
+    assert!(&rt; counts == Some((0, 0, 0)));
 }
 
 /// An address that is taken is a fault at once.
 #[test]
-fn taken_address(rt: HostRuntime) -> Result<(), Fail> {
+fn taken_address(rt: HostRuntime) {
     let alloc = rt.alloc();
-    let listener = TcpListener::bind(&rt, "127.0.0.1:0")?;
-    let config = config(listener.local_addr()?.port());
-    let mut serve = RealServe::new(
-        Box::new(alloc, move |config: &SchedulerConfig, start| {
-            serve_scheduler(&rt, alloc, config, start)
-        })?,
-        Box::new(alloc, |_config: &ServerConfig, _start| Err(StartFault))?,
-        SplitMix64::seed_from_u64(1),
-        1,
-    );
-    assert_eq!(&rt; serve.scheduler(&config), Err(Failed));
-    Ok(())
+    let listener = TcpListener::bind(&rt, "127.0.0.1:0").expect(&rt, "a port");
+    let config = config(listener.local_addr().expect(&rt, "an address").port());
+    let scheduler = Box::new(alloc, move |config: &SchedulerConfig, start| {
+        serve_scheduler(&rt, alloc, config, start)
+    });
+    let server = Box::new(alloc, |_config: &ServerConfig, _start| Err(StartFault));
+    let (Ok(scheduler), Ok(server)) = (scheduler, server) else {
+        panic!(&rt; "memory");
+    };
+    let mut serve = RealServe::new(scheduler, server, SplitMix64::seed_from_u64(1), 1);
+    assert!(&rt; serve.scheduler(&config) == Err(Failed));
 }
 
 /// A peer that takes the connection and brings nothing is a fault, once the limit of the asking is over.
 #[test]
-fn silent_peer(rt: HostRuntime) -> Result<(), Fail> {
-    let listener = TcpListener::bind(&rt, "127.0.0.1:0")?;
-    let port = listener.local_addr()?.port();
+fn silent_peer(rt: HostRuntime) {
+    let listener = TcpListener::bind(&rt, "127.0.0.1:0").expect(&rt, "a port");
+    let port = listener.local_addr().expect(&rt, "an address").port();
     let mut dialer = TcpDialer::new(rt.alloc(), LimitedNet::new(&rt, 100));
     assert!(&rt; dialer.ask("127.0.0.1", port, STATUS).is_err());
-    Ok(())
 }
 
 /// How many connections are held open that bring nothing.
@@ -122,14 +138,8 @@ const IDLE: u64 = 64;
 /// How many statuses are asked beside them.
 const ASKED: u64 = 200;
 
-/// How many statuses are answered while so many connections are open that bring nothing.
-fn beside_idle<R: Net + Clock>(rt: &R, alloc: Global, port: u16) -> Option<u64> {
-    counts(rt, alloc, port)?;
-    let mut idle = Vec::new(alloc);
-    for _ in 0..IDLE {
-        let link = TcpStream::connect(rt, ("127.0.0.1", port)).ok()?;
-        idle.push(link).ok()?;
-    }
+/// How many statuses are answered.
+fn answered<R: Net + Clock>(rt: &R, alloc: Global, port: u16) -> Option<u64> {
     let mut answered = 0u64;
     for _ in 0..ASKED {
         counts(rt, alloc, port)?;
@@ -138,25 +148,37 @@ fn beside_idle<R: Net + Clock>(rt: &R, alloc: Global, port: u16) -> Option<u64> 
     Some(answered)
 }
 
+/// How many statuses are answered while so many connections are open that bring nothing.
+fn beside_idle<R: Abort + Net + Clock>(rt: &R, alloc: Global, port: u16) -> Option<u64> {
+    counts(rt, alloc, port)?;
+    let mut idle = Vec::new(alloc);
+    for _ in 0..IDLE {
+        let link = TcpStream::connect(rt, ("127.0.0.1", port)).expect(rt, "a connection");
+        assert!(rt; idle.push(link).is_ok());
+    }
+    answered(rt, alloc, port)
+}
+
 /// Idle connections stop nobody: each fails after its limit.
 #[test]
-fn idle_connections(rt: HostRuntime) -> Result<(), Fail> {
+fn idle_connections(rt: HostRuntime) {
     let alloc = rt.alloc();
-    let port = free_port(&rt)?;
+    let port = free_port(&rt);
     let config = config(port);
-    let mut serve = RealServe::with_starts(
-        Box::new(alloc, move |config: &SchedulerConfig, start| {
-            serve_scheduler(&rt, alloc, config, start)
-        })?,
-        Box::new(alloc, |_config: &ServerConfig, _start| Err(StartFault))?,
-        starts(Some(1 + IDLE + ASKED), 1_000),
-    );
+    let scheduler = Box::new(alloc, move |config: &SchedulerConfig, start| {
+        serve_scheduler(&rt, alloc, config, start)
+    });
+    let server = Box::new(alloc, |_config: &ServerConfig, _start| Err(StartFault));
+    let (Ok(scheduler), Ok(server)) = (scheduler, server) else {
+        panic!(&rt; "memory");
+    };
+    let limit = Some(1 + IDLE + ASKED);
+    let mut serve = RealServe::with_starts(scheduler, server, starts(limit, 1_000));
     let (answered, served) = thread::join(
         &rt,
         || beside_idle(&rt, alloc, port),
         || serve.scheduler(&config),
     );
-    assert_eq!(&rt; served, Ok(()));
-    assert_eq!(&rt; answered, Some(ASKED));
-    Ok(())
+    assert!(&rt; served == Ok(()));
+    assert!(&rt; answered == Some(ASKED));
 }
