@@ -116,6 +116,7 @@ pub struct Entry {
 
 impl Effect {
     /// A word alone.
+    #[inline(always)]
     pub fn of_word(word: EntryWord) -> Self
         ensures { result ≡ word_effect word }
     {
@@ -129,6 +130,7 @@ impl Effect {
     }
 
     /// A reply at once.
+    #[inline(always)]
     pub fn of_reply(core: Option<CoreEntry>, reply: Reply) -> Self
         ensures { result ≡ reply_effect core reply }
     {
@@ -142,6 +144,7 @@ impl Effect {
     }
 
     /// A step of the server at that address alone.
+    #[inline(always)]
     pub fn of_step(server: Addr, kind: StepKind) -> Self
         ensures { result ≡ step_effect server kind }
     {
@@ -155,6 +158,7 @@ impl Effect {
     }
 
     /// A step of it, and a reply.
+    #[inline(always)]
     pub fn of_step_reply(server: Addr, kind: StepKind, reply: Reply) -> Self
         ensures { result ≡ step_reply_effect server kind reply }
     {
@@ -168,6 +172,7 @@ impl Effect {
     }
 
     /// A step of it, and a call, whose settlement is waited for.
+    #[inline(always)]
     pub fn of_step_call(server: Addr, kind: StepKind, call: OutCall) -> Self
         ensures { result ≡ step_call_effect server kind call }
     {
@@ -181,6 +186,7 @@ impl Effect {
     }
 
     /// A call, whose settlement is waited for.
+    #[inline(always)]
     pub fn of_call(core: Option<CoreEntry>, call: OutCall) -> Self
         ensures { result ≡ call_effect core (Some call) }
     {
@@ -196,6 +202,7 @@ impl Effect {
 
 impl Entry {
     /// The entry of an event that did this.
+    #[inline(always)]
     pub fn new(event: Event, effect: Effect) -> Self
         ensures { result ≡ entry_of event effect }
     {

@@ -1,11 +1,10 @@
 -- A job is accepted as started at most once, and was ready before.
 use Rattle.std.proofs.Common.{◌≡◌, ◌<◌, ◌^◌, Bool, true, false, cond, ◌&&◌, ◌||◌, List, [], ◌∷◌, ◌++◌, map}
 use Rattle.std.proofs.Common.{Option, Some, None, refl, ap, ◌∙◌, sym, subst}
-use Rattle.std.specs.Prelude.{option_to_list, if◌then◌else◌}
-use Rattle.std.specs.List.{AllByRecursion, list_any, find}
+use Rattle.std.specs.Prelude.{option_to_list}
+use Rattle.std.specs.List.{AllByRecursion, list_any}
 use Rattle.std.proofs.lemmas.Bool.{false≢true}
 use Rattle.std.proofs.lemmas.List.Elements.{filter_map-append}
-use Rattle.dist_types.specs.declared.addr.Addr.{Addr}
 use Rattle.dist_types.specs.declared.ids.JobId.{JobId}
 use Rattle.dist_types.specs.declared.results.JobState.{JobState}
 use Rattle.dist_types.specs.declared.results.JobState.TheVariants.{Pending, Ready, Started, Complete}
@@ -13,14 +12,11 @@ use Rattle.sched_core.specs.declared.start.Start.{Start}
 use Rattle.sched_core.specs.declared.entry.CoreEntry.{CoreEntry}
 use Rattle.sched_core.specs.declared.entry.CoreKind.{CoreKind}
 use Rattle.sched_core.specs.declared.entry.CoreKind.TheVariants.{Beat, Reserve, Commit, Undo, Update, Status}
-use Rattle.sched_core.specs.declared.entry.UpdateAnswer.TheVariants.{Accepted, Wrong, Transition}
-use Rattle.sched_core.specs.declared.rows.OpenRow.{OpenRow}
 use Rattle.sched_core.specs.Log.{same_job, latest, newest}
 use Rattle.sched_core.specs.Reservation.{is_accepted, is_started}
 use Rattle.sched_core.specs.Job.{Committed, commits, moves_by, moves_of, state_now, state_of, is_open}
 use Rattle.sched_core.specs.Job.{open_jobs}
-use Rattle.sched_core.specs.Rows.{open_of, open_rows}
-use Rattle.sched_core.specs.Advance.{follows, is_at, advance_by, advance}
+use Rattle.sched_core.specs.Advance.{follows}
 use Rattle.sched_core.specs.Laws.{IsRule, IsLegal, IsChain, HasOrder}
 use Rattle.sched_core.proofs.LegalLemmas.{core_of, legal_has}
 use Rattle.sched_core.proofs.Lists.{list_any-map, list_any-push, cons_nil}
@@ -29,7 +25,7 @@ use Rattle.sched_core.proofs.AllLemmas.{any-append, any-end, any-weaker, any-all
 use Rattle.sched_core.proofs.AllLemmas.{only}
 use Rattle.sched_core.proofs.StepLemmas.{committed, grown_commit, commits-push}
 use Rattle.sched_core.proofs.FactLemmas.{Facts, facts}
-use Rattle.sched_core.proofs.OnceLemmas.{legal_all}
+use Rattle.sched_core.proofs.OnceLemmas.{accepted_job, legal_all}
 
 -- whether an entry accepts that the job is started
 abbrev pub starts_by : CoreKind → JobId → Bool
@@ -38,42 +34,6 @@ starts_by other j = false
 
 abbrev starts : JobId → CoreEntry → Bool
 starts j e = starts_by e.kind j
-
--- ---- an update is accepted of an open job alone, whose state it follows
-
-accepted_open : (p : OpenRow → Bool) (rows : List OpenRow) (server : Addr) (state : JobState)
-    → is_accepted (advance_by (find p rows) server state) ≡ true
-    → list_any (λ o. p o && follows o.state state) rows ≡ true
-accepted_open p [] server state t = absurd (false≢true t)
-accepted_open p (o ∷ rows) server state t = split (p o) refl (accepted_open p rows server state) t
-  where
-    by_state : (b : Bool) → is_accepted
-        (if is_at o.server server then (if b then Accepted else Transition o.state) else Wrong) ≡ true
-        → b ≡ true
-    by_state true h = refl
-    by_state false h = absurd
-        (false≢true (elim (is_at o.server server) as
-        (λ c. is_accepted (if c then Transition o.state else Wrong) ≡ true → false ≡ true) [
-          | true ↦ λ x.
-              x
-          | false ↦ λ x. x
-        ] h))
-
-    split : (b : Bool) → p o ≡ b → (is_accepted (advance_by (find p rows) server state) ≡ true
-        → list_any (λ o. p o && follows o.state state) rows ≡ true)
-        → is_accepted (advance_by (cond b (Some o) (find p rows)) server state) ≡ true
-        → ((p o && follows o.state state) || list_any (λ o. p o && follows o.state state) rows) ≡ true
-    split true is rest h = ap (λ c. c || list_any (λ o. p o && follows o.state state) rows)
-        (both (p o) (follows o.state state) is (by_state (follows o.state state) h))
-    split false is rest h = ap
-        (λ c. (c && follows o.state state) || list_any (λ o. p o && follows o.state state) rows) is ∙ rest h
-
-accepted_job : (log : List CoreEntry) (server : Addr) (job : JobId) (state : JobState)
-    → is_accepted (advance (open_rows log) server job state) ≡ true
-    → list_any (λ c. same_job c.job job && follows (state_now c) state) (open_jobs log) ≡ true
-accepted_job log server job state t =
-    sym (list_any-map (λ o. same_job o.job job && follows o.state state) (open_of log) (open_jobs log))
-    ∙ accepted_open (λ o. same_job o.job job) (open_rows log) server state t
 
 is_start : (s : JobState) → is_started s ≡ true → s ≡ Started
 is_start Started t = refl

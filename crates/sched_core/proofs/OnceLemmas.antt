@@ -138,7 +138,7 @@ accepted_open p (o ∷ rows) server state t = split (p o) refl (accepted_open p 
         (λ c. (c && follows o.state state) || list_any (λ o. p o && follows o.state state) rows) is ∙ rest h
 
 -- so an open job of that id is in a state that it follows
-accepted_job : (log : List CoreEntry) (server : Addr) (job : JobId) (state : JobState)
+pub accepted_job : (log : List CoreEntry) (server : Addr) (job : JobId) (state : JobState)
     → is_accepted (advance (open_rows log) server job state) ≡ true
     → list_any (λ c. same_job c.job job && follows (state_now c) state) (open_jobs log) ≡ true
 accepted_job log server job state t =
