@@ -26,6 +26,7 @@ use Rattle.farm.specs.Command.{fault_status, Side, Serving, Called, Moment, IsFa
 use Rattle.farm.specs.Command.{IsStormRun, IsAuthRun, IsStarted, IsCarriedOut, IsUnparsed}
 use Rattle.farm.specs.Command.{IsWorked, IsDoneBy, IsDone, IsTold, IsLong, StandsFor, IsReported}
 use Rattle.farm.specs.Command.{IsAnswered}
+use Rattle.farm.proofs.ScriptRunLemmas.{whole_in_part}
 
 status_some : (f : FarmFault) → 0 < fault_status f
 status_some Usage = omega arith
@@ -63,9 +64,9 @@ own f answer e x (inr p) h = absurd (h p.0)
 
 memory_run : (met : FarmFault) (i j o p : Side) → IsLong met → IsFarmRun (Err met) i j o p
     → IsFarmRun (Err Memory) i j o p
-memory_run (BadLine n) i j o p long h = (h.0.1, h.1)
-memory_run (DuplicateAddress n) i j o p long h = (h.0.1, h.1)
-memory_run (ScopedAddress n) i j o p long h = (h.0.1, h.1)
+memory_run (BadLine n) i j o p long h = (h.0.1, h.1, whole_in_part i j h.0)
+memory_run (DuplicateAddress n) i j o p long h = (h.0.1, h.1, whole_in_part i j h.0)
+memory_run (ScopedAddress n) i j o p long h = (h.0.1, h.1, whole_in_part i j h.0)
 memory_run (BadConfig c) i j o p long h = absurd h
 memory_run Usage i j o p long h = absurd long
 memory_run ReadFault i j o p long h = absurd long

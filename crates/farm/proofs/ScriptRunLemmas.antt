@@ -1,9 +1,10 @@
 -- What was read of input is the script that input told.
-use Rattle.std.proofs.Common.{◌≡◌, ◌⊎◌, inl, inr, ℕ, List, [], ◌∷◌, ◌++◌, Option, Err, refl, sym}
-use Rattle.std.proofs.Common.{subst, ◌∙◌}
+use Rattle.std.proofs.Common.{◌≡◌, ◌⊎◌, inl, inr, ℕ, List, [], ◌∷◌, ◌++◌, Option, Some, None, Err, refl}
+use Rattle.std.proofs.Common.{sym, ap, subst, ◌∙◌, take, arith}
 use Rattle.std.specs.Prelude.{IfSome, map}
 use Rattle.std.proofs.lemmas.Option.{IfSome_then}
-use Rattle.dist_types.specs.Content.{Added, Began}
+use Rattle.std.proofs.lemmas.List.{length-take, take-append-drop}
+use Rattle.dist_types.specs.Content.{Added, Began, TookAtMost, left_behind}
 use Rattle.farm_script.specs.declared.fault.FarmFault.{FarmFault}
 use Rattle.farm_script.specs.declared.fault.FarmFault.TheVariants.{Usage, BadLine, DuplicateAddress}
 use Rattle.farm_script.specs.declared.fault.FarmFault.TheVariants.{ScopedAddress, ReadFault, WriteFault}
@@ -18,7 +19,7 @@ use Rattle.farm_script.proofs.FirstFaultyLemmas.{first_faulty}
 use Rattle.farm_script.proofs.SpelledLemmas.{script_is_said}
 use Rattle.farm_entries.specs.RunText.{IsRunText, IsReadText}
 use Rattle.farm_script.specs.Setups.{AreApart}
-use Rattle.farm.specs.Command.{NamesLine, Side, IsReadWhole, IsFarmRun}
+use Rattle.farm.specs.Command.{NamesLine, Side, IsReadWhole, IsReadInPart, IsFarmRun}
 
 -- the first faulty line is named
 faulty_names : (done : List (List ℕ)) (said : List Line) (p : List ℕ) (f : FarmFault) → IsFaulty done said p f
@@ -82,6 +83,19 @@ moved : (v : List ℕ) (f : FarmFault) (o : Option (List ℕ)) → IfSome o (λ 
 moved v f o same first =
     IfSome_then o same (λ bytes e. (first_faulty bytes f).0 (sym e ∙ (first_faulty v f).1 first))
 
+took_limit : (limit : ℕ) (old : Option (List ℕ)) → TookAtMost limit old (left_behind limit old)
+took_limit limit None = ([], omega arith, refl)
+took_limit limit (Some bytes) = (
+  take limit bytes,
+  omega (arith, length-take limit bytes),
+  ap (λ (l : List ℕ). Some l) (sym (take-append-drop limit bytes)),
+)
+
+-- what is read whole is read to the limit at most
+pub whole_in_part : (input input_after : Side) → IsReadWhole input input_after → IsReadInPart input input_after
+whole_in_part input input_after read =
+    subst (TookAtMost 67108865 input.content) (sym read.0) (took_limit 67108865 input.content)
+
 -- why there was no run of what was read
 pub no_run : (f : FarmFault) (v : List ℕ) (input input_after out : Side) → IsReadWhole input input_after
     → IfSome input.content (λ bytes. script v ≡ script bytes) → (f ≡ Memory)
@@ -95,7 +109,7 @@ no_run (DuplicateAddress n) v input input_after out read same (inr h) =
 no_run (ScopedAddress n) v input input_after out read same (inl e) = absurd cc
 no_run (ScopedAddress n) v input input_after out read same (inr h) =
     (read, refl, moved v (ScopedAddress n) input.content same h.1)
-no_run Memory v input input_after out read same h = (read.1, refl)
+no_run Memory v input input_after out read same h = (read.1, refl, whole_in_part input input_after read)
 no_run Usage v input input_after out read same (inl e) = absurd cc
 no_run Usage v input input_after out read same (inr h) = absurd h.0
 no_run ReadFault v input input_after out read same (inl e) = absurd cc

@@ -3,7 +3,7 @@ use Rattle.std.specs.Prelude.{◌≡◌, ◌⊎◌, ℕ, ◌<◌, List, Option, 
 use Rattle.std.specs.Prelude.{codes}
 use Rattle.rand_core.specs.Stream.{Stream}
 use Rattle.dist_types.specs.Cause.{Rose}
-use Rattle.dist_types.specs.Content.{Added, Began, Recorded, KeptOrRecorded, left_behind}
+use Rattle.dist_types.specs.Content.{Added, Began, Recorded, KeptOrRecorded, TookAtMost, left_behind}
 use Rattle.dist_types.specs.declared.fault.Failed.{Failed}
 use Rattle.dist_config.specs.Serve.{scheduler_call, server_call}
 use Rattle.dist_config.specs.declared.serve.ServeCall.{ServeCall}
@@ -114,8 +114,13 @@ abbrev pub IsRefused : FarmFault → Side → Side → Side → Side → Type 0
 IsRefused f input input_after out out_after =
     IsReadWhole input input_after × (out_after ≡ out) × IfSome input.content (λ bytes. IsFirstFaulty bytes f)
 
+-- Of input no more was taken than one byte past the limit of scripts.
+abbrev pub IsReadInPart : Side → Side → Type 0
+IsReadInPart before after = TookAtMost 67108865 before.content after.content
+
 -- Input is read whole, before a line is judged; nothing is written before every line was. The text of the
--- script's run was written; or a fault has its cause.
+-- script's run was written; or a fault has its cause. Where reading failed or memory ran out, input was read
+-- in part at most.
 abbrev pub IsFarmRun : Result ⊤ FarmFault → Side → Side → Side → Side → Type 0
 IsFarmRun (Ok x) input input_after out out_after = IsReadWhole input input_after
     × (out_after.faults ≡ out.faults)
@@ -128,13 +133,13 @@ IsFarmRun (Err (DuplicateAddress n)) input input_after out out_after =
 IsFarmRun (Err (ScopedAddress n)) input input_after out out_after =
     IsRefused (ScopedAddress n) input input_after out out_after
 IsFarmRun (Err ReadFault) input input_after out out_after = Rose input.faults input_after.faults
-    × (out_after ≡ out)
+    × (out_after ≡ out) × IsReadInPart input input_after
 IsFarmRun (Err WriteFault) input input_after out out_after = IsReadWhole input input_after
     × Rose out.faults out_after.faults
     × IfSome input.content (λ bytes. (text : List ℕ) × IsRunText bytes text
     × Began text out.content out_after.content)
 IsFarmRun (Err Memory) input input_after out out_after = (input_after.faults ≡ input.faults)
-    × (out_after ≡ out)
+    × (out_after ≡ out) × IsReadInPart input input_after
 IsFarmRun (Err other) input input_after out out_after = ⊥
 
 -- ---- the storm

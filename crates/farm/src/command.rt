@@ -4,7 +4,7 @@ ghost use Rattle.std.specs.Prelude.{OnErr, Some, None, Ok, Err};
 ghost use Rattle.std.specs.Vec.Iter.{into_iter_items};
 ghost use Rattle.std.specs.IoError.{error_kind};
 ghost use Rattle.dist_types.specs.Cause.{Rose};
-ghost use Rattle.dist_types.specs.Content.{left_behind};
+ghost use Rattle.dist_types.specs.Content.{TookAtMost, left_behind};
 ghost use Rattle.dist_config.specs.Serve.{scheduler_call, server_call};
 ghost use Rattle.farm_script.specs.Script.{script};
 ghost use Rattle.farm_script.specs.FirstFaulty.{IsFirstFaulty, IsFaultless};
@@ -41,6 +41,7 @@ fn read_input<S: Source>(alloc: Global, input: &mut S) -> Result<Vec<u8>, FarmFa
     ensures left { OnOk result (S.left input.new ≡ left_behind 67108865 (S.left input.old)) }
     ensures err { IfErr result (λ f. ((f ≡ fault.Memory) × (S.faults input.new ≡ S.faults input.old))
         ⊎ ((f ≡ fault.ReadFault) × Rose (S.faults input.old) (S.faults input.new))) }
+    ensures part { OnErr result (TookAtMost 67108865 (S.left input.old) (S.left input.new)) }
     ensures steady { OnOk result (S.faults input.new ≡ S.faults input.old) }
 {
     match read_up_to(alloc, input, MAX_SCRIPT_BYTES + 1) {
