@@ -1,7 +1,7 @@
 //! What a build's process gave, and the files that it made.
 ghost use Rattle.std.specs.Prelude.{◌≡◌, ◌≢◌, ◌≤◌, ◌<◌, [], IfOk, IfSome, OnOk, OnErr, length, None, Err};
 ghost use Rattle.dist_types.specs.Cause.{Rose};
-ghost use Rattle.dist_types.specs.Content.{Taken, TookFront, IsAtEnd};
+ghost use Rattle.dist_types.specs.Content.{Taken, TookFront, TookAtMost, IsAtEnd};
 ghost use Rattle.dist_types.specs.Output.{output_in};
 ghost use Rattle.dist_types.specs.InMemory.{source_left, source_fails};
 
@@ -110,7 +110,8 @@ pub struct OutputDataLens {
 
 impl OutputData {
     /// All that a source has left, and its number: Failed only where the source's count of faults rose,
-    /// TooLong exactly where more than 1,073,741,824 bytes came. After an error a front was read.
+    /// TooLong exactly where more than 1,073,741,824 bytes came. After an error a front was read, of at most
+    /// one byte past that.
     pub fn try_from_reader<R: Source>(alloc: Global, reader: &mut R) -> Result<Self, ReadError>
         ensures all { IfOk result (λ d. Taken d.0 (R.left reader.old) (R.left reader.new)) }
         ensures at_end { OnOk result (IsAtEnd (R.left reader.new)) }
@@ -119,6 +120,7 @@ impl OutputData {
         ensures too_long { result ≡ Err ReadError.TooLong
             → IfSome (R.left reader.old) (λ left. 1073741824 < length left) }
         ensures front { OnErr result (TookFront (R.left reader.old) (R.left reader.new)) }
+        ensures bounded { OnErr result (TookAtMost 1073741825 (R.left reader.old) (R.left reader.new)) }
         ensures steady { OnOk result (R.faults reader.new ≡ R.faults reader.old) }
         ensures uncounted { result ≢ Err ReadError.Failed → R.faults reader.new ≡ R.faults reader.old }
         ensures apart { R.apart reader.new ≡ R.apart reader.old }

@@ -3,7 +3,7 @@ ghost use Rattle.std.specs.Prelude.{◌≡◌, ◌≤◌, ◌<◌, ◌+◌, ◌�
 ghost use Rattle.std.specs.Prelude.{IfSome, OnOk, OnErr, Option, Some, None, Err};
 ghost use Rattle.dist_types.specs.Cause.{Rose};
 ghost use Rattle.dist_types.specs.Real.{std_source_faults};
-ghost use Rattle.dist_types.specs.Content.{Taken, TookFront, IsAtEnd, left_behind};
+ghost use Rattle.dist_types.specs.Content.{Taken, TookFront, TookAtMost, IsAtEnd, left_behind};
 ghost use Rattle.dist_types.specs.declared.source.ReadError.TheVariants.{Failed, Memory};
 
 use crate::fault::{Failed, raise};
@@ -187,7 +187,7 @@ impl From<Failed> for ReadError {
 }
 
 /// Reads to the end, or as many bytes as the limit says: what is left is what stands behind the limit.
-/// Each turn reads a byte or ends.
+/// Each turn reads a byte or ends. After an error a front was read, of no more bytes than the limit.
 #[tactic(auto, using(crate::proofs::Contents::taken_then, crate::proofs::Contents::taken_none, crate::proofs::Contents::behind_limit))]
 pub fn read_up_to<S: Source>(
     alloc: Global,
@@ -204,6 +204,7 @@ pub fn read_up_to<S: Source>(
     ensures later { S.faults input.old ≤ S.faults input.new }
     ensures cause { result ≡ Err ReadError.Failed → Rose (S.faults input.old) (S.faults input.new) }
     ensures front { OnErr result (TookFront (S.left input.old) (S.left input.new)) }
+    ensures bounded { OnErr result (TookAtMost limit (S.left input.old) (S.left input.new)) }
     ensures never_long { IfErr result (λ e. ¬ (e ≡ ReadError.TooLong)) }
 {
     let mut out = Vec::new(alloc);
@@ -223,7 +224,8 @@ pub fn read_up_to<S: Source>(
 }
 
 /// All that a source has left. Failed only where the source's count of faults rose, TooLong exactly where
-/// more bytes than the limit came: then one byte past it was read. After another error a front was read.
+/// more bytes than the limit came: then one byte past it was read. After another error a front was read, of
+/// at most one byte past the limit.
 pub fn read_whole<S: Source>(alloc: Global, input: &mut S, limit: u32) -> Result<Vec<u8>, ReadError>
     ensures all { IfOk result (λ v. Taken v.items (S.left input.old) (S.left input.new)) }
     ensures at_end { OnOk result (IsAtEnd (S.left input.new)) }
@@ -233,6 +235,7 @@ pub fn read_whole<S: Source>(alloc: Global, input: &mut S, limit: u32) -> Result
     ensures rest { result ≡ Err ReadError.TooLong
         → S.left input.new ≡ left_behind (limit + 1) (S.left input.old) }
     ensures front { OnErr result (TookFront (S.left input.old) (S.left input.new)) }
+    ensures bounded { OnErr result (TookAtMost (limit + 1) (S.left input.old) (S.left input.new)) }
     ensures steady { OnOk result (S.faults input.new ≡ S.faults input.old) }
     ensures uncounted { result ≢ Err ReadError.Failed → S.faults input.new ≡ S.faults input.old }
     ensures apart { S.apart input.new ≡ S.apart input.old }

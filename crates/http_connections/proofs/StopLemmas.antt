@@ -1,18 +1,19 @@
 -- Lines, one byte after another, and the stop.
-use Rattle.std.proofs.Common.{◌≡◌, ℕ, ◌+◌, ◌<◌, Bool, true, false, cond, not, ◌&&◌, ◌||◌, ◌==◌, List, [], ◌∷◌}
+use Rattle.std.proofs.Common.{◌≡◌, ℕ, Bool, true, false, cond, not, ◌==◌, List, [], ◌∷◌}
 use Rattle.std.proofs.Common.{◌++◌, length, Option, Some, None, refl, sym, ap, ◌∙◌, append_assoc, arith}
 use Rattle.std.proofs.Common.{subst, ◌≢◌}
 use Rattle.std.specs.Prelude.{IfSome}
-use Rattle.std.specs.Option.{option_map}
 use Rattle.std.proofs.lemmas.Grind.{common_steps}
 use Rattle.std.proofs.lemmas.Bool.Decides.{nat_tests}
+use Rattle.std.proofs.lemmas.List.{append-nil}
 use Rattle.dist_types.specs.Content.{Taken}
-use Rattle.http_connections.specs.declared.scan.Line.{Line}
-use Rattle.http_connections.specs.declared.scan.Line.TheVariants.{Nothing, Cr, More}
-use Rattle.http_connections.specs.declared.scan.Scan.{Scan}
-use Rattle.http_connections.specs.Scan.{line_of, grown, is_more, Sees}
-use Rattle.http_head.specs.Stop.{Lines, one_more, lines_behind, lines_of, no_lines, is_empty, is_full}
-use Rattle.http_head.specs.Stop.{empty_after_full, ends_head, is_stop, stop_from, stop_of}
+use Rattle.dist_types.proofs.Contents.{taken_then}
+use Rattle.http_connections.specs.declared.scan.Line.TheVariants.{Cr, More}
+use Rattle.http_connections.specs.Scan.{line_of, grown, is_more}
+use Rattle.http_connections.specs.Taking.{TakesOfStop}
+use Rattle.http_head.specs.Cut.{Begins}
+use Rattle.http_head.specs.Stop.{Lines, one_more, lines_behind, lines_of, no_lines, is_empty}
+use Rattle.http_head.specs.Stop.{ends_head, is_stop, stop_from, stop_of}
 
 lines_behind-push : (ls : Lines) (bytes : List ℕ) (b : ℕ) → lines_behind ls (bytes ++ b ∷ []) ≡ one_more
     (lines_behind ls bytes) b
@@ -92,3 +93,52 @@ unfolding is_stop
 no_stop out b t is fails short =
     let a : (length (out ++ b ∷ []) == 65537) ≡ false = grind (arith, nat_tests, short) in
     rw (a, lines-push, ← is) fails
+
+pub begins_then : (a b c : List ℕ) → Begins a b → Begins b c → Begins a c
+begins_then a b c (r, e) (s, f) = (r ++ s, f ∙ (ap (λ x. x ++ s) e ∙ append_assoc a r s))
+
+-- the front begins what is a stop of it and the bytes
+front_begins : (front bytes : List ℕ) → Begins front (stop_from front bytes)
+front_begins front [] = ([], sym (append-nil front))
+front_begins front (b ∷ bytes) =
+    let more = front ++ b ∷ [] in
+    elim (is_stop more) as (λ t. Begins front (cond t more (stop_from more bytes))) [
+      | true ↦ (b ∷ [], refl)
+      | false ↦ begins_then front more (stop_from more bytes) (b ∷ [], refl) (front_begins more bytes)
+    ]
+
+-- and so does the front with one byte more
+byte_begins : (front bytes : List ℕ) (b : ℕ) → Begins (front ++ b ∷ []) (stop_from front (b ∷ bytes))
+byte_begins front bytes b =
+    let more = front ++ b ∷ [] in
+    elim (is_stop more) as (λ t. Begins more (cond t more (stop_from more bytes))) [
+      | true ↦ ([], sym (append-nil more))
+      | false ↦ front_begins more bytes
+    ]
+
+-- the bytes so far begin the stop
+pub so_far_within : (out : List ℕ) (first old new : Option (List ℕ)) → Taken out first old → GoesOn out old
+    → new ≡ old → IfSome first (λ bytes. TakesOfStop bytes new)
+so_far_within out None old new before goes same = tt
+so_far_within out (Some bytes) None new before goes same = absurd (cc before)
+so_far_within out (Some bytes) (Some left) new before goes same =
+    let all : bytes ≡ out ++ left = cc before in (
+      out,
+      subst (Begins out) (sym (ap stop_of all ∙ goes)) (front_begins out left),
+      subst (Taken out (Some bytes)) (sym same) before,
+    )
+
+-- and with the byte behind them
+pub byte_within : (out : List ℕ) (b : ℕ) (first old new : Option (List ℕ)) → Taken out first old
+    → Taken (b ∷ []) old new → GoesOn out old → IfSome first (λ bytes. TakesOfStop bytes new)
+byte_within out b None old new before taken goes = tt
+byte_within out b (Some bytes) None new before taken goes = absurd (cc before)
+byte_within out b (Some bytes) (Some left) None before taken goes = absurd (cc taken)
+byte_within out b (Some bytes) (Some left) (Some rest) before taken goes =
+    let all : bytes ≡ out ++ left = cc before in
+    let tail : left ≡ b ∷ rest = cc taken in (
+      out ++ b ∷ [],
+      subst (Begins (out ++ b ∷ [])) (sym (ap stop_of all ∙ (goes ∙ ap (stop_from out) tail)))
+          (byte_begins out rest b),
+      taken_then out (b ∷ []) (Some bytes) (Some left) (Some rest) before taken,
+    )

@@ -1,7 +1,7 @@
 -- The cut, put together from the stop, its head and the body.
 use Rattle.std.proofs.Common.{◌≡◌, ◌≢◌, ℕ, ◌+◌, ◌<◌, ◌≤◌, ◌⊎◌, List, [], ◌++◌, length, take, drop, Option}
-use Rattle.std.proofs.Common.{Some, None, refl, sym, ap, ◌∙◌, inl, inr, subst, map, arith}
-use Rattle.std.specs.Prelude.{IfSome}
+use Rattle.std.proofs.Common.{Some, None, refl, sym, ap, ◌∙◌, inl, inr, subst, map, arith, ◌-◌, append_assoc}
+use Rattle.std.specs.Prelude.{IfSome, OnErr, Result, Ok, Err}
 use Rattle.std.proofs.lemmas.List.{append-nil, length-drop, take_at, take_all}
 use Rattle.std.proofs.Math.Seq.{take-append-add, drop-length}
 use Rattle.httparse.specs.Grammar.{RequestHead, print_request}
@@ -11,12 +11,14 @@ use Rattle.dist_types.specs.Content.{Taken, IsAtEnd}
 use Rattle.dist_types.proofs.Contents.{taken_then}
 use Rattle.http_head.specs.declared.opening.Head.{Head}
 use Rattle.http_head.specs.declared.request.Request.{Request}
-use Rattle.http_head.specs.Cut.{IsCut}
+use Rattle.http_head.specs.Cut.{IsCut, Begins}
+use Rattle.http_head.proofs.CutLemmas.{shortest, one_cut}
 use Rattle.http_head.specs.Fields.{body_length}
 use Rattle.http_head.specs.Head.{Opens}
 use Rattle.http_head.specs.Opening.{Announces, AnnouncesNone, IsOpening, FindsOpening}
 use Rattle.http_head.specs.Stop.{stop_of}
-use Rattle.http_connections.specs.Taking.{IsBodyAt, TakesCut}
+use Rattle.http_connections.proofs.StopLemmas.{begins_then}
+use Rattle.http_connections.specs.Taking.{IsBodyAt, LacksBody, TakesCut, TakesOfStop, TakesWithin}
 
 -- the cut, which is the head h and the body
 pub record CutAt (bytes : List ℕ) (new : Option (List ℕ)) (h : RequestHead) (body : List ℕ)
@@ -157,3 +159,78 @@ is_no_request (Some bytes) mid new stop body head is before (h, x) behind other 
           let count : head.body_len ≡ length r.body = cc said in
           other (ap length same.1 ∙ sym count)),
     )
+
+-- a front of at most n bytes begins those that n bytes are taken of
+front_within : (front rest : List ℕ) (n : ℕ) → length front ≤ n → Begins front (take n (front ++ rest))
+front_within front rest n few =
+    let m : n ≡ length front + (n - length front) = omega (arith, few) in (
+      take (n - length front) rest,
+      ap (λ k. take k (front ++ rest)) m ∙ take-append-add front rest (n - length front),
+    )
+
+-- the stop begins the cut
+stop_in_cut : (bytes cut : List ℕ) → IsCut bytes cut → Begins (stop_of bytes) cut
+stop_in_cut bytes cut (inl (n, x, e)) =
+    let at = (shortest bytes).begins in
+    (take n at.0, e ∙ (ap (take (length (stop_of bytes) + n)) at.1 ∙ take-append-add (stop_of bytes) at.0 n))
+stop_in_cut bytes cut (inr (none, e)) = ([], e ∙ sym (append-nil (stop_of bytes)))
+
+-- what begins the stop begins the cut
+pub of_stop_within : (bytes : List ℕ) (new : Option (List ℕ)) → TakesOfStop bytes new → TakesWithin bytes new
+of_stop_within bytes new (front, begins, taken) =
+    (front, taken, (λ cut is. begins_then front (stop_of bytes) cut begins (stop_in_cut bytes cut is)))
+
+pub stop_within : (first new : Option (List ℕ)) → IfSome first (λ bytes. TakesOfStop bytes new)
+    → IfSome first (λ bytes. TakesWithin bytes new)
+stop_within None new took = tt
+stop_within (Some bytes) new took = of_stop_within bytes new took
+
+-- the stop, and no more
+pub whole_within : (first new : Option (List ℕ)) (stop : List ℕ)
+    → IfSome first (λ bytes. stop_of bytes ≡ stop) → Taken stop first new
+    → IfSome first (λ bytes. TakesWithin bytes new)
+whole_within None new stop is before = tt
+whole_within (Some bytes) new stop is before =
+    of_stop_within bytes new (stop, ([], is ∙ sym (append-nil stop)), before)
+
+-- the stop, which is a head, and a front of the body
+body_front : (bytes stop front : List ℕ) (mid new : Option (List ℕ)) (h : RequestHead) (n : ℕ)
+    → stop_of bytes ≡ stop → Taken stop (Some bytes) mid → Announces stop h [] n → Taken front mid new
+    → length front ≤ n → TakesWithin bytes new
+body_front bytes stop front None new h n is before announces behind few = absurd (cc before)
+body_front bytes stop front (Some left) None h n is before announces behind few = absurd (cc behind)
+body_front bytes stop front (Some left) (Some rest) h n is before announces behind few =
+    let first : bytes ≡ stop ++ left = cc before in
+    let second : left ≡ front ++ rest = cc behind in
+    let inside = front_within front rest n few in
+    let head : IsCut bytes (take (length (stop_of bytes) + n) bytes) =
+    inl (n, (h, subst (λ s. Opens s h []) (sym is) announces.opens, announces.body), refl) in
+    let whole : take (length stop + n) bytes ≡ stop ++ take n (front ++ rest) =
+    rw (first, second) (take-append-add stop (front ++ rest) n) in (
+      stop ++ front,
+      taken_then stop front (Some bytes) (Some left) (Some rest) before behind,
+      (λ cut which. (
+        inside.0,
+        one_cut bytes cut (take (length (stop_of bytes) + n) bytes) which head
+            ∙ (ap (λ s. take (length s + n) bytes) is
+            ∙ (whole ∙ (ap (λ l. stop ++ l) inside.1 ∙ sym (append_assoc stop front inside.0)))),
+      )),
+    )
+
+-- the stop, and what was taken of a body that was not made
+pub body_within : (first mid new : Option (List ℕ)) (stop : List ℕ) (head : Head)
+    → IfSome first (λ bytes. stop_of bytes ≡ stop) → Taken stop first mid → FindsOpening stop (Some head)
+    → LacksBody stop head.len head.body_len mid new
+    → IfSome first (λ bytes. TakesWithin bytes new)
+body_within None mid new stop head is before found lacks = tt
+body_within (Some bytes) mid new stop head is before (h, x) (inl (whole, (front, few, behind))) =
+    let nothing : drop head.len stop ≡ [] = ap (λ k. drop k stop) whole ∙ drop-length stop in
+    body_front bytes stop front mid new h head.body_len is before
+    (subst (λ r. Announces stop h r head.body_len) nothing x.announces) behind few
+body_within (Some bytes) mid new stop head is before found (inr same) =
+    whole_within (Some bytes) new stop is (subst (Taken stop (Some bytes)) (sym same) before)
+
+-- what holds whatever a result is holds of its error
+pub on_err : {T E : Type 0} (result : Result T E) {P : Type 0} → P → OnErr result P
+on_err (Ok x) p = tt
+on_err (Err e) p = p

@@ -6,7 +6,7 @@ use Rattle.dist_types.specs.declared.fault.Memory as want
 use Rattle.http_head.specs.declared.request.Request.{Request}
 use Rattle.http_routes.specs.Reply.{reply_text}
 use Rattle.http_routes.specs.declared.reply.Response.{Response}
-use Rattle.http_connections.specs.Taking.{TakesCut}
+use Rattle.http_connections.specs.Taking.{TakesCut, TakesWithin}
 use Rattle.http_connections.specs.declared.served.Served.{Served}
 use Rattle.http_connections.specs.declared.served.Served.TheVariants.{Answered, ReadFault, WriteFault, Memory}
 
@@ -21,23 +21,27 @@ pub record Shown : Type 0 where
 abbrev pub Took : Shown → Shown → Option Request → Type 0
 Took old new request = IfSome old.left (λ bytes. TakesCut bytes new.left request)
 
+-- a front of what was left was taken, and where the connection tells its bytes, none behind their cut
+abbrev pub TookPart : Shown → Shown → Type 0
+TookPart old new = TookFront old.left new.left × IfSome old.left (λ bytes. TakesWithin bytes new.left)
+
 -- the reply to what was taken, or that memory ran out before it was made
 abbrev pub MadeReply : Type 0
 MadeReply = Result Response want.Memory
 
--- Where memory ran out: a front of what was left was taken, and nothing asked; or one request was taken, and
+-- Where memory ran out: a front of the cut was taken, and nothing asked; or one request was taken, and
 -- by a relation of what the caller lends before and after it was answered, but its reply was not made, or its
 -- bytes were not.
 abbrev pub BreaksOff : {A : Type 0} → (Option Request → A → A → MadeReply → Type 0) → Shown → Shown → A → A
     → Type 0
 BreaksOff replies old new before after =
-    (TookFront old.left new.left × (after ≡ before))
+    (TookPart old new × (after ≡ before))
     ⊎ ((request : Option Request) × (made : MadeReply) × Took old new request
     × replies request before after made)
 
 -- One request was taken and replied to, by a relation of what the caller lends before and after, and the
--- whole reply written, or a front of it where writing failed; where reading failed, a front of what was left
--- was taken, nothing was asked and nothing written; where memory ran out, nothing was written.
+-- whole reply written, or a front of it where writing failed; where reading failed, a front of the cut was
+-- taken, nothing was asked and nothing written; where memory ran out, nothing was written.
 abbrev pub Serves : {A : Type 0} → (Option Request → A → A → MadeReply → Type 0) → Shown → Shown → A → A
     → Served → Type 0
 Serves replies old new before after Answered =
@@ -47,7 +51,7 @@ Serves replies old new before after WriteFault =
     Rose old.writes new.writes × (request : Option Request) × (reply : Response) × Took old new request
     × replies request before after (Ok reply) × Began (reply_text reply) old.held new.held
 Serves replies old new before after ReadFault = Rose old.reads new.reads × (new.held ≡ old.held)
-    × (after ≡ before) × TookFront old.left new.left
+    × (after ≡ before) × TookPart old new
 Serves replies old new before after Memory = (new.held ≡ old.held) × BreaksOff replies old new before after
 
 -- what serving a connection does, by its answer

@@ -1,8 +1,9 @@
 -- What is taken of a connection, and what it is read as.
 use Rattle.std.specs.Prelude.{◌≡◌, ◌⊎◌, ℕ, ◌≤◌, ◌<◌, List, length, drop, Option, Some, None}
-use Rattle.dist_types.specs.Content.{Taken, IsAtEnd}
-use Rattle.http_head.specs.Cut.{IsCut}
+use Rattle.dist_types.specs.Content.{Taken, TookAtMost, IsAtEnd}
+use Rattle.http_head.specs.Cut.{IsCut, Begins}
 use Rattle.http_head.specs.Head.{IsRequest, IsNoRequest}
+use Rattle.http_head.specs.Stop.{stop_of}
 use Rattle.http_head.specs.declared.request.Request.{Request}
 
 -- the request that the bytes are, or that they are none
@@ -14,9 +15,22 @@ Reads cut None = IsNoRequest cut
 abbrev pub TakesCut : List ℕ → Option (List ℕ) → Option Request → Type 0
 TakesCut bytes new request = (cut : List ℕ) × IsCut bytes cut × Taken cut (Some bytes) new × Reads cut request
 
+-- a front of the stop of the bytes was taken
+abbrev pub TakesOfStop : List ℕ → Option (List ℕ) → Type 0
+TakesOfStop bytes new = (front : List ℕ) × Begins front (stop_of bytes) × Taken front (Some bytes) new
+
+-- A front of the bytes was taken, and it begins their cut: no byte behind the cut was taken.
+abbrev pub TakesWithin : List ℕ → Option (List ℕ) → Type 0
+TakesWithin bytes new = (front : List ℕ) × Taken front (Some bytes) new
+    × ((cut : List ℕ) → IsCut bytes cut → Begins front cut)
+
 -- the body behind a head of so many bytes: where the head is the whole stop, up to n bytes of the connection,
 -- and fewer only at its end; else the rest of the stop
 abbrev pub IsBodyAt : List ℕ → ℕ → ℕ → List ℕ → Option (List ℕ) → Option (List ℕ) → Type 0
 IsBodyAt stop len n body old new =
     ((len ≡ length stop) × Taken body old new × (length body ≤ n) × ((length body ≡ n) ⊎ IsAtEnd new))
     ⊎ ((len < length stop) × (body ≡ drop len stop) × (new ≡ old))
+
+-- No body was made: up to n bytes of the connection were taken where the head is the whole stop, or none.
+abbrev pub LacksBody : List ℕ → ℕ → ℕ → Option (List ℕ) → Option (List ℕ) → Type 0
+LacksBody stop len n old new = ((len ≡ length stop) × TookAtMost n old new) ⊎ (new ≡ old)

@@ -4,6 +4,7 @@ ghost use Rattle.std.specs.Prelude.{option_to_list};
 ghost use Rattle.dist_types.specs.Cause.{Rose};
 ghost use Rattle.dist_types.specs.Content.{Taken, TookFront, IsAtEnd};
 ghost use Rattle.http_head.specs.Stop.{stop_of};
+ghost use Rattle.http_connections.specs.Taking.{TakesOfStop};
 
 use crate::scan::{ends, start, step};
 use dist_types::fault::Failed;
@@ -32,7 +33,7 @@ fn read_byte<S: Source>(link: &mut S) -> Result<Option<u8>, Failed>
 }
 
 /// Reads a byte at a time, up to the stop. Failed comes only where the count of faults rose, and TooLong
-/// never.
+/// never; after an error a front of the stop was taken.
 pub(crate) fn read_stop<S: Source>(alloc: Global, link: &mut S) -> Result<Vec<u8>, ReadError>
     ensures stop { IfOk result (λ s. IfSome (S.left link.old) (λ bytes. stop_of bytes ≡ s.items)) }
     ensures taken { IfOk result (λ s. Taken s.items (S.left link.old) (S.left link.new)) }
@@ -42,6 +43,8 @@ pub(crate) fn read_stop<S: Source>(alloc: Global, link: &mut S) -> Result<Vec<u8
     ensures later { S.faults link.old ≤ S.faults link.new }
     ensures cause { result ≡ Err ReadError.Failed → Rose (S.faults link.old) (S.faults link.new) }
     ensures front { OnErr result (TookFront (S.left link.old) (S.left link.new)) }
+    ensures within { OnErr result (IfSome (S.left link.old) (λ bytes.
+        TakesOfStop bytes (S.left link.new))) }
     ensures apart { S.apart link.new ≡ S.apart link.old }
 {
     let mut out = Vec::new(alloc);

@@ -3,7 +3,7 @@ ghost use Rattle.std.specs.Prelude.{◌≡◌, ◌≢◌, ◌≤◌, List, ℕ, 
 ghost use Rattle.std.specs.Prelude.{Err};
 ghost use Rattle.dist_types.specs.Cause.{Rose};
 ghost use Rattle.dist_types.specs.Content.{TookFront};
-ghost use Rattle.http_connections.specs.Taking.{TakesCut, IsBodyAt};
+ghost use Rattle.http_connections.specs.Taking.{TakesCut, TakesWithin, IsBodyAt, LacksBody};
 
 use crate::stop::read_stop;
 use dist_types::link::Link;
@@ -40,6 +40,8 @@ fn body_of<S: Source>(
     ensures cause { result ≡ Err ReadError.Failed → Rose (S.faults link.old) (S.faults link.new) }
     ensures never_long { IfErr result (λ e. ¬ (e ≡ ReadError.TooLong)) }
     ensures front { OnErr result (TookFront (S.left link.old) (S.left link.new)) }
+    ensures lacks { OnErr result (
+        LacksBody stop.now len limit (S.left link.old) (S.left link.new)) }
     ensures apart { S.apart link.new ≡ S.apart link.old }
 {
     if len == stop.len() {
@@ -71,8 +73,8 @@ fn request_of(head: Head, body: Vec<u8>) -> Request
 }
 
 /// Takes the cut of what the link has left: the request that it is, or None where it is no request. Failed
-/// comes only where the link's count of read faults rose, and TooLong never; after an error a front was
-/// taken. Nothing is written.
+/// comes only where the link's count of read faults rose, and TooLong never; after an error a front of the
+/// cut was taken. Nothing is written.
 pub fn take<L: Link>(alloc: Global, link: &mut L) -> Result<Option<Request>, ReadError>
     ensures cut { IfOk result (λ request. IfSome (L.left link.old) (λ bytes.
         TakesCut bytes (L.left link.new) request)) }
@@ -82,6 +84,8 @@ pub fn take<L: Link>(alloc: Global, link: &mut L) -> Result<Option<Request>, Rea
         → Rose (L.Source.faults link.old) (L.Source.faults link.new) }
     ensures never_long { IfErr result (λ e. ¬ (e ≡ ReadError.TooLong)) }
     ensures front { OnErr result (TookFront (L.left link.old) (L.left link.new)) }
+    ensures within { OnErr result (IfSome (L.left link.old) (λ bytes.
+        TakesWithin bytes (L.left link.new))) }
     ensures writes { (L.held link.new ≡ L.held link.old) × (L.Sink.faults link.new ≡ L.Sink.faults link.old) }
 {
     let stop = read_stop(alloc, link)?;

@@ -1,7 +1,8 @@
 use Rattle.std.proofs.Common.{◌≡◌, ◌++◌, ◌∷◌, [], length, ap, ◌∙◌, arith}
 use Rattle.dist_types.proofs.Contents.{taken_then}
 use Rattle.http_connections.proofs.StopLemmas.{lines-push, goes_on, stops, stop_by_end, stop_by_length}
-use Rattle.http_connections.proofs.StopLemmas.{no_stop}
+use Rattle.http_connections.proofs.StopLemmas.{no_stop, so_far_within, byte_within}
+use Rattle.http_connections.proofs.TakingLemmas.{on_err}
 use Rattle.http_connections.proofs.stop.read_stop.Goals as goal
 
 pub returns-in-Err-clause-front : goal.returns-in-Err-clause-front
@@ -42,3 +43,15 @@ loop-out-preserved g c =
       steady = c.in_ok-byte.ensures.steady ∙ before.steady;
       apart = c.read_byte.ensures.apart ∙ before.apart;
     }
+
+pub returns-in_err-byte-clause-within : goal.returns-in_err-byte-clause-within
+returns-in_err-byte-clause-within g c =
+    let before = c.loop-out.invariant in
+    on_err c.from_residual.result
+    (so_far_within _ _ _ _ before.taken before.goes c.in_err-byte.ensures.same)
+
+pub returns-in-Err-clause-within : goal.returns-in-Err-clause-within
+returns-in-Err-clause-within g c =
+    let before = c.loop-out.invariant in
+    byte_within _ c.in-Some.byte _ _ _ before.taken (rw c.in-Some.is at c.in_ok-byte.ensures.taken)
+    before.goes
