@@ -135,7 +135,7 @@ module _ (temp weak text : List ℕ) (apart : bytes_eq temp weak ≡ false) wher
       (subst (λ n. Rose n new.faults) same r.1, subst (λ n. n ≤ new.faults) same r.2)
   saved_fails done Memory old mid new w r =
       let same : mid.faults ≡ old.faults = ap (λ k. k.faults) w.0 in
-      subst (λ n. n ≤ new.faults) same r.1
+      omega (arith, same, r.1)
 
 -- ---- the same at equal paths
 

@@ -166,7 +166,7 @@ pub later_of : {T : Type 0} (result : Result T FolderFault) (old new : Held) →
 later_of (Ok x) old new h = omega (arith, h)
 later_of (Err Missing) old new h = h.1
 later_of (Err Failed) old new h = h.1
-later_of (Err Memory) old new h = h
+later_of (Err Memory) old new h = omega (arith, h)
 
 -- ---- what is only removed
 

@@ -118,8 +118,7 @@ counts_after E (Err Failed) one two three became steady counts =
     subst (λ n. Rose n three.faults × (n ≤ three.faults)) steady counts
 counts_after E (Err Missing) one two three became steady counts =
     (untold E one.files two.files became counts.0, subst (λ n. n ≤ three.faults) steady counts.1)
-counts_after E (Err Memory) one two three became steady counts =
-    subst (λ n. n ≤ three.faults) steady counts
+counts_after E (Err Memory) one two three became steady counts = counts ∙ steady
 
 pub under_then : (root : List ℕ) (one two three : Option Files) → Became (ButUnder root) one two
     → Became (ButUnder root) two three → Became (ButUnder root) one three

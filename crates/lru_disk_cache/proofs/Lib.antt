@@ -37,3 +37,4 @@ pub mod DiskSteps
 pub mod Insides
 pub mod Others
 pub mod Whole
+pub mod Spared

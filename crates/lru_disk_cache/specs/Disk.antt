@@ -85,12 +85,28 @@ abbrev pub Keeps : List ℕ → Entries → Files → Files → Type 0
 Keeps root entries old new = AllByRecursion (λ e. file_at new (root ++ e.0) ≡ file_at old (root ++ e.0))
     entries
 
+-- the file at each such path is removed or as it was
+abbrev pub RemovedOrSame : (List ℕ → Type 0) → Files → Files → Type 0
+RemovedOrSame P old new = (q bytes : List ℕ) → P q → file_at new q ≡ Some bytes → file_at old q ≡ Some bytes
+
+-- it is neither of these two paths
+abbrev pub IsNeither : List ℕ → List ℕ → List ℕ → Type 0
+IsNeither from path q = (bytes_eq from q ≡ false) × (bytes_eq path q ≡ false)
+
+-- it is no path of a temporary file under a root
+abbrev pub IsNoTemp : List ℕ → List ℕ → Type 0
+IsNoTemp root q = ¬ (IsTemp root q)
+
+-- it is no path of a temporary file under a root, and not this one
+abbrev pub IsBeside : List ℕ → List ℕ → List ℕ → Type 0
+IsBeside root path q = IsNoTemp root q × (bytes_eq path q ≡ false)
+
 -- Why a step failed: Failed only where the count rose, and Missing only where files are not told. The count
--- never falls.
+-- never falls, and want of memory leaves it.
 abbrev pub Caused : FolderFault → Held → Held → Type 0
 Caused Failed old new = Rose old.faults new.faults × (old.faults ≤ new.faults)
 Caused Missing old new = (old.files ≡ None) × (old.faults ≤ new.faults)
-Caused Memory old new = old.faults ≤ new.faults
+Caused Memory old new = new.faults ≡ old.faults
 
 -- a step that succeeds has no fault, and one that fails has its cause
 abbrev pub Counts : {T : Type 0} → Result T FolderFault → Held → Held → Type 0

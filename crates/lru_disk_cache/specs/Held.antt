@@ -29,7 +29,8 @@ Became part None new = new ≡ None
 Became part (Some old) new = (files : Files) × (new ≡ Some files) × part old files
 
 -- A call does this where it succeeds, and its files were not lacking. Missing says that they were, and leaves
--- all. Failed and Memory leave a part of what the call does, and Failed only where the count rose.
+-- all. Failed and Memory leave a part of what the call does; Failed comes only where the count rose, and
+-- Memory leaves it.
 abbrev pub Changes : {T : Type 0} → (Files → Type 0) → (Files → Files) → (Files → Files → Type 0)
     → Result T FolderFault → Held → Held → Type 0
 Changes lacking done part (Ok x) old new =
@@ -38,7 +39,7 @@ Changes lacking done part (Ok x) old new =
 Changes lacking done part (Err Missing) old new = (new ≡ old) × Holds old lacking
 Changes lacking done part (Err Failed) old new =
     Became part old.files new.files × Rose old.faults new.faults × (old.faults ≤ new.faults)
-Changes lacking done part (Err Memory) old new = Became part old.files new.files × (old.faults ≤ new.faults)
+Changes lacking done part (Err Memory) old new = Became part old.files new.files × (new.faults ≡ old.faults)
 
 -- the files became exactly what this makes of them
 abbrev pub BecameBy : (Files → Files) → Option Files → Option Files → Type 0

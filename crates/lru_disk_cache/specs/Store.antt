@@ -59,6 +59,10 @@ IoCause Failed old new = Rose old.faults new.faults
 IoCause Missing old new = old.files ≡ None
 IoCause Memory old new = ⊥
 
+-- want of memory leaves the count of faults as it was
+abbrev pub Uncounted : Error → Held → Held → Type 0
+Uncounted error old new = error ≡ NoMemory → new.faults ≡ old.faults
+
 -- whether a key may be stored with a size
 abbrev pub insert_verdict : Disk → List ℕ → ℕ → Result (Unit {0}) Error
 insert_verdict d key size =

@@ -4,6 +4,7 @@ ghost use Rattle.std.specs.Prelude.{OnErr};
 ghost use Rattle.lru_disk_cache.specs.Files.{file_at, without, appended, PartAppended};
 ghost use Rattle.lru_disk_cache.specs.Held.{Holds, Became, BecameBy, Lacks};
 ghost use Rattle.lru_disk_cache.specs.Key.{is_key};
+ghost use Rattle.lru_disk_cache.specs.Disk.{RemovedOrSame, IsNeither, IsNoTemp};
 ghost use Rattle.lru_disk_cache.specs.Disk.{ButAt, ButUnder, Keeps, dropped, files_placed, without_key};
 ghost use Rattle.lru_disk_cache.specs.Reserved.{held_size, is_pending, without_number, IsLeastFree};
 ghost use Rattle.lru_disk_cache.specs.Reserved.{KeepsReserved};
@@ -21,7 +22,7 @@ use crate::storing::{add_to, announce, fill, measure, remove_at};
 use dist_types::text::Text;
 
 impl<F: Folder> LruDiskCache<F> {
-    ghost use Rattle.lru_disk_cache.specs.Store.{IsStore, DiskInStep, room_beside, insert_verdict};
+    ghost use Rattle.lru_disk_cache.specs.Store.{IsStore, DiskInStep, room_beside, insert_verdict, Uncounted};
 
     /// Announces a file of this size under a key: the least recent go until it fits, and its size is held
     /// until it is committed or abandoned. Its temporary file is empty.
@@ -29,6 +30,7 @@ impl<F: Folder> LruDiskCache<F> {
     /// Refused as `Error::BadKey`, `Error::FileTooLarge` and `Error::PendingSpace`, in this order, which
     /// leave all as it was; then as `Error::Io` or for want of memory, which leave the list as it was, or
     /// some of the least recent gone, none more than had to go.
+    #[tactic(auto, using(crate::proofs::Spared::all_same))]
     pub fn prepare_add(&mut self, key: &str, size: u64) -> Result<LruDiskCacheAddEntry>
         ensures ok { IfOk result (λ e. self.new.disk ≡ prepared self.old.disk e) }
         ensures entry { IfOk result (λ e. (e.key ≡ key.now) × (e.size ≡ size)
@@ -50,7 +52,11 @@ impl<F: Folder> LruDiskCache<F> {
             (λ e. BecameBy (files_prepared self.old.disk.root (entry_path self.old.disk e)
             (dropped (room_beside self.old.disk size) self.old.disk.entries)) (F.held self.old.folder).files
             (F.held self.new.folder).files) }
+        ensures removed { Became (RemovedOrSame (IsNoTemp self.old.disk.root))
+            (F.held self.old.folder).files (F.held self.new.folder).files }
         ensures steady { OnOk result ((F.held self.new.folder).faults ≡ (F.held self.old.folder).faults) }
+        ensures uncounted { IfErr result
+            (λ e. Uncounted e (F.held self.old.folder) (F.held self.new.folder)) }
         ensures later { (F.held self.old.folder).faults ≤ (F.held self.new.folder).faults }
         ensures in_step { DiskInStep (F.held self.old.folder) self.old.disk
             → OnOk result (DiskInStep (F.held self.new.folder) self.new.disk) }
@@ -101,6 +107,8 @@ impl<F: Folder> LruDiskCache<F> {
         ensures reserved { Became (KeepsReserved (without_number entry.now.number self.old.disk.pending))
             (F.held self.old.folder).files (F.held self.new.folder).files }
         ensures steady { OnOk result ((F.held self.new.folder).faults ≡ (F.held self.old.folder).faults) }
+        ensures uncounted { IfErr result
+            (λ e. Uncounted e (F.held self.old.folder) (F.held self.new.folder)) }
         ensures later { (F.held self.old.folder).faults ≤ (F.held self.new.folder).faults }
         ensures in_step { DiskInStep (F.held self.old.folder) self.old.disk
             → OnOk result (DiskInStep (F.held self.new.folder) self.new.disk) }
@@ -149,7 +157,12 @@ impl<F: Folder> LruDiskCache<F> {
             (F.held self.old.folder).files (F.held self.new.folder).files }
         ensures others { Became (ButUnder self.old.disk.root) (F.held self.old.folder).files
             (F.held self.new.folder).files }
+        ensures removed { Became
+            (RemovedOrSame (IsNeither (entry_path self.old.disk entry) (self.old.disk.root ++ entry.key)))
+            (F.held self.old.folder).files (F.held self.new.folder).files }
         ensures steady { OnOk result ((F.held self.new.folder).faults ≡ (F.held self.old.folder).faults) }
+        ensures uncounted { IfErr result
+            (λ e. Uncounted e.0 (F.held self.old.folder) (F.held self.new.folder)) }
         ensures later { (F.held self.old.folder).faults ≤ (F.held self.new.folder).faults }
         ensures in_step { DiskInStep (F.held self.old.folder) self.old.disk
             → OnOk result (DiskInStep (F.held self.new.folder) self.new.disk) }
@@ -189,6 +202,8 @@ impl<F: Folder> LruDiskCache<F> {
         ensures reserved { Became (KeepsReserved (without_number entry.number self.old.disk.pending))
             (F.held self.old.folder).files (F.held self.new.folder).files }
         ensures steady { OnOk result ((F.held self.new.folder).faults ≡ (F.held self.old.folder).faults) }
+        ensures uncounted { IfErr result
+            (λ e. Uncounted e.0 (F.held self.old.folder) (F.held self.new.folder)) }
         ensures later { (F.held self.old.folder).faults ≤ (F.held self.new.folder).faults }
         ensures in_step { DiskInStep (F.held self.old.folder) self.old.disk
             → OnOk result (DiskInStep (F.held self.new.folder) self.new.disk) }
@@ -215,6 +230,8 @@ impl<F: Folder> LruDiskCache<F> {
             (F.held self.new.folder)) }
         ensures disk { self.new.disk ≡ self.old.disk }
         ensures files { (F.held self.new.folder).files ≡ (F.held self.old.folder).files }
+        ensures uncounted { IfErr result
+            (λ e. Uncounted e (F.held self.old.folder) (F.held self.new.folder)) }
         ensures later { (F.held self.old.folder).faults ≤ (F.held self.new.folder).faults }
     {
         let Some(temp) = self.pending.temp_of(entry) else {
@@ -254,6 +271,7 @@ impl<F: Folder> LruDiskCache<F> {
     }
 
     // What a commit does, but for spending the entry.
+    #[tactic(auto, using(crate::proofs::Spared::all_same))]
     fn commit_entry(&mut self, entry: &LruDiskCacheAddEntry) -> Result<()>
         ensures ok { OnOk result ((n : _) × HasSize self.old.disk entry.now (F.held self.old.folder) n
             × (commit_verdict self.old.disk entry.now n ≡ Ok tt)
@@ -280,7 +298,13 @@ impl<F: Folder> LruDiskCache<F> {
             (F.held self.old.folder).files (F.held self.new.folder).files }
         ensures others { Became (ButUnder self.old.disk.root) (F.held self.old.folder).files
             (F.held self.new.folder).files }
+        ensures removed { Became
+            (RemovedOrSame (IsNeither (entry_path self.old.disk entry.now)
+            (self.old.disk.root ++ entry.now.key))) (F.held self.old.folder).files
+            (F.held self.new.folder).files }
         ensures steady { OnOk result ((F.held self.new.folder).faults ≡ (F.held self.old.folder).faults) }
+        ensures uncounted { IfErr result
+            (λ e. Uncounted e (F.held self.old.folder) (F.held self.new.folder)) }
         ensures later { (F.held self.old.folder).faults ≤ (F.held self.new.folder).faults }
         ensures in_step { DiskInStep (F.held self.old.folder) self.old.disk
             → OnOk result (DiskInStep (F.held self.new.folder) self.new.disk) }

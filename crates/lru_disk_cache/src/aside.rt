@@ -12,7 +12,7 @@ use crate::folder::Folder;
 use crate::storing::measure;
 
 impl<F: Folder> LruDiskCache<F> {
-    ghost use Rattle.lru_disk_cache.specs.Store.{IsStore};
+    ghost use Rattle.lru_disk_cache.specs.Store.{IsStore, Uncounted};
 
     /// The content of a file of the folder. The cache stays as it is.
     pub(crate) fn read_aside(&mut self, path: &str) -> Result<Vec<u8>, FolderFault>
@@ -34,6 +34,8 @@ impl<F: Folder> LruDiskCache<F> {
         ensures files { (F.held self.new.folder).files ≡ (F.held self.old.folder).files }
         ensures fails { IfErr result
             (λ e. CallFails (Lacks path.now) e (F.held self.old.folder) (F.held self.new.folder)) }
+        ensures uncounted { IfErr result
+            (λ e. Uncounted e (F.held self.old.folder) (F.held self.new.folder)) }
         ensures later { (F.held self.old.folder).faults ≤ (F.held self.new.folder).faults }
         ensures disk { self.new.disk ≡ self.old.disk }
         ensures stands { IsStore (F.held self.new.folder) self.new.disk }

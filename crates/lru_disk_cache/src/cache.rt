@@ -10,6 +10,7 @@ ghost use Rattle.lru_disk_cache.specs.Held.{Holds, Became, BecameBy, Lacks};
 ghost use Rattle.lru_disk_cache.specs.Key.{is_key, temp_name};
 ghost use Rattle.lru_disk_cache.specs.Entries.{total, IsTable};
 ghost use Rattle.lru_disk_cache.specs.Opened.{InStep, Shows};
+ghost use Rattle.lru_disk_cache.specs.Disk.{RemovedOrSame, IsBeside};
 ghost use Rattle.lru_disk_cache.specs.Disk.{Stands, ButAt, ButUnder, IsTemp, Keeps, SameAt, staying, dropped};
 ghost use Rattle.lru_disk_cache.specs.Disk.{files_stored, without_key, OnlyRemoved, RemovedUnder};
 ghost use Rattle.lru_disk_cache.specs.Reserved.{held_size, KeepsReserved};
@@ -70,7 +71,7 @@ impl<F: Folder> Model for LruDiskCache<F> {
 impl<F: Folder> LruDiskCache<F> {
     ghost use Rattle.lru_disk_cache.specs.Store.{IsStore, DiskInStep, inserted, looked_up, removed};
     ghost use Rattle.lru_disk_cache.specs.Store.{opened_disk, insert_verdict, room_beside, OpenFails};
-    ghost use Rattle.lru_disk_cache.specs.Store.{InsertFails, LookUpFails, RemoveFails};
+    ghost use Rattle.lru_disk_cache.specs.Store.{InsertFails, LookUpFails, RemoveFails, Uncounted};
 
     /// Opens a cache of `size` bytes of the files below a path. Those are removed that are no key's or larger
     /// than that, and the least recent where the others exceed it. Where that fails, as `Error::Io` or for
@@ -94,6 +95,7 @@ impl<F: Folder> LruDiskCache<F> {
         ensures others { IfOk result
             (λ c. Became (ButUnder c.disk.root) (F.held folder).files (F.held c.folder).files) }
         ensures steady { IfOk result (λ c. (F.held c.folder).faults ≡ (F.held folder).faults) }
+        ensures uncounted { IfErr result (λ e. Uncounted e.0 (F.held folder) (F.held e.1)) }
         ensures later { IfErr result (λ e. (F.held folder).faults ≤ (F.held e.1).faults) }
         ensures fails { IfErr result (λ e. OpenFails e.0 (F.held folder) (F.held e.1)) }
         ensures left { IfErr result (λ e. Became (RemovedUnder (front path.now)) (F.held folder).files
@@ -199,6 +201,7 @@ impl<F: Folder> LruDiskCache<F> {
     /// leave all as it was; then as `Error::Io` or for want of memory, which leave the list as it was, or
     /// the key out and some of the least recent gone, none more than had to go. The file of the key is as
     /// it was or has all the bytes, never a part of them.
+    #[tactic(auto, using(crate::proofs::Spared::all_same))]
     pub fn insert_bytes(&mut self, key: &str, bytes: &[u8]) -> Result<()>
         ensures ok { OnOk result (self.new.disk ≡ inserted self.old.disk key.now (length bytes.now)) }
         ensures admits { OnOk result (insert_verdict self.old.disk key.now (length bytes.now) ≡ Ok tt) }
@@ -226,7 +229,12 @@ impl<F: Folder> LruDiskCache<F> {
             (dropped (room_beside self.old.disk (length bytes.now))
             (without_key key.now self.old.disk.entries))) (F.held self.old.folder).files
             (F.held self.new.folder).files) }
+        ensures removed { Became
+            (RemovedOrSame (IsBeside self.old.disk.root (self.old.disk.root ++ key.now)))
+            (F.held self.old.folder).files (F.held self.new.folder).files }
         ensures steady { OnOk result ((F.held self.new.folder).faults ≡ (F.held self.old.folder).faults) }
+        ensures uncounted { IfErr result
+            (λ e. Uncounted e (F.held self.old.folder) (F.held self.new.folder)) }
         ensures later { (F.held self.old.folder).faults ≤ (F.held self.new.folder).faults }
         ensures in_step { DiskInStep (F.held self.old.folder) self.old.disk
             → OnOk result (DiskInStep (F.held self.new.folder) self.new.disk) }
@@ -273,6 +281,8 @@ impl<F: Folder> LruDiskCache<F> {
             (BecameBy (touched (self.old.disk.root ++ key.now)) (F.held self.old.folder).files
             (F.held self.new.folder).files) }
         ensures steady { OnOk result ((F.held self.new.folder).faults ≡ (F.held self.old.folder).faults) }
+        ensures uncounted { IfErr result
+            (λ e. Uncounted e (F.held self.old.folder) (F.held self.new.folder)) }
         ensures later { (F.held self.old.folder).faults ≤ (F.held self.new.folder).faults }
         ensures in_step { DiskInStep (F.held self.old.folder) self.old.disk
             → OnOk result (DiskInStep (F.held self.new.folder) self.new.disk) }
@@ -299,6 +309,7 @@ impl<F: Folder> LruDiskCache<F> {
     ///
     /// Refused as `Error::Io`, only where the key is listed, which leaves it out, and for want of memory,
     /// which leaves the list as it was, or the key out.
+    #[tactic(auto, using(crate::proofs::Exactly::none_removed))]
     pub fn remove(&mut self, key: &str) -> Result<()>
         ensures ok { OnOk result (self.new.disk ≡ removed self.old.disk key.now) }
         ensures gone { OnOk result (IsSome (lookup (bytes_eq key.now) self.old.disk.entries)
@@ -317,7 +328,10 @@ impl<F: Folder> LruDiskCache<F> {
             (F.held self.new.folder).files) }
         ensures same { OnOk result (lookup (bytes_eq key.now) self.old.disk.entries ≡ None
             → F.held self.new.folder ≡ F.held self.old.folder) }
+        ensures removed { Became OnlyRemoved (F.held self.old.folder).files (F.held self.new.folder).files }
         ensures steady { OnOk result ((F.held self.new.folder).faults ≡ (F.held self.old.folder).faults) }
+        ensures uncounted { IfErr result
+            (λ e. Uncounted e (F.held self.old.folder) (F.held self.new.folder)) }
         ensures later { (F.held self.old.folder).faults ≤ (F.held self.new.folder).faults }
         ensures in_step { DiskInStep (F.held self.old.folder) self.old.disk
             → OnOk result (DiskInStep (F.held self.new.folder) self.new.disk) }

@@ -23,7 +23,7 @@ pub struct Found {
 ///
 /// Each call does what it says, or leaves a part of it where it fails; all other files stay, in their
 /// order. `FolderFault::Failed` comes only where the count of faults rose in the call, and
-/// `FolderFault::Memory` where memory ran out.
+/// `FolderFault::Memory` where memory ran out, which leaves that count.
 pub trait Folder {
     /// Its files, where it tells them, and its count of faults.
     ghost held: { Self → Held };

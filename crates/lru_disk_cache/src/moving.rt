@@ -8,6 +8,7 @@ ghost use Rattle.std.specs.Str.{bytes_eq};
 ghost use Rattle.lru_disk_cache.specs.Files.{file_at, touched};
 ghost use Rattle.lru_disk_cache.specs.Held.{Holds, Became, BecameBy};
 ghost use Rattle.lru_disk_cache.specs.Key.{names_temporary};
+ghost use Rattle.lru_disk_cache.specs.Disk.{RemovedOrSame, IsBeside, IsNeither};
 ghost use Rattle.lru_disk_cache.specs.Disk.{Avoids, ButUnderAnd, ButUnder, Keeps, SameAt, dropped};
 ghost use Rattle.lru_disk_cache.specs.Disk.{files_placed, without_key};
 ghost use Rattle.lru_disk_cache.specs.Reserved.{KeepsReserved};
@@ -25,7 +26,7 @@ use std::alloc::Global;
 
 impl<F: Folder> LruDiskCache<F> {
     ghost use Rattle.lru_disk_cache.specs.Store.{IsStore, DiskInStep, inserted, looked_up, room_beside};
-    ghost use Rattle.lru_disk_cache.specs.Store.{insert_verdict, LookUpFails};
+    ghost use Rattle.lru_disk_cache.specs.Store.{insert_verdict, LookUpFails, Uncounted};
 
     /// Stores a file of the folder under a key, as the most recent, by renaming it. The least recent go where
     /// they have to, and their files. Its path is neither that of the key's file nor of a listed key's, and
@@ -36,6 +37,7 @@ impl<F: Folder> LruDiskCache<F> {
     /// `Error::Io` or for want of memory, which leave the list as it was, or the key out and some of the
     /// least recent gone, none more than had to go. The file of the key is as it was or has all the bytes of
     /// that file.
+    #[tactic(auto, using(crate::proofs::Spared::all_same))]
     pub fn insert_file(&mut self, key: &str, path: &str) -> Result<()>
         requires apart { bytes_eq (self.old.disk.root ++ key.now) path.now ≡ false }
         requires avoids { Avoids self.old.disk.root path.now self.old.disk.entries }
@@ -60,7 +62,12 @@ impl<F: Folder> LruDiskCache<F> {
             (F.held self.new.folder).files }
         ensures others { Became (ButUnderAnd self.old.disk.root path.now) (F.held self.old.folder).files
             (F.held self.new.folder).files }
+        ensures removed { Became
+            (RemovedOrSame (IsNeither path.now (self.old.disk.root ++ key.now)))
+            (F.held self.old.folder).files (F.held self.new.folder).files }
         ensures steady { OnOk result ((F.held self.new.folder).faults ≡ (F.held self.old.folder).faults) }
+        ensures uncounted { IfErr result
+            (λ e. Uncounted e (F.held self.old.folder) (F.held self.new.folder)) }
         ensures later { (F.held self.old.folder).faults ≤ (F.held self.new.folder).faults }
         ensures in_step { DiskInStep (F.held self.old.folder) self.old.disk
             → OnOk result (DiskInStep (F.held self.new.folder) self.new.disk) }
@@ -96,6 +103,7 @@ impl<F: Folder> LruDiskCache<F> {
     ///
     /// Refused as `Error::BadKey`, before the closure is called; as `Error::WriterRefused` exactly where the
     /// closure refuses, which leaves all as it was; then as `insert_bytes` is.
+    #[tactic(auto, using(crate::proofs::Spared::all_same))]
     pub fn insert_with<W: FnOnce(&mut Vec<u8>) -> std::result::Result<(), WriteFault>>(
         &mut self,
         key: &str,
@@ -119,7 +127,12 @@ impl<F: Folder> LruDiskCache<F> {
             (F.held self.new.folder).files }
         ensures others { Became (ButUnder self.old.disk.root) (F.held self.old.folder).files
             (F.held self.new.folder).files }
+        ensures removed { Became
+            (RemovedOrSame (IsBeside self.old.disk.root (self.old.disk.root ++ key.now)))
+            (F.held self.old.folder).files (F.held self.new.folder).files }
         ensures steady { OnOk result ((F.held self.new.folder).faults ≡ (F.held self.old.folder).faults) }
+        ensures uncounted { IfErr result
+            (λ e. Uncounted e (F.held self.old.folder) (F.held self.new.folder)) }
         ensures later { (F.held self.old.folder).faults ≤ (F.held self.new.folder).faults }
         ensures in_step { DiskInStep (F.held self.old.folder) self.old.disk
             → OnOk result (DiskInStep (F.held self.new.folder) self.new.disk) }
@@ -153,6 +166,8 @@ impl<F: Folder> LruDiskCache<F> {
             (BecameBy (touched (self.old.disk.root ++ key.now)) (F.held self.old.folder).files
             (F.held self.new.folder).files) }
         ensures steady { OnOk result ((F.held self.new.folder).faults ≡ (F.held self.old.folder).faults) }
+        ensures uncounted { IfErr result
+            (λ e. Uncounted e (F.held self.old.folder) (F.held self.new.folder)) }
         ensures later { (F.held self.old.folder).faults ≤ (F.held self.new.folder).faults }
         ensures in_step { DiskInStep (F.held self.old.folder) self.old.disk
             → OnOk result (DiskInStep (F.held self.new.folder) self.new.disk) }

@@ -13,7 +13,8 @@ ghost use Rattle.lru_disk_cache.specs.Adding.{files_prepared, CallFails};
 ghost use Rattle.lru_disk_cache.specs.Disk.{Stands, Avoids, ButAt, ButListed, ButUnder, ButUnderAnd};
 ghost use Rattle.lru_disk_cache.specs.Disk.{ButThese, IsTemp, Keeps, Counts, Drops, stored, staying, dropped};
 ghost use Rattle.lru_disk_cache.specs.Disk.{without_each, files_placed, files_stored, without_key, Left};
-ghost use Rattle.lru_disk_cache.specs.Disk.{OnlyRemoved, RemovedAt, SameAt};
+ghost use Rattle.lru_disk_cache.specs.Disk.{OnlyRemoved, RemovedAt, SameAt, RemovedOrSame, IsNeither};
+ghost use Rattle.lru_disk_cache.specs.Store.{Uncounted};
 ghost use Rattle.lru_disk_cache.specs.Whole.{OldOr, OldOrMoved};
 
 use crate::error::{self, io};
@@ -70,6 +71,7 @@ pub(crate) fn measure<F: Folder>(folder: &mut F, path: &str) -> error::Result<u6
     ensures same { OnOk result (F.held folder.new ≡ F.held folder.old) }
     ensures files { (F.held folder.new).files ≡ (F.held folder.old).files }
     ensures fails { IfErr result (λ e. CallFails (Lacks path.now) e (F.held folder.old) (F.held folder.new)) }
+    ensures uncounted { IfErr result (λ e. Uncounted e (F.held folder.old) (F.held folder.new)) }
     ensures later { (F.held folder.old).faults ≤ (F.held folder.new).faults }
 {
     match folder.size(path) {
@@ -89,6 +91,7 @@ pub(crate) fn add_to<F: Folder>(folder: &mut F, path: &str, bytes: &[u8]) -> err
         (F.held folder.old).files (F.held folder.new).files }
     ensures fails { IfErr result (λ e. CallFails (Lacks path.now) e (F.held folder.old) (F.held folder.new)) }
     ensures steady { OnOk result ((F.held folder.new).faults ≡ (F.held folder.old).faults) }
+    ensures uncounted { IfErr result (λ e. Uncounted e (F.held folder.old) (F.held folder.new)) }
     ensures later { (F.held folder.old).faults ≤ (F.held folder.new).faults }
 {
     match folder.append(path, bytes) {
@@ -115,6 +118,7 @@ pub(crate) fn remove_at<F: Folder>(folder: &mut F, path: &str) -> Result<(), Fol
 }
 
 /// Drops the least recent entry and then its file.
+#[tactic(auto, using(crate::proofs::Exactly::none_removed))]
 fn drop_first<F: Folder>(folder: &mut F, table: &mut Table, root: &Text) -> Result<(), FolderFault>
     requires table { IsTable table.old }
     requires stands { Stands root.now (F.held folder.old) table.old.entries }
@@ -127,6 +131,7 @@ fn drop_first<F: Folder>(folder: &mut F, table: &mut Table, root: &Text) -> Resu
     ensures exact { OnOk result
         (BecameBy (without_each root.now (take 1 table.old.entries)) (F.held folder.old).files
         (F.held folder.new).files) }
+    ensures removed { Became OnlyRemoved (F.held folder.old).files (F.held folder.new).files }
     ensures counts { Counts result (F.held folder.old) (F.held folder.new) }
 {
     let Some((key, _)) = table.take_first() else {
@@ -136,6 +141,7 @@ fn drop_first<F: Folder>(folder: &mut F, table: &mut Table, root: &Text) -> Resu
 }
 
 /// Drops the least recent entries and their files until the others fit a limit.
+#[tactic(auto, using(crate::proofs::Exactly::none_removed))]
 pub(crate) fn make_room<F: Folder>(
     folder: &mut F,
     table: &mut Table,
@@ -148,6 +154,7 @@ pub(crate) fn make_room<F: Folder>(
     ensures drops { Drops root.now limit table.old table.new (F.held folder.old) (F.held folder.new) }
     ensures exact { OnOk result (BecameBy (without_each root.now (dropped limit table.old.entries))
         (F.held folder.old).files (F.held folder.new).files) }
+    ensures removed { Became OnlyRemoved (F.held folder.old).files (F.held folder.new).files }
     ensures counts { Counts result (F.held folder.old) (F.held folder.new) }
 {
     while table.size() > limit {
@@ -157,6 +164,7 @@ pub(crate) fn make_room<F: Folder>(
 }
 
 /// Lists a key as the most recent and puts the file in its place. Where that fails it is not listed.
+#[tactic(auto, using(crate::proofs::Spared::all_same))]
 pub(crate) fn place<F: Folder>(
     folder: &mut F,
     table: &mut Table,
@@ -194,6 +202,8 @@ pub(crate) fn place<F: Folder>(
         (F.held folder.new).files }
     ensures exact { OnOk result (BecameBy (moved arrival.now.from arrival.now.path) (F.held folder.old).files
         (F.held folder.new).files) }
+    ensures removed { Became (RemovedOrSame (IsNeither arrival.now.from arrival.now.path))
+        (F.held folder.old).files (F.held folder.new).files }
     ensures counts { Counts result (F.held folder.old) (F.held folder.new) }
 {
     let Ok(()) = table.push(listed, arrival.size) else {
@@ -227,6 +237,7 @@ pub(crate) fn write_temp<F: Folder>(
 }
 
 /// Takes the key out, makes room, and puts the file in its place.
+#[tactic(auto, using(crate::proofs::Spared::all_same))]
 pub(crate) fn fill<F: Folder>(
     folder: &mut F,
     table: &mut Table,
@@ -267,6 +278,8 @@ pub(crate) fn fill<F: Folder>(
         (BecameBy (files_placed root.now arrival.now.from arrival.now.path
         (dropped arrival.now.limit (without_key arrival.now.key table.old.entries))) (F.held folder.old).files
         (F.held folder.new).files) }
+    ensures removed { Became (RemovedOrSame (IsNeither arrival.now.from arrival.now.path))
+        (F.held folder.old).files (F.held folder.new).files }
     ensures counts { Counts result (F.held folder.old) (F.held folder.new) }
 {
     let listed = arrival.key.copy(root.alloc())?;
@@ -314,6 +327,8 @@ pub(crate) fn store<F: Folder>(
         (BecameBy (files_stored root.now arrival.now.from arrival.now.path bytes.now
         (dropped arrival.now.limit (without_key arrival.now.key table.old.entries))) (F.held folder.old).files
         (F.held folder.new).files) }
+    ensures removed { Became (RemovedOrSame (IsNeither arrival.now.from arrival.now.path))
+        (F.held folder.old).files (F.held folder.new).files }
     ensures counts { Counts result (F.held folder.old) (F.held folder.new) }
 {
     write_temp(folder, &arrival.path, &arrival.from, bytes)?;
@@ -345,6 +360,8 @@ pub(crate) fn announce<F: Folder>(
     ensures exact { OnOk result
         (BecameBy (files_prepared root.now arrival.now.from (dropped arrival.now.limit table.old.entries))
         (F.held folder.old).files (F.held folder.new).files) }
+    ensures removed { Became (RemovedOrSame (IsNeither arrival.now.from arrival.now.from))
+        (F.held folder.old).files (F.held folder.new).files }
     ensures counts { Counts result (F.held folder.old) (F.held folder.new) }
 {
     write_temp(folder, &arrival.path, &arrival.from, &[])?;
@@ -392,6 +409,8 @@ pub(crate) fn move_in<F: Folder>(
         (BecameBy (files_placed root.now arrival.now.from arrival.now.path
         (dropped arrival.now.limit (without_key arrival.now.key table.old.entries))) (F.held folder.old).files
         (F.held folder.new).files) }
+    ensures removed { Became (RemovedOrSame (IsNeither arrival.now.from arrival.now.path))
+        (F.held folder.old).files (F.held folder.new).files }
     ensures counts { Counts result (F.held folder.old) (F.held folder.new) }
 {
     folder.make_parents(arrival.path.get())?;

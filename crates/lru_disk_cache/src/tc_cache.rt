@@ -6,6 +6,7 @@ ghost use Rattle.std.specs.Str.{bytes_eq};
 ghost use Rattle.lru_disk_cache.specs.Files.{file_at, front, put, moved, PartWritten, DoneOrNot, Same};
 ghost use Rattle.lru_disk_cache.specs.Held.{Holds, Became, Lacks, Never, Changes};
 ghost use Rattle.lru_disk_cache.specs.Entries.{total, promoted_key};
+ghost use Rattle.lru_disk_cache.specs.Disk.{RemovedOrSame, IsBeside};
 ghost use Rattle.lru_disk_cache.specs.Disk.{ButUnder, OnlyRemoved, RemovedUnder, IsOutside, without_key};
 ghost use Rattle.lru_disk_cache.specs.Archives.{id_of, archive_path, opened_archives, paths_under, IsInStep};
 ghost use Rattle.lru_disk_cache.specs.Archives.{IsArchiveStore};
@@ -54,7 +55,7 @@ impl<F: Folder> Model for TcCache<F> {
 }
 
 impl<F: Folder> TcCache<F> {
-    ghost use Rattle.lru_disk_cache.specs.Store.{OpenFails};
+    ghost use Rattle.lru_disk_cache.specs.Store.{OpenFails, Uncounted};
 
     /// Opens a cache of `cache_size` bytes of the archives below a path, which is empty or a key. A file is
     /// removed that does not stand where its SHA-256 says or that is larger than that, and the least recent
@@ -83,6 +84,7 @@ impl<F: Folder> TcCache<F> {
             (F.held t.folder).files) }
         ensures stands { IfOk result (λ t. IsArchiveStore t.path t.capacity t.archives (F.held t.folder)) }
         ensures steady { IfOk result (λ t. (F.held t.folder).faults ≡ (F.held folder).faults) }
+        ensures uncounted { IfErr result (λ e. Uncounted e.0 (F.held folder) (F.held e.1)) }
         ensures later { IfErr result (λ e. (F.held folder).faults ≤ (F.held e.1).faults) }
         ensures fails { IfErr result (λ e. OpenFails e.0 (F.held folder) (F.held e.1)) }
         ensures left { IfErr result (λ e. Became (RemovedUnder (front cache_dir.now)) (F.held folder).files
@@ -164,6 +166,7 @@ impl<F: Folder> TcCache<F> {
     /// `Error::FileTooLarge`, in this order, which leave all as it was; then as `Error::Io` or for want of
     /// memory, which leave the list as it was, or the archive unlisted and some of the least recent gone,
     /// none more than had to go. The file of the archive is as it was or has all the bytes.
+    #[tactic(auto, using(crate::proofs::Spared::all_same))]
     pub fn insert_bytes(&mut self, tc: &Toolchain, bytes: &[u8]) -> Result<()>
         ensures ok { OnOk result (self.new.archives ≡ with_archive self.old.capacity tc.now
             (length bytes.now) self.old.archives) }
@@ -181,7 +184,12 @@ impl<F: Folder> TcCache<F> {
         ensures at { (self.new.path ≡ self.old.path) × (self.new.capacity ≡ self.old.capacity) }
         ensures others { Became (ButUnder (front self.old.path)) (F.held self.old.folder).files
             (F.held self.new.folder).files }
+        ensures removed { Became
+            (RemovedOrSame (IsBeside (front self.old.path) (archive_path self.old.path tc.now)))
+            (F.held self.old.folder).files (F.held self.new.folder).files }
         ensures steady { OnOk result ((F.held self.new.folder).faults ≡ (F.held self.old.folder).faults) }
+        ensures uncounted { IfErr result
+            (λ e. Uncounted e (F.held self.old.folder) (F.held self.new.folder)) }
         ensures later { (F.held self.old.folder).faults ≤ (F.held self.new.folder).faults }
         ensures stands { IsArchiveStore self.new.path self.new.capacity self.new.archives
             (F.held self.new.folder) }
@@ -215,6 +223,8 @@ impl<F: Folder> TcCache<F> {
         ensures others { Became (ButUnder (front self.old.path)) (F.held self.old.folder).files
             (F.held self.new.folder).files }
         ensures steady { OnOk result ((F.held self.new.folder).faults ≡ (F.held self.old.folder).faults) }
+        ensures uncounted { IfErr result
+            (λ e. Uncounted e (F.held self.old.folder) (F.held self.new.folder)) }
         ensures later { (F.held self.old.folder).faults ≤ (F.held self.new.folder).faults }
         ensures stands { IsArchiveStore self.new.path self.new.capacity self.new.archives
             (F.held self.new.folder) }
@@ -249,6 +259,8 @@ impl<F: Folder> TcCache<F> {
         ensures others { Became (ButUnder (front self.old.path)) (F.held self.old.folder).files
             (F.held self.new.folder).files }
         ensures steady { OnOk result ((F.held self.new.folder).faults ≡ (F.held self.old.folder).faults) }
+        ensures uncounted { IfErr result
+            (λ e. Uncounted e (F.held self.old.folder) (F.held self.new.folder)) }
         ensures later { (F.held self.old.folder).faults ≤ (F.held self.new.folder).faults }
         ensures stands { IsArchiveStore self.new.path self.new.capacity self.new.archives
             (F.held self.new.folder) }
@@ -263,6 +275,7 @@ impl<F: Folder> TcCache<F> {
     ///
     /// Refused as `Error::Io`, only where it is listed, which leaves it unlisted, and for want of memory,
     /// which leaves the list as it was, or the archive unlisted.
+    #[tactic(auto, using(crate::proofs::Exactly::none_removed))]
     pub fn remove(&mut self, tc: &Toolchain) -> Result<()>
         ensures ok { OnOk result (self.new.archives ≡ without_key tc.now self.old.archives) }
         ensures gone { OnOk result (IsSome (lookup (bytes_eq tc.now) self.old.archives)
@@ -275,7 +288,10 @@ impl<F: Folder> TcCache<F> {
         ensures at { (self.new.path ≡ self.old.path) × (self.new.capacity ≡ self.old.capacity) }
         ensures others { Became (ButUnder (front self.old.path)) (F.held self.old.folder).files
             (F.held self.new.folder).files }
+        ensures removed { Became OnlyRemoved (F.held self.old.folder).files (F.held self.new.folder).files }
         ensures steady { OnOk result ((F.held self.new.folder).faults ≡ (F.held self.old.folder).faults) }
+        ensures uncounted { IfErr result
+            (λ e. Uncounted e (F.held self.old.folder) (F.held self.new.folder)) }
         ensures later { (F.held self.old.folder).faults ≤ (F.held self.new.folder).faults }
         ensures stands { IsArchiveStore self.new.path self.new.capacity self.new.archives
             (F.held self.new.folder) }
@@ -294,6 +310,7 @@ impl<F: Folder> TcCache<F> {
     ///
     /// Refused as `Error::WriterRefused` exactly where the closure refuses, which leaves all as it was; then
     /// as `insert_bytes` is.
+    #[tactic(auto, using(crate::proofs::Spared::all_same))]
     pub fn insert_with<W: FnOnce(&mut Vec<u8>) -> std::result::Result<(), WriteFault>>(
         &mut self,
         tc: &Toolchain,
@@ -316,7 +333,12 @@ impl<F: Folder> TcCache<F> {
         ensures at { (self.new.path ≡ self.old.path) × (self.new.capacity ≡ self.old.capacity) }
         ensures others { Became (ButUnder (front self.old.path)) (F.held self.old.folder).files
             (F.held self.new.folder).files }
+        ensures removed { Became
+            (RemovedOrSame (IsBeside (front self.old.path) (archive_path self.old.path tc.now)))
+            (F.held self.old.folder).files (F.held self.new.folder).files }
         ensures steady { OnOk result ((F.held self.new.folder).faults ≡ (F.held self.old.folder).faults) }
+        ensures uncounted { IfErr result
+            (λ e. Uncounted e (F.held self.old.folder) (F.held self.new.folder)) }
         ensures later { (F.held self.old.folder).faults ≤ (F.held self.new.folder).faults }
         ensures stands { IsArchiveStore self.new.path self.new.capacity self.new.archives
             (F.held self.new.folder) }
@@ -350,7 +372,12 @@ impl<F: Folder> TcCache<F> {
         ensures at { (self.new.path ≡ self.old.path) × (self.new.capacity ≡ self.old.capacity) }
         ensures others { Became (ButUnder (front self.old.path)) (F.held self.old.folder).files
             (F.held self.new.folder).files }
+        ensures removed { Became
+            (RemovedOrSame (IsBeside (front self.old.path) (archive_path self.old.path (id_of bytes.now))))
+            (F.held self.old.folder).files (F.held self.new.folder).files }
         ensures steady { OnOk result ((F.held self.new.folder).faults ≡ (F.held self.old.folder).faults) }
+        ensures uncounted { IfErr result
+            (λ e. Uncounted e (F.held self.old.folder) (F.held self.new.folder)) }
         ensures later { (F.held self.old.folder).faults ≤ (F.held self.new.folder).faults }
         ensures stands { IsArchiveStore self.new.path self.new.capacity self.new.archives
             (F.held self.new.folder) }
@@ -421,6 +448,7 @@ impl<F: Folder> TcCache<F> {
     }
 
     // Stores bytes whose SHA-256 is the id of the toolchain.
+    #[tactic(auto, using(crate::proofs::Spared::all_same))]
     fn insert_verified(&mut self, tc: &Toolchain, bytes: &[u8]) -> Result<()>
         requires { id_of bytes.now ≡ tc.now }
         ensures ok { OnOk result (self.new.archives ≡ with_archive self.old.capacity tc.now
@@ -439,7 +467,12 @@ impl<F: Folder> TcCache<F> {
         ensures at { (self.new.path ≡ self.old.path) × (self.new.capacity ≡ self.old.capacity) }
         ensures others { Became (ButUnder (front self.old.path)) (F.held self.old.folder).files
             (F.held self.new.folder).files }
+        ensures removed { Became
+            (RemovedOrSame (IsBeside (front self.old.path) (archive_path self.old.path tc.now)))
+            (F.held self.old.folder).files (F.held self.new.folder).files }
         ensures steady { OnOk result ((F.held self.new.folder).faults ≡ (F.held self.old.folder).faults) }
+        ensures uncounted { IfErr result
+            (λ e. Uncounted e (F.held self.old.folder) (F.held self.new.folder)) }
         ensures later { (F.held self.old.folder).faults ≤ (F.held self.new.folder).faults }
         ensures stands { IsArchiveStore self.new.path self.new.capacity self.new.archives
             (F.held self.new.folder) }

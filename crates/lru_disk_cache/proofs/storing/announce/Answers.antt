@@ -3,6 +3,8 @@ use Rattle.lru_disk_cache.proofs.Fills.{keeps_temp, stands_kept, under_temp, und
 use Rattle.lru_disk_cache.proofs.Fills.{temp_avoided, temp_untouched, untouched_then, untouched_listed}
 use Rattle.lru_disk_cache.proofs.Fills.{both_keep, still_found}
 use Rattle.lru_disk_cache.proofs.Standing.{end_all}
+use Rattle.lru_disk_cache.specs.Disk.{IsNeither}
+use Rattle.lru_disk_cache.proofs.Spared.{beside_one, all_removed, one_then}
 use Rattle.lru_disk_cache.proofs.storing.announce.Goals as goal
 
 pub make_room-requires : goal.make_room-requires
@@ -77,3 +79,19 @@ returns-clause-kept g c =
     (g.F.Folder.held c.args.folder.now).files (g.F.Folder.held c.write_temp.new.folder).files
     c.requires.temp c.make_room.ensures.drops.stands.keys c.write_temp.ensures.others)
     c.make_room.ensures.drops.kept
+
+pub returns-in_err-write_temp-clause-removed : goal.returns-in_err-write_temp-clause-removed
+returns-in_err-write_temp-clause-removed g c =
+    beside_one c.args.arrival.now.from c.args.arrival.now.from (g.F.Folder.held c.args.folder.now).files
+    (g.F.Folder.held c.write_temp.new.folder).files c.write_temp.ensures.others
+
+pub returns-clause-removed : goal.returns-clause-removed
+returns-clause-removed g c =
+    one_then (IsNeither c.args.arrival.now.from c.args.arrival.now.from)
+    (g.F.Folder.held c.args.folder.now).files (g.F.Folder.held c.write_temp.new.folder).files
+    (g.F.Folder.held c.make_room.new.folder).files
+    (beside_one c.args.arrival.now.from c.args.arrival.now.from (g.F.Folder.held c.args.folder.now).files
+    (g.F.Folder.held c.write_temp.new.folder).files c.write_temp.ensures.others)
+    (all_removed (IsNeither c.args.arrival.now.from c.args.arrival.now.from)
+    (g.F.Folder.held c.write_temp.new.folder).files (g.F.Folder.held c.make_room.new.folder).files
+    c.make_room.ensures.removed)

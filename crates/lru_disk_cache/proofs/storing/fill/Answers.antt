@@ -1,12 +1,13 @@
 use Rattle.std.proofs.Common.{ap, subst, sym, ◌∙◌}
 use Rattle.std.specs.Str.{bytes_eq}
-use Rattle.lru_disk_cache.specs.Disk.{Stands}
+use Rattle.lru_disk_cache.specs.Disk.{Stands, IsNeither}
 use Rattle.lru_disk_cache.specs.Entries.{trim}
 use Rattle.lru_disk_cache.proofs.Fills.{from_kept, content_after, outside_listed, outside_then, kept_ok}
 use Rattle.lru_disk_cache.proofs.Fills.{left_err, listed_untouched, fill_untouched}
 use Rattle.lru_disk_cache.proofs.Standing.{stands_removed, avoids_removed, avoids_end, keeps_then, end_all}
 use Rattle.lru_disk_cache.proofs.Trims.{absent_end}
 use Rattle.lru_disk_cache.proofs.Whole.{listed_moved, listed_then_moved}
+use Rattle.lru_disk_cache.proofs.Spared.{all_removed, one_then}
 use Rattle.lru_disk_cache.proofs.storing.fill.Goals as goal
 
 pub make_room-requires : goal.make_room-requires
@@ -114,3 +115,18 @@ returns-clause-whole g c =
     (bytes_eq c.args.arrival.now.key) c.args.table.now.entries c.unlist.new.self.entries
     (ap (λ t. t.entries) c.unlist.ensures.entries) c.requires.avoids) c.make_room.ensures.drops.others
     c.place.ensures.whole
+
+pub returns-in_err-make_room-clause-removed : goal.returns-in_err-make_room-clause-removed
+returns-in_err-make_room-clause-removed g c =
+    all_removed (IsNeither c.args.arrival.now.from c.args.arrival.now.path)
+    (g.F.Folder.held c.args.folder.now).files (g.F.Folder.held c.make_room.new.folder).files
+    c.make_room.ensures.removed
+
+pub returns-clause-removed : goal.returns-clause-removed
+returns-clause-removed g c =
+    one_then (IsNeither c.args.arrival.now.from c.args.arrival.now.path)
+    (g.F.Folder.held c.args.folder.now).files (g.F.Folder.held c.make_room.new.folder).files
+    (g.F.Folder.held c.place.new.folder).files
+    (all_removed (IsNeither c.args.arrival.now.from c.args.arrival.now.path)
+    (g.F.Folder.held c.args.folder.now).files (g.F.Folder.held c.make_room.new.folder).files
+    c.make_room.ensures.removed) c.place.ensures.removed

@@ -1,6 +1,6 @@
 use Rattle.std.proofs.Common.{◌<◌, ◌≤◌, ◌∙◌, sym, arith}
 use Rattle.lru_disk_cache.specs.Entries.{total}
-use Rattle.lru_disk_cache.proofs.Exactly.{still_made, all_made}
+use Rattle.lru_disk_cache.proofs.Exactly.{still_made, all_made, removed_both}
 use Rattle.lru_disk_cache.proofs.Standing.{drops_more}
 use Rattle.lru_disk_cache.proofs.Trims.{trim_fits}
 use Rattle.lru_disk_cache.proofs.storing.make_room.Goals as goal
@@ -18,6 +18,9 @@ loop-folder-preserved g c =
           (g.F.Folder.held c.args.folder.now).files (g.F.Folder.held c.loop-folder.folder).files
           (g.F.Folder.held c.drop_first.new.folder).files over c.drop_first.ensures.rest
           c.loop-folder.invariant.2 c.in_ok-drop_first.ensures.exact,
+      removed_both (g.F.Folder.held c.args.folder.now).files (g.F.Folder.held c.loop-folder.folder).files
+          (g.F.Folder.held c.drop_first.new.folder).files c.loop-folder.invariant.3
+          c.drop_first.ensures.removed,
     )
 
 pub returns-in_err-drop_first-clause-drops : goal.returns-in_err-drop_first-clause-drops
@@ -42,3 +45,8 @@ returns-clause-exact g c =
     all_made c.args.root.now c.args.limit c.args.table.now.entries c.loop-folder.table.entries
     (g.F.Folder.held c.args.folder.now).files (g.F.Folder.held c.loop-folder.folder).files fits
     c.loop-folder.invariant.2
+
+pub returns-in_err-drop_first-clause-removed : goal.returns-in_err-drop_first-clause-removed
+returns-in_err-drop_first-clause-removed g c =
+    removed_both (g.F.Folder.held c.args.folder.now).files (g.F.Folder.held c.loop-folder.folder).files
+    (g.F.Folder.held c.drop_first.new.folder).files c.loop-folder.invariant.3 c.drop_first.ensures.removed

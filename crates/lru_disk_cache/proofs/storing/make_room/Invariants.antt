@@ -1,7 +1,8 @@
 -- What was dropped so far had to go, and there was no fault.
 use Rattle.std.proofs.Common.{◌≡◌, length}
 use Rattle.std.specs.Option.{option_map}
-use Rattle.lru_disk_cache.specs.Disk.{Drops, dropped, without_each}
+use Rattle.lru_disk_cache.specs.Held.{Became}
+use Rattle.lru_disk_cache.specs.Disk.{Drops, OnlyRemoved, dropped, without_each}
 use Rattle.lru_disk_cache.proofs.storing.make_room.Given as goal
 
 abbrev pub invariant-loop-folder : goal.invariant-loop-folder
@@ -11,6 +12,7 @@ invariant-loop-folder g l =
     × (option_map (without_each l.root (dropped l.limit l.table.entries)) (g.F.Folder.held l.folder).files
     ≡ option_map (without_each l.root (dropped l.limit l.fn.table.entries))
     (g.F.Folder.held l.fn.folder).files)
+    × Became OnlyRemoved (g.F.Folder.held l.fn.folder).files (g.F.Folder.held l.folder).files
 
 abbrev pub decreases-loop-folder : goal.decreases-loop-folder
 decreases-loop-folder g l = length l.table.entries

@@ -4,6 +4,8 @@ use Rattle.lru_disk_cache.proofs.Fills.{stands_kept, same_keeps, same_outside, s
 use Rattle.lru_disk_cache.proofs.Fills.{same_content, same_kept, same_left, outside_then, untouched_then}
 use Rattle.lru_disk_cache.proofs.Fills.{on_err}
 use Rattle.lru_disk_cache.proofs.Whole.{same_moved, same_then_moved}
+use Rattle.lru_disk_cache.specs.Disk.{IsNeither}
+use Rattle.lru_disk_cache.proofs.Spared.{all_kept, one_then}
 use Rattle.lru_disk_cache.proofs.storing.move_in.Goals as goal
 
 pub fill-requires-clause-stands : goal.fill-requires-clause-stands
@@ -107,3 +109,20 @@ returns-clause-whole g c =
     (g.F.Folder.held c.make_parents.new.self).files (g.F.Folder.held c.fill.new.folder).files
     (left_same Never c.make_parents.result (g.F.Folder.held c.args.folder.now)
     (g.F.Folder.held c.make_parents.new.self) c.make_parents.ensures.leaves) c.fill.ensures.whole
+
+pub returns-in_err-make_parents-clause-removed : goal.returns-in_err-make_parents-clause-removed
+returns-in_err-make_parents-clause-removed g c =
+    all_kept (IsNeither c.args.arrival.now.from c.args.arrival.now.path)
+    (g.F.Folder.held c.args.folder.now).files (g.F.Folder.held c.make_parents.new.self).files
+    (left_same Never c.make_parents.result (g.F.Folder.held c.args.folder.now)
+    (g.F.Folder.held c.make_parents.new.self) c.make_parents.ensures.leaves)
+
+pub returns-clause-removed : goal.returns-clause-removed
+returns-clause-removed g c =
+    one_then (IsNeither c.args.arrival.now.from c.args.arrival.now.path)
+    (g.F.Folder.held c.args.folder.now).files (g.F.Folder.held c.make_parents.new.self).files
+    (g.F.Folder.held c.fill.new.folder).files
+    (all_kept (IsNeither c.args.arrival.now.from c.args.arrival.now.path)
+    (g.F.Folder.held c.args.folder.now).files (g.F.Folder.held c.make_parents.new.self).files
+    (left_same Never c.make_parents.result (g.F.Folder.held c.args.folder.now)
+    (g.F.Folder.held c.make_parents.new.self) c.make_parents.ensures.leaves)) c.fill.ensures.removed

@@ -5,6 +5,7 @@ use Rattle.lru_disk_cache.specs.Entries.{Listed}
 use Rattle.lru_disk_cache.proofs.Renames.{renamed, Carried}
 use Rattle.lru_disk_cache.proofs.Trims.{undone}
 use Rattle.lru_disk_cache.proofs.Whole.{renamed_whole}
+use Rattle.lru_disk_cache.proofs.Spared.{renamed_removed}
 use Rattle.lru_disk_cache.proofs.storing.place.Goals as goal
 
 pub returns-in-Ok-rename-clause-stands : goal.returns-in-Ok-rename-clause-stands
@@ -122,5 +123,17 @@ returns-in-Ok-rename-clause-whole g c =
 pub returns-in-Err-clause-whole : goal.returns-in-Err-clause-whole
 returns-in-Err-clause-whole g c =
     renamed_whole c.get.result.now c.args.arrival.now.from c.get-2.result.now c.args.arrival.now.path
+    (Err c.in-Err.fault) (g.F.Folder.held c.args.folder.now) (g.F.Folder.held c.rename.new.self)
+    c.get.ensures.text c.get-2.ensures.text c.in-Err.ensures.renames
+
+pub returns-in-Ok-rename-clause-removed : goal.returns-in-Ok-rename-clause-removed
+returns-in-Ok-rename-clause-removed g c =
+    renamed_removed c.get.result.now c.args.arrival.now.from c.get-2.result.now c.args.arrival.now.path
+    (Ok c.in-Ok-rename.field-0) (g.F.Folder.held c.args.folder.now) (g.F.Folder.held c.rename.new.self)
+    c.get.ensures.text c.get-2.ensures.text c.in-Ok-rename.ensures.renames
+
+pub returns-in-Err-clause-removed : goal.returns-in-Err-clause-removed
+returns-in-Err-clause-removed g c =
+    renamed_removed c.get.result.now c.args.arrival.now.from c.get-2.result.now c.args.arrival.now.path
     (Err c.in-Err.fault) (g.F.Folder.held c.args.folder.now) (g.F.Folder.held c.rename.new.self)
     c.get.ensures.text c.get-2.ensures.text c.in-Err.ensures.renames

@@ -4,6 +4,8 @@ use Rattle.lru_disk_cache.proofs.Fills.{under_both, kept_behind, left_behind, co
 use Rattle.lru_disk_cache.proofs.Fills.{temp_untouched, store_untouched}
 use Rattle.lru_disk_cache.proofs.Whole.{temp_new, written_whole}
 use Rattle.std.specs.Option.{option_map}
+use Rattle.lru_disk_cache.specs.Disk.{IsNeither}
+use Rattle.lru_disk_cache.proofs.Spared.{beside_one, one_then}
 use Rattle.lru_disk_cache.proofs.storing.store.Goals as goal
 
 pub returns-in_err-write_temp-clause-stands : goal.returns-in_err-write_temp-clause-stands
@@ -100,3 +102,16 @@ returns-clause-whole g c =
     (temp_apart c.args.root.now c.args.arrival.now.path c.args.arrival.now.key c.args.arrival.now.from
     c.requires.temp c.requires.path c.requires.key) c.write_temp.ensures.others
     c.in_ok-write_temp.ensures.written c.fill.ensures.whole
+
+pub returns-in_err-write_temp-clause-removed : goal.returns-in_err-write_temp-clause-removed
+returns-in_err-write_temp-clause-removed g c =
+    beside_one c.args.arrival.now.from c.args.arrival.now.path (g.F.Folder.held c.args.folder.now).files
+    (g.F.Folder.held c.write_temp.new.folder).files c.write_temp.ensures.others
+
+pub returns-clause-removed : goal.returns-clause-removed
+returns-clause-removed g c =
+    one_then (IsNeither c.args.arrival.now.from c.args.arrival.now.path)
+    (g.F.Folder.held c.args.folder.now).files (g.F.Folder.held c.write_temp.new.folder).files
+    (g.F.Folder.held c.fill.new.folder).files
+    (beside_one c.args.arrival.now.from c.args.arrival.now.path (g.F.Folder.held c.args.folder.now).files
+    (g.F.Folder.held c.write_temp.new.folder).files c.write_temp.ensures.others) c.fill.ensures.removed

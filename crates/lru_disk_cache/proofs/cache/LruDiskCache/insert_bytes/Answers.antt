@@ -1,10 +1,12 @@
-use Rattle.std.proofs.Common.{rules, ◌+◌, ◌≤◌, ◌∙◌, ap, subst, arith}
+use Rattle.std.proofs.Common.{rules, ◌+◌, ◌≤◌, ◌++◌, ◌∙◌, ap, subst, arith}
 use Rattle.lru_disk_cache.specs.Held.{Became}
 use Rattle.lru_disk_cache.specs.Reserved.{held_size, KeepsReserved}
 use Rattle.lru_disk_cache.proofs.Reserving.{these_reserved}
 use Rattle.lru_disk_cache.proofs.Stores.{insert_store, stored_exact}
 use Rattle.lru_disk_cache.proofs.DiskSteps.{step_stored}
 use Rattle.lru_disk_cache.proofs.Insides.{disk_of}
+use Rattle.lru_disk_cache.specs.Disk.{RemovedOrSame, IsBeside}
+use Rattle.lru_disk_cache.proofs.Spared.{beside_temp}
 use Rattle.lru_disk_cache.proofs.cache.LruDiskCache.insert_bytes.Goals as goal
 
 pub invariant_of-self : goal.invariant_of-self
@@ -105,3 +107,21 @@ returns-in-Ok-store-clause-in_step g c =
     (g.F.Folder.held c.store.new.folder) c.args.key.now c.args.bytes.now
     c.shown.ensures.stands.stands.keys c.in-Ok.ensures.key c.shown.ensures.distinct
     (returns-in-Ok-store-clause-ok g c) (returns-in-Ok-store-clause-exact g c)
+
+pub returns-in-Ok-store-clause-removed : goal.returns-in-Ok-store-clause-removed
+returns-in-Ok-store-clause-removed g c =
+    subst (λ s. Became (RemovedOrSame (IsBeside s.disk.root (s.disk.root ++ c.args.key.now)))
+    (g.F.Folder.held s.folder).files (g.F.Folder.held c.store.new.folder).files) c.self.view_is
+    (beside_temp c.self.inside.root c.in-Ok-arrival_of.arrival.from c.in-Ok-arrival_of.arrival.path
+    (c.self.inside.root ++ c.args.key.now) (g.F.Folder.held c.self.inside.folder).files
+    (g.F.Folder.held c.store.new.folder).files c.in-Ok-arrival_of.ensures.temp
+    c.in-Ok-arrival_of.ensures.path c.store.ensures.removed)
+
+pub returns-clause-removed : goal.returns-clause-removed
+returns-clause-removed g c =
+    subst (λ s. Became (RemovedOrSame (IsBeside s.disk.root (s.disk.root ++ c.args.key.now)))
+    (g.F.Folder.held s.folder).files (g.F.Folder.held c.store.new.folder).files) c.self.view_is
+    (beside_temp c.self.inside.root c.in-Ok-arrival_of.arrival.from c.in-Ok-arrival_of.arrival.path
+    (c.self.inside.root ++ c.args.key.now) (g.F.Folder.held c.self.inside.folder).files
+    (g.F.Folder.held c.store.new.folder).files c.in-Ok-arrival_of.ensures.temp
+    c.in-Ok-arrival_of.ensures.path c.store.ensures.removed)

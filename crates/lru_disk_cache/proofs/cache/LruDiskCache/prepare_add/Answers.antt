@@ -7,6 +7,8 @@ use Rattle.lru_disk_cache.specs.Store.{IsStore}
 use Rattle.lru_disk_cache.proofs.Reserving.{temp_reserved}
 use Rattle.lru_disk_cache.proofs.Stores.{disk_of, announced_store, prepared_store}
 use Rattle.lru_disk_cache.proofs.DiskSteps.{step_prepared}
+use Rattle.lru_disk_cache.specs.Disk.{RemovedOrSame, IsNoTemp}
+use Rattle.lru_disk_cache.proofs.Spared.{but_temps}
 use Rattle.lru_disk_cache.proofs.cache.LruDiskCache.prepare_add.Goals as goal
 
 pub invariant_of-self : goal.invariant_of-self
@@ -126,3 +128,27 @@ returns-clause-in_step g c =
     c.in-Ok-arrival_of.ensures.number (ap (λ e. e.number) c.new.ensures)
     (returns-clause-entry g c).1 c.shown.ensures.distinct (returns-clause-ok g c)
     (returns-clause-exact g c)
+
+pub returns-in-Err-announce-clause-removed : goal.returns-in-Err-announce-clause-removed
+returns-in-Err-announce-clause-removed g c =
+    subst (λ s. Became (RemovedOrSame (IsNoTemp s.disk.root)) (g.F.Folder.held s.folder).files
+    (g.F.Folder.held c.announce.new.folder).files) c.self.view_is
+    (but_temps c.self.inside.root c.in-Ok-arrival_of.arrival.from
+    (g.F.Folder.held c.self.inside.folder).files (g.F.Folder.held c.announce.new.folder).files
+    c.in-Ok-arrival_of.ensures.temp c.announce.ensures.removed)
+
+pub returns-in_default-push-clause-removed : goal.returns-in_default-push-clause-removed
+returns-in_default-push-clause-removed g c =
+    subst (λ s. Became (RemovedOrSame (IsNoTemp s.disk.root)) (g.F.Folder.held s.folder).files
+    (g.F.Folder.held c.announce.new.folder).files) c.self.view_is
+    (but_temps c.self.inside.root c.in-Ok-arrival_of.arrival.from
+    (g.F.Folder.held c.self.inside.folder).files (g.F.Folder.held c.announce.new.folder).files
+    c.in-Ok-arrival_of.ensures.temp c.announce.ensures.removed)
+
+pub returns-clause-removed : goal.returns-clause-removed
+returns-clause-removed g c =
+    subst (λ s. Became (RemovedOrSame (IsNoTemp s.disk.root)) (g.F.Folder.held s.folder).files
+    (g.F.Folder.held c.announce.new.folder).files) c.self.view_is
+    (but_temps c.self.inside.root c.in-Ok-arrival_of.arrival.from
+    (g.F.Folder.held c.self.inside.folder).files (g.F.Folder.held c.announce.new.folder).files
+    c.in-Ok-arrival_of.ensures.temp c.announce.ensures.removed)

@@ -1,4 +1,4 @@
-use Rattle.std.proofs.Common.{rules, IsSome, ap, sym, subst, ◌∙◌}
+use Rattle.std.proofs.Common.{rules, ◌++◌, IsSome, ap, sym, subst, ◌∙◌}
 use Rattle.lru_disk_cache.specs.Held.{Became}
 use Rattle.lru_disk_cache.specs.Disk.{Keeps}
 use Rattle.lru_disk_cache.specs.Reserved.{KeepsReserved}
@@ -9,6 +9,8 @@ use Rattle.lru_disk_cache.proofs.Trims.{none_out}
 use Rattle.std.specs.Map.{lookup}
 use Rattle.std.specs.Str.{bytes_eq}
 use Rattle.lru_disk_cache.proofs.DiskSteps.{step_removed}
+use Rattle.lru_disk_cache.specs.Disk.{OnlyRemoved}
+use Rattle.lru_disk_cache.proofs.Spared.{only_removed}
 use Rattle.lru_disk_cache.proofs.cache.LruDiskCache.remove.Goals as goal
 
 pub returns-then-not-contains-clause-ok : goal.returns-then-not-contains-clause-ok
@@ -90,3 +92,17 @@ returns-in-Ok-remove_file-clause-in_step g c =
     step_removed c.args.self.now.disk _ (g.F.Folder.held c.args.self.now.folder)
     (g.F.Folder.held c.remove_file.new.folder) c.args.key.now c.shown.ensures.distinct
     (returns-in-Ok-remove_file-clause-ok g c) (returns-in-Ok-remove_file-clause-exact g c listed)
+
+pub returns-in-Ok-remove_file-clause-removed : goal.returns-in-Ok-remove_file-clause-removed
+returns-in-Ok-remove_file-clause-removed g c =
+    subst (λ s. Became OnlyRemoved (g.F.Folder.held s.folder).files
+    (g.F.Folder.held c.remove_file.new.folder).files) c.self.view_is
+    (only_removed (c.self.inside.root ++ c.in-Ok.key) (g.F.Folder.held c.self.inside.folder).files
+    (g.F.Folder.held c.remove_file.new.folder).files c.remove_file.ensures.part)
+
+pub returns-clause-removed : goal.returns-clause-removed
+returns-clause-removed g c =
+    subst (λ s. Became OnlyRemoved (g.F.Folder.held s.folder).files
+    (g.F.Folder.held c.remove_file.new.folder).files) c.self.view_is
+    (only_removed (c.self.inside.root ++ c.in-Ok.key) (g.F.Folder.held c.self.inside.folder).files
+    (g.F.Folder.held c.remove_file.new.folder).files c.remove_file.ensures.part)
