@@ -1,0 +1,8 @@
+use Rattle.std.proofs.lemmas.Result.{on_ok_weaker}
+use Rattle.dist_wire.proofs.Joins.{four}
+use Rattle.dist_wire.proofs.run.CompileCommandCodec.encode.Goals as goal
+
+pub returns-clause-written : goal.returns-clause-written
+returns-clause-written c =
+    on_ok_weaker c.encode-4.result (four _ _ _ _ _ _ _ _ _ c.in_ok-encode.ensures.written
+    c.in_ok-encode-2.ensures.written c.in_ok-encode-3.ensures.written) c.encode-4.ensures.written
