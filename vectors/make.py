@@ -1,6 +1,6 @@
-"""Writes crates/token_tests/src/vectors.rt: tokens made by Python's hmac, hashlib and base64.
+"""Writes crates/test_tokens/src/vectors.rt: tokens made by Python's hmac, hashlib and base64.
 
-    python3 vectors/make.py > crates/token_tests/src/vectors.rt
+    python3 vectors/make.py > crates/test_tokens/src/vectors.rt
 
 The random numbers come from a fixed seed, so each run writes the same table. Every row is checked once
 more before it is written: the token is cut at its dots, decoded, and its MAC compared by

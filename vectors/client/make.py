@@ -1,10 +1,10 @@
 #!/usr/bin/env python3
-"""Writes the steps of the programs `toolchain_tests` and `client_tests`, or what they must write for them.
+"""Writes the steps of the programs `test_toolchains` and `test_client`, or what they must write for them.
 
-    python3 vectors/client/make.py toolchains steps > crates/toolchain_tests/stdin
-    python3 vectors/client/make.py toolchains told > crates/toolchain_tests/stdout
-    python3 vectors/client/make.py calls steps > crates/client_tests/stdin
-    python3 vectors/client/make.py calls told > crates/client_tests/stdout
+    python3 vectors/client/make.py toolchains steps > crates/test_toolchains/stdin
+    python3 vectors/client/make.py toolchains told > crates/test_toolchains/stdout
+    python3 vectors/client/make.py calls steps > crates/test_client/stdin
+    python3 vectors/client/make.py calls told > crates/test_client/stdout
 
 What must come of a step about toolchains stands beside it. What must come of a call is told by a model of its own: a
 reply is read by the rules of docs/PROTOCOL.md (a head, a body that matches its length, the status 200, a message at the

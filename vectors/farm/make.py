@@ -11,10 +11,10 @@ import hashlib
 import random
 import sys
 
-import core
 import heads
 import model
 from heads import wire
+from model import core
 
 SCHED, PEER = "127.0.0.1:10600", "127.0.0.1:40000"
 OUTSIDE = ["127.0.0.1:10501", "127.0.0.1:10502", "127.0.0.2:10501"]

@@ -8,11 +8,14 @@ are in the model before they are in the program.
 """
 import hashlib
 import ipaddress
+import os
 import sys
 
-import core
 import heads
 from heads import wire
+
+sys.path.append(os.path.dirname(os.path.dirname(os.path.abspath(__file__))))
+import core  # the core stands above, in vectors/
 
 STATES = ["pending", "ready", "started", "complete"]
 UNACCEPTED = ("Updating job state failed", "POST to scheduler job_state failed")

@@ -1,7 +1,7 @@
 #!/usr/bin/env python3
 """Requests to a build server in which one test fails, or two tests fail together, and the reply that each must get.
 
-    make.py > crates/http_tests/src/server_refusals.rt
+    make.py > crates/test_http/src/server_refusals.rt
 
 A model of its own: it shares nothing with the program. Each route's tests stand in their order; a request is told apart
 from one that is in order by one or two of its parts, and the first test that fails decides. What the model holds:

@@ -150,16 +150,6 @@ row_of : (says : Peer → Updated → Asked → Type 0) (job : JobId) (state : J
     → Recorded (updated_row job.0 state (Ok x)) old.rows new.rows
 row_of says job state x old new r = r.row (λ e. cc)
 
-row_or_none : (says : Peer → Updated → Asked → Type 0) (job : JobId) (state : JobState) (heard : Update)
-    (old new : Reports) → IsReported says job state heard old new
-    → KeptOrRecorded (updated_row job.0 state heard) old.rows new.rows
-row_or_none says job state (Ok x) old new r = inr (r.row (λ e. cc))
-row_or_none says job state (Err call.Lost) old new r = inr (r.row (λ e. cc))
-row_or_none says job state (Err (call.Status code)) old new r = inr (r.row (λ e. cc))
-row_or_none says job state (Err call.Unreadable) old new r = inr (r.row (λ e. cc))
-row_or_none says job state (Err (call.BadState s)) old new r = inr (r.row (λ e. cc))
-row_or_none says job state (Err call.Memory) old new r = r.memory refl
-
 -- Started was accepted, and this is told of Complete
 ended_reports : (says : Peer → Updated → Asked → Type 0) (job : JobId) (x : UpdateJobStateResult)
     (complete : Update) (out : Outcome) (old mid new : Reports)

@@ -5,18 +5,19 @@ use Rattle.std.specs.Prelude.{nat_lt, not}
 use Rattle.std.specs.List.{IsDistinct}
 use Rattle.std.specs.Map.{keys_of}
 use Rattle.std.specs.Str.{bytes_eq}
-use Rattle.lru_disk_cache.specs.Archives.{Archives, IsArchiveStore, id_of}
-use Rattle.lru_disk_cache.specs.Archiving.{archive_verdict, with_archive, StoreFails}
-use Rattle.lru_disk_cache.proofs.Became.{became_same}
-use Rattle.lru_disk_cache.specs.Disk.{Left, dropped, ButUnder}
+use Rattle.toolchain_cache.specs.Archives.{Archives, IsArchiveStore, id_of}
+use Rattle.toolchain_cache.specs.Archiving.{archive_verdict, with_archive, StoreFails}
+use Rattle.folders.proofs.Became.{became_same}
+use Rattle.lru_disk_cache.specs.Disk.{Left, dropped}
+use Rattle.folders.specs.Changed.{ButUnder}
 use Rattle.lru_disk_cache.specs.Entries.{trim}
-use Rattle.lru_disk_cache.specs.Files.{Files, front}
-use Rattle.lru_disk_cache.specs.Held.{Held, Became}
+use Rattle.folders.specs.Files.{Files, front}
+use Rattle.folders.specs.Held.{Held, Became}
 use Rattle.lru_disk_cache.specs.Store.{IoCause}
 use Rattle.lru_disk_cache.specs.declared.error.Error.{Error}
 use Rattle.lru_disk_cache.specs.declared.error.Error.TheVariants as error
-use Rattle.lru_disk_cache.specs.declared.fault.FolderFault.{FolderFault}
-use Rattle.lru_disk_cache.specs.declared.fault.FolderFault.TheVariants as folder
+use Rattle.folders.specs.declared.fault.FolderFault.{FolderFault}
+use Rattle.folders.specs.declared.fault.FolderFault.TheVariants as folder
 use Rattle.build_server.specs.Books.{ids, without_ids, is_listed, Fails}
 use Rattle.build_server.specs.Rules.{store_verdict, IsFrontOfDropped}
 use Rattle.build_server.specs.Stores.{IsStored, Stores, refusal}

@@ -6,8 +6,8 @@ use Rattle.std.specs.Map.{lookup}
 use Rattle.std.specs.Str.{bytes_eq}
 use Rattle.dist_types.specs.Cause.{Rose}
 use Rattle.dist_types.specs.declared.ids.JobId.{JobId}
-use Rattle.lru_disk_cache.specs.Archives.{Archives, IsInStep}
-use Rattle.lru_disk_cache.specs.Held.{Held}
+use Rattle.toolchain_cache.specs.Archives.{Archives, IsInStep}
+use Rattle.folders.specs.Held.{Held}
 
 -- the jobs that are held, each with its toolchain's id, by rising job
 abbrev pub Table : Type 0

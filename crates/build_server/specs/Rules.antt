@@ -11,11 +11,12 @@ use Rattle.dist_types.specs.declared.results.JobState.TheVariants.{Pending, Read
 use Rattle.dist_types.specs.declared.results.SubmitToolchainResult.{SubmitToolchainResult}
 use Rattle.dist_types.specs.declared.results.SubmitToolchainResult.TheVariants as answer
 use Rattle.dist_types.specs.declared.results.UpdateJobStateResult.{UpdateJobStateResult}
-use Rattle.lru_disk_cache.specs.Archives.{Archives, id_of}
-use Rattle.lru_disk_cache.specs.Disk.{dropped, ButUnder}
+use Rattle.toolchain_cache.specs.Archives.{Archives, id_of}
+use Rattle.lru_disk_cache.specs.Disk.{dropped}
+use Rattle.folders.specs.Changed.{ButUnder}
 use Rattle.lru_disk_cache.specs.Entries.{promoted_key}
-use Rattle.lru_disk_cache.specs.Files.{front}
-use Rattle.lru_disk_cache.specs.Held.{Held, Holds, Became}
+use Rattle.folders.specs.Files.{front}
+use Rattle.folders.specs.Held.{Held, Holds, Became}
 use Rattle.build_server.specs.Books.{Books, held_for, placed, without_job, is_listed, ids, without_ids, Fails}
 use Rattle.build_server.specs.Books.{KeepsStep}
 use Rattle.build_server.specs.declared.fault.ServerFault.{ServerFault}

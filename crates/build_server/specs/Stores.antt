@@ -1,9 +1,9 @@
 -- What storing an archive that is not listed leaves of a cache, and what reading one that is listed does.
 use Rattle.std.specs.Prelude.{◌≡◌, ◌⊎◌, ℕ, List, Some, Result, Ok, Err}
 use Rattle.dist_types.specs.declared.fault.Memory as want
-use Rattle.lru_disk_cache.specs.Archives.{Archives, id_of}
+use Rattle.toolchain_cache.specs.Archives.{Archives, id_of}
 use Rattle.lru_disk_cache.specs.Entries.{promoted_key}
-use Rattle.lru_disk_cache.specs.Held.{Held, Holds}
+use Rattle.folders.specs.Held.{Held, Holds}
 use Rattle.lru_disk_cache.specs.declared.error.Error.{Error}
 use Rattle.lru_disk_cache.specs.declared.error.Error.TheVariants as error
 use Rattle.build_server.specs.Books.{without_ids, Fails}

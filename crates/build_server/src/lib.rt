@@ -9,6 +9,7 @@
 //! of each (`specs/Rows.antt`). The layers above use these, `Server` with its `keeper`, and `EchoBuilder`.
 #![tactic(auto)]
 
+pub mod archive;
 pub mod echo;
 pub mod fault;
 pub mod keeping;

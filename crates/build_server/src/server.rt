@@ -4,7 +4,8 @@ ghost use Rattle.build_server.specs.Rules.{TellsAssign};
 ghost use Rattle.build_server.specs.Builds.{builder_of};
 ghost use Rattle.build_server.specs.Rows.{reports, reading, IsSubmitOn, IsRunOn};
 
-use crate::fault::{ServerFault, Update};
+use crate::archive::HashedArchive;
+use crate::fault::{ServerFault, Update, fault_of};
 use crate::keeping::{Keeping, assign_on, run_on, submit_on};
 use crate::run::RunHeld;
 use crate::state::ServerState;
@@ -18,19 +19,20 @@ use dist_types::results::{AssignJobResult, RunJobResult, SubmitToolchainResult};
 use dist_types::source::Source;
 use dist_types::text::Text;
 use dist_types::toolchain::Toolchain;
-use lru_disk_cache::folder::Folder;
+use folders::folder::Folder;
 use std::alloc::Global;
 use std::sync::{Mutex, Wait};
 
 /// Answers any number of callers, one call of its state at a time. No lock is held while the scheduler is
-/// told a state, while an archive comes, or while a build runs.
+/// told a state, while an archive comes or is hashed, or while a build runs.
 #[derive(Drop)]
 pub struct Server<F: Folder> {
     alloc: Global,
     state: Mutex<ServerState<F>>,
 }
 
-/// A keeper that takes the server's lock for one call at a time, and tells nothing.
+/// A keeper that takes the server's lock for one call at a time, and tells nothing. An archive is hashed
+/// before the lock is taken.
 #[derive(Drop)]
 pub struct Shared<'a, R: Wait, F: Folder> {
     rt: &'a R,
@@ -56,7 +58,13 @@ impl<'a, R: Wait, F: Folder> Keeping for Shared<'a, R, F> {
         ready: Update,
         archive: &[u8],
     ) -> Result<Submitted, ServerFault> {
-        Keeping::end_submit(&mut *self.state.lock(self.rt), submit, ready, archive)
+        match ready {
+            Ok(_) => {
+                let archive = HashedArchive::of(archive);
+                self.state.lock(self.rt).take_in(submit.job(), &archive)
+            }
+            Err(e) => Err(fault_of(e)),
+        }
     }
 
     fn begin_run(&mut self, job: JobId, started: Update) -> Result<RunHeld, ServerFault> {

@@ -1,9 +1,10 @@
 //! `ServerState` and its calls.
 ghost use Rattle.std.specs.Prelude.{◌≡◌, []};
-ghost use Rattle.lru_disk_cache.specs.Archives.{IsArchiveStore};
+ghost use Rattle.toolchain_cache.specs.Archives.{IsArchiveStore};
 ghost use Rattle.build_server.specs.Books.{AreRising};
 ghost use Rattle.build_server.specs.Rules.{Assigns, Submits, Begins, TakesIn, TakesOut, need_by};
 
+use crate::archive::HashedArchive;
 use crate::fault::{ServerFault, Update, fault_of};
 use crate::keeping::Keeping;
 use crate::run::{RunHeld, Taken};
@@ -13,10 +14,10 @@ use crate::table::{Held, HeldTable};
 use dist_types::ids::JobId;
 use dist_types::results::{AssignJobResult, JobState};
 use dist_types::toolchain::Toolchain;
-use lru_disk_cache::folder::Folder;
-use lru_disk_cache::{Archives, TcCache};
+use folders::folder::Folder;
 use std::alloc::Global;
 use std::marker::Model;
+use toolchain_cache::{Archives, TcCache};
 
 /// What a build server keeps: the jobs that it holds, over its cache of archives. Contracts see it as its
 /// books.
@@ -96,7 +97,7 @@ impl<F: Folder> ServerState<F> {
         ensures submits { Submits submit ready archive.now self.old self.new result }
     {
         match ready {
-            Ok(_) => self.take_in(submit.job(), archive),
+            Ok(_) => self.take_in(submit.job(), &HashedArchive::of(archive)),
             Err(e) => Err(fault_of(e)),
         }
     }
@@ -147,9 +148,13 @@ impl<F: Folder> ServerState<F> {
         cache
     }
 
-    // Stores an archive under a job, after Ready was accepted.
+    /// Stores an archive under a job, after Ready was accepted: what `end_submit` does then, without a hash.
     #[tactic(auto, using(crate::proofs::StoreLemmas::others_same))]
-    fn take_in(&mut self, job: JobId, archive: &[u8]) -> Result<Submitted, ServerFault>
+    pub fn take_in(
+        &mut self,
+        job: JobId,
+        archive: &HashedArchive<'_>,
+    ) -> Result<Submitted, ServerFault>
         ensures taken { TakesIn job archive.now self.old self.new result }
     {
         let Some(tc) = self.jobs.get(job) else {

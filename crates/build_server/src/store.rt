@@ -1,15 +1,17 @@
 //! What a server asks of its cache: to store an archive that is not listed, and to read one that is.
 ghost use Rattle.std.specs.Prelude.{◌≡◌, ◌≤◌, ◌-◌, length, take, is_some, true, false, IfOk, IfErr, OnOk, Ok};
 ghost use Rattle.std.specs.Prelude.{Err};
-ghost use Rattle.lru_disk_cache.specs.Archives.{IsInStep, IsArchiveStore};
-ghost use Rattle.lru_disk_cache.specs.Disk.{dropped, ButUnder};
+ghost use Rattle.toolchain_cache.specs.Archives.{IsInStep, IsArchiveStore};
+ghost use Rattle.lru_disk_cache.specs.Disk.{dropped};
+ghost use Rattle.folders.specs.Changed.{ButUnder};
 ghost use Rattle.lru_disk_cache.specs.Entries.{total};
-ghost use Rattle.lru_disk_cache.specs.Files.{front};
-ghost use Rattle.lru_disk_cache.specs.Held.{Became};
+ghost use Rattle.folders.specs.Files.{front};
+ghost use Rattle.folders.specs.Held.{Became};
 ghost use Rattle.build_server.specs.Books.{ids, is_listed};
 ghost use Rattle.build_server.specs.Rules.{NotFolder, FolderHeld};
 ghost use Rattle.build_server.specs.Stores.{Stores, MayRefuse, refusal, Reads};
 
+use crate::archive::HashedArchive;
 use crate::fault::ServerFault;
 use crate::run::Taken;
 use crate::submit::Submitted;
@@ -17,9 +19,10 @@ use dist_types::fault::Memory;
 use dist_types::text::{Bytes, Items};
 use dist_types::toolchain::Toolchain;
 use dist_types::try_clone::push;
-use lru_disk_cache::folder::Folder;
-use lru_disk_cache::{Error, TcCache};
+use folders::folder::Folder;
+use lru_disk_cache::Error;
 use std::alloc::Global;
+use toolchain_cache::TcCache;
 
 /// The sum of the sizes of the archives, in bytes.
 fn sum<F: Folder>(cache: &TcCache<F>) -> u64
@@ -77,13 +80,13 @@ fn refused(e: Error, mut gone: Vec<Toolchain>, went: usize) -> Result<Submitted,
     }
 }
 
-/// Stores an archive that is not listed.
+/// Stores an archive that is not listed. It was hashed before, and is not hashed again.
 #[tactic(auto, using(crate::proofs::StoreLemmas::others_same))]
 pub(crate) fn store<F: Folder>(
     alloc: Global,
     cache: &mut TcCache<F>,
     tc: &Toolchain,
-    archive: &[u8],
+    archive: &HashedArchive<'_>,
 ) -> Result<Submitted, ServerFault>
     requires unlisted { is_listed tc.now cache.old.archives ≡ false }
     requires stands { IsArchiveStore cache.old.path cache.old.capacity cache.old.archives
@@ -98,13 +101,17 @@ pub(crate) fn store<F: Folder>(
         (F.held cache.new.folder).files }
     ensures later { (F.held cache.old.folder).faults ≤ (F.held cache.new.folder).faults }
 {
-    let size = archive.len() as u64;
+    if !archive.is_of(tc) {
+        return Ok(Submitted::Digest);
+    }
+    let bytes = archive.bytes();
+    let size = bytes.len() as u64;
     let limit = cache.capacity().saturating_sub(size);
     let Ok(gone) = to_drop(alloc, cache, limit) else {
         return Err(ServerFault::Memory);
     };
     let count = cache.len();
-    match cache.insert_bytes(tc, archive) {
+    match cache.insert_verified(tc, bytes) {
         Ok(()) => Ok(Submitted::Stored(size, Items::new(gone))),
         Err(e) => refused(e, gone, count - cache.len()),
     }

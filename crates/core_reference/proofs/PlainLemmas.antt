@@ -1,157 +1,118 @@
--- What the plain lists become and what is decided over them is what the rule gives over their log.
-use Rattle.std.proofs.Common.{◌≡◌, ℕ, ◌+◌, ◌-◌, ◌^◌, ◌<◌, List, [], ◌∷◌, ◌++◌, Bool, true, false, cond, ◌&&◌}
-use Rattle.std.proofs.Common.{map, filter, length, refl, ap, ◌∙◌, sym, arith, Option, Some}
-use Rattle.std.specs.Prelude.{◌==◌, count_by, option_to_list, option_and_then}
-use Rattle.std.specs.List.{find}
-use Rattle.std.specs.Option.{option_map}
-use Rattle.std.proofs.lemmas.List.{map-append}
-use Rattle.std.proofs.lemmas.List.Sums.{sum_by-cons}
-use Rattle.dist_types.specs.declared.ids.JobId.{JobId}
-use Rattle.sched_core.specs.declared.start.Start.{Start}
-use Rattle.sched_core.specs.declared.entry.CoreEntry.{CoreEntry}
-use Rattle.sched_core.specs.declared.entry.CoreKind.{CoreKind}
-use Rattle.sched_core.specs.declared.call.Call.{Call}
-use Rattle.sched_core.specs.declared.call.Call.TheVariants as call
-use Rattle.sched_core.specs.declared.rows.ServerRow.{ServerRow}
-use Rattle.sched_core.specs.declared.rows.HeldRow.{HeldRow}
-use Rattle.sched_core.specs.declared.rows.JobRow.{JobRow}
-use Rattle.sched_core.specs.declared.rows.OpenRow.{OpenRow}
-use Rattle.sched_core.specs.Log.{same_job}
-use Rattle.sched_core.specs.Standing.{address_of}
-use Rattle.sched_core.specs.Reservation.{frees_by}
-use Rattle.sched_core.specs.Rows.{servers_of}
-use Rattle.sched_core.specs.Rule.{rule, IsCall, place_at, noted_over, reserve_over, commit_by, undo_by}
-use Rattle.sched_core.specs.Rule.{update_over}
-use Rattle.sched_core.specs.Laws.{IsRule}
-use Rattle.sched_core.specs.Books.{row_freed, row_after, row_stays, row_by, served_by, settled, unspent_stays}
-use Rattle.sched_core.specs.Books.{unspent_by}
-use Rattle.sched_core.proofs.Lists.{filter-map, map-option}
-use Rattle.sched_core.proofs.LegalLemmas.{core_of, legal-push}
-use Rattle.sched_core.proofs.StateLemmas.{spent_among, held_among, spent_address}
-use Rattle.core_reference.specs.Plain.{row_less, unspent_row, is_held, unspent_address, entry_over}
-use Rattle.core_reference.specs.Plain.{IsPlain}
-use Rattle.core_reference.specs.declared.reservations.Unspent.{Unspent}
-use Rattle.core_reference.specs.Lists.{Lists, AreBooks, lists_next, no_lists}
-use Rattle.core_reference.proofs.ListLemmas.{absorbed}
+-- Passes over the log: a value that each entry changes, and what is shown at each cut.
+use Rattle.std.proofs.Common.{◌≡◌, ℕ, ◌+◌, ◌<◌, ◌≤◌, List, [], ◌∷◌, ◌++◌, Bool, true, false, cond, map, filter}
+use Rattle.std.proofs.Common.{length, get_or, take, drop, Option, Some, None, refl, ap, ◌∙◌, sym, append-nil}
+use Rattle.std.specs.Prelude.{option_and_then, unwrap_or, if◌then◌else◌}
+use Rattle.std.specs.List.{filter_map, cons_option, list_any}
+use Rattle.std.proofs.lemmas.List.{take_more, drop_more, drop_all}
+use Rattle.std.proofs.lemmas.List.Elements.{filter_map-append}
+use Rattle.dist_types.specs.declared.results.JobState.{JobState}
+use Rattle.core_rules.specs.declared.entry.CoreEntry.{CoreEntry}
+use Rattle.core_rules.specs.declared.entry.CoreKind.{CoreKind}
+use Rattle.core_rules.specs.declared.entry.CoreKind.TheVariants.{Beat, Reserve, Commit, Undo, Update, Status}
+use Rattle.core_rules.specs.declared.entry.CoreKind.TheVariants.{Drain}
+use Rattle.core_rules.specs.declared.entry.Reserved.TheVariants.{Job, NoRoom, Spent}
+use Rattle.core_rules.specs.declared.rows.HeldRow.{HeldRow}
+use Rattle.core_rules.specs.Cuts.{Cut, cuts_behind}
+use Rattle.core_rules.specs.Log.{latest}
+use Rattle.core_rules.specs.Reservation.{booked_by, claims_by}
+use Rattle.core_rules.specs.Job.{state_of, ready_at}
+use Rattle.core_rules.specs.Next.{held_by}
+use Rattle.core_rules.specs.Rows.{held_of}
+use Rattle.core_rules.proofs.Lists.{cons_nil, latest-push}
+use Rattle.core_reference.specs.Plain.{seen, shown, lasts_as}
+use Rattle.core_reference.specs.declared.jobs.Which.{Which}
 
--- how often a number stands among those that pass
-count_among : {X : Type 0} (q : X → Bool) (f : X → ℕ) (n : ℕ) (xs : List X)
-    → count_by (λ m. m == n) (map f (filter q xs)) ≡ count_by (λ x. q x && (f x == n)) xs
-count_among q f n [] = refl
-count_among q f n (x ∷ xs) =
-    let rest : count_by (λ m. m == n) (map f (filter q xs)) ≡ count_by (λ x. q x && (f x == n)) xs =
-    count_among q f n xs in
-    let whole : count_by (λ x. q x && (f x == n)) (x ∷ xs) ≡ cond (q x && (f x == n)) 1 0 + count_by
-    (λ x. q x && (f x == n)) xs = sum_by-cons (λ y. cond (q y && (f y == n)) 1 0) x xs in
-    let more : count_by (λ m. m == n) (f x ∷ map f (filter q xs)) ≡ cond (f x == n) 1 0 + count_by
-    (λ m. m == n) (map f (filter q xs)) = sum_by-cons (λ m. cond (m == n) 1 0) (f x) (map f (filter q xs)) in
-    elim (q x) as (λ b. count_by (λ m. m == n) (map f (cond b (x ∷ filter q xs) (filter q xs)))
-    ≡ cond (b && (f x == n)) 1 0 + count_by (λ x. q x && (f x == n)) xs) [
-      | true ↦ more ∙ ap (λ k. cond (f x == n) 1 0 + k) rest
-      | false ↦ omega (arith, rest)
-    ]
-    ∙ sym whole
+-- the first so many and one more
+pub next_taken : {A : Type 0} (i : ℕ) (xs : List A) (x : A) → i < length xs → x ≡ get_or xs i x
+    → take (i + 1) xs ≡ take i xs ++ x ∷ []
+next_taken i xs x within is = take_more xs i x within ∙ ap (λ y. take i xs ++ y ∷ []) (sym is)
 
-pub rows_less : (kind : CoreKind) (held : List HeldRow) (rows : List ServerRow)
-    → map (row_less (map (λ (h : HeldRow). h.reg) (filter (λ h. frees_by kind h.job h.reg) held))) rows
-    ≡ map (row_freed kind held) rows
-rows_less kind held [] = refl
-rows_less kind held (row ∷ rows) =
-    let freed = map (λ (h : HeldRow). h.reg) (filter (λ h. frees_by kind h.job h.reg) held) in
-    ap (λ n. record row { load = row.load - n } ∷ map (row_less freed) rows)
-    (count_among (λ (h : HeldRow). frees_by kind h.job h.reg) (λ h. h.reg) row.reg held)
-    ∙ ap (λ rs. row_freed kind held row ∷ rs) (rows_less kind held rows)
+-- and what is behind them, one first
+pub next_left : {A : Type 0} (i : ℕ) (xs : List A) (x : A) → i < length xs → x ≡ get_or xs i x
+    → drop i xs ≡ x ∷ drop (i + 1) xs
+next_left i xs x within is = drop_more xs i x within ∙ ap (λ y. y ∷ drop (i + 1) xs) (sym is)
 
--- the address of the first that passes, seen through the rows of the books
-pub address_found : (us : List Unspent) (number : ℕ) (job : JobId)
-    → option_map (λ u. u.server) (find (λ u. (u.number == number) && same_job u.job job) (map unspent_row us))
-    ≡ option_map (λ u. u.server) (find (λ u. (u.number == number) && same_job u.job job) us)
-address_found [] number job = refl
-address_found (u ∷ us) number job = elim ((u.number == number) && same_job u.job job) as
-    (λ b. option_map (λ u. u.server)
-    (cond b (Some (unspent_row u))
-    (find (λ u. (u.number == number) && same_job u.job job) (map unspent_row us)))
-    ≡ option_map (λ u. u.server)
-    (cond b (Some u) (find (λ u. (u.number == number) && same_job u.job job) us))) [
-      | true ↦ refl
-      | false ↦ address_found us number job
-    ]
+-- a value that each entry changes, after one more
+pub fold_step : {A B : Type 0} (f : List A → B) (after : A → B → B)
+    → ((l : List A) (e : A) → f (l ++ e ∷ []) ≡ after e (f l))
+    → (xs : List A) (i : ℕ) (x : A) (so_far new : B) → i < length xs → x ≡ get_or xs i x
+    → so_far ≡ f (take i xs) → new ≡ after x so_far → new ≡ f (take (i + 1) xs)
+fold_step f after push xs i x so_far new within is before made =
+    made ∙ ap (after x) before ∙ sym (push (take i xs) x) ∙ ap f (sym (next_taken i xs x within is))
 
--- the unspent reservations as rows, after an entry
-pub unspent_after : (kind : CoreKind) (us left new : List Unspent) (o : Option Unspent) (made : Option JobRow)
-    → left ≡ filter (λ u. unspent_stays kind (unspent_row u)) us → new ≡ left ++ option_to_list o
-    → option_map unspent_row o ≡ unspent_by made
-    → map unspent_row new ≡ filter (unspent_stays kind) (map unspent_row us) ++ option_to_list (unspent_by made)
-unspent_after kind us left new o made stay more is =
-    ap (map unspent_row) (more ∙ ap (λ l. l ++ option_to_list o) stay)
-    ∙ map-append unspent_row (filter (λ u. unspent_stays kind (unspent_row u)) us) (option_to_list o)
-    ∙ ap (λ l. l ++ map unspent_row (option_to_list o))
-    (sym (filter-map (unspent_stays kind) unspent_row us))
-    ∙ ap (λ l. filter (unspent_stays kind) (map unspent_row us) ++ l)
-    (map-option unspent_row o ∙ ap option_to_list is)
+pub latest_next : {A B : Type 0} (first : B) (f : A → Option B) (l : List A) (e : A)
+    → latest first (filter_map f (l ++ e ∷ [])) ≡ unwrap_or (f e) (latest first (filter_map f l))
+latest_next first f l e =
+    ap (latest first) (filter_map-append f l (e ∷ []) ∙ ap (λ bs. filter_map f l ++ bs) (cons_nil (f e)))
+    ∙ latest-push first (filter_map f l) (f e)
 
--- the rows after an entry, each less by those that stand among the registrations of what it ends
-pub settled_rows : (e : CoreEntry) (held : List HeldRow) (open_ones : List OpenRow) (rows : List ServerRow)
-    (number : ℕ)
-    → map (row_after e (served_by e.kind open_ones))
-    (map (row_less (map (λ (h : HeldRow). h.reg) (filter (λ h. frees_by e.kind h.job h.reg) held)))
-    (filter (row_stays e.kind) rows)) ++ option_to_list (row_by e.kind number e.now)
-    ≡ settled e held open_ones rows ++ option_to_list (row_by e.kind number e.now)
-settled_rows e held open_ones rows number =
-    ap (λ rs. map (row_after e (served_by e.kind open_ones)) rs ++ option_to_list (row_by e.kind number e.now))
-    (rows_less e.kind held (filter (row_stays e.kind) rows))
+-- what is shown of what lasts is shown at each cut
+pub shown_all : {X B : Type 0} (make : Cut CoreEntry → Option X) (lasts : X → Bool) (view : X → B)
+    (cs : List (Cut CoreEntry))
+    → map view (filter lasts (filter_map make cs)) ≡ filter_map (shown make lasts view) cs
+shown_all make lasts view [] = refl
+shown_all {X} {B} make lasts view (c ∷ cs) = split (make c) (shown_all make lasts view cs)
+  where
+    split : (o : Option X) → map view (filter lasts (filter_map make cs)) ≡ filter_map (shown make lasts view) cs
+        → map view (filter lasts (cons_option o (filter_map make cs)))
+        ≡ cons_option (option_and_then (seen lasts view) o) (filter_map (shown make lasts view) cs)
+    split None rest = rest
+    split (Some x) rest = elim (lasts x) as
+        (λ b. map view (cond b (x ∷ filter lasts (filter_map make cs)) (filter lasts (filter_map make cs)))
+        ≡ cons_option (cond b (Some (view x)) None) (filter_map (shown make lasts view) cs)) [
+          | true ↦ ap (λ l. view x ∷ l) rest
+          | false ↦ rest
+        ]
 
--- the entry over the lists is the rule's over the log
-pub entry_is : (start : Start) (lists : Lists) (log : List CoreEntry) (asked : Call)
-    → AreBooks lists log → IsCall (core_of start log) asked
-    → entry_over lists start asked ≡ rule (core_of start log) asked
-entry_is start lists log (call.Reserve now) books is =
-    ap (λ rows. reserve_over rows now start.base (start.count + lists.made)) books.rows
-    ∙ ap (λ n. reserve_over (servers_of log) now start.base (start.count + n)) books.made
-entry_is start lists log (call.Commit now number job state) books is =
-    ap (λ b. commit_by b now job state) (held_among lists.held log number job books.held)
-entry_is start lists log (call.Undo now number job) books is =
-    let address : unspent_address lists number job ≡ option_and_then (address_of log) (place_at log number) =
-    spent_address lists.unspent log number job books.unspent_placed
-    (spent_among lists.unspent log number job books.unspent ∙ is) in
-    ap (λ rows. undo_by (noted_over rows (unspent_address lists number job)) (is_held lists number job) now job)
-    books.rows
-    ∙ ap (λ a. undo_by (noted_over (servers_of log) a) (is_held lists number job) now job) address
-    ∙ ap (λ b. undo_by (noted_over (servers_of log) (option_and_then (address_of log) (place_at log number))) b
-    now job) (held_among lists.held log number job books.held)
-entry_is start lists log (call.Beat now server nonce cpus key) books is =
-    rw (books.rows, books.held) refl
-entry_is start lists log (call.Update now server job state) books is =
-    ap (λ rows. update_over rows now server job state) books.open_ones
-entry_is start lists log (call.Status now) books is = rw (books.rows, books.open_ones) refl
+-- all of it, at the end
+pub cut_end : {B : Type 0} (f : Cut CoreEntry → Option B) (log : List CoreEntry) (i : ℕ) (done whole : List B)
+    → length log ≤ i → done ++ filter_map f (cuts_behind (take i log) (drop i log)) ≡ whole → done ≡ whole
+cut_end f log i done whole le before =
+    sym (append-nil done)
+    ∙ ap (λ d. done ++ filter_map f (cuts_behind (take i log) d)) (sym (drop_all i log le))
+    ∙ before
 
--- the lists of an empty log
-pub plain_first : (start : Start) → start.count < 2 ^ 64 → IsPlain start no_lists []
-plain_first start fits =
-    record {
-      books = record {
-        rows = refl;
-        held = refl;
-        by_age = [];
-        parts = refl;
-        placed = tt;
-        jobs = refl;
-        open_ones = refl;
-        unspent = refl;
-        unspent_placed = tt;
-        made = refl;
-      };
-      fits = fits;
-      legal = tt;
-    }
+-- a reservation as it begins, and over the entries after it
+reserved_is : (which : Which) (k : CoreKind) (number now : ℕ) (later : List CoreEntry)
+    → option_and_then (seen (λ b. lasts_as which b.job b.reg b.later) held_of) (booked_by k number now later)
+    ≡ option_and_then (λ h. if lasts_as which h.job h.reg later then Some (record h {
+      state = state_of h.job later;
+      ready_at = ready_at h.job later;
+      claimed = list_any (λ e. claims_by e.kind h.job) later;
+    }) else None) (held_by k number now)
+reserved_is which (Reserve (Job job reg forgiven)) number now later = refl
+reserved_is which (Reserve (NoRoom n)) number now later = refl
+reserved_is which (Reserve Spent) number now later = refl
+reserved_is which (Beat server nonce cpus key pruned reaped replaced is_new) number now later = refl
+reserved_is which (Commit job state kept) number now later = refl
+reserved_is which (Undo job noted was_ended) number now later = refl
+reserved_is which (Update server job state answer) number now later = refl
+reserved_is which (Status pruned servers cpus jobs) number now later = refl
+reserved_is which (Drain server nonce on named) number now later = refl
 
--- the lists after an entry are the longer log's
-pub plain_next : (start : Start) (lists : Lists) (log : List CoreEntry) (e : CoreEntry)
-    → IsPlain start lists log → IsRule (core_of start log) e
-    → IsPlain start (lists_next lists e (length log)) (log ++ e ∷ [])
-plain_next start lists log e plain is =
-    record {
-      books = absorbed start lists log e plain.fits plain.books plain.legal is;
-      fits = plain.fits;
-      legal = legal-push start [] log e plain.legal is;
-    }
+pub reserved_some : (which : Which) (k : CoreKind) (number now : ℕ) (later : List CoreEntry) (row : HeldRow)
+    (state : Option JobState) (ready : Option ℕ) (claimed : Bool) → held_by k number now ≡ Some row
+    → lasts_as which row.job row.reg later ≡ true → state ≡ state_of row.job later → ready ≡ ready_at row.job later
+    → claimed ≡ list_any (λ e. claims_by e.kind row.job) later
+    → Some (record row { state = state; ready_at = ready; claimed = claimed })
+    ≡ option_and_then (seen (λ b. lasts_as which b.job b.reg b.later) held_of) (booked_by k number now later)
+reserved_some which k number now later row state ready claimed is stays state_is ready_is claimed_is =
+    let kept : HeldRow → Option HeldRow = λ h. if lasts_as which h.job h.reg later then Some (record h {
+      state = state_of h.job later;
+      ready_at = ready_at h.job later;
+      claimed = list_any (λ e. claims_by e.kind h.job) later;
+    }) else None in
+    ap (λ s. Some (record row { state = s; ready_at = ready; claimed = claimed })) state_is
+    ∙ ap (λ r. Some (record row { state = state_of row.job later; ready_at = r; claimed = claimed })) ready_is
+    ∙ ap (λ c. Some (record row {
+      state = state_of row.job later;
+      ready_at = ready_at row.job later;
+      claimed = c;
+    })) claimed_is
+    ∙ ap (λ b. cond b (Some (record row {
+      state = state_of row.job later;
+      ready_at = ready_at row.job later;
+      claimed = list_any (λ e. claims_by e.kind row.job) later;
+    })) None) (sym stays)
+    ∙ ap (option_and_then kept) (sym is)
+    ∙ sym (reserved_is which k number now later)

@@ -1,71 +1,88 @@
--- The plain lists as the books, and what a call decides over them.
-use Rattle.std.specs.Prelude.{◌<◌, ℕ, ◌+◌, ◌-◌, ◌^◌, List, map, count_by, Bool, ◌==◌, ◌&&◌, Option}
-use Rattle.std.specs.List.{find, list_any}
-use Rattle.std.specs.Option.{option_map}
+-- What the plain scheduler finds at one entry of the log, between those before and after it.
+use Rattle.std.specs.Prelude.{◌≡◌, ℕ, List, Bool, true, false, not, ◌&&◌, ◌||◌, ◌==◌, count_by, Option, Some, None}
+use Rattle.std.specs.Prelude.{if◌then◌else◌, option_and_then}
+use Rattle.std.specs.List.{list_any}
 use Rattle.dist_types.specs.declared.addr.Addr.{Addr}
 use Rattle.dist_types.specs.declared.ids.JobId.{JobId}
-use Rattle.sched_core.specs.declared.start.Start.{Start}
-use Rattle.sched_core.specs.declared.entry.CoreEntry.{CoreEntry}
-use Rattle.sched_core.specs.declared.call.Call.{Call}
-use Rattle.sched_core.specs.declared.call.Call.TheVariants as call
-use Rattle.sched_core.specs.declared.rows.ServerRow.{ServerRow}
-use Rattle.sched_core.specs.Log.{same_job}
-use Rattle.sched_core.specs.Rule.{reserve_over, commit_by, undo_by, noted_over, beat_over, update_over}
-use Rattle.sched_core.specs.Rule.{status_over}
-use Rattle.sched_core.specs.Laws.{IsLegal}
-use Rattle.sched_core.specs.Booked.{UnspentRow}
-use Rattle.core_reference.specs.Lists.{Lists, AreBooks}
-use Rattle.core_reference.specs.declared.reservations.Unspent.{Unspent}
-use Rattle.core_reference.specs.declared.plain.PlainBooks.{PlainBooks}
+use Rattle.core_rules.specs.declared.entry.CoreEntry.{CoreEntry}
+use Rattle.core_rules.specs.declared.entry.CoreKind.{CoreKind}
+use Rattle.core_rules.specs.declared.entry.CoreKind.TheVariants.{Beat, Reserve, Update}
+use Rattle.core_rules.specs.declared.entry.Reserved.TheVariants.{Job}
+use Rattle.core_rules.specs.declared.rows.ServerRow.{ServerRow}
+use Rattle.core_rules.specs.declared.rows.HeldRow.{HeldRow}
+use Rattle.core_rules.specs.Cuts.{Cut, lasting}
+use Rattle.core_rules.specs.Log.{same_job}
+use Rattle.core_rules.specs.Standing.{Registered, renews_by, is_heard, last_sign, is_draining}
+use Rattle.core_rules.specs.Reservation.{booked_at, spends_by, frees_by}
+use Rattle.core_rules.specs.Fault.{error_of}
+use Rattle.core_rules.specs.declared.call.Call.{Call}
+use Rattle.core_rules.specs.Log.{Core}
+use Rattle.core_rules.specs.Rule.{is_among, rule, IsCall}
+use Rattle.core_reference.specs.declared.jobs.Which.{Which}
+use Rattle.core_reference.specs.declared.jobs.Which.TheVariants.{Unspent, Unended}
 
--- a row with as many reservations less as its number stands among those
-abbrev pub row_less : List ℕ → ServerRow → ServerRow
-row_less freed row = record row { load = row.load - count_by (λ reg. reg == row.reg) freed }
+-- what is shown of it, where it lasts
+abbrev pub seen : {X B : Type 0} → (X → Bool) → (X → B) → X → Option B
+seen lasts view x = if lasts x then Some (view x) else None
 
--- an unspent reservation as a row of the books
-abbrev pub unspent_row : Unspent → UnspentRow
-unspent_row u = record { number = u.number; job = u.job; reg = u.reg; server = u.server }
+-- what is shown of what an entry makes, where that lasts
+abbrev pub shown : {X B : Type 0} → (Cut CoreEntry → Option X) → (X → Bool) → (X → B) → Cut CoreEntry → Option B
+shown make lasts view c = option_and_then (seen lasts view) (make c)
 
--- the plain lists as the books
-abbrev pub lists_of : PlainBooks → Lists
-lists_of books = record {
-  rows = books.rows.items;
-  held = books.held.items;
-  jobs = books.jobs.items;
-  open_ones = books.open_ones.items;
-  unspent = map unspent_row books.unspent.items;
-  made = books.made;
+-- whether a reservation lasts over the entries after it: unspent, or unended
+abbrev pub lasts_as : Which → JobId → ℕ → List CoreEntry → Bool
+lasts_as Unspent job reg later = not (list_any (λ e. spends_by e.kind job) later)
+lasts_as Unended job reg later = not (list_any (λ e. frees_by e.kind job reg) later)
+
+-- whether one of that number and job does
+abbrev pub has_among : Which → List CoreEntry → ℕ → JobId → Bool
+has_among which log number job = is_among (lasting booked_at (λ b. lasts_as which b.job b.reg b.later) log) number job
+
+-- the registration at which an entry reserves a job
+abbrev pub reg_by : CoreKind → Option ℕ
+reg_by (Reserve (Job job reg forgiven)) = Some reg
+reg_by other = None
+
+-- the address of the registration that an entry makes
+abbrev pub address_by : CoreKind → Option Addr
+address_by (Beat server nonce cpus key pruned reaped replaced true) = Some server
+address_by other = None
+
+-- the job that an entry reserves at the registration
+abbrev pub job_at : CoreKind → ℕ → Option JobId
+job_at (Reserve (Job job reg forgiven)) r = if reg == r then Some job else None
+job_at other r = None
+
+-- whether an entry is an update of one of those jobs that counts as a sign
+abbrev pub serves_one : CoreKind → List JobId → Bool
+serves_one (Update server job state answer) jobs = is_heard answer && list_any (λ j. same_job j job) jobs
+serves_one other jobs = false
+
+-- whether an entry is a sign of the registration at that address, which is over or not and has those jobs
+abbrev pub sign_among : CoreKind → Addr → Bool → List JobId → Bool
+sign_among kind at over jobs = (renews_by kind at && not over) || serves_one kind jobs
+
+-- a registration as a row, without its load and its error
+abbrev pub signed : Registered → ServerRow
+signed g = record {
+  reg = g.reg;
+  server = g.server;
+  cpus = g.cpus;
+  nonce = g.nonce;
+  seen = last_sign g;
+  load = 0;
+  error = None;
+  draining = is_draining g;
 }
 
--- whether a reservation of that number and job is unended
-abbrev pub is_held : Lists → ℕ → JobId → Bool
-is_held lists number job = list_any (λ h. (h.number == number) && same_job h.job job) lists.held
+-- a row with its load and its error
+abbrev pub loaded : List HeldRow → List CoreEntry → ServerRow → ServerRow
+loaded held log row = record row {
+  load = count_by (λ h. h.reg == row.reg) held;
+  error = error_of log row.reg;
+}
 
--- whether one is unspent
-abbrev pub is_unspent : Lists → ℕ → JobId → Bool
-is_unspent lists number job = list_any (λ u. (u.number == number) && same_job u.job job) lists.unspent
-
--- the address of the unspent reservation of that number and job
-abbrev pub unspent_address : Lists → ℕ → JobId → Option Addr
-unspent_address lists number job = option_map (λ u. u.server)
-    (find (λ u. (u.number == number) && same_job u.job job) lists.unspent)
-
--- the entry that a call makes over the lists, where the ids begin so
-abbrev pub entry_over : Lists → Start → Call → CoreEntry
-entry_over lists start (call.Reserve now) =
-    reserve_over lists.rows now start.base (start.count + lists.made)
-entry_over lists start (call.Commit now number job state) =
-    commit_by (is_held lists number job) now job state
-entry_over lists start (call.Undo now number job) =
-    undo_by (noted_over lists.rows (unspent_address lists number job)) (is_held lists number job) now job
-entry_over lists start (call.Beat now server nonce cpus key) =
-    beat_over lists.rows lists.held now server nonce cpus key
-entry_over lists start (call.Update now server job state) =
-    update_over lists.open_ones now server job state
-entry_over lists start (call.Status now) = status_over lists.rows lists.open_ones now
-
--- the lists are the log's, and each entry of the log is the core rule's
-pub record IsPlain (start : Start) (lists : Lists) (log : List CoreEntry) : Type 0 where
-  pub books : AreBooks lists log
-  pub fits : start.count < 2 ^ 64
-  pub legal : IsLegal start log
+-- the entry is the one that the rule gives the call, and there is none where the call makes none
+abbrev pub IsEntryOf : Core → Call → Option CoreEntry → Type 0
+IsEntryOf s asked None = IsCall s asked → ⊥
+IsEntryOf s asked (Some e) = IsCall s asked × (e ≡ rule s asked)

@@ -1,10 +1,9 @@
-//! The scheduler's core computed plainly, which is what the running state is compared with: by lists that each
-//! entry makes anew by a pass over the one before (`plain`). Nothing but tests uses it.
+//! The scheduler's core computed plainly, which is what the running state is compared with: a log, and each
+//! question asked anew of all its entries (`plain`). Nothing but tests uses it.
 #![tactic(auto)]
 
-pub mod answer;
-mod effects;
+mod choice;
+mod entries;
+mod jobs;
 pub mod plain;
-mod reservations;
-mod rules;
-mod standing;
+pub mod servers;

@@ -1,150 +1,137 @@
-//! The plain scheduler: its log, and beside it plain lists, each of which an entry makes anew by a pass over
-//! the one before.
-ghost use Rattle.std.specs.Prelude.{◌≡◌, ◌↔◌, ◌+◌, [], true, IfOk, OnOk, OnErr, IsTrue};
-ghost use Rattle.sched_core.specs.Log.{Core, logged};
-ghost use Rattle.sched_core.specs.Rows.{servers_of, jobs_of};
-ghost use Rattle.sched_core.specs.Reservation.{unspent};
-ghost use Rattle.sched_core.specs.Rule.{rule, is_initial, is_among, IsCall, noted_over, undo_by};
-ghost use Rattle.sched_core.specs.Rule.{update_over, status_over};
-ghost use Rattle.core_reference.specs.Lists.{lists_next};
-ghost use Rattle.sched_core.specs.declared.call.Call.TheVariants as call;
-ghost use Rattle.core_reference.specs.Plain.{lists_of, entry_over, is_held, unspent_address};
+//! The plain scheduler: the entry of a call and the books, each asked anew of the whole log. It keeps nothing.
+//! Each call is refused for want of memory alone.
+ghost use Rattle.std.specs.Prelude.{◌≡◌, ◌<◌, ◌+◌, ◌^◌, ◌↔◌, IfOk, IsTrue, true, length, option_and_then};
+ghost use Rattle.core_rules.specs.Standing.{address_of};
+ghost use Rattle.core_rules.specs.Reservation.{bookings};
+ghost use Rattle.core_rules.specs.Rows.{held_rows};
+ghost use Rattle.core_rules.specs.Rule.{rule, is_initial, IsCall, place_at};
+ghost use Rattle.dist_types.specs.declared.rules.Rules.TheVariants.{Two};
+ghost use Rattle.core_reference.specs.Plain.{has_among, IsEntryOf};
 
-use crate::effects::is_reservation;
-use crate::reservations::{self, Unspent};
-use crate::{rules, standing};
+use crate::choice;
+use crate::entries::{address_in, made_in, reg_of};
+use crate::jobs::{Which, is_among, open_jobs, reservations};
+use crate::servers::servers;
+use core_rules::call::Call;
+use core_rules::entry::{CoreEntry, CoreKind};
+use core_rules::rows::HeldRow;
+use core_rules::rules::answer_by;
+use core_rules::start::Start;
+use core_rules::texts::is_initial;
 use dist_types::ids::{JobId, ServerId};
 use dist_types::results::JobState;
-use sched_core::call::Call;
-use sched_core::entry::{CoreEntry, CoreKind};
-use sched_core::rows::{HeldRow, JobRow, OpenRow, ServerRow};
-use sched_core::start::Start;
+use dist_types::rules::Rules;
 use std::alloc::{AllocError, Global};
-use std::marker::Model;
 
-/// The answers to what is asked of the log, as plain lists.
-#[derive(Drop)]
-pub struct PlainBooks {
-    /// The registrations that stand, by rising number.
-    pub rows: Vec<ServerRow>,
-    /// The unended reservations, in the order of their reserving.
-    pub held: Vec<HeldRow>,
-    /// The unended reservations, by rising job id.
-    pub jobs: Vec<JobRow>,
-    /// The open jobs, in the order of their commits.
-    pub open_ones: Vec<OpenRow>,
-    /// The unspent reservations, in the order of their reserving.
-    pub unspent: Vec<Unspent>,
-    /// How many reservations were made.
-    pub made: u64,
+/// The most processors that a heartbeat may say.
+const MOST_CPUS: u64 = 4294967295;
+
+/// The unended reservations, in the order of their reserving.
+pub fn held(alloc: Global, log: &[CoreEntry]) -> Result<Vec<HeldRow>, AllocError>
+    ensures rows { IfOk result (λ v. v.items ≡ held_rows log.now) }
+{
+    reservations(alloc, log, Which::Unended)
 }
 
-/// The lists after an entry of this number. Refused for want of memory alone.
-fn books_next(
+/// Whether the reservation of that number and job is unspent, or unended.
+fn has(
     alloc: Global,
-    books: &PlainBooks,
-    step: &CoreEntry,
+    log: &[CoreEntry],
+    which: Which,
     number: u64,
-) -> Result<PlainBooks, AllocError>
-    ensures { IfOk result (λ b. lists_of b ≡ lists_next (lists_of books.now) step.entry.now number) }
+    job: JobId,
+) -> Result<bool, AllocError>
+    ensures { IfOk result (λ b. b ≡ has_among which log.now number job) }
 {
-    let job = reservations::job_made(&step.kind, &books.rows, number, step.now);
-    let rows = standing::rows_after(
-        alloc,
-        &books.rows,
-        &books.held,
-        &books.open_ones,
-        step,
-        number,
-    )?;
-    let held = reservations::held_next(alloc, &books.held, step, number)?;
-    let open_one = reservations::open_made(&step.kind, &books.jobs);
-    let open_ones = reservations::open_next(alloc, &books.open_ones, &step.kind, open_one)?;
-    let unspent = reservations::unspent_next(alloc, &books.unspent, &step.kind, &job)?;
-    let jobs = reservations::jobs_next(alloc, &books.jobs, &step.kind, job)?;
-    let made = standing::one_more(is_reservation(&step.kind), books.made);
-    Ok(PlainBooks {
-        rows,
-        held,
-        jobs,
-        open_ones,
-        unspent,
-        made,
-    })
+    let rows = reservations(alloc, log, which)?;
+    Ok(is_among(&rows, number, job))
 }
 
-// The entry of each call over the lists.
-
-/// The entry of a reserve. Refused for want of memory alone.
-fn reserve(
-    alloc: Global,
-    books: &PlainBooks,
-    start: Start,
-    now: u64,
-) -> Result<CoreEntry, AllocError>
-    ensures { IfOk result (λ e. e ≡ entry_over (lists_of books.now) start (call.Reserve now)) }
+/// Whether a commit in that state makes an entry.
+fn may_commit(is_own: bool, state: JobState) -> bool
+    ensures { IsTrue result ↔ (is_own ≡ true) × (is_initial state ≡ true) }
 {
-    let given = u128::from(start.count) + u128::from(books.made);
-    let reserved = rules::reserve_over_rows(alloc, &books.rows, now, start.base, given)?;
-    let kind = CoreKind::Reserve(reserved);
-    Ok(CoreEntry { now, kind })
+    is_own && is_initial(state)
 }
 
-/// The entry of an undo.
-fn undo(books: &PlainBooks, now: u64, number: u64, job: JobId) -> CoreEntry
-    ensures { result ≡ undo_by
-        (noted_over books.now.rows.items (unspent_address (lists_of books.now) number job))
-        (is_held (lists_of books.now) number job) now job }
+/// Whether a drain makes an entry.
+fn may_drain(rules: Rules) -> bool
+    ensures { IsTrue result ↔ rules ≡ Two }
 {
-    let server = reservations::unspent_address(&books.unspent, number, job);
-    let noted = rules::noted_number(&books.rows, server);
-    let ended = rules::is_held(&books.held, number, job);
-    let kind = CoreKind::Undo { job, noted, ended };
-    CoreEntry { now, kind }
+    match rules {
+        Rules::One => false,
+        Rules::Two => true,
+    }
 }
 
-/// The entry of an update.
-fn update(books: &PlainBooks, now: u64, server: ServerId, job: JobId, state: JobState) -> CoreEntry
-    ensures { result ≡ update_over books.now.open_ones.items now server job state }
-{
-    let found = rules::open_job(&books.open_ones, job);
-    let answer = rules::answer_by(&found, server, state);
-    let kind = CoreKind::Update {
-        server,
-        job,
-        state,
-        answer,
-    };
-    CoreEntry { now, kind }
-}
-
-/// The entry of a status. Refused for want of memory alone.
-fn status(alloc: Global, books: &PlainBooks, now: u64) -> Result<CoreEntry, AllocError>
-    ensures { IfOk result (λ e. e ≡ status_over books.now.rows.items books.now.open_ones.items now) }
-{
-    let pruned = rules::pruned_numbers(alloc, &books.rows, now)?;
-    let numbers = rules::counts(&books.rows, &books.open_ones, &pruned, now);
-    Ok(rules::status_entry(now, pruned, numbers))
-}
-
-/// The entry of a call, where the ids begin so. Refused for want of memory alone.
-fn entry_made(
-    alloc: Global,
-    books: &PlainBooks,
-    start: Start,
-    asked: &Call,
-) -> Result<CoreEntry, AllocError>
-    ensures { IfOk result (λ e. e ≡ entry_over (lists_of books.now) start asked.now) }
+/// Whether the call makes an entry.
+fn is_call(alloc: Global, start: Start, log: &[CoreEntry], asked: &Call) -> Result<bool, AllocError>
+    ensures { IfOk result (λ b. IsTrue b ↔ IsCall (record { start = start; log = log.now }) asked.now) }
 {
     match asked {
-        Call::Reserve { now } => reserve(alloc, books, start, *now),
+        Call::Commit {
+            number,
+            job,
+            state,
+            ..
+        } => {
+            let is_own = has(alloc, log, Which::Unspent, *number, *job)?;
+            Ok(may_commit(is_own, *state))
+        }
+        Call::Undo { number, job, .. } => {
+            let is_own = has(alloc, log, Which::Unspent, *number, *job)?;
+            Ok(is_own)
+        }
+        Call::Beat { cpus, .. } => Ok(1 <= *cpus && *cpus <= MOST_CPUS),
+        Call::Drain { .. } => Ok(may_drain(start.rules)),
+        Call::Reserve { .. } => Ok(true),
+        Call::Update { .. } => Ok(true),
+        Call::Status { .. } => Ok(true),
+    }
+}
+
+/// The address of the reservation of that number.
+fn address(log: &[CoreEntry], number: u64) -> Option<ServerId>
+    ensures { result ≡ option_and_then (address_of log.now) (place_at log.now number) }
+{
+    match reg_of(log, number) {
+        Some(reg) => address_in(log, reg),
+        None => None,
+    }
+}
+
+/// How many ids were given.
+fn given(start: Start, log: &[CoreEntry]) -> u128
+    ensures within { result < 2 ^ 66 }
+    ensures given { result ≡ start.count + length (bookings log.now) }
+{
+    u128::from(start.count) + made_in(log) as u128
+}
+
+/// The entry of the call.
+fn made(
+    alloc: Global,
+    start: Start,
+    log: &[CoreEntry],
+    asked: &Call,
+) -> Result<CoreEntry, AllocError>
+    ensures { IfOk result (λ e. e ≡ rule (record { start = start; log = log.now }) asked.now) }
+{
+    match asked {
+        Call::Reserve { now } => {
+            let rows = servers(alloc, log)?;
+            let ids = given(start, log);
+            let reserved = choice::reserve(alloc, &rows, *now, start.base, ids)?;
+            let kind = CoreKind::Reserve(reserved);
+            Ok(CoreEntry { now: *now, kind })
+        }
         Call::Commit {
             now,
             number,
             job,
             state,
         } => {
-            let kept = rules::is_held(&books.held, *number, *job);
+            let kept = has(alloc, log, Which::Unended, *number, *job)?;
             let kind = CoreKind::Commit {
                 job: *job,
                 state: *state,
@@ -152,154 +139,79 @@ fn entry_made(
             };
             Ok(CoreEntry { now: *now, kind })
         }
-        Call::Undo { now, number, job } => Ok(undo(books, *now, *number, *job)),
+        Call::Undo { now, number, job } => {
+            let rows = servers(alloc, log)?;
+            let noted = choice::noted(&rows, address(log, *number));
+            let ended = has(alloc, log, Which::Unended, *number, *job)?;
+            let kind = CoreKind::Undo {
+                job: *job,
+                noted,
+                ended,
+            };
+            Ok(CoreEntry { now: *now, kind })
+        }
         Call::Beat {
             now,
             server,
             nonce,
             cpus,
             key,
-        } => rules::beat_over_rows(
-            alloc,
-            &books.rows,
-            &books.held,
-            *now,
-            *server,
-            *nonce,
-            *cpus,
-            key.get(),
-        ),
+        } => {
+            let rows = servers(alloc, log)?;
+            let held = held(alloc, log)?;
+            let key = key.copy(alloc)?;
+            let rules = start.rules;
+            choice::beat(
+                alloc, &rows, &held, rules, *now, *server, *nonce, *cpus, key,
+            )
+        }
         Call::Update {
             now,
             server,
             job,
             state,
-        } => Ok(update(books, *now, *server, *job, *state)),
-        Call::Status { now } => status(alloc, books, *now),
+        } => {
+            let rows = open_jobs(alloc, log)?;
+            let found = choice::open_job(&rows, *job);
+            let kind = CoreKind::Update {
+                server: *server,
+                job: *job,
+                state: *state,
+                answer: answer_by(&found, *server, *state),
+            };
+            Ok(CoreEntry { now: *now, kind })
+        }
+        Call::Status { now } => {
+            let rows = servers(alloc, log)?;
+            let jobs = open_jobs(alloc, log)?;
+            choice::status(alloc, &rows, &jobs, *now)
+        }
+        Call::Drain {
+            now,
+            server,
+            nonce,
+            on,
+        } => {
+            let rows = servers(alloc, log)?;
+            Ok(choice::drain(&rows, *now, *server, *nonce, *on))
+        }
     }
 }
 
-// Which calls make an entry.
-
-/// Whether a commit in that state makes an entry.
-fn may_commit(is_own: bool, state: JobState) -> bool
-    ensures { IsTrue result ↔ (is_own ≡ true) × (is_initial state ≡ true) }
-{
-    let is_initial = match state {
-        JobState::Pending => true,
-        JobState::Ready => true,
-        JobState::Started => false,
-        JobState::Complete => false,
-    };
-    is_own && is_initial
-}
-
-/// The most processors that a heartbeat may say.
-const MOST_CPUS: u64 = 4294967295;
-
-/// A scheduler of plain lists. Contracts see what they see of the scheduler's state: where its ids begin, and
-/// the log.
-#[derive(Drop)]
-pub struct PlainState {
+/// The one entry that the rule gives a call over the log; none where the call makes none: a commit or an undo
+/// where no unspent reservation has that number and job, a commit to another state than pending and ready, a
+/// heartbeat that does not say 1 to 4294967295 processors, and a drain in version 1.
+pub fn entry(
     alloc: Global,
     start: Start,
-    books: PlainBooks,
-    log: Vec<CoreEntry>,
-}
-
-impl Model for PlainState {
-    ghost use Rattle.sched_core.specs.Log.{Core};
-    ghost use Rattle.core_reference.specs.Plain.{IsPlain, lists_of};
-
-    ghost Value = { Core };
-
-    ghost view = { λ s. record { start = s.start; log = s.log.items } };
-
-    ghost invariant = { λ s. IsPlain s.start (lists_of s.books) s.log.items };
-}
-
-impl PlainState {
-    /// A scheduler with an empty log, which goes on where `count` jobs were reserved before: its next job
-    /// has the id `base + count`, modulo 2^64. It takes no memory.
-    pub fn new(alloc: Global, base: u64, count: u64) -> Self
-        ensures empty { result ≡ record { start = record { base = base; count = count }; log = [] } }
-    {
-        PlainState {
-            alloc,
-            start: Start { base, count },
-            books: PlainBooks {
-                rows: Vec::new(alloc),
-                held: Vec::new(alloc),
-                jobs: Vec::new(alloc),
-                open_ones: Vec::new(alloc),
-                unspent: Vec::new(alloc),
-                made: 0,
-            },
-            log: Vec::new(alloc),
-        }
+    log: &[CoreEntry],
+    asked: &Call,
+) -> Result<Option<CoreEntry>, AllocError>
+    ensures entry { IfOk result (IsEntryOf (record { start = start; log = log.now }) asked.now) }
+{
+    if !is_call(alloc, start, log, asked)? {
+        return Ok(None);
     }
-
-    /// The log, oldest entry first. It takes no memory.
-    pub fn history(&self) -> &[CoreEntry]
-        ensures log { result.now ≡ self.now.log }
-    {
-        &self.log
-    }
-
-    /// The registrations that stand, by rising number, as the whole log gives them. It takes no memory.
-    pub fn servers(&self) -> &[ServerRow]
-        ensures rows { result.now ≡ servers_of self.now.log }
-    {
-        &self.books.rows
-    }
-
-    /// The unended reservations, by rising job id, as the whole log gives them. It takes no memory.
-    pub fn jobs(&self) -> &[JobRow]
-        ensures jobs { result.now ≡ jobs_of self.now.log }
-    {
-        &self.books.jobs
-    }
-
-    /// Whether the reservation of that number and job is unspent.
-    fn is_own(&self, number: u64, job: JobId) -> bool
-        ensures { result ≡ is_among (unspent self.now.log) number job }
-    {
-        reservations::is_unspent(&self.books.unspent, number, job)
-    }
-
-    /// Whether the call makes an entry. A commit and an undo do so where this state has an unspent
-    /// reservation of that number and job, and the job begins in the state; a heartbeat where it says 1 to
-    /// 4294967295 processors; and every other call.
-    pub fn is_call(&self, asked: &Call) -> bool
-        ensures call { IsTrue result ↔ IsCall self.now asked.now }
-    {
-        match asked {
-            Call::Reserve { .. } => true,
-            Call::Commit {
-                number,
-                job,
-                state,
-                ..
-            } => may_commit(self.is_own(*number, *job), *state),
-            Call::Undo { number, job, .. } => self.is_own(*number, *job),
-            Call::Beat { cpus, .. } => 1 <= *cpus && *cpus <= MOST_CPUS,
-            Call::Update { .. } => true,
-            Call::Status { .. } => true,
-        }
-    }
-
-    /// Makes the call: it appends the one entry that the core rule gives over the log before. Refused for
-    /// want of memory alone, which changes nothing.
-    pub fn make(&mut self, asked: &Call) -> Result<(), AllocError>
-        requires call { IsCall self.old asked.now }
-        ensures ok { OnOk result (self.new ≡ logged self.old (rule self.old asked.now)) }
-        ensures err { OnErr result (self.new ≡ self.old) }
-    {
-        let number = self.log.len() as u64;
-        let made = entry_made(self.alloc, &self.books, self.start, asked)?;
-        let books = books_next(self.alloc, &self.books, &made, number)?;
-        self.log.push(made)?;
-        self.books = books;
-        Ok(())
-    }
+    let made = made(alloc, start, log, asked)?;
+    Ok(Some(made))
 }

@@ -6,17 +6,17 @@ use Rattle.std.specs.List.{list_any, cons_option}
 use Rattle.std.specs.Str.{bytes_eq}
 use Rattle.std.proofs.Math.Seq.{take-append_seam}
 use Rattle.std.proofs.lemmas.Slice.Eq.{bytes_eq-Decides}
-use Rattle.lru_disk_cache.specs.Files.{Files, file_at, without, front, is_behind, found_behind, found_under}
-use Rattle.lru_disk_cache.specs.Held.{Held, Holds, Became}
-use Rattle.lru_disk_cache.specs.Disk.{ButUnder, OnlyRemoved, RemovedAt, RemovedUnder}
-use Rattle.lru_disk_cache.specs.Archives.{archives_in, archive_in, archive_path, archive_key, id_of}
-use Rattle.lru_disk_cache.specs.Cleaned.{found_of}
-use Rattle.lru_disk_cache.specs.declared.folder.Found.{Found}
-use Rattle.lru_disk_cache.proofs.Became.{became_map, became_then, became_from}
-use Rattle.lru_disk_cache.proofs.Distinct.{apart}
-use Rattle.lru_disk_cache.proofs.Exactly.{without_was}
-use Rattle.lru_disk_cache.proofs.InStep.{in_more}
-use Rattle.lru_disk_cache.proofs.Lookups.{itself, without_other, without_same}
+use Rattle.folders.specs.Files.{Files, file_at, without, front, is_behind, found_behind, found_under}
+use Rattle.folders.specs.Held.{Held, Holds, Became}
+use Rattle.folders.specs.Changed.{ButUnder, OnlyRemoved, RemovedAt, RemovedUnder}
+use Rattle.toolchain_cache.specs.Archives.{archives_in, archive_in, archive_path, archive_key, id_of}
+use Rattle.toolchain_cache.specs.Cleaned.{found_of}
+use Rattle.folders.specs.declared.folder.Found.{Found}
+use Rattle.folders.proofs.Became.{became_map, became_then, became_from}
+use Rattle.folders.proofs.Distinct.{apart}
+use Rattle.folders.proofs.Exactly.{without_was}
+use Rattle.toolchain_cache.proofs.InStep.{in_more}
+use Rattle.folders.proofs.Lookups.{itself, without_other, without_same}
 use Rattle.lru_disk_cache.proofs.Strips.{begins}
 use Rattle.disk_cache.specs.Names.{IsBeside}
 use Rattle.disk_cache.specs.Opening.{IsEmpty, AreApart, SameArchives}
@@ -227,16 +227,3 @@ pub listed_last : (under : List ℕ) (found : List Found) (i : ℕ) (old new : H
 listed_last under found i old new le h = λ files told.
     let w = became_from (Emptying under found i) old.files new.files files h told in
     emptying_last under found i w.0 files le w.2
-
--- a call that changes no file
-pub unchanged : (old new : Held) → new ≡ record {
-  files = option_map (λ (f : Files). f) old.files;
-  faults = old.faults;
-} → new ≡ old
-unchanged old new is = is ∙ by old.files
-  where
-    by : (o : Option Files) → ◌≡◌ {A = Held}
-        (record { files = option_map (λ (f : Files). f) o; faults = old.faults })
-        (record { files = o; faults = old.faults })
-    by None = refl
-    by (Some f) = refl

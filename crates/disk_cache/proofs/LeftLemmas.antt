@@ -2,43 +2,18 @@
 use Rattle.std.proofs.Common.{◌≡◌, ℕ, false, List, [], codes, Option, Some, None, inl, inr, refl, sym, ap}
 use Rattle.std.proofs.Common.{subst, ◌∙◌}
 use Rattle.std.specs.Str.{bytes_eq}
-use Rattle.lru_disk_cache.specs.Files.{Files, file_at, front}
-use Rattle.lru_disk_cache.specs.Held.{Held, Holds, Lacks, Became}
-use Rattle.lru_disk_cache.specs.Disk.{ButUnder, OnlyRemoved, RemovedUnder}
-use Rattle.lru_disk_cache.specs.Whole.{OldOr}
-use Rattle.lru_disk_cache.proofs.Became.{became_map, became_same, became_then}
+use Rattle.folders.specs.Files.{Files, file_at, front}
+use Rattle.folders.specs.Held.{Held, Became}
+use Rattle.folders.specs.Changed.{ButUnder, OnlyRemoved, RemovedUnder}
+use Rattle.folders.proofs.Became.{became_map, became_same, became_then}
 use Rattle.disk_cache.specs.declared.names.Names.{Names}
 use Rattle.disk_cache.specs.Names.{AreNames, IsBeside, weak_path, temp_dir, temp_path}
 use Rattle.disk_cache.specs.Opening.{LeftOpen}
-use Rattle.disk_cache.specs.Saving.{ButTwo, OldOrEmpty, OldOrBegun}
-use Rattle.disk_cache.specs.WeakMaps.{Weak, weak_map_in, weak_map_of}
+use Rattle.disk_cache.specs.Saving.{ButTwo, OldOrBegun}
+use Rattle.disk_cache.specs.WeakMaps.{weak_map_of}
 use Rattle.disk_cache.proofs.NameLemmas.{temp_beside_weak, temp_there, weak_outside}
 
 -- ---- the weak map is begun
-
-pub empty_left : (dir text : List ℕ) (map : Weak) (one two : Option Files) → weak_map_in text ≡ Some map
-    → map ≡ [] → Became (OldOr (weak_path dir) text) one two → Became (OldOrEmpty dir) one two
-empty_left dir text map one two reads none h =
-    became_map (OldOr (weak_path dir) text) (OldOrEmpty dir) one two
-    (λ f g w. elim w [
-      | inl same ↦ inl same
-      | inr is ↦ inr (ap weak_map_of is ∙ (reads ∙ ap Some none))
-    ]) h
-
-pub begun_left : (dir at : List ℕ) (old mid new : Held) → at ≡ weak_path dir → mid ≡ old
-    → Holds old (Lacks at) → Became (OldOrEmpty dir) mid.files new.files
-    → Became (OldOrBegun dir) old.files new.files
-begun_left dir at old mid new is same lacks h =
-    by old.files new.files (λ files told. subst (λ (p : List ℕ). Lacks p files) is (lacks files told))
-    (subst (λ (k : Held). Became (OldOrEmpty dir) k.files new.files) same h)
-  where
-    by : (o n : Option Files) → ((files : Files) → o ≡ Some files → Lacks (weak_path dir) files)
-        → Became (OldOrEmpty dir) o n → Became (OldOrBegun dir) o n
-    by None n none h = h
-    by (Some f) n none h =
-        (h.0, h.1, elim h.2 [ inl same ↦ inl same | inr empty ↦ inr (none f refl, empty) ])
-
--- ---- one step behind another
 
 pub left_none : (dir : List ℕ) (o : Option Files) → Became (LeftOpen dir) o o
 left_none dir o = became_same (LeftOpen dir) o (λ f. record {

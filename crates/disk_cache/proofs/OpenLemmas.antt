@@ -5,18 +5,18 @@ use Rattle.std.proofs.Common.{refl, sym, ap, subst, ◌∙◌, true≢false, rul
 use Rattle.std.specs.Str.{bytes_eq}
 use Rattle.std.proofs.lemmas.Slice.Eq.{bytes_eq-Decides}
 use Rattle.dist_types.specs.Cause.{Rose}
-use Rattle.lru_disk_cache.specs.Files.{Files, file_at, front}
-use Rattle.lru_disk_cache.specs.Held.{Held, Holds, Became, Lacks}
-use Rattle.lru_disk_cache.specs.Disk.{ButUnder}
+use Rattle.folders.specs.Files.{Files, file_at, front}
+use Rattle.folders.specs.Held.{Held, Holds, Became, Lacks}
+use Rattle.folders.specs.Changed.{ButUnder}
 use Rattle.lru_disk_cache.specs.Entries.{trim}
-use Rattle.lru_disk_cache.specs.Archives.{Archives, opened_archives}
+use Rattle.toolchain_cache.specs.Archives.{Archives, opened_archives}
 use Rattle.lru_disk_cache.specs.Store.{IoCause}
 use Rattle.lru_disk_cache.specs.declared.error.Error.TheVariants.{Io}
-use Rattle.lru_disk_cache.specs.declared.fault.FolderFault.{FolderFault}
-use Rattle.lru_disk_cache.specs.declared.fault.FolderFault.TheVariants.{Missing, Failed}
-use Rattle.lru_disk_cache.specs.declared.fault.FolderFault.TheVariants.{Memory as OutOfMemory}
-use Rattle.lru_disk_cache.proofs.Distinct.{apart}
-use Rattle.lru_disk_cache.proofs.Became.{became_then, became_from}
+use Rattle.folders.specs.declared.fault.FolderFault.{FolderFault}
+use Rattle.folders.specs.declared.fault.FolderFault.TheVariants.{Missing, Failed}
+use Rattle.folders.specs.declared.fault.FolderFault.TheVariants.{Memory as OutOfMemory}
+use Rattle.folders.proofs.Distinct.{apart}
+use Rattle.folders.proofs.Became.{became_then, became_from}
 use Rattle.disk_cache.specs.declared.config.DistToolchainConfig.{DistToolchainConfig}
 use Rattle.disk_cache.specs.declared.names.Names.{Names}
 use Rattle.disk_cache.specs.declared.toolchain_error.ToolchainError.{ToolchainError}

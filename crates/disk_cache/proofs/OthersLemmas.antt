@@ -2,9 +2,9 @@
 use Rattle.std.proofs.Common.{◌≡◌, ℕ, List, Option, Some, refl, ap, subst, ◌∙◌}
 use Rattle.std.specs.Prelude.{◌⊎◌}
 use Rattle.std.proofs.Common.{inl, inr}
-use Rattle.lru_disk_cache.specs.Files.{Files}
-use Rattle.lru_disk_cache.specs.Held.{Became}
-use Rattle.lru_disk_cache.proofs.Became.{became_map, became_same, became_then}
+use Rattle.folders.specs.Files.{Files}
+use Rattle.folders.specs.Held.{Became}
+use Rattle.folders.proofs.Became.{became_map, became_same, became_then}
 use Rattle.disk_cache.specs.Names.{weak_path, temp_path}
 use Rattle.disk_cache.specs.Opening.{ButOwn}
 use Rattle.disk_cache.specs.Others.{ButArchives, KeepsBeside, KeepsOthers, OldOrRecorded}

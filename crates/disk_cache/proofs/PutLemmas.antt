@@ -1,8 +1,8 @@
 -- Putting where memory ran out before anything was done.
 use Rattle.std.proofs.Common.{ℕ, List, Option, Some, None, Err, refl}
 use Rattle.dist_types.specs.declared.fault.Memory.{Memory as OutOfMem}
-use Rattle.lru_disk_cache.specs.Files.{Same}
-use Rattle.lru_disk_cache.proofs.Became.{became_same}
+use Rattle.folders.specs.Files.{Same}
+use Rattle.folders.proofs.Became.{became_same}
 use Rattle.disk_cache.specs.declared.config.Choice.TheVariants.{Archive}
 use Rattle.disk_cache.specs.declared.config.CustomToolchain.{CustomToolchain}
 use Rattle.disk_cache.specs.declared.config.DistToolchainConfig.{DistToolchainConfig}

@@ -4,15 +4,15 @@ use Rattle.std.proofs.Common.{inl, inr, refl, sym, ap, subst, ◌∙◌, true≢
 use Rattle.std.specs.Option.{option_map}
 use Rattle.std.specs.Str.{bytes_eq}
 use Rattle.dist_types.specs.Cause.{Rose}
-use Rattle.lru_disk_cache.specs.Files.{Files, file_at, put, put_found, without, moved, PartWritten, DoneOrNot}
-use Rattle.lru_disk_cache.specs.Held.{Held, Holds, Lacks, Never, Became, Changes}
-use Rattle.lru_disk_cache.specs.declared.fault.FolderFault.{FolderFault}
-use Rattle.lru_disk_cache.specs.declared.fault.FolderFault.TheVariants.{Missing, Failed, Memory}
-use Rattle.lru_disk_cache.proofs.Became.{became_of, became_then, became_from}
-use Rattle.lru_disk_cache.proofs.Distinct.{apart as apart_of}
-use Rattle.lru_disk_cache.proofs.Lookups.{without_same, put_same, put_other, part_other, moved_other}
-use Rattle.lru_disk_cache.proofs.Lookups.{moved_there}
-use Rattle.lru_disk_cache.specs.Whole.{OldOr}
+use Rattle.folders.specs.Files.{Files, file_at, put, put_found, without, moved, PartWritten, DoneOrNot}
+use Rattle.folders.specs.Held.{Held, Holds, Lacks, Never, Became, Changes}
+use Rattle.folders.specs.declared.fault.FolderFault.{FolderFault}
+use Rattle.folders.specs.declared.fault.FolderFault.TheVariants.{Missing, Failed, Memory}
+use Rattle.folders.proofs.Became.{became_of, became_then, became_from}
+use Rattle.folders.proofs.Distinct.{apart as apart_of}
+use Rattle.folders.proofs.Lookups.{without_same, put_same, put_other, part_other, moved_other}
+use Rattle.folders.proofs.Lookups.{moved_there}
+use Rattle.folders.specs.Whole.{OldOr}
 use Rattle.disk_cache.specs.Saving.{ButTwo, SaveFails}
 
 became_done : (E : Files → Files → Type 0) (done : Files → Files) (old : Option Files)

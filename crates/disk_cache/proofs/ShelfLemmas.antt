@@ -1,10 +1,10 @@
 -- What a call of the cache leaves of a client's toolchains.
 use Rattle.std.proofs.Common.{◌≡◌, ℕ, List, Option, IsSome, sym, subst, ◌∙◌}
-use Rattle.lru_disk_cache.specs.Files.{file_at, front}
-use Rattle.lru_disk_cache.specs.Held.{Held, Became}
-use Rattle.lru_disk_cache.specs.Archives.{Archives, IsArchiveStore}
-use Rattle.lru_disk_cache.specs.Disk.{ButUnder}
-use Rattle.lru_disk_cache.proofs.Became.{became_from}
+use Rattle.folders.specs.Files.{file_at, front}
+use Rattle.folders.specs.Held.{Held, Became}
+use Rattle.toolchain_cache.specs.Archives.{Archives, IsArchiveStore}
+use Rattle.folders.specs.Changed.{ButUnder}
+use Rattle.folders.proofs.Became.{became_from}
 use Rattle.disk_cache.specs.declared.names.Names.{Names}
 use Rattle.disk_cache.specs.Names.{cache_path, weak_path}
 use Rattle.disk_cache.specs.Shelf.{IsShelf}

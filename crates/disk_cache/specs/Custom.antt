@@ -3,11 +3,11 @@ use Rattle.std.specs.Prelude.{◌≡◌, ℕ, List, [], ◌∷◌, ◌++◌, if�
 use Rattle.std.specs.Prelude.{Result, Ok, Err, String, string_bytes}
 use Rattle.std.specs.Str.{bytes_eq}
 use Rattle.std.specs.declared.alloc.Global.{Global}
-use Rattle.lru_disk_cache.specs.Files.{file_at, Same}
-use Rattle.lru_disk_cache.specs.Held.{Holds, Became}
-use Rattle.lru_disk_cache.specs.Archives.{id_of}
+use Rattle.folders.specs.Files.{file_at, Same}
+use Rattle.folders.specs.Held.{Holds, Became}
+use Rattle.toolchain_cache.specs.Archives.{id_of}
 use Rattle.lru_disk_cache.specs.declared.error.Error.TheVariants.{Io}
-use Rattle.lru_disk_cache.specs.declared.fault.FolderFault.TheVariants.{Memory as OutOfMemory}
+use Rattle.folders.specs.declared.fault.FolderFault.TheVariants.{Memory as OutOfMemory}
 use Rattle.dist_types.specs.declared.fault.Memory.{Memory as OutOfMem}
 use Rattle.disk_cache.specs.declared.config.CustomToolchain.{CustomToolchain}
 use Rattle.disk_cache.specs.declared.custom.Custom.{Custom}

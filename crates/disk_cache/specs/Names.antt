@@ -1,7 +1,7 @@
 -- Where the files of a client's toolchains stand, below the path that it is opened with.
 use Rattle.std.specs.Prelude.{◌≡◌, ℕ, false, List, ◌++◌, codes}
 use Rattle.std.specs.Str.{bytes_eq}
-use Rattle.lru_disk_cache.specs.Files.{front}
+use Rattle.folders.specs.Files.{front}
 use Rattle.disk_cache.specs.declared.names.Names.{Names}
 
 -- the cache of archives

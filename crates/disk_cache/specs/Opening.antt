@@ -1,9 +1,9 @@
 -- What an opening of a client's toolchains finds, and why it fails.
 use Rattle.std.specs.Prelude.{◌≡◌, ℕ, false, List, ◌++◌, None, Some, IsSome, Err}
 use Rattle.std.specs.Str.{bytes_eq}
-use Rattle.lru_disk_cache.specs.Files.{Files, file_at, front}
-use Rattle.lru_disk_cache.specs.Held.{Held, Holds}
-use Rattle.lru_disk_cache.specs.Archives.{archives_in}
+use Rattle.folders.specs.Files.{Files, file_at, front}
+use Rattle.folders.specs.Held.{Held, Holds}
+use Rattle.toolchain_cache.specs.Archives.{archives_in}
 use Rattle.lru_disk_cache.specs.Store.{IoCause}
 use Rattle.lru_disk_cache.specs.declared.error.Error.TheVariants.{Io}
 use Rattle.disk_cache.specs.declared.config.DistToolchainConfig.{DistToolchainConfig}

@@ -1,8 +1,8 @@
 -- What a call leaves of the files that it is not about.
 use Rattle.std.specs.Prelude.{◌≡◌, ◌⊎◌, List, ℕ, Some}
-use Rattle.lru_disk_cache.specs.Files.{Files, front}
-use Rattle.lru_disk_cache.specs.Held.{Became}
-use Rattle.lru_disk_cache.specs.Disk.{ButUnder}
+use Rattle.folders.specs.Files.{Files, front}
+use Rattle.folders.specs.Held.{Became}
+use Rattle.folders.specs.Changed.{ButUnder}
 use Rattle.disk_cache.specs.Names.{cache_path}
 use Rattle.disk_cache.specs.Opening.{ButOwn}
 use Rattle.disk_cache.specs.Toolchains.{Toolchains}

@@ -6,15 +6,15 @@ use Rattle.std.specs.Str.{bytes_eq}
 use Rattle.std.specs.declared.alloc.Global.{Global}
 use Rattle.dist_types.specs.Cause.{Rose}
 use Rattle.path_pkg.specs.Append.{Appends}
-use Rattle.lru_disk_cache.specs.Files.{file_at}
-use Rattle.lru_disk_cache.specs.Held.{Holds, Became}
-use Rattle.lru_disk_cache.specs.Archives.{id_of, archive_path}
-use Rattle.lru_disk_cache.specs.Archiving.{with_archive, StoreFails}
+use Rattle.folders.specs.Files.{file_at}
+use Rattle.folders.specs.Held.{Holds, Became}
+use Rattle.toolchain_cache.specs.Archives.{id_of, archive_path}
+use Rattle.toolchain_cache.specs.Archiving.{with_archive, StoreFails}
 use Rattle.lru_disk_cache.specs.Entries.{promoted_key}
 use Rattle.lru_disk_cache.specs.Store.{IoCause}
 use Rattle.lru_disk_cache.specs.declared.error.Error.{Error}
 use Rattle.lru_disk_cache.specs.declared.error.Error.TheVariants.{Io, FileNotInCache}
-use Rattle.lru_disk_cache.specs.declared.fault.FolderFault.TheVariants.{Missing}
+use Rattle.folders.specs.declared.fault.FolderFault.TheVariants.{Missing}
 use Rattle.disk_cache.specs.declared.config.DistToolchainConfig.{DistToolchainConfig}
 use Rattle.disk_cache.specs.declared.config.DistToolchainConfig.TheVariants.{PathOverride, NoDist}
 use Rattle.disk_cache.specs.declared.config.CustomToolchain.{CustomToolchain}

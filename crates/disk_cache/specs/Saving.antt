@@ -2,13 +2,13 @@
 use Rattle.std.specs.Prelude.{◌≡◌, ◌⊎◌, ◌≤◌, ℕ, false, List, [], Some, None}
 use Rattle.std.specs.Str.{bytes_eq}
 use Rattle.dist_types.specs.Cause.{Rose}
-use Rattle.lru_disk_cache.specs.Files.{Files, file_at}
-use Rattle.lru_disk_cache.specs.Held.{Held, Holds}
+use Rattle.folders.specs.Files.{Files, file_at}
+use Rattle.folders.specs.Held.{Held, Holds}
 use Rattle.lru_disk_cache.specs.Store.{IoCause}
 use Rattle.lru_disk_cache.specs.declared.error.Error.TheVariants.{Io}
-use Rattle.lru_disk_cache.specs.declared.fault.FolderFault.{FolderFault}
-use Rattle.lru_disk_cache.specs.declared.fault.FolderFault.TheVariants.{Missing, Failed}
-use Rattle.lru_disk_cache.specs.declared.fault.FolderFault.TheVariants.{Memory as OutOfMemory}
+use Rattle.folders.specs.declared.fault.FolderFault.{FolderFault}
+use Rattle.folders.specs.declared.fault.FolderFault.TheVariants.{Missing, Failed}
+use Rattle.folders.specs.declared.fault.FolderFault.TheVariants.{Memory as OutOfMemory}
 use Rattle.disk_cache.specs.declared.toolchain_error.ToolchainError.{ToolchainError}
 use Rattle.disk_cache.specs.declared.toolchain_error.ToolchainError.TheVariants.{Cache, BadWeakMap, Memory}
 use Rattle.disk_cache.specs.Names.{weak_path}

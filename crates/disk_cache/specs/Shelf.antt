@@ -1,7 +1,7 @@
 -- What holds of the parts of a client's toolchains, whatever failed so far.
 use Rattle.std.specs.Prelude.{◌≡◌, ℕ, List, IsSome}
-use Rattle.lru_disk_cache.specs.Held.{Held, Holds}
-use Rattle.lru_disk_cache.specs.Archives.{Archives, IsArchiveStore}
+use Rattle.folders.specs.Held.{Held, Holds}
+use Rattle.toolchain_cache.specs.Archives.{Archives, IsArchiveStore}
 use Rattle.disk_cache.specs.declared.names.Names.{Names}
 use Rattle.disk_cache.specs.Names.{AreNames}
 use Rattle.disk_cache.specs.WeakMaps.{weak_map_at}

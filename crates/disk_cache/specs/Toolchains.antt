@@ -1,15 +1,15 @@
 -- What a client keeps of its toolchains, and why a call of it failed.
 use Rattle.std.specs.Prelude.{◌≡◌, ℕ, List, Some, IsSome}
 use Rattle.disk_cache.specs.WeakMaps.{Weak, weak_map_at}
-use Rattle.lru_disk_cache.specs.Files.{Same}
-use Rattle.lru_disk_cache.specs.Held.{Held, Holds, Became, Lacks}
-use Rattle.lru_disk_cache.specs.Archives.{Archives, IsArchiveStore}
+use Rattle.folders.specs.Files.{Same}
+use Rattle.folders.specs.Held.{Held, Holds, Became, Lacks}
+use Rattle.toolchain_cache.specs.Archives.{Archives, IsArchiveStore}
 use Rattle.lru_disk_cache.specs.Store.{error_of}
 use Rattle.lru_disk_cache.specs.declared.error.Error.{Error}
 use Rattle.lru_disk_cache.specs.declared.error.Error.TheVariants.{Memory as NoMemory}
-use Rattle.lru_disk_cache.specs.declared.fault.FolderFault.{FolderFault}
-use Rattle.lru_disk_cache.specs.declared.fault.FolderFault.TheVariants.{Missing, Failed}
-use Rattle.lru_disk_cache.specs.declared.fault.FolderFault.TheVariants.{Memory as OutOfMemory}
+use Rattle.folders.specs.declared.fault.FolderFault.{FolderFault}
+use Rattle.folders.specs.declared.fault.FolderFault.TheVariants.{Missing, Failed}
+use Rattle.folders.specs.declared.fault.FolderFault.TheVariants.{Memory as OutOfMemory}
 use Rattle.dist_types.specs.Cause.{Rose}
 use Rattle.disk_cache.specs.declared.config.DistToolchainConfig.{DistToolchainConfig}
 use Rattle.disk_cache.specs.declared.custom.Taken.{Taken}

@@ -10,7 +10,7 @@ use Rattle.serde_json.specs.Data.{Data, Members, no_members, member}
 use Rattle.serde_json.specs.Find.{as_str, as_object}
 use Rattle.serde_json.specs.Read.{read}
 use Rattle.dist_types.specs.Toolchain.{digest_in}
-use Rattle.lru_disk_cache.specs.Files.{Files, file_at}
+use Rattle.folders.specs.Files.{Files, file_at}
 use Rattle.disk_cache.specs.Names.{weak_path}
 
 -- weak keys, in the order of their bytes, each with a text

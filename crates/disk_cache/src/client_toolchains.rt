@@ -1,10 +1,10 @@
 //! `ClientToolchains`: the archives that a client sends, packaged or configured.
 ghost use Rattle.std.specs.Prelude.{◌≡◌, ◌≤◌, ◌++◌, ◌∷◌, [], Some, None, Ok, OnOk, IfOk, IfErr};
 ghost use Rattle.std.specs.Option.{option_map};
-ghost use Rattle.lru_disk_cache.specs.Files.{file_at};
-ghost use Rattle.lru_disk_cache.specs.Held.{Holds, Became};
-ghost use Rattle.lru_disk_cache.specs.Archives.{id_of, opened_archives};
-ghost use Rattle.lru_disk_cache.specs.Archiving.{FindFails};
+ghost use Rattle.folders.specs.Files.{file_at};
+ghost use Rattle.folders.specs.Held.{Holds, Became};
+ghost use Rattle.toolchain_cache.specs.Archives.{id_of, opened_archives};
+ghost use Rattle.toolchain_cache.specs.Archiving.{FindFails};
 ghost use Rattle.disk_cache.specs.Configs.{config_of, config_verdict, custom_of, IsChoice};
 ghost use Rattle.disk_cache.specs.Custom.{TellsCustom, Takes, Unread, IsCustom, taken_of, last_taken, taking};
 ghost use Rattle.disk_cache.specs.Custom.{custom_as, custom_told, customs_seen};
@@ -30,13 +30,14 @@ use dist_types::fault::Memory;
 use dist_types::text::Text;
 use dist_types::toolchain::Toolchain;
 use dist_types::try_clone::TryClone;
-use lru_disk_cache::fault::FolderFault;
-use lru_disk_cache::folder::Folder;
-use lru_disk_cache::{Error, TcCache, toolchain_of};
+use folders::fault::FolderFault;
+use folders::folder::Folder;
+use lru_disk_cache::Error;
 use path_pkg::fault::PackFault;
 use path_pkg::packagers::ToolchainPackager;
 use std::alloc::Global;
 use std::marker::Model;
+use toolchain_cache::{TcCache, toolchain_of};
 
 /// The toolchains of a client: archives that were packaged, in a cache under a path of a folder, each found
 /// again by a weak key of its compiler, and archives of the folder that are configured for compilers.

@@ -1,15 +1,15 @@
 //! A directory that is emptied.
 ghost use Rattle.std.specs.Prelude.{◌≡◌, ℕ, List, Err, OnOk};
-ghost use Rattle.lru_disk_cache.specs.Files.{front, without};
-ghost use Rattle.lru_disk_cache.specs.Held.{Holds, Became};
-ghost use Rattle.lru_disk_cache.specs.Disk.{ButUnder, Counts, RemovedAt, RemovedUnder};
+ghost use Rattle.folders.specs.Files.{front, without};
+ghost use Rattle.folders.specs.Held.{Holds, Became};
+ghost use Rattle.folders.specs.Changed.{ButUnder, Counts, RemovedAt, RemovedUnder};
 ghost use Rattle.disk_cache.specs.Names.{AreNames, temp_dir};
 ghost use Rattle.disk_cache.specs.Opening.{IsEmpty, AreApart, SameArchives};
 
 use crate::names::Names;
 use dist_types::text::Text;
-use lru_disk_cache::fault::FolderFault;
-use lru_disk_cache::folder::Folder;
+use folders::fault::FolderFault;
+use folders::folder::Folder;
 
 /// Removes a file. One that is missing already is no fault.
 fn discard<F: Folder>(folder: &mut F, path: &Text) -> Result<(), FolderFault>

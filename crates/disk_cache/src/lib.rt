@@ -1,7 +1,8 @@
 //! The caches of archives, for build servers and for clients.
 //!
-//! Folders, disk caches and the cache of archives known by their SHA-256 stand in `lru_disk_cache`, which
-//! build servers take as it is; their names are given again here. Here stand the toolchains of a client.
+//! Folders stand in `folders`, disk caches in `lru_disk_cache`, and the cache of archives known by their
+//! SHA-256, which build servers take as it is, in `toolchain_cache`; their names are given again here. Here
+//! stand the toolchains of a client.
 //!
 //! The contract: a client's toolchains are seen as one record, `Toolchains`: its archives, the weak map, what
 //! is configured, the configured archives whose SHA-256 was taken, and what the folder tells. Each call
@@ -22,11 +23,12 @@ pub mod weak_map;
 pub use client_toolchains::ClientToolchains;
 pub use config::{CustomToolchain, DistToolchainConfig};
 use dist_types::text::Text;
+pub use folders::{fault, folder, mem_folder, real_folder, reliable_folder};
 pub use lru_disk_cache::{
-    Archives, Error, LruDiskCache, LruDiskCacheAddEntry, Opened, ReadSeek, Result, TcCache,
-    WriteFault, fault, folder, is_key, mem_folder, real_folder, reliable_folder,
+    Error, LruDiskCache, LruDiskCacheAddEntry, Opened, ReadSeek, Result, WriteFault, is_key,
 };
 use lru_metered::Iter;
+pub use toolchain_cache::{Archives, TcCache};
 pub use toolchain_error::ToolchainError;
 
 /// The keys of a disk cache with their sizes in bytes, least recent first.

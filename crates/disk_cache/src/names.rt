@@ -1,6 +1,6 @@
 //! The paths of the files of a client's toolchains.
 ghost use Rattle.std.specs.Prelude.{◌≡◌, ◌++◌, IfOk};
-ghost use Rattle.lru_disk_cache.specs.Files.{front};
+ghost use Rattle.folders.specs.Files.{front};
 ghost use Rattle.disk_cache.specs.Names.{AreNames};
 
 use dist_types::text::Text;

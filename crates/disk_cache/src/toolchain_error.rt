@@ -2,8 +2,8 @@
 ghost use Rattle.std.specs.Prelude.{◌≡◌};
 ghost use Rattle.disk_cache.specs.Toolchains.{toolchain_error, fault_error};
 
+use folders::fault::FolderFault;
 use lru_disk_cache::Error;
-use lru_disk_cache::fault::FolderFault;
 use thiserror::Error as ThisError;
 
 /// Why a call on a client's toolchains failed.

@@ -1,20 +1,20 @@
 //! The file of the weak map.
 ghost use Rattle.std.specs.Prelude.{◌≡◌, ◌⊎◌, [], Some, None, IfOk, IfErr, OnOk};
-ghost use Rattle.lru_disk_cache.specs.Files.{file_at};
-ghost use Rattle.lru_disk_cache.specs.Held.{Holds, Became, Lacks};
-ghost use Rattle.lru_disk_cache.specs.Archives.{IsArchiveStore};
+ghost use Rattle.folders.specs.Files.{file_at};
+ghost use Rattle.folders.specs.Held.{Holds, Became, Lacks};
+ghost use Rattle.toolchain_cache.specs.Archives.{IsArchiveStore};
 ghost use Rattle.disk_cache.specs.Names.{AreNames, weak_path, temp_path};
-ghost use Rattle.lru_disk_cache.specs.Whole.{OldOr};
+ghost use Rattle.folders.specs.Whole.{OldOr};
 ghost use Rattle.disk_cache.specs.Saving.{ButTwo, OldOrEmpty, OldOrBegun, SaveFails, BeginFails, LoadFails};
 ghost use Rattle.disk_cache.specs.WeakMaps.{weak_map_in, weak_map_at};
 
 use crate::names::Names;
 use crate::toolchain_error::{ToolchainError, fault_error};
 use crate::weak_map::WeakMap;
-use lru_disk_cache::TcCache;
-use lru_disk_cache::fault::FolderFault;
-use lru_disk_cache::folder::Folder;
+use folders::fault::FolderFault;
+use folders::folder::Folder;
 use std::alloc::Global;
+use toolchain_cache::TcCache;
 
 /// Writes the text of a weak map under another name, and renames it: a fault leaves the file's old text or
 /// the new.

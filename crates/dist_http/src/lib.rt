@@ -8,6 +8,7 @@ pub mod http;
 pub mod real_serve;
 pub mod starts;
 
+pub use core_rules::HEARTBEAT_TIMEOUT;
 pub use dist_config::config::{ClientAuth, SchedulerConfig, ServerAuth, ServerConfig};
 pub use http_calls::alloc_call::AllocCall;
 pub use http_calls::builder::{RequestBuilder, ReqwestRequestBuilderExt};
@@ -28,7 +29,6 @@ pub use http_routes::refusal::RouilleBincodeError;
 pub use http_routes::reply::{Response, bincode_response, prepare_response};
 pub use http_routes::route::{SchedRouted, scheduler_route};
 pub use http_routes::server_route::{ServerRouted, server_route};
-pub use sched_core::HEARTBEAT_TIMEOUT;
 pub use scheduler_service::connection::serve_scheduler_connection;
 pub use scheduler_service::run_scheduler::serve_scheduler;
 pub use scheduler_service::workers::{Kit, serve_scheduler_kits, serve_scheduler_workers};

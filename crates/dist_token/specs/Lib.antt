@@ -1,4 +1,5 @@
 pub mod Accepted
+pub mod CheckLaws
 pub mod Checks
 pub mod Dots
 pub mod Forwarded

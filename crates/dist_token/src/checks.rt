@@ -1,9 +1,11 @@
 //! The checks of tokens: whether a build server, or a client, is let in.
-ghost use Rattle.std.specs.Prelude.{◌≡◌, ℕ, List, Option, Ok, Result, IfOk, ⊤, string_bytes};
+ghost use Rattle.std.specs.Prelude.{◌≡◌, ℕ, Bool, true, List, Option, Ok, Result, IfOk, is_err, ⊤};
+ghost use Rattle.std.specs.Prelude.{string_bytes};
 ghost use Rattle.std.specs.Result.{result_ok};
 ghost use Rattle.dist_types.specs.declared.addr.Addr.{Addr as Address};
 ghost use Rattle.dist_types.specs.declared.token_error.TokenError.{TokenError as Refusal};
-ghost use Rattle.dist_token.specs.Checks.{equal_verdict, fixed_shown};
+ghost use Rattle.dist_token.specs.Checks.{equal_verdict, equal_refuses, fixed_shown};
+ghost use Rattle.dist_token.specs.CheckLaws.{equal_refusals};
 ghost use Rattle.dist_token.specs.Verdict.{server_verdict, plain_server};
 
 use crate::server_token::{check_server_token, check_under};
@@ -124,8 +126,18 @@ impl ClientVisibleMsg {
     }
 }
 
+/// Tells which tokens it refuses whatever the moment is, without asking anybody.
+pub trait TokenRefusal {
+    /// Which tokens it refuses so; it may tell none.
+    ghost refuses: { Self → List ℕ → Bool };
+
+    /// Whether it refuses a token so. It takes no memory.
+    fn is_refused(&self, token: &str) -> bool
+        ensures { result ≡ refuses self.now token.now };
+}
+
 /// Accepts the tokens of clients.
-pub trait ClientAuthCheck: Send {
+pub trait ClientAuthCheck: TokenRefusal + Send {
     /// Which answer it may give for a moment and a token, from its state before to its state after.
     ghost may_answer: { Self → ℕ → List ℕ → Result ⊤ Refusal → Self → Type 0 };
 
@@ -139,6 +151,10 @@ pub trait ClientAuthCheck: Send {
     /// What a refused client may see. `Memory` alone is refused.
     fn visible(&self, e: &TokenError) -> Result<ClientVisibleMsg, Memory>
         ensures { IfOk result (λ msg. msg ≡ shown self.now e.now) };
+
+    /// No answer accepts a token that it refuses whatever the moment is.
+    ghost refusals: { (check : Self) (now : ℕ) (token : List ℕ) (answer : Result ⊤ Refusal) (new : Self)
+        → may_answer check now token answer new → Self.refuses check token ≡ true → is_err answer ≡ true };
 }
 
 /// Accepts one token, and refuses any other as `FixedMismatch`.
@@ -166,12 +182,22 @@ impl EqCheck {
     }
 }
 
+impl TokenRefusal for EqCheck {
+    ghost refuses = { equal_refuses };
+
+    fn is_refused(&self, token: &str) -> bool {
+        self.text.as_str() != token
+    }
+}
+
 impl ClientAuthCheck for EqCheck {
     ghost use Rattle.std.specs.Prelude.{◌≡◌};
 
     ghost may_answer = { λ old now token answer new. (new ≡ old) × (answer ≡ equal_verdict old token) };
 
     ghost shown = { λ check e. fixed_shown };
+
+    ghost refusals = { equal_refusals };
 
     fn check(&mut self, _now: u64, token: &str) -> Result<(), TokenError> {
         if self.text.as_str() == token {

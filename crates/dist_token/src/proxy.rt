@@ -7,7 +7,7 @@ ghost use Rattle.dist_types.specs.declared.token_error.TokenError.TheVariants.{M
 ghost use Rattle.dist_token.specs.Forwarded.{target_of, forwarded, HasCode, is_success, is_fresh, Shows};
 ghost use Rattle.dist_token.specs.Forwarded.{host_of, port_of};
 
-use crate::checks::{ClientAuthCheck, ClientVisibleMsg};
+use crate::checks::{ClientAuthCheck, ClientVisibleMsg, TokenRefusal};
 use crate::kept::{Kept, forget, keep, moment_of, none_kept};
 use dist_types::dialer::{AskFault, Dialer};
 use dist_types::fault::Memory;
@@ -159,7 +159,19 @@ impl<D: Dialer> ProxyTokenCheck<D> {
     }
 }
 
+/// The peer is asked about any.
+impl<D: Dialer> TokenRefusal for ProxyTokenCheck<D> {
+    ghost use Rattle.std.specs.Prelude.{false};
+
+    ghost refuses = { λ check token. false };
+
+    fn is_refused(&self, _token: &str) -> bool {
+        false
+    }
+}
+
 impl<D: Dialer + Send> ClientAuthCheck for ProxyTokenCheck<D> {
+    ghost use Rattle.dist_token.specs.CheckLaws.{none_refused};
     ghost use Rattle.dist_token.specs.Forwarded.{MayAnswer, forwarding_shown};
     ghost use Rattle.dist_token.specs.ProxyViews.{seen};
 
@@ -167,6 +179,8 @@ impl<D: Dialer + Send> ClientAuthCheck for ProxyTokenCheck<D> {
         (seen D.asked D.faults new) };
 
     ghost shown = { λ check e. forwarding_shown };
+
+    ghost refusals = { λ check now token answer new says refused. none_refused answer refused };
 
     fn check(&mut self, now: u64, token: &str) -> Result<(), TokenError> {
         if is_fresh(self.cache_secs, now, moment_of(&self.kept, token)) {

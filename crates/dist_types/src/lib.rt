@@ -20,6 +20,7 @@ pub mod output;
 pub mod readers;
 pub mod results;
 pub mod roles;
+pub mod rules;
 pub mod sink;
 pub mod source;
 pub mod tcp;

@@ -1,4 +1,12 @@
 -- Parts of what is to be written.
+--
+-- What an error leaves, as one clause that holds with and without an error (`rest`: `Ends reader.new
+-- reader.old`; `kept`: `Begins writer.old.tokens writer.new.tokens`), so each step of a function hands
+-- it on. Search found nearly every exit where the record's field gives the later list by the earlier one
+-- (`rest ≡ drop count whole`); with `whole ≡ front ++ rest` for the rest it found none behind two steps.
+-- What a part of a text leaves (`Adds text before after`) is found for one step, with `using(later,
+-- sooner)` for two; from three on each exit is one line of `later` and `sooner` (`proofs/Parts`); left
+-- out, `grind` took minutes to give up.
 use Rattle.std.proofs.Common.{◌≡◌, ℕ, ◌+◌, List, [], ◌∷◌, ◌++◌, flat_map, take, drop, sym, ap, subst, ◌∙◌, append_assoc}
 use Rattle.std.proofs.lemmas.Grind.{flat_map-append}
 use Rattle.std.proofs.lemmas.List.{append-nil, take-append-drop}

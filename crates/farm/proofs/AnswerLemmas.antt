@@ -8,23 +8,25 @@ use Rattle.dist_types.specs.declared.fault.Failed.{Failed}
 use Rattle.dist_config.specs.Serve.{scheduler_call, server_call}
 use Rattle.dist_config.specs.declared.serve.ServeCall.{ServeCall}
 use Rattle.dist_types.specs.Content.{left_behind}
-use Rattle.farm_script.specs.declared.fault.ConfigCause.{ConfigCause}
-use Rattle.farm_script.specs.declared.fault.ConfigCause.TheVariants.{Missing, Unreadable, NotToml, Key}
-use Rattle.farm_script.specs.declared.fault.FarmFault.{FarmFault}
-use Rattle.farm_script.specs.declared.fault.FarmFault.TheVariants.{Usage, BadLine, DuplicateAddress}
-use Rattle.farm_script.specs.declared.fault.FarmFault.TheVariants.{ScopedAddress, ReadFault, WriteFault}
-use Rattle.farm_script.specs.declared.fault.FarmFault.TheVariants.{BadConfig, ServeFault, Memory}
+use Rattle.line_program.specs.declared.fault.ConfigCause.{ConfigCause}
+use Rattle.line_program.specs.declared.fault.ConfigCause.TheVariants.{Missing, Unreadable, NotToml, Key}
+use Rattle.line_program.specs.declared.fault.FarmFault.{FarmFault}
+use Rattle.line_program.specs.declared.fault.FarmFault.TheVariants.{Usage, BadLine, DuplicateAddress}
+use Rattle.line_program.specs.declared.fault.FarmFault.TheVariants.{ScopedAddress, ReadFault, WriteFault}
+use Rattle.line_program.specs.declared.fault.FarmFault.TheVariants.{BadConfig, ServeFault, Memory}
 use Rattle.farm_script.specs.FirstFaulty.{IsFirstFaulty, IsFaultless}
-use Rattle.farm_config.specs.declared.files.NamedFile.{NamedFile}
-use Rattle.farm_words.specs.declared.command.AuthSubcommand.{AuthSubcommand}
-use Rattle.farm_words.specs.declared.command.Command.{Command}
-use Rattle.farm_words.specs.declared.command.Command.TheVariants.{Farm, Storm, Auth, Scheduler, Server}
-use Rattle.farm_words.specs.Asked.{Invocation, farm, random, token_under, token_of, scheduler, server, storm}
-use Rattle.farm_words.specs.Asked.{asked_by}
-use Rattle.farm_words.specs.Parsed.{OverFiles, command_in}
-use Rattle.farm.specs.Command.{fault_status, Side, Serving, Called, Moment, IsFarmRun}
+use Rattle.command_line.specs.declared.files.NamedFile.{NamedFile}
+use Rattle.command_line.specs.declared.command.AuthSubcommand.{AuthSubcommand}
+use Rattle.command_line.specs.declared.command.Command.{Command}
+use Rattle.command_line.specs.declared.command.Command.TheVariants.{Farm, Storm, Auth, Scheduler, Server}
+use Rattle.command_line.specs.Asked.{Invocation, farm, random, token_under, token_of, scheduler, server, storm}
+use Rattle.command_line.specs.Asked.{asked_by}
+use Rattle.command_line.specs.Parsed.{OverFiles, command_in}
+use Rattle.line_program.specs.Report.{fault_status, IsTold, IsLong, StandsFor, IsReported}
+use Rattle.line_program.specs.Side.{Side}
+use Rattle.farm.specs.Command.{program_name, Serving, Called, Moment, IsFarmRun}
 use Rattle.farm.specs.Command.{IsStormRun, IsAuthRun, IsStarted, IsCarriedOut, IsUnparsed}
-use Rattle.farm.specs.Command.{IsWorked, IsDoneBy, IsDone, IsTold, IsLong, StandsFor, IsReported}
+use Rattle.farm.specs.Command.{IsWorked, IsDoneBy, IsDone}
 use Rattle.farm.specs.Command.{IsAnswered}
 use Rattle.farm.proofs.ScriptRunLemmas.{whole_in_part}
 
@@ -50,12 +52,12 @@ status_most (BadConfig c) = omega arith
 status_most ServeFault = omega arith
 status_most Memory = omega arith
 
-told_some : (f : FarmFault) (answer : ℕ) (e x : Side) → IsTold f answer e x → 0 < answer
+told_some : (f : FarmFault) (answer : ℕ) (e x : Side) → IsTold program_name f answer e x → 0 < answer
 told_some f answer e x (inl p) = omega (arith, p.0, status_some f)
 told_some f answer e x (inr p) = omega (arith, p.0)
 
 -- a status that is not 5 is the fault's own, and errs did not fail
-own : (f : FarmFault) (answer : ℕ) (e x : Side) → IsTold f answer e x → answer ≢ 5 → (answer ≡ fault_status f)
+own : (f : FarmFault) (answer : ℕ) (e x : Side) → IsTold program_name f answer e x → answer ≢ 5 → (answer ≡ fault_status f)
     × (x.faults ≡ e.faults)
 own f answer e x (inl p) h = (p.0, p.2)
 own f answer e x (inr p) h = absurd (h p.0)
@@ -162,7 +164,7 @@ told_done met told c (inr p) done = subst (λ (f : FarmFault). IsDone (Err f) c)
 
 -- what was done, and the answer that reports it
 pub answered : (r : Result ⊤ FarmFault) (answer : ℕ) (c : Called) (e x : Side) → IsDone r c
-    → IsReported r answer e x → IsAnswered answer c e x
+    → IsReported program_name r answer e x → IsAnswered answer c e x
 answered (Ok y) answer c e x done told = record {
   done = λ zero_is. (done, told.1);
   told = λ some. absurd (omega (arith, told.0, some));
@@ -174,7 +176,7 @@ answered (Err met) answer c e x done told = record {
 
 -- ---- clauses that follow of the answer
 
-told_most : (f : FarmFault) (answer : ℕ) (e x : Side) → IsTold f answer e x → answer ≤ 7
+told_most : (f : FarmFault) (answer : ℕ) (e x : Side) → IsTold program_name f answer e x → answer ≤ 7
 told_most f answer e x (inl p) = omega (arith, p.0, status_most f)
 told_most f answer e x (inr p) = omega (arith, p.0)
 
@@ -228,7 +230,7 @@ farm_fault what f before after e done =
 
 -- the statuses of its faults
 run_status : (f : FarmFault) (answer : ℕ) (i j o p : Side) (e x : Side) → IsFarmRun (Err f) i j o p
-    → IsTold f answer e x
+    → IsTold program_name f answer e x
     → (answer ≡ 1) ⊎ ((answer ≡ 3) ⊎ ((answer ≡ 4) ⊎ (answer ≡ 5)))
 run_status f answer i j o p e x h (inr t) = inr (inr (inr t.0))
 run_status (BadLine n) answer i j o p e x h (inl t) = inl t.0
@@ -241,11 +243,11 @@ run_status (BadConfig c) answer i j o p e x h (inl t) = absurd h
 run_status ServeFault answer i j o p e x h (inl t) = absurd h
 run_status Usage answer i j o p e x h (inl t) = absurd h
 
-memory_status : (f : FarmFault) (answer : ℕ) (e x : Side) → f ≡ Memory → IsTold f answer e x → (answer ≡ 3)
+memory_status : (f : FarmFault) (answer : ℕ) (e x : Side) → f ≡ Memory → IsTold program_name f answer e x → (answer ≡ 3)
     ⊎ (answer ≡ 5)
-memory_status f answer e x is told = by_told (subst (λ (g : FarmFault). IsTold g answer e x) is told)
+memory_status f answer e x is told = by_told (subst (λ (g : FarmFault). IsTold program_name g answer e x) is told)
   where
-    by_told : IsTold Memory answer e x → (answer ≡ 3) ⊎ (answer ≡ 5)
+    by_told : IsTold program_name Memory answer e x → (answer ≡ 3) ⊎ (answer ≡ 5)
     by_told (inl t) = inl t.0
     by_told (inr t) = inr t.0
 
@@ -258,7 +260,7 @@ always (Some x) h = h x
 always None h = tt
 
 farm_status : (f : FarmFault) (answer : ℕ) (i j o p : Side) (e x : Side) → (f ≡ Memory)
-    ⊎ IsFarmRun (Err f) i j o p → IsTold f answer e x
+    ⊎ IsFarmRun (Err f) i j o p → IsTold program_name f answer e x
     → (answer ≡ 1) ⊎ ((answer ≡ 3) ⊎ ((answer ≡ 4) ⊎ (answer ≡ 5)))
 farm_status f answer i j o p e x (inl m) told = three_of (answer ≡ 1) (answer ≡ 4) answer
     (memory_status f answer e x m told)
@@ -280,7 +282,7 @@ faulty_of (suc k) c e x a named =
 
 -- where no line is faulty
 fine_status : (f : FarmFault) (answer : ℕ) (i j o p : Side) (e x : Side) → IsFarmRun (Err f) i j o p
-    → IsTold f answer e x
+    → IsTold program_name f answer e x
     → IfSome i.content (λ bytes. IsFaultless bytes → (answer ≡ 0)
     ⊎ ((answer ≡ 3) ⊎ ((answer ≡ 4) ⊎ (answer ≡ 5))))
 fine_status f answer i j o p e x h (inr t) = always i.content (λ bytes fine. inr (inr (inr t.0)))
@@ -298,7 +300,7 @@ fine_status ServeFault answer i j o p e x h (inl t) = absurd h
 fine_status Usage answer i j o p e x h (inl t) = absurd h
 
 fine_farm : (f : FarmFault) (answer : ℕ) (i j o p : Side) (e x : Side) → (f ≡ Memory)
-    ⊎ IsFarmRun (Err f) i j o p → IsTold f answer e x
+    ⊎ IsFarmRun (Err f) i j o p → IsTold program_name f answer e x
     → IfSome i.content (λ bytes. IsFaultless bytes → (answer ≡ 0)
     ⊎ ((answer ≡ 3) ⊎ ((answer ≡ 4) ⊎ (answer ≡ 5))))
 fine_farm f answer i j o p e x (inl m) told =
@@ -545,7 +547,7 @@ is_storm : (n : ℕ) (command : Command) → command_in (storm n) [] ≡ Ok comm
 is_storm n command e = cc
 
 storm_status : (n : ℕ) (f : FarmFault) (answer : ℕ) (o p e x : Side) → IsStormRun n (Err f) o p
-    → IsTold f answer e x → (answer ≡ 0) ⊎ ((answer ≡ 3) ⊎ (answer ≡ 5))
+    → IsTold program_name f answer e x → (answer ≡ 0) ⊎ ((answer ≡ 3) ⊎ (answer ≡ 5))
 storm_status n f answer o p e x h (inr t) = inr (inr t.0)
 storm_status n Memory answer o p e x h (inl t) = inr (inl t.0)
 storm_status n WriteFault answer o p e x h (inl t) = inr (inr t.0)
@@ -570,7 +572,7 @@ storm_unparsed n WriteFault before after h = absurd h.0
 storm_unparsed n ServeFault before after h = absurd h.0
 
 storm_done : (n : ℕ) (f : FarmFault) (answer : ℕ) (before after : Moment) (e x : Side)
-    → IsDoneBy (Some (storm n)) (Err f) before after → IsTold f answer e x
+    → IsDoneBy (Some (storm n)) (Err f) before after → IsTold program_name f answer e x
     → (answer ≡ 0) ⊎ ((answer ≡ 3) ⊎ (answer ≡ 5))
 storm_done n f answer before after e x (inl h) told =
     inr (memory_status f answer e x (storm_unparsed n f before after h) told)
@@ -590,16 +592,16 @@ storm_of (suc k) c e x a n named =
 
 -- ---- words that name no command, and words that do
 
-usage_status : (f : FarmFault) (answer : ℕ) (e x : Side) → (f ≡ Usage) ⊎ (f ≡ Memory) → IsTold f answer e x
+usage_status : (f : FarmFault) (answer : ℕ) (e x : Side) → (f ≡ Usage) ⊎ (f ≡ Memory) → IsTold program_name f answer e x
     → (answer ≡ 2) ⊎ ((answer ≡ 3) ⊎ (answer ≡ 5))
-usage_status f answer e x (inl is) told = by_told (subst (λ (g : FarmFault). IsTold g answer e x) is told)
+usage_status f answer e x (inl is) told = by_told (subst (λ (g : FarmFault). IsTold program_name g answer e x) is told)
   where
-    by_told : IsTold Usage answer e x → (answer ≡ 2) ⊎ ((answer ≡ 3) ⊎ (answer ≡ 5))
+    by_told : IsTold program_name Usage answer e x → (answer ≡ 2) ⊎ ((answer ≡ 3) ⊎ (answer ≡ 5))
     by_told (inl t) = inl t.0
     by_told (inr t) = inr (inr t.0)
-usage_status f answer e x (inr is) told = by_told (subst (λ (g : FarmFault). IsTold g answer e x) is told)
+usage_status f answer e x (inr is) told = by_told (subst (λ (g : FarmFault). IsTold program_name g answer e x) is told)
   where
-    by_told : IsTold Memory answer e x → (answer ≡ 2) ⊎ ((answer ≡ 3) ⊎ (answer ≡ 5))
+    by_told : IsTold program_name Memory answer e x → (answer ≡ 2) ⊎ ((answer ≡ 3) ⊎ (answer ≡ 5))
     by_told (inl t) = inr (inl t.0)
     by_told (inr t) = inr (inr t.0)
 
@@ -673,7 +675,7 @@ clash (server path) told files command cause there bad good =
 clash (storm n) told files command cause there bad good = let e = bad in absurd cc
 
 bad_status : (what : Invocation) (f : FarmFault) (answer : ℕ) (before after : Moment) (e x : Side)
-    → IsUnparsed what (Err f) before after → IsTold f answer e x
+    → IsUnparsed what (Err f) before after → IsTold program_name f answer e x
     → (answer ≡ 6) ⊎ ((answer ≡ 3) ⊎ (answer ≡ 5))
 bad_status what f answer before after e x h (inr t) = inr (inr t.0)
 bad_status what (BadConfig c) answer before after e x h (inl t) = inl t.0
@@ -695,7 +697,7 @@ not_done what told cause before after there bad (inr h) =
 
 fault_bad : (what : Invocation) (f : FarmFault) (answer : ℕ) (told : List NamedFile) (cause : ConfigCause)
     (before after : Moment) (e x : Side) → before.files ≡ Some told
-    → command_in what told ≡ Err cause → IsDoneBy (Some what) (Err f) before after → IsTold f answer e x
+    → command_in what told ≡ Err cause → IsDoneBy (Some what) (Err f) before after → IsTold program_name f answer e x
     → (answer ≡ 6) ⊎ ((answer ≡ 3) ⊎ (answer ≡ 5))
 fault_bad what f answer told cause before after e x there bad (inl h) said =
     bad_status what f answer before after e x h said
@@ -727,3 +729,15 @@ configured_of answer c e x a = by_files c.before.files refl
         ⊎ ((answer ≡ 3) ⊎ (answer ≡ 5)))
     by_files None is = tt
     by_files (Some told) is = configured_by answer c e x a told is
+
+-- ---- a fault that names no line and no key
+
+-- it is told as itself
+pub as_told : (program : List ℕ) (met f : FarmFault) (answer : ℕ) (e x : Side) → met ≡ f → (IsLong f → ⊥)
+    → IsReported program (Err met) answer e x → IsTold program f answer e x
+as_told program met f answer e x is short reported =
+    by_told (subst (λ (g : FarmFault). IsReported program (Err g) answer e x) is reported)
+  where
+    by_told : IsReported program (Err f) answer e x → IsTold program f answer e x
+    by_told (told, inl same, said) = subst (λ (g : FarmFault). IsTold program g answer e x) same said
+    by_told (told, inr long, said) = absurd (short long.1)

@@ -1,4 +1,3 @@
-pub mod ReportLemmas
 pub mod ScriptRunLemmas
 pub mod DoneLemmas
 pub mod AnswerLemmas

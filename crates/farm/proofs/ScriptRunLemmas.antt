@@ -5,12 +5,12 @@ use Rattle.std.specs.Prelude.{IfSome, map}
 use Rattle.std.proofs.lemmas.Option.{IfSome_then}
 use Rattle.std.proofs.lemmas.List.{length-take, take-append-drop}
 use Rattle.dist_types.specs.Content.{Added, Began, TookAtMost, left_behind}
-use Rattle.farm_script.specs.declared.fault.FarmFault.{FarmFault}
-use Rattle.farm_script.specs.declared.fault.FarmFault.TheVariants.{Usage, BadLine, DuplicateAddress}
-use Rattle.farm_script.specs.declared.fault.FarmFault.TheVariants.{ScopedAddress, ReadFault, WriteFault}
-use Rattle.farm_script.specs.declared.fault.FarmFault.TheVariants.{BadConfig, ServeFault, Memory}
+use Rattle.line_program.specs.declared.fault.FarmFault.{FarmFault}
+use Rattle.line_program.specs.declared.fault.FarmFault.TheVariants.{Usage, BadLine, DuplicateAddress}
+use Rattle.line_program.specs.declared.fault.FarmFault.TheVariants.{ScopedAddress, ReadFault, WriteFault}
+use Rattle.line_program.specs.declared.fault.FarmFault.TheVariants.{BadConfig, ServeFault, Memory}
 use Rattle.farm_script.specs.Script.{script}
-use Rattle.farm_script.specs.Pieces.{pieces}
+use Rattle.line_program.specs.Pieces.{pieces}
 use Rattle.farm_script.specs.declared.lines.Line.{Line}
 use Rattle.farm_script.specs.FirstFaulty.{IsFaulty, FirstFaultyFrom, IsFirstFaulty}
 use Rattle.farm_script.specs.declared.setup.Setup.{Setup}
@@ -19,7 +19,10 @@ use Rattle.farm_script.proofs.FirstFaultyLemmas.{first_faulty}
 use Rattle.farm_script.proofs.SpelledLemmas.{script_is_said}
 use Rattle.farm_entries.specs.RunText.{IsRunText, IsReadText}
 use Rattle.farm_script.specs.Setups.{AreApart}
-use Rattle.farm.specs.Command.{NamesLine, Side, IsReadWhole, IsReadInPart, IsFarmRun}
+use Rattle.line_program.specs.Input.{IsReadWhole, IsReadInPart}
+use Rattle.line_program.specs.Report.{NamesLine}
+use Rattle.line_program.specs.Side.{Side}
+use Rattle.farm.specs.Command.{IsFarmRun}
 
 -- the first faulty line is named
 faulty_names : (done : List (List ℕ)) (said : List Line) (p : List ℕ) (f : FarmFault) → IsFaulty done said p f

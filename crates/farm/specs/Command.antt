@@ -3,60 +3,34 @@ use Rattle.std.specs.Prelude.{◌≡◌, ◌⊎◌, ℕ, ◌<◌, List, Option, 
 use Rattle.std.specs.Prelude.{codes}
 use Rattle.rand_core.specs.Stream.{Stream}
 use Rattle.dist_types.specs.Cause.{Rose}
-use Rattle.dist_types.specs.Content.{Added, Began, Recorded, KeptOrRecorded, TookAtMost, left_behind}
+use Rattle.dist_types.specs.Content.{Added, Began, Recorded, KeptOrRecorded}
 use Rattle.dist_types.specs.declared.fault.Failed.{Failed}
 use Rattle.dist_config.specs.Serve.{scheduler_call, server_call}
 use Rattle.dist_config.specs.declared.serve.ServeCall.{ServeCall}
-use Rattle.farm_script.specs.declared.fault.ConfigCause.TheVariants.{Key}
-use Rattle.farm_script.specs.declared.fault.FarmFault.{FarmFault}
-use Rattle.farm_script.specs.declared.fault.FarmFault.TheVariants.{Usage, BadLine, DuplicateAddress}
-use Rattle.farm_script.specs.declared.fault.FarmFault.TheVariants.{ScopedAddress, ReadFault, WriteFault}
-use Rattle.farm_script.specs.declared.fault.FarmFault.TheVariants.{BadConfig, ServeFault, Memory}
-use Rattle.farm_script.specs.FaultText.{said_text}
+use Rattle.line_program.specs.declared.fault.ConfigCause.TheVariants.{Key}
+use Rattle.line_program.specs.declared.fault.FarmFault.{FarmFault}
+use Rattle.line_program.specs.declared.fault.FarmFault.TheVariants.{Usage, BadLine, DuplicateAddress}
+use Rattle.line_program.specs.declared.fault.FarmFault.TheVariants.{ScopedAddress, ReadFault, WriteFault}
+use Rattle.line_program.specs.declared.fault.FarmFault.TheVariants.{BadConfig, ServeFault, Memory}
+use Rattle.line_program.specs.Input.{IsReadWhole, IsReadInPart}
+use Rattle.line_program.specs.Report.{IsTold}
+use Rattle.line_program.specs.Side.{Side}
 use Rattle.farm_script.specs.FirstFaulty.{IsFirstFaulty}
-use Rattle.farm_script.specs.Texts.{◌⧺◌}
-use Rattle.farm_config.specs.declared.files.NamedFile.{NamedFile}
-use Rattle.farm_words.specs.declared.command.Command.{Command}
-use Rattle.farm_words.specs.declared.command.Command.TheVariants as command
-use Rattle.farm_words.specs.declared.command.AuthSubcommand.{AuthSubcommand}
-use Rattle.farm_words.specs.Asked.{Invocation, asked_by}
-use Rattle.farm_words.specs.Parsed.{IsParsed}
-use Rattle.farm_auth.specs.Line.{auth_line, stream_left}
+use Rattle.command_line.specs.declared.files.NamedFile.{NamedFile}
+use Rattle.command_line.specs.declared.command.Command.{Command}
+use Rattle.command_line.specs.declared.command.Command.TheVariants as command
+use Rattle.command_line.specs.declared.command.AuthSubcommand.{AuthSubcommand}
+use Rattle.command_line.specs.Asked.{Invocation, asked_by}
+use Rattle.command_line.specs.Parsed.{IsParsed}
+use Rattle.command_line.specs.Line.{auth_line, stream_left}
 use Rattle.farm_entries.specs.RunText.{IsRunText}
 use Rattle.farm_storm.specs.Summary.{IsStormText}
 
--- ---- texts and statuses
-
--- what stands on errs
-unfoldable pub fault_text : FarmFault → List ℕ
-fault_text f = codes "sccache-dist: " ⧺ said_text f ⧺ codes "\n"
-
--- the status of a fault that is told
-abbrev pub fault_status : FarmFault → ℕ
-fault_status (BadLine n) = 1
-fault_status (DuplicateAddress n) = 1
-fault_status (ScopedAddress n) = 1
-fault_status Usage = 2
-fault_status Memory = 3
-fault_status ReadFault = 4
-fault_status WriteFault = 5
-fault_status (BadConfig cause) = 6
-fault_status ServeFault = 7
-
--- a fault that names a line
-abbrev pub NamesLine : FarmFault → Type 0
-NamesLine (BadLine n) = Unit {0}
-NamesLine (DuplicateAddress n) = Unit {0}
-NamesLine (ScopedAddress n) = Unit {0}
-NamesLine other = ⊥
+-- what stands in front of each fault
+abbrev pub program_name : List ℕ
+program_name = codes "sccache-dist"
 
 -- ---- what a call meets
-
--- input, out or errs, as a moment finds it: what input has left, or what the other two hold, where that is
--- told, and the count of faults
-pub record Side : Type 0 where
-  pub content : Option (List ℕ)
-  pub faults : ℕ
 
 -- the record of what serves, where it is told, and its count of faults
 pub record Serving : Type 0 where
@@ -71,10 +45,6 @@ pub record Moment : Type 0 where
   pub file_faults : ℕ
   pub random : Stream
   pub serve : Serving
-
--- a side, by what it tells
-abbrev pub side : {A : Type 0} → (A → Option (List ℕ)) → (A → ℕ) → A → Side
-side content faults a = record { content = content a; faults = faults a }
 
 -- what serves, by what it tells
 abbrev pub serving : {A : Type 0} → (A → Option (List ServeCall)) → (A → ℕ) → A → Serving
@@ -103,20 +73,10 @@ pub record Called : Type 0 where
 
 -- ---- the run of a script
 
--- Input was read to its end, or to one byte past the limit of scripts: it has left what stands behind that,
--- and did not fail.
-abbrev pub IsReadWhole : Side → Side → Type 0
-IsReadWhole before after = (after.content ≡ left_behind 67108865 before.content)
-    × (after.faults ≡ before.faults)
-
 -- Input was read whole, a line of it is the first faulty one, and nothing was written.
 abbrev pub IsRefused : FarmFault → Side → Side → Side → Side → Type 0
 IsRefused f input input_after out out_after =
     IsReadWhole input input_after × (out_after ≡ out) × IfSome input.content (λ bytes. IsFirstFaulty bytes f)
-
--- Of input no more was taken than one byte past the limit of scripts.
-abbrev pub IsReadInPart : Side → Side → Type 0
-IsReadInPart before after = TookAtMost 67108865 before.content after.content
 
 -- Input is read whole, before a line is judged; nothing is written before every line was. The text of the
 -- script's run was written; or a fault has its cause. Where reading failed or memory ran out, input was read
@@ -236,37 +196,9 @@ IsDone result c = IsDoneBy (asked_by c.words) result c.before c.after
 
 -- ---- what is told
 
--- A text was written on errs, and the answer is its status; or errs failed, has a front of it, and the answer
--- is 5.
-abbrev pub IsSaid : List ℕ → ℕ → ℕ → Side → Side → Type 0
-IsSaid text status answer before after =
-    ((answer ≡ status) × Added text before.content after.content × (after.faults ≡ before.faults))
-    ⊎ ((answer ≡ 5) × Began text before.content after.content × Rose before.faults after.faults)
-
--- The fault is said so.
-abbrev pub IsTold : FarmFault → ℕ → Side → Side → Type 0
-IsTold f answer before after = IsSaid (fault_text f) (fault_status f) answer before after
-
--- a fault whose text takes memory: it names a line or a key
-abbrev pub IsLong : FarmFault → Type 0
-IsLong (BadLine n) = Unit {0}
-IsLong (DuplicateAddress n) = Unit {0}
-IsLong (ScopedAddress n) = Unit {0}
-IsLong (BadConfig (Key key)) = Unit {0}
-IsLong other = ⊥
-
--- What is told of a fault: the fault, or want of memory, where memory ran out for its text.
-abbrev pub StandsFor : FarmFault → FarmFault → Type 0
-StandsFor met told = (told ≡ met) ⊎ ((told ≡ Memory) × IsLong met)
-
--- 0 where there is no fault, and errs is as it was; else the fault is told.
-abbrev pub IsReported : Result ⊤ FarmFault → ℕ → Side → Side → Type 0
-IsReported (Ok x) answer before after = (answer ≡ 0) × (after ≡ before)
-IsReported (Err met) answer before after = (told : FarmFault) × StandsFor met told
-    × IsTold told answer before after
-
 -- What the status answers: 0 where what the words ask for was done, and then errs is as it was; else a fault
 -- that has its cause is told.
 pub record IsAnswered (answer : ℕ) (c : Called) (errs errs_after : Side) : Type 0 where
   pub done : answer ≡ 0 → IsDone (Ok tt) c × (errs_after ≡ errs)
-  pub told : 0 < answer → (f : FarmFault) × IsDone (Err f) c × IsTold f answer errs errs_after
+  pub told : 0 < answer → (f : FarmFault) × IsDone (Err f) c
+      × IsTold program_name f answer errs errs_after

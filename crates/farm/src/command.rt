@@ -8,49 +8,37 @@ ghost use Rattle.dist_types.specs.Content.{TookAtMost, left_behind};
 ghost use Rattle.dist_config.specs.Serve.{scheduler_call, server_call};
 ghost use Rattle.farm_script.specs.Script.{script};
 ghost use Rattle.farm_script.specs.FirstFaulty.{IsFirstFaulty, IsFaultless};
-ghost use Rattle.farm_script.specs.declared.fault.FarmFault.{FarmFault as Fault};
-ghost use Rattle.farm_script.specs.declared.fault.FarmFault.TheVariants as fault;
-ghost use Rattle.farm_script.specs.declared.fault.ConfigCause.{ConfigCause as Cause};
-ghost use Rattle.farm_words.specs.Asked.{Invocation, asked_by, farm, storm};
-ghost use Rattle.farm_words.specs.Parsed.{command_in};
-ghost use Rattle.farm.specs.Command.{IsFarmRun, IsAuthRun, IsStarted, IsCarriedOut, IsDone, IsTold};
-ghost use Rattle.farm.specs.Command.{IsAnswered, fileless, moment, serving, side};
+ghost use Rattle.line_program.specs.declared.fault.FarmFault.{FarmFault as Fault};
+ghost use Rattle.line_program.specs.declared.fault.FarmFault.TheVariants as fault;
+ghost use Rattle.line_program.specs.declared.fault.ConfigCause.{ConfigCause as Cause};
+ghost use Rattle.command_line.specs.Asked.{Invocation, asked_by, farm, storm};
+ghost use Rattle.command_line.specs.Parsed.{command_in};
+ghost use Rattle.line_program.specs.Report.{IsTold};
+ghost use Rattle.line_program.specs.Side.{side};
+ghost use Rattle.farm.specs.Command.{IsFarmRun, IsAuthRun, IsStarted, IsCarriedOut, IsDone};
+ghost use Rattle.farm.specs.Command.{IsAnswered, fileless, moment, program_name, serving};
 
-use crate::report::report;
 use crate::script_run::run_of;
 use crate::storm_run::run_storm;
+use command_line::command::{AuthSubcommand, Command};
+use command_line::files::Files;
+use command_line::line::auth_line;
+use command_line::parse::try_parse_from;
 use dist_config::config::{SchedulerConfig, ServerConfig};
 use dist_config::serve::Serve;
 use dist_config::start::{Scheduler, Server};
 use dist_types::sink::{Sink, write_all};
-use dist_types::source::{ReadError, Source, read_up_to};
-use farm_auth::line::auth_line;
-use farm_config::files::Files;
-use farm_script::fault::FarmFault;
-use farm_script::script::MAX_SCRIPT_BYTES;
-use farm_words::command::{AuthSubcommand, Command};
-use farm_words::parse::try_parse_from;
+use dist_types::source::Source;
+use line_program::fault::FarmFault;
+use line_program::input::read_input;
+use line_program::report::report;
 use rand_core::Rng;
 use std::alloc::{AllocError, Global};
 use std::env::Args;
 use std::io::{self, ErrorKind};
 
-/// Reads the input, to its end or to one byte past the limit of scripts.
-fn read_input<S: Source>(alloc: Global, input: &mut S) -> Result<Vec<u8>, FarmFault>
-    ensures ok { IfOk result (λ v. IfSome (S.left input.old) (λ bytes. script v.items ≡ script bytes)) }
-    ensures left { OnOk result (S.left input.new ≡ left_behind 67108865 (S.left input.old)) }
-    ensures err { IfErr result (λ f. ((f ≡ fault.Memory) × (S.faults input.new ≡ S.faults input.old))
-        ⊎ ((f ≡ fault.ReadFault) × Rose (S.faults input.old) (S.faults input.new))) }
-    ensures part { OnErr result (TookAtMost 67108865 (S.left input.old) (S.left input.new)) }
-    ensures steady { OnOk result (S.faults input.new ≡ S.faults input.old) }
-{
-    match read_up_to(alloc, input, MAX_SCRIPT_BYTES + 1) {
-        Ok(bytes) => Ok(bytes),
-        Err(ReadError::Memory) => Err(FarmFault::Memory),
-        Err(ReadError::Failed) => Err(FarmFault::ReadFault),
-        Err(ReadError::TooLong) => unreachable!(),
-    }
-}
+/// What stands in front of each fault.
+const PROGRAM: &str = "sccache-dist";
 
 /// Reads a script and writes the text of its run.
 fn run_farm<S: Source, K: Sink>(alloc: Global, input: &mut S, out: &mut K) -> Result<(), FarmFault>
@@ -222,7 +210,7 @@ pub fn dist_main<S: Source, K: Sink, E: Sink, D: Files, R: Rng, N: Serve>(
     ensures served { result ≢ 7 → result ≢ 5 → N.faults serve.new ≡ N.faults serve.old }
 {
     let done = run_words(alloc, words, input, out, files, random, serve);
-    report(alloc, done, errs)
+    report(alloc, PROGRAM, done, errs)
 }
 
 /// The fault of a command line that the system did not give as words.
@@ -265,12 +253,12 @@ pub fn run_command_line<S: Source, K: Sink, E: Sink, D: Files, R: Rng, N: Serve>
           (D.faults files.new) (R.stream random.new) (serving N.calls N.faults serve.new);
     }) (side E.held E.faults errs.old) (side E.held E.faults errs.new)
         ⊎ ((input.new ≡ input.old) × (out.new ≡ out.old) × (files.new ≡ files.old)
-        × (random.new ≡ random.old) × (serve.new ≡ serve.old) × IsTold fault.Memory result
+        × (random.new ≡ random.old) × (serve.new ≡ serve.old) × IsTold program_name fault.Memory result
         (side E.held E.faults errs.old) (side E.held E.faults errs.new))) }
     // Where the system gave no words, memory ran out, or a word is not UTF-8.
-    ensures memory { IfErr given (λ e. error_kind e ≡ ErrorKind.OutOfMemory → IsTold fault.Memory result
+    ensures memory { IfErr given (λ e. error_kind e ≡ ErrorKind.OutOfMemory → IsTold program_name fault.Memory result
         (side E.held E.faults errs.old) (side E.held E.faults errs.new)) }
-    ensures usage { IfErr given (λ e. error_kind e ≢ ErrorKind.OutOfMemory → IsTold fault.Usage result
+    ensures usage { IfErr given (λ e. error_kind e ≢ ErrorKind.OutOfMemory → IsTold program_name fault.Usage result
         (side E.held E.faults errs.old) (side E.held E.faults errs.new)) }
     ensures untouched { OnErr given ((input.new ≡ input.old) × (out.new ≡ out.old) × (files.new ≡ files.old)
         × (random.new ≡ random.old) × (serve.new ≡ serve.old)) }
@@ -278,8 +266,8 @@ pub fn run_command_line<S: Source, K: Sink, E: Sink, D: Files, R: Rng, N: Serve>
     match given {
         Ok(args) => match words_in(alloc, args) {
             Ok(words) => dist_main(alloc, &words, input, out, errs, files, random, serve),
-            Err(_) => report(alloc, Err(FarmFault::Memory), errs),
+            Err(_) => report(alloc, PROGRAM, Err(FarmFault::Memory), errs),
         },
-        Err(error) => report(alloc, Err(words_fault(error.kind())), errs),
+        Err(error) => report(alloc, PROGRAM, Err(words_fault(error.kind())), errs),
     }
 }

@@ -7,14 +7,12 @@
 //! are exported again from the crates below.
 #![tactic(auto)]
 
+pub use command_line::{files, line, option_words, parse, read, token_length};
 pub use dist_config::{config, serve, start};
-pub use farm_auth::line;
-pub use farm_config::{files, read};
 pub use farm_run::{begin, builder, entry, print, run, site};
-pub use farm_script::{event, fault, lines, pieces, script, setup};
-pub use farm_words::{option_words, parse, token_length};
+pub use farm_script::{event, lines, script, setup};
+pub use line_program::{fault, pieces};
 
 pub mod command;
-mod report;
 mod script_run;
 mod storm_run;

@@ -1,14 +1,14 @@
 //! The text of the run of a script.
 ghost use Rattle.std.specs.Prelude.{◌≡◌, ◌⊎◌, string_bytes, IfOk, IfErr};
 ghost use Rattle.farm_script.specs.FirstFaulty.{IsFirstFaulty};
-ghost use Rattle.farm_script.specs.declared.fault.FarmFault.TheVariants as fault;
+ghost use Rattle.line_program.specs.declared.fault.FarmFault.TheVariants as fault;
 ghost use Rattle.farm_entries.specs.RunText.{IsReadText};
-ghost use Rattle.farm.specs.Command.{NamesLine};
+ghost use Rattle.line_program.specs.Report.{NamesLine};
 
 use farm_run::begin;
 use farm_run::print::print_run;
-use farm_script::fault::FarmFault;
 use farm_script::script::read_script;
+use line_program::fault::FarmFault;
 use std::alloc::Global;
 
 /// The text of the run of a script, or its first faulty line, or want of memory.

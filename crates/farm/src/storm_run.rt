@@ -1,9 +1,10 @@
 //! The storm, and its summary on the output.
-ghost use Rattle.farm.specs.Command.{IsStormRun, side};
+ghost use Rattle.line_program.specs.Side.{side};
+ghost use Rattle.farm.specs.Command.{IsStormRun};
 
 use dist_types::sink::{Sink, write_all};
-use farm_script::fault::FarmFault;
 use farm_storm::storm_text;
+use line_program::fault::FarmFault;
 use std::alloc::Global;
 
 /// Writes the summary of the storm of so many events.

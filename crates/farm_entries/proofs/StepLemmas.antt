@@ -4,7 +4,7 @@ use Rattle.std.proofs.Common.{refl, ap, ◌∙◌}
 use Rattle.std.specs.Prelude.{fold}
 use Rattle.std.proofs.lemmas.List.Sums.{fold-append}
 use Rattle.dist_types.specs.Addr.{same_addr}
-use Rattle.sched_core.proofs.AddressLemmas.{same_self}
+use Rattle.core_rules.proofs.AddressLemmas.{same_self}
 use Rattle.farm_entries.specs.declared.site.SiteServer.{SiteServer as SetupServer}
 use Rattle.farm_entries.specs.declared.entry.Entry.{Entry}
 use Rattle.farm_entries.specs.declared.entry.Step.{Step}
@@ -12,7 +12,7 @@ use Rattle.farm_entries.specs.declared.entry.StepKind.{StepKind}
 use Rattle.farm_entries.specs.declared.entry.StepKind.TheVariants as kinds
 use Rattle.farm_entries.specs.Servers.{ServerNow, server_begun, kind_after, restart_by, restarted, stepped}
 use Rattle.farm_entries.specs.Servers.{server_after, server_of}
-use Rattle.lru_disk_cache.specs.Archives.{Archives}
+use Rattle.toolchain_cache.specs.Archives.{Archives}
 use Rattle.farm_entries.specs.Reliable.{reopened}
 use Rattle.farm_entries.specs.Weather.{opened_effect}
 

@@ -7,22 +7,22 @@ use Rattle.dist_wire.specs.declared.heartbeat.HeartbeatServerHttpRequest.{Heartb
 use Rattle.http_routes.specs.Admission.{equal_admission}
 use Rattle.http_routes.specs.Asked.{IsAskedUnder}
 use Rattle.http_routes.specs.Fault.{fault_response_of}
-use Rattle.sched_core.specs.Texts.{no_room_text}
+use Rattle.core_rules.specs.Texts.{no_room_text}
 use Rattle.http_routes.specs.Requests.{assign_request_text}
 use Rattle.http_routes.specs.declared.fault.RouteFault.TheVariants as fault
 use Rattle.http_routes.specs.declared.route.Asked.{Asked}
 use Rattle.http_routes.specs.declared.route.SchedRouted.{SchedRouted}
 use Rattle.http_routes.specs.declared.route.SchedRouted.TheVariants as asked
-use Rattle.sched_core.specs.Log.{Core}
-use Rattle.sched_core.specs.Rule.{rule, says_new_entry, counts_of}
-use Rattle.sched_core.specs.Ticket.{Ticket}
-use Rattle.sched_core.specs.declared.call.Call.TheVariants as call
-use Rattle.sched_core.specs.declared.entry.CoreEntry.{CoreEntry}
-use Rattle.sched_core.specs.declared.entry.CoreKind.{CoreKind}
-use Rattle.sched_core.specs.declared.entry.CoreKind.TheVariants as core
-use Rattle.sched_core.specs.declared.entry.Reserved.TheVariants.{Job, NoRoom}
-use Rattle.sched_core.specs.declared.entry.UpdateAnswer.{UpdateAnswer}
-use Rattle.sched_core.specs.declared.entry.UpdateAnswer.TheVariants.{Unknown}
+use Rattle.core_rules.specs.Log.{Core}
+use Rattle.core_rules.specs.Rule.{rule, says_new_entry, counts_of}
+use Rattle.core_rules.specs.Ticket.{Ticket}
+use Rattle.core_rules.specs.declared.call.Call.TheVariants as call
+use Rattle.core_rules.specs.declared.entry.CoreEntry.{CoreEntry}
+use Rattle.core_rules.specs.declared.entry.CoreKind.{CoreKind}
+use Rattle.core_rules.specs.declared.entry.CoreKind.TheVariants as core
+use Rattle.core_rules.specs.declared.entry.Reserved.TheVariants.{Job, NoRoom}
+use Rattle.core_rules.specs.declared.entry.UpdateAnswer.{UpdateAnswer}
+use Rattle.core_rules.specs.declared.entry.UpdateAnswer.TheVariants.{Unknown}
 use Rattle.farm_entries.specs.declared.site.Site.{Site as Setup}
 use Rattle.farm_entries.specs.declared.entry.Effect.{Effect}
 use Rattle.farm_entries.specs.declared.entry.OutCall.{OutCall}

@@ -4,8 +4,8 @@ use Rattle.dist_types.specs.declared.addr.Addr.{Addr}
 use Rattle.dist_types.specs.declared.results.BuildResult.{BuildResult}
 use Rattle.http_routes.specs.declared.route.Asked.{Asked}
 use Rattle.http_routes.specs.declared.server_route.ServerAsked.{ServerAsked}
-use Rattle.sched_core.specs.Ticket.{Ticket}
-use Rattle.sched_core.specs.declared.entry.CoreEntry.{CoreEntry}
+use Rattle.core_rules.specs.Ticket.{Ticket}
+use Rattle.core_rules.specs.declared.entry.CoreEntry.{CoreEntry}
 use Rattle.build_server.specs.declared.run.Outcome.{Outcome}
 use Rattle.build_server.specs.declared.run.Outcome.TheVariants as outcome
 use Rattle.build_server.specs.declared.run.Ran.{Ran}

@@ -11,9 +11,9 @@ use Rattle.http_head.specs.Head.{IsRequest}
 use Rattle.http_head.specs.declared.request.Request.{Request}
 use Rattle.http_routes.specs.InOrder.{NamesJob}
 use Rattle.http_routes.specs.Sender.{ShowsJob}
-use Rattle.sched_core.specs.Job.{state_of}
-use Rattle.sched_core.specs.declared.entry.CoreKind.TheVariants as core
-use Rattle.sched_core.specs.declared.entry.UpdateAnswer.TheVariants.{Accepted}
+use Rattle.core_rules.specs.Job.{state_of}
+use Rattle.core_rules.specs.declared.entry.CoreKind.TheVariants as core
+use Rattle.core_rules.specs.declared.entry.UpdateAnswer.TheVariants.{Accepted}
 use Rattle.build_server.specs.declared.run.Ran.TheVariants as ran
 use Rattle.farm_script.specs.declared.event.EventKind.TheVariants.{Deliver, Return}
 use Rattle.farm_entries.specs.declared.site.Site.{Site as Setup}

@@ -3,7 +3,7 @@ use Rattle.std.specs.Prelude.{ℕ, Option, Some, None}
 use Rattle.dist_types.specs.declared.addr.Addr.{Addr}
 use Rattle.http_routes.specs.Reply.{reply_text}
 use Rattle.http_routes.specs.declared.reply.Response.{Response}
-use Rattle.sched_core.specs.declared.entry.CoreEntry.{CoreEntry}
+use Rattle.core_rules.specs.declared.entry.CoreEntry.{CoreEntry}
 use Rattle.farm_script.specs.declared.event.Event.{Event}
 use Rattle.farm_entries.specs.declared.entry.Effect.{Effect}
 use Rattle.farm_entries.specs.declared.entry.Entry.{Entry}

@@ -2,14 +2,14 @@
 use Rattle.std.specs.Prelude.{◌≡◌, ℕ, List, take, map, true}
 use Rattle.std.specs.Prelude.{Some}
 use Rattle.std.specs.List.{AllByRecursion}
-use Rattle.sched_core.specs.declared.start.Start.{Start}
-use Rattle.sched_core.specs.Reservation.{bookings, unspent}
-use Rattle.sched_core.specs.Job.{commits, open_jobs}
-use Rattle.sched_core.specs.Standing.{standing}
-use Rattle.sched_core.specs.Rule.{is_among}
-use Rattle.sched_core.specs.Laws.{IsLegal, AreDistinct, IsHeldOnce, HasOrder, IsBounded}
-use Rattle.sched_core.specs.Ticket.{Ticket}
-use Rattle.sched_core.specs.declared.entry.CoreEntry.{CoreEntry}
+use Rattle.core_rules.specs.declared.start.Start.{Start}
+use Rattle.core_rules.specs.Reservation.{bookings, unspent}
+use Rattle.core_rules.specs.Job.{commits, open_jobs}
+use Rattle.core_rules.specs.Standing.{standing}
+use Rattle.core_rules.specs.Rule.{is_among}
+use Rattle.core_rules.specs.Laws.{IsLegal, AreDistinct, IsHeldOnce, HasOrder, IsBounded}
+use Rattle.core_rules.specs.Ticket.{Ticket}
+use Rattle.core_rules.specs.declared.entry.CoreEntry.{CoreEntry}
 use Rattle.farm_entries.specs.declared.site.Site.{Site as Setup}
 use Rattle.farm_script.specs.declared.event.Event.{Event}
 use Rattle.farm_entries.specs.declared.entry.Entry.{Entry}

@@ -2,7 +2,7 @@
 use Rattle.std.specs.Prelude.{◌≡◌, ℕ, List, [], ◌∷◌, ◌++◌, length, map, Bool, Option, Some, None, Result}
 use Rattle.dist_types.specs.declared.outgoing.CallFault.{CallFault}
 use Rattle.dist_types.specs.declared.results.AssignJobResult.{AssignJobResult}
-use Rattle.sched_core.specs.Log.{Core}
+use Rattle.core_rules.specs.Log.{Core}
 use Rattle.farm_entries.specs.declared.site.Site.{Site as Setup}
 use Rattle.farm_script.specs.declared.event.Event.{Event}
 use Rattle.farm_entries.specs.declared.entry.Effect.{Effect}

@@ -1,8 +1,8 @@
 -- What a run leaves outside of the servers.
 use Rattle.std.specs.Prelude.{◌≡◌, ◌⊎◌, ℕ, List, [], ◌∷◌, ◌++◌, slice_get, set, true, false, is_some, Option}
 use Rattle.std.specs.Prelude.{Some, None, codes}
-use Rattle.lru_disk_cache.specs.Archives.{Archives, opened_archives}
-use Rattle.lru_disk_cache.specs.Held.{Held, Holds}
+use Rattle.toolchain_cache.specs.Archives.{Archives, opened_archives}
+use Rattle.folders.specs.Held.{Held, Holds}
 use Rattle.build_server.specs.Books.{Fails}
 use Rattle.build_server.specs.Builds.{Builder}
 use Rattle.dist_types.specs.declared.addr.Addr.{Addr}

@@ -9,17 +9,17 @@ use Rattle.dist_types.specs.declared.addr.Addr.{Addr}
 use Rattle.dist_types.specs.Ids.{state_text}
 use Rattle.dist_types.specs.declared.ids.JobId.{JobId}
 use Rattle.dist_types.specs.declared.results.JobState.{JobState}
-use Rattle.sched_core.specs.Reservation.{Booking, bookings, is_claimed}
-use Rattle.sched_core.specs.Job.{state_of}
-use Rattle.sched_core.specs.Rows.{servers_of, unended_by_id}
-use Rattle.sched_core.specs.declared.rows.ServerRow.{ServerRow}
-use Rattle.sched_core.specs.declared.entry.CoreEntry.{CoreEntry}
-use Rattle.sched_core.specs.declared.entry.CoreKind.{CoreKind}
-use Rattle.sched_core.specs.declared.entry.CoreKind.TheVariants as core
-use Rattle.sched_core.specs.declared.entry.Reserved.{Reserved}
-use Rattle.sched_core.specs.declared.entry.Reserved.TheVariants.{Job, NoRoom, Spent}
-use Rattle.sched_core.specs.declared.entry.UpdateAnswer.{UpdateAnswer}
-use Rattle.sched_core.specs.declared.entry.UpdateAnswer.TheVariants.{Accepted, Unknown, Wrong, Transition}
+use Rattle.core_rules.specs.Reservation.{Booking, bookings, is_claimed}
+use Rattle.core_rules.specs.Job.{state_of}
+use Rattle.core_rules.specs.Rows.{servers_of, unended_by_id}
+use Rattle.core_rules.specs.declared.rows.ServerRow.{ServerRow}
+use Rattle.core_rules.specs.declared.entry.CoreEntry.{CoreEntry}
+use Rattle.core_rules.specs.declared.entry.CoreKind.{CoreKind}
+use Rattle.core_rules.specs.declared.entry.CoreKind.TheVariants as core
+use Rattle.core_rules.specs.declared.entry.Reserved.{Reserved}
+use Rattle.core_rules.specs.declared.entry.Reserved.TheVariants.{Job, NoRoom, Spent}
+use Rattle.core_rules.specs.declared.entry.UpdateAnswer.{UpdateAnswer}
+use Rattle.core_rules.specs.declared.entry.UpdateAnswer.TheVariants.{Accepted, Unknown, Wrong, Transition}
 use Rattle.farm_entries.specs.declared.site.Site.{Site as Setup}
 use Rattle.farm_script.specs.declared.setup.SetupScheduler.{SetupScheduler}
 use Rattle.farm_script.specs.declared.event.EventKind.{EventKind}
@@ -40,7 +40,7 @@ use Rattle.farm_entries.specs.declared.entry.OutCall.{OutCall}
 use Rattle.farm_entries.specs.declared.entry.Reply.{Reply}
 use Rattle.farm_entries.specs.declared.entry.EntryWord.{EntryWord}
 use Rattle.farm_entries.specs.declared.entry.EntryWord.TheVariants.{Void, Down, Waiting, Died}
-use Rattle.farm_script.specs.Texts.{◌⧺◌}
+use Rattle.line_program.specs.Texts.{◌⧺◌}
 use Rattle.farm_entries.specs.Seen.{core_log}
 
 -- ---- fields
@@ -110,6 +110,11 @@ advance_text Unknown = codes "unknown"
 advance_text Wrong = codes "wrong"
 advance_text (Transition state) = codes "transition " ⧺ state_text state
 
+-- whether a server is to drain
+abbrev pub on_text : Bool → List ℕ
+on_text true = codes "on"
+on_text false = codes "off"
+
 -- what a core entry says, behind its number
 abbrev pub core_text : CoreKind → List ℕ
 core_text (core.Reserve reserved) = codes "reserve " ⧺ reserved_text reserved
@@ -127,6 +132,9 @@ core_text (core.Update server job state answer) =
 core_text (core.Status pruned servers cpus jobs) =
     codes "status pruned " ⧺ numbers_text pruned ⧺ codes " servers " ⧺ decimal servers ⧺ codes " cpus "
     ⧺ decimal cpus ⧺ codes " jobs " ⧺ decimal jobs
+core_text (core.Drain server nonce on reg) =
+    codes "drain " ⧺ addr_text server ⧺ codes " nonce " ⧺ decimal nonce ⧺ codes " " ⧺ on_text on
+    ⧺ codes " reg " ⧺ number_text reg
 
 -- ---- the lines of an entry
 

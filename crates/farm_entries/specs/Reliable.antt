@@ -18,17 +18,17 @@ use Rattle.http_routes.specs.declared.reply.Response.{Response}
 use Rattle.http_routes.specs.declared.route.SchedRouted.TheVariants as asked
 use Rattle.http_routes.specs.declared.server_route.ServerAsked.{ServerAsked}
 use Rattle.http_routes.specs.declared.server_route.ServerRouted.TheVariants as server_asked
-use Rattle.sched_core.specs.Answers.{committed_by}
-use Rattle.sched_core.specs.Rule.{rule}
-use Rattle.sched_core.specs.Ticket.{Ticket}
-use Rattle.sched_core.specs.declared.call.Call.TheVariants as call
-use Rattle.sched_core.specs.declared.entry.CoreEntry.{CoreEntry}
+use Rattle.core_rules.specs.Answers.{committed_by}
+use Rattle.core_rules.specs.Rule.{rule}
+use Rattle.core_rules.specs.Ticket.{Ticket}
+use Rattle.core_rules.specs.declared.call.Call.TheVariants as call
+use Rattle.core_rules.specs.declared.entry.CoreEntry.{CoreEntry}
 use Rattle.build_server.specs.Books.{held_for}
 use Rattle.build_server.specs.Builds.{ran_of, built_of, run_answer}
 use Rattle.build_server.specs.Rules.{submit_result}
 use Rattle.build_server.specs.declared.run.Outcome.{Outcome}
 use Rattle.build_server.specs.declared.submit.Submitted.{Submitted}
-use Rattle.lru_disk_cache.specs.Archives.{Archives}
+use Rattle.toolchain_cache.specs.Archives.{Archives}
 use Rattle.farm_script.specs.declared.event.EventKind.TheVariants.{Return, Restart}
 use Rattle.farm_entries.specs.declared.site.Site.{Site as Setup}
 use Rattle.farm_entries.specs.declared.entry.Entry.{Entry}

@@ -6,9 +6,10 @@ use Rattle.dist_types.specs.Addr.{addr_text}
 use Rattle.dist_types.specs.declared.addr.Addr.{Addr}
 use Rattle.dist_token.specs.Token.{plain_text, token_text, server_claims_text}
 use Rattle.dist_token.specs.Verdict.{plain_server, server_verdict}
-use Rattle.sched_core.specs.declared.start.Start.{Start}
-use Rattle.sched_core.specs.Log.{Core, logged}
-use Rattle.sched_core.specs.declared.entry.CoreEntry.{CoreEntry}
+use Rattle.core_rules.specs.declared.start.Start.{Start}
+use Rattle.dist_types.specs.declared.rules.Rules.TheVariants.{One}
+use Rattle.core_rules.specs.Log.{Core, logged}
+use Rattle.core_rules.specs.declared.entry.CoreEntry.{CoreEntry}
 use Rattle.farm_entries.specs.declared.site.Site.{Site as Setup}
 use Rattle.farm_script.specs.declared.setup.SetupAuth.{SetupAuth}
 use Rattle.farm_script.specs.declared.setup.SetupAuth.TheVariants.{Plain, Jwt}
@@ -18,9 +19,9 @@ use Rattle.farm_entries.specs.declared.entry.Entry.{Entry}
 abbrev pub core_log : List Entry → List CoreEntry
 core_log log = filter_map (λ e. e.core) log
 
--- where the ids of the scheduler begin
+-- where the ids of the scheduler begin; it goes by version 1 of the rules
 abbrev pub ids_start : Setup → Start
-ids_start setup = record { base = setup.scheduler.base; count = setup.scheduler.count }
+ids_start setup = record { base = setup.scheduler.base; count = setup.scheduler.count; rules = One }
 
 -- what the scheduler has seen, where the entries are these
 abbrev pub core_of : Setup → List Entry → Core

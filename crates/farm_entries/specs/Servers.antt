@@ -5,7 +5,7 @@ use Rattle.std.specs.Option.{option_map}
 use Rattle.dist_types.specs.Addr.{same_addr}
 use Rattle.dist_types.specs.Cause.{counted}
 use Rattle.dist_types.specs.declared.addr.Addr.{Addr}
-use Rattle.lru_disk_cache.specs.Archives.{Archives}
+use Rattle.toolchain_cache.specs.Archives.{Archives}
 use Rattle.lru_disk_cache.specs.Entries.{promoted_key}
 use Rattle.build_server.specs.Books.{Table, held_for, placed, without_job}
 use Rattle.build_server.specs.Rules.{archives_after_submit}

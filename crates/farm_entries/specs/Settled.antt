@@ -19,13 +19,13 @@ use Rattle.http_routes.specs.declared.fault.RouteFault.TheVariants as fault
 use Rattle.http_routes.specs.declared.fault.BuildFailure.{BuildFailure}
 use Rattle.http_routes.specs.declared.fault.BuildFailure.TheVariants as failure
 use Rattle.http_routes.specs.declared.reply.Response.{Response}
-use Rattle.sched_core.specs.Answers.{committed_by, undone_by}
-use Rattle.sched_core.specs.Log.{Core}
-use Rattle.sched_core.specs.Rule.{rule, is_among}
-use Rattle.sched_core.specs.Reservation.{unspent}
-use Rattle.sched_core.specs.Ticket.{Ticket}
-use Rattle.sched_core.specs.declared.call.Call.TheVariants as call
-use Rattle.sched_core.specs.declared.entry.CoreEntry.{CoreEntry}
+use Rattle.core_rules.specs.Answers.{committed_by, undone_by}
+use Rattle.core_rules.specs.Log.{Core}
+use Rattle.core_rules.specs.Rule.{rule, is_among}
+use Rattle.core_rules.specs.Reservation.{unspent}
+use Rattle.core_rules.specs.Ticket.{Ticket}
+use Rattle.core_rules.specs.declared.call.Call.TheVariants as call
+use Rattle.core_rules.specs.declared.entry.CoreEntry.{CoreEntry}
 use Rattle.build_server.specs.Books.{held_for}
 use Rattle.build_server.specs.Builds.{ran_of, built_of, run_answer}
 use Rattle.build_server.specs.Rules.{submit_result}

@@ -1,6 +1,6 @@
 -- The farm that a script sets up: every server runs, over an empty folder.
 use Rattle.std.specs.Prelude.{[], map, Option, Some}
-use Rattle.lru_disk_cache.specs.Archives.{Archives}
+use Rattle.toolchain_cache.specs.Archives.{Archives}
 use Rattle.farm_script.specs.declared.setup.Setup.{Setup}
 use Rattle.farm_script.specs.declared.setup.SetupServer.{SetupServer}
 use Rattle.farm_entries.specs.declared.site.Site.{Site}

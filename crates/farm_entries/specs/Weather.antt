@@ -1,7 +1,7 @@
 -- What may come to a server from outside of a farm: from its folder and from its builder.
 use Rattle.std.specs.Prelude.{◌≡◌, ℕ, List, Bool, true, false, Option, Some, None, Ok, codes}
-use Rattle.lru_disk_cache.specs.Archives.{Archives, opened_archives}
-use Rattle.lru_disk_cache.specs.Held.{Held, Holds}
+use Rattle.toolchain_cache.specs.Archives.{Archives, opened_archives}
+use Rattle.folders.specs.Held.{Held, Holds}
 use Rattle.dist_types.specs.declared.ids.JobId.{JobId}
 use Rattle.dist_wire.specs.declared.run.RunJobHttpRequest.{RunJobHttpRequest}
 use Rattle.build_server.specs.Books.{Books, held_for, Fails}

@@ -5,13 +5,13 @@ ghost use Rattle.farm_entries.specs.Effects.{step_reply_effect, step_call_effect
 
 use build_server::run::Ran;
 use build_server::submit::Submitted;
+use core_rules::entry::CoreEntry;
 use dist_types::addr::Addr;
 use dist_types::ids::JobId;
 use dist_types::results::BuildResult;
 use dist_types::text::{Bytes, Items};
 use dist_types::toolchain::Toolchain;
 use farm_script::event::Event;
-use sched_core::entry::CoreEntry;
 
 /// How a heartbeat's call was settled.
 #[derive(Clone, Copy, Debug, PartialEq, Eq)]

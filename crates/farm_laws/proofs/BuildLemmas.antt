@@ -20,20 +20,20 @@ use Rattle.dist_types.proofs.AddrLemmas.{bind_some}
 use Rattle.dist_token.specs.Verdict.{job_verdict}
 use Rattle.dist_wire.specs.Reading.{toolchain_at, update_at}
 use Rattle.dist_wire.specs.declared.run.RunJobHttpRequest.{RunJobHttpRequest}
-use Rattle.sched_core.specs.Advance.{advance}
-use Rattle.sched_core.specs.Laws.{IsRule, IsLegal}
-use Rattle.sched_core.specs.Log.{Core}
-use Rattle.sched_core.specs.Rows.{open_rows}
-use Rattle.sched_core.specs.Rule.{rule}
-use Rattle.sched_core.specs.Ticket.{Ticket}
-use Rattle.sched_core.specs.declared.call.Call.TheVariants as call
-use Rattle.sched_core.specs.declared.entry.CoreEntry.{CoreEntry}
-use Rattle.sched_core.specs.declared.entry.CoreKind.{CoreKind}
-use Rattle.sched_core.specs.declared.entry.CoreKind.TheVariants as core
-use Rattle.sched_core.specs.declared.entry.Reserved.TheVariants.{Job, NoRoom, Spent}
-use Rattle.sched_core.specs.declared.entry.UpdateAnswer.TheVariants.{Accepted}
-use Rattle.sched_core.proofs.AddressLemmas.{same_is, same_self}
-use Rattle.sched_core.proofs.AllLemmas.{or_true, same_job-refl}
+use Rattle.core_rules.specs.Advance.{advance}
+use Rattle.core_rules.specs.Laws.{IsRule, IsLegal}
+use Rattle.core_rules.specs.Log.{Core}
+use Rattle.core_rules.specs.Rows.{open_rows}
+use Rattle.core_rules.specs.Rule.{rule}
+use Rattle.core_rules.specs.Ticket.{Ticket}
+use Rattle.core_rules.specs.declared.call.Call.TheVariants as call
+use Rattle.core_rules.specs.declared.entry.CoreEntry.{CoreEntry}
+use Rattle.core_rules.specs.declared.entry.CoreKind.{CoreKind}
+use Rattle.core_rules.specs.declared.entry.CoreKind.TheVariants as core
+use Rattle.core_rules.specs.declared.entry.Reserved.TheVariants.{Job, NoRoom, Spent}
+use Rattle.core_rules.specs.declared.entry.UpdateAnswer.TheVariants.{Accepted}
+use Rattle.core_rules.proofs.AddressLemmas.{same_is, same_self}
+use Rattle.core_rules.proofs.AllLemmas.{or_true, same_job-refl}
 use Rattle.http_head.specs.Head.{IsRequest}
 use Rattle.http_head.specs.declared.request.Request.{Request}
 use Rattle.http_routes.specs.Admission.{equal_admission}
@@ -95,7 +95,7 @@ use Rattle.farm_entries.specs.Next.{GoesOn, IsSettled, IsMade, IsNext, EachNext,
 use Rattle.farm_entries.specs.Seen.{ids_start, core_log, core_of, serves}
 use Rattle.farm_entries.specs.Served.{assigned, served, told_of, books_of, state_call}
 use Rattle.farm_entries.specs.Weather.{free, IsFree, opened_effect}
-use Rattle.lru_disk_cache.specs.Archives.{Archives}
+use Rattle.toolchain_cache.specs.Archives.{Archives}
 use Rattle.farm_entries.specs.Servers.{ServerNow, server_of, server_at, server_now, is_over}
 use Rattle.farm_entries.specs.Settled.{IsUpdated, assignment_end, unreported, running, ReadyEnds, StartedEnds}
 use Rattle.farm_entries.specs.Settled.{complete_end}
@@ -261,6 +261,7 @@ allocated_quiet s number json tc made (core.Undo job noted ended) = refl
 allocated_quiet s number json tc made (core.Beat server nonce cpus key pruned reaped replaced is_new) = refl
 allocated_quiet s number json tc made (core.Update server job state given) = refl
 allocated_quiet s number json tc made (core.Status pruned servers cpus jobs) = refl
+allocated_quiet s number json tc made (core.Drain addr nonce on named) = refl
 
 either_quiet : (b : Bool) (x y : Effect) → built_in x.step ≡ None → built_in y.step ≡ None
     → built_in (cond b x y).step ≡ None

@@ -6,10 +6,10 @@ use Rattle.std.specs.List.{list_any}
 use Rattle.std.proofs.lemmas.Bool.{ltb-true}
 use Rattle.std.proofs.lemmas.List.{length-append}
 use Rattle.dist_types.specs.Addr.{◌>>=◌}
-use Rattle.sched_core.specs.Cuts.{Cut, cuts, cuts_behind}
-use Rattle.sched_core.proofs.Lists.{list_any-push, followed, cuts_behind-push, end_cut}
-use Rattle.sched_core.proofs.AllLemmas.{is_false}
-use Rattle.sched_core.proofs.Lists.{list_any-map}
+use Rattle.core_rules.specs.Cuts.{Cut, cuts, cuts_behind}
+use Rattle.core_rules.proofs.Lists.{list_any-push, followed, cuts_behind-push, end_cut}
+use Rattle.core_rules.proofs.AllLemmas.{is_false}
+use Rattle.core_rules.proofs.Lists.{list_any-map}
 use Rattle.farm_entries.specs.declared.entry.Entry.{Entry}
 use Rattle.farm_entries.specs.declared.entry.OutCall.{OutCall}
 use Rattle.farm_entries.specs.Calls.{settled_at, is_settled, waiting_at}

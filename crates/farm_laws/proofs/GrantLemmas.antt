@@ -13,9 +13,9 @@ use Rattle.dist_types.specs.declared.results.UpdateJobStateResult.TheVariants.{S
 use Rattle.dist_token.specs.Verdict.{job_verdict}
 use Rattle.dist_wire.specs.Reading.{update_at}
 use Rattle.dist_wire.specs.declared.run.RunJobHttpRequest.{RunJobHttpRequest}
-use Rattle.sched_core.specs.Advance.{advance}
-use Rattle.sched_core.specs.Rows.{open_rows}
-use Rattle.sched_core.proofs.AddressLemmas.{same_self}
+use Rattle.core_rules.specs.Advance.{advance}
+use Rattle.core_rules.specs.Rows.{open_rows}
+use Rattle.core_rules.proofs.AddressLemmas.{same_self}
 use Rattle.http_head.specs.Head.{IsReply}
 use Rattle.http_head.specs.declared.reply.Reply.{Reply as HttpReply}
 use Rattle.http_routes.specs.Admission.{equal_admission}

@@ -4,8 +4,8 @@ use Rattle.std.proofs.Common.{refl, ap, ◌∙◌}
 use Rattle.dist_types.specs.declared.addr.Addr.{Addr}
 use Rattle.dist_types.specs.declared.outgoing.CallFault.{CallFault}
 use Rattle.dist_types.specs.declared.results.AssignJobResult.{AssignJobResult}
-use Rattle.sched_core.specs.Log.{Core}
-use Rattle.sched_core.specs.Ticket.{Ticket}
+use Rattle.core_rules.specs.Log.{Core}
+use Rattle.core_rules.specs.Ticket.{Ticket}
 use Rattle.farm_entries.specs.declared.site.Site.{Site as Setup}
 use Rattle.farm_entries.specs.declared.entry.Effect.{Effect}
 use Rattle.farm_entries.specs.declared.entry.Entry.{Entry}

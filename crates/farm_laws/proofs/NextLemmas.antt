@@ -14,25 +14,25 @@ use Rattle.dist_types.specs.declared.ids.JobId.{JobId}
 use Rattle.dist_types.specs.declared.outgoing.CallFault.{CallFault}
 use Rattle.dist_types.specs.declared.results.AssignJobResult.{AssignJobResult}
 use Rattle.dist_types.proofs.AddrLemmas.{bind_some}
-use Rattle.sched_core.specs.declared.start.Start.{Start}
-use Rattle.sched_core.proofs.Lists.{end_cut}
-use Rattle.sched_core.specs.Log.{Core}
-use Rattle.sched_core.specs.Pick.{pick}
-use Rattle.sched_core.specs.Reservation.{bookings, spends_by}
-use Rattle.sched_core.specs.Rows.{servers_of}
-use Rattle.sched_core.specs.Rule.{rule, reserve_at, is_initial}
-use Rattle.sched_core.specs.Ticket.{Ticket}
-use Rattle.sched_core.specs.Laws.{IsLegal}
-use Rattle.sched_core.specs.declared.call.Call.TheVariants as call
-use Rattle.sched_core.specs.declared.rows.ServerRow.{ServerRow}
-use Rattle.sched_core.specs.declared.entry.CoreEntry.{CoreEntry}
-use Rattle.sched_core.specs.declared.entry.CoreKind.{CoreKind}
-use Rattle.sched_core.specs.declared.entry.CoreKind.TheVariants as core
-use Rattle.sched_core.specs.declared.entry.Reserved.TheVariants.{Job, NoRoom, Spent}
-use Rattle.sched_core.proofs.HeldLemmas.{legal_once}
-use Rattle.sched_core.proofs.RoomLemmas.{legal_bounded}
-use Rattle.sched_core.proofs.SoundLemmas.{legal_distinct}
-use Rattle.sched_core.proofs.OnceLemmas.{legal_all}
+use Rattle.core_rules.specs.declared.start.Start.{Start}
+use Rattle.core_rules.proofs.Lists.{end_cut}
+use Rattle.core_rules.specs.Log.{Core}
+use Rattle.core_rules.specs.Pick.{pick}
+use Rattle.core_rules.specs.Reservation.{bookings, spends_by}
+use Rattle.core_rules.specs.Rows.{servers_of}
+use Rattle.core_rules.specs.Rule.{rule, reserve_at, is_initial}
+use Rattle.core_rules.specs.Ticket.{Ticket}
+use Rattle.core_rules.specs.Laws.{IsLegal}
+use Rattle.core_rules.specs.declared.call.Call.TheVariants as call
+use Rattle.core_rules.specs.declared.rows.ServerRow.{ServerRow}
+use Rattle.core_rules.specs.declared.entry.CoreEntry.{CoreEntry}
+use Rattle.core_rules.specs.declared.entry.CoreKind.{CoreKind}
+use Rattle.core_rules.specs.declared.entry.CoreKind.TheVariants as core
+use Rattle.core_rules.specs.declared.entry.Reserved.TheVariants.{Job, NoRoom, Spent}
+use Rattle.core_rules.proofs.HeldLemmas.{legal_once}
+use Rattle.core_rules.proofs.RoomLemmas.{legal_bounded}
+use Rattle.core_rules.proofs.SoundLemmas.{legal_distinct}
+use Rattle.core_rules.proofs.OnceLemmas.{legal_all}
 use Rattle.http_routes.specs.declared.route.SchedRouted.{SchedRouted}
 use Rattle.http_routes.specs.declared.route.SchedRouted.TheVariants as asked
 use Rattle.http_routes.proofs.CallLemmas.{begins_assigned}
@@ -74,12 +74,12 @@ use Rattle.farm_entries.specs.Settled.{IsOutcome, assignment_end, ReadyEnds, Sta
 use Rattle.farm_entries.specs.Settled.{Reports}
 use Rattle.farm_entries.specs.Settled.{ReportsIn, Lives}
 use Rattle.farm_entries.specs.Weather.{free, opened_effect}
-use Rattle.lru_disk_cache.specs.Archives.{Archives}
+use Rattle.toolchain_cache.specs.Archives.{Archives}
 use Rattle.farm_entries.specs.Tickets.{ticket_of, ticket_at}
 use Rattle.farm_entries.specs.Ways.{Way, server_way, caller_of, delivery_way, return_way, is_inside, beat_way}
 use Rattle.farm_entries.specs.Ways.{restart_way, way_of, brought_at, to_nothing, to_nobody, to_scheduler}
 use Rattle.farm_entries.specs.Ways.{to_server, to_call, to_beat, to_restart}
-use Rattle.sched_core.proofs.OwnLemmas.{legal_front}
+use Rattle.core_rules.proofs.OwnLemmas.{legal_front}
 use Rattle.farm_laws.proofs.SoundLemmas.{Adds, sound-step}
 
 -- ---- what an answer adds
@@ -101,6 +101,7 @@ allocated_core s number json tc made (core.Undo job noted ended) = refl
 allocated_core s number json tc made (core.Beat server nonce cpus key pruned reaped replaced is_new) = refl
 allocated_core s number json tc made (core.Update server job state given) = refl
 allocated_core s number json tc made (core.Status pruned servers cpus jobs) = refl
+allocated_core s number json tc made (core.Drain addr nonce on named) = refl
 
 hears_both : (cpus : ℕ) → hears cpus ≡ true → (1 ≤ cpus) × (cpus ≤ 4294967295)
 hears_both cpus on =

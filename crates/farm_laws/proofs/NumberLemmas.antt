@@ -4,7 +4,7 @@ use Rattle.std.proofs.Common.{None, refl, ap, ◌∙◌, arith}
 use Rattle.std.specs.Prelude.{slice_get}
 use Rattle.std.specs.List.{cons_option}
 use Rattle.std.proofs.lemmas.Option.{same_Some}
-use Rattle.sched_core.specs.declared.entry.CoreEntry.{CoreEntry}
+use Rattle.core_rules.specs.declared.entry.CoreEntry.{CoreEntry}
 use Rattle.farm_entries.specs.declared.entry.Entry.{Entry}
 use Rattle.farm_entries.specs.Seen.{core_log}
 

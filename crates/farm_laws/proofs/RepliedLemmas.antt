@@ -12,16 +12,16 @@ use Rattle.dist_types.specs.declared.results.AssignJobResult.{AssignJobResult}
 use Rattle.dist_types.specs.declared.results.UpdateJobStateResult.{UpdateJobStateResult}
 use Rattle.dist_types.proofs.AddrLemmas.{bind_some}
 use Rattle.dist_wire.specs.declared.run.RunJobHttpRequest.{RunJobHttpRequest}
-use Rattle.sched_core.specs.Answers.{committed_by, undone_by}
-use Rattle.sched_core.specs.Log.{Core}
-use Rattle.sched_core.specs.Rule.{rule, says_new_entry, counts_of}
-use Rattle.sched_core.specs.Texts.{no_room_text}
-use Rattle.sched_core.specs.Ticket.{Ticket}
-use Rattle.sched_core.specs.declared.call.Call.TheVariants as call
-use Rattle.sched_core.specs.declared.entry.CoreEntry.{CoreEntry}
-use Rattle.sched_core.specs.declared.entry.CoreKind.{CoreKind}
-use Rattle.sched_core.specs.declared.entry.CoreKind.TheVariants as core
-use Rattle.sched_core.specs.declared.entry.Reserved.TheVariants.{Job, NoRoom, Spent}
+use Rattle.core_rules.specs.Answers.{committed_by, undone_by}
+use Rattle.core_rules.specs.Log.{Core}
+use Rattle.core_rules.specs.Rule.{rule, says_new_entry, counts_of}
+use Rattle.core_rules.specs.Texts.{no_room_text}
+use Rattle.core_rules.specs.Ticket.{Ticket}
+use Rattle.core_rules.specs.declared.call.Call.TheVariants as call
+use Rattle.core_rules.specs.declared.entry.CoreEntry.{CoreEntry}
+use Rattle.core_rules.specs.declared.entry.CoreKind.{CoreKind}
+use Rattle.core_rules.specs.declared.entry.CoreKind.TheVariants as core
+use Rattle.core_rules.specs.declared.entry.Reserved.TheVariants.{Job, NoRoom, Spent}
 use Rattle.dist_types.specs.declared.results.AllocJobResult.TheVariants as alloc
 use Rattle.http_routes.specs.Fault.{fault_response_of}
 use Rattle.http_routes.specs.Replies.{heard_response, status_response, alloc_response, commit_response}
@@ -66,7 +66,7 @@ use Rattle.farm_entries.specs.Servers.{ServerNow, server_now, is_over}
 use Rattle.farm_entries.specs.Settled.{assignment_end, unreported, submission, ReadyEnds, StartedEnds}
 use Rattle.farm_entries.specs.Settled.{complete_end, ended_response}
 use Rattle.farm_entries.specs.Weather.{free, opened_effect}
-use Rattle.lru_disk_cache.specs.Archives.{Archives}
+use Rattle.toolchain_cache.specs.Archives.{Archives}
 use Rattle.farm_entries.specs.Settled.{Reports, Lives, ReportsIn}
 use Rattle.farm_entries.specs.Ways.{Way, way_of, brought_at, to_nothing, to_nobody, to_scheduler, to_server}
 use Rattle.farm_entries.specs.Ways.{to_call, to_beat, to_restart}
@@ -111,6 +111,8 @@ allocated_says s number json tc made (core.Beat server nonce cpus key pruned rea
 allocated_says s number json tc made (core.Update server job state given) = says_reply number (Some made)
     (fault_response_of fault.IdsSpent)
 allocated_says s number json tc made (core.Status pruned servers cpus jobs) = says_reply number (Some made)
+    (fault_response_of fault.IdsSpent)
+allocated_says s number json tc made (core.Drain addr nonce on named) = says_reply number (Some made)
     (fault_response_of fault.IdsSpent)
 
 answer_says : (s : Core) (number at : ℕ) (json : Bool) (what : SchedRouted)

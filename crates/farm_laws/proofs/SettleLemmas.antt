@@ -8,8 +8,8 @@ use Rattle.std.specs.Option.{option_map}
 use Rattle.std.proofs.lemmas.Bool.{cases_lt, eqb-true, false≢true}
 use Rattle.std.proofs.lemmas.Option.{same_Some}
 use Rattle.dist_types.proofs.AddrLemmas.{bind_some}
-use Rattle.sched_core.specs.Cuts.{cuts_behind}
-use Rattle.sched_core.proofs.AllLemmas.{and_left, and_right, not_true, or_true, true_false}
+use Rattle.core_rules.specs.Cuts.{cuts_behind}
+use Rattle.core_rules.proofs.AllLemmas.{and_left, and_right, not_true, or_true, true_false}
 use Rattle.farm_script.proofs.WordLemmas.{guard_off}
 use Rattle.farm_script.specs.declared.event.Event.{Event}
 use Rattle.farm_script.specs.declared.event.EventKind.{EventKind}

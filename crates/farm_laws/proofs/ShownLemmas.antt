@@ -22,8 +22,8 @@ use Rattle.dist_token.specs.Token.{encoded, header_text, signed_text, token_text
 use Rattle.dist_token.specs.Token.{plain_text}
 use Rattle.dist_token.proofs.Bytes.{hmac_bytes}
 use Rattle.dist_token.proofs.ServerTokens.{plain_accepted, server_accepted}
-use Rattle.sched_core.specs.Log.{latest}
-use Rattle.sched_core.proofs.AllLemmas.{and_left, and_right, both}
+use Rattle.core_rules.specs.Log.{latest}
+use Rattle.core_rules.proofs.AllLemmas.{and_left, and_right, both}
 use Rattle.http_head.specs.WrittenRequest.{is_printed, IsToken}
 use Rattle.http_head.proofs.LineLemmas.{weaker}
 use Rattle.http_head.proofs.WrittenRequestLemmas.{ascii_text}

@@ -8,19 +8,20 @@ use Rattle.std.proofs.lemmas.Option.{same_Some, slice_get_within}
 use Rattle.dist_types.specs.Addr.{◌>>=◌}
 use Rattle.dist_types.specs.declared.ids.JobId.{JobId}
 use Rattle.dist_types.proofs.AddrLemmas.{bind_some}
-use Rattle.sched_core.proofs.Lists.{end_cut}
-use Rattle.sched_core.specs.Log.{same_job}
-use Rattle.sched_core.specs.Ticket.{Ticket}
-use Rattle.sched_core.specs.Standing.{address_of, key_at}
-use Rattle.sched_core.specs.Reservation.{unspent, spends_by}
-use Rattle.sched_core.specs.Rule.{is_among}
-use Rattle.sched_core.specs.Laws.{IsRule, IsLegal}
-use Rattle.sched_core.specs.declared.entry.CoreEntry.{CoreEntry}
-use Rattle.sched_core.specs.declared.entry.CoreKind.{CoreKind}
-use Rattle.sched_core.specs.declared.entry.CoreKind.TheVariants.{Reserve, Commit, Undo, Beat, Update, Status}
-use Rattle.sched_core.specs.declared.entry.Reserved.TheVariants.{Job, NoRoom, Spent}
-use Rattle.sched_core.proofs.AllLemmas.{is_false, true_false, same_job-sym}
-use Rattle.sched_core.proofs.LegalLemmas.{legal-push}
+use Rattle.core_rules.proofs.Lists.{end_cut}
+use Rattle.core_rules.specs.Log.{same_job}
+use Rattle.core_rules.specs.Ticket.{Ticket}
+use Rattle.core_rules.specs.Standing.{address_of, key_at}
+use Rattle.core_rules.specs.Reservation.{unspent, spends_by}
+use Rattle.core_rules.specs.Rule.{is_among}
+use Rattle.core_rules.specs.Laws.{IsRule, IsLegal}
+use Rattle.core_rules.specs.declared.entry.CoreEntry.{CoreEntry}
+use Rattle.core_rules.specs.declared.entry.CoreKind.{CoreKind}
+use Rattle.core_rules.specs.declared.entry.CoreKind.TheVariants.{Reserve, Commit, Undo, Beat, Update}
+use Rattle.core_rules.specs.declared.entry.CoreKind.TheVariants.{Status, Drain}
+use Rattle.core_rules.specs.declared.entry.Reserved.TheVariants.{Job, NoRoom, Spent}
+use Rattle.core_rules.proofs.AllLemmas.{is_false, true_false, same_job-sym}
+use Rattle.core_rules.proofs.LegalLemmas.{legal-push}
 use Rattle.farm_entries.specs.declared.site.Site.{Site as Setup}
 use Rattle.farm_entries.specs.declared.entry.Entry.{Entry}
 use Rattle.farm_entries.specs.Calls.{settled_at, waiting_at}
@@ -30,7 +31,7 @@ use Rattle.farm_entries.specs.Lawful.{IsSound}
 use Rattle.farm_script.proofs.WordLemmas.{guard_off}
 use Rattle.farm_laws.proofs.CallLemmas.{get_left, get_end, waiting-push, waiting-end}
 use Rattle.farm_laws.proofs.NumberLemmas.{numbers_rise, take_left, take_end}
-use Rattle.sched_core.proofs.OwnLemmas.{own-kept, own-made, one_number}
+use Rattle.core_rules.proofs.OwnLemmas.{own-kept, own-made, one_number}
 use Rattle.farm_laws.proofs.RunLemmas.{core_log-push}
 
 -- ---- what an entry may add
@@ -99,6 +100,7 @@ ticket_number core (Some c) t e = (c, refl, by_kind core c.kind t e)
     by_kind core (Beat server nonce cpus key pruned reaped replaced is_new) t e = absurd cc
     by_kind core (Update server job state answer) t e = absurd cc
     by_kind core (Status pruned servers cpus jobs) t e = absurd cc
+    by_kind core (Drain addr nonce on named) t e = absurd cc
 
 -- reservations of two entries have two numbers
 one_place : (log : List Entry) (n m : ℕ) (t u : Ticket) → ticket_at log n ≡ Some t → ticket_at log m ≡ Some u
@@ -137,6 +139,7 @@ own_new core now (Undo job noted ended) t e = absurd cc
 own_new core now (Beat server nonce cpus key pruned reaped replaced is_new) t e = absurd cc
 own_new core now (Update server job state answer) t e = absurd cc
 own_new core now (Status pruned servers cpus jobs) t e = absurd cc
+own_new core now (Drain addr nonce on named) t e = absurd cc
 
 -- the core log with the entry's core entry
 core_with : (log : List Entry) (e : Entry) (o : Option CoreEntry) → e.core ≡ o

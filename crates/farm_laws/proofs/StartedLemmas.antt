@@ -8,24 +8,26 @@ use Rattle.std.proofs.lemmas.List.Elements.{filter_map-append}
 use Rattle.dist_types.specs.declared.ids.JobId.{JobId}
 use Rattle.dist_types.specs.declared.results.JobState.{JobState}
 use Rattle.dist_types.specs.declared.results.JobState.TheVariants.{Pending, Ready, Started, Complete}
-use Rattle.sched_core.specs.declared.start.Start.{Start}
-use Rattle.sched_core.specs.declared.entry.CoreEntry.{CoreEntry}
-use Rattle.sched_core.specs.declared.entry.CoreKind.{CoreKind}
-use Rattle.sched_core.specs.declared.entry.CoreKind.TheVariants.{Beat, Reserve, Commit, Undo, Update, Status}
-use Rattle.sched_core.specs.Log.{same_job, latest, newest}
-use Rattle.sched_core.specs.Reservation.{is_accepted, is_started}
-use Rattle.sched_core.specs.Job.{Committed, commits, moves_by, moves_of, state_now, state_of, is_open}
-use Rattle.sched_core.specs.Job.{open_jobs}
-use Rattle.sched_core.specs.Advance.{follows}
-use Rattle.sched_core.specs.Laws.{IsRule, IsLegal, IsChain, HasOrder}
-use Rattle.sched_core.proofs.LegalLemmas.{core_of, legal_has}
-use Rattle.sched_core.proofs.Lists.{list_any-map, list_any-push, cons_nil}
-use Rattle.sched_core.proofs.AllLemmas.{and_left, and_right, both, same_job-eq, all-both, all-filter}
-use Rattle.sched_core.proofs.AllLemmas.{any-append, any-end, any-weaker, any-all, any-kept, found, each_same}
-use Rattle.sched_core.proofs.AllLemmas.{only}
-use Rattle.sched_core.proofs.StepLemmas.{committed, grown_commit, commits-push}
-use Rattle.sched_core.proofs.FactLemmas.{Facts, facts}
-use Rattle.sched_core.proofs.OnceLemmas.{accepted_job, legal_all}
+use Rattle.core_rules.specs.declared.start.Start.{Start}
+use Rattle.core_rules.specs.declared.entry.CoreEntry.{CoreEntry}
+use Rattle.core_rules.specs.declared.entry.CoreKind.{CoreKind}
+use Rattle.core_rules.specs.declared.entry.CoreKind.TheVariants.{Beat, Reserve, Commit, Undo, Update}
+use Rattle.core_rules.specs.declared.entry.CoreKind.TheVariants.{Status, Drain}
+use Rattle.core_rules.specs.Log.{same_job, latest, newest}
+use Rattle.core_rules.specs.Reservation.{is_accepted, is_started}
+use Rattle.core_rules.specs.Job.{Committed, commits, moves_by, moves_of, state_now, state_of, is_open}
+use Rattle.core_rules.specs.Job.{open_jobs}
+use Rattle.core_rules.specs.Advance.{follows}
+use Rattle.core_rules.specs.Laws.{IsRule, IsLegal, IsChain, HasOrder}
+use Rattle.core_rules.proofs.LegalLemmas.{core_of, legal_has}
+use Rattle.core_rules.proofs.Lists.{list_any-map, list_any-push, cons_nil}
+use Rattle.core_rules.proofs.AllLemmas.{and_left, and_right, both, same_job-eq, all-both, all-filter}
+use Rattle.core_rules.proofs.AllLemmas.{any-append, any-end, any-weaker, any-all, any-kept, found}
+use Rattle.core_rules.proofs.AllLemmas.{each_same}
+use Rattle.core_rules.proofs.AllLemmas.{only}
+use Rattle.core_rules.proofs.StepLemmas.{committed, grown_commit, commits-push}
+use Rattle.core_rules.proofs.FactLemmas.{Facts, facts}
+use Rattle.core_rules.proofs.OnceLemmas.{accepted_job, legal_all}
 
 -- whether an entry accepts that the job is started
 abbrev pub starts_by : CoreKind → JobId → Bool
@@ -67,6 +69,7 @@ start_open start log (Undo job noted ended) j is t = absurd (false≢true t)
 start_open start log (Beat server nonce cpus key pruned reaped replaced is_new) j is t =
     absurd (false≢true t)
 start_open start log (Status pruned servers cpus n) j is t = absurd (false≢true t)
+start_open start log (Drain addr nonce on named) j is t = absurd (false≢true t)
 
 -- an entry that starts a job moves it
 start_moves : (k : CoreKind) (j : JobId) → starts_by k j ≡ true → moves_by k j ≡ Some Started
@@ -82,6 +85,7 @@ start_moves (Commit job state kept) j t = absurd (false≢true t)
 start_moves (Undo job noted ended) j t = absurd (false≢true t)
 start_moves (Beat server nonce cpus key pruned reaped replaced is_new) j t = absurd (false≢true t)
 start_moves (Status pruned servers cpus n) j t = absurd (false≢true t)
+start_moves (Drain addr nonce on named) j t = absurd (false≢true t)
 
 -- ---- what was started has started among its moves
 

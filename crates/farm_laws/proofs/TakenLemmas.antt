@@ -7,7 +7,7 @@ use Rattle.std.proofs.lemmas.Option.{same_Some}
 use Rattle.dist_types.specs.Addr.{same_addr}
 use Rattle.dist_types.specs.declared.addr.Addr.{Addr}
 use Rattle.dist_types.specs.declared.ids.JobId.{JobId}
-use Rattle.sched_core.proofs.AddressLemmas.{same_is}
+use Rattle.core_rules.proofs.AddressLemmas.{same_is}
 use Rattle.build_server.specs.Books.{Table, is_job, held_for, placed, without_job}
 use Rattle.farm_entries.specs.declared.site.SiteServer.{SiteServer as SetupServer}
 use Rattle.farm_entries.specs.declared.entry.Entry.{Entry}

@@ -8,12 +8,12 @@ use Rattle.std.proofs.lemmas.Option.{same_Some}
 use Rattle.dist_types.specs.declared.addr.Addr.{Addr}
 use Rattle.farm_script.specs.Setups.{AreApart}
 use Rattle.farm_entries.specs.Passage.{IsBegun}
-use Rattle.lru_disk_cache.specs.Archives.{Archives}
+use Rattle.toolchain_cache.specs.Archives.{Archives}
 use Rattle.std.specs.List.{IsDistinct}
 use Rattle.std.specs.Map.{keys_of}
 use Rattle.std.specs.Str.{bytes_eq}
-use Rattle.lru_disk_cache.specs.Files.{Files}
-use Rattle.lru_disk_cache.specs.Held.{Held}
+use Rattle.folders.specs.Files.{Files}
+use Rattle.folders.specs.Held.{Held}
 use Rattle.build_server.specs.Builds.{Builder}
 use Rattle.farm_script.specs.declared.setup.SetupServer.{SetupServer as Script}
 use Rattle.farm_entries.specs.declared.site.SiteServer.{SiteServer}
@@ -65,9 +65,6 @@ pub record OwnSoFar (ss : List Script) (ts : List SiteServer) (sts : List Post) 
   pub sites : ts ≡ map (site_server (Some [])) ss
   pub stations : AreStations ts [] sts
   pub own : AreOwn (map outside_of sts)
-
-pub own_none : OwnSoFar [] [] []
-own_none = record { sites = refl; stations = stations_none []; own = λ i o at. absurd cc }
 
 pub own_push : (ss : List Script) (ts : List SiteServer) (sts : List Post) (s : Script) (t : SiteServer)
     (st : Post) → OwnSoFar ss ts sts → t ≡ site_server (Some []) s → now_of t st ≡ server_begun t

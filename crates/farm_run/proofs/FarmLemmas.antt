@@ -3,10 +3,10 @@ use Rattle.std.proofs.Common.{◌≡◌, ℕ, ◌<◌, ◌^◌, List, [], ◌∷
 use Rattle.std.proofs.Common.{append_assoc}
 use Rattle.std.specs.Prelude.{IfOk}
 use Rattle.build_server.specs.Builds.{Builder}
-use Rattle.lru_disk_cache.specs.Held.{Held}
+use Rattle.folders.specs.Held.{Held}
 use Rattle.farm_script.specs.declared.event.Event.{Event}
 use Rattle.farm_script.specs.declared.event.EventKind.{EventKind}
-use Rattle.farm_script.specs.declared.fault.FarmFault.{FarmFault}
+use Rattle.line_program.specs.declared.fault.FarmFault.{FarmFault}
 use Rattle.farm_script.specs.declared.setup.Setup.{Setup as Script}
 use Rattle.farm_script.specs.Script.{script}
 use Rattle.farm_script.specs.Setups.{IsSetup}

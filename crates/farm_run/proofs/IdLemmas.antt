@@ -1,11 +1,11 @@
 -- How many ids are given.
 use Rattle.std.proofs.Common.{◌+◌, ◌<◌, ◌^◌, List, length, arith}
 use Rattle.std.proofs.lemmas.List.{length-map}
-use Rattle.sched_core.specs.declared.start.Start.{Start}
-use Rattle.sched_core.specs.declared.entry.CoreEntry.{CoreEntry}
-use Rattle.sched_core.specs.Reservation.{bookings}
-use Rattle.sched_core.specs.Laws.{IsLegal}
-use Rattle.sched_core.proofs.SoundLemmas.{legal_ids}
+use Rattle.core_rules.specs.declared.start.Start.{Start}
+use Rattle.core_rules.specs.declared.entry.CoreEntry.{CoreEntry}
+use Rattle.core_rules.specs.Reservation.{bookings}
+use Rattle.core_rules.specs.Laws.{IsLegal}
+use Rattle.core_rules.proofs.SoundLemmas.{legal_ids}
 
 -- the number of ids stays below 2 ^ 64
 pub ids_fit : (start : Start) (log : List CoreEntry) → start.count < 2 ^ 64 → IsLegal start log

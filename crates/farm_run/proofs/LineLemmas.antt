@@ -3,12 +3,12 @@ use Rattle.std.proofs.Common.{◌≡◌, ℕ, List, [], ◌∷◌, ◌++◌, Opt
 use Rattle.std.specs.List.{flat_map}
 use Rattle.std.specs.Option.{option_map}
 use Rattle.dist_types.specs.declared.addr.Addr.{Addr}
-use Rattle.sched_core.specs.declared.entry.CoreEntry.{CoreEntry}
-use Rattle.sched_core.specs.declared.rows.JobRow.{JobRow}
-use Rattle.sched_core.specs.Standing.{address_of}
-use Rattle.sched_core.specs.Reservation.{Booking, is_claimed}
-use Rattle.sched_core.specs.Job.{state_of}
-use Rattle.sched_core.specs.Rows.{job_row}
+use Rattle.core_rules.specs.declared.entry.CoreEntry.{CoreEntry}
+use Rattle.core_rules.specs.declared.rows.JobRow.{JobRow}
+use Rattle.core_rules.specs.Standing.{address_of}
+use Rattle.core_rules.specs.Reservation.{Booking, is_claimed}
+use Rattle.core_rules.specs.Job.{state_of, ready_at}
+use Rattle.core_rules.specs.Rows.{job_row}
 use Rattle.farm_entries.specs.Printed.{job_line, job_text}
 
 abbrev pub row_line : JobRow → List ℕ
@@ -23,6 +23,7 @@ one_line : (b : Booking) (j : JobRow) (at : Option Addr)
       server = server;
       reserved_at = b.now;
       state = state_of b.job b.later;
+      ready_at = ready_at b.job b.later;
       claimed = is_claimed b;
     }) at → row_line j ≡ job_text b
 one_line b j None is = absurd cc
@@ -34,6 +35,7 @@ one_line b j (Some server) is =
       server = server;
       reserved_at = b.now;
       state = state_of b.job b.later;
+      ready_at = ready_at b.job b.later;
       claimed = is_claimed b;
     } = cc in ap row_line same
 

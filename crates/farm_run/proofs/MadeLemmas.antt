@@ -9,10 +9,8 @@ use Rattle.std.proofs.lemmas.Option.{same_Some, slice_get_within}
 use Rattle.dist_types.specs.Addr.{◌>>=◌}
 use Rattle.dist_types.specs.declared.addr.Addr.{Addr}
 use Rattle.dist_types.specs.declared.outgoing.CallFault.{CallFault}
-use Rattle.sched_core.proofs.Lists.{end_cut}
-use Rattle.sched_core.specs.Log.{Core}
-use Rattle.sched_core.specs.Reservation.{unspent}
-use Rattle.sched_core.specs.Rule.{is_among}
+use Rattle.core_rules.proofs.Lists.{end_cut}
+use Rattle.core_rules.specs.Log.{Core}
 use Rattle.farm_entries.specs.declared.site.Site.{Site as Setup}
 use Rattle.farm_script.specs.declared.event.Event.{Event}
 use Rattle.farm_entries.specs.declared.entry.Effect.{Effect}
@@ -48,16 +46,15 @@ use Rattle.farm_entries.specs.Waiting.{IsWaiting, IsKept, kept_at, AreKept}
 use Rattle.farm_run.specs.Stops.{reporter, IsReportOf}
 use Rattle.farm_run.specs.Farm.{IsAfter, IsReceived}
 use Rattle.farm_run.specs.Farm.{IsMadeSo, IsFarm, Stands}
-use Rattle.farm_entries.specs.Lawful.{IsSound}
 use Rattle.farm_entries.specs.Passage.{IsMoved}
 use Rattle.farm_entries.specs.Weather.{Weather, calm, free}
 use Rattle.farm_entries.specs.Next.{GoesOn, Follows, IsServed, IsSettled, IsMade, IsNext}
 use Rattle.farm_entries.specs.Seen.{core_log, core_of}
-use Rattle.farm_entries.specs.Settled.{complete_end, Lives, ReportsIn, IsOwnBy}
+use Rattle.farm_entries.specs.Settled.{complete_end, Lives, ReportsIn}
 use Rattle.farm_entries.specs.Ways.{Way, way_of, brought_at, to_nothing, to_nobody, to_scheduler, to_server}
 use Rattle.farm_entries.specs.Ways.{to_call, to_beat, to_restart}
 use Rattle.farm_laws.proofs.CallLemmas.{waiting-end}
-use Rattle.farm_laws.proofs.NextLemmas.{call_ticket, settles_it, way_settles, sound_next, sound_none}
+use Rattle.farm_laws.proofs.NextLemmas.{settles_it, way_settles, sound_next, sound_none}
 use Rattle.farm_laws.proofs.RunLemmas.{core_of-push, IsRun-push}
 use Rattle.farm_run.proofs.WaitLemmas.{call-end, kept-left, kept-settled, kept-push}
 use Rattle.farm_laws.proofs.LoudLemmas.{goes_loud}
@@ -453,19 +450,6 @@ settled_none setup s log ps sts event n reply m is comes none same =
     } in
     subst (λ (q : Made). IsMadeSo setup log event (way_of setup log event.kind) (set ps n None) sts sts q)
     (sym same) there
-
--- the reservation of a call that is kept is unspent
-own_by : (setup : Setup) (s : Core) (log : List Entry) (n : ℕ) (p : Pending) (ask : Ask)
-    → s ≡ core_of setup log → IsSound setup log → IsWaiting setup log n p → p.ask ≡ ask → IsOwnBy s.log ask
-own_by setup s log n p (Assign t) core_is sound waits asks =
-    ap (λ (c : Core). is_among (unspent c.log) t.number t.job) core_is ∙ sound.own n waits.entry t waits.waits
-    (call_ticket setup log n p t waits.call asks)
-own_by setup s log n p (Report server life t) core_is sound waits asks = tt
-
-pub kept_own : (setup : Setup) (s : Core) (log : List Entry) (ps : List (Option Pending)) (sts : List Station)
-    (n : ℕ) (p : Pending) → IsFarm setup s log ps sts → kept_at ps n ≡ Some p → IsOwnBy s.log p.ask
-kept_own setup s log ps sts n p is some = own_by setup s log n p p.ask is.core_is is.sound
-    (subst (IsKept setup log n) some (is.kept.each n)) refl
 
 -- what is kept of a report tells who makes it
 pub report_of : (setup : Setup) (s : Core) (log : List Entry) (ps : List (Option Pending))

@@ -12,8 +12,7 @@ use Rattle.farm_entries.specs.declared.entry.Entry.{Entry}
 use Rattle.farm_run.specs.Farm.{AddsNext, StepsTo}
 use Rattle.farm_entries.specs.Next.{IsNext, EachNext, IsRun}
 use Rattle.farm_entries.specs.Passage.{reached, StaysOwn, AreOwn, IsStill, Moves, IsMoved, Passage}
-use Rattle.farm_entries.specs.Weather.{Outside, Weather, calm, free, weather_by}
-use Rattle.farm_laws.proofs.FreeLemmas.{next_free}
+use Rattle.farm_entries.specs.Weather.{Outside, Weather, calm, weather_by}
 use Rattle.farm_laws.proofs.RunLemmas.{IsRun-push}
 use Rattle.farm_run.proofs.ServerLemmas.{get_set_same, get_set_other, within}
 
@@ -98,15 +97,6 @@ passage_calm setup log old [] (e ∷ es) new p own = absurd p
 passage_calm setup log old (v ∷ vs) [] new p own = absurd p
 
 -- ---- any run
-
-pub passage_free : (setup : Setup) (log : List Entry) (old : List Outside) (events : List Event)
-    (entries : List Entry) (new : List Outside) → Passage setup log old events entries new
-    → EachNext free setup log events entries
-passage_free setup log old [] [] new p = tt
-passage_free setup log old (v ∷ vs) (e ∷ es) new (w, mid, next, moved, rest) =
-    (next_free w setup log v e next, passage_free setup (log ++ e ∷ []) mid vs es new rest)
-passage_free setup log old [] (e ∷ es) new p = absurd p
-passage_free setup log old (v ∷ vs) [] new p = absurd p
 
 -- a run goes on by one entry
 pub passage-push : (setup : Setup) (log : List Entry) (old : List Outside) (events : List Event)

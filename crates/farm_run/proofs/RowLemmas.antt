@@ -12,14 +12,14 @@ use Rattle.dist_types.specs.declared.outgoing.CallFault.{CallFault}
 use Rattle.dist_types.specs.declared.results.AssignJobResult.{AssignJobResult}
 use Rattle.dist_types.specs.declared.results.UpdateJobStateResult.{UpdateJobStateResult}
 use Rattle.dist_wire.specs.declared.run.RunJobHttpRequest.{RunJobHttpRequest}
-use Rattle.sched_core.specs.Log.{Core}
-use Rattle.sched_core.specs.Rule.{rule}
-use Rattle.sched_core.specs.Ticket.{Ticket}
-use Rattle.sched_core.specs.declared.call.Call.TheVariants as call
-use Rattle.sched_core.specs.declared.entry.CoreEntry.{CoreEntry}
-use Rattle.sched_core.specs.declared.entry.CoreKind.{CoreKind}
-use Rattle.sched_core.specs.declared.entry.CoreKind.TheVariants as core
-use Rattle.sched_core.specs.declared.entry.Reserved.TheVariants as reserve
+use Rattle.core_rules.specs.Log.{Core}
+use Rattle.core_rules.specs.Rule.{rule}
+use Rattle.core_rules.specs.Ticket.{Ticket}
+use Rattle.core_rules.specs.declared.call.Call.TheVariants as call
+use Rattle.core_rules.specs.declared.entry.CoreEntry.{CoreEntry}
+use Rattle.core_rules.specs.declared.entry.CoreKind.{CoreKind}
+use Rattle.core_rules.specs.declared.entry.CoreKind.TheVariants as core
+use Rattle.core_rules.specs.declared.entry.Reserved.TheVariants as reserve
 use Rattle.http_routes.specs.declared.route.SchedRouted.{SchedRouted}
 use Rattle.http_routes.specs.declared.route.SchedRouted.TheVariants as asked
 use Rattle.farm_entries.specs.Settled.{IsOutcome, assignment_end}
@@ -57,7 +57,7 @@ use Rattle.farm_entries.specs.Settled.{ReadyEnds, StartedEnds, complete_end, Rep
 use Rattle.farm_entries.specs.Weather.{Weather, calm, weather_of, opened_effect}
 use Rattle.farm_entries.specs.Passage.{reached_in, reached, LeavesOutside, Moves, IsMoved}
 use Rattle.farm_run.proofs.StandLemmas.{get_map, set_map}
-use Rattle.lru_disk_cache.specs.Archives.{Archives}
+use Rattle.toolchain_cache.specs.Archives.{Archives}
 use Rattle.farm_script.specs.declared.event.EventKind.{EventKind}
 use Rattle.farm_stations.specs.Stations.{now_of, IsWell, AreStations, IsStepAt, IsRestartAt}
 use Rattle.farm_entries.specs.Ways.{Way, way_of, server_way, way_to, beat_way, restart_way, to_nothing}
@@ -194,18 +194,6 @@ way_there setup log target peer bytes o off there =
     ap (λ (b : Bool). cond b (to_scheduler peer bytes) (server_way bytes (server_now setup log target))) off
     ∙ ap (server_way bytes) there
 
-pub scheduler_received : (setup : Setup) (s : Core) (log : List Entry) (number at : ℕ) (target peer : Addr)
-    (bytes : List ℕ) (m : Made) → same_addr target setup.scheduler.addr ≡ true
-    → IsAnswered setup s number at peer bytes m.effect
-    → Keeps (IsBegunBy setup s.log number (to_scheduler peer bytes) m.effect) m.effect m.pending
-    → IsReceived calm setup s number at (way_to setup log target peer bytes) m
-scheduler_received setup s log number at target peer bytes m on answered kept =
-    let here : IsReceived calm setup s number at (to_scheduler peer bytes) m =
-    record { served = answered; kept = kept } in
-    subst (λ (v : Way). IsReceived calm setup s number at v m)
-    (sym (ap (λ (b : Bool). cond b (to_scheduler peer bytes)
-    (server_way bytes (server_now setup log target))) on)) here
-
 pub nobody_received : (setup : Setup) (s : Core) (log : List Entry) (number at : ℕ) (target peer : Addr)
     (bytes : List ℕ) (m : Made) → same_addr target setup.scheduler.addr ≡ false
     → position (λ (x : SetupServer). same_addr x.addr target) setup.servers ≡ None
@@ -339,6 +327,7 @@ allocated_step seen number json tc made (core.Undo job noted ended) = refl
 allocated_step seen number json tc made (core.Beat server nonce cpus key pruned reaped replaced is_new) = refl
 allocated_step seen number json tc made (core.Update server job state answer) = refl
 allocated_step seen number json tc made (core.Status pruned servers cpus jobs) = refl
+allocated_step seen number json tc made (core.Drain addr nonce on named) = refl
 
 cond_step : (b : Bool) (x y : Effect) → x.step ≡ None → y.step ≡ None → (cond b x y).step ≡ None
 cond_step true x y one two = one

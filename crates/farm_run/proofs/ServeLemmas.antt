@@ -12,30 +12,31 @@ use Rattle.dist_types.specs.declared.results.AssignJobResult.{AssignJobResult}
 use Rattle.dist_types.specs.declared.results.JobState.{JobState}
 use Rattle.dist_types.specs.declared.results.UpdateJobStateResult.{UpdateJobStateResult}
 use Rattle.http_routes.specs.Fault.{fault_response_of}
-use Rattle.sched_core.specs.Texts.{no_room_text}
+use Rattle.core_rules.specs.Texts.{no_room_text}
 use Rattle.http_routes.specs.declared.fault.RouteFault.TheVariants as fault
 use Rattle.http_routes.specs.declared.reply.Response.{Response}
 use Rattle.http_routes.specs.declared.route.Asked.{Asked}
-use Rattle.sched_core.specs.Log.{Core, logged}
-use Rattle.sched_core.specs.Rule.{rule}
-use Rattle.sched_core.specs.Ticket.{Ticket}
-use Rattle.sched_core.specs.Answers.{Leaves, IsPicked, committed_by, undone_by, verdict}
-use Rattle.sched_core.specs.declared.answers.Committed.{Committed}
+use Rattle.core_rules.specs.Log.{Core, logged}
+use Rattle.core_rules.specs.Rule.{rule}
+use Rattle.core_rules.specs.Ticket.{Ticket}
+use Rattle.core_rules.specs.Answers.{Leaves, committed_by, undone_by, verdict}
+use Rattle.sched_core.specs.Picked.{IsPicked}
+use Rattle.core_rules.specs.declared.answers.Committed.{Committed}
 use Rattle.sched_core.specs.declared.answers.Picked.TheVariants as picked
-use Rattle.sched_core.specs.declared.answers.Undone.{Undone}
-use Rattle.sched_core.specs.declared.call.Call.TheVariants as call
-use Rattle.sched_core.specs.declared.error.SchedError.{SchedError}
-use Rattle.sched_core.specs.declared.error.SchedError.TheVariants as error
-use Rattle.sched_core.specs.declared.entry.CoreEntry.{CoreEntry}
-use Rattle.sched_core.specs.declared.entry.CoreKind.{CoreKind}
-use Rattle.sched_core.specs.declared.entry.CoreKind.TheVariants as core
-use Rattle.sched_core.specs.declared.entry.Reserved.TheVariants.{Job, NoRoom, Spent}
-use Rattle.sched_core.specs.declared.entry.UpdateAnswer.{UpdateAnswer}
-use Rattle.sched_core.specs.declared.entry.UpdateAnswer.TheVariants.{Accepted, Unknown, Wrong, Transition}
+use Rattle.core_rules.specs.declared.answers.Undone.{Undone}
+use Rattle.core_rules.specs.declared.call.Call.TheVariants as call
+use Rattle.core_rules.specs.declared.error.SchedError.{SchedError}
+use Rattle.core_rules.specs.declared.error.SchedError.TheVariants as error
+use Rattle.core_rules.specs.declared.entry.CoreEntry.{CoreEntry}
+use Rattle.core_rules.specs.declared.entry.CoreKind.{CoreKind}
+use Rattle.core_rules.specs.declared.entry.CoreKind.TheVariants as core
+use Rattle.core_rules.specs.declared.entry.Reserved.TheVariants.{Job, NoRoom, Spent}
+use Rattle.core_rules.specs.declared.entry.UpdateAnswer.{UpdateAnswer}
+use Rattle.core_rules.specs.declared.entry.UpdateAnswer.TheVariants.{Accepted, Unknown, Wrong, Transition}
 use Rattle.farm_entries.specs.declared.site.Site.{Site as Setup}
 use Rattle.farm_entries.specs.declared.entry.Effect.{Effect}
 use Rattle.farm_entries.specs.declared.entry.Reply.{Reply}
-use Rattle.farm_script.specs.declared.fault.FarmFault.{FarmFault}
+use Rattle.line_program.specs.declared.fault.FarmFault.{FarmFault}
 use Rattle.farm_run.specs.declared.pending.Made.{Made}
 use Rattle.farm_entries.specs.declared.pending.Pending.{Pending}
 use Rattle.http_routes.specs.Replies.{alloc_response, update_response, update_reply, commit_response}
@@ -84,34 +85,6 @@ told_taken json Unknown server job to answer e = absurd cc
 told_taken json Wrong server job to answer e = absurd cc
 told_taken json (Transition from) server job to answer e = absurd cc
 
-pub told_unknown : (json : Bool) (a : UpdateAnswer) (server : Addr) (job : JobId) (to : JobState)
-    → verdict a to ≡ Err error.UnknownJob
-    → fault_response_of fault.UnknownJob ≡ update_reply json a server job to
-told_unknown json Accepted server job to e = absurd cc
-told_unknown json Unknown server job to e = refl
-told_unknown json Wrong server job to e = absurd cc
-told_unknown json (Transition from) server job to e = absurd cc
-
-pub told_wrong : (json : Bool) (a : UpdateAnswer) (server : Addr) (job : JobId) (to : JobState)
-    → verdict a to ≡ Err error.WrongServer
-    → fault_response_of (fault.WrongServer job server) ≡ update_reply json a server job to
-told_wrong json Accepted server job to e = absurd cc
-told_wrong json Unknown server job to e = absurd cc
-told_wrong json Wrong server job to e = refl
-told_wrong json (Transition from) server job to e = absurd cc
-
-pub told_transition : (json : Bool) (a : UpdateAnswer) (server : Addr) (job : JobId)
-    (to from other : JobState) → verdict a to ≡ Err (error.BadTransition from other)
-    → fault_response_of (fault.BadTransition from to) ≡ update_reply json a server job to
-told_transition json Accepted server job to from other e = absurd cc
-told_transition json Unknown server job to from other e = absurd cc
-told_transition json Wrong server job to from other e = absurd cc
-told_transition json (Transition before) server job to from other e =
-    let same : from ≡ before = cc in
-    ap (λ (s : JobState). fault_response_of (fault.BadTransition s to)) same
-
--- ---- allocations
-
 -- the entry of an allocation that no registration has room for
 no_room_by : {A : Type 0} (key_of : A → List ℕ) (token_for : A → ℕ → List ℕ) (s : Core) (number : ℕ)
     (json : Bool) (tc : List ℕ) (made : CoreEntry) (standing : ℕ) (k : CoreKind)
@@ -131,6 +104,8 @@ no_room_by key_of token_for s number json tc made standing
 no_room_by key_of token_for s number json tc made standing (core.Update server job state answer) is =
     absurd is
 no_room_by key_of token_for s number json tc made standing (core.Status pruned servers cpus jobs) is =
+    absurd is
+no_room_by key_of token_for s number json tc made standing (core.Drain addr nonce on named) is =
     absurd is
 
 pub no_room_told : {A : Type 0} (key_of : A → List ℕ) (token_for : A → ℕ → List ℕ) (s new : Core) (number : ℕ)
@@ -203,25 +178,3 @@ undone_is s new t root json at f x undone response reply e log there undone-is r
     (response-is ∙ ap (λ (u : Undone). fault_response_of (fault.AssignFailed u f)) undone-is))
 
 -- ---- what a report never meets
-
-no_cpus : (a : UpdateAnswer) (to : JobState) (n : ℕ) → verdict a to ≡ Err (error.BadCpus n) → ⊥
-no_cpus Accepted to n e = absurd cc
-no_cpus Unknown to n e = absurd cc
-no_cpus Wrong to n e = absurd cc
-no_cpus (Transition from) to n e = absurd cc
-
-no_end : (a : UpdateAnswer) (to : JobState) → verdict a to ≡ Err error.IdsSpent → ⊥
-no_end Accepted to e = absurd cc
-no_end Unknown to e = absurd cc
-no_end Wrong to e = absurd cc
-no_end (Transition from) to e = absurd cc
-
-pub never_cpus : (to : JobState) (e : SchedError) (n : ℕ)
-    → (e ≢ error.Memory → (a : UpdateAnswer) × (verdict a to ≡ Err e)) → e ≡ error.BadCpus n → ⊥
-never_cpus to e n told is = let t = told (λ h. absurd cc) in no_cpus t.0 to n
-    (t.1 ∙ ap (λ (x : SchedError). Err x) is)
-
-pub never_spent : (to : JobState) (e : SchedError)
-    → (e ≢ error.Memory → (a : UpdateAnswer) × (verdict a to ≡ Err e)) → e ≡ error.IdsSpent → ⊥
-never_spent to e told is = let t = told (λ h. absurd cc)
-    in no_end t.0 to (t.1 ∙ ap (λ (x : SchedError). Err x) is)

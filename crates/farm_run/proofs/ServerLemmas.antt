@@ -13,8 +13,8 @@ use Rattle.std.proofs.lemmas.List.{length-set}
 use Rattle.std.proofs.lemmas.Option.{same_Some, slice_get_read}
 use Rattle.dist_types.specs.Addr.{same_addr}
 use Rattle.dist_types.specs.declared.addr.Addr.{Addr}
-use Rattle.sched_core.proofs.AddressLemmas.{same_is, same_self}
-use Rattle.sched_core.proofs.AllLemmas.{is_false, true_false}
+use Rattle.core_rules.proofs.AddressLemmas.{same_is, same_self}
+use Rattle.core_rules.proofs.AllLemmas.{is_false, true_false}
 use Rattle.farm_script.specs.declared.event.Event.{Event}
 use Rattle.farm_script.specs.declared.event.EventKind.TheVariants.{Restart}
 use Rattle.farm_script.specs.Setups.{AreApart}

@@ -4,7 +4,7 @@ use Rattle.std.proofs.Common.{map, set, Option, Some, None, refl, sym, ap, subst
 use Rattle.std.specs.Prelude.{slice_get, is_some}
 use Rattle.std.proofs.lemmas.Option.{same_Some}
 use Rattle.dist_types.specs.declared.addr.Addr.{Addr}
-use Rattle.sched_core.proofs.AddressLemmas.{same_self}
+use Rattle.core_rules.proofs.AddressLemmas.{same_self}
 use Rattle.build_server.specs.Builds.{Builder}
 use Rattle.farm_script.specs.declared.event.Event.{Event}
 use Rattle.farm_script.specs.declared.event.EventKind.{EventKind}

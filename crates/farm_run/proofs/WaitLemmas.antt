@@ -5,7 +5,7 @@ use Rattle.std.proofs.lemmas.Bool.{cases_lt}
 use Rattle.std.proofs.lemmas.List.{length-append}
 use Rattle.std.proofs.lemmas.Option.{slice_get_past}
 use Rattle.dist_types.specs.Addr.{◌>>=◌}
-use Rattle.sched_core.proofs.Lists.{end_cut}
+use Rattle.core_rules.proofs.Lists.{end_cut}
 use Rattle.farm_entries.specs.declared.site.Site.{Site as Setup}
 use Rattle.farm_entries.specs.declared.entry.Entry.{Entry}
 use Rattle.farm_entries.specs.declared.pending.Pending.{Pending}

@@ -1,7 +1,7 @@
 -- How a farm begins over folders and builders that are handed in.
 use Rattle.std.specs.Prelude.{◌≡◌, ℕ, List, length, slice_get, Option, Some}
-use Rattle.lru_disk_cache.specs.Archives.{Archives}
-use Rattle.lru_disk_cache.specs.Held.{Held}
+use Rattle.toolchain_cache.specs.Archives.{Archives}
+use Rattle.folders.specs.Held.{Held}
 use Rattle.build_server.specs.Builds.{Builder}
 use Rattle.farm_script.specs.declared.setup.SetupServer.{SetupServer}
 use Rattle.farm_entries.specs.declared.site.SiteServer.{SiteServer}

@@ -1,8 +1,8 @@
 -- What contracts see of a farm, and what its runs do.
 use Rattle.std.specs.Prelude.{◌≡◌, ℕ, ◌^◌, ◌<◌, List, [], ◌∷◌, ◌++◌, length, map}
 use Rattle.std.specs.Prelude.{Option, None}
-use Rattle.sched_core.specs.Log.{Core}
-use Rattle.sched_core.specs.declared.entry.CoreEntry.{CoreEntry}
+use Rattle.core_rules.specs.Log.{Core}
+use Rattle.core_rules.specs.declared.entry.CoreEntry.{CoreEntry}
 use Rattle.farm_entries.specs.declared.site.Site.{Site as Setup}
 use Rattle.farm_script.specs.declared.event.Event.{Event}
 use Rattle.farm_run.specs.declared.desk.Desk.{Desk}

@@ -2,9 +2,9 @@
 use Rattle.std.specs.Prelude.{◌≡◌, ◌≤◌, ◌⊎◌, ℕ, List, [], ◌∷◌, length, map, set, slice_get, Option, Some}
 use Rattle.std.specs.Prelude.{None}
 use Rattle.dist_types.specs.declared.addr.Addr.{Addr}
-use Rattle.lru_disk_cache.specs.Held.{Held}
+use Rattle.folders.specs.Held.{Held}
 use Rattle.build_server.specs.Builds.{Builder}
-use Rattle.sched_core.specs.Log.{Core}
+use Rattle.core_rules.specs.Log.{Core}
 use Rattle.farm_entries.specs.declared.site.Site.{Site as Setup}
 use Rattle.farm_entries.specs.declared.entry.Entry.{Entry}
 use Rattle.farm_entries.specs.declared.pending.Pending.{Pending}

@@ -3,7 +3,7 @@ ghost use Rattle.std.specs.Prelude.{◌≡◌, ℕ, length, slice_get, position,
 ghost use Rattle.std.specs.Prelude.{None};
 ghost use Rattle.dist_types.specs.Addr.{same_addr};
 ghost use Rattle.farm_script.specs.declared.event.EventKind.TheVariants as kind;
-ghost use Rattle.farm_script.specs.declared.fault.FarmFault.TheVariants as fault;
+ghost use Rattle.line_program.specs.declared.fault.FarmFault.TheVariants as fault;
 ghost use Rattle.farm_entries.specs.declared.site.SiteServer.{SiteServer as Site};
 ghost use Rattle.farm_entries.specs.Begun.{IsBegunBy, Keeps};
 ghost use Rattle.farm_entries.specs.Effects.{word_effect};
@@ -28,9 +28,9 @@ use dist_types::builder::BuilderIncoming;
 use dist_types::ids::ServerNonce;
 use farm_entries::entry::{Effect, Entry, EntryWord, StepKind};
 use farm_entries::site::SiteServer;
-use farm_script::fault::FarmFault;
 use farm_stations::station::Station;
-use lru_disk_cache::folder::Folder;
+use folders::folder::Folder;
+use line_program::fault::FarmFault;
 use std::alloc::Global;
 
 /// A request, or a call that is delivered: bytes that come from a peer to an address.

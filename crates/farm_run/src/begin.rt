@@ -2,7 +2,7 @@
 ghost use Rattle.std.specs.Prelude.{◌≡◌, ◌∷◌, [], length, map, Some, None, IfOk, IfErr};
 ghost use Rattle.build_server.specs.Builds.{builder_of};
 ghost use Rattle.farm_script.specs.Setups.{AreApart};
-ghost use Rattle.farm_script.specs.declared.fault.FarmFault.TheVariants as fault;
+ghost use Rattle.line_program.specs.declared.fault.FarmFault.TheVariants as fault;
 ghost use Rattle.farm_run.specs.Begins.{IsBegunAs, AreBegun};
 ghost use Rattle.farm_entries.specs.Passage.{AreOwn};
 ghost use Rattle.farm_stations.specs.Post.{outside_of};
@@ -14,14 +14,14 @@ use crate::run::Farm;
 use dist_types::builder::BuilderIncoming;
 use dist_types::text::Items;
 use farm_entries::site::{Site, SiteServer};
-use farm_script::fault::FarmFault;
 use farm_script::setup::{Setup, SetupServer};
 use farm_stations::builder::FarmBuilder;
 use farm_stations::copies::{copy_scheduler, copy_server};
 use farm_stations::station::Station;
-use lru_disk_cache::calls::Calls;
-use lru_disk_cache::folder::Folder;
-use lru_disk_cache::mem_folder::MemFolder;
+use folders::calls::Calls;
+use folders::folder::Folder;
+use folders::mem_folder::MemFolder;
+use line_program::fault::FarmFault;
 use std::alloc::Global;
 
 /// A server that a script sets up, over an empty folder in memory, with a builder of the farm's own.

@@ -6,18 +6,18 @@ ghost use Rattle.farm_entries.specs.Printed.{job_text, held_text, kept_archive_t
 ghost use Rattle.farm_entries.specs.Printed.{standing_text, run_text};
 ghost use Rattle.farm_entries.specs.Servers.{server_of};
 ghost use Rattle.farm_entries.specs.Seen.{core_log};
-ghost use Rattle.sched_core.specs.Rows.{unended_by_id};
-ghost use Rattle.farm_script.specs.declared.fault.FarmFault.TheVariants as fault;
+ghost use Rattle.core_rules.specs.Rows.{unended_by_id};
+ghost use Rattle.line_program.specs.declared.fault.FarmFault.TheVariants as fault;
 
 use crate::run::Farm;
 use dist_types::addr::Addr;
 use dist_types::builder::BuilderIncoming;
 use farm_entries::site::SiteServer;
-use farm_script::fault::FarmFault;
 use farm_stations::station::Station;
 use farm_text::lines::{push_archives, push_entries, push_held, push_rows};
 use farm_text::text::JobLine;
-use lru_disk_cache::folder::Folder;
+use folders::folder::Folder;
+use line_program::fault::FarmFault;
 use std::alloc::{AllocError, Global};
 
 /// Writes the lines of the reservations that are unended.

@@ -14,7 +14,7 @@ ghost use Rattle.farm_entries.specs.Settled.{IsUpdated, IsHeard, unreported, run
 ghost use Rattle.farm_entries.specs.Settled.{complete_end, heard_as, failure_of, ended_response, Reports};
 ghost use Rattle.farm_stations.specs.Stations.{now_of, IsWell};
 ghost use Rattle.farm_entries.specs.Weather.{weather_of};
-ghost use Rattle.farm_script.specs.declared.fault.FarmFault.TheVariants as fault;
+ghost use Rattle.line_program.specs.declared.fault.FarmFault.TheVariants as fault;
 
 use crate::desk::Desk;
 use crate::pending::Made;
@@ -33,14 +33,14 @@ use dist_wire::run::RunJobHttpRequest;
 use farm_entries::entry::{Effect, HeardAs, StepKind};
 use farm_entries::pending::{Ask, Pending, Told};
 use farm_entries::site::SiteServer;
-use farm_script::fault::FarmFault;
 use farm_stations::builder::copy_result;
 use farm_stations::station::Station;
+use folders::folder::Folder;
 use http_routes::call_reply::answer;
 use http_routes::fault::{BuildFailure, RouteFault};
 use http_routes::replies::{to_fault, to_run, to_submission, want_of_memory};
 use http_routes::reply::Response;
-use lru_disk_cache::folder::Folder;
+use line_program::fault::FarmFault;
 use std::alloc::Global;
 
 /// A call of a server that comes back: the entry that is replied to and in which form, what the event of that

@@ -2,14 +2,14 @@
 ghost use Rattle.std.specs.Prelude.{◌≡◌, ◌+◌, ◌≤◌, ◌++◌, [], length, map, vec_len, vec_capacity, IfOk, IfErr};
 ghost use Rattle.std.specs.Option.{option_map};
 ghost use Rattle.build_server.specs.Builds.{builder_of};
-ghost use Rattle.farm_script.specs.declared.fault.FarmFault.TheVariants as fault;
+ghost use Rattle.line_program.specs.declared.fault.FarmFault.TheVariants as fault;
 ghost use Rattle.farm_stations.specs.Post.{outside_of};
 ghost use Rattle.farm_run.specs.Stops.{folders_in, builders_in, in_front};
 
 use dist_types::builder::BuilderIncoming;
-use farm_script::fault::FarmFault;
 use farm_stations::station::Station;
-use lru_disk_cache::folder::Folder;
+use folders::folder::Folder;
+use line_program::fault::FarmFault;
 use std::alloc::Global;
 use std::marker::Model;
 

@@ -13,7 +13,7 @@ ghost use Rattle.farm_stations.specs.Post.{outside_of};
 ghost use Rattle.farm_stations.specs.Stations.{now_of, IsWell};
 ghost use Rattle.farm_entries.specs.Ways.{to_server};
 ghost use Rattle.farm_entries.specs.declared.pending.Told.{Told as Kept};
-ghost use Rattle.farm_script.specs.declared.fault.FarmFault.TheVariants as fault;
+ghost use Rattle.line_program.specs.declared.fault.FarmFault.TheVariants as fault;
 
 use crate::desk::Desk;
 use crate::pending::Made;
@@ -31,14 +31,14 @@ use dist_wire::heartbeat::HeartbeatServerHttpRequest;
 use farm_entries::entry::{Effect, OutCall, StepKind};
 use farm_entries::pending::{Ask, Pending, Told};
 use farm_entries::site::{Site, SiteServer};
-use farm_script::fault::FarmFault;
 use farm_script::setup::SetupAuth;
 use farm_stations::station::Station;
+use folders::folder::Folder;
 use http_routes::fault::RouteFault;
 use http_routes::replies::{to_assignment, to_fault, want_of_memory};
 use http_routes::requests::{heartbeat_request, state_request};
 use http_routes::server_route::{ServerAsked, ServerRouted, server_asked};
-use lru_disk_cache::folder::Folder;
+use line_program::fault::FarmFault;
 use std::alloc::Global;
 
 /// Which entry asks a server, in which form the reply is wanted, and where the body begins.

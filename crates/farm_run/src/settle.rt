@@ -2,21 +2,21 @@
 ghost use Rattle.std.specs.Prelude.{◌≡◌, IfOk, IfErr, true, Result, Ok, Err, option_copied};
 ghost use Rattle.dist_types.specs.declared.outgoing.CallFault.{CallFault as Cause};
 ghost use Rattle.dist_types.specs.declared.results.AssignJobResult.{AssignJobResult as Answer};
-ghost use Rattle.sched_core.specs.Reservation.{unspent};
-ghost use Rattle.sched_core.specs.Rule.{is_among, is_initial};
+ghost use Rattle.core_rules.specs.Reservation.{unspent};
+ghost use Rattle.core_rules.specs.Rule.{is_among, is_initial};
 ghost use Rattle.farm_entries.specs.Seen.{with_core};
 ghost use Rattle.farm_entries.specs.Settled.{IsOutcome, assignment_end};
-ghost use Rattle.farm_script.specs.declared.fault.FarmFault.TheVariants as fault;
+ghost use Rattle.line_program.specs.declared.fault.FarmFault.TheVariants as fault;
 
 use crate::serve::{last_copy, reply};
 use dist_token::job_token::JWTJobAuthorizer;
 use dist_types::outgoing::CallFault;
 use dist_types::results::AssignJobResult;
 use farm_entries::entry::Effect;
-use farm_script::fault::FarmFault;
 use http_routes::call_reply::assigned;
 use http_routes::fault::RouteFault;
 use http_routes::replies::{to_commit, to_fault, want_of_memory};
+use line_program::fault::FarmFault;
 use sched_core::reservation::Reservation;
 use sched_core::state::SchedState;
 use std::alloc::Global;

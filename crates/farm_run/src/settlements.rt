@@ -2,7 +2,7 @@
 ghost use Rattle.std.specs.Prelude.{vec_len, vec_capacity};
 ghost use Rattle.std.specs.Prelude.{◌≡◌, slice_get, map, IfOk, IfErr, OnOk, OnErr, Some, None, option_copied};
 ghost use Rattle.farm_script.specs.declared.event.Event.{Event as Happening};
-ghost use Rattle.farm_script.specs.declared.fault.FarmFault.TheVariants as fault;
+ghost use Rattle.line_program.specs.declared.fault.FarmFault.TheVariants as fault;
 ghost use Rattle.farm_entries.specs.declared.site.SiteServer.{SiteServer as Site};
 ghost use Rattle.farm_entries.specs.Begun.{Keeps, completion_at, completion_of};
 ghost use Rattle.farm_run.specs.Farm.{IsFarm, IsMadeSo, Stands, acted};
@@ -26,9 +26,9 @@ use dist_types::builder::BuilderIncoming;
 use farm_entries::entry::{Effect, Entry, EntryWord};
 use farm_entries::pending::{Ask, Pending, Told};
 use farm_entries::site::SiteServer;
-use farm_script::fault::FarmFault;
 use farm_stations::station::Station;
-use lru_disk_cache::folder::Folder;
+use folders::folder::Folder;
+use line_program::fault::FarmFault;
 
 /// A call of the server at a place of the setup goes on by its reply, where the life that made it goes on.
 pub(crate) fn report_at<F: Folder + Drop, B: BuilderIncoming + Drop>(

@@ -1,8 +1,8 @@
 -- Reading digits one after the other, as a loop does.
 use Rattle.std.proofs.Common.{◌≡◌, ℕ, ◌+◌, ◌<◌, ◌≤◌, List, length, get_or, drop, Option, Some, sym, ap, ◌∙◌}
 use Rattle.std.proofs.lemmas.List.{at_drop_more, at_drop_all}
-use Rattle.farm_script.specs.declared.fault.LineFault.{LineFault}
-use Rattle.farm_script.specs.declared.fault.LineFault.TheVariants as faults
+use Rattle.line_program.specs.declared.fault.LineFault.{LineFault}
+use Rattle.line_program.specs.declared.fault.LineFault.TheVariants as faults
 use Rattle.dist_types.specs.Addr.{◌>>=◌}
 use Rattle.farm_script.specs.Reading.{Fails}
 use Rattle.farm_script.specs.Fields.{append_digit, digits_on}

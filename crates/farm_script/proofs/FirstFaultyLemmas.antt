@@ -7,18 +7,19 @@ use Rattle.std.specs.List.{filter_map}
 use Rattle.std.proofs.lemmas.Bool.{leb-true, le-leb, and_parts, cases_Bool}
 use Rattle.std.proofs.lemmas.List.{length-append}
 use Rattle.farm_script.specs.declared.setup.SetupScheduler.{SetupScheduler}
-use Rattle.farm_script.specs.declared.fault.FarmFault.{FarmFault}
-use Rattle.farm_script.specs.declared.fault.FarmFault.TheVariants.{Usage, BadLine, DuplicateAddress}
-use Rattle.farm_script.specs.declared.fault.FarmFault.TheVariants.{ScopedAddress, ReadFault, WriteFault}
-use Rattle.farm_script.specs.declared.fault.FarmFault.TheVariants.{BadConfig, ServeFault, Memory}
+use Rattle.line_program.specs.declared.fault.FarmFault.{FarmFault}
+use Rattle.line_program.specs.declared.fault.FarmFault.TheVariants.{Usage, BadLine, DuplicateAddress}
+use Rattle.line_program.specs.declared.fault.FarmFault.TheVariants.{ScopedAddress, ReadFault, WriteFault}
+use Rattle.line_program.specs.declared.fault.FarmFault.TheVariants.{BadConfig, ServeFault, Memory}
 use Rattle.farm_script.specs.declared.lines.Scopes.TheVariants.{Refused, Taken}
 use Rattle.farm_script.specs.declared.lines.Line.{Line}
-use Rattle.farm_script.specs.Pieces.{pieces, text_of}
+use Rattle.line_program.specs.Pieces.{pieces, text_of}
 use Rattle.farm_script.specs.Lines.{line_at}
 use Rattle.farm_script.specs.Grammar.{IsLine, Spells}
 use Rattle.farm_script.specs.Place.{Before, before_of, scheduler_in, misplaced, duplicate}
-use Rattle.farm_script.specs.Script.{Read, before, with_line, fits, onto, fault_of, judged, take_line}
-use Rattle.farm_script.specs.Script.{and_then, finished_with, script_from, script, nothing_read}
+use Rattle.farm_script.specs.Script.{Read, before, with_line, onto, fault_of, judged, take_line}
+use Rattle.farm_script.specs.Script.{finished_with, script_from, script, nothing_read}
+use Rattle.line_program.specs.Lines.{fits, and_then, lines_from}
 use Rattle.farm_script.specs.FirstFaulty.{size, IsInPlace, IsFine, IsDuplicate, IsFaulty, FirstFaultyFrom}
 use Rattle.farm_script.specs.FirstFaulty.{IsFirstFaulty}
 use Rattle.farm_script.proofs.FieldLemmas.{choice}
@@ -328,7 +329,7 @@ step_sound done said ps p r number room f (Ok s) at is e later =
 pub first_sound : (done : List (List ℕ)) (said : List Line) (ps : List (List ℕ)) (r : Read) (number room : ℕ)
     (f : FarmFault) → IsAt done said number room r
     → script_from number room r ps ≡ Err f → FirstFaultyFrom done said ps f
-unfolding script_from
+unfolding lines_from
 first_sound done said [] r number room f at e =
     ended_sound done said number r f r.scheduler at.number_is at.matches.scheduler e
 first_sound done said (p ∷ ps) r number room f at e =
@@ -360,7 +361,7 @@ step_complete done said ps p r number room f (Ok s) at is later (inr fine) =
 pub first_complete : (done : List (List ℕ)) (said : List Line) (ps : List (List ℕ)) (r : Read)
     (number room : ℕ) (f : FarmFault) → IsAt done said number room r
     → FirstFaultyFrom done said ps f → script_from number room r ps ≡ Err f
-unfolding script_from
+unfolding lines_from
 first_complete done said [] r number room f at is =
     ended_complete done said number r f r.scheduler at.number_is at.matches.scheduler is.0 is.1
 first_complete done said (p ∷ ps) r number room f at is =

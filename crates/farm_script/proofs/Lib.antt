@@ -2,11 +2,9 @@ pub mod DigitLemmas
 pub mod FieldLemmas
 pub mod FirstFaultyLemmas
 pub mod HexLemmas
-pub mod LimitLemmas
 pub mod LineLemmas
 pub mod MatchLemmas
 pub mod OutputLemmas
-pub mod PieceLemmas
 pub mod PlaceLemmas
 pub mod ScriptLemmas
 pub mod SpelledLemmas

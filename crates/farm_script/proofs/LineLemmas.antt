@@ -15,7 +15,7 @@ use Rattle.std.proofs.lemmas.Slice.Eq.{bytes_eq-Decides}
 use Rattle.dist_types.specs.Addr.{◌>>=◌}
 use Rattle.dist_types.specs.declared.addr.Addr.{Addr}
 use Rattle.dist_types.proofs.AddrLemmas.{bind_some}
-use Rattle.farm_script.specs.Texts.{◌⧺◌}
+use Rattle.line_program.specs.Texts.{◌⧺◌}
 use Rattle.farm_script.specs.Words.{first_word, next_word, strip, field, named, last, behind, is_visible}
 use Rattle.farm_script.specs.Fields.{addr_at, host_at, number_at, code_at, token_at, hex_at, key_at}
 use Rattle.farm_script.specs.Grammar.{IsNumber, IsCode, IsAddrWord, IsHost, IsToken, IsHex, IsKey, IsAuth}

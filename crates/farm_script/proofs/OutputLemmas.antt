@@ -10,8 +10,8 @@ use Rattle.std.proofs.lemmas.List.{length-append, length-drop}
 use Rattle.std.proofs.lemmas.List.Quantifiers.{position-Some}
 use Rattle.dist_types.specs.Addr.{◌>>=◌}
 use Rattle.dist_types.proofs.AddrLemmas.{bind_some}
-use Rattle.farm_script.specs.declared.fault.LineFault.{LineFault}
-use Rattle.farm_script.specs.declared.fault.LineFault.TheVariants as faults
+use Rattle.line_program.specs.declared.fault.LineFault.{LineFault}
+use Rattle.line_program.specs.declared.fault.LineFault.TheVariants as faults
 use Rattle.farm_script.specs.Reading.{Fails}
 use Rattle.farm_script.specs.Words.{first_word, words, parted, next_word}
 use Rattle.farm_script.specs.Fields.{hex_at, name_at}
@@ -120,12 +120,6 @@ outputs_stop faults.Bad t xs total e so_far =
     sym so_far ∙ ap (put_before xs)
     (outputs_first t ∙ ap (λ (o : Option (Output × Option (List ℕ))). o >>= λ
     (y : Output × Option (List ℕ)). outputs_behind y.1 >>= λ os. Some (y.0 ∷ os)) e)
-
-pub outputs_done : (xs : List Output) (left : Option (List ℕ)) (total : Option (List Output)) → left ≡ None
-    → put_before xs (outputs_behind left) ≡ total → total ≡ Some xs
-outputs_done xs left total none so_far =
-    sym so_far ∙ ap (λ (o : Option (List ℕ)). put_before xs (outputs_behind o)) none
-    ∙ ap (λ (ys : List Output). Some ys) (append-nil xs)
 
 parted_room : (t : List ℕ) (o : Option ℕ) → position (λ b. b == 32) t ≡ o → room_of (parted t o).1 ≤ length t
 parted_room t None e = omega arith

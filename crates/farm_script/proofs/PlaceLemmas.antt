@@ -1,8 +1,7 @@
 -- Places of elements, tests of lists, and equal addresses.
-use Rattle.std.proofs.Common.{◌≡◌, ℕ, ◌+◌, ◌==◌, Bool, true, false, cond, not, ◌||◌, ◌&&◌, List, [], ◌∷◌}
+use Rattle.std.proofs.Common.{◌≡◌, ℕ, ◌+◌, ◌==◌, Bool, true, false, cond, ◌||◌, ◌&&◌, List, [], ◌∷◌}
 use Rattle.std.proofs.Common.{◌++◌, map, Option, Some, None, is_some, refl, sym, ap, subst, ◌∙◌, eqb-true}
 use Rattle.std.proofs.Common.{eq-eqb, nat_eq, get_or, suc, ◌⊎◌, inl, inr, arith}
-use Rattle.std.specs.Option.{is_none}
 use Rattle.std.proofs.Math.ListN.{set}
 use Rattle.std.specs.List.{list_any, position, position_from}
 use Rattle.std.specs.Cmp.Lexicographic.{pointwise, same_text}
@@ -30,10 +29,6 @@ any_from p i (x ∷ xs) = some_or (p x) (list_any p xs) i (position_from p (i + 
 pub any_at : {X : Type 0} (p : X → Bool) (xs : List X) → is_some (position p xs) ≡ list_any p xs
 any_at p xs = ap (λ (o : Option ℕ). is_some o) (position_from-zero p xs) ∙ any_from p 0 xs
 
-none_not : (o : Option ℕ) → is_none o ≡ not (is_some o)
-none_not None = refl
-none_not (Some i) = refl
-
 any_map : (addr : Addr) (ss : List SetupServer) → list_any (λ s. same_addr s.addr addr) ss ≡ has_addr addr
     (map (λ s. s.addr) ss)
 any_map addr [] = refl
@@ -42,10 +37,6 @@ any_map addr (s ∷ ss) = ap (λ (v : Bool). same_addr s.addr addr || v) (any_ma
 pub there : (addr : Addr) (ss : List SetupServer)
     → is_some (position (λ s. same_addr s.addr addr) ss) ≡ has_addr addr (map (λ s. s.addr) ss)
 there addr ss = any_at (λ s. same_addr s.addr addr) ss ∙ any_map addr ss
-
-pub not_there : (addr : Addr) (ss : List SetupServer)
-    → is_none (position (λ s. same_addr s.addr addr) ss) ≡ not (has_addr addr (map (λ s. s.addr) ss))
-not_there addr ss = none_not (position (λ s. same_addr s.addr addr) ss) ∙ ap not (there addr ss)
 
 -- the test on addresses is equality
 pub same_is : (a b : Addr) → same_addr a b ≡ true → a ≡ b

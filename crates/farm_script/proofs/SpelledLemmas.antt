@@ -8,15 +8,16 @@ use Rattle.farm_script.specs.declared.setup.Setup.{Setup}
 use Rattle.farm_script.specs.declared.setup.SetupScheduler.{SetupScheduler}
 use Rattle.farm_script.specs.declared.setup.SetupServer.{SetupServer}
 use Rattle.farm_script.specs.declared.event.Event.{Event}
-use Rattle.farm_script.specs.declared.fault.FarmFault.{FarmFault}
-use Rattle.farm_script.specs.declared.fault.FarmFault.TheVariants as fault
+use Rattle.line_program.specs.declared.fault.FarmFault.{FarmFault}
+use Rattle.line_program.specs.declared.fault.FarmFault.TheVariants as fault
 use Rattle.farm_script.specs.declared.lines.Scopes.TheVariants.{Refused}
 use Rattle.farm_script.specs.declared.lines.Line.{Line}
-use Rattle.farm_script.specs.Pieces.{pieces, text_of}
+use Rattle.line_program.specs.Pieces.{pieces, text_of}
 use Rattle.farm_script.specs.Grammar.{HasKeyLength}
 use Rattle.farm_script.specs.Place.{scheduler_in, server_in, event_in}
 use Rattle.farm_script.specs.Setups.{AreApart, IsSetup}
-use Rattle.farm_script.specs.Script.{Read, take_line, and_then, finished_with, script_from, script}
+use Rattle.farm_script.specs.Script.{Read, take_line, finished_with, script_from, script}
+use Rattle.line_program.specs.Lines.{and_then, lines_from}
 use Rattle.farm_script.specs.Script.{nothing_read, IsScriptFault, IsScriptAnswer}
 use Rattle.farm_script.specs.FirstFaulty.{IsFirstFaulty, IsFaultless}
 use Rattle.farm_script.specs.Spelled.{with_answers, EachLine, SpellsScript}
@@ -69,7 +70,7 @@ rest_step done said number room r p ps x (Ok s) at is e later =
 rest_from : (done : List (List ℕ)) (said : List Line) (number room : ℕ) (r : Read) (ps : List (List ℕ))
     (x : Setup × List Event) → IsAt done said number room r → script_from number room r ps ≡ Ok x
     → SaysRest said ps x
-unfolding script_from
+unfolding lines_from
 rest_from done said number room r [] x at e = rest_end said number r x at.matches e
 rest_from done said number room r (p ∷ ps) x at e =
     rest_step done said number room r p ps x (take_line number room r p) at refl e

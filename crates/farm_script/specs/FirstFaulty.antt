@@ -1,12 +1,14 @@
 -- The first faulty line of an input and its cause, in the words of the grammar.
-use Rattle.std.specs.Prelude.{◌≡◌, ℕ, ◌+◌, ◌<◌, ◌≤◌, ◌⊎◌, true, false, List, [], ◌∷◌, ◌++◌, length}
+use Rattle.std.specs.Prelude.{◌≡◌, ℕ, ◌+◌, ◌<◌, ◌≤◌, true, false, List, [], ◌∷◌, length}
 use Rattle.std.specs.List.{filter_map}
-use Rattle.farm_script.specs.Pieces.{pieces, text_of}
+use Rattle.line_program.specs.Lines as lines
+use Rattle.line_program.specs.Lines.{Grammar}
+use Rattle.line_program.specs.Pieces.{pieces, text_of}
 use Rattle.farm_script.specs.Grammar.{Spells, IsLine}
 use Rattle.farm_script.specs.Place.{scheduler_in, before_of, misplaced, duplicate}
 use Rattle.farm_script.specs.declared.lines.Scopes.TheVariants.{Taken}
-use Rattle.farm_script.specs.declared.fault.FarmFault.{FarmFault}
-use Rattle.farm_script.specs.declared.fault.FarmFault.TheVariants as fault
+use Rattle.line_program.specs.declared.fault.FarmFault.{FarmFault}
+use Rattle.line_program.specs.declared.fault.FarmFault.TheVariants as fault
 use Rattle.farm_script.specs.declared.lines.Line.{Line}
 
 -- how many bytes the lines have
@@ -46,13 +48,14 @@ IsFaulty done said p (fault.ScopedAddress n) = (n ≡ length done + 1) × IsInPl
 IsFaulty done said p (fault.DuplicateAddress n) = (n ≡ length done + 1) × IsDuplicate done said p
 IsFaulty done said p other = ⊥
 
+-- how a script is judged; one without a scheduler lacks it
+abbrev pub of_scripts : Grammar Line
+of_scripts = record { faulty = IsFaulty; fine = IsFine; lacking = λ said. filter_map scheduler_in said ≡ [] }
+
 -- The first fault from here on, behind lines that are done and say this. Where no line is faulty, but none
 -- says the scheduler, it is a bad line at the number after the last.
 abbrev pub FirstFaultyFrom : List (List ℕ) → List Line → List (List ℕ) → FarmFault → Type 0
-FirstFaultyFrom done said [] f = (filter_map scheduler_in said ≡ []) × (f ≡ fault.BadLine (length done + 1))
-FirstFaultyFrom done said (p ∷ ps) f =
-    IsFaulty done said p f ⊎ ((l : Line) × IsFine done said p l × FirstFaultyFrom (done ++ p ∷ [])
-    (said ++ l ∷ []) ps f)
+FirstFaultyFrom done said ps f = lines.FirstFaultyFrom of_scripts done said ps f
 
 -- the input's first faulty line has this cause and number
 abbrev pub IsFirstFaulty : List ℕ → FarmFault → Type 0

@@ -7,7 +7,7 @@ use Rattle.std.specs.Fmt.{decimal}
 use Rattle.hex.specs.Hex.{decode_of}
 use Rattle.dist_types.specs.Addr.{IsAddrText, IsScoped}
 use Rattle.dist_types.specs.declared.addr.Addr.{Addr}
-use Rattle.farm_script.specs.Texts.{◌⧺◌}
+use Rattle.line_program.specs.Texts.{◌⧺◌}
 use Rattle.farm_script.specs.Words.{is_visible}
 use Rattle.farm_script.specs.Fields.{nowhere}
 use Rattle.farm_script.specs.declared.lines.Scopes.{Scopes}

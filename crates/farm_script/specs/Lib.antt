@@ -1,13 +1,10 @@
-pub mod FaultText
 pub mod Fields
 pub mod FirstFaulty
 pub mod Grammar
 pub mod Lines
-pub mod Pieces
 pub mod Place
 pub mod Reading
 pub mod Script
 pub mod Setups
 pub mod Spelled
-pub mod Texts
 pub mod Words

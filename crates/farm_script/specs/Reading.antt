@@ -1,7 +1,7 @@
 -- Reading as a function: the value, or nothing where there is none.
 use Rattle.std.specs.Prelude.{◌≡◌, Option, Some, None, Result, Ok, Err}
-use Rattle.farm_script.specs.declared.fault.LineFault.{LineFault}
-use Rattle.farm_script.specs.declared.fault.LineFault.TheVariants as faults
+use Rattle.line_program.specs.declared.fault.LineFault.{LineFault}
+use Rattle.line_program.specs.declared.fault.LineFault.TheVariants as faults
 
 -- a line that is not in the grammar has no value; want of memory says nothing
 abbrev pub Fails : {Y : Type 0} → LineFault → Option Y → Type 0

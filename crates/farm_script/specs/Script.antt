@@ -1,9 +1,9 @@
 -- A script, read line by line: the setup and the events, or the first faulty line with its cause.
-use Rattle.std.specs.Prelude.{◌≡◌, ℕ, ◌+◌, ◌-◌, ◌&&◌, nat_le, Bool, if◌then◌else◌, List, [], ◌∷◌, ◌++◌}
-use Rattle.std.specs.Prelude.{length, map, Option, Some, None, option_to_list, Result, Ok, Err}
+use Rattle.std.specs.Prelude.{◌≡◌, ℕ, if◌then◌else◌, List, [], ◌∷◌, ◌++◌}
+use Rattle.std.specs.Prelude.{map, Option, Some, None, option_to_list, Result, Ok, Err}
 use Rattle.dist_types.specs.declared.addr.Addr.{Addr}
 use Rattle.dist_types.specs.Addr.{same_addr}
-use Rattle.farm_script.specs.Pieces.{pieces, text_of}
+use Rattle.line_program.specs.Lines.{Judge, judged_within, lines_from, lines_in}
 use Rattle.farm_script.specs.Lines.{line_at}
 use Rattle.farm_script.specs.Place.{Before, misplaced, duplicate}
 use Rattle.farm_script.specs.declared.lines.Scopes.TheVariants.{Refused, Taken}
@@ -13,8 +13,8 @@ use Rattle.farm_script.specs.declared.setup.SetupServer.{SetupServer}
 use Rattle.farm_script.specs.declared.setup.Setup.{Setup}
 use Rattle.farm_script.specs.declared.event.Event.{Event}
 use Rattle.farm_script.specs.declared.script.Reading.{Reading}
-use Rattle.farm_script.specs.declared.fault.FarmFault.{FarmFault}
-use Rattle.farm_script.specs.declared.fault.FarmFault.TheVariants as fault
+use Rattle.line_program.specs.declared.fault.FarmFault.{FarmFault}
+use Rattle.line_program.specs.declared.fault.FarmFault.TheVariants as fault
 use Rattle.farm_script.specs.declared.lines.SetupLine.TheVariants.{Scheduler, Server, Builder}
 use Rattle.farm_script.specs.declared.lines.Line.{Line}
 use Rattle.farm_script.specs.declared.lines.Line.TheVariants as lines
@@ -58,11 +58,6 @@ with_line r (lines.Setup (Builder addr answer)) =
 with_line r (lines.Event e) =
     record { scheduler = r.scheduler; servers = r.servers; events = r.events ++ e ∷ [] }
 
--- a line within the limits: its number, its length without its end, and where its last byte stands
-abbrev pub fits : ℕ → ℕ → List ℕ → Bool
-fits number room piece = nat_le number 1000000 && nat_le (length piece) room
-    && nat_le (length (text_of piece)) 2097152
-
 -- what was read, with a line more, or why that line is faulty
 abbrev pub onto : ℕ → Read → Line → Result Read FarmFault
 onto number r l =
@@ -81,17 +76,13 @@ abbrev pub judged : ℕ → Read → Option Line → Option Line → Result Read
 judged number r (Some l) any = onto number r l
 judged number r None any = Err (fault_of number r any)
 
--- what was read, with one line more, or why it is faulty
-abbrev pub take_line : ℕ → ℕ → Read → List ℕ → Result Read FarmFault
-take_line number room r piece =
-    if fits number room piece then judged number r (line_at Refused (text_of piece))
-    (line_at Taken (text_of piece))
-    else Err (fault.BadLine number)
+-- what was read, with a line of this text more, or why it is faulty
+abbrev pub judge : Judge Read
+judge number r text = judged number r (line_at Refused text) (line_at Taken text)
 
--- the next step, where this one met no fault
-abbrev pub and_then : {A B : Type 0} → Result A FarmFault → (A → Result B FarmFault) → Result B FarmFault
-and_then (Ok x) f = f x
-and_then (Err e) f = Err e
+-- the same of a line with its end, which is within the limits
+abbrev pub take_line : ℕ → ℕ → Read → List ℕ → Result Read FarmFault
+take_line number room r piece = judged_within judge number room r piece
 
 -- what the scheduler, servers and events make
 abbrev pub finished_with : ℕ → Read → Option SetupScheduler → Result (Setup × List Event) FarmFault
@@ -103,10 +94,8 @@ abbrev pub finished : ℕ → Read → Result (Setup × List Event) FarmFault
 finished number r = finished_with number r r.scheduler
 
 -- the lines from this number on, with so much room left, behind what was read
-unfoldable pub script_from : ℕ → ℕ → Read → List (List ℕ) → Result (Setup × List Event) FarmFault
-script_from number room r [] = finished number r
-script_from number room r (p ∷ ps) = and_then (take_line number room r p)
-    (λ s. script_from (number + 1) (room - length p) s ps)
+abbrev pub script_from : ℕ → ℕ → Read → List (List ℕ) → Result (Setup × List Event) FarmFault
+script_from number room r ps = lines_from judge finished number room r ps
 
 -- at the start
 abbrev pub nothing_read : Read
@@ -114,7 +103,7 @@ nothing_read = record { scheduler = None; servers = []; events = [] }
 
 -- the setup and the events of an input, or its first faulty line with its cause
 abbrev pub script : List ℕ → Result (Setup × List Event) FarmFault
-script bytes = script_from 1 67108864 nothing_read (pieces bytes)
+script bytes = lines_in judge finished nothing_read bytes
 
 -- a fault is the one that reading gives, unless memory ran out
 abbrev pub IsScriptFault : {Y : Type 0} → FarmFault → Result Y FarmFault → Type 0

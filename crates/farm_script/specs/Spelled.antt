@@ -10,7 +10,7 @@ use Rattle.farm_script.specs.declared.event.Event.{Event}
 use Rattle.farm_script.specs.declared.lines.SetupLine.TheVariants.{Scheduler, Server, Builder}
 use Rattle.farm_script.specs.declared.lines.Line.{Line}
 use Rattle.farm_script.specs.declared.lines.Line.TheVariants as lines
-use Rattle.farm_script.specs.Pieces.{pieces, text_of}
+use Rattle.line_program.specs.Pieces.{pieces, text_of}
 use Rattle.farm_script.specs.Grammar.{IsLine}
 use Rattle.farm_script.specs.Place.{scheduler_in, server_in, event_in}
 

@@ -6,12 +6,12 @@ ghost use Rattle.farm_script.specs.Fields.{append_digit, digits_on, number_at, b
 ghost use Rattle.farm_script.specs.Fields.{code_at, addr_at, any_addr_at, host_at, is_token, token_at};
 ghost use Rattle.farm_script.specs.Fields.{hex_at, as_key, key_at, as_name, name_at};
 
-use crate::fault::LineFault;
 use crate::lines::Scopes;
 use crate::words::{all_visible, first_word, visible_text};
 use dist_types::addr::{Addr, is_scoped, read_addr};
 use dist_types::text::{Bytes, Text};
 use hex::FromHexError;
+use line_program::fault::LineFault;
 use std::alloc::Global;
 
 fn appended(n: u64, b: u8) -> Result<u64, LineFault>

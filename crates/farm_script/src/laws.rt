@@ -9,7 +9,7 @@ ghost use Rattle.farm_script.specs.declared.setup.Setup.{Setup};
 ghost use Rattle.farm_script.specs.declared.lines.Line.{Line};
 ghost use Rattle.farm_script.specs.declared.lines.Scopes.{Scopes};
 ghost use Rattle.farm_script.specs.declared.event.Event.{Event};
-ghost use Rattle.farm_script.specs.declared.fault.FarmFault.{FarmFault};
+ghost use Rattle.line_program.specs.declared.fault.FarmFault.{FarmFault};
 
 /// A line is read as a value exactly where it is one of the value's spellings.
 pub fn lines_are_spelled()

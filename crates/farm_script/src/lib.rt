@@ -8,11 +8,9 @@
 #![tactic(auto)]
 
 pub mod event;
-pub mod fault;
 mod fields;
 pub mod laws;
 pub mod lines;
-pub mod pieces;
 pub mod script;
 pub mod setup;
 mod words;

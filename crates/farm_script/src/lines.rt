@@ -7,7 +7,6 @@ ghost use Rattle.farm_script.specs.Lines.{listed_at, answer_line_at, builder_at,
 ghost use Rattle.farm_script.specs.Lines.{restart_at, kind_behind, kind_at, event_at, said_at, line_at};
 
 use crate::event::{Event, EventKind};
-use crate::fault::LineFault;
 use crate::fields::{
     addr_field, code_field, hex, hex_field, host, host_field, key, key_field, name, number,
     number_field, token, token_field,
@@ -17,6 +16,7 @@ use crate::words::{first_word, next_word, strip};
 use dist_types::addr::Addr;
 use dist_types::ids::ServerNonce;
 use dist_types::text::{Bytes, Items, Text};
+use line_program::fault::LineFault;
 use std::alloc::Global;
 
 /// Whether an address of a line may have a scope.

@@ -7,29 +7,22 @@ ghost use Rattle.farm_script.specs.Place.{misplaced, duplicate, has_addr};
 ghost use Rattle.farm_script.specs.FirstFaulty.{IsFirstFaulty};
 ghost use Rattle.farm_script.specs.Spelled.{SpellsScript};
 ghost use Rattle.farm_script.specs.Setups.{IsSetup};
-ghost use Rattle.farm_script.specs.Script.{read_of, before, answered, with_line, onto, fault_of, fits};
+ghost use Rattle.farm_script.specs.Script.{read_of, before, answered, with_line, onto, fault_of};
 ghost use Rattle.farm_script.specs.Script.{take_line, finished, script, IsScriptFault, IsScriptAnswer};
-ghost use Rattle.farm_script.specs.declared.fault.FarmFault.TheVariants as fault;
+ghost use Rattle.line_program.specs.declared.fault.FarmFault.TheVariants as fault;
+ghost use Rattle.line_program.specs.Lines.{fits};
 ghost use Rattle.farm_script.specs.declared.lines.Scopes.TheVariants.{Taken};
 
 use crate::event::Event;
-use crate::fault::{FarmFault, LineFault};
 use crate::lines::{Line, Scopes, SetupLine, read_line};
-use crate::pieces::{first_len, text};
 use crate::setup::{BuilderLine, Setup, SetupScheduler, SetupServer};
 use dist_types::addr::Addr;
 use dist_types::text::Items;
+use line_program::fault::{FarmFault, LineFault};
+use line_program::limits::{MAX_BYTES, MAX_LINES};
+use line_program::pieces::{first_len, is_within, text};
 use std::alloc::{AllocError, Global};
 use std::mem;
-
-/// The most lines of a script.
-pub const MAX_LINES: u64 = 1_000_000;
-
-/// The most bytes of a line, without its end.
-pub const MAX_LINE_BYTES: usize = 2_097_152;
-
-/// The most bytes of a script.
-pub const MAX_SCRIPT_BYTES: usize = 67_108_864;
 
 /// The most build servers of a farm.
 pub const MAX_SERVERS: usize = 1_000;
@@ -238,14 +231,6 @@ fn scoped_or_bad(alloc: Global, number: u64, reading: &Reading, text: &[u8]) -> 
     }
 }
 
-fn is_within(number: u64, room: usize, piece: &[u8]) -> bool
-    ensures exact { result ≡ fits number room piece.now }
-    ensures number { IsTrue result → number ≤ MAX_LINES }
-    ensures room { IsTrue result → length piece.now ≤ room }
-{
-    number <= MAX_LINES && piece.len() <= room && text(piece).len() <= MAX_LINE_BYTES
-}
-
 fn with_piece(
     alloc: Global,
     number: u64,
@@ -302,7 +287,7 @@ pub fn read_script(alloc: Global, bytes: &[u8]) -> Result<(Setup, Vec<Event>), F
     };
     let mut rest = bytes;
     let mut number = 1u64;
-    let mut room = MAX_SCRIPT_BYTES;
+    let mut room = MAX_BYTES;
     while !rest.is_empty() {
         let (piece, after) = rest.split_at(first_len(rest));
         match with_piece(alloc, number, room, reading, piece) {

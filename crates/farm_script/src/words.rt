@@ -5,7 +5,7 @@ ghost use Rattle.std.specs.Option.{option_map};
 ghost use Rattle.farm_script.specs.Reading.{IsLineAnswer};
 ghost use Rattle.farm_script.specs.Words.{first_word, next_word, strip, is_visible};
 
-use crate::fault::LineFault;
+use line_program::fault::LineFault;
 use std::str;
 
 fn space_at(text: &[u8]) -> Option<usize>

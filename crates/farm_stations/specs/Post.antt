@@ -1,9 +1,9 @@
 -- What contracts see of the station of a build server.
 use Rattle.std.specs.Prelude.{◌≡◌, ℕ, List, [], Bool, true, false, is_some, Option, Some, None, codes}
-use Rattle.lru_disk_cache.specs.Archives.{IsInStep, opened_archives}
+use Rattle.toolchain_cache.specs.Archives.{IsInStep, opened_archives}
 use Rattle.lru_disk_cache.specs.declared.error.Error.{Error}
 use Rattle.lru_disk_cache.specs.declared.error.Error.TheVariants.{Io}
-use Rattle.lru_disk_cache.specs.Held.{Held, Holds}
+use Rattle.folders.specs.Held.{Held, Holds}
 use Rattle.build_server.specs.Books.{Books}
 use Rattle.build_server.specs.Builds.{Builder}
 use Rattle.farm_entries.specs.Weather.{Outside}

@@ -1,7 +1,7 @@
 -- What the stations of a farm's build servers hold.
 use Rattle.std.specs.Prelude.{◌≡◌, ℕ, List, ◌∷◌, length, map, slice_get, set, true, false, Option, Some, None}
 use Rattle.std.specs.Prelude.{codes, Ok}
-use Rattle.lru_disk_cache.specs.Archives.{Archives, IsInStep}
+use Rattle.toolchain_cache.specs.Archives.{Archives, IsInStep}
 use Rattle.farm_script.specs.Setups.{AreApart}
 use Rattle.farm_entries.specs.declared.site.Site.{Site as Setup}
 use Rattle.farm_entries.specs.declared.site.SiteServer.{SiteServer as SetupServer}

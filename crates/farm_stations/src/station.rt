@@ -2,9 +2,9 @@
 ghost use Rattle.std.specs.Prelude.{◌≡◌, ◌≢◌, ◌≤◌, [], true, false, not, codes, is_some, is_none, ◌&&◌, ◌||◌};
 ghost use Rattle.std.specs.Prelude.{slice_get, IfOk, IfErr, OnOk, OnErr, MatchOption, Some, None, Ok, Err};
 ghost use Rattle.std.specs.Option.{option_map};
-ghost use Rattle.lru_disk_cache.specs.Archives.{opened_archives, IsInStep};
+ghost use Rattle.toolchain_cache.specs.Archives.{opened_archives, IsInStep};
 ghost use Rattle.lru_disk_cache.specs.Entries.{total};
-ghost use Rattle.lru_disk_cache.specs.Held.{Holds};
+ghost use Rattle.folders.specs.Held.{Holds};
 ghost use Rattle.lru_disk_cache.specs.Store.{OpenFails};
 ghost use Rattle.build_server.specs.Books.{held_for, placed};
 ghost use Rattle.build_server.specs.Builds.{builder_of, Builds, ran_of, built_of, outcome_by};
@@ -21,7 +21,7 @@ ghost use Rattle.farm_stations.specs.Stations.{now_of, IsWell, BuildsBy};
 ghost use Rattle.farm_entries.specs.Weather.{Stores, Works, Opens, weather_of, failed_after_submit};
 ghost use Rattle.farm_entries.specs.Weather.{failed_after_run, order_of};
 ghost use Rattle.farm_entries.specs.declared.entry.StepKind.TheVariants as kinds;
-ghost use Rattle.farm_script.specs.declared.fault.FarmFault.TheVariants as fault;
+ghost use Rattle.line_program.specs.declared.fault.FarmFault.TheVariants as fault;
 ghost use Rattle.build_server.specs.declared.fault.ServerFault.TheVariants as server_fault;
 
 use crate::builder::build_answer;
@@ -40,13 +40,14 @@ use dist_types::text::Items;
 use dist_types::toolchain::Toolchain;
 use dist_wire::run::RunJobHttpRequest;
 use farm_entries::site::SiteServer;
-use farm_script::fault::FarmFault;
 use farm_script::setup::SetupServer;
-use lru_disk_cache::folder::Folder;
-use lru_disk_cache::laws::reopening_gives_the_archives;
-use lru_disk_cache::{Archives, Error, TcCache};
+use folders::folder::Folder;
+use line_program::fault::FarmFault;
+use lru_disk_cache::Error;
 use std::alloc::{AllocError, Global};
 use std::marker::Model;
+use toolchain_cache::laws::reopening_gives_the_archives;
+use toolchain_cache::{Archives, TcCache};
 
 /// A build server of a farm: its life, what it keeps over its folder, and its builder.
 #[derive(Drop)]

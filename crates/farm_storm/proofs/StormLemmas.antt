@@ -7,12 +7,12 @@ use Rattle.dist_types.specs.declared.addr.Addr.TheVariants.{V4, V6}
 use Rattle.farm_script.specs.Setups.{AreApart}
 use Rattle.farm_script.specs.declared.event.Event.{Event}
 use Rattle.farm_entries.specs.declared.entry.Entry.{Entry}
-use Rattle.farm_run.specs.Farm.{Farmed, with_entries, Runs, StepsTo}
+use Rattle.farm_run.specs.Farm.{Farmed, StepsTo}
 use Rattle.farm_entries.specs.declared.site.Site.{Site}
 use Rattle.farm_entries.specs.Next.{IsNext, EachNext}
-use Rattle.farm_entries.specs.Passage.{reached, AreOwn, IsMoved, Passage}
+use Rattle.farm_entries.specs.Passage.{reached, AreOwn}
 use Rattle.farm_entries.specs.Sites.{site_of}
-use Rattle.farm_entries.specs.Weather.{Outside, Weather, calm}
+use Rattle.farm_entries.specs.Weather.{Weather, calm}
 use Rattle.farm_run.proofs.PassageLemmas.{moves_own}
 use Rattle.farm_laws.proofs.RunLemmas.{EachNext-push}
 use Rattle.farm_storm.specs.Deeds.{storm_deeds}
@@ -70,19 +70,6 @@ begun_run farm is none own = record {
       (subst (λ (l : List Entry). EachNext calm (site_of storm_setup) [] [] l) (sym none) tt);
   own = own;
 }
-
--- a run of one event is its step
-pub one_step : (old : Farmed) (event : Event) (new : Farmed) → Runs old (event ∷ []) new
-    → StepsTo old event new
-one_step old event new run = by_entries run.0 run.1 run.2
-  where
-    by_entries : (es : List Entry)
-        → Passage old.setup old.entries old.outside (event ∷ []) es new.outside
-        → new ≡ with_entries old es new.outside → StepsTo old event new
-    by_entries [] p is = absurd p
-    by_entries (e ∷ []) (w, mid, next, moved, rest) is =
-        (w, e, next, subst (λ (o : List Outside). IsMoved old.setup e w old.outside o) (sym rest) moved, is)
-    by_entries (e ∷ f ∷ es) (w, mid, next, moved, rest) is = absurd rest
 
 pub more_run : (n : ℕ) (farm new : Farmed) → IsStormed n farm → StepsTo farm (event_of n (deed_at n)) new
     → IsStormed (n + 1) new

@@ -9,7 +9,7 @@ use Rattle.dist_token.specs.Token.{token_text, job_claims_text}
 use Rattle.dist_wire.specs.declared.run.RunJobHttpRequest.{RunJobHttpRequest}
 use Rattle.http_head.specs.WrittenRequest.{request_text}
 use Rattle.http_routes.specs.Requests.{alloc_with, status_with, submit_with, run_with}
-use Rattle.lru_disk_cache.specs.Archives.{id_of}
+use Rattle.toolchain_cache.specs.Archives.{id_of}
 use Rattle.farm_script.specs.declared.event.Event.{Event}
 use Rattle.farm_script.specs.declared.event.EventKind.{EventKind}
 use Rattle.farm_script.specs.declared.event.EventKind.TheVariants as kind

@@ -2,14 +2,14 @@
 use Rattle.std.specs.Prelude.{◌≡◌, ℕ, List, [], length, count_by, Bool, true, false, is_some, Option, Some}
 use Rattle.std.specs.Prelude.{None, codes}
 use Rattle.std.specs.Fmt.{decimal}
-use Rattle.sched_core.specs.Job.{open_jobs}
-use Rattle.sched_core.specs.Reservation.{is_booked}
-use Rattle.sched_core.specs.declared.entry.CoreEntry.{CoreEntry}
+use Rattle.core_rules.specs.Job.{open_jobs}
+use Rattle.core_rules.specs.Reservation.{is_booked}
+use Rattle.core_rules.specs.declared.entry.CoreEntry.{CoreEntry}
 use Rattle.build_server.specs.declared.run.Ran.{Ran}
 use Rattle.build_server.specs.declared.run.Ran.TheVariants as ran
 use Rattle.build_server.specs.declared.submit.Submitted.{Submitted}
 use Rattle.build_server.specs.declared.submit.Submitted.TheVariants as submitted
-use Rattle.farm_script.specs.Texts.{◌⧺◌}
+use Rattle.line_program.specs.Texts.{◌⧺◌}
 use Rattle.farm_run.specs.Farm.{Farmed}
 use Rattle.farm_entries.specs.Next.{EachNext}
 use Rattle.farm_entries.specs.Passage.{AreOwn}

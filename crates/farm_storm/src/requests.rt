@@ -22,8 +22,8 @@ use dist_wire::error::WireError;
 use dist_wire::message::Message;
 use dist_wire::run::RunJobHttpRequest;
 use http_head::written_request::{Method, WrittenRequest};
-use lru_disk_cache::toolchain_of;
 use std::alloc::Global;
+use toolchain_cache::toolchain_of;
 
 /// A POST under a token.
 fn posted(

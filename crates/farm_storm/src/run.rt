@@ -1,7 +1,7 @@
 //! The run of the storm.
 ghost use Rattle.std.specs.Prelude.{◌≡◌, [], IfOk, IfErr, OnErr, string_bytes};
 ghost use Rattle.farm_run.specs.Farm.{StepsTo};
-ghost use Rattle.farm_script.specs.declared.fault.FarmFault.TheVariants as fault;
+ghost use Rattle.line_program.specs.declared.fault.FarmFault.TheVariants as fault;
 ghost use Rattle.farm_storm.specs.Places.{deed_at};
 ghost use Rattle.farm_storm.specs.Storm.{event_of, server_key};
 ghost use Rattle.farm_storm.specs.Summary.{IsStormText, IsStormed};
@@ -14,8 +14,8 @@ use dist_token::job_token::JWTJobAuthorizer;
 use farm_run::begin;
 use farm_run::builder::FarmBuilder;
 use farm_run::run::Farm;
-use farm_script::fault::FarmFault;
-use lru_disk_cache::mem_folder::MemFolder;
+use folders::mem_folder::MemFolder;
+use line_program::fault::FarmFault;
 use std::alloc::Global;
 
 /// The farm before the first event.

@@ -6,12 +6,12 @@ ghost use Rattle.farm_storm.specs.Summary.{is_listed, steps_so, counts, sums_of,
 use crate::sums::Sums;
 use build_server::run::Ran;
 use build_server::submit::Submitted;
+use core_rules::effects::is_reservation;
+use core_rules::entry::CoreEntry;
 use dist_types::builder::BuilderIncoming;
 use farm_run::entry::{Entry, Step, StepKind};
 use farm_run::run::Farm;
-use lru_disk_cache::folder::Folder;
-use sched_core::effects::is_reservation;
-use sched_core::entry::CoreEntry;
+use folders::folder::Folder;
 use std::alloc::{AllocError, Global};
 
 /// Whether the scheduler's entry reserves a job.

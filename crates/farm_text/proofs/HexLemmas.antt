@@ -1,11 +1,10 @@
 -- Hex text is text, and is put together from pieces.
-use Rattle.std.proofs.Common.{◌≡◌, ℕ, zero, suc, ◌/◌, ◌%◌, ◌<◌, List, [], ◌∷◌, ◌++◌, length, get_or, refl, ap}
-use Rattle.std.proofs.Common.{lit<, arith}
+use Rattle.std.proofs.Common.{◌≡◌, ℕ, zero, suc, ◌/◌, ◌%◌, ◌<◌, List, [], ◌∷◌, ◌++◌, get_or, refl, ap}
+use Rattle.std.proofs.Common.{lit<}
 use Rattle.std.specs.Str.{IsAscii, IsUtf8}
 use Rattle.std.proofs.lemmas.Str.{IsUtf8-from_ascii}
 use Rattle.hex.specs.Hex.{lower_digits, encode_with, encode_lower}
 use Rattle.hex.proofs.HexLemmas.{IsAscii-encode_with}
-use Rattle.farm_entries.specs.Printed.{hex_text}
 
 abbrev IsLow : List ℕ → Type 0
 IsLow [] = Unit {0}
@@ -59,8 +58,3 @@ hex-append (x ∷ xs) ys =
 pub hex_none : encode_lower [] ≡ []
 unfolding encode_with
 hex_none = refl
-
--- bytes that are not none
-pub hex_some : (bytes : List ℕ) → 0 < length bytes → encode_lower bytes ≡ hex_text bytes
-hex_some [] some = absurd (omega arith)
-hex_some (x ∷ xs) some = refl

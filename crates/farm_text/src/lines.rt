@@ -11,9 +11,9 @@ use crate::text::{
 use build_server::Held;
 use dist_types::addr::Addr;
 use farm_entries::entry::Entry;
-use lru_disk_cache::Archives;
 use sched_core::rows::Servers;
 use std::alloc::AllocError;
+use toolchain_cache::Archives;
 
 /// Writes the lines of an entry.
 fn push_entry(

@@ -2,7 +2,7 @@
 ghost use Rattle.std.specs.Prelude.{◌≡◌, ◌*◌, Some, length};
 ghost use Rattle.hex.specs.Hex.{encode_lower};
 ghost use Rattle.farm_entries.specs.Printed.{numbers_text, jobs_text, number_text, hex_text, kind_text};
-ghost use Rattle.farm_entries.specs.Printed.{age_text};
+ghost use Rattle.farm_entries.specs.Printed.{age_text, on_text};
 ghost use Rattle.farm_entries.specs.Printed.{kept_text, ended_text, reserved_text, advance_text, core_text};
 ghost use Rattle.farm_entries.specs.Printed.{core_line, heard_text, ready_text, archive_text, archives_text};
 ghost use Rattle.farm_entries.specs.Printed.{ids_text, submitted_text, ran_text, held_text};
@@ -13,14 +13,14 @@ ghost use Rattle.farm_entries.specs.Printed.{stage_text, claim_text, job_line};
 
 use build_server::run::Ran;
 use build_server::submit::Submitted;
+use core_rules::entry::{CoreEntry, CoreKind, Reserved, UpdateAnswer};
+use core_rules::rows::{JobRow, ServerRow};
 use dist_types::addr::Addr;
 use dist_types::ids::JobId;
 use dist_types::results::JobState;
 use dist_types::toolchain::Toolchain;
 use farm_entries::entry::{EntryWord, HeardAs, OutCall, Reply, Step, StepKind};
 use farm_script::event::EventKind;
-use sched_core::entry::{CoreEntry, CoreKind, Reserved, UpdateAnswer};
-use sched_core::rows::{JobRow, ServerRow};
 use std::{fmt, str};
 
 /// Numbers joined by commas, or a dash.
@@ -163,6 +163,12 @@ fn age(is_new: bool) -> &'static str
     if is_new { "new" } else { "old" }
 }
 
+fn on_word(on: bool) -> &'static str
+    ensures { result.now ≡ on_text on }
+{
+    if on { "on" } else { "off" }
+}
+
 fn kept_word(kept: bool) -> &'static str
     ensures { result.now ≡ kept_text kept }
 {
@@ -273,6 +279,17 @@ impl fmt::Display for Core<'_> {
                     f,
                     "status pruned {pruned} servers {servers} cpus {cpus} jobs {jobs}"
                 )
+            }
+            CoreKind::Drain {
+                server,
+                nonce,
+                on,
+                reg,
+            } => {
+                let nonce = nonce.get();
+                let on = on_word(*on);
+                let reg = Maybe(*reg);
+                write!(f, "drain {server} nonce {nonce} {on} reg {reg}")
             }
         }
     }

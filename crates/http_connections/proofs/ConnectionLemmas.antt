@@ -1,13 +1,14 @@
 -- The halves of a connection, put together.
-use Rattle.std.proofs.Common.{◌≡◌, ℕ, List, Option, Some, None, Ok, refl, subst, inr}
+use Rattle.std.proofs.Common.{◌≡◌, ℕ, List, Option, Some, None, Ok, Err, refl, subst, inr}
 use Rattle.std.specs.Prelude.{IfSome}
 use Rattle.dist_types.specs.Cause.{Rose}
 use Rattle.dist_types.specs.Content.{Added, Began}
+use Rattle.dist_types.specs.declared.fault.Memory as want
 use Rattle.http_head.specs.declared.request.Request.{Request}
 use Rattle.http_routes.specs.Reply.{reply_text}
 use Rattle.http_routes.specs.declared.reply.Response.{Response}
 use Rattle.http_connections.specs.Served.{Shown, MadeReply, Serves, IsServedBy}
-use Rattle.http_connections.specs.Taking.{TakesCut}
+use Rattle.http_connections.specs.Taking.{TakesCut, TakesOrDrops, IsTakenAs}
 use Rattle.http_connections.specs.declared.served.Served.{Served}
 use Rattle.http_connections.specs.declared.served.Served.TheVariants.{Answered, ReadFault, WriteFault, Memory}
 
@@ -49,3 +50,63 @@ sent replies before after request reply served first mid last held wrote now rea
           (subst (λ n. Sends reply served held now n after_writes) steady
           (subst (λ o. Sends reply served o now counted after_writes) kept s));
     }
+
+-- ---- a request whose body may have been dropped
+
+-- the request that was taken whole, and the reply to it, where it is replied to as it was taken
+pub record Whole {A : Type 0} (replies : Option Request → A → A → MadeReply → Type 0)
+    (first mid : Option (List ℕ)) (before after : A) (made : MadeReply) : Type 0 where
+  pub request : Option Request
+  pub took : IfSome first (λ bytes. TakesCut bytes mid request)
+  pub did : replies request before after made
+
+-- what is replied to a request as it was taken is replied to it as a whole
+abbrev pub AsWhole : {A : Type 0} → (Request → Type 0) → (Option Request → A → A → MadeReply → Type 0) → A → A
+    → MadeReply → Type 0
+AsWhole settled replies before after made = (whole taken : Request) → IsTakenAs settled whole taken
+    → replies (Some taken) before after made
+    → replies (Some whole) before after made
+
+whole_of : {A : Type 0} (replies : Option Request → A → A → MadeReply → Type 0) (settled : Request → Type 0)
+    (first mid : Option (List ℕ)) (request : Option Request) (before after : A) (made : MadeReply)
+    → IfSome first (λ bytes. TakesOrDrops settled bytes mid request)
+    → AsWhole settled replies before after made
+    → replies request before after made
+    → Whole replies first mid before after made
+whole_of replies settled None mid request before after made took law did =
+    record { request = request; took = tt; did = did }
+whole_of replies settled (Some bytes) mid None before after made took law did =
+    record { request = None; took = took; did = did }
+whole_of replies settled (Some bytes) mid (Some taken) before after made (whole, took, taken_as) law did =
+    record { request = Some whole; took = took; did = law whole taken taken_as did }
+
+-- after the taking, which wrote nothing, and the sending, which read nothing
+pub sent_by : {A : Type 0} (replies : Option Request → A → A → MadeReply → Type 0) (settled : Request → Type 0)
+    (before after : A) (request : Option Request) (reply : Response) (served : Served)
+    (first mid last held wrote now : Option (List ℕ)) (reads risen writes counted after_writes : ℕ)
+    → IfSome first (λ bytes. TakesOrDrops settled bytes mid request) → mid ≡ last → wrote ≡ held
+    → counted ≡ writes
+    → AsWhole settled replies before after (Ok reply)
+    → replies request before after (Ok reply)
+    → Sends reply served wrote now counted after_writes
+    → IsServedBy replies (record { left = first; held = held; reads = reads; writes = writes })
+    (record { left = last; held = now; reads = risen; writes = after_writes }) before after served
+sent_by replies settled before after request reply served first mid last held wrote now reads risen writes
+    counted after_writes took same kept steady law did s =
+    let w = whole_of replies settled first mid request before after (Ok reply) took law did in
+    sent replies before after w.request reply served first mid last held wrote now reads risen writes counted
+    after_writes w.took same kept steady w.did s
+
+-- after the taking, where memory ran out before a reply was made
+pub unsent : {A : Type 0} (replies : Option Request → A → A → MadeReply → Type 0) (settled : Request → Type 0)
+    (before after : A) (request : Option Request) (e : want.Memory)
+    (first mid held now : Option (List ℕ)) (reads risen writes after_writes : ℕ)
+    → IfSome first (λ bytes. TakesOrDrops settled bytes mid request) → now ≡ held
+    → AsWhole settled replies before after (Err e)
+    → replies request before after (Err e)
+    → IsServedBy replies (record { left = first; held = held; reads = reads; writes = writes })
+    (record { left = mid; held = now; reads = risen; writes = after_writes }) before after Memory
+unsent replies settled before after request e first mid held now reads risen writes after_writes took kept law
+    did =
+    let w = whole_of replies settled first mid request before after (Err e) took law did in
+    record { serves = (kept, inr (w.request, Err e, w.took, w.did)) }

@@ -1,5 +1,5 @@
 -- Lines, one byte after another, and the stop.
-use Rattle.std.proofs.Common.{◌≡◌, ℕ, Bool, true, false, cond, not, ◌==◌, List, [], ◌∷◌}
+use Rattle.std.proofs.Common.{◌≡◌, ℕ, Bool, true, false, cond, ◌==◌, List, [], ◌∷◌}
 use Rattle.std.proofs.Common.{◌++◌, length, Option, Some, None, refl, sym, ap, ◌∙◌, append_assoc, arith}
 use Rattle.std.proofs.Common.{subst, ◌≢◌}
 use Rattle.std.specs.Prelude.{IfSome}
@@ -8,11 +8,9 @@ use Rattle.std.proofs.lemmas.Bool.Decides.{nat_tests}
 use Rattle.std.proofs.lemmas.List.{append-nil}
 use Rattle.dist_types.specs.Content.{Taken}
 use Rattle.dist_types.proofs.Contents.{taken_then}
-use Rattle.http_connections.specs.declared.scan.Line.TheVariants.{Cr, More}
-use Rattle.http_connections.specs.Scan.{line_of, grown, is_more}
 use Rattle.http_connections.specs.Taking.{TakesOfStop}
 use Rattle.http_head.specs.Cut.{Begins}
-use Rattle.http_head.specs.Stop.{Lines, one_more, lines_behind, lines_of, no_lines, is_empty}
+use Rattle.http_head.specs.Stop.{Lines, one_more, lines_behind, lines_of, no_lines}
 use Rattle.http_head.specs.Stop.{ends_head, is_stop, stop_from, stop_of}
 
 lines_behind-push : (ls : Lines) (bytes : List ℕ) (b : ℕ) → lines_behind ls (bytes ++ b ∷ []) ≡ one_more
@@ -23,25 +21,9 @@ lines_behind-push ls (c ∷ bytes) b = lines_behind-push (one_more ls c) bytes b
 pub lines-push : (bytes : List ℕ) (b : ℕ) → lines_of (bytes ++ b ∷ []) ≡ one_more (lines_of bytes) b
 lines-push bytes b = lines_behind-push no_lines bytes b
 
--- a line is empty exactly where it is not seen as more
-pub empty_line : (line : List ℕ) → not (is_empty line) ≡ is_more (line_of line)
-empty_line [] = refl
-empty_line (b ∷ []) = elim (b == 13) as (λ t. not t ≡ is_more (cond t Cr More)) [ true ↦ refl | false ↦ refl ]
-empty_line (b ∷ c ∷ bytes) = refl
-
-pub line_grows : (line : List ℕ) (b : ℕ) → line_of (line ++ b ∷ []) ≡ grown (line_of line) b
-line_grows [] b = refl
-line_grows (c ∷ []) b = elim (c == 13) as
-    (λ t. More ≡ grown (cond t Cr More) b) [ true ↦ refl | false ↦ refl ]
-line_grows (c ∷ d ∷ bytes) b = refl
-
 -- the bytes so far are no stop, nor is a front of them
 abbrev pub GoesOn : List ℕ → Option (List ℕ) → Type 0
 GoesOn out left = IfSome left (λ rest. stop_of (out ++ rest) ≡ stop_from out rest)
-
-pub starts : (left : Option (List ℕ)) → GoesOn [] left
-starts None = tt
-starts (Some rest) = refl
 
 -- one byte more, which is no stop
 pub goes_on : (out : List ℕ) (b : ℕ) (old new : Option (List ℕ)) → Taken (b ∷ []) old new → GoesOn out old
@@ -66,16 +48,6 @@ stops out b (Some bytes) (Some left) (Some rest) before taken goes holds =
     holds))
 stops out b (Some bytes) None new before taken goes holds = absurd (cc before)
 stops out b (Some bytes) (Some left) None before taken goes holds = absurd (cc taken)
-
--- at the end of the bytes, all are the stop
-pub ended : (out : List ℕ) (first old : Option (List ℕ)) → Taken out first old → GoesOn out old
-    → IfSome old (λ rest. rest ≡ [])
-    → IfSome first (λ bytes. stop_of bytes ≡ out)
-ended out None old before goes end = tt
-ended out (Some bytes) None before goes end = absurd (cc before)
-ended out (Some bytes) (Some left) before goes end =
-    let all : bytes ≡ out ++ left = cc before in
-    ap stop_of all ∙ (goes ∙ ap (stop_from out) end)
 
 -- whether the bytes are a stop, by the last of them
 pub stop_by_end : (out : List ℕ) (b : ℕ) (t : Bool) → t ≡ ends_head (one_more (lines_of out) b) → t ≡ true

@@ -2,12 +2,12 @@
 use Rattle.std.proofs.Common.{◌≡◌, ◌≢◌, ℕ, ◌+◌, ◌<◌, ◌≤◌, ◌⊎◌, List, [], ◌++◌, length, take, drop, Option}
 use Rattle.std.proofs.Common.{Some, None, refl, sym, ap, ◌∙◌, inl, inr, subst, map, arith, ◌-◌, append_assoc}
 use Rattle.std.specs.Prelude.{IfSome, OnErr, Result, Ok, Err}
-use Rattle.std.proofs.lemmas.List.{append-nil, length-drop, take_at, take_all}
+use Rattle.std.proofs.lemmas.List.{append-nil, length-append, length-drop, length-take, take_at, take_all}
 use Rattle.std.proofs.Math.Seq.{take-append-add, drop-length}
 use Rattle.httparse.specs.Grammar.{RequestHead, print_request}
 use Rattle.httparse.specs.Spans.{name_and_value}
 use Rattle.httparse.proofs.GrammarLemmas.{request_unique}
-use Rattle.dist_types.specs.Content.{Taken, IsAtEnd}
+use Rattle.dist_types.specs.Content.{Taken, TookFront, IsAtEnd}
 use Rattle.dist_types.proofs.Contents.{taken_then}
 use Rattle.http_head.specs.declared.opening.Head.{Head}
 use Rattle.http_head.specs.declared.request.Request.{Request}
@@ -19,6 +19,7 @@ use Rattle.http_head.specs.Opening.{Announces, AnnouncesNone, IsOpening, FindsOp
 use Rattle.http_head.specs.Stop.{stop_of}
 use Rattle.http_connections.proofs.StopLemmas.{begins_then}
 use Rattle.http_connections.specs.Taking.{IsBodyAt, LacksBody, TakesCut, TakesOfStop, TakesWithin}
+use Rattle.http_connections.specs.Taking.{TakesOrDrops, TookSome}
 
 -- the cut, which is the head h and the body
 pub record CutAt (bytes : List ℕ) (new : Option (List ℕ)) (h : RequestHead) (body : List ℕ)
@@ -234,3 +235,36 @@ body_within (Some bytes) mid new stop head is before found (inr same) =
 pub on_err : {T E : Type 0} (result : Result T E) {P : Type 0} → P → OnErr result P
 on_err (Ok x) p = tt
 on_err (Err e) p = p
+
+-- ---- bodies that are dropped
+
+-- a request that was taken whole
+pub taken_whole : (settled : Request → Type 0) (first new : Option (List ℕ)) (r : Request)
+    → IfSome first (λ bytes. TakesCut bytes new (Some r))
+    → IfSome first (λ bytes. TakesOrDrops settled bytes new (Some r))
+taken_whole settled None new r took = tt
+taken_whole settled (Some bytes) new r took = (r, took, inl refl)
+
+-- one that was taken without its body, which its head settles
+pub taken_bare : (settled : Request → Type 0) (first new : Option (List ℕ)) (head : Head) (body : List ℕ)
+    → settled (request_of head []) → IfSome first (λ bytes. TakesCut bytes new (Some (request_of head body)))
+    → IfSome first (λ bytes. TakesOrDrops settled bytes new (Some (request_of head [])))
+taken_bare settled None new head body holds took = tt
+taken_bare settled (Some bytes) new head body holds took = (request_of head body, took, inr (holds, refl))
+
+-- so many bytes more
+pub some_more : (n m : ℕ) (buf : List ℕ) (old mid new : Option (List ℕ)) → TookSome n old mid
+    → Taken (take m buf) mid new → m ≤ length buf → TookSome (n + m) old new
+some_more n m buf old mid new (front, is, before) behind room = (
+  front ++ take m buf,
+  length-append front (take m buf) ∙ omega (arith, is, length-take m buf, room),
+  taken_then front (take m buf) old mid new before behind,
+)
+
+-- what was taken of a stop and of a body that was not made is a front
+pub lacks_front : (stop : List ℕ) (len n : ℕ) (first mid new : Option (List ℕ)) → Taken stop first mid
+    → LacksBody stop len n mid new
+    → TookFront first new
+lacks_front stop len n first mid new before (inl (whole, (front, few, behind))) =
+    (stop ++ front, taken_then stop front first mid new before behind)
+lacks_front stop len n first mid new before (inr same) = (stop, subst (Taken stop first) (sym same) before)

@@ -7,7 +7,7 @@ use Rattle.dist_types.specs.declared.addr.Addr.{Addr}
 use Rattle.http_head.specs.declared.request.Request.{Request}
 use Rattle.http_connections.specs.Served.{Shown, MadeReply, IsServedBy}
 use Rattle.http_connections.specs.declared.served.Served.{Served}
-use Rattle.http_connections.specs.Tally.{Tally, Gave, GotBack, AllServed, Worked}
+use Rattle.http_connections.specs.Tally.{Tally, Gave, GotBack, AllServed}
 
 -- so many went and came back, and these are left
 pub record Went {L A : Type 0} (replies : Addr → Option Request → A → A → MadeReply → Type 0)
@@ -79,21 +79,3 @@ one_more {L} replies shown (Some t) old (Some m) new given back served before be
       served = served-push replies shown so_far.gone so_far.back given (back, served) before between after
           so_far.served is;
     }
-
--- and none is left
-pub all_came : {L A : Type 0} (replies : Addr → Option Request → A → A → MadeReply → Type 0)
-    (shown : L → Shown) (first old new : Option (Tally L)) (before after : A)
-    → SoFar replies shown first old before after → new ≡ old → IfSome new (λ t. t.coming ≡ [])
-    → Worked replies shown first new before after
-all_came replies shown None old new before after so_far same none = tt
-all_came replies shown (Some t) old None before after so_far same none = absurd (cc (so_far.now, same))
-all_came {L} replies shown (Some t) old (Some m) before after so_far same none =
-    let is = some_is {L = L} m (record { coming = so_far.rest; came = t.came ++ so_far.back })
-    (same ∙ so_far.now) in
-    let rest : so_far.rest ≡ [] = sym (ap (λ (x : Tally L). x.coming) is) ∙ none in
-    let gone : t.coming ≡ so_far.gone = so_far.all
-    ∙ (ap (λ r. so_far.gone ++ r) rest ∙ append-nil so_far.gone) in (
-      so_far.back,
-      ap Some is ∙ ap (λ r. Some (record { coming = r; came = t.came ++ so_far.back })) rest,
-      subst (λ l. AllServed replies shown l so_far.back before after) (sym gone) so_far.served,
-    )

@@ -1,7 +1,12 @@
+pub mod Begun
+pub mod Came
 pub mod Form
 pub mod Hearing
+pub mod Looked
+pub mod Plain
 pub mod Scan
 pub mod Served
 pub mod Socket
 pub mod Taking
 pub mod Tally
+pub mod Whole

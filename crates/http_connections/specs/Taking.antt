@@ -1,5 +1,5 @@
 -- What is taken of a connection, and what it is read as.
-use Rattle.std.specs.Prelude.{◌≡◌, ◌⊎◌, ℕ, ◌≤◌, ◌<◌, List, length, drop, Option, Some, None}
+use Rattle.std.specs.Prelude.{◌≡◌, ◌⊎◌, ℕ, ◌≤◌, ◌<◌, List, [], length, drop, Option, Some, None}
 use Rattle.dist_types.specs.Content.{Taken, TookAtMost, IsAtEnd}
 use Rattle.http_head.specs.Cut.{IsCut, Begins}
 use Rattle.http_head.specs.Head.{IsRequest, IsNoRequest}
@@ -34,3 +34,23 @@ IsBodyAt stop len n body old new =
 -- No body was made: up to n bytes of the connection were taken where the head is the whole stop, or none.
 abbrev pub LacksBody : List ℕ → ℕ → ℕ → Option (List ℕ) → Option (List ℕ) → Type 0
 LacksBody stop len n old new = ((len ≡ length stop) × TookAtMost n old new) ⊎ (new ≡ old)
+
+-- so many bytes were taken
+abbrev pub TookSome : ℕ → Option (List ℕ) → Option (List ℕ) → Type 0
+TookSome n old new = (body : List ℕ) × (length body ≡ n) × Taken body old new
+
+-- so many bytes of a body came, and none was kept
+abbrev pub IsDropped : List ℕ → ℕ → ℕ → ℕ → Option (List ℕ) → Option (List ℕ) → Type 0
+IsDropped stop len limit n old new =
+    (body : List ℕ) × (length body ≡ n) × IsBodyAt stop len limit body old new
+
+-- the request as it was taken: whole, or without its body where its head settles what it asks
+abbrev pub IsTakenAs : (Request → Type 0) → Request → Request → Type 0
+IsTakenAs settled whole taken = (taken ≡ whole)
+    ⊎ (settled taken × (taken ≡ record { method = whole.method; target = whole.target; headers = whole.headers; body = [] }))
+
+-- The cut of the bytes was taken, and it was read; the body of a request that its head settles was dropped.
+abbrev pub TakesOrDrops : (Request → Type 0) → List ℕ → Option (List ℕ) → Option Request → Type 0
+TakesOrDrops settled bytes new None = TakesCut bytes new None
+TakesOrDrops settled bytes new (Some taken) =
+    (whole : Request) × TakesCut bytes new (Some whole) × IsTakenAs settled whole taken

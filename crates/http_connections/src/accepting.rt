@@ -3,35 +3,30 @@ ghost use Rattle.std.specs.Prelude.{◌≡◌};
 ghost use Rattle.std.specs.Net.Socket.{socket_flowinfo, socket_scope_id};
 ghost use Rattle.http_connections.specs.Socket.{addr_of};
 
+use crate::asked::Asked;
+use crate::asking::{LimitedNet, Limits};
+use crate::begun_link::BegunLink;
+use crate::queues::Takes;
+use crate::reception::{Place, Reception};
 use crate::served::Served;
 use crate::start::Start;
-use crate::stream::{BufferedStream, LimitedNet, accepted_link};
+use crate::stream::LimitedStream;
 use crate::tasks::Tasks;
 use dist_types::addr::Addr;
 use dist_types::tcp::TcpLink;
 use std::alloc::Global;
-use std::net::{IpAddr, Ipv4Addr, Ipv6Addr, SocketAddr, TcpListener, TcpStream};
-use std::sync::atomic::{AtomicU64, Ordering};
-use std::time::{Clock, Duration};
-use std::{io, thread};
+use std::net::{IpAddr, Ipv4Addr, Ipv6Addr, SocketAddr};
+use std::sync::Wait;
+use std::time::Clock;
 
 /// How many workers serve one listener.
 pub const WORKERS: usize = 8;
 
-/// How long a worker waits behind a connection that was not accepted, in milliseconds.
-const PAUSE_MS: u64 = 10;
+/// How many of them take only requests that came whole and wait for nobody.
+pub const QUICK_WORKERS: usize = 2;
 
-/// Accepts connections of one listener, which all workers share, and at most so many by all workers. It tells
-/// nothing.
-#[derive(Drop)]
-pub struct Accepting<'a, R: Clock> {
-    rt: &'a R,
-    alloc: Global,
-    listener: &'a TcpListener,
-    tickets: &'a AtomicU64,
-    limit: Option<u64>,
-    timeout_ms: u64,
-}
+/// How many of them take also requests whose body still comes.
+pub const BODY_WORKERS: usize = 3;
 
 /// An address as the system takes it: its IP and its port, without a flow label and without a scope.
 pub fn socket_addr(addr: Addr) -> SocketAddr
@@ -48,7 +43,7 @@ pub fn socket_addr(addr: Addr) -> SocketAddr
 }
 
 /// An address as the system has it.
-fn addr_of(peer: SocketAddr) -> Addr
+pub(crate) fn addr_of(peer: SocketAddr) -> Addr
     ensures { result ≡ addr_of peer }
 {
     match peer {
@@ -57,61 +52,67 @@ fn addr_of(peer: SocketAddr) -> Addr
     }
 }
 
-impl<'a, R: Clock> Accepting<'a, R> {
-    /// The tasks of one worker: a ticket is drawn before each accept, none past the limit, and a link fails
-    /// where it waits longer than so many milliseconds for a byte to come or to go. It takes no memory.
-    pub fn new(
-        rt: &'a R,
-        alloc: Global,
-        listener: &'a TcpListener,
-        tickets: &'a AtomicU64,
-        limit: Option<u64>,
-        timeout_ms: u64,
-    ) -> Self {
+/// From which queues the worker of that number takes, from 0. Those that take the least stand last, since
+/// workers that cannot be started are run by the caller, the first of them first.
+fn takes_of(number: usize) -> Takes {
+    if number < BODY_WORKERS {
+        Takes::All
+    } else if number < WORKERS - QUICK_WORKERS {
+        Takes::Whole
+    } else {
+        Takes::Quick
+    }
+}
+
+/// The connections that a reception gives to one worker. It tells nothing.
+#[derive(Drop)]
+pub struct Accepting<'a, R> {
+    rt: &'a R,
+    reception: &'a Reception,
+    takes: Takes,
+    place: Place,
+    timeout_ms: u64,
+}
+
+/// A link whose first bytes were read before it was given to a worker.
+type AcceptedLink<R> = BegunLink<TcpLink<LimitedStream<R>>>;
+
+impl<'a, R: Wait + Clock + Copy> Accepting<'a, R> {
+    /// The tasks of one worker: a link fails where it waits longer than so many milliseconds for a byte to come
+    /// or to go. It takes no memory.
+    pub fn new(rt: &'a R, reception: &'a Reception, takes: Takes, timeout_ms: u64) -> Self {
         Accepting {
             rt,
-            alloc,
-            listener,
-            tickets,
-            limit,
+            reception,
+            takes,
+            place: Place::new(),
             timeout_ms,
         }
     }
 
-    /// Whether a ticket is left.
-    fn draws(&self) -> bool {
-        match self.limit {
-            Some(limit) => self.tickets.fetch_add(1, Ordering::SeqCst) < limit,
-            None => true,
-        }
-    }
-
-    /// The next connection of the listener.
-    fn accept(&self) -> io::Result<(TcpLink<BufferedStream<TcpStream>>, Addr)> {
-        let (stream, peer) = self.listener.accept()?;
-        let link = accepted_link(self.alloc, stream, self.timeout_ms)?;
-        Ok((link, addr_of(peer)))
+    /// The link as a worker reads and writes it.
+    fn opened(&self, asked: Asked) -> (AcceptedLink<R>, Addr) {
+        let Asked {
+            stream,
+            begun,
+            peer,
+            ..
+        } = asked;
+        let stream = LimitedStream::new(*self.rt, stream, self.timeout_ms);
+        (BegunLink::new(begun, TcpLink::new(stream)), peer)
     }
 }
 
-impl<R: Clock + Sync> Tasks for Accepting<'_, R> {
+impl<R: Wait + Clock + Copy + Send + Sync> Tasks for Accepting<'_, R> {
     ghost use Rattle.std.specs.Prelude.{None};
 
-    type L = TcpLink<BufferedStream<TcpStream>>;
+    type L = AcceptedLink<R>;
 
     ghost told = { λ _. None };
 
     fn take(&mut self) -> Option<(Self::L, Addr)> {
-        for _ in 0..u64::MAX {
-            if !self.draws() {
-                return None;
-            }
-            match self.accept() {
-                Ok(given) => return Some(given),
-                Err(_) => thread::sleep(self.rt, Duration::from_millis(PAUSE_MS)),
-            }
-        }
-        None
+        let asked = self.reception.next(self.rt, self.takes, &mut self.place)?;
+        Some(self.opened(asked))
     }
 
     fn done(&mut self, _link: Self::L, _served: Served) {}
@@ -124,29 +125,25 @@ pub struct Sharing<'a, R> {
     pub rt: &'a R,
     /// Where links get their memory.
     pub alloc: Global,
-    /// The listener.
-    pub listener: &'a TcpListener,
-    /// How many tickets were drawn.
-    pub tickets: &'a AtomicU64,
+    /// The links of the listener.
+    pub reception: &'a Reception,
     /// What the start was given.
     pub start: Start,
 }
 
-impl<'a, R: Clock> Sharing<'a, R> {
-    /// The tasks of one worker. It takes no memory.
-    pub fn tasks(&self) -> Accepting<'a, R> {
+impl<'a, R: Wait + Clock + Copy> Sharing<'a, R> {
+    /// The tasks of the worker of that number, from 0. It takes no memory.
+    pub fn tasks(&self, number: usize) -> Accepting<'a, R> {
         Accepting::new(
             self.rt,
-            self.alloc,
-            self.listener,
-            self.tickets,
-            self.start.limit,
+            self.reception,
+            takes_of(number),
             self.start.timeout_ms,
         )
     }
 
-    /// The network for asking peers that answer at once. It takes no memory.
-    pub fn asking(&self) -> LimitedNet<'a, R> {
-        LimitedNet::new(self.rt, self.start.timeout_ms)
+    /// The network for asking peers within limits. It takes no memory.
+    pub fn asking(&self, limits: Limits) -> LimitedNet<R> {
+        LimitedNet::new(*self.rt, limits)
     }
 }

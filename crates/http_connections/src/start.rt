@@ -1,7 +1,8 @@
 //! What one start of a scheduler or a build server is given, and why it is refused.
 use dist_types::fault::Memory;
 use std::alloc::{AllocError, AllocFailed};
-use std::io;
+use std::thread::Threads;
+use std::{io, thread};
 
 /// What one start is given beside its configuration.
 #[derive(Clone, Copy, Debug, PartialEq, Eq)]
@@ -14,8 +15,8 @@ pub struct Start {
     pub cpus: u64,
     /// After how many connections the listener ends, where it does.
     pub limit: Option<u64>,
-    /// How long a link that was accepted, or what is asked of a peer that answers at once, waits for a byte
-    /// to come or to go before it fails, in milliseconds; at least 1.
+    /// How long a link that was accepted waits for a byte to come or to go before it fails, in milliseconds; at
+    /// least 1.
     pub timeout_ms: u64,
 }
 
@@ -44,5 +45,16 @@ impl From<Memory> for StartFault {
 impl From<io::Error> for StartFault {
     fn from(_: io::Error) -> Self {
         StartFault
+    }
+}
+
+/// Whether a thread can be started. Refused where none can.
+pub fn has_thread<R: Threads>(rt: &R) -> Result<(), StartFault> {
+    match thread::spawn(rt, || ()) {
+        Ok(thread) => {
+            thread.join(rt);
+            Ok(())
+        }
+        Err(_) => Err(StartFault),
     }
 }

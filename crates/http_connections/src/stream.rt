@@ -1,100 +1,136 @@
-//! Streams of the system with a buffer below the byte-wise reads, and limits on their waiting.
-use dist_types::tcp::TcpLink;
-use std::alloc::Global;
-use std::io::{self, BufReader, Read, Write};
-use std::net::{Net, OpenStream, SocketAddr};
-use std::time::Duration;
+//! Streams of the system with limits on their waiting.
+ghost use Rattle.std.specs.Io.{ReadsAtMost};
 
-/// How long an accepted link, or what is asked of a peer that answers at once, waits for a byte to come or to
-/// go, in milliseconds; then it fails.
+use crate::lot::now_of;
+use std::io::{self, ErrorKind, Read, Write};
+use std::net::TcpStream;
+use std::time::{Clock, Duration};
+
+/// How long a link that was accepted may send nothing, or take nothing, in milliseconds; then it fails.
 pub const LINK_TIMEOUT_MS: u64 = 30_000;
 
-/// How many bytes are asked of the system at once.
-const BUFFER_BYTES: usize = 8192;
+/// In how many milliseconds a link that a worker reads, and waits for, sends `WINDOW_BYTES` at least.
+pub const WINDOW_MS: u64 = 10_000;
 
-/// A stream that reads ahead, so that a read of one byte is no call of the system.
+/// How many bytes of a body that a worker waits for come in any `WINDOW_MS` milliseconds at least.
+pub const WINDOW_BYTES: usize = 65_536;
+
+/// The bytes that a worker waits for.
+#[derive(Clone, Copy, Debug)]
+struct Window {
+    /// When it began, in milliseconds.
+    since_ms: u64,
+    /// How many bytes came since then.
+    came: usize,
+}
+
+/// A stream whose calls do not wait, until one would: from then on they wait, each for so many milliseconds
+/// at most, and of what is read then `WINDOW_BYTES` come in any `WINDOW_MS` milliseconds.
 #[derive(Drop)]
-pub struct BufferedStream<S: Read + Write> {
-    reader: BufReader<S>,
+pub struct LimitedStream<C> {
+    clock: C,
+    stream: TcpStream,
+    timeout_ms: u64,
+    window: Option<Window>,
 }
 
-impl<S: Read + Write + Drop> BufferedStream<S> {
-    /// The stream with an empty buffer. Refused, and the stream dropped, for want of memory alone.
-    pub fn new(alloc: Global, stream: S) -> io::Result<Self> {
-        let reader = BufReader::with_capacity(alloc, BUFFER_BYTES, stream)?;
-        Ok(BufferedStream { reader })
+/// The fault of a stream whose time is up.
+fn timed_out() -> io::Error {
+    io::Error::from(ErrorKind::TimedOut)
+}
+
+impl<C: Clock> LimitedStream<C> {
+    /// A stream whose calls do not wait, of at least 1 millisecond where they would. It takes no memory.
+    pub fn new(clock: C, stream: TcpStream, timeout_ms: u64) -> Self {
+        LimitedStream {
+            clock,
+            stream,
+            timeout_ms,
+            window: None,
+        }
+    }
+
+    /// From now on its calls wait.
+    fn wait(&mut self) -> io::Result<()> {
+        let limit = Some(Duration::from_millis(self.timeout_ms));
+        self.stream.set_write_timeout(limit)?;
+        self.stream.set_nonblocking(false)?;
+        self.window = Some(Window {
+            since_ms: now_of(&self.clock, 0),
+            came: 0,
+        });
+        Ok(())
+    }
+
+    /// Whether a call that failed so is made again, with waiting.
+    fn is_early(&self, fault: &io::Error) -> bool {
+        self.window.is_none() && fault.kind() == ErrorKind::WouldBlock
+    }
+
+    /// One read that may wait as long as the window says.
+    fn read_waiting(&mut self, window: Window, buf: &mut [u8]) -> io::Result<usize>
+        ensures in_bounds { ReadsAtMost result buf.new }
+    {
+        let passed_ms = now_of(&self.clock, window.since_ms).saturating_sub(window.since_ms);
+        if passed_ms >= WINDOW_MS {
+            return Err(timed_out());
+        }
+        let left_ms = WINDOW_MS.saturating_sub(passed_ms).min(self.timeout_ms);
+        let limit = Some(Duration::from_millis(left_ms.max(1)));
+        self.stream.set_read_timeout(limit)?;
+        let n = self.stream.read(buf)?;
+        let came = window.came.saturating_add(n);
+        self.window = if came >= WINDOW_BYTES {
+            Some(Window {
+                since_ms: now_of(&self.clock, window.since_ms),
+                came: 0,
+            })
+        } else {
+            Some(Window {
+                since_ms: window.since_ms,
+                came,
+            })
+        };
+        Ok(n)
     }
 }
 
-impl<S: Read + Write> Read for BufferedStream<S> {
+impl<C: Clock> Read for LimitedStream<C> {
     fn read(&mut self, buf: &mut [u8]) -> io::Result<usize> {
-        self.reader.read(buf)
+        if let Some(window) = self.window {
+            return self.read_waiting(window, buf);
+        }
+        match self.stream.read(buf) {
+            Ok(n) => Ok(n),
+            Err(fault) => {
+                if !self.is_early(&fault) {
+                    return Err(fault);
+                }
+                self.wait()?;
+                match self.window {
+                    Some(window) => self.read_waiting(window, buf),
+                    None => Err(fault),
+                }
+            }
+        }
     }
 }
 
-impl<S: Read + Write> Write for BufferedStream<S> {
+impl<C: Clock> Write for LimitedStream<C> {
     fn write(&mut self, buf: &[u8]) -> io::Result<usize> {
-        self.reader.get_mut().write(buf)
+        match self.stream.write(buf) {
+            Ok(n) => Ok(n),
+            Err(fault) => {
+                if !self.is_early(&fault) {
+                    return Err(fault);
+                }
+                self.wait()?;
+                self.stream.write(buf)
+            }
+        }
     }
 
     fn flush(&mut self) -> io::Result<()> {
-        self.reader.get_mut().flush()
-    }
-}
-
-/// From now on a read or a write of the stream that waits longer than so many milliseconds fails. Refused
-/// where the system does not take the limit, which 0 never is.
-fn limit_waiting<S: OpenStream>(stream: &S, timeout_ms: u64) -> io::Result<()> {
-    let limit = Some(Duration::from_millis(timeout_ms));
-    stream.set_read_timeout(limit)?;
-    stream.set_write_timeout(limit)
-}
-
-/// The link over a stream that was accepted: a read or a write that waits longer than so many milliseconds
-/// fails. Refused, and the stream dropped, where the system does not take the limit, which 0 never is, or
-/// memory ran out.
-pub fn accepted_link<S: Read + Write + OpenStream + Drop>(
-    alloc: Global,
-    stream: S,
-    timeout_ms: u64,
-) -> io::Result<TcpLink<BufferedStream<S>>> {
-    limit_waiting(&stream, timeout_ms)?;
-    let stream = BufferedStream::new(alloc, stream)?;
-    Ok(TcpLink::new(stream))
-}
-
-/// A network for asking peers that answer at once: a connection that waits longer than so many milliseconds
-/// to be made, or for a byte to come or to go, fails.
-#[derive(Drop)]
-pub struct LimitedNet<'a, R> {
-    net: &'a R,
-    timeout_ms: u64,
-}
-
-impl<'a, R> LimitedNet<'a, R> {
-    /// The network, with that limit on each wait, of at least 1. It takes no memory.
-    pub fn new(net: &'a R, timeout_ms: u64) -> Self {
-        LimitedNet { net, timeout_ms }
-    }
-}
-
-impl<R: Net> Net for LimitedNet<'_, R> {
-    type Stream = R::Stream;
-
-    type Listener = R::Listener;
-
-    fn bind(&self, addr: SocketAddr) -> io::Result<R::Listener> {
-        self.net.bind(addr)
-    }
-
-    fn connect(&self, addr: SocketAddr) -> io::Result<R::Stream> {
-        let limit = Duration::from_millis(self.timeout_ms);
-        let stream = self.net.connect_timeout(addr, limit)?;
-        limit_waiting(&stream, self.timeout_ms)?;
-        Ok(stream)
-    }
-
-    fn lookup_host(&self, host: &str, port: u16, found: &mut [SocketAddr]) -> io::Result<usize> {
-        self.net.lookup_host(host, port, found)
+        self.stream.flush()
     }
 }

@@ -1,16 +1,15 @@
 -- Bytes are one request at most, and begin with one head at most.
-use Rattle.std.proofs.Common.{◌≡◌, ℕ, ◌≤◌, List, [], Bor, length, drop, Some, arith, ap, sym, ◌∙◌, subst}
-use Rattle.std.proofs.Common.{append-nil}
+use Rattle.std.proofs.Common.{◌≡◌, ℕ, ◌≤◌, List, [], Bor, length, drop, Some, arith, ap, sym, ◌∙◌}
 use Rattle.std.specs.Prelude.{map, option_copied, unwrap_or}
 use Rattle.std.proofs.lemmas.List.{length-map}
 use Rattle.httparse.specs.declared.borrowed.Request as parsed
 use Rattle.httparse.specs.Borrowed.{HoldsSomeRequest, header_parts}
-use Rattle.httparse.specs.Grammar.{print_request, ReadsRequest, NeverHasRequest}
-use Rattle.httparse.specs.Spans.{name_and_value, RequestOverflows}
+use Rattle.httparse.specs.Grammar.{print_request}
+use Rattle.httparse.specs.Spans.{name_and_value}
 use Rattle.httparse.proofs.GrammarLemmas.{request_unique}
 use Rattle.http_head.specs.declared.request.Request.{Request}
 use Rattle.http_head.specs.Fields.{body_length}
-use Rattle.http_head.specs.Head.{HasNoHead, IsRequest, IsNoRequest, IsHeld, Overflows}
+use Rattle.http_head.specs.Head.{HasNoHead, IsRequest, IsNoRequest, IsHeld}
 
 pub same_request : (r q : Request) → r.method ≡ q.method → r.target ≡ q.target → r.headers ≡ q.headers
     → r.body ≡ q.body → r ≡ q
@@ -63,23 +62,3 @@ no_request bytes body p len x after refused r (k, y) =
     let same = request_unique bytes x.head k (drop len bytes) r.body x.holds.reads y.opens.reads in
     let fields = x.holds.fields ∙ ap (λ t. map name_and_value t.fields) same.0 in
     refused (rw (fields, after, same.1) y.body)
-
-pub none_found : (bytes : List ℕ) → HasNoHead bytes → IsNoRequest bytes
-none_found bytes none r (h, x) = none h r.body x.opens
-
--- ---- what the parser refuses
-
-pub never_opens : (bytes : List ℕ) → NeverHasRequest bytes → HasNoHead bytes
-never_opens bytes never h rest y = never [] h rest
-    (subst (λ text. ReadsRequest text h rest) (sym (append-nil bytes)) y.reads)
-
-pub overflows : (bytes : List ℕ) (room : ℕ) → RequestOverflows room bytes → Overflows room bytes
-overflows bytes room over h rest y = over [] h rest
-    (subst (λ text. ReadsRequest text h rest) (sym (append-nil bytes)) y.reads)
-
--- a head that has no room within the limits is none
-pub none_over : (bytes : List ℕ) → Overflows 100 bytes → HasNoHead bytes
-none_over bytes over h rest y =
-    let few = y.within.few in
-    let more = over h rest y in
-    omega (arith, few, more)

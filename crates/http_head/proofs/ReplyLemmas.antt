@@ -1,16 +1,16 @@
 -- Bytes are one reply at most, and begin with one head of a reply at most.
 use Rattle.std.proofs.Common.{◌≡◌, ℕ, ◌≤◌, true, List, length, drop, map, Option, Some, None, refl, arith, ap}
-use Rattle.std.proofs.Common.{sym, ◌∙◌, subst, [], append-nil}
+use Rattle.std.proofs.Common.{sym, ◌∙◌, []}
 use Rattle.std.specs.Prelude.{unwrap_or}
 use Rattle.std.proofs.lemmas.List.{length-map}
 use Rattle.httparse.specs.declared.borrowed.Response as parsed
 use Rattle.httparse.specs.Borrowed.{HoldsSomeResponse, header_parts}
-use Rattle.httparse.specs.Grammar.{print_response, status_code, ReadsResponse, NeverHasResponse}
-use Rattle.httparse.specs.Spans.{name_and_value, ResponseOverflows}
+use Rattle.httparse.specs.Grammar.{print_response, status_code}
+use Rattle.httparse.specs.Spans.{name_and_value}
 use Rattle.httparse.proofs.GrammarLemmas.{response_unique}
 use Rattle.http_head.specs.declared.reply.Reply.{Reply}
 use Rattle.http_head.specs.Fields.{allows}
-use Rattle.http_head.specs.Head.{IsReply, IsNoReply, HasNoReplyHead, IsReplyHeld, HasStatus, ReplyOverflows}
+use Rattle.http_head.specs.Head.{IsReply, IsNoReply, HasNoReplyHead, IsReplyHeld, HasStatus}
 
 -- ---- the head that begins the bytes
 
@@ -55,14 +55,6 @@ no_reply bytes body p len x after refused r (k, y) =
     let fields = x.holds.fields ∙ ap (λ t. map name_and_value t.fields) same.0 in
     refused (rw (fields, after, same.1) y.body)
 
-pub none_found : (bytes : List ℕ) → HasNoReplyHead bytes → IsNoReply bytes
-none_found bytes none r (h, x) = none h r.body x.opens
-
-pub has_status : (bytes : List ℕ) (p : parsed.Response) (len : ℕ) → IsReplyHeld bytes p len
-    → HasStatus bytes p.code
-has_status bytes p len x = subst (λ o. HasStatus bytes o) (sym x.holds.code)
-    (x.head, drop len bytes, record { reads = x.holds.reads; within = x.within }, refl)
-
 pub one_reply : (bytes : List ℕ) (r q : Reply) → IsReply bytes r → IsReply bytes q → r ≡ q
 one_reply bytes r q (h, x) (k, y) =
     let same = response_unique bytes h k r.body q.body x.opens.reads y.opens.reads in
@@ -75,18 +67,3 @@ one_reply bytes r q (h, x) (k, y) =
     same_reply r q a b c = λ i. record { code = a i; headers = b i; body = c i }
 
 -- ---- what the parser refuses
-
-pub never_opens : (bytes : List ℕ) → NeverHasResponse bytes → HasNoReplyHead bytes
-never_opens bytes never h rest y = never [] h rest
-    (subst (λ text. ReadsResponse text h rest) (sym (append-nil bytes)) y.reads)
-
-pub overflows : (bytes : List ℕ) (room : ℕ) → ResponseOverflows room bytes → ReplyOverflows room bytes
-overflows bytes room over h rest y = over [] h rest
-    (subst (λ text. ReadsResponse text h rest) (sym (append-nil bytes)) y.reads)
-
--- a head that has no room within the limits is none
-pub none_over : (bytes : List ℕ) → ReplyOverflows 100 bytes → HasNoReplyHead bytes
-none_over bytes over h rest y =
-    let few = y.within.few in
-    let more = over h rest y in
-    omega (arith, few, more)

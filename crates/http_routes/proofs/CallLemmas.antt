@@ -6,7 +6,7 @@ use Rattle.std.proofs.lemmas.List.{get_or-append-add}
 use Rattle.httparse.specs.Grammar.{print_response}
 use Rattle.dist_types.specs.declared.outgoing.CallFault.{CallFault}
 use Rattle.dist_types.specs.declared.outgoing.CallFault.TheVariants.{BadState}
-use Rattle.sched_core.specs.Rule.{is_initial}
+use Rattle.core_rules.specs.Rule.{is_initial}
 use Rattle.dist_types.specs.declared.results.AssignJobResult.{AssignJobResult}
 use Rattle.dist_wire.specs.Codec.{IsBytes, IsCodec}
 use Rattle.dist_wire.specs.Reading.{assign_at}

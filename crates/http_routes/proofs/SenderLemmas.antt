@@ -24,7 +24,7 @@ use Rattle.http_routes.specs.Refused.{IsNotJobs}
 use Rattle.http_routes.specs.Sender.{token_of, client_test, same_ip, origin, server_of, accepted, job_test}
 use Rattle.http_routes.specs.Sender.{Shows, IsAdmitted, CameFrom, IsFrom, ShowsJob}
 use Rattle.http_routes.specs.Steps.{◌>>=◌, unless_none, unless_false}
-use Rattle.http_routes.proofs.StepLemmas.{ok_step, err_step, from_none, from_false, missing, failed}
+use Rattle.http_routes.proofs.StepLemmas.{ok_step, err_step, from_none, from_false, missing}
 
 -- ---- the token
 

@@ -4,7 +4,7 @@ use Rattle.dist_types.specs.declared.outgoing.CallFault.{CallFault}
 use Rattle.dist_types.specs.declared.outgoing.CallFault.TheVariants as call
 use Rattle.dist_types.specs.declared.results.AssignJobResult.{AssignJobResult}
 use Rattle.dist_wire.specs.Reading.{assign_at}
-use Rattle.sched_core.specs.Rule.{is_initial}
+use Rattle.core_rules.specs.Rule.{is_initial}
 use Rattle.http_head.specs.declared.error.HttpError.{HttpError}
 use Rattle.http_head.specs.declared.error.HttpError.TheVariants.{ParseError, Status, Memory}
 use Rattle.http_head.specs.declared.reply.Reply.{Reply}

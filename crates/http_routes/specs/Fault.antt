@@ -6,8 +6,8 @@ use Rattle.dist_types.specs.Ids.{state_text}
 use Rattle.dist_types.specs.declared.outgoing.CallFault.{CallFault}
 use Rattle.dist_types.specs.declared.outgoing.CallFault.TheVariants.{Lost, Status, Unreadable, BadState}
 use Rattle.dist_types.specs.declared.outgoing.CallFault.TheVariants.{Memory as OutOfMemory}
-use Rattle.sched_core.specs.declared.answers.Undone.{Undone}
-use Rattle.sched_core.specs.declared.answers.Undone.TheVariants.{Unassigned, NotKnown, NoServer, Foreign}
+use Rattle.core_rules.specs.declared.answers.Undone.{Undone}
+use Rattle.core_rules.specs.declared.answers.Undone.TheVariants.{Unassigned, NotKnown, NoServer, Foreign}
 use Rattle.http_routes.specs.declared.fault.RouteFault.{RouteFault}
 use Rattle.http_routes.specs.declared.fault.BuildFailure.{BuildFailure}
 use Rattle.http_routes.specs.declared.fault.BuildFailure.TheVariants as failure

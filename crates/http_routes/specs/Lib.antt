@@ -18,3 +18,5 @@ pub mod Asked
 pub mod InOrder
 pub mod Refused
 pub mod Builder
+pub mod Kind
+pub mod Settled

@@ -17,13 +17,13 @@ use Rattle.dist_wire.specs.Json.{submit_json, ran_json}
 use Rattle.dist_wire.specs.Response as sent
 use Rattle.dist_wire.specs.Written.{heard_text, status_text, response_text, update_text, assign_text}
 use Rattle.dist_wire.specs.Written.{submit_text, ran_text}
-use Rattle.sched_core.specs.Texts.{dropped_text}
-use Rattle.sched_core.specs.declared.answers.Committed.{Committed}
-use Rattle.sched_core.specs.declared.answers.Committed.TheVariants as committed
-use Rattle.sched_core.specs.declared.entry.UpdateAnswer.{UpdateAnswer}
-use Rattle.sched_core.specs.declared.entry.UpdateAnswer.TheVariants.{Accepted, Unknown, Wrong, Transition}
-use Rattle.sched_core.specs.declared.error.SchedError.{SchedError}
-use Rattle.sched_core.specs.declared.error.SchedError.TheVariants as error
+use Rattle.core_rules.specs.Texts.{dropped_text}
+use Rattle.core_rules.specs.declared.answers.Committed.{Committed}
+use Rattle.core_rules.specs.declared.answers.Committed.TheVariants as committed
+use Rattle.core_rules.specs.declared.entry.UpdateAnswer.{UpdateAnswer}
+use Rattle.core_rules.specs.declared.entry.UpdateAnswer.TheVariants.{Accepted, Unknown, Wrong, Transition}
+use Rattle.core_rules.specs.declared.error.SchedError.{SchedError}
+use Rattle.core_rules.specs.declared.error.SchedError.TheVariants as error
 use Rattle.http_routes.specs.declared.fault.RouteFault.{RouteFault}
 use Rattle.http_routes.specs.declared.fault.RouteFault.TheVariants.{BadCpus, UnknownJob, WrongServer}
 use Rattle.http_routes.specs.declared.fault.RouteFault.TheVariants.{BadTransition, IdsSpent}

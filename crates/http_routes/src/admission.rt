@@ -25,7 +25,7 @@ pub enum Admission {
 
 /// The token that a request shows to the check of clients: it asks for a job, and shows one.
 #[tactic(auto, unfolding(crate::specs::Admission::client_token))]
-fn client_token(request: &Request) -> Option<&str>
+pub(crate) fn client_token(request: &Request) -> Option<&str>
     ensures { option_copied result ≡ client_token request.now }
 {
     if is_at(request, "POST", "/api/v1/scheduler/alloc_job") {

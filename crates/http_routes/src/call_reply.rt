@@ -2,15 +2,15 @@
 ghost use Rattle.std.specs.Prelude.{◌≡◌, IfOk, IfErr, true};
 ghost use Rattle.http_routes.specs.CallReply.{told_by, Reads, IsAnswer, begun, IsAssigned};
 ghost use Rattle.http_routes.specs.Steps.{IsHttpAnswer};
-ghost use Rattle.sched_core.specs.Rule.{is_initial};
+ghost use Rattle.core_rules.specs.Rule.{is_initial};
 
 use crate::error::{HttpError, of_wire};
 use crate::head::read_reply_head;
 use crate::reply::Reply;
+use core_rules::texts::is_initial;
 use dist_types::outgoing::CallFault;
 use dist_types::results::AssignJobResult;
 use dist_wire::message::Message;
-use sched_core::texts::is_initial;
 use std::alloc::Global;
 
 /// The message of a reply.

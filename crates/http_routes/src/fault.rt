@@ -2,16 +2,16 @@
 ghost use Rattle.std.specs.Prelude.{◌≡◌, [], ◌∷◌, IfOk, IfErr};
 ghost use Rattle.http_routes.specs.ErrJson.{texts_of};
 ghost use Rattle.http_routes.specs.Fault.{call_text, failure_text, fault_texts, fault_response_of};
-ghost use Rattle.sched_core.specs.Texts.{no_room_text, dropped_text};
+ghost use Rattle.core_rules.specs.Texts.{no_room_text, dropped_text};
 
 use crate::err_json::ErrJson;
 use crate::error::HttpError;
 use crate::reply::Response;
+use core_rules::answers::Undone;
 use dist_types::ids::{JobId, ServerId};
 use dist_types::outgoing::CallFault;
 use dist_types::results::JobState;
 use dist_types::text::Text;
-use sched_core::answers::Undone;
 use std::alloc::Global;
 use std::fmt;
 

@@ -13,7 +13,7 @@ ghost use Rattle.dist_wire.specs.Spelling.{SpellsToolchain, SpellsHeartbeat, Spe
 ghost use Rattle.dist_wire.specs.Written.{bytes_text, heartbeat_text, run_text};
 ghost use Rattle.dist_wire.specs.declared.heartbeat.HeartbeatServerHttpRequest.{HeartbeatServerHttpRequest};
 ghost use Rattle.dist_wire.specs.declared.run.RunJobHttpRequest.{RunJobHttpRequest};
-ghost use Rattle.sched_core.specs.Rule.{is_initial};
+ghost use Rattle.core_rules.specs.Rule.{is_initial};
 ghost use Rattle.http_head.specs.declared.reply.Reply.{Reply};
 ghost use Rattle.http_head.specs.declared.request.Request.{Request};
 ghost use Rattle.http_head.specs.Head.{IsRequest, IsNoRequest, IsReply};
@@ -21,6 +21,8 @@ ghost use Rattle.http_head.specs.WrittenRequest.{request_text, is_visible, IsWit
 ghost use Rattle.std.specs.List.{list_all};
 ghost use Rattle.http_routes.specs.declared.admission.Admission.{Admission};
 ghost use Rattle.http_routes.specs.declared.admission.Admission.TheVariants.{Admitted};
+ghost use Rattle.http_routes.specs.declared.kind.Kind.TheVariants.{Waits};
+ghost use Rattle.http_routes.specs.declared.kind.Role.TheVariants as role;
 ghost use Rattle.http_routes.specs.declared.refusal.Refusal.{Refusal};
 ghost use Rattle.http_routes.specs.declared.refusal.Refusal.TheVariants.{BadHead};
 ghost use Rattle.http_routes.specs.declared.reply.Response.{Response};
@@ -32,12 +34,14 @@ ghost use Rattle.http_routes.specs.Asked.{IsAskedUnder};
 ghost use Rattle.http_routes.specs.CallReply.{IsToldBy, IsAnswer, IsAssigned};
 ghost use Rattle.http_routes.specs.InOrder.{InForm, IsAllocation, IsHeartbeat, IsUpdate, IsStatus};
 ghost use Rattle.http_routes.specs.InOrder.{IsAssignment, IsSubmission, IsRun};
+ghost use Rattle.http_routes.specs.Kind.{kind_of};
 ghost use Rattle.http_routes.specs.Message.{BeginsWith};
 ghost use Rattle.http_routes.specs.ReadBack.{seen};
 ghost use Rattle.http_routes.specs.Refusal.{refusal_response};
 ghost use Rattle.http_routes.specs.Refused.{IsRefused, IsServerRefused};
 ghost use Rattle.http_routes.specs.Reply.{body_of, reply_text};
 ghost use Rattle.http_routes.specs.ServerRoute.{body_at, IsServerAsked, AsksAssign, AsksSubmit, AsksRun};
+ghost use Rattle.http_routes.specs.Settled.{server_settled, scheduler_settled, IsSettledFor, IsSettledAt};
 ghost use Rattle.http_routes.specs.Requests.{alloc_with, status_with, heartbeat_with, state_with, assign_with};
 ghost use Rattle.http_routes.specs.Requests.{submit_with, run_with, CanGo};
 
@@ -249,4 +253,26 @@ pub fn runs_read_back()
         → SpellsRun run (run_text run)
         → length (run_text run) < 2 ^ 32 → verdict job.0 token ≡ Ok tt
         → AsksRun verdict (request_text (run_with host token job run inputs)) job run inputs }
+{}
+
+/// A request for a job may wait for a peer, and so may one that brings a toolchain or runs a job: what is
+/// quick asks for none of these.
+pub fn waiting_kinds()
+    ensures allocations { (lets : List ℕ → Admission) (r : Request) (tc : List ℕ)
+        → IsAllocation r lets tc → kind_of role.Scheduler r.method r.target ≡ Waits }
+    ensures submissions { (verdict : ℕ → List ℕ → Result ⊤ TokenError) (r : Request) (job : JobId)
+        → IsSubmission r verdict job → kind_of role.Server r.method r.target ≡ Waits }
+    ensures runs { (verdict : ℕ → List ℕ → Result ⊤ TokenError) (r : Request) (job : JobId)
+        (run : RunJobHttpRequest) (at : ℕ)
+        → IsRun r verdict job run at → kind_of role.Server r.method r.target ≡ Waits }
+{}
+
+/// What the head settles the body does not change: a request that a server refuses so is refused alike with any
+/// other body, and one to the scheduler asks the same, whatever a check of clients that refuses these tokens at any
+/// moment may say of its token.
+pub fn heads_settle()
+    ensures servers { (verdict : ℕ → List ℕ → Result ⊤ TokenError) (r : Request)
+        → server_settled verdict r ≡ true → IsSettledFor verdict r }
+    ensures schedulers { (refuses : List ℕ → Bool) (serves : List ℕ → Option Addr) (r : Request) (peer : Addr)
+        → scheduler_settled refuses serves r peer ≡ true → IsSettledAt refuses serves r peer }
 {}

@@ -20,6 +20,7 @@ pub mod call_reply;
 pub mod err_json;
 pub mod error;
 pub mod fault;
+pub mod kind;
 pub mod laws;
 mod message;
 mod place;
@@ -31,5 +32,6 @@ pub mod route;
 mod run_head;
 mod sender;
 pub mod server_route;
+pub mod settled;
 
 pub use http_head::{head, request};

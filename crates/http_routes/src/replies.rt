@@ -5,11 +5,14 @@ ghost use Rattle.http_routes.specs.Fault.{fault_response_of};
 ghost use Rattle.http_routes.specs.Replies.{heard_response, status_response, alloc_response, update_response};
 ghost use Rattle.http_routes.specs.Replies.{commit_response, core_fault, assign_response};
 ghost use Rattle.http_routes.specs.Replies.{submit_response, run_response};
-ghost use Rattle.sched_core.specs.Texts.{no_room_text, dropped_text};
+ghost use Rattle.core_rules.specs.Texts.{no_room_text, dropped_text};
 
 use crate::error::HttpError;
 use crate::fault::{RouteFault, fault_response};
 use crate::reply::{Response, respond};
+use core_rules::answers::Committed;
+use core_rules::error::SchedError;
+use core_rules::texts;
 use dist_types::fault::Memory;
 use dist_types::ids::{JobId, ServerId};
 use dist_types::results::{
@@ -18,9 +21,6 @@ use dist_types::results::{
 };
 use dist_types::text::Text;
 use dist_wire::alloc::AllocJobHttpResponse;
-use sched_core::answers::Committed;
-use sched_core::error::SchedError;
-use sched_core::texts;
 use std::alloc::{AllocError, Global};
 
 /// Want of memory, where it is the one cause of a refusal.

@@ -6,8 +6,8 @@ use Rattle.std.specs.List.{IsDistinct}
 use Rattle.std.specs.Map.{keys_of, lookup}
 use Rattle.std.specs.Option.{option_map}
 use Rattle.std.specs.Str.{bytes_eq}
-use Rattle.lru_disk_cache.specs.Files.{Files, file_at, put, without, touched, appended}
-use Rattle.lru_disk_cache.specs.Held.{Held, Became, BecameBy}
+use Rattle.folders.specs.Files.{Files, file_at, put, without, touched, appended}
+use Rattle.folders.specs.Held.{Held, Became, BecameBy}
 use Rattle.lru_disk_cache.specs.Key.{is_key, temp_name}
 use Rattle.lru_disk_cache.specs.Disk.{AllKeys, Avoids, IsTemp, dropped, files_placed, files_stored, stored}
 use Rattle.lru_disk_cache.specs.Disk.{without_key}
@@ -17,12 +17,12 @@ use Rattle.lru_disk_cache.specs.Store.{insert_verdict}
 use Rattle.lru_disk_cache.specs.Adding.{HasSize, entry_path, prepared, files_prepared, room_for}
 use Rattle.lru_disk_cache.specs.Adding.{commit_verdict, committed}
 use Rattle.lru_disk_cache.specs.Moving.{IsSized}
-use Rattle.lru_disk_cache.proofs.Became.{became_from}
-use Rattle.lru_disk_cache.proofs.Exactly.{made_is}
+use Rattle.folders.proofs.Became.{became_from}
+use Rattle.folders.proofs.Exactly.{made_is}
 use Rattle.lru_disk_cache.proofs.Fills.{temp_avoids}
 use Rattle.lru_disk_cache.proofs.KeySteps.{keys_in, temp_placed, moved_placed, keys_put_other, keys_touched}
 use Rattle.lru_disk_cache.proofs.KeySteps.{keys_prepared, keys_appended, keys_gone, keys_without_other}
-use Rattle.lru_disk_cache.proofs.Lookups.{put_same}
+use Rattle.folders.proofs.Lookups.{put_same}
 use Rattle.lru_disk_cache.proofs.Paths.{temp_is_none}
 use Rattle.lru_disk_cache.proofs.Reserving.{listed_key, own_path}
 use Rattle.lru_disk_cache.proofs.Standing.{found_sized}

@@ -1,21 +1,21 @@
 -- What an insert leaves, step by step.
-use Rattle.std.proofs.Common.{◌≡◌, ℕ, ◌<◌, ◌≤◌, ◌^◌, false, true, List, [], ◌∷◌, ◌++◌, length, Option, Some}
+use Rattle.std.proofs.Common.{◌≡◌, ℕ, ◌<◌, ◌^◌, false, true, List, [], ◌∷◌, ◌++◌, length, Option, Some}
 use Rattle.std.proofs.Common.{None, Result, Ok, Err, IfOk, OnOk, OnErr, refl, sym, ap, subst, ◌∙◌}
 use Rattle.std.specs.Map.{remove_entry}
 use Rattle.std.specs.Option.{option_map}
 use Rattle.std.specs.Str.{bytes_eq}
-use Rattle.lru_disk_cache.specs.Files.{Files, file_at, size_at, put, PartWritten}
-use Rattle.dist_types.specs.Cause.{Rose}
-use Rattle.lru_disk_cache.specs.Held.{Held, Holds, Never, Became, Changes}
-use Rattle.lru_disk_cache.specs.declared.fault.FolderFault.{FolderFault}
-use Rattle.lru_disk_cache.specs.declared.fault.FolderFault.TheVariants.{Missing, Failed, Memory}
-use Rattle.lru_disk_cache.proofs.Became.{became_of, became_from, became_map, became_then, untold}
-use Rattle.lru_disk_cache.proofs.Distinct.{apart}
-use Rattle.lru_disk_cache.proofs.Lookups.{put_same, put_other, part_other}
+use Rattle.folders.specs.Files.{Files, file_at, size_at, put, PartWritten}
+use Rattle.folders.specs.Held.{Held, Holds, Never, Became, Changes}
+use Rattle.folders.specs.declared.fault.FolderFault.{FolderFault}
+use Rattle.folders.proofs.Became.{became_of, became_from, became_map, became_then}
+use Rattle.folders.proofs.Distinct.{apart}
+use Rattle.folders.proofs.Lookups.{put_same, put_other, part_other}
 use Rattle.lru_disk_cache.specs.Key.{is_key, temp_name}
 use Rattle.lru_disk_cache.specs.Entries.{Entries, Listed, IsEnd}
-use Rattle.lru_disk_cache.specs.Disk.{Stands, AllKeys, Avoids, Keeps, ButAt, ButListed, ButUnder, ButUnderAnd}
-use Rattle.lru_disk_cache.specs.Disk.{ButThese, SameAt, IsTemp, Counts}
+use Rattle.lru_disk_cache.specs.Disk.{Stands, AllKeys, Avoids, Keeps, ButListed}
+use Rattle.folders.specs.Changed.{ButAt, ButUnder, ButUnderAnd}
+use Rattle.lru_disk_cache.specs.Disk.{ButThese, IsTemp}
+use Rattle.folders.specs.Changed.{SameAt, Counts}
 use Rattle.lru_disk_cache.proofs.Paths.{same_front, temp_differs}
 use Rattle.lru_disk_cache.proofs.Standing.{all_both, avoids_removed, avoids_end, kept_by_same}
 
@@ -110,16 +110,6 @@ outside_then root from one two three a b =
 -- ---- causes and other files
 
 -- a step behind one that succeeded
-pub counts_after : {T : Type 0} (E : Files → Files → Type 0) (result : Result T FolderFault)
-    (one two three : Held) → Became E one.files two.files → two.faults ≡ one.faults → Counts result two three
-    → Counts result one three
-counts_after E (Ok x) one two three became steady counts = counts ∙ steady
-counts_after E (Err Failed) one two three became steady counts =
-    subst (λ n. Rose n three.faults × (n ≤ three.faults)) steady counts
-counts_after E (Err Missing) one two three became steady counts =
-    (untold E one.files two.files became counts.0, subst (λ n. n ≤ three.faults) steady counts.1)
-counts_after E (Err Memory) one two three became steady counts = counts ∙ steady
-
 pub under_then : (root : List ℕ) (one two three : Option Files) → Became (ButUnder root) one two
     → Became (ButUnder root) two three → Became (ButUnder root) one three
 under_then root one two three a b =

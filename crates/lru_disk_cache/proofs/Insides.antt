@@ -1,8 +1,6 @@
 -- What a cache is seen as, by what it keeps.
 use Rattle.std.specs.Prelude.{ℕ, List}
-use Rattle.lru_disk_cache.specs.Archives.{ArchiveStore}
 use Rattle.lru_disk_cache.specs.Entries.{Listed}
-use Rattle.lru_disk_cache.specs.Keyed.{unkeyed}
 use Rattle.lru_disk_cache.specs.Reserved.{Reservation}
 use Rattle.lru_disk_cache.specs.Store.{Disk}
 
@@ -13,12 +11,4 @@ disk_of path root table pending = record {
   capacity = table.capacity;
   entries = table.entries;
   pending = pending;
-}
-
-abbrev pub archives_of : {F : Type 0} → Disk → F → ArchiveStore F
-archives_of disk folder = record {
-  path = disk.path;
-  capacity = disk.capacity;
-  archives = unkeyed disk.entries;
-  folder = folder;
 }

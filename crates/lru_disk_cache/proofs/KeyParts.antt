@@ -1,7 +1,8 @@
 -- The parts of a key, one by one.
 use Rattle.std.proofs.Common.{◌≡◌, ℕ, Bool, true, false, ◌&&◌, not, List, [], ◌∷◌, ◌++◌, map, refl, sym, ◌∙◌}
 use Rattle.std.specs.List.{list_all}
-use Rattle.lru_disk_cache.specs.Key.{is_plain, is_temporary, are_key, last_behind}
+use Rattle.folders.specs.Plain.{is_plain}
+use Rattle.lru_disk_cache.specs.Key.{is_temporary, are_key, last_behind}
 
 and_true : (b : Bool) → (b && true) ≡ (true && b)
 and_true true = refl

@@ -8,17 +8,17 @@ use Rattle.std.specs.Str.{bytes_eq}
 use Rattle.std.proofs.Math.Seq.{take-append_seam}
 use Rattle.std.proofs.lemmas.List.Elements.{filter-append}
 use Rattle.std.proofs.lemmas.Slice.Eq.{bytes_eq-Decides}
-use Rattle.lru_disk_cache.specs.Files.{Files, file_at, put, put_found, without, touched, appended}
-use Rattle.lru_disk_cache.specs.Files.{is_behind}
+use Rattle.folders.specs.Files.{Files, file_at, put, put_found, without, touched, appended}
+use Rattle.folders.specs.Files.{is_behind}
 use Rattle.lru_disk_cache.specs.Key.{is_key}
 use Rattle.lru_disk_cache.specs.Entries.{Entries, total, trim, promoted_key}
 use Rattle.lru_disk_cache.specs.Disk.{Avoids, dropped, without_each, without_key, stored, files_placed}
 use Rattle.lru_disk_cache.specs.Opened.{listing}
-use Rattle.lru_disk_cache.proofs.Distinct.{apart}
-use Rattle.lru_disk_cache.proofs.InStep.{but_each, but_each_later, out_once, front_out, dropped_and_rest}
-use Rattle.lru_disk_cache.proofs.InStep.{rest_out, there_still, found_entry}
+use Rattle.folders.proofs.Distinct.{apart}
+use Rattle.lru_disk_cache.proofs.Outs.{but_each, but_each_later, out_once, front_out, dropped_and_rest}
+use Rattle.lru_disk_cache.proofs.Outs.{rest_out, there_still, found_entry}
 use Rattle.lru_disk_cache.proofs.Listings.{entry, but_key, listing_more, listing_without, none_out}
-use Rattle.lru_disk_cache.proofs.Lookups.{itself}
+use Rattle.folders.proofs.Lookups.{itself}
 use Rattle.lru_disk_cache.proofs.Paths.{same_front}
 use Rattle.lru_disk_cache.proofs.Strips.{begins}
 

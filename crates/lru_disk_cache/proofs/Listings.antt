@@ -7,12 +7,12 @@ use Rattle.std.specs.Option.{option_map}
 use Rattle.std.specs.Str.{bytes_eq}
 use Rattle.std.proofs.Math.Seq.{take-append_seam}
 use Rattle.std.proofs.lemmas.Slice.Eq.{bytes_eq-Decides}
-use Rattle.lru_disk_cache.specs.Files.{Files, without, is_behind}
-use Rattle.lru_disk_cache.specs.Held.{Held, Became}
-use Rattle.lru_disk_cache.specs.declared.folder.Found.{Found}
-use Rattle.lru_disk_cache.proofs.Became.{became_from}
-use Rattle.lru_disk_cache.proofs.Distinct.{apart, without_distinct}
-use Rattle.lru_disk_cache.proofs.Lookups.{itself}
+use Rattle.folders.specs.Files.{Files, without, is_behind}
+use Rattle.folders.specs.Held.{Held, Became}
+use Rattle.folders.specs.declared.folder.Found.{Found}
+use Rattle.folders.proofs.Became.{became_from}
+use Rattle.folders.proofs.Distinct.{apart, without_distinct}
+use Rattle.folders.proofs.Lookups.{itself}
 use Rattle.lru_disk_cache.specs.Entries.{Entries}
 use Rattle.lru_disk_cache.specs.Disk.{Backed}
 use Rattle.lru_disk_cache.specs.Opened.{with_key, keyed, listing, Shows}

@@ -1,8 +1,8 @@
 -- Storing a file of the folder, or what a closure writes.
 use Rattle.std.proofs.Common.{◌≡◌, ◌+◌, ℕ, Bool, true, false, not, nat_lt, if◌then◌else◌, List, length, is_ok}
 use Rattle.std.proofs.Common.{true≢false, ap, Result, Ok, Err, IfErr, OnOk, inl, inr, refl}
-use Rattle.lru_disk_cache.specs.Held.{Held, Lacks}
-use Rattle.lru_disk_cache.specs.declared.fault.FolderFault.TheVariants.{Missing, Failed, Memory}
+use Rattle.folders.specs.Held.{Held, Lacks}
+use Rattle.folders.specs.declared.fault.FolderFault.TheVariants.{Missing, Failed, Memory}
 use Rattle.lru_disk_cache.specs.declared.error.Error.{Error}
 use Rattle.lru_disk_cache.specs.declared.error.Error.TheVariants.{FileTooLarge, FileNotInCache, Io}
 use Rattle.lru_disk_cache.specs.declared.error.Error.TheVariants.{PendingSpace, BadKey, NotPending}
@@ -13,9 +13,7 @@ use Rattle.lru_disk_cache.specs.Store.{Disk, insert_verdict, InsertFails}
 use Rattle.lru_disk_cache.specs.Key.{is_key}
 use Rattle.lru_disk_cache.specs.Reserved.{held_size}
 use Rattle.lru_disk_cache.specs.Adding.{CallFails}
-use Rattle.lru_disk_cache.specs.Archives.{Archives}
-use Rattle.lru_disk_cache.specs.Archiving.{StoreFails}
-use Rattle.lru_disk_cache.specs.Moving.{MoveFails, WriterFails, WithFails, StoreWithFails}
+use Rattle.lru_disk_cache.specs.Moving.{MoveFails, WriterFails, WithFails}
 
 -- where the file that is to be moved is not measured
 pub move_failed : (key path : List ℕ) (d e : Disk) (error : Error) (old new : Held) → e ≡ d
@@ -86,30 +84,3 @@ module _ (wrote : Result (Unit {0}) WriteFault → List ℕ → Type 0) where
       → OnOk result ((x : List ℕ) × wrote (Ok (tt {0})) x × P x × Q x × R x)
   with_ok P Q R bytes (Ok x) w p q r = (bytes, w, p, q, r)
   with_ok P Q R bytes (Err e) w p q r = tt
-
-  pub store_failed : (capacity : ℕ) (id : List ℕ) (a : Archives) (error : Error) (old : Held)
-      → WriterFails wrote error → StoreWithFails wrote capacity id error a a old old
-  store_failed capacity id a WriterRefused old h = (refl, refl, h)
-  store_failed capacity id a NoMemory old h = inl (refl, refl)
-  store_failed capacity id a BadKey old h = absurd h
-  store_failed capacity id a FileTooLarge old h = absurd h
-  store_failed capacity id a FileNotInCache old h = absurd h
-  store_failed capacity id a (Io fault) old h = absurd h
-  store_failed capacity id a PendingSpace old h = absurd h
-  store_failed capacity id a NotPending old h = absurd h
-  store_failed capacity id a WrongDigest old h = absurd h
-
-  pub store_fails : (capacity : ℕ) (id bytes : List ℕ) (a b : Archives) (result : Result (Unit {0}) Error)
-      (old new : Held) → wrote (Ok (tt {0})) bytes
-      → IfErr result (λ x. StoreFails capacity id bytes x a b old new)
-      → IfErr result (λ x. StoreWithFails wrote capacity id x a b old new)
-  store_fails capacity id bytes a b (Ok x) old new w h = tt
-  store_fails capacity id bytes a b (Err WrongDigest) old new w h = (bytes, w, h)
-  store_fails capacity id bytes a b (Err FileTooLarge) old new w h = (bytes, w, h)
-  store_fails capacity id bytes a b (Err (Io fault)) old new w h = (bytes, w, h)
-  store_fails capacity id bytes a b (Err NoMemory) old new w h = inr (bytes, w, h)
-  store_fails capacity id bytes a b (Err BadKey) old new w h = absurd h
-  store_fails capacity id bytes a b (Err PendingSpace) old new w h = absurd h
-  store_fails capacity id bytes a b (Err FileNotInCache) old new w h = absurd h
-  store_fails capacity id bytes a b (Err NotPending) old new w h = absurd h
-  store_fails capacity id bytes a b (Err WriterRefused) old new w h = absurd h

@@ -4,9 +4,9 @@ use Rattle.std.proofs.Common.{filter, refl, sym, ap, subst, ◌∙◌, arith, le
 use Rattle.std.specs.List.{AllByRecursion, IsDistinct}
 use Rattle.std.specs.Map.{keys_of}
 use Rattle.std.specs.Str.{bytes_eq}
-use Rattle.lru_disk_cache.specs.Files.{Files, found_behind}
-use Rattle.lru_disk_cache.specs.Held.{Held, Holds}
-use Rattle.lru_disk_cache.specs.declared.folder.Found.{Found}
+use Rattle.folders.specs.Files.{Files, found_behind}
+use Rattle.folders.specs.Held.{Held, Holds}
+use Rattle.folders.specs.declared.folder.Found.{Found}
 use Rattle.lru_disk_cache.specs.Key.{is_key}
 use Rattle.lru_disk_cache.specs.Entries.{Entries, total, trim}
 use Rattle.lru_disk_cache.specs.Disk.{Stands, Backed, AllKeys}
@@ -24,7 +24,7 @@ trim_within capacity (e ∷ es) = by (nat_le (total (e ∷ es)) capacity) refl (
     by true is rest = leb-true (total (e ∷ es)) capacity is
     by false is rest = rest
 
-trim_has : (P : Entries → Type 0) → ((e : List ℕ × ℕ) (es : Entries) → P (e ∷ es) → P es)
+pub trim_has : (P : Entries → Type 0) → ((e : List ℕ × ℕ) (es : Entries) → P (e ∷ es) → P es)
     → (capacity : ℕ) (es : Entries) → P es → P (trim capacity es)
 trim_has P less capacity [] h = h
 trim_has P less capacity (e ∷ es) h =

@@ -11,7 +11,8 @@ use Rattle.std.specs.Fmt.{decimal}
 use Rattle.std.specs.List.{list_all, slice_split, onto_first}
 use Rattle.std.specs.Str.Parse.{digits_value}
 use Rattle.dist_types.proofs.AddrLemmas.{digits}
-use Rattle.lru_disk_cache.specs.Key.{is_key, are_key, is_plain, is_temporary, temp_name}
+use Rattle.lru_disk_cache.specs.Key.{is_key, are_key, is_temporary, temp_name}
+use Rattle.folders.specs.Plain.{is_plain}
 
 -- texts behind one front are compared by what differs
 pub same_front : (root p q : List ℕ) → bytes_eq (root ++ p) (root ++ q) ≡ bytes_eq p q

@@ -1,6 +1,6 @@
 -- Over a folder that never fails no fault has a cause.
 use Rattle.std.proofs.Common.{is_some, ap, true≢false, arith}
-use Rattle.lru_disk_cache.specs.declared.fault.FolderFault.TheVariants.{Missing, Failed, Memory}
+use Rattle.folders.specs.declared.fault.FolderFault.TheVariants.{Missing, Failed, Memory}
 use Rattle.lru_disk_cache.specs.Reliable.{NeverFails}
 
 pub never_fails : NeverFails

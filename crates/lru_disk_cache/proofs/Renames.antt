@@ -6,16 +6,17 @@ use Rattle.std.specs.Map.{lookup}
 use Rattle.std.specs.Option.{option_map}
 use Rattle.std.specs.Str.{bytes_eq}
 use Rattle.std.proofs.lemmas.Map.{none_passes_from_lookup}
-use Rattle.lru_disk_cache.specs.Files.{size_at, Files, file_at, moved, DoneOrNot}
-use Rattle.lru_disk_cache.specs.Held.{Held, Holds, Lacks, Became, Changes}
-use Rattle.lru_disk_cache.specs.declared.fault.FolderFault.{FolderFault}
-use Rattle.lru_disk_cache.specs.declared.fault.FolderFault.TheVariants.{Missing, Failed, Memory}
-use Rattle.lru_disk_cache.proofs.Became.{became_of, became_from, became_map}
-use Rattle.lru_disk_cache.proofs.Distinct.{apart}
-use Rattle.lru_disk_cache.proofs.Lookups.{moved_other, moved_there, done_or_not}
+use Rattle.folders.specs.Files.{size_at, Files, file_at, moved, DoneOrNot}
+use Rattle.folders.specs.Held.{Held, Holds, Lacks, Became, Changes}
+use Rattle.folders.specs.declared.fault.FolderFault.{FolderFault}
+use Rattle.folders.specs.declared.fault.FolderFault.TheVariants.{Missing, Failed, Memory}
+use Rattle.folders.proofs.Became.{became_of, became_from, became_map}
+use Rattle.folders.proofs.Distinct.{apart}
+use Rattle.folders.proofs.Lookups.{moved_other, moved_there, done_or_not}
 use Rattle.lru_disk_cache.specs.Key.{is_key}
 use Rattle.lru_disk_cache.specs.Entries.{Entries}
-use Rattle.lru_disk_cache.specs.Disk.{Stands, Avoids, Keeps, ButUnderAnd, ButThese, Counts}
+use Rattle.lru_disk_cache.specs.Disk.{Stands, Avoids, Keeps, ButThese}
+use Rattle.folders.specs.Changed.{ButUnderAnd, Counts}
 use Rattle.lru_disk_cache.proofs.Paths.{same_front}
 use Rattle.lru_disk_cache.proofs.Standing.{all_both, all_push}
 

@@ -2,7 +2,7 @@
 use Rattle.std.proofs.Common.{◌≡◌, ℕ, ◌≤◌, Bool, true, false, cond, ◌&&◌, nat_le, List, [], ◌∷◌, filter, refl}
 use Rattle.std.proofs.Common.{sym, ap, subst, ◌∙◌, arith, le-leb}
 use Rattle.std.proofs.lemmas.List.Sums.{sum_by-cons}
-use Rattle.lru_disk_cache.specs.Files.{found_behind}
+use Rattle.folders.specs.Files.{found_behind}
 use Rattle.lru_disk_cache.specs.Key.{is_key}
 use Rattle.lru_disk_cache.specs.Entries.{Entries, total, trim}
 use Rattle.lru_disk_cache.specs.Opened.{keyed, is_kept, kept, Reopens}

@@ -10,10 +10,10 @@ use Rattle.std.specs.List.{AllByRecursion, onto_first, slice_split}
 use Rattle.std.specs.Map.{lookup}
 use Rattle.std.specs.Option.{option_map}
 use Rattle.std.specs.Str.{bytes_eq}
-use Rattle.lru_disk_cache.specs.Files.{Files, file_at, front, put_found, appended, PartAppended, Same}
-use Rattle.lru_disk_cache.specs.Held.{Held, Lacks, Became, Changes}
-use Rattle.lru_disk_cache.specs.declared.fault.FolderFault.{FolderFault}
-use Rattle.lru_disk_cache.specs.declared.fault.FolderFault.TheVariants.{Missing, Failed, Memory}
+use Rattle.folders.specs.Files.{Files, file_at, front, put_found, appended, PartAppended, Same}
+use Rattle.folders.specs.Held.{Held, Holds, Lacks, Became, Changes}
+use Rattle.folders.specs.declared.fault.FolderFault.{FolderFault}
+use Rattle.folders.specs.declared.fault.FolderFault.TheVariants.{Missing, Failed, Memory}
 use Rattle.lru_disk_cache.specs.declared.error.Error.{Error}
 use Rattle.lru_disk_cache.specs.declared.error.Error.TheVariants.{FileTooLarge, FileNotInCache, Io}
 use Rattle.lru_disk_cache.specs.declared.error.Error.TheVariants.{PendingSpace, BadKey, NotPending}
@@ -21,16 +21,18 @@ use Rattle.lru_disk_cache.specs.declared.error.Error.TheVariants.{WrongDigest, W
 use Rattle.lru_disk_cache.specs.declared.error.Error.TheVariants.{Memory as NoMemory}
 use Rattle.lru_disk_cache.specs.Key.{is_key, is_temporary, last_behind, names_temporary, temp_name}
 use Rattle.lru_disk_cache.specs.Entries.{Entries}
-use Rattle.lru_disk_cache.specs.Disk.{AllKeys, ButAt, ButThese, Counts}
+use Rattle.lru_disk_cache.specs.Disk.{AllKeys, ButThese}
+use Rattle.folders.specs.Changed.{ButAt, Counts}
 use Rattle.lru_disk_cache.specs.Reserved.{Reservation, AddEntry, IsReserved, AllReserved, AllSure}
 use Rattle.lru_disk_cache.specs.Reserved.{KeepsReserved, NumbersDiffer, has, held_size, is_of, is_pending}
 use Rattle.lru_disk_cache.specs.Reserved.{is_sure, temp_of, without_number, doubted, unsure}
 use Rattle.lru_disk_cache.specs.Store.{Disk, IsStore}
 use Rattle.lru_disk_cache.specs.Adding.{entry_path, abandoned, abandon_answer, CallFails, WriteFails}
+use Rattle.lru_disk_cache.specs.Adding.{TempMissing}
 use Rattle.lru_disk_cache.specs.Adding.{AbandonFails}
-use Rattle.lru_disk_cache.proofs.Became.{became_map, became_of, became_same}
+use Rattle.folders.proofs.Became.{became_map, became_of, became_same}
 use Rattle.lru_disk_cache.proofs.Fills.{temp_avoids, keeps_avoided, stands_kept}
-use Rattle.lru_disk_cache.proofs.Lookups.{put_same, put_other}
+use Rattle.folders.proofs.Lookups.{put_same, put_other}
 use Rattle.lru_disk_cache.proofs.Paths.{same_front, temp_differs, temps_differ, temp_split, begins_so}
 
 -- ---- the path of a temporary file is none else
@@ -327,9 +329,9 @@ sure_there root e (r ∷ rs) files all sure lacks = by (is_of e r) r.sure refl r
     by true false own is rest = (λ i. own i && is i || is_sure e rs) ∙ rest
     by false b own is rest = ap (λ a. a && r.sure || is_sure e rs) own ∙ rest
 
-not_told : (o : Option Files) (b : Bool) → ((f : Files) → o ≡ Some f → b ≡ false) → (o ≡ None) ⊎ (b ≡ false)
-not_told None b h = inl refl
-not_told (Some f) b h = inr (h f refl)
+not_told : (o : Option Files) (P : Type 0) → ((f : Files) → o ≡ Some f → P) → (o ≡ None) ⊎ P
+not_told None P h = inl refl
+not_told (Some f) P h = inr (h f refl)
 
 each_same : (ps : List Reservation) (f : Files) → KeepsReserved ps f f
 each_same [] f = tt
@@ -523,25 +525,29 @@ named_reserved path root from to key es ps old new root_is named to_is fit keys 
 
 -- why a call on the temporary file of an entry failed
 pub write_fails : {T : Type 0} (e : AddEntry) (d now : Disk) (path : List ℕ) (result : Result T Error)
-    (old new : Held) → IsStore old d → path ≡ entry_path d e → is_pending e d.pending ≡ true
+    (old new : Held) → IsStore old d → now ≡ d → path ≡ entry_path d e → is_pending e d.pending ≡ true
     → IfErr result (λ x. CallFails (Lacks path) x old new) → IfErr result (λ x. WriteFails e x d now old new)
-write_fails e d now path (Ok x) old new h is pending fails = tt
-write_fails e d now path (Err (Io Missing)) old new h is pending fails = (
-  not_told old.files (is_sure e d.pending)
-      (λ f told. sure_there d.root e d.pending f h.reserved (h.sure f told)
-      (ap (file_at f) (sym is) ∙ fails.1 f told)),
-  pending,
-)
-write_fails e d now path (Err (Io Failed)) old new h is pending fails = (fails, pending)
-write_fails e d now path (Err (Io Memory)) old new h is pending fails = (fails, pending)
-write_fails e d now path (Err NoMemory) old new h is pending fails = pending
-write_fails e d now path (Err BadKey) old new h is pending fails = absurd fails
-write_fails e d now path (Err FileTooLarge) old new h is pending fails = absurd fails
-write_fails e d now path (Err FileNotInCache) old new h is pending fails = absurd fails
-write_fails e d now path (Err PendingSpace) old new h is pending fails = absurd fails
-write_fails e d now path (Err NotPending) old new h is pending fails = absurd fails
-write_fails e d now path (Err WrongDigest) old new h is pending fails = absurd fails
-write_fails e d now path (Err WriterRefused) old new h is pending fails = absurd fails
+write_fails e d now path (Ok x) old new h at is pending fails = tt
+write_fails e d now path (Err (Io Missing)) old new h at is pending fails =
+    let lacks : Holds old (Lacks (entry_path d e)) = λ f told. ap (file_at f) (sym is) ∙ fails.1 f told in (
+      not_told old.files (TempMissing e d now old new) (λ f told. (
+        at,
+        fails.0,
+        sure_there d.root e d.pending f h.reserved (h.sure f told) (lacks f told),
+        lacks,
+      )),
+      pending,
+    )
+write_fails e d now path (Err (Io Failed)) old new h at is pending fails = (fails, pending)
+write_fails e d now path (Err (Io Memory)) old new h at is pending fails = (fails, pending)
+write_fails e d now path (Err NoMemory) old new h at is pending fails = pending
+write_fails e d now path (Err BadKey) old new h at is pending fails = absurd fails
+write_fails e d now path (Err FileTooLarge) old new h at is pending fails = absurd fails
+write_fails e d now path (Err FileNotInCache) old new h at is pending fails = absurd fails
+write_fails e d now path (Err PendingSpace) old new h at is pending fails = absurd fails
+write_fails e d now path (Err NotPending) old new h at is pending fails = absurd fails
+write_fails e d now path (Err WrongDigest) old new h at is pending fails = absurd fails
+write_fails e d now path (Err WriterRefused) old new h at is pending fails = absurd fails
 
 pub closed_ok : (P : Type 0) (answer : Result (Unit {0}) FolderFault)
     (result : Result (Unit {0}) (Error × Option AddEntry)) → result ≡ abandon_answer answer → OnOk answer P

@@ -8,16 +8,16 @@ use Rattle.std.proofs.lemmas.List.Sums.{sum_by-cons}
 use Rattle.std.specs.List.{IsDistinct}
 use Rattle.std.specs.Map.{keys_of, remove_entry}
 use Rattle.std.specs.Str.{bytes_eq}
-use Rattle.lru_disk_cache.specs.Files.{without}
-use Rattle.lru_disk_cache.specs.Held.{Held, Became}
-use Rattle.lru_disk_cache.specs.declared.folder.Found.{Found}
-use Rattle.lru_disk_cache.specs.declared.fault.FolderFault.{FolderFault}
+use Rattle.folders.specs.Files.{without}
+use Rattle.folders.specs.Held.{Held, Became}
+use Rattle.folders.specs.declared.folder.Found.{Found}
+use Rattle.folders.specs.declared.fault.FolderFault.{FolderFault}
 use Rattle.lru_disk_cache.specs.Key.{is_key}
 use Rattle.lru_disk_cache.specs.Entries.{Entries, Listed, total, sizes, trim}
 use Rattle.lru_disk_cache.specs.Disk.{AllKeys}
 use Rattle.lru_disk_cache.specs.Opened.{stripped, with_key, keyed, is_kept, kept, Shows}
 use Rattle.lru_metered.proofs.Lookups.{size-others}
-use Rattle.lru_disk_cache.proofs.Distinct.{apart}
+use Rattle.folders.proofs.Distinct.{apart}
 use Rattle.lru_disk_cache.proofs.Listings.{shows_without, at_middle}
 use Rattle.lru_disk_cache.proofs.Standing.{all_push, all_removed}
 use Rattle.lru_disk_cache.proofs.Trims.{total_more, trim_fits, trim_more}
@@ -221,6 +221,13 @@ all_stay first room capacity es none room_is =
     let is : 0 ≡ first = omega (arith, none) in
     subst (λ k. total (drop k es) + room ≡ capacity → drop k es ≡ trim capacity es) is
     (λ fits. sym (trim_fits es capacity (omega (arith, fits)))) room_is
+
+-- of a front one entry, and those behind it
+pub at_front : (i m : ℕ) (good : Entries) (e : List ℕ × ℕ) → m ≤ length good → i < length (take m good)
+    → e ≡ get_or (take m good) i e → (i < m) × (drop i good ≡ e ∷ drop (i + 1) good)
+at_front i m good e most within is =
+    let below : i < m = omega (arith, within, length-take m good) in
+    (below, next_left i good e (omega (arith, below, most)) (is ∙ get_or-take m good i e below))
 
 -- the file of the first entry goes
 pub one_gone : (root : List ℕ) (i m : ℕ) (good : Entries) (e : List ℕ × ℕ) (old new : Held)

@@ -2,13 +2,15 @@
 use Rattle.std.proofs.Common.{◌≡◌, ℕ, Bool, true, false, List, Option, Result, refl, sym, subst, ◌∙◌}
 use Rattle.std.specs.Str.{bytes_eq}
 use Rattle.std.proofs.lemmas.Slice.Eq.{bytes_eq-Decides}
-use Rattle.lru_disk_cache.specs.Files.{Files, moved, DoneOrNot}
-use Rattle.lru_disk_cache.specs.Held.{Held, Lacks, Became, Changes}
-use Rattle.lru_disk_cache.specs.declared.fault.FolderFault.{FolderFault}
-use Rattle.lru_disk_cache.specs.Disk.{OnlyRemoved, RemovedAt, ButAt, SameAt, IsTemp}
-use Rattle.lru_disk_cache.specs.Disk.{RemovedOrSame, IsNeither, IsNoTemp, IsBeside}
-use Rattle.lru_disk_cache.proofs.Became.{became_of, became_map, became_same, became_then}
-use Rattle.lru_disk_cache.proofs.Lookups.{moved_other, done_or_not}
+use Rattle.folders.specs.Files.{Files, moved, DoneOrNot}
+use Rattle.folders.specs.Held.{Held, Lacks, Became, Changes}
+use Rattle.folders.specs.declared.fault.FolderFault.{FolderFault}
+use Rattle.folders.specs.Changed.{OnlyRemoved, RemovedAt, ButAt, SameAt}
+use Rattle.lru_disk_cache.specs.Disk.{IsTemp}
+use Rattle.folders.specs.Changed.{RemovedOrSame, IsNeither}
+use Rattle.lru_disk_cache.specs.Disk.{IsNoTemp, IsBeside}
+use Rattle.folders.proofs.Became.{became_of, became_map, became_same, became_then}
+use Rattle.folders.proofs.Lookups.{moved_other, done_or_not}
 
 pub only_removed : (path : List ℕ) (old new : Option Files) → Became (RemovedAt path) old new
     → Became OnlyRemoved old new
@@ -18,9 +20,6 @@ only_removed path old new h = became_map (RemovedAt path) OnlyRemoved old new (�
 module _ (P : List ℕ → Type 0) where
   pub all_same : (o : Option Files) → Became (RemovedOrSame P) o o
   all_same o = became_same (RemovedOrSame P) o (λ f q b spared found. found)
-
-  pub all_equal : (old new : Option Files) → new ≡ old → Became (RemovedOrSame P) old new
-  all_equal old new is = subst (λ o. Became (RemovedOrSame P) old o) (sym is) (all_same old)
 
   pub all_kept : (old new : Option Files) → Became SameAt old new → Became (RemovedOrSame P) old new
   all_kept old new h =
@@ -79,10 +78,3 @@ but_temps root from old new temp h =
     became_map (RemovedOrSame (IsNeither from from)) (RemovedOrSame (IsNoTemp root)) old new
     (λ f g some q b none found. some q b
     (no_temp root from q temp none, no_temp root from q temp none) found) h
-
--- two paths by other names
-pub named : (from path f p : List ℕ) (old new : Option Files) → from ≡ f → path ≡ p
-    → Became (RemovedOrSame (IsNeither from path)) old new → Became (RemovedOrSame (IsNeither f p)) old new
-named from path f p old new from_is path_is h =
-    subst (λ q. Became (RemovedOrSame (IsNeither f q)) old new) path_is
-    (subst (λ a. Became (RemovedOrSame (IsNeither a path)) old new) from_is h)

@@ -9,12 +9,13 @@ use Rattle.std.proofs.lemmas.Slice.Eq.{bytes_eq-Decides}
 use Rattle.lru_metered.specs.Metered.{promoted}
 use Rattle.std.specs.Option.{option_map, option_map_or}
 use Rattle.std.specs.Str.{bytes_eq}
-use Rattle.lru_disk_cache.specs.Files.{Files, file_at, size_at}
-use Rattle.lru_disk_cache.specs.Held.{Held, Holds, Lacks, Became}
-use Rattle.lru_disk_cache.proofs.Became.{became_from, became_map, became_then, became_same}
+use Rattle.folders.specs.Files.{Files, file_at, size_at}
+use Rattle.folders.specs.Held.{Held, Holds, Lacks, Became}
+use Rattle.folders.proofs.Became.{became_from, became_map, became_then, became_same}
 use Rattle.lru_disk_cache.specs.Key.{is_key}
 use Rattle.lru_disk_cache.specs.Entries.{Entries, Listed, total, trim, IsEnd}
-use Rattle.lru_disk_cache.specs.Disk.{Stands, Backed, Avoids, Keeps, ButAt, ButListed, SameAt, Drops}
+use Rattle.lru_disk_cache.specs.Disk.{Stands, Backed, Avoids, Keeps, ButListed, Drops}
+use Rattle.folders.specs.Changed.{ButAt, SameAt}
 use Rattle.lru_disk_cache.proofs.Paths.{same_front}
 use Rattle.lru_disk_cache.proofs.Trims.{trim_more}
 
@@ -137,10 +138,6 @@ kept_none root (e ∷ es) files = (refl, kept_none root es files)
 pub kept_by_same : (root : List ℕ) (es : Entries) (f g : Files) → SameAt f g → Keeps root es f g
 kept_by_same root [] f g same = tt
 kept_by_same root (e ∷ es) f g same = (same (root ++ e.0), kept_by_same root es f g same)
-
-pub none_changed : (root : List ℕ) (es : Entries) (held : Held)
-    → Became (ButListed root es) held.files held.files
-none_changed root es held = became_same (ButListed root es) held.files (λ f q apart. refl)
 
 pub none_lost : (root : List ℕ) (es : Entries) (held : Held) → Became (Keeps root es) held.files held.files
 none_lost root es held = became_same (Keeps root es) held.files (λ f. kept_none root es f)

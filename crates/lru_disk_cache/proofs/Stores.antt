@@ -6,18 +6,19 @@ use Rattle.std.proofs.lemmas.List.Sums.{sum_by-append}
 use Rattle.std.specs.Map.{lookup, remove_entry}
 use Rattle.std.specs.Str.{bytes_eq}
 use Rattle.lru_metered.proofs.Lookups.{size-others, total-promoted}
-use Rattle.lru_disk_cache.specs.Files.{file_at}
-use Rattle.lru_disk_cache.specs.Held.{Held, Holds, Became, BecameBy}
-use Rattle.lru_disk_cache.specs.declared.fault.FolderFault.{FolderFault}
+use Rattle.folders.specs.Files.{file_at}
+use Rattle.folders.specs.Held.{Held, Holds, Became, BecameBy}
+use Rattle.folders.specs.declared.fault.FolderFault.{FolderFault}
 use Rattle.lru_disk_cache.specs.Entries.{Entries, Listed, total, sizes, promoted_key, IsEnd}
-use Rattle.lru_disk_cache.specs.Disk.{Stands, ButAt, SameAt, IsTemp, Left, staying, stored, dropped}
+use Rattle.lru_disk_cache.specs.Disk.{Stands, IsTemp, Left, staying, stored, dropped}
+use Rattle.folders.specs.Changed.{ButAt, SameAt}
 use Rattle.lru_disk_cache.specs.Disk.{files_stored, without_key}
 use Rattle.lru_disk_cache.specs.Key.{is_key, temp_name}
 use Rattle.lru_disk_cache.specs.Reserved.{Reservation, IsReserved, AllSure, KeepsReserved, has, held_size}
 use Rattle.lru_disk_cache.specs.Reserved.{without_number, unsure}
 use Rattle.lru_disk_cache.specs.Store.{Disk, Store, IsStore, room_beside}
 use Rattle.lru_disk_cache.proofs.Asides.{sure_kept, reserved_same}
-use Rattle.lru_disk_cache.proofs.Became.{became_map, became_from}
+use Rattle.folders.proofs.Became.{became_map, became_from}
 use Rattle.lru_disk_cache.proofs.Opens.{trim_within}
 use Rattle.lru_disk_cache.proofs.Reserving.{listed_key, key_reserved, all_without, differ_without}
 use Rattle.lru_disk_cache.proofs.Reserving.{unsure_reserved, unsure_differ, unsure_held, unsure_sure}

@@ -8,7 +8,7 @@ use Rattle.std.specs.Str.Pattern.{FindsTextPrefix, StripsPrefix}
 use Rattle.std.proofs.Math.Seq.{take-append_seam}
 use Rattle.std.proofs.lemmas.List.{take-append-drop}
 use Rattle.std.proofs.lemmas.Slice.Eq.{bytes_eq-Decides}
-use Rattle.lru_disk_cache.proofs.Lookups.{itself}
+use Rattle.folders.proofs.Lookups.{itself}
 use Rattle.lru_disk_cache.specs.Opened.{stripped}
 
 pub begins : (text front : List ℕ) → starts_with nat_eq text front ≡ true

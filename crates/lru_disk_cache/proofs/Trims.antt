@@ -9,7 +9,7 @@ use Rattle.std.specs.Cmp.Lexicographic.{nat_list_eq_equiv}
 use Rattle.std.proofs.lemmas.Map.{lookup-remove_entry}
 use Rattle.std.proofs.lemmas.Slice.Eq.{bytes_eq-Decides}
 use Rattle.lru_metered.proofs.Lookups.{others-none}
-use Rattle.lru_disk_cache.proofs.Lookups.{itself}
+use Rattle.folders.proofs.Lookups.{itself}
 use Rattle.std.specs.Str.{bytes_eq}
 use Rattle.lru_metered.specs.Metered.{Metered, with_pairs, inserted}
 use Rattle.lru_metered.proofs.Trims.{trim-fits}

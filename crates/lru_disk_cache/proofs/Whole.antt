@@ -4,45 +4,52 @@ use Rattle.std.proofs.Common.{subst, ◌∙◌}
 use Rattle.std.specs.Map.{lookup}
 use Rattle.std.specs.Str.{bytes_eq}
 use Rattle.std.proofs.lemmas.Map.{none_passes_from_lookup}
-use Rattle.lru_disk_cache.specs.Files.{Files, file_at, put_found, without, moved, DoneOrNot}
-use Rattle.lru_disk_cache.specs.Held.{Held, Holds, Lacks, Became, Changes}
-use Rattle.lru_disk_cache.specs.declared.fault.FolderFault.{FolderFault}
+use Rattle.folders.specs.Files.{Files, file_at, put_found, without, moved, DoneOrNot}
+use Rattle.folders.specs.Held.{Held, Holds, Lacks, Became, Changes}
+use Rattle.folders.specs.declared.fault.FolderFault.{FolderFault}
 use Rattle.lru_disk_cache.specs.Entries.{Entries}
-use Rattle.lru_disk_cache.specs.Disk.{Avoids, ButAt, ButListed, SameAt}
-use Rattle.lru_disk_cache.specs.Whole.{OldOr, OldOrMoved, OldOrWritten}
-use Rattle.lru_disk_cache.proofs.Became.{became_of, became_map, became_then}
-use Rattle.lru_disk_cache.proofs.Distinct.{apart}
-use Rattle.lru_disk_cache.proofs.Lookups.{moved_there}
+use Rattle.lru_disk_cache.specs.Disk.{Avoids, ButListed}
+use Rattle.folders.specs.Changed.{ButAt, SameAt}
+use Rattle.folders.specs.Whole.{OldOr, OldOrMoved, OldOrWritten}
+use Rattle.folders.proofs.Became.{became_of, became_map, became_then}
+use Rattle.folders.proofs.Distinct.{apart}
+use Rattle.folders.proofs.Lookups.{moved_there, put_other, without_same}
 use Rattle.lru_disk_cache.proofs.Paths.{same_front}
 use Rattle.lru_disk_cache.proofs.Standing.{all_both}
 
 pub same_moved : (from path : List ℕ) (old new : Option Files) → Became SameAt old new
     → Became (OldOrMoved from path) old new
 same_moved from path old new h =
-    became_map SameAt (OldOrMoved from path) old new (λ f g same. inl (same path)) h
+    became_map SameAt (OldOrMoved from path) old new (λ f g same. inl (same path, same from)) h
 
 -- ---- a file is renamed
 
-done_moved : (o : Option (List ℕ)) (from to : List ℕ) (f : Files) → file_at f from ≡ o
-    → OldOrMoved from to f (moved from to f)
-done_moved None from to f is =
+done_moved : (o : Option (List ℕ)) (from to : List ℕ) (f : Files) → bytes_eq to from ≡ false
+    → file_at f from ≡ o → OldOrMoved from to f (moved from to f)
+done_moved None from to f differ is =
     let same : moved from to f ≡ f = ap (λ (x : Option (List ℕ)). put_found x to f (without from f)) is in
-    inl (ap (λ g. file_at g to) same)
-done_moved (Some b) from to f is = inr (b, is, moved_there from to b f is)
+    inl (ap (λ g. file_at g to) same, ap (λ g. file_at g from) same)
+done_moved (Some b) from to f differ is =
+    let gone : file_at (moved from to f) from ≡ None =
+    ap (λ (x : Option (List ℕ)). file_at (put_found x to f (without from f)) from) is
+    ∙ (put_other to from b (without from f) differ ∙ without_same from f) in
+    inr (b, is, moved_there from to b f is, gone)
 
 pub renamed_whole : (from at to path : List ℕ) (result : Result (Unit {0}) FolderFault) (old new : Held)
-    → from ≡ at → to ≡ path
+    → from ≡ at → to ≡ path → bytes_eq path at ≡ false
     → Changes (Lacks from) (moved from to) (DoneOrNot (moved from to)) result old new
     → Became (OldOrMoved at path) old.files new.files
-renamed_whole from at to path result old new from_is to_is h =
+renamed_whole from at to path result old new from_is to_is apart_is h =
+    let differ : bytes_eq to from ≡ false =
+    ap (λ p. bytes_eq p from) to_is ∙ (ap (λ q. bytes_eq path q) from_is ∙ apart_is) in
     let P : List ℕ → List ℕ → Type 0 = λ p q. Became (OldOrMoved p q) old.files new.files in
     subst (λ q. P at q) to_is
     (subst (λ p. P p to) from_is
     (became_of (Lacks from) (moved from to) (DoneOrNot (moved from to)) (OldOrMoved from to) result old new
-    (λ f. inl refl) (λ f. done_moved (file_at f from) from to f refl)
+    (λ f. inl (refl, refl)) (λ f. done_moved (file_at f from) from to f differ refl)
     (λ f g part. elim part [
-      | inl same ↦ inl (ap (λ l. file_at l to) same)
-      | inr done ↦ subst (OldOrMoved from to f) (sym done) (done_moved (file_at f from) from to f refl)
+      | inl same ↦ inl (ap (λ l. file_at l to) same, ap (λ l. file_at l from) same)
+      | inr done ↦ subst (OldOrMoved from to f) (sym done) (done_moved (file_at f from) from to f differ refl)
     ]) h))
 
 -- ---- behind steps that leave both files
@@ -51,8 +58,8 @@ behind : (from path : List ℕ) (f g h : Files) → file_at g path ≡ file_at f
     → file_at g from ≡ file_at f from → OldOrMoved from path g h → OldOrMoved from path f h
 behind from path f g h at_path at_from whole =
     elim whole [
-      | inl same ↦ inl (same ∙ at_path)
-      | inr w ↦ inr (w.0, sym at_from ∙ w.1, w.2)
+      | inl same ↦ inl (same.0 ∙ at_path, same.1 ∙ at_from)
+      | inr w ↦ inr (w.0, sym at_from ∙ w.1, w.2, w.3)
     ]
 
 pub same_then_moved : (from path : List ℕ) (one two three : Option Files) → Became SameAt one two
@@ -71,10 +78,11 @@ absent_avoids root key es absent =
 -- listed files are removed, and the key is not listed
 module _ (root key from path : List ℕ) (es : Entries) where
   pub listed_moved : (one two : Option Files) → path ≡ root ++ key → lookup (bytes_eq key) es ≡ None
-      → Became (ButListed root es) one two → Became (OldOrMoved from path) one two
-  listed_moved one two is absent others =
+      → Avoids root from es → Became (ButListed root es) one two → Became (OldOrMoved from path) one two
+  listed_moved one two is absent away others =
       let avoids = subst (λ p. Avoids root p es) (sym is) (absent_avoids root key es absent) in
-      became_map (ButListed root es) (OldOrMoved from path) one two (λ f g but. inl (but path avoids)) others
+      became_map (ButListed root es) (OldOrMoved from path) one two
+      (λ f g but. inl (but path avoids, but from away)) others
 
   pub listed_then_moved : (one two three : Option Files) → path ≡ root ++ key
       → lookup (bytes_eq key) es ≡ None → Avoids root from es → Became (ButListed root es) one two
@@ -111,7 +119,7 @@ written_whole from path bytes one two three differ others written whole =
         → OldOr path bytes f h
     by f g h but has w =
         elim w [
-          | inl same ↦ inl (same ∙ but path (apart path from differ))
+          | inl same ↦ inl (same.0 ∙ but path (apart path from differ))
           | inr m ↦ inr (m.2 ∙ (sym m.1 ∙ has))
         ]
 

@@ -2,10 +2,10 @@
 use Rattle.std.specs.Prelude.{◌≡◌, ℕ, ◌+◌, ◌-◌, ◌⊎◌, true, false, nat_lt, if◌then◌else◌, List, [], ◌∷◌, ◌++◌}
 use Rattle.std.specs.Prelude.{None, Option, Some, Result, Ok, Err}
 use Rattle.dist_types.specs.Cause.{Rose}
-use Rattle.lru_disk_cache.specs.Files.{Files, size_at, put}
-use Rattle.lru_disk_cache.specs.Held.{Held, Holds}
-use Rattle.lru_disk_cache.specs.declared.fault.FolderFault.{FolderFault}
-use Rattle.lru_disk_cache.specs.declared.fault.FolderFault.TheVariants.{Missing, Failed, Memory}
+use Rattle.folders.specs.Files.{Files, size_at, put}
+use Rattle.folders.specs.Held.{Held, Holds, Lacks}
+use Rattle.folders.specs.declared.fault.FolderFault.{FolderFault}
+use Rattle.folders.specs.declared.fault.FolderFault.TheVariants.{Missing, Failed, Memory}
 use Rattle.lru_disk_cache.specs.declared.error.Error.{Error}
 use Rattle.lru_disk_cache.specs.declared.error.Error.TheVariants.{FileTooLarge, FileNotInCache, Io}
 use Rattle.lru_disk_cache.specs.declared.error.Error.TheVariants.{PendingSpace, BadKey, NotPending}
@@ -79,11 +79,16 @@ CallFails lacking NotPending old new = ⊥
 CallFails lacking WrongDigest old new = ⊥
 CallFails lacking WriterRefused old new = ⊥
 
--- why the folder failed: the count rose, or files are not told, or the temporary file is not sure to be there
-abbrev pub EntryCause : AddEntry → Disk → FolderFault → Held → Held → Type 0
-EntryCause e d Failed old new = Rose old.faults new.faults
-EntryCause e d Missing old new = (old.files ≡ None) ⊎ (is_sure e d.pending ≡ false)
-EntryCause e d Memory old new = ⊥
+-- the temporary file of an entry was not sure to be there, and is not, which leaves all
+abbrev pub TempMissing : AddEntry → Disk → Disk → Held → Held → Type 0
+TempMissing entry d e old new = (e ≡ d) × (new ≡ old) × (is_sure entry d.pending ≡ false)
+    × Holds old (Lacks (entry_path d entry))
+
+-- why the folder failed: the count rose, or files are not told, or the temporary file is missing
+abbrev pub EntryCause : AddEntry → Disk → Disk → FolderFault → Held → Held → Type 0
+EntryCause entry d e Failed old new = Rose old.faults new.faults
+EntryCause entry d e Missing old new = (old.files ≡ None) ⊎ TempMissing entry d e old new
+EntryCause entry d e Memory old new = ⊥
 
 -- an entry that is not pending leaves all as it was
 abbrev pub RefusesEntry : AddEntry → Disk → Disk → Held → Held → Type 0
@@ -92,7 +97,7 @@ RefusesEntry entry d e old new = (e ≡ d) × (new ≡ old) × (is_pending entry
 -- Why writing failed. The folder is asked, and memory taken, only where the entry is pending.
 abbrev pub WriteFails : AddEntry → Error → Disk → Disk → Held → Held → Type 0
 WriteFails entry NotPending d e old new = RefusesEntry entry d e old new
-WriteFails entry (Io fault) d e old new = EntryCause entry d fault old new
+WriteFails entry (Io fault) d e old new = EntryCause entry d e fault old new
     × (is_pending entry d.pending ≡ true)
 WriteFails entry NoMemory d e old new = is_pending entry d.pending ≡ true
 WriteFails entry BadKey d e old new = ⊥
@@ -152,7 +157,7 @@ abbrev pub CommitFails : AddEntry → Error → Disk → Disk → Held → Held 
 CommitFails entry NotPending d e old new = RefusesEntry entry d e old new
 CommitFails entry FileTooLarge d e old new = RefusesCommit entry FileTooLarge d e old new
 CommitFails entry PendingSpace d e old new = RefusesCommit entry PendingSpace d e old new
-CommitFails entry (Io fault) d e old new = CommitBroke entry d e old × EntryCause entry d fault old new
+CommitFails entry (Io fault) d e old new = CommitBroke entry d e old × EntryCause entry d e fault old new
     × (is_pending entry d.pending ≡ true)
 CommitFails entry NoMemory d e old new = CommitBroke entry d e old × (is_pending entry d.pending ≡ true)
 CommitFails entry BadKey d e old new = ⊥

@@ -1,14 +1,11 @@
 -- What stands on a disk behind its list, and what each step leaves.
-use Rattle.std.specs.Prelude.{◌≡◌, ℕ, ◌<◌, ◌≤◌, ◌^◌, nat_le, if◌then◌else◌, false, true, List, [], ◌∷◌, ◌++◌}
-use Rattle.std.specs.Prelude.{◌⊎◌, Some, None, Result, Ok, Err}
+use Rattle.std.specs.Prelude.{◌≡◌, ℕ, ◌<◌, ◌^◌, nat_le, if◌then◌else◌, false, true, List, [], ◌∷◌, ◌++◌}
+use Rattle.std.specs.Prelude.{◌⊎◌, Some}
 use Rattle.std.specs.List.{AllByRecursion}
 use Rattle.std.specs.Map.{remove_entry}
 use Rattle.std.specs.Str.{bytes_eq}
-use Rattle.dist_types.specs.Cause.{Rose}
-use Rattle.lru_disk_cache.specs.Files.{Files, file_at, size_at, front, put, without, moved}
-use Rattle.lru_disk_cache.specs.Held.{Held, Holds, Became}
-use Rattle.lru_disk_cache.specs.declared.fault.FolderFault.{FolderFault}
-use Rattle.lru_disk_cache.specs.declared.fault.FolderFault.TheVariants.{Missing, Failed, Memory}
+use Rattle.folders.specs.Files.{Files, file_at, size_at, put, without, moved}
+use Rattle.folders.specs.Held.{Held, Holds, Became}
 use Rattle.lru_disk_cache.specs.Key.{is_key, temp_name}
 use Rattle.lru_disk_cache.specs.Entries.{Entries, Listed, total, trim, IsEnd}
 
@@ -25,22 +22,6 @@ pub record Stands (root : List ℕ) (held : Held) (entries : Entries) : Type 0 w
   pub keys : AllKeys entries
   pub backed : Holds held (λ files. Backed root files entries)
 
--- the file at each path is as it was
-abbrev pub SameAt : Files → Files → Type 0
-SameAt old new = (q : List ℕ) → file_at new q ≡ file_at old q
-
--- each file that is left is as it was
-abbrev pub OnlyRemoved : Files → Files → Type 0
-OnlyRemoved old new = (q bytes : List ℕ) → file_at new q ≡ Some bytes → file_at old q ≡ Some bytes
-
--- the file at each path but this one is as it was
-abbrev pub ButAt : List ℕ → Files → Files → Type 0
-ButAt path old new = (q : List ℕ) → bytes_eq path q ≡ false → file_at new q ≡ file_at old q
-
--- the file at this path is removed or as it was, and each other is as it was
-abbrev pub RemovedAt : List ℕ → Files → Files → Type 0
-RemovedAt path old new = OnlyRemoved old new × ButAt path old new
-
 -- no entry has its file at this path
 abbrev pub Avoids : List ℕ → List ℕ → Entries → Type 0
 Avoids root path entries = AllByRecursion (λ e. bytes_eq (root ++ e.0) path ≡ false) entries
@@ -48,28 +29,6 @@ Avoids root path entries = AllByRecursion (λ e. bytes_eq (root ++ e.0) path ≡
 -- the file at each path that is no entry's is as it was
 abbrev pub ButListed : List ℕ → Entries → Files → Files → Type 0
 ButListed root entries old new = (q : List ℕ) → Avoids root q entries → file_at new q ≡ file_at old q
-
--- a file at this path does not lie below that directory
-abbrev pub IsOutside : List ℕ → List ℕ → Type 0
-IsOutside path q = (k : List ℕ) → bytes_eq (front path ++ k) q ≡ false
-
--- the file at each path below the root is as it was
-abbrev pub SameBelow : List ℕ → Files → Files → Type 0
-SameBelow root old new = (k : List ℕ) → file_at new (root ++ k) ≡ file_at old (root ++ k)
-
--- the file at each path outside the root is as it was
-abbrev pub ButUnder : List ℕ → Files → Files → Type 0
-ButUnder root old new = (q : List ℕ) → ((k : List ℕ) → bytes_eq (root ++ k) q ≡ false)
-    → file_at new q ≡ file_at old q
-
--- files below the root are removed or as they were, and each other is as it was
-abbrev pub RemovedUnder : List ℕ → Files → Files → Type 0
-RemovedUnder root old new = OnlyRemoved old new × ButUnder root old new
-
--- the file at each path outside the root but one is as it was
-abbrev pub ButUnderAnd : List ℕ → List ℕ → Files → Files → Type 0
-ButUnderAnd root from old new = (q : List ℕ) → ((k : List ℕ) → bytes_eq (root ++ k) q ≡ false)
-    → bytes_eq from q ≡ false → file_at new q ≡ file_at old q
 
 -- the file at each path but these two, and that is no entry's, is as it was
 abbrev pub ButThese : List ℕ → List ℕ → List ℕ → Entries → Files → Files → Type 0
@@ -85,14 +44,6 @@ abbrev pub Keeps : List ℕ → Entries → Files → Files → Type 0
 Keeps root entries old new = AllByRecursion (λ e. file_at new (root ++ e.0) ≡ file_at old (root ++ e.0))
     entries
 
--- the file at each such path is removed or as it was
-abbrev pub RemovedOrSame : (List ℕ → Type 0) → Files → Files → Type 0
-RemovedOrSame P old new = (q bytes : List ℕ) → P q → file_at new q ≡ Some bytes → file_at old q ≡ Some bytes
-
--- it is neither of these two paths
-abbrev pub IsNeither : List ℕ → List ℕ → List ℕ → Type 0
-IsNeither from path q = (bytes_eq from q ≡ false) × (bytes_eq path q ≡ false)
-
 -- it is no path of a temporary file under a root
 abbrev pub IsNoTemp : List ℕ → List ℕ → Type 0
 IsNoTemp root q = ¬ (IsTemp root q)
@@ -100,18 +51,6 @@ IsNoTemp root q = ¬ (IsTemp root q)
 -- it is no path of a temporary file under a root, and not this one
 abbrev pub IsBeside : List ℕ → List ℕ → List ℕ → Type 0
 IsBeside root path q = IsNoTemp root q × (bytes_eq path q ≡ false)
-
--- Why a step failed: Failed only where the count rose, and Missing only where files are not told. The count
--- never falls, and want of memory leaves it.
-abbrev pub Caused : FolderFault → Held → Held → Type 0
-Caused Failed old new = Rose old.faults new.faults × (old.faults ≤ new.faults)
-Caused Missing old new = (old.files ≡ None) × (old.faults ≤ new.faults)
-Caused Memory old new = new.faults ≡ old.faults
-
--- a step that succeeds has no fault, and one that fails has its cause
-abbrev pub Counts : {T : Type 0} → Result T FolderFault → Held → Held → Type 0
-Counts (Ok x) old new = new.faults ≡ old.faults
-Counts (Err e) old new = Caused e old new
 
 -- Entries went from the front, and only where those left were past the limit. What is left stands, and no
 -- other file changed.

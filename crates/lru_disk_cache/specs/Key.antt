@@ -1,13 +1,8 @@
 -- Which texts are keys.
 use Rattle.std.specs.Prelude.{ℕ, Bool, not, ◌&&◌, ◌==◌, List, [], ◌∷◌, ◌++◌, codes, nat_eq}
 use Rattle.std.specs.Fmt.{decimal}
-use Rattle.std.specs.List.{list_all, list_any, slice_split, starts_with}
-use Rattle.std.specs.Str.{bytes_eq}
-
--- a part of a key: not empty, not `.` or `..`, and without a NUL byte
-unfoldable pub is_plain : List ℕ → Bool
-is_plain part = not (bytes_eq part []) && not (bytes_eq part (codes ".")) && not (bytes_eq part (codes ".."))
-    && not (list_any (λ b. b == 0) part)
+use Rattle.std.specs.List.{list_all, slice_split, starts_with}
+use Rattle.folders.specs.Plain.{is_plain}
 
 -- the last of some parts, which stand behind another
 abbrev pub last_behind : List ℕ → List (List ℕ) → List ℕ

@@ -3,10 +3,10 @@ use Rattle.std.specs.Prelude.{◌≡◌, ℕ, ◌⊎◌, true, false, List, [], 
 use Rattle.std.specs.Borrow.{MutBor}
 use Rattle.std.specs.Fn.{Once, FnOnceReturnsAtMut}
 use Rattle.dist_types.specs.Cause.{Rose}
-use Rattle.lru_disk_cache.specs.Files.{size_at}
-use Rattle.lru_disk_cache.specs.Held.{Held, Holds, Lacks}
-use Rattle.lru_disk_cache.specs.declared.fault.FolderFault.{FolderFault}
-use Rattle.lru_disk_cache.specs.declared.fault.FolderFault.TheVariants.{Missing, Failed, Memory}
+use Rattle.folders.specs.Files.{size_at}
+use Rattle.folders.specs.Held.{Held, Holds, Lacks}
+use Rattle.folders.specs.declared.fault.FolderFault.{FolderFault}
+use Rattle.folders.specs.declared.fault.FolderFault.TheVariants.{Missing, Failed, Memory}
 use Rattle.lru_disk_cache.specs.declared.error.Error.{Error}
 use Rattle.lru_disk_cache.specs.declared.error.Error.TheVariants.{FileTooLarge, FileNotInCache, Io}
 use Rattle.lru_disk_cache.specs.declared.error.Error.TheVariants.{PendingSpace, BadKey, NotPending}
@@ -16,8 +16,6 @@ use Rattle.lru_disk_cache.specs.declared.error.WriteFault.{WriteFault}
 use Rattle.lru_disk_cache.specs.declared.error.WriteFault.TheVariants.{Refused}
 use Rattle.lru_disk_cache.specs.Key.{is_key}
 use Rattle.lru_disk_cache.specs.Store.{Disk, LeftBy, room_beside, insert_verdict, InsertFails}
-use Rattle.lru_disk_cache.specs.Archives.{Archives}
-use Rattle.lru_disk_cache.specs.Archiving.{StoreFails}
 
 -- ---- a file of the folder
 
@@ -101,21 +99,3 @@ WithFails wrote key NoMemory d e old new =
 WithFails wrote key FileNotInCache d e old new = ⊥
 WithFails wrote key NotPending d e old new = ⊥
 WithFails wrote key WrongDigest d e old new = ⊥
-
--- the same of an archive
-abbrev pub StoreWithFails : (Result (Unit {0}) WriteFault → List ℕ → Type 0) → ℕ → List ℕ → Error → Archives
-    → Archives → Held → Held → Type 0
-StoreWithFails wrote capacity id WriterRefused a b old new = (b ≡ a) × (new ≡ old)
-    × ((bytes : List ℕ) × wrote (Err Refused) bytes)
-StoreWithFails wrote capacity id WrongDigest a b old new =
-    OfBytes wrote (λ bytes. StoreFails capacity id bytes WrongDigest a b old new)
-StoreWithFails wrote capacity id FileTooLarge a b old new =
-    OfBytes wrote (λ bytes. StoreFails capacity id bytes FileTooLarge a b old new)
-StoreWithFails wrote capacity id (Io fault) a b old new =
-    OfBytes wrote (λ bytes. StoreFails capacity id bytes (Io fault) a b old new)
-StoreWithFails wrote capacity id NoMemory a b old new =
-    ((b ≡ a) × (new ≡ old)) ⊎ OfBytes wrote (λ bytes. StoreFails capacity id bytes NoMemory a b old new)
-StoreWithFails wrote capacity id BadKey a b old new = ⊥
-StoreWithFails wrote capacity id PendingSpace a b old new = ⊥
-StoreWithFails wrote capacity id FileNotInCache a b old new = ⊥
-StoreWithFails wrote capacity id NotPending a b old new = ⊥

@@ -1,12 +1,12 @@
 -- What an opening lists.
-use Rattle.std.specs.Prelude.{◌≡◌, ℕ, ◌≤◌, Bool, ◌&&◌, nat_le, nat_eq, List, [], ◌∷◌, filter, drop, length}
-use Rattle.std.specs.Prelude.{Option, Some, None, if◌then◌else◌}
-use Rattle.std.specs.List.{IsDistinct, starts_with}
+use Rattle.std.specs.Prelude.{◌≡◌, ℕ, ◌≤◌, Bool, ◌&&◌, nat_le, nat_eq, List, [], ◌∷◌, ◌++◌, filter, drop}
+use Rattle.std.specs.Prelude.{true, length, Option, Some, None, if◌then◌else◌}
+use Rattle.std.specs.List.{AllByRecursion, IsDistinct, starts_with}
 use Rattle.std.specs.Map.{keys_of}
 use Rattle.std.specs.Str.{bytes_eq}
-use Rattle.lru_disk_cache.specs.Held.{Held, Holds}
-use Rattle.lru_disk_cache.specs.Files.{Files, found_behind}
-use Rattle.lru_disk_cache.specs.declared.folder.Found.{Found}
+use Rattle.folders.specs.Held.{Held, Holds}
+use Rattle.folders.specs.Files.{Files, file_at, found_behind}
+use Rattle.folders.specs.declared.folder.Found.{Found}
 use Rattle.lru_disk_cache.specs.Key.{is_key}
 use Rattle.lru_disk_cache.specs.Entries.{Entries, total, trim}
 
@@ -44,6 +44,16 @@ kept root capacity found = filter (is_kept capacity) (keyed root found)
 -- end that fits.
 abbrev pub opened : List ℕ → ℕ → Files → Entries
 opened root capacity files = trim capacity (kept root capacity (found_behind root files))
+
+-- each file that is kept is as it was
+abbrev pub KeepsKept : List ℕ → ℕ → Files → Files → Type 0
+KeepsKept root capacity old new = (k bytes : List ℕ) → is_kept capacity (k, length bytes) ≡ true
+    → file_at old (root ++ k) ≡ Some bytes → file_at new (root ++ k) ≡ Some bytes
+
+-- the file of each key that an opening lists of the old files is as it was
+abbrev pub KeepsOpened : List ℕ → ℕ → Files → Files → Type 0
+KeepsOpened root capacity old new =
+    AllByRecursion (λ e. file_at new (root ++ e.0) ≡ file_at old (root ++ e.0)) (opened root capacity old)
 
 -- The files under the root are those of the list, in its order, but for such as are no key's.
 abbrev pub InStep : List ℕ → Files → Entries → Type 0

@@ -1,8 +1,8 @@
 -- Folders that never fail.
-use Rattle.lru_disk_cache.specs.InMemory.{reliable_held}
+use Rattle.folders.specs.InMemory.{reliable_held}
 use Rattle.lru_disk_cache.specs.Store.{IoCause}
-use Rattle.lru_disk_cache.specs.declared.fault.FolderFault.{FolderFault}
-use Rattle.lru_disk_cache.specs.declared.reliable_folder.ReliableFolder.{ReliableFolder}
+use Rattle.folders.specs.declared.fault.FolderFault.{FolderFault}
+use Rattle.folders.specs.declared.reliable_folder.ReliableFolder.{ReliableFolder}
 
 -- no fault of a call has a cause over such a folder
 abbrev pub NeverFails : Type 0

@@ -3,8 +3,8 @@ use Rattle.std.specs.Prelude.{◌≡◌, ℕ, ◌+◌, ◌<◌, ◌^◌, Bool, t
 use Rattle.std.specs.Prelude.{[], ◌∷◌, ◌++◌, Option, Some, None, filter, map, sum_by}
 use Rattle.std.specs.List.{list_any, AllByRecursion}
 use Rattle.std.specs.Str.{bytes_eq}
-use Rattle.lru_disk_cache.specs.Files.{Files, file_at}
-use Rattle.lru_disk_cache.specs.Held.{Lacks}
+use Rattle.folders.specs.Files.{Files, file_at}
+use Rattle.folders.specs.Held.{Lacks}
 use Rattle.lru_disk_cache.specs.Key.{is_key, temp_name}
 
 -- What a cache keeps of an entry that is being added: a number, a key, the size announced, the path of its

@@ -4,10 +4,10 @@ use Rattle.std.specs.Prelude.{Ok, Err, IsSome}
 use Rattle.std.specs.Map.{lookup}
 use Rattle.std.specs.Str.{bytes_eq}
 use Rattle.dist_types.specs.Cause.{Rose}
-use Rattle.lru_disk_cache.specs.Files.{Files, front}
-use Rattle.lru_disk_cache.specs.Held.{Held, Holds}
-use Rattle.lru_disk_cache.specs.declared.fault.FolderFault.{FolderFault}
-use Rattle.lru_disk_cache.specs.declared.fault.FolderFault.TheVariants.{Missing, Failed, Memory}
+use Rattle.folders.specs.Files.{Files, front}
+use Rattle.folders.specs.Held.{Held, Holds}
+use Rattle.folders.specs.declared.fault.FolderFault.{FolderFault}
+use Rattle.folders.specs.declared.fault.FolderFault.TheVariants.{Missing, Failed, Memory}
 use Rattle.lru_disk_cache.specs.declared.error.Error.{Error}
 use Rattle.lru_disk_cache.specs.declared.error.Error.TheVariants.{FileTooLarge, FileNotInCache, Io}
 use Rattle.lru_disk_cache.specs.declared.error.Error.TheVariants.{PendingSpace, BadKey, NotPending}
@@ -137,12 +137,14 @@ InsertFails key size NotPending d e old new = ⊥
 InsertFails key size WrongDigest d e old new = ⊥
 InsertFails key size WriterRefused d e old new = ⊥
 
--- Why a look-up failed, and what it leaves. The folder is asked only where the key is listed.
+-- Why a look-up failed, and what it leaves. The folder is asked, and memory taken, only where the key is
+-- listed.
 abbrev pub LookUpFails : List ℕ → Error → Disk → Disk → Held → Held → Type 0
 LookUpFails key FileNotInCache d e old new = (e ≡ d) × (new ≡ old) × (lookup (bytes_eq key) d.entries ≡ None)
 LookUpFails key (Io fault) d e old new = (e ≡ looked_up d key) × IoCause fault old new
     × IsSome (lookup (bytes_eq key) d.entries)
-LookUpFails key NoMemory d e old new = (e ≡ d) ⊎ (e ≡ looked_up d key)
+LookUpFails key NoMemory d e old new = ((e ≡ d) ⊎ (e ≡ looked_up d key))
+    × IsSome (lookup (bytes_eq key) d.entries)
 LookUpFails key BadKey d e old new = ⊥
 LookUpFails key FileTooLarge d e old new = ⊥
 LookUpFails key PendingSpace d e old new = ⊥
@@ -150,11 +152,13 @@ LookUpFails key NotPending d e old new = ⊥
 LookUpFails key WrongDigest d e old new = ⊥
 LookUpFails key WriterRefused d e old new = ⊥
 
--- Why a removal failed, and what it leaves. The folder is asked only where the key is listed.
+-- Why a removal failed, and what it leaves. The folder is asked, and memory taken, only where the key is
+-- listed.
 abbrev pub RemoveFails : List ℕ → Error → Disk → Disk → Held → Held → Type 0
 RemoveFails key (Io fault) d e old new = (e ≡ removed d key) × IoCause fault old new
     × IsSome (lookup (bytes_eq key) d.entries)
-RemoveFails key NoMemory d e old new = (e ≡ d) ⊎ (e ≡ removed d key)
+RemoveFails key NoMemory d e old new = ((e ≡ d) ⊎ (e ≡ removed d key))
+    × IsSome (lookup (bytes_eq key) d.entries)
 RemoveFails key FileNotInCache d e old new = ⊥
 RemoveFails key BadKey d e old new = ⊥
 RemoveFails key FileTooLarge d e old new = ⊥

@@ -1,14 +1,16 @@
 //! Reservations: entries that are announced, written and then committed or abandoned.
 ghost use Rattle.std.specs.Prelude.{◌≡◌, ◌+◌, ◌++◌, ◌≤◌, ◌⊎◌, [], true, Some, Ok, Err, IfOk, IfErr, OnOk};
 ghost use Rattle.std.specs.Prelude.{OnErr};
-ghost use Rattle.lru_disk_cache.specs.Files.{file_at, without, appended, PartAppended};
-ghost use Rattle.lru_disk_cache.specs.Held.{Holds, Became, BecameBy, Lacks};
+ghost use Rattle.folders.specs.Files.{file_at, without, appended, PartAppended};
+ghost use Rattle.folders.specs.Held.{Holds, Became, BecameBy, Lacks};
 ghost use Rattle.lru_disk_cache.specs.Key.{is_key};
-ghost use Rattle.lru_disk_cache.specs.Disk.{RemovedOrSame, IsNeither, IsNoTemp};
-ghost use Rattle.lru_disk_cache.specs.Disk.{ButAt, ButUnder, Keeps, dropped, files_placed, without_key};
+ghost use Rattle.folders.specs.Changed.{RemovedOrSame, IsNeither, OnlyRemoved};
+ghost use Rattle.lru_disk_cache.specs.Disk.{IsNoTemp};
+ghost use Rattle.folders.specs.Changed.{ButAt, ButUnder};
+ghost use Rattle.lru_disk_cache.specs.Disk.{Keeps, dropped, files_placed, without_key};
 ghost use Rattle.lru_disk_cache.specs.Reserved.{held_size, is_pending, without_number, IsLeastFree};
 ghost use Rattle.lru_disk_cache.specs.Reserved.{KeepsReserved};
-ghost use Rattle.lru_disk_cache.specs.Whole.{OldOrMoved};
+ghost use Rattle.folders.specs.Whole.{OldOrMoved};
 ghost use Rattle.lru_disk_cache.specs.Adding.{entry_path, prepared, files_prepared, held_beside, room_for};
 ghost use Rattle.lru_disk_cache.specs.Adding.{commit_verdict, committed, abandoned, abandon_answer, HasSize};
 ghost use Rattle.lru_disk_cache.specs.Adding.{PrepareFails, WriteFails, CommitFails, AbandonFails};
@@ -16,10 +18,10 @@ ghost use Rattle.lru_disk_cache.specs.Adding.{PrepareFails, WriteFails, CommitFa
 use crate::cache::{LruDiskCache, arrival_of};
 use crate::entry::LruDiskCacheAddEntry;
 use crate::error::{Error, Result, io};
-use crate::fault::FolderFault;
-use crate::folder::Folder;
 use crate::storing::{add_to, announce, fill, measure, remove_at};
 use dist_types::text::Text;
+use folders::fault::FolderFault;
+use folders::folder::Folder;
 
 impl<F: Folder> LruDiskCache<F> {
     ghost use Rattle.lru_disk_cache.specs.Store.{IsStore, DiskInStep, room_beside, insert_verdict, Uncounted};
@@ -195,6 +197,7 @@ impl<F: Folder> LruDiskCache<F> {
         ensures fails { IfErr result
             (λ e. AbandonFails entry e.0 e.1 self.old.disk self.new.disk (F.held self.old.folder)
             (F.held self.new.folder)) }
+        ensures removed { Became OnlyRemoved (F.held self.old.folder).files (F.held self.new.folder).files }
         ensures others { Became (ButAt (entry_path self.old.disk entry)) (F.held self.old.folder).files
             (F.held self.new.folder).files }
         ensures kept { Became (Keeps self.old.disk.root self.old.disk.entries) (F.held self.old.folder).files

@@ -1,21 +1,21 @@
 //! Files that are kept beside a cache, in its folder.
 ghost use Rattle.std.specs.Prelude.{◌≡◌, ◌≤◌, Some, IfOk, IfErr, OnOk};
 ghost use Rattle.lru_disk_cache.specs.Adding.{CallFails};
-ghost use Rattle.lru_disk_cache.specs.Files.{file_at, size_at, put, moved, PartWritten, DoneOrNot, Same};
-ghost use Rattle.lru_disk_cache.specs.Held.{Holds, Lacks, Never, Changes};
-ghost use Rattle.lru_disk_cache.specs.Disk.{IsOutside};
+ghost use Rattle.folders.specs.Files.{file_at, size_at, put, moved, PartWritten, DoneOrNot, Same};
+ghost use Rattle.folders.specs.Held.{Holds, Lacks, Never, Changes};
+ghost use Rattle.folders.specs.Changed.{IsOutside};
 
 use crate::cache::LruDiskCache;
 use crate::error;
-use crate::fault::FolderFault;
-use crate::folder::Folder;
 use crate::storing::measure;
+use folders::fault::FolderFault;
+use folders::folder::Folder;
 
 impl<F: Folder> LruDiskCache<F> {
     ghost use Rattle.lru_disk_cache.specs.Store.{IsStore, Uncounted};
 
     /// The content of a file of the folder. The cache stays as it is.
-    pub(crate) fn read_aside(&mut self, path: &str) -> Result<Vec<u8>, FolderFault>
+    pub fn read_aside(&mut self, path: &str) -> Result<Vec<u8>, FolderFault>
         ensures content { IfOk result
             (λ v. Holds (F.held self.old.folder) (λ files. file_at files path.now ≡ Some v.items)) }
         ensures leaves { Changes (Lacks path.now) (λ files. files) Same result (F.held self.old.folder)
@@ -44,7 +44,7 @@ impl<F: Folder> LruDiskCache<F> {
     }
 
     /// Writes a file of the folder that does not lie below the path of the cache, which stays as it is.
-    pub(crate) fn write_aside(&mut self, path: &str, bytes: &[u8]) -> Result<(), FolderFault>
+    pub fn write_aside(&mut self, path: &str, bytes: &[u8]) -> Result<(), FolderFault>
         requires { IsOutside self.old.disk.path path.now }
         ensures writes { Changes Never (put path.now bytes.now) (PartWritten path.now bytes.now) result
             (F.held self.old.folder) (F.held self.new.folder) }
@@ -56,7 +56,7 @@ impl<F: Folder> LruDiskCache<F> {
 
     /// Renames a file of the folder, from and to paths that do not lie below that of the cache, which stays
     /// as it is.
-    pub(crate) fn rename_aside(&mut self, from: &str, to: &str) -> Result<(), FolderFault>
+    pub fn rename_aside(&mut self, from: &str, to: &str) -> Result<(), FolderFault>
         requires from { IsOutside self.old.disk.path from.now }
         requires to { IsOutside self.old.disk.path to.now }
         ensures renames { Changes (Lacks from.now) (moved from.now to.now) (DoneOrNot (moved from.now to.now))

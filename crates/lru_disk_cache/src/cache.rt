@@ -5,27 +5,30 @@ ghost use Rattle.std.specs.Map.Iter.{ShowsInOrder, deref_pair};
 ghost use Rattle.std.specs.List.{IsDistinct};
 ghost use Rattle.std.specs.Map.{keys_of, lookup};
 ghost use Rattle.std.specs.Str.{bytes_eq};
-ghost use Rattle.lru_disk_cache.specs.Files.{file_at, front, touched, without};
-ghost use Rattle.lru_disk_cache.specs.Held.{Holds, Became, BecameBy, Lacks};
+ghost use Rattle.folders.specs.Files.{file_at, front, touched, without};
+ghost use Rattle.folders.specs.Held.{Holds, Became, BecameBy, Lacks};
 ghost use Rattle.lru_disk_cache.specs.Key.{is_key, temp_name};
 ghost use Rattle.lru_disk_cache.specs.Entries.{total, IsTable};
-ghost use Rattle.lru_disk_cache.specs.Opened.{InStep, Shows};
-ghost use Rattle.lru_disk_cache.specs.Disk.{RemovedOrSame, IsBeside};
-ghost use Rattle.lru_disk_cache.specs.Disk.{Stands, ButAt, ButUnder, IsTemp, Keeps, SameAt, staying, dropped};
-ghost use Rattle.lru_disk_cache.specs.Disk.{files_stored, without_key, OnlyRemoved, RemovedUnder};
+ghost use Rattle.lru_disk_cache.specs.Opened.{InStep, Shows, KeepsOpened};
+ghost use Rattle.folders.specs.Changed.{RemovedOrSame};
+ghost use Rattle.lru_disk_cache.specs.Disk.{IsBeside};
+ghost use Rattle.lru_disk_cache.specs.Disk.{Stands, IsTemp, Keeps, staying, dropped};
+ghost use Rattle.folders.specs.Changed.{ButAt, ButUnder, SameAt};
+ghost use Rattle.lru_disk_cache.specs.Disk.{files_stored, without_key};
+ghost use Rattle.folders.specs.Changed.{OnlyRemoved, RemovedUnder};
 ghost use Rattle.lru_disk_cache.specs.Reserved.{held_size, KeepsReserved};
-ghost use Rattle.lru_disk_cache.specs.Whole.{OldOr};
+ghost use Rattle.folders.specs.Whole.{OldOr};
 
 use crate::error::{Error, Result, io};
-use crate::fault::FolderFault;
-use crate::folder::Folder;
 use crate::key::{is_key, path_of, temp_path};
 use crate::opening::open;
 use crate::reservations::Reservations;
-use crate::rows::front_of;
 use crate::storing::{Arrival, fetch, remove_file, store};
 use crate::table::Table;
 use dist_types::text::Text;
+use folders::fault::FolderFault;
+use folders::folder::Folder;
+use folders::paths::front_of;
 use lru_metered::Iter;
 use std::alloc::{AllocError, Global};
 use std::marker::Model;
@@ -75,7 +78,8 @@ impl<F: Folder> LruDiskCache<F> {
 
     /// Opens a cache of `size` bytes of the files below a path. Those are removed that are no key's or larger
     /// than that, and the least recent where the others exceed it. Where that fails, as `Error::Io` or for
-    /// want of memory, the folder is handed back, of which no more than files below the path are removed.
+    /// want of memory, the folder is handed back, of which no more than files below the path are removed, and
+    /// none that the same opening without a fault would list.
     pub fn new(
         alloc: Global,
         mut folder: F,
@@ -99,6 +103,8 @@ impl<F: Folder> LruDiskCache<F> {
         ensures later { IfErr result (λ e. (F.held folder).faults ≤ (F.held e.1).faults) }
         ensures fails { IfErr result (λ e. OpenFails e.0 (F.held folder) (F.held e.1)) }
         ensures left { IfErr result (λ e. Became (RemovedUnder (front path.now)) (F.held folder).files
+            (F.held e.1).files) }
+        ensures spared { IfErr result (λ e. Became (KeepsOpened (front path.now) size) (F.held folder).files
             (F.held e.1).files) }
     {
         let Ok((path, root)) = place_of(alloc, path) else {
@@ -266,7 +272,7 @@ impl<F: Folder> LruDiskCache<F> {
     ///
     /// Refused as `Error::FileNotInCache` exactly where the key is not listed, which leaves all as it was;
     /// as `Error::Io`, only where it is, which leaves it listed and most recent; and for want of memory,
-    /// which leaves the list as it was, or the key most recent.
+    /// only where it is, which leaves the list as it was, or the key most recent.
     pub fn get_file(&mut self, key: &str) -> Result<Vec<u8>>
         ensures ok { OnOk result (self.new.disk ≡ looked_up self.old.disk key.now) }
         ensures found { OnOk result (IsSome (lookup (bytes_eq key.now) self.old.disk.entries)) }
@@ -290,14 +296,14 @@ impl<F: Folder> LruDiskCache<F> {
     {
         self.shown();
         let Ok(key) = Text::of(self.alloc, key) else {
-            return Err(Error::Memory);
-        };
-        let Ok(path) = path_of(&self.root, &key) else {
-            return Err(Error::Memory);
+            return Err(self.unless_listed(key));
         };
         if !self.table.contains(&key) {
             return Err(Error::FileNotInCache);
         }
+        let Ok(path) = path_of(&self.root, &key) else {
+            return Err(Error::Memory);
+        };
         self.table.promote(&key);
         match fetch(&mut self.folder, &path) {
             Ok(bytes) => Ok(bytes),
@@ -308,8 +314,8 @@ impl<F: Folder> LruDiskCache<F> {
     /// Takes a key out and removes its file. It answers Ok where the key is not listed.
     ///
     /// Refused as `Error::Io`, only where the key is listed, which leaves it out, and for want of memory,
-    /// which leaves the list as it was, or the key out.
-    #[tactic(auto, using(crate::proofs::Exactly::none_removed))]
+    /// only where it is, which leaves the list as it was, or the key out.
+    #[tactic(auto, using(folders::proofs::Exactly::none_removed))]
     pub fn remove(&mut self, key: &str) -> Result<()>
         ensures ok { OnOk result (self.new.disk ≡ removed self.old.disk key.now) }
         ensures gone { OnOk result (IsSome (lookup (bytes_eq key.now) self.old.disk.entries)
@@ -339,6 +345,9 @@ impl<F: Folder> LruDiskCache<F> {
     {
         self.shown();
         let Ok(key) = Text::of(self.alloc, key) else {
+            if !self.table.has(key) {
+                return Ok(());
+            }
             return Err(Error::Memory);
         };
         if !self.table.contains(&key) {
@@ -348,6 +357,18 @@ impl<F: Folder> LruDiskCache<F> {
         match remove_file(&mut self.folder, &self.root, &key) {
             Ok(()) => Ok(()),
             Err(fault) => Err(io(fault)),
+        }
+    }
+
+    // Why a look-up of a key fails that there is no memory to copy: it is listed, or not. It takes no memory.
+    fn unless_listed(&self, key: &str) -> Error
+        ensures { LookUpFails key.now result self.now.disk self.now.disk (F.held self.now.folder)
+            (F.held self.now.folder) }
+    {
+        if self.table.has(key) {
+            Error::Memory
+        } else {
+            Error::FileNotInCache
         }
     }
 
@@ -397,7 +418,7 @@ impl<F: Folder> LruDiskCache<F> {
 }
 
 /// A path, and what the path of each file below it begins with.
-pub(crate) fn place_of(alloc: Global, path: &str) -> std::result::Result<(Text, Text), AllocError>
+pub fn place_of(alloc: Global, path: &str) -> std::result::Result<(Text, Text), AllocError>
     ensures { IfOk result (λ p. (p.0 ≡ path.now) × (p.1 ≡ front path.now)) }
 {
     let root = front_of(alloc, path)?;

@@ -2,7 +2,7 @@
 ghost use Rattle.std.specs.Prelude.{◌≡◌};
 ghost use Rattle.lru_disk_cache.specs.Store.{error_of};
 
-use crate::fault::FolderFault;
+use folders::fault::FolderFault;
 use thiserror::Error as ThisError;
 
 /// Why a call of a disk cache failed.
@@ -60,7 +60,7 @@ impl From<FolderFault> for Error {
 }
 
 /// A fault of the folder, as the cache tells it.
-pub(crate) fn io(fault: FolderFault) -> Error
+pub fn io(fault: FolderFault) -> Error
     ensures { result ≡ error_of fault }
 {
     match fault {

@@ -1,18 +1,10 @@
 //! Keys, and the files that they name.
 ghost use Rattle.std.specs.Prelude.{◌≡◌, ◌++◌, IfOk, codes};
-ghost use Rattle.lru_disk_cache.specs.Key.{is_key, is_plain, is_temporary, temp_name};
+ghost use Rattle.lru_disk_cache.specs.Key.{is_key, is_temporary, temp_name};
 
-use crate::rows::joined;
 use dist_types::text::Text;
+use folders::paths::{is_plain, joined};
 use std::alloc::{AllocError, Global};
-
-/// Whether a text is not empty, not `.` or `..`, and has no NUL byte.
-#[tactic(auto, unfolding(crate::specs::Key::is_plain))]
-pub(crate) fn is_plain(part: &str) -> bool
-    ensures { result ≡ is_plain part.now }
-{
-    part != "" && part != "." && part != ".." && !part.as_bytes().contains(&0)
-}
 
 /// Whether a text may be a key: a relative path of parts joined by `/`, none of which is empty, `.` or
 /// `..` or has a NUL byte, and the last of which does not begin with `.sccachetmp`. It takes no memory.

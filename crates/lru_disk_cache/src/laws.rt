@@ -1,5 +1,4 @@
 //! Laws of disk caches. The functions do nothing.
-ghost use Rattle.lru_disk_cache.specs.Archiving.{ArchivesReopen};
 ghost use Rattle.lru_disk_cache.specs.Opened.{Reopens};
 ghost use Rattle.lru_disk_cache.specs.Reliable.{NeverFails};
 ghost use Rattle.lru_disk_cache.specs.Reserved.{GivesBack};
@@ -7,11 +6,6 @@ ghost use Rattle.lru_disk_cache.specs.Reserved.{GivesBack};
 /// A list that is in step with the files of its folder, and that fits, is what an opening lists.
 pub fn reopening_gives_the_list()
     ensures { Reopens }
-{}
-
-/// Archives that are in step with the files of their folder, and that fit, are what an opening lists.
-pub fn reopening_gives_the_archives()
-    ensures { ArchivesReopen }
 {}
 
 /// Closing the reservation of a pending entry gives its size back: the numbers of reservations differ.

@@ -5,23 +5,25 @@ ghost use Rattle.std.specs.Fn.{FnOnceReturnsAtMut};
 ghost use Rattle.std.specs.Map.{lookup};
 ghost use Rattle.std.specs.Option.{option_map};
 ghost use Rattle.std.specs.Str.{bytes_eq};
-ghost use Rattle.lru_disk_cache.specs.Files.{file_at, touched};
-ghost use Rattle.lru_disk_cache.specs.Held.{Holds, Became, BecameBy};
+ghost use Rattle.folders.specs.Files.{file_at, touched};
+ghost use Rattle.folders.specs.Held.{Holds, Became, BecameBy};
 ghost use Rattle.lru_disk_cache.specs.Key.{names_temporary};
-ghost use Rattle.lru_disk_cache.specs.Disk.{RemovedOrSame, IsBeside, IsNeither};
-ghost use Rattle.lru_disk_cache.specs.Disk.{Avoids, ButUnderAnd, ButUnder, Keeps, SameAt, dropped};
+ghost use Rattle.folders.specs.Changed.{RemovedOrSame, IsNeither};
+ghost use Rattle.lru_disk_cache.specs.Disk.{IsBeside};
+ghost use Rattle.lru_disk_cache.specs.Disk.{Avoids, Keeps, dropped};
+ghost use Rattle.folders.specs.Changed.{ButUnderAnd, ButUnder, SameAt};
 ghost use Rattle.lru_disk_cache.specs.Disk.{files_placed, without_key};
 ghost use Rattle.lru_disk_cache.specs.Reserved.{KeepsReserved};
-ghost use Rattle.lru_disk_cache.specs.Whole.{OldOrMoved, OldOrWritten};
+ghost use Rattle.folders.specs.Whole.{OldOrMoved, OldOrWritten};
 ghost use Rattle.lru_disk_cache.specs.Moving.{IsSized, MoveFails, Wrote, WriterFails, WithFails};
 
 use crate::cache::{LruDiskCache, arrival_from};
 use crate::error::{Error, Result, WriteFault, io};
-use crate::folder::Folder;
 use crate::key::{is_key, path_of};
 use crate::reading::Opened;
 use crate::storing::move_in;
 use dist_types::text::Text;
+use folders::folder::Folder;
 use std::alloc::Global;
 
 impl<F: Folder> LruDiskCache<F> {
@@ -182,32 +184,36 @@ impl<F: Folder> LruDiskCache<F> {
     /// The path of the file of a key in the folder, where the key is listed. The key becomes the most recent
     /// in the list; the folder is not asked.
     ///
-    /// Refused for want of memory alone, which leaves all as it was.
+    /// Refused for want of memory alone, only where the key is listed, which leaves all as it was.
     pub fn get_abs_path(&mut self, key: &str) -> Result<Option<String>>
         ensures found { IfOk result
             (λ o. option_map string_bytes o ≡ (if is_some (lookup (bytes_eq key.now) self.old.disk.entries)
             then Some (self.old.disk.root ++ key.now) else None)) }
         ensures ok { OnOk result (self.new.disk ≡ looked_up self.old.disk key.now) }
-        ensures fails { IfErr result (λ e. (e ≡ Error.Memory) × (self.new.disk ≡ self.old.disk)) }
+        ensures fails { IfErr result (λ e. (e ≡ Error.Memory) × (self.new.disk ≡ self.old.disk)
+            × IsSome (lookup (bytes_eq key.now) self.old.disk.entries)) }
         ensures folder { F.held self.new.folder ≡ F.held self.old.folder }
         ensures stands { IsStore (F.held self.new.folder) self.new.disk }
     {
         let Ok(key) = Text::of(self.alloc, key) else {
-            return Err(Error::Memory);
-        };
-        let Ok(path) = path_of(&self.root, &key) else {
+            if !self.table.has(key) {
+                return Ok(None);
+            }
             return Err(Error::Memory);
         };
         if !self.table.contains(&key) {
             return Ok(None);
         }
+        let Ok(path) = path_of(&self.root, &key) else {
+            return Err(Error::Memory);
+        };
         self.table.promote(&key);
         Ok(Some(path.into_inner()))
     }
 }
 
 /// What a closure writes. It is called once, with an empty vector.
-pub(crate) fn written<W: FnOnce(&mut Vec<u8>) -> std::result::Result<(), WriteFault>>(
+pub fn written<W: FnOnce(&mut Vec<u8>) -> std::result::Result<(), WriteFault>>(
     alloc: Global,
     with: W,
 ) -> Result<Vec<u8>>

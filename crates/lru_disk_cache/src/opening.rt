@@ -5,18 +5,20 @@ ghost use Rattle.std.specs.List.{IsDistinct};
 ghost use Rattle.std.specs.Map.{keys_of, remove_entry};
 ghost use Rattle.std.specs.Option.{option_copied};
 ghost use Rattle.std.specs.Str.{bytes_eq};
-ghost use Rattle.lru_disk_cache.specs.Files.{front};
-ghost use Rattle.lru_disk_cache.specs.Held.{Holds, Became};
+ghost use Rattle.folders.specs.Files.{front};
+ghost use Rattle.folders.specs.Held.{Holds, Became};
 ghost use Rattle.lru_disk_cache.specs.Entries.{Entries, total, trim};
-ghost use Rattle.lru_disk_cache.specs.Disk.{Stands, AllKeys, OnlyRemoved, ButUnder, RemovedUnder, Counts};
-ghost use Rattle.lru_disk_cache.specs.Opened.{stripped, keyed, kept, opened, Shows, InStep};
+ghost use Rattle.lru_disk_cache.specs.Disk.{Stands, AllKeys, Keeps};
+ghost use Rattle.folders.specs.Changed.{OnlyRemoved, ButUnder, RemovedUnder, Counts};
+ghost use Rattle.lru_disk_cache.specs.Opened.{stripped, keyed, kept, opened, Shows, InStep, KeepsKept};
+ghost use Rattle.lru_disk_cache.specs.Opened.{KeepsOpened};
 
-use crate::fault::FolderFault;
-use crate::folder::{Folder, Found};
 use crate::key::is_key;
 use crate::storing::remove_file;
 use crate::table::Table;
 use dist_types::text::Text;
+use folders::fault::FolderFault;
+use folders::folder::{Folder, Found};
 use std::alloc::Global;
 
 /// What follows the root in a path.
@@ -29,7 +31,7 @@ fn stripped<'a>(root: &str, path: &'a str) -> Option<&'a str>
 
 /// Keeps a file that was found, where its key is one and its size is within the capacity, and else removes
 /// it.
-#[tactic(auto, using(crate::proofs::Removals::none_spared, crate::proofs::Removals::spared_at))]
+#[tactic(auto, using(folders::proofs::Removals::none_spared, folders::proofs::Removals::spared_at, crate::proofs::Keeping::none_out_kept))]
 fn sort_one<F: Folder>(
     folder: &mut F,
     root: &Text,
@@ -41,6 +43,9 @@ fn sort_one<F: Folder>(
     ensures shows { (rest : Entries) → Shows root.now (F.held folder.old)
         (good.old.items ++ (keyed root.now (file.now ∷ []) ++ rest))
         → OnOk result (Shows root.now (F.held folder.new) (good.new.items ++ rest)) }
+    ensures keeps { (rest : Entries) → Shows root.now (F.held folder.old)
+        (good.old.items ++ (keyed root.now (file.now ∷ []) ++ rest))
+        → Became (KeepsKept root.now capacity) (F.held folder.old).files (F.held folder.new).files }
     ensures found { ¬ (result ≡ Err FolderFault.Missing) }
     ensures removed { OnOk result (Became OnlyRemoved (F.held folder.old).files (F.held folder.new).files) }
     ensures others { OnOk result
@@ -65,7 +70,7 @@ fn sort_one<F: Folder>(
 }
 
 /// Sorts out all files that were found.
-#[tactic(auto, using(crate::proofs::Removals::spared_both))]
+#[tactic(auto, using(folders::proofs::Removals::spared_both))]
 fn sort_out<F: Folder>(
     folder: &mut F,
     root: &Text,
@@ -76,6 +81,7 @@ fn sort_out<F: Folder>(
     requires { Shows root.now (F.held folder.old) (good.old.items ++ keyed root.now found.now) }
     ensures list { OnOk result (good.new.items ≡ good.old.items ++ kept root.now capacity found.now) }
     ensures shows { OnOk result (Shows root.now (F.held folder.new) good.new.items) }
+    ensures keeps { Became (KeepsKept root.now capacity) (F.held folder.old).files (F.held folder.new).files }
     ensures found { ¬ (result ≡ Err FolderFault.Missing) }
     ensures removed { OnOk result (Became OnlyRemoved (F.held folder.old).files (F.held folder.new).files) }
     ensures others { OnOk result
@@ -117,6 +123,8 @@ fn drop_old<'a, F: Folder>(
     requires { Shows root.now (F.held folder.old) good.now }
     ensures list { IfOk result (λ r. r.now ≡ trim capacity good.now) }
     ensures shows { IfOk result (λ r. Shows root.now (F.held folder.new) r.now) }
+    ensures keeps { Became (Keeps root.now (trim capacity good.now)) (F.held folder.old).files
+        (F.held folder.new).files }
     ensures found { ¬ (result ≡ Err FolderFault.Missing) }
     ensures removed { OnOk result (Became OnlyRemoved (F.held folder.old).files (F.held folder.new).files) }
     ensures others { OnOk result
@@ -177,6 +185,8 @@ pub(crate) fn open<F: Folder>(
         (λ t. Holds (F.held folder.new) (λ files. InStep root.now files t.entries)) }
     ensures stands { IfOk result (λ t. Stands root.now (F.held folder.new) t.entries) }
     ensures cleared { IfOk result (λ t. Shows root.now (F.held folder.new) t.entries) }
+    ensures keeps { Became (KeepsOpened root.now capacity) (F.held folder.old).files
+        (F.held folder.new).files }
     ensures removed { OnOk result (Became OnlyRemoved (F.held folder.old).files (F.held folder.new).files) }
     ensures others { OnOk result
         (Became (ButUnder root.now) (F.held folder.old).files (F.held folder.new).files) }

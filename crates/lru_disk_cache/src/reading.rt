@@ -39,7 +39,7 @@ impl Model for Opened {
 
 impl Opened {
     /// Bytes that are read from the front on.
-    pub(crate) fn new(bytes: Vec<u8>) -> Self
+    pub fn new(bytes: Vec<u8>) -> Self
         ensures { result ≡ record { content = bytes.items; place = 0 } }
     {
         Opened { bytes, place: 0 }

@@ -4,25 +4,27 @@ ghost use Rattle.std.specs.Prelude.{◌≡◌, ◌+◌, ◌-◌, ◌≤◌, ◌<
 ghost use Rattle.std.specs.Prelude.{Some, None, Err, IfOk, IfErr, OnOk, OnErr};
 ghost use Rattle.std.specs.Map.{lookup};
 ghost use Rattle.std.specs.Str.{bytes_eq};
-ghost use Rattle.lru_disk_cache.specs.Files.{file_at, size_at, put, without, moved, touched, appended};
-ghost use Rattle.lru_disk_cache.specs.Files.{PartAppended};
-ghost use Rattle.lru_disk_cache.specs.Held.{Holds, Became, BecameBy, Lacks};
+ghost use Rattle.folders.specs.Files.{file_at, size_at, put, without, moved, touched, appended};
+ghost use Rattle.folders.specs.Files.{PartAppended};
+ghost use Rattle.folders.specs.Held.{Holds, Became, BecameBy, Lacks};
 ghost use Rattle.lru_disk_cache.specs.Key.{is_key};
 ghost use Rattle.lru_disk_cache.specs.Entries.{total, trim, IsEnd, IsTable};
 ghost use Rattle.lru_disk_cache.specs.Adding.{files_prepared, CallFails};
-ghost use Rattle.lru_disk_cache.specs.Disk.{Stands, Avoids, ButAt, ButListed, ButUnder, ButUnderAnd};
-ghost use Rattle.lru_disk_cache.specs.Disk.{ButThese, IsTemp, Keeps, Counts, Drops, stored, staying, dropped};
+ghost use Rattle.lru_disk_cache.specs.Disk.{Stands, Avoids, ButListed};
+ghost use Rattle.folders.specs.Changed.{ButAt, ButUnder, ButUnderAnd};
+ghost use Rattle.lru_disk_cache.specs.Disk.{ButThese, IsTemp, Keeps, Drops, stored, staying, dropped};
+ghost use Rattle.folders.specs.Changed.{Counts};
 ghost use Rattle.lru_disk_cache.specs.Disk.{without_each, files_placed, files_stored, without_key, Left};
-ghost use Rattle.lru_disk_cache.specs.Disk.{OnlyRemoved, RemovedAt, SameAt, RemovedOrSame, IsNeither};
+ghost use Rattle.folders.specs.Changed.{OnlyRemoved, RemovedAt, SameAt, RemovedOrSame, IsNeither};
 ghost use Rattle.lru_disk_cache.specs.Store.{Uncounted};
-ghost use Rattle.lru_disk_cache.specs.Whole.{OldOr, OldOrMoved};
+ghost use Rattle.folders.specs.Whole.{OldOr, OldOrMoved};
 
 use crate::error::{self, io};
-use crate::fault::FolderFault;
-use crate::folder::Folder;
 use crate::key::path_of;
 use crate::table::Table;
 use dist_types::text::Text;
+use folders::fault::FolderFault;
+use folders::folder::Folder;
 
 /// A file that is to stand under a key.
 #[derive(Drop)]
@@ -107,6 +109,7 @@ pub(crate) fn remove_at<F: Folder>(folder: &mut F, path: &str) -> Result<(), Fol
         (F.held folder.new).files) }
     ensures gone { OnOk result (Holds (F.held folder.new) (Lacks path.now)) }
     ensures others { Became (ButAt path.now) (F.held folder.old).files (F.held folder.new).files }
+    ensures part { Became (RemovedAt path.now) (F.held folder.old).files (F.held folder.new).files }
     ensures counts { Counts result (F.held folder.old) (F.held folder.new) }
 {
     match folder.remove(path) {
@@ -118,7 +121,7 @@ pub(crate) fn remove_at<F: Folder>(folder: &mut F, path: &str) -> Result<(), Fol
 }
 
 /// Drops the least recent entry and then its file.
-#[tactic(auto, using(crate::proofs::Exactly::none_removed))]
+#[tactic(auto, using(folders::proofs::Exactly::none_removed))]
 fn drop_first<F: Folder>(folder: &mut F, table: &mut Table, root: &Text) -> Result<(), FolderFault>
     requires table { IsTable table.old }
     requires stands { Stands root.now (F.held folder.old) table.old.entries }
@@ -141,7 +144,7 @@ fn drop_first<F: Folder>(folder: &mut F, table: &mut Table, root: &Text) -> Resu
 }
 
 /// Drops the least recent entries and their files until the others fit a limit.
-#[tactic(auto, using(crate::proofs::Exactly::none_removed))]
+#[tactic(auto, using(folders::proofs::Exactly::none_removed))]
 pub(crate) fn make_room<F: Folder>(
     folder: &mut F,
     table: &mut Table,

@@ -1,5 +1,5 @@
 -- Looking up in a map of nodes.
-use Rattle.std.proofs.Common.{◌≡◌, ℕ, List, [], ◌∷◌, map, Bool, true, false, cond, Option, Some, None, String}
+use Rattle.std.proofs.Common.{◌≡◌, ℕ, List, [], ◌∷◌, map, Bool, cond, Some, String}
 use Rattle.std.proofs.Common.{string_bytes, refl, sym, ap, subst, ◌∙◌}
 use Rattle.std.specs.Map.{lookup}
 use Rattle.std.specs.Cmp.Lexicographic.{slice_cmp}
@@ -10,11 +10,10 @@ use Rattle.std.specs.List.Sorted.{IsStrictlySortedBy}
 use Rattle.std.specs.String.{string_cmp}
 use Rattle.std.specs.Str.{bytes_eq}
 use Rattle.std.proofs.lemmas.Map.Text.{is_eq-slice_cmp}
-use Rattle.path_pkg.specs.Told.{Nodes, IsInByteOrder}
-use Rattle.path_pkg.specs.Tree.{node_at, kind_of, link_of, is_link_kind, is_link, link_at}
+use Rattle.path_pkg.specs.Told.{IsInByteOrder}
+use Rattle.path_pkg.specs.Tree.{node_at}
 use Rattle.path_pkg.specs.MapNodes.{nodes_of}
 use Rattle.path_pkg.specs.declared.node.Node.{Node}
-use Rattle.path_pkg.specs.declared.node.Node.TheVariants as Nodes
 
 pub text_found : {A X : Type 0} (path : List ℕ) (es : List (String A × X))
     → lookup (λ k. is_eq (slice_cmp nat_cmp path (string_bytes k))) es ≡ lookup (λ p. bytes_eq path p)
@@ -44,18 +43,3 @@ pub texts_in_order : {A X Y : Type 0} (f : X → Y) (es : List (String A × X)) 
 unfolding IsStrictlySortedBy
 texts_in_order f [] sorted = tt
 texts_in_order f (e ∷ es) sorted = (heads f e.0 es sorted.0, texts_in_order f es sorted.1)
-
-never : false ≡ true → ⊥
-never h = cc
-
-linked : (n : Option Node) → is_link_kind (kind_of n) ≡ true → (target : List ℕ) × (link_of n ≡ Some target)
-linked None h = absurd (never h)
-linked (Some Nodes.Dir) h = absurd (never h)
-linked (Some (Nodes.File bytes)) h = absurd (never h)
-linked (Some (Nodes.Link target)) h = (target, refl)
-linked (Some Nodes.Other) h = absurd (never h)
-
--- what is a link has a target
-pub link_there : (t : Nodes) (path : List ℕ) → is_link t path ≡ true → (target : List ℕ)
-    × (link_at t path ≡ Some target)
-link_there t path h = linked (node_at t path) h

@@ -87,10 +87,6 @@ link_put r rank path target o p none one h =
     one_frame r (LinkFrame path target) (record_at rank (path, target)) _ o p
     (rank_link rank path target first second) refl h
 
-pub same_records : {T : Type 0} (r : Result T PackError) (rs qs : List Record) (o p : Option (List ℕ))
-    → rs ≡ qs → PutsFrames r rs o p → PutsFrames r qs o p
-same_records r rs qs o p e h = record { frames = h.frames; outlines = h.outlines ∙ e; puts = h.puts }
-
 pub same_package : {T : Type 0} (r : Result T PackError) (rs qs : List Record) (o p : Option (List ℕ))
     → rs ≡ qs → PutsPackage r rs o p → PutsPackage r qs o p
 same_package r rs qs o p e h = record { frames = h.frames; outlines = h.outlines ∙ e; puts = h.puts }
@@ -204,17 +200,6 @@ stopped_so_far {T} e rank rest rest2 all path target path2 target2 o p q er ep e
           (flat_map-append frame_bytes h.frames k.frames)))
           (began_front (flat_map frame_bytes h.frames ++ flat_map frame_bytes k.frames)
           (flat_map frame_bytes left) o q begun);
-    }
-
--- all records
-pub all_so_far : {T : Type 0} (x : T) (rank : ℕ) (rest all : List Entry) (o p : Option (List ℕ)) → rest ≡ []
-    → FramesSoFar rank rest all o p → PutsFrames (Ok x) (map (record_at rank) all) o p
-all_so_far x rank rest all o p none h =
-    record {
-      frames = h.frames;
-      outlines = sym (append-nil (map outline h.frames))
-          ∙ ap (λ l. map outline h.frames ++ map (record_at rank) l) (sym none) ∙ h.outlines;
-      puts = h.added;
     }
 
 -- the records of a package, kind by kind

@@ -5,9 +5,9 @@ use Rattle.dist_types.specs.declared.dialer.Asked.{Asked}
 use Rattle.dist_types.specs.declared.outgoing.CallFault.{CallFault}
 use Rattle.dist_types.specs.declared.results.AssignJobResult.{AssignJobResult}
 use Rattle.dist_types.specs.declared.results.AllocJobResult.{AllocJobResult}
-use Rattle.sched_core.specs.Texts.{no_room_text}
-use Rattle.sched_core.specs.Ticket.{Ticket}
-use Rattle.sched_core.specs.declared.answers.Undone.{Undone}
+use Rattle.core_rules.specs.Texts.{no_room_text}
+use Rattle.core_rules.specs.Ticket.{Ticket}
+use Rattle.core_rules.specs.declared.answers.Undone.{Undone}
 use Rattle.sched.specs.Course.{undone, full, asked, spending_entries, Settles, IsSettled, FailsWith}
 use Rattle.sched.specs.Course.{IsAllocation}
 use Rattle.sched.specs.Desk.{entries_if, logs_undo}

@@ -7,11 +7,11 @@ use Rattle.dist_types.specs.declared.outgoing.CallFault.TheVariants as call
 use Rattle.dist_types.specs.declared.results.AssignJobResult.{AssignJobResult}
 use Rattle.dist_types.specs.declared.results.AllocJobResult.{AllocJobResult}
 use Rattle.dist_types.specs.declared.results.AllocJobResult.TheVariants.{Success, Fail}
-use Rattle.sched_core.specs.Rule.{is_initial}
-use Rattle.sched_core.specs.Texts.{no_room_text, dropped_text}
-use Rattle.sched_core.specs.Ticket.{Ticket}
-use Rattle.sched_core.specs.declared.answers.Undone.{Undone}
-use Rattle.sched_core.specs.declared.error.SchedError.TheVariants.{IdsSpent}
+use Rattle.core_rules.specs.Rule.{is_initial}
+use Rattle.core_rules.specs.Texts.{no_room_text, dropped_text}
+use Rattle.core_rules.specs.Ticket.{Ticket}
+use Rattle.core_rules.specs.declared.answers.Undone.{Undone}
+use Rattle.core_rules.specs.declared.error.SchedError.TheVariants.{IdsSpent}
 use Rattle.sched.specs.Desk.{entries_if, logs_undo, alloc_of}
 use Rattle.sched.specs.Outside.{Moments, IsRead, IsReadTwice, Requests, IsCalled}
 use Rattle.sched.specs.Pass.{Told, Counted}

@@ -7,9 +7,9 @@ use Rattle.dist_types.specs.declared.results.HeartbeatServerResult.{HeartbeatSer
 use Rattle.dist_types.specs.declared.results.SchedulerStatusResult.{SchedulerStatusResult}
 use Rattle.dist_types.specs.declared.results.UpdateJobStateResult.{UpdateJobStateResult}
 use Rattle.dist_types.specs.declared.results.UpdateJobStateResult.TheVariants.{Success, Fail}
-use Rattle.sched_core.specs.Advance.{follows}
-use Rattle.sched_core.specs.declared.error.SchedError.{SchedError}
-use Rattle.sched_core.specs.declared.error.SchedError.TheVariants as error
+use Rattle.core_rules.specs.Advance.{follows}
+use Rattle.core_rules.specs.declared.error.SchedError.{SchedError}
+use Rattle.core_rules.specs.declared.error.SchedError.TheVariants as error
 use Rattle.sched.specs.Desk.{entries_if, logs_error}
 use Rattle.sched.specs.Outside.{Moments, IsRead}
 use Rattle.sched.specs.Pass.{Told, Counted}

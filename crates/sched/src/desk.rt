@@ -1,20 +1,22 @@
 //! What the lock holds: the state, and a byte for each pass that was made.
 ghost use Rattle.std.specs.Prelude.{◌≡◌, ◌+◌, ◌↔◌, ◌⊎◌, ◌<◌, Err, OnOk, OnErr, IfOk, IfErr, IsErrOf, true};
-ghost use Rattle.sched_core.specs.Reservation.{unspent};
-ghost use Rattle.sched_core.specs.Rule.{rule, says_new_entry, counts_of, is_among, is_initial};
-ghost use Rattle.sched_core.specs.Answers.{IsPicked, RefusesReserve, committed_by, undo_answer, updated_by};
-ghost use Rattle.sched_core.specs.declared.call.Call.TheVariants as call;
+ghost use Rattle.core_rules.specs.Reservation.{unspent};
+ghost use Rattle.core_rules.specs.Rule.{rule, says_new_entry, counts_of, is_among, is_initial};
+ghost use Rattle.sched_core.specs.Picked.{IsPicked};
+ghost use Rattle.core_rules.specs.Answers.{RefusesReserve, committed_by, undo_answer, updated_by};
+ghost use Rattle.core_rules.specs.declared.call.Call.TheVariants as call;
 ghost use Rattle.sched.specs.Desk.{Seen, after_call, logs, logs_commit, logs_undo, IsAbout, more_than};
 ghost use Rattle.sched.specs.Heard.{AnswersUpdate};
 
+use core_rules::answers::{Committed, Undone};
+use core_rules::error::SchedError;
 use dist_types::fault::Memory;
 use dist_types::ids::{JobId, ServerId, ServerNonce};
 use dist_types::results::{
     HeartbeatServerResult, JobState, SchedulerStatusResult, UpdateJobStateResult,
 };
 use dist_types::roles::JobAuthorizer;
-use sched_core::answers::{Committed, Picked, Undone};
-use sched_core::error::SchedError;
+use sched_core::answers::Picked;
 use sched_core::reservation::Reservation;
 use sched_core::state::SchedState;
 use std::alloc::Global;

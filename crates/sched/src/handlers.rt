@@ -1,6 +1,6 @@
 //! The four calls that the running scheduler answers, over its turns alone.
 ghost use Rattle.std.specs.Prelude.{◌≡◌, Ok, true};
-ghost use Rattle.sched_core.specs.Rule.{is_initial};
+ghost use Rattle.core_rules.specs.Rule.{is_initial};
 ghost use Rattle.sched.specs.Course.{IsAllocation, IsSettled};
 ghost use Rattle.sched.specs.Heard.{IsHeard, IsUpdated, IsCounted};
 ghost use Rattle.sched.specs.Outside.{moments, requests};
@@ -9,6 +9,8 @@ use crate::answers::{dropped, no_room};
 use crate::fault::{SchedFault, fault_after, fault_of};
 use crate::pass::Pass;
 use crate::scheduler::Scheduler;
+use core_rules::answers::Committed;
+use core_rules::texts::is_initial;
 use dist_types::clock::Clock;
 use dist_types::ids::{JobId, ServerId, ServerNonce};
 use dist_types::outgoing::{CallFault, SchedulerOutgoing};
@@ -18,9 +20,8 @@ use dist_types::results::{
 };
 use dist_types::roles::JobAuthorizer;
 use dist_types::toolchain::Toolchain;
-use sched_core::answers::{Committed, Picked};
+use sched_core::answers::Picked;
 use sched_core::reservation::Reservation;
-use sched_core::texts::is_initial;
 use std::sync::Wait;
 
 impl<A: JobAuthorizer> Scheduler<A> {

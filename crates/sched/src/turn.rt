@@ -1,7 +1,7 @@
 //! Turns: each takes the lock, reads the clock, makes one call of the desk, lets go, and counts the
 //! entry that the call made.
 ghost use Rattle.std.specs.Prelude.{◌≡◌, ◌↔◌, ◌⊎◌, ◌<◌, Err, IfErr, IfSome, true};
-ghost use Rattle.sched_core.specs.Rule.{is_initial};
+ghost use Rattle.core_rules.specs.Rule.{is_initial};
 ghost use Rattle.sched.specs.Desk.{logs_error, entries_if, logs, logs_commit, logs_undo, IsAbout};
 ghost use Rattle.sched.specs.Heard.{AnswersUpdate};
 ghost use Rattle.sched.specs.Outside.{IsRead, moments};
@@ -9,6 +9,8 @@ ghost use Rattle.sched.specs.Pass.{Counted};
 
 use crate::pass::Pass;
 use crate::scheduler::Scheduler;
+use core_rules::answers::{Committed, Undone};
+use core_rules::error::SchedError;
 use dist_types::clock::Clock;
 use dist_types::fault::Memory;
 use dist_types::ids::{JobId, ServerId, ServerNonce};
@@ -16,8 +18,7 @@ use dist_types::results::{
     HeartbeatServerResult, JobState, SchedulerStatusResult, UpdateJobStateResult,
 };
 use dist_types::roles::JobAuthorizer;
-use sched_core::answers::{Committed, Picked, Undone};
-use sched_core::error::SchedError;
+use sched_core::answers::Picked;
 use sched_core::reservation::Reservation;
 use std::sync::Wait;
 

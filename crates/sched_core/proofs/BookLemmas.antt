@@ -12,73 +12,59 @@ use Rattle.std.proofs.lemmas.Bool.{false≢true}
 use Rattle.std.proofs.lemmas.List.{length-map}
 use Rattle.dist_types.specs.declared.ids.JobId.{JobId}
 use Rattle.sched_core.specs.declared.booked.BookedRow.{BookedRow}
-use Rattle.sched_core.specs.declared.start.Start.{Start}
-use Rattle.sched_core.specs.declared.entry.CoreEntry.{CoreEntry}
-use Rattle.sched_core.specs.declared.entry.CoreKind.{CoreKind}
-use Rattle.sched_core.specs.declared.entry.CoreKind.TheVariants.{Beat, Reserve, Commit, Undo, Update, Status}
-use Rattle.sched_core.specs.declared.entry.Reserved.TheVariants.{Job, NoRoom, Spent}
-use Rattle.sched_core.specs.declared.rows.JobRow.{JobRow}
-use Rattle.sched_core.specs.declared.rows.ServerRow.{ServerRow}
-use Rattle.sched_core.specs.declared.rows.OpenRow.{OpenRow}
-use Rattle.sched_core.specs.Log.{Core, same_job}
-use Rattle.sched_core.specs.Standing.{Registered, standing, is_heard, address_of}
-use Rattle.sched_core.specs.Reservation.{bookings, unspent}
-use Rattle.sched_core.specs.Rows.{servers_of, held_rows, open_rows, sorted_into}
-use Rattle.sched_core.specs.Books.{held_part, held_by_id}
-use Rattle.sched_core.specs.Prune.{prune, left, at_address}
-use Rattle.sched_core.specs.Reap.{is_reaped, reap}
+use Rattle.core_rules.specs.declared.start.Start.{Start}
+use Rattle.core_rules.specs.declared.entry.CoreEntry.{CoreEntry}
+use Rattle.core_rules.specs.declared.entry.CoreKind.{CoreKind}
+use Rattle.core_rules.specs.declared.entry.CoreKind.TheVariants.{Beat, Reserve, Commit, Undo, Update}
+use Rattle.core_rules.specs.declared.entry.CoreKind.TheVariants.{Status, Drain}
+use Rattle.core_rules.specs.declared.entry.Reserved.TheVariants.{Job, NoRoom, Spent}
+use Rattle.core_rules.specs.declared.rows.JobRow.{JobRow}
+use Rattle.core_rules.specs.declared.rows.ServerRow.{ServerRow}
+use Rattle.core_rules.specs.declared.rows.OpenRow.{OpenRow}
+use Rattle.core_rules.specs.Log.{Core, same_job}
+use Rattle.core_rules.specs.Standing.{Registered, standing, is_heard, address_of}
+use Rattle.core_rules.specs.Reservation.{bookings, unspent}
+use Rattle.core_rules.specs.Rows.{servers_of, held_rows, open_rows, sorted_into}
+use Rattle.core_rules.specs.Next.{held_part}
+use Rattle.core_rules.specs.Prune.{prune, left, at_address}
+use Rattle.core_rules.specs.Reap.{is_reaped, reap}
 use Rattle.sched_core.specs.Own.{IsMadeBy, HasJobRoom, AreReapedApart}
-use Rattle.sched_core.specs.declared.call.Call.{Call}
-use Rattle.sched_core.specs.declared.call.Call.TheVariants as call
-use Rattle.sched_core.specs.declared.rows.HeldRow.{HeldRow}
-use Rattle.sched_core.specs.Rule.{rule, place_at, is_left, counts_over, reaped_by}
-use Rattle.sched_core.specs.Laws.{IsRule, IsLegal, AreDistinct, AreRising}
-use Rattle.sched_core.specs.Books.{Keys, Lists, no_lists, keys_of, AreBooks, IsBookedAt, keys_next, unspent_stays, unspent_by}
-use Rattle.sched_core.specs.Books.{job_over, job_by, lists_next, unspent_next, SpendsOne}
-use Rattle.sched_core.specs.Books.{place_if, served_by}
-use Rattle.sched_core.specs.Books.{held_stays, held_after, held_by, booked_after, booked_by}
-use Rattle.sched_core.specs.Books.{place_of_unspent, place_of_booking}
-use Rattle.sched_core.specs.Booked.{UnspentRow, AreReordered, booked_new, job_part_of, held_part_of}
+use Rattle.core_rules.specs.declared.call.Call.{Call}
+use Rattle.core_rules.specs.declared.call.Call.TheVariants as call
+use Rattle.core_rules.specs.declared.rows.HeldRow.{HeldRow}
+use Rattle.core_rules.specs.Rule.{rule, place_at, is_left, counts_over, reaped_by}
+use Rattle.core_rules.specs.Laws.{IsRule, IsLegal, AreDistinct, AreRising}
+use Rattle.sched_core.specs.Books.{Keys, Lists, no_lists, keys_of, AreBooks, IsBookedAt}
+use Rattle.core_rules.specs.Next.{unspent_stays, unspent_by}
+use Rattle.core_rules.specs.Next.{job_over, job_by}
+use Rattle.sched_core.specs.Books.{lists_next, unspent_next}
+use Rattle.core_rules.specs.Next.{place_if, served_by}
+use Rattle.core_rules.specs.Next.{held_stays, held_after, held_by}
+use Rattle.sched_core.specs.Books.{booked_after, booked_by}
+use Rattle.core_rules.specs.Next.{place_of_unspent, place_of_booking}
+use Rattle.core_rules.specs.Next.{UnspentRow}
+use Rattle.sched_core.specs.Booked.{AreReordered, booked_new, job_part_of, held_part_of}
 use Rattle.sched_core.specs.Booked.{held_view, job_view}
 use Rattle.sched_core.specs.Booked.{unspent_part_of, jobs_by_id, unspent_view, open_view}
-use Rattle.sched_core.proofs.AllLemmas.{all-map, all-filter, distinct-filter}
-use Rattle.sched_core.proofs.Lists.{map-map}
-use Rattle.sched_core.proofs.KeyLemmas.{keys-push}
-use Rattle.sched_core.proofs.StepLemmas as step
-use Rattle.sched_core.proofs.LegalLemmas.{core_of, legal-push}
-use Rattle.sched_core.proofs.FactLemmas.{Facts, facts, pick_there}
-use Rattle.sched_core.proofs.SoundLemmas.{HasIds, jobs, jobs-push, legal_ids, legal_distinct}
-use Rattle.sched_core.proofs.RoomLemmas.{Fits, legal_fits}
-use Rattle.sched_core.proofs.KeptLemmas.{IsAtRowBy, held_rows-push, job_part, booked_job, booked-placed}
-use Rattle.sched_core.proofs.KeptLemmas.{unspent-absorb, open-absorb}
-use Rattle.sched_core.proofs.RowLemmas.{filter-few, legal_errors, rows-absorb}
-use Rattle.sched_core.proofs.StateLemmas.{spent_among, held_among}
+use Rattle.core_rules.proofs.AllLemmas.{all-map, all-filter, distinct-filter}
+use Rattle.core_rules.proofs.Lists.{map-map}
+use Rattle.sched_core.proofs.KeyLemmas.{keys_next, keys-push}
+use Rattle.sched_core.proofs.SpendLemmas.{SpendsOne}
+use Rattle.core_rules.proofs.StepLemmas as step
+use Rattle.core_rules.proofs.LegalLemmas.{core_of, legal-push}
+use Rattle.core_rules.proofs.FactLemmas.{Facts, facts}
+use Rattle.core_rules.proofs.SoundLemmas.{jobs, jobs-push, legal_distinct, few_bookings}
+use Rattle.core_rules.proofs.RoomLemmas.{Fits, legal_fits}
+use Rattle.core_rules.proofs.KeptLemmas.{IsAtRowBy, at_row_by, held_rows-push, job_part}
+use Rattle.sched_core.proofs.PlacedLemmas.{booked_job, booked-placed}
+use Rattle.core_rules.proofs.KeptLemmas.{unspent-absorb, open-absorb}
+use Rattle.core_rules.proofs.RowLemmas.{filter-few, legal_errors, rows-absorb}
+use Rattle.core_rules.proofs.StateLemmas.{held_by_id, spent_among, held_among}
 use Rattle.sched_core.proofs.BookedLemmas.{held_next, unspent_after, jobs_after, held_parts, spent_rows}
 use Rattle.sched_core.proofs.BookedLemmas.{any_spent, by_id_parts}
-use Rattle.sched_core.proofs.SortLemmas.{sorted-all}
+use Rattle.core_rules.proofs.SortLemmas.{sorted-all}
 use Rattle.sched_core.proofs.OpenLemmas.{AreSpentBy, reorder-find, reorder-filter, reorder-length, open_next}
 use Rattle.sched_core.proofs.OpenLemmas.{distinct_opened}
-
--- a job is reserved at a registration that stands
-pub at_row_by : (s : Core) (k : CoreKind) → Facts s k → IsAtRowBy k (servers_of s.log)
-at_row_by s (Reserve (Job job reg forgiven)) is =
-    subst (λ r. list_any (λ q. q.reg == r) (servers_of s.log) ≡ true) (sym is.at)
-    (pick_there (servers_of s.log) is.row is.picked).0
-at_row_by s (Reserve (NoRoom n)) is = tt
-at_row_by s (Reserve Spent) is = tt
-at_row_by s (Beat server nonce cpus key pruned reaped replaced is_new) is = tt
-at_row_by s (Commit job state kept) is = tt
-at_row_by s (Undo job noted was_ended) is = tt
-at_row_by s (Update server job state answer) is = tt
-at_row_by s (Status pruned servers cpus n) is = tt
-
-pub few_bookings : (start : Start) (log : List CoreEntry) → start.count < 2 ^ 64 → IsLegal start log
-    → length (bookings log) < 2 ^ 64
-few_bookings start log fits legal =
-    let ids : HasIds start (jobs log) = legal_ids start log fits legal in
-    let small = ids.fits in
-    let same : length (jobs log) ≡ length (bookings log) = length-map (bookings log) (λ b. b.job) in
-    omega (arith, small, same)
 
 -- the reservations of the job that a legal entry spends
 spent_by : (start : Start) (bs : List BookedRow) (log : List CoreEntry) (k : CoreKind)
@@ -99,6 +85,7 @@ spent_by start bs log (Reserve r) apart held free is = tt
 spent_by start bs log (Beat server nonce cpus key pruned reaped replaced is_new) apart held free is = tt
 spent_by start bs log (Update server job state answer) apart held free is = tt
 spent_by start bs log (Status pruned servers cpus n) apart held free is = tt
+spent_by start bs log (Drain addr nonce on named) apart held free is = tt
 
 -- an open job is found in the books as in the log
 pub open_found : (books : Lists) (keys : Keys) (log : List CoreEntry) (job : JobId)
@@ -160,6 +147,7 @@ next_follows start first books keys log e number is rule_is begins_at =
     by_kind (Undo job noted was_ended) f = tt
     by_kind (Update server job state answer) f = tt
     by_kind (Status pruned servers cpus n) f = tt
+    by_kind (Drain addr nonce on named) f = tt
 
 served_alike : (k : CoreKind) (os ps : List OpenRow)
     → ((job : JobId) → find (λ o. same_job o.job job) os ≡ find (λ o. same_job o.job job) ps)
@@ -171,6 +159,7 @@ served_alike (Reserve r) os ps same = refl
 served_alike (Commit job state kept) os ps same = refl
 served_alike (Undo job noted was_ended) os ps same = refl
 served_alike (Status pruned servers cpus n) os ps same = refl
+served_alike (Drain addr nonce on named) os ps same = refl
 
 -- the rows with addresses of the unended reservations
 pub jobs_addressed : (log : List CoreEntry) (bs : List BookedRow) → AllByRecursion (IsBookedAt log) bs
@@ -230,10 +219,10 @@ absorbed start old old_keys new_keys log e fits books legal rule_is keys =
     served_alike e.kind (open_view bs) (open_rows log)
     (λ job. open_found old old_keys log job books) in
     let made : Option JobRow = job_by e.kind (servers_of log) (length log) e.now in
-    let same_jobs : map (λ b. b.job) (map (booked_after e.kind) bs
+    let same_jobs : map (λ b. b.job) (map (booked_after e) bs
     ++ option_to_list (booked_by e.kind (servers_of log) (length log) e.now))
     ≡ map (λ b. b.job) (bookings (log ++ e ∷ [])) =
-    jobs_after e.kind bs (booked_by e.kind (servers_of log) (length log) e.now)
+    jobs_after e bs (booked_by e.kind (servers_of log) (length log) e.now)
     ∙ ap (λ o. map (λ b. b.job) bs ++ option_to_list o) (booked_job log e.kind (length log) e.now at)
     ∙ ap (λ js. js ++ option_to_list (option_map (λ b. b.job) (step.booked log e))) books.jobs
     ∙ sym (jobs-push log e) in
@@ -246,24 +235,24 @@ absorbed start old old_keys new_keys log e fits books legal rule_is keys =
           (standing (log ++ e ∷ [])))
           (legal_fits start (log ++ e ∷ []) fits (legal-push start [] log e legal rule_is)).room.rising);
       jobs = rw books.rows same_jobs;
-      made = rw books.rows (made_are (map (booked_after e.kind) bs
+      made = rw books.rows (made_are (map (booked_after e) bs
           ++ option_to_list (booked_by e.kind (servers_of log) (length log) e.now)) (log ++ e ∷ [])
           same_jobs);
       apart = rw books.rows (subst AreDistinct (sym same_jobs) (legal_distinct start (log ++ e ∷ []) fits
           (legal-push start [] log e legal rule_is)));
-      held = rw books.rows (held_next e.kind bs made
-          ∙ ap (λ o. map (held_after e.kind) (filter (held_stays e.kind) (held_view bs)) ++ option_to_list o)
+      held = rw books.rows (held_next e bs made
+          ∙ ap (λ o. map (held_after e) (filter (held_stays e.kind) (held_view bs)) ++ option_to_list o)
           (job_part log e.kind (length log) e.now at)
-          ∙ ap (λ hs. map (held_after e.kind) (filter (held_stays e.kind) hs)
+          ∙ ap (λ hs. map (held_after e) (filter (held_stays e.kind) hs)
           ++ option_to_list (held_by e.kind (length log) e.now)) books.held
           ∙ sym (held_rows-push log e));
-      unspent = rw books.rows (ap (map place_of_unspent) (unspent_after e.kind bs made)
+      unspent = rw books.rows (ap (map place_of_unspent) (unspent_after e bs made)
           ∙ unspent-absorb (unspent_view bs) log e at books.unspent);
-      open_ones = rw books.rows (subst (AreReordered (open_view (map (booked_after e.kind) bs
+      open_ones = rw books.rows (subst (AreReordered (open_view (map (booked_after e) bs
           ++ option_to_list (option_map booked_new made))))
           (open-absorb start (job_view bs) log e fit.sound is (held_parts bs ∙ books.held)
           (jobs_addressed log bs books.placed))
-          (open_next e.kind bs (open_rows log) made books.apart
+          (open_next e bs (open_rows log) made books.apart
           (spent_by start bs log e.kind books.apart books.held books.unspent is) books.open_ones));
       placed = rw books.rows (booked-placed bs log e at books.placed);
     }
@@ -279,6 +268,7 @@ made_by (Commit job state kept) rows number now = refl
 made_by (Undo job noted was_ended) rows number now = refl
 made_by (Update server job state answer) rows number now = refl
 made_by (Status pruned servers cpus n) rows number now = refl
+made_by (Drain addr nonce on named) rows number now = refl
 
 found_reg : (rows : List ServerRow) (reg : ℕ) (row : ServerRow) → find (λ r. r.reg == reg) rows ≡ Some row
     → row.reg ≡ reg
@@ -308,6 +298,7 @@ room_made (Commit job state kept) rows number now room has = tt
 room_made (Undo job noted was_ended) rows number now room has = tt
 room_made (Update server job state answer) rows number now room has = tt
 room_made (Status pruned servers cpus n) rows number now room has = tt
+room_made (Drain addr nonce on named) rows number now room has = tt
 
 -- the jobs that an entry reaps differ
 pub reaped_apart : (s : Core) (e : CoreEntry) (bs : List BookedRow) → AreDistinct (map (λ b. b.job) bs)
@@ -321,14 +312,14 @@ reaped_apart s e bs apart held rule_is =
   where
     inner : (now nonce : ℕ) (row : ServerRow) (t : Bool)
         → AreDistinct (map (λ (h : HeldRow). h.job) (held_rows s.log))
-        → AreDistinct (if t then reap now row.reg (held_rows s.log) else [])
+        → AreDistinct (if t then reap s.start.rules now row.reg (held_rows s.log) else [])
     inner now nonce row true own =
-        distinct-filter (λ (h : HeldRow). h.job) (is_reaped now row.reg) (held_rows s.log) own
+        distinct-filter (λ (h : HeldRow). h.job) (is_reaped s.start.rules now row.reg) (held_rows s.log) own
     inner now nonce row false own = tt
 
     there : (now nonce : ℕ) (o : Option ServerRow)
         → AreDistinct (map (λ (h : HeldRow). h.job) (held_rows s.log))
-        → AreDistinct (reaped_by now nonce (held_rows s.log) o)
+        → AreDistinct (reaped_by s.start.rules now nonce (held_rows s.log) o)
     there now nonce None own = tt
     there now nonce (Some row) own = inner now nonce row (row.nonce == nonce) own
 
@@ -341,6 +332,7 @@ reaped_apart s e bs apart held rule_is =
         (there now nonce (at_address server (left now (servers_of s.log))) own)
     split (call.Update now server job state) is own = subst (λ x. AreReapedApart x.kind) (sym is) tt
     split (call.Status now) is own = subst (λ x. AreReapedApart x.kind) (sym is) tt
+    split (call.Drain now addr nonce on) is own = subst (λ x. AreReapedApart x.kind) (sym is) tt
 
 pub at_most_one : {X : Type 0} (o : Option X) → length (option_to_list o) ≤ 1
 at_most_one None = omega arith
@@ -394,6 +386,7 @@ one_spent lists now number (Reserve r) some = absurd some
 one_spent lists now number (Beat server nonce cpus key pruned reaped replaced is_new) some = absurd some
 one_spent lists now number (Update server job state answer) some = absurd some
 one_spent lists now number (Status pruned servers cpus n) some = absurd some
+one_spent lists now number (Drain addr nonce on named) some = absurd some
 
 -- an entry that spends a reservation takes the room that was kept for it
 pub log_room-spent : (lists : Lists) (now number : ℕ) (k : CoreKind) (len capacity : ℕ)

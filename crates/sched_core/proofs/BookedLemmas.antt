@@ -8,32 +8,33 @@ use Rattle.std.proofs.lemmas.List.{map-append}
 use Rattle.std.proofs.lemmas.List.Elements.{filter-append}
 use Rattle.dist_types.specs.declared.ids.JobId.{JobId}
 use Rattle.sched_core.specs.declared.booked.BookedRow.{BookedRow}
-use Rattle.sched_core.specs.declared.entry.CoreKind.{CoreKind}
-use Rattle.sched_core.specs.declared.rows.JobRow.{JobRow}
-use Rattle.sched_core.specs.Log.{same_job}
-use Rattle.sched_core.specs.Reservation.{spends_by, frees_by}
-use Rattle.sched_core.specs.Rows.{sorted_into}
-use Rattle.sched_core.specs.Books.{held_part}
-use Rattle.sched_core.specs.Laws.{AreDistinct}
-use Rattle.sched_core.specs.Books.{held_stays, held_after, unspent_stays, unspent_by, booked_after}
+use Rattle.core_rules.specs.declared.entry.CoreEntry.{CoreEntry}
+use Rattle.core_rules.specs.declared.rows.JobRow.{JobRow}
+use Rattle.core_rules.specs.Log.{same_job}
+use Rattle.core_rules.specs.Reservation.{spends_by, frees_by}
+use Rattle.core_rules.specs.Rows.{sorted_into}
+use Rattle.core_rules.specs.Next.{held_part}
+use Rattle.core_rules.specs.Laws.{AreDistinct}
+use Rattle.core_rules.specs.Next.{held_stays, held_after, unspent_stays, unspent_by}
+use Rattle.sched_core.specs.Books.{booked_after}
 use Rattle.sched_core.specs.Booked.{booked_new, held_part_of, job_part_of, unspent_part_of}
 use Rattle.sched_core.specs.Booked.{held_view, job_view, jobs_by_id, unspent_view}
-use Rattle.sched_core.proofs.Lists.{map-map, filter-map, filter-filter, list_any-map, map-option}
-use Rattle.sched_core.proofs.AllLemmas.{and_left, and_right, both, or_left, or_right, true_false, is_false}
-use Rattle.sched_core.proofs.AllLemmas.{any-kept, any-weaker, any-all, all-both, each_same}
-use Rattle.sched_core.proofs.SortLemmas.{sorted-map}
+use Rattle.core_rules.proofs.Lists.{map-map, filter-map, filter-filter, list_any-map, map-option}
+use Rattle.core_rules.proofs.AllLemmas.{and_left, and_right, both, or_left, or_right, true_false, is_false}
+use Rattle.core_rules.proofs.AllLemmas.{any-kept, any-weaker, any-all, all-both, each_same}
+use Rattle.core_rules.proofs.SortLemmas.{sorted-map}
 
 -- the unended ones
-held_viewed : (k : CoreKind) (bs : List BookedRow)
-    → held_view (map (booked_after k) bs) ≡ map (held_after k) (filter (held_stays k) (held_view bs))
-held_viewed k bs =
-    let stays : BookedRow → Bool = λ b. not (frees_by k b.job b.reg) in
+held_viewed : (e : CoreEntry) (bs : List BookedRow)
+    → held_view (map (booked_after e) bs) ≡ map (held_after e) (filter (held_stays e.kind) (held_view bs))
+held_viewed e bs =
+    let stays : BookedRow → Bool = λ b. not (frees_by e.kind b.job b.reg) in
     let left : List BookedRow = filter stays (filter (λ b. b.unended) bs) in
-    ap (map held_part_of) (filter-map (λ b. b.unended) (booked_after k) bs)
-    ∙ ap (λ l. map held_part_of (map (booked_after k) l)) (filter-filter stays (λ b. b.unended) bs)
-    ∙ map-map held_part_of (booked_after k) left
-    ∙ sym (map-map (held_after k) held_part_of left)
-    ∙ ap (map (held_after k)) (sym (filter-map (held_stays k) held_part_of (filter (λ b. b.unended) bs)))
+    ap (map held_part_of) (filter-map (λ b. b.unended) (booked_after e) bs)
+    ∙ ap (λ l. map held_part_of (map (booked_after e) l)) (filter-filter stays (λ b. b.unended) bs)
+    ∙ map-map held_part_of (booked_after e) left
+    ∙ sym (map-map (held_after e) held_part_of left)
+    ∙ ap (map (held_after e)) (sym (filter-map (held_stays e.kind) held_part_of (filter (λ b. b.unended) bs)))
 
 held_append : (bs cs : List BookedRow) → held_view (bs ++ cs) ≡ held_view bs ++ held_view cs
 held_append bs cs = ap (map held_part_of) (filter-append (λ b. b.unended) bs cs)
@@ -44,23 +45,23 @@ held_new : (o : Option JobRow) → held_view (option_to_list (option_map booked_
 held_new None = refl
 held_new (Some j) = refl
 
-pub held_next : (k : CoreKind) (bs : List BookedRow) (o : Option JobRow)
-    → held_view (map (booked_after k) bs ++ option_to_list (option_map booked_new o))
-    ≡ map (held_after k) (filter (held_stays k) (held_view bs)) ++ option_to_list (option_map held_part o)
-held_next k bs o = held_append (map (booked_after k) bs) (option_to_list (option_map booked_new o))
-    ∙ ap (λ hs. hs ++ held_view (option_to_list (option_map booked_new o))) (held_viewed k bs)
-    ∙ ap (λ hs. map (held_after k) (filter (held_stays k) (held_view bs)) ++ hs) (held_new o)
+pub held_next : (e : CoreEntry) (bs : List BookedRow) (o : Option JobRow)
+    → held_view (map (booked_after e) bs ++ option_to_list (option_map booked_new o))
+    ≡ map (held_after e) (filter (held_stays e.kind) (held_view bs)) ++ option_to_list (option_map held_part o)
+held_next e bs o = held_append (map (booked_after e) bs) (option_to_list (option_map booked_new o))
+    ∙ ap (λ hs. hs ++ held_view (option_to_list (option_map booked_new o))) (held_viewed e bs)
+    ∙ ap (λ hs. map (held_after e) (filter (held_stays e.kind) (held_view bs)) ++ hs) (held_new o)
 
 -- the unspent ones
-unspent_viewed : (k : CoreKind) (bs : List BookedRow)
-    → unspent_view (map (booked_after k) bs) ≡ filter (unspent_stays k) (unspent_view bs)
-unspent_viewed k bs =
-    let stays : BookedRow → Bool = λ b. not (spends_by k b.job) in
+unspent_viewed : (e : CoreEntry) (bs : List BookedRow)
+    → unspent_view (map (booked_after e) bs) ≡ filter (unspent_stays e.kind) (unspent_view bs)
+unspent_viewed e bs =
+    let stays : BookedRow → Bool = λ b. not (spends_by e.kind b.job) in
     let left : List BookedRow = filter stays (filter (λ b. b.unspent) bs) in
-    ap (map unspent_part_of) (filter-map (λ b. b.unspent) (booked_after k) bs)
-    ∙ ap (λ l. map unspent_part_of (map (booked_after k) l)) (filter-filter stays (λ b. b.unspent) bs)
-    ∙ map-map unspent_part_of (booked_after k) left
-    ∙ sym (filter-map (unspent_stays k) unspent_part_of (filter (λ b. b.unspent) bs))
+    ap (map unspent_part_of) (filter-map (λ b. b.unspent) (booked_after e) bs)
+    ∙ ap (λ l. map unspent_part_of (map (booked_after e) l)) (filter-filter stays (λ b. b.unspent) bs)
+    ∙ map-map unspent_part_of (booked_after e) left
+    ∙ sym (filter-map (unspent_stays e.kind) unspent_part_of (filter (λ b. b.unspent) bs))
 
 unspent_append : (bs cs : List BookedRow) → unspent_view (bs ++ cs) ≡ unspent_view bs ++ unspent_view cs
 unspent_append bs cs = ap (map unspent_part_of) (filter-append (λ b. b.unspent) bs cs)
@@ -71,20 +72,20 @@ unspent_new : (o : Option JobRow) → unspent_view (option_to_list (option_map b
 unspent_new None = refl
 unspent_new (Some j) = refl
 
-pub unspent_after : (k : CoreKind) (bs : List BookedRow) (o : Option JobRow)
-    → unspent_view (map (booked_after k) bs ++ option_to_list (option_map booked_new o))
-    ≡ filter (unspent_stays k) (unspent_view bs) ++ option_to_list (unspent_by o)
-unspent_after k bs o = unspent_append (map (booked_after k) bs) (option_to_list (option_map booked_new o))
-    ∙ ap (λ us. us ++ unspent_view (option_to_list (option_map booked_new o))) (unspent_viewed k bs)
-    ∙ ap (λ us. filter (unspent_stays k) (unspent_view bs) ++ us) (unspent_new o)
+pub unspent_after : (e : CoreEntry) (bs : List BookedRow) (o : Option JobRow)
+    → unspent_view (map (booked_after e) bs ++ option_to_list (option_map booked_new o))
+    ≡ filter (unspent_stays e.kind) (unspent_view bs) ++ option_to_list (unspent_by o)
+unspent_after e bs o = unspent_append (map (booked_after e) bs) (option_to_list (option_map booked_new o))
+    ∙ ap (λ us. us ++ unspent_view (option_to_list (option_map booked_new o))) (unspent_viewed e bs)
+    ∙ ap (λ us. filter (unspent_stays e.kind) (unspent_view bs) ++ us) (unspent_new o)
 
 -- their jobs
-pub jobs_after : (k : CoreKind) (bs : List BookedRow) (o : Option BookedRow)
-    → map (λ b. b.job) (map (booked_after k) bs ++ option_to_list o)
+pub jobs_after : (e : CoreEntry) (bs : List BookedRow) (o : Option BookedRow)
+    → map (λ b. b.job) (map (booked_after e) bs ++ option_to_list o)
     ≡ map (λ b. b.job) bs ++ option_to_list (option_map (λ b. b.job) o)
-jobs_after k bs o = map-append (λ (b : BookedRow). b.job) (map (booked_after k) bs) (option_to_list o)
+jobs_after e bs o = map-append (λ (b : BookedRow). b.job) (map (booked_after e) bs) (option_to_list o)
     ∙ ap (λ js. js ++ map (λ (b : BookedRow). b.job) (option_to_list o))
-    (map-map (λ (b : BookedRow). b.job) (booked_after k) bs)
+    (map-map (λ (b : BookedRow). b.job) (booked_after e) bs)
     ∙ ap (λ js. map (λ (b : BookedRow). b.job) bs ++ js) (map-option (λ (b : BookedRow). b.job) o)
 
 -- the rows with addresses are those without, but for the addresses

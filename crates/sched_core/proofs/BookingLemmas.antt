@@ -14,34 +14,39 @@ use Rattle.std.proofs.lemmas.List.Sums.{sum_by-cons, sum_by-set, sum_by_push, su
 use Rattle.dist_types.specs.declared.addr.Addr.{Addr}
 use Rattle.dist_types.specs.declared.ids.JobId.{JobId}
 use Rattle.dist_types.specs.declared.results.JobState.{JobState}
-use Rattle.following_rows.specs.Following.{HasNone, IsRowOf, IsPlaceOf}
+use Rattle.row_index.specs.Following.{HasNone, IsRowOf, IsPlaceOf}
 use Rattle.sched_core.specs.declared.booked.BookedRow.{BookedRow}
-use Rattle.sched_core.specs.declared.entry.CoreKind.{CoreKind}
-use Rattle.sched_core.specs.declared.entry.CoreKind.TheVariants.{Reserve, Commit, Undo, Update}
-use Rattle.sched_core.specs.declared.entry.Reserved.{Reserved}
-use Rattle.sched_core.specs.declared.entry.UpdateAnswer.{UpdateAnswer}
-use Rattle.sched_core.specs.declared.rows.OpenRow.{OpenRow}
-use Rattle.sched_core.specs.Log.{same_job}
-use Rattle.sched_core.specs.Reservation.{spends_by, frees_by, claims_by, is_accepted, is_started, is_complete}
-use Rattle.sched_core.specs.Job.{moves_by}
-use Rattle.sched_core.specs.Books.{begins_by, booked_after, LeavesOthers, FreesNoOther}
-use Rattle.sched_core.specs.Booked.{UnspentRow, held_part_of, unspent_part_of, open_part_of, held_view}
+use Rattle.core_rules.specs.declared.entry.CoreKind.{CoreKind}
+use Rattle.core_rules.specs.declared.entry.CoreKind.TheVariants.{Reserve, Commit, Undo, Update}
+use Rattle.core_rules.specs.declared.entry.Reserved.{Reserved}
+use Rattle.core_rules.specs.declared.entry.UpdateAnswer.{UpdateAnswer}
+use Rattle.core_rules.specs.declared.rows.OpenRow.{OpenRow}
+use Rattle.core_rules.specs.Log.{same_job}
+use Rattle.core_rules.specs.Reservation.{spends_by, frees_by, claims_by, is_accepted, is_started}
+use Rattle.core_rules.specs.Reservation.{is_complete}
+use Rattle.core_rules.specs.Job.{moves_by, is_ready, readied_by}
+use Rattle.core_rules.specs.Next.{begins_by}
+use Rattle.sched_core.specs.Books.{booked_after, LeavesOthers, FreesNoOther}
+use Rattle.core_rules.specs.Next.{UnspentRow}
+use Rattle.sched_core.specs.Booked.{held_part_of, unspent_part_of, open_part_of, held_view}
 use Rattle.sched_core.specs.Booked.{job_view, job_part_of}
 use Rattle.sched_core.specs.Booked.{unspent_view, open_view, AreCounted, IsFirstHeld, is_unspent_in}
 use Rattle.sched_core.specs.Booked.{is_held_in, address_in, open_in}
-use Rattle.sched_core.proofs.Lists.{list_any-map}
-use Rattle.sched_core.proofs.AllLemmas.{is_false, true_false, same_job-sym}
+use Rattle.core_rules.proofs.Lists.{list_any-map}
+use Rattle.core_rules.proofs.AllLemmas.{is_false, true_false, same_job-sym}
 
 -- what an entry leaves as it is
 
-unchanged : (k : CoreKind) (b : BookedRow) (state : Option JobState) (claimed unspent unended : Bool)
-    → begins_by k b.job ≡ None → moves_by k b.job ≡ None → claims_by k b.job ≡ false
-    → spends_by k b.job ≡ false
+unchanged : (now : ℕ) (k : CoreKind) (b : BookedRow) (state : Option JobState)
+    (claimed unspent unended : Bool)
+    → begins_by k b.job ≡ None → moves_by k b.job ≡ None → readied_by k now b.job ≡ None
+    → claims_by k b.job ≡ false → spends_by k b.job ≡ false
     → (unended && not (frees_by k b.job b.reg)) ≡ unended
-    → booked_after k (record b { state = state; claimed = claimed; unspent = unspent; unended = unended })
+    → booked_after (record { now = now; kind = k })
+    (record b { state = state; claimed = claimed; unspent = unspent; unended = unended })
     ≡ record b { state = state; claimed = claimed; unspent = unspent; unended = unended }
-unchanged k b state claimed unspent unended none still unclaimed free stays =
-    rw (none, still, unclaimed, free, stays) (alike state claimed unspent)
+unchanged now k b state claimed unspent unended none still unready unclaimed free stays =
+    rw (none, still, unready, unclaimed, free, stays) (alike state claimed unspent)
   where
     alike : (s : Option JobState) (c u : Bool) → record b {
       state = option_map (λ t. t) s;
@@ -58,11 +63,12 @@ unchanged k b state claimed unspent unended none still unclaimed free stays =
     alike (Some t) false true = refl
     alike (Some t) false false = refl
 
-same_row : (k : CoreKind) (b : BookedRow) → begins_by k b.job ≡ None → moves_by k b.job ≡ None
-    → claims_by k b.job ≡ false → spends_by k b.job ≡ false
-    → (b.unended && not (frees_by k b.job b.reg)) ≡ b.unended → booked_after k b ≡ b
-same_row k b none still unclaimed free stays =
-    unchanged k b b.state b.claimed b.unspent b.unended none still unclaimed free stays
+same_row : (now : ℕ) (k : CoreKind) (b : BookedRow) → begins_by k b.job ≡ None → moves_by k b.job ≡ None
+    → readied_by k now b.job ≡ None → claims_by k b.job ≡ false → spends_by k b.job ≡ false
+    → (b.unended && not (frees_by k b.job b.reg)) ≡ b.unended
+    → booked_after (record { now = now; kind = k }) b ≡ b
+same_row now k b none still unready unclaimed free stays =
+    unchanged now k b b.state b.claimed b.unspent b.unended none still unready unclaimed free stays
 
 and_yes : (b : Bool) → (b && true) ≡ b
 and_yes true = refl
@@ -76,18 +82,23 @@ and_no false = refl
 turned : (a b : JobId) → (b.0 == a.0) ≡ false → same_job a b ≡ false
 turned a b other = is_false (same_job a b) (λ t. true_false (same_job b a) (same_job-sym a b t) other)
 
-pub commit_leaves : (job : JobId) (state : JobState) (kept : Bool) → LeavesOthers (Commit job state kept) job
-commit_leaves job state kept b other =
+pub commit_leaves : (now : ℕ) (job : JobId) (state : JobState) (kept : Bool)
+    → LeavesOthers (record { now = now; kind = Commit job state kept }) job
+commit_leaves now job state kept b other =
     let apart : same_job job b.job ≡ false = turned job b.job other in
-    same_row (Commit job state kept) b
+    same_row now (Commit job state kept) b
     (ap (λ t. if kept && t then Some state else None) apart
     ∙ ap (λ t. if t then Some state else None) (and_no kept))
-    refl refl apart (and_yes b.unended)
+    refl
+    (ap (λ t. if kept && is_ready state && t then Some now else None) apart
+    ∙ ap (λ t. if t then Some now else None) (and_no (kept && is_ready state)))
+    refl apart (and_yes b.unended)
 
-pub undo_leaves : (job : JobId) (noted : Option ℕ) (says : Bool) → LeavesOthers (Undo job noted says) job
-undo_leaves job noted says b other =
+pub undo_leaves : (now : ℕ) (job : JobId) (noted : Option ℕ) (says : Bool)
+    → LeavesOthers (record { now = now; kind = Undo job noted says }) job
+undo_leaves now job noted says b other =
     let apart : same_job job b.job ≡ false = turned job b.job other in
-    same_row (Undo job noted says) b refl refl refl apart
+    same_row now (Undo job noted says) b refl refl refl refl apart
     (ap (λ t. b.unended && not ((((says && t) || false) || false) || false)) apart
     ∙ ap (λ t. b.unended && not (((t || false) || false) || false)) (and_no says) ∙ and_yes b.unended)
 
@@ -96,13 +107,15 @@ undo_frees job noted says b other =
     ap (λ t. (((says && t) || false) || false) || false) (turned job b.job other)
     ∙ ap (λ t. ((t || false) || false) || false) (and_no says)
 
-pub update_leaves : (server : Addr) (job : JobId) (state : JobState) (answer : UpdateAnswer)
-    → LeavesOthers (Update server job state answer) job
-update_leaves server job state answer b other =
+pub update_leaves : (now : ℕ) (server : Addr) (job : JobId) (state : JobState) (answer : UpdateAnswer)
+    → LeavesOthers (record { now = now; kind = Update server job state answer }) job
+update_leaves now server job state answer b other =
     let apart : same_job job b.job ≡ false = turned job b.job other in
-    same_row (Update server job state answer) b refl
+    same_row now (Update server job state answer) b refl
     (ap (λ t. if is_accepted answer && t then Some state else None) apart
     ∙ ap (λ t. if t then Some state else None) (and_no (is_accepted answer)))
+    (ap (λ t. if is_ready state && is_accepted answer && t then Some now else None) apart
+    ∙ ap (λ t. if t then Some now else None) (and_no (is_ready state && is_accepted answer)))
     (ap (λ t. is_started state && is_accepted answer && t) apart
     ∙ and_no (is_started state && is_accepted answer))
     refl
@@ -116,11 +129,12 @@ update_frees server job state answer b other =
     ap (λ t. (is_complete state && is_accepted answer && t) || false) (turned job b.job other)
     ∙ ap (λ t. t || false) (and_no (is_complete state && is_accepted answer))
 
-pub reserve_leaves : (r : Reserved) (bs : List BookedRow) → bs ≡ map (booked_after (Reserve r)) bs
-reserve_leaves r [] = refl
-reserve_leaves r (b ∷ bs) =
-    ap (λ c. c ∷ bs) (sym (same_row (Reserve r) b refl refl refl refl (and_yes b.unended)))
-    ∙ ap (λ l. booked_after (Reserve r) b ∷ l) (reserve_leaves r bs)
+pub reserve_leaves : (now : ℕ) (r : Reserved) (bs : List BookedRow)
+    → bs ≡ map (booked_after (record { now = now; kind = Reserve r })) bs
+reserve_leaves now r [] = refl
+reserve_leaves now r (b ∷ bs) =
+    ap (λ c. c ∷ bs) (sym (same_row now (Reserve r) b refl refl refl refl refl (and_yes b.unended)))
+    ∙ ap (λ l. booked_after (record { now = now; kind = Reserve r }) b ∷ l) (reserve_leaves now r bs)
 
 -- an entry of one job
 

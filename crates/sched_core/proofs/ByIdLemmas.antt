@@ -5,13 +5,13 @@ use Rattle.std.proofs.Common.{filter, length, take, drop, refl, ap, ◌∙◌, s
 use Rattle.std.specs.List.{AllByRecursion}
 use Rattle.std.proofs.lemmas.List.{map-append, append_assoc, take-append-drop, length-take, length-drop}
 use Rattle.std.proofs.lemmas.List.Elements.{filter-append}
-use Rattle.following_rows.specs.Following.{AreFollowing}
+use Rattle.row_index.specs.Following.{AreFollowing}
 use Rattle.sched_core.specs.declared.booked.BookedRow.{BookedRow}
-use Rattle.sched_core.specs.declared.rows.JobRow.{JobRow}
-use Rattle.sched_core.specs.Rows.{placed, sorted_into}
+use Rattle.core_rules.specs.declared.rows.JobRow.{JobRow}
+use Rattle.core_rules.specs.Rows.{placed, sorted_into}
 use Rattle.sched_core.specs.Booked.{job_part_of, job_view, jobs_by_id}
-use Rattle.sched_core.proofs.AllLemmas.{all-weaker, all-both, all-append, all-filter, all-map}
-use Rattle.sched_core.proofs.RoomLemmas.{lt_is, ge_is}
+use Rattle.core_rules.proofs.AllLemmas.{all-weaker, all-both, all-append, all-filter, all-map}
+use Rattle.core_rules.proofs.RoomLemmas.{lt_is, ge_is}
 
 -- each is below those behind it
 abbrev IsStrict : {X : Type 0} → (X → ℕ) → List X → Type 0

@@ -2,7 +2,7 @@
 use Rattle.std.proofs.Common.{◌≡◌, ◌<◌, ℕ, ◌+◌, ◌-◌, ◌^◌, List, [], ◌∷◌, ◌++◌, ◌≤◌, Bool, true, false, cond}
 use Rattle.std.proofs.Common.{not, ◌||◌, ◌&&◌, map, filter}
 use Rattle.std.proofs.Common.{Option, Some, None, refl, ap, ◌∙◌, sym, subst, take, get_or, length, arith}
-use Rattle.std.proofs.Common.{eqb-true, eq-eqb}
+use Rattle.std.proofs.Common.{eqb-true, eq-eqb, unwrap_or}
 use Rattle.std.specs.Prelude.{◌==◌, if◌then◌else◌, find}
 use Rattle.std.specs.List.{AllByRecursion}
 use Rattle.std.specs.Option.{option_map}
@@ -11,37 +11,38 @@ use Rattle.std.proofs.lemmas.List.Folds.{list_any-append}
 use Rattle.dist_types.specs.declared.addr.Addr.{Addr}
 use Rattle.dist_types.specs.declared.ids.JobId.{JobId}
 use Rattle.dist_types.specs.Addr.{same_addr}
-use Rattle.sched_core.specs.declared.start.Start.{Start}
-use Rattle.sched_core.specs.declared.entry.CoreEntry.{CoreEntry}
-use Rattle.sched_core.specs.declared.entry.CoreKind.TheVariants.{Reserve, Commit, Update, Status}
-use Rattle.sched_core.specs.declared.entry.Reserved.{Reserved}
-use Rattle.sched_core.specs.declared.entry.Reserved.TheVariants.{Job, NoRoom, Spent}
+use Rattle.core_rules.specs.declared.start.Start.{Start}
+use Rattle.core_rules.specs.declared.entry.CoreEntry.{CoreEntry}
+use Rattle.core_rules.specs.declared.entry.CoreKind.TheVariants.{Reserve, Commit, Update, Status, Drain}
+use Rattle.core_rules.specs.declared.entry.Reserved.{Reserved}
+use Rattle.core_rules.specs.declared.entry.Reserved.TheVariants.{Job, NoRoom, Spent}
 use Rattle.sched_core.specs.declared.change.Change.{Change}
-use Rattle.sched_core.specs.declared.change.Change.TheVariants.{Raise, Forgive, See}
+use Rattle.sched_core.specs.declared.change.Change.TheVariants.{Raise, Forgive, See, Draining}
 use Rattle.dist_types.specs.declared.results.JobState.{JobState}
-use Rattle.sched_core.specs.declared.entry.UpdateAnswer.{UpdateAnswer}
-use Rattle.sched_core.specs.declared.rows.ServerRow.{ServerRow}
-use Rattle.sched_core.specs.declared.rows.OpenRow.{OpenRow}
-use Rattle.sched_core.specs.Log.{names, is_this, same_job}
-use Rattle.sched_core.specs.Standing.{is_heard, standing}
-use Rattle.sched_core.specs.Rows.{row_of, servers_of}
-use Rattle.sched_core.specs.Prune.{at_address}
-use Rattle.sched_core.specs.Laws.{AreRising, AreDifferent, IsLegal}
+use Rattle.core_rules.specs.declared.entry.UpdateAnswer.{UpdateAnswer}
+use Rattle.core_rules.specs.declared.rows.ServerRow.{ServerRow}
+use Rattle.core_rules.specs.declared.rows.OpenRow.{OpenRow}
+use Rattle.core_rules.specs.Log.{names, is_this, same_job}
+use Rattle.core_rules.specs.Standing.{is_heard, standing}
+use Rattle.core_rules.specs.Rows.{row_of, servers_of}
+use Rattle.core_rules.specs.Prune.{at_address}
+use Rattle.core_rules.specs.Laws.{AreRising, AreDifferent, IsLegal}
 use Rattle.std.specs.Prelude.{count_by}
-use Rattle.sched_core.specs.declared.rows.HeldRow.{HeldRow}
-use Rattle.sched_core.specs.Books.{one_more_if, row_after, row_freed, row_stays, freed_at, served_by}
-use Rattle.sched_core.specs.Books.{place_if, settled}
+use Rattle.core_rules.specs.declared.rows.HeldRow.{HeldRow}
+use Rattle.core_rules.specs.Next.{one_more_if, row_after, row_freed, row_stays, freed_at, served_by}
+use Rattle.core_rules.specs.Next.{place_if, settled}
 use Rattle.sched_core.specs.Changes.{row_changed, row_changed_at, row_changed_if, row_forgiven}
 use Rattle.sched_core.specs.Changes.{row_reserved, row_renewed}
-use Rattle.sched_core.specs.Registrations.{AreSoundRows, HasCpus}
-use Rattle.sched_core.proofs.Lists.{map-map, map-same, filter-filter}
-use Rattle.sched_core.proofs.GrowLemmas.{map-agree}
-use Rattle.sched_core.proofs.AllLemmas.{all-both, all-weaker, all-map, all-filter, is_false, true_false}
-use Rattle.sched_core.proofs.AddressLemmas.{same_is, legal_apart}
-use Rattle.sched_core.proofs.PickLemmas.{rising_only, rows_rising, rows_positive}
-use Rattle.sched_core.proofs.RoomLemmas.{legal_fits}
-use Rattle.sched_core.proofs.RowLemmas.{at_there}
-use Rattle.sched_core.proofs.RisingLemmas.{rising-filter, different-filter}
+use Rattle.sched_core.specs.Registrations.{AreSoundRows}
+use Rattle.core_rules.specs.Pick.{HasCpus}
+use Rattle.core_rules.proofs.Lists.{map-map, map-same, filter-filter}
+use Rattle.core_rules.proofs.GrowLemmas.{map-agree}
+use Rattle.core_rules.proofs.AllLemmas.{all-both, all-weaker, all-map, all-filter, is_false, true_false}
+use Rattle.core_rules.proofs.AddressLemmas.{same_is, legal_apart}
+use Rattle.core_rules.proofs.PickLemmas.{rising_only, rows_rising, rows_positive}
+use Rattle.core_rules.proofs.RoomLemmas.{legal_fits}
+use Rattle.core_rules.proofs.RowLemmas.{at_there}
+use Rattle.core_rules.proofs.RisingLemmas.{rising-filter, different-filter}
 
 -- one row by its number
 
@@ -235,6 +236,26 @@ status_quiet e open_ones rows pruned servers cpus n is =
     (sym is)
     (sym (map-same (row_after (record { now = e.now; kind = Status pruned servers cpus n }) None)
     (λ r. refl) rows))
+
+drained_is : (now : ℕ) (server : Addr) (nonce : ℕ) (on : Bool) (named : Option ℕ) (r : ServerRow)
+    → row_changed_if (Draining on) named r
+    ≡ row_after (record { now = now; kind = Drain server nonce on named }) None r
+drained_is now server nonce on named r = by_test (is_this named r.reg)
+  where
+    by_test : (b : Bool) → cond b (record r { draining = on }) r
+        ≡ record r { draining = unwrap_or (if b then Some on else None) r.draining }
+    by_test true = refl
+    by_test false = refl
+
+pub drain_marks : (e : CoreEntry) (open_ones : List OpenRow) (rows : List ServerRow) (server : Addr)
+    (nonce : ℕ) (on : Bool) (named : Option ℕ) → e.kind ≡ Drain server nonce on named
+    → map (row_changed_if (Draining on) named) rows ≡ map (row_after e (served_by e.kind open_ones)) rows
+drain_marks e open_ones rows server nonce on named is =
+    subst (λ k. map (row_changed_if (Draining on) named) rows
+    ≡ map (row_after (record { now = e.now; kind = k }) (served_by k open_ones)) rows) (sym is)
+    (map-agree (row_changed_if (Draining on) named)
+    (row_after (record { now = e.now; kind = Drain server nonce on named }) None)
+    (drained_is e.now server nonce on named) rows)
 
 seen_is : (now : ℕ) (server : Addr) (job : JobId) (state : JobState) (answer : UpdateAnswer)
     (served : Option ℕ) (r : ServerRow)

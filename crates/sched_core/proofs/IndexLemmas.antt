@@ -8,18 +8,18 @@ use Rattle.std.specs.Option.{option_map}
 use Rattle.std.proofs.lemmas.List.Sums.{sum_by-cons, sum_by-append}
 use Rattle.dist_types.specs.declared.addr.Addr.{Addr}
 use Rattle.dist_types.specs.Addr.{same_addr}
-use Rattle.lookup_table.specs.Lookup.{HaveSame, Puts}
-use Rattle.sched_core.specs.declared.rows.ServerRow.{ServerRow}
+use Rattle.row_index.specs.Lookup.{HaveSame, Puts}
+use Rattle.core_rules.specs.declared.rows.ServerRow.{ServerRow}
 use Rattle.sched_core.specs.declared.change.Change.{Change}
-use Rattle.sched_core.specs.Laws.{AreRising, AreDifferent}
-use Rattle.sched_core.specs.Prune.{at_address, left, is_expired, prune}
+use Rattle.core_rules.specs.Laws.{AreRising, AreDifferent}
+use Rattle.core_rules.specs.Prune.{at_address, left, is_expired, prune}
 use Rattle.sched_core.specs.Changes.{row_changed_at}
 use Rattle.sched_core.specs.Registrations.{AreSoundRows, AreIndexed, HasWordOfCpus, number_at, cpus_at}
 use Rattle.sched_core.specs.Registrations.{cpus_in}
-use Rattle.sched_core.proofs.AllLemmas.{all-both, all-weaker, all-append, all-filter, all-map, all-unmap}
-use Rattle.sched_core.proofs.AllLemmas.{is_false, true_false}
-use Rattle.sched_core.proofs.AddressLemmas.{same_is}
-use Rattle.sched_core.proofs.RowLemmas.{at_there}
+use Rattle.core_rules.proofs.AllLemmas.{all-both, all-weaker, all-append, all-filter, all-map, all-unmap}
+use Rattle.core_rules.proofs.AllLemmas.{is_false, true_false}
+use Rattle.core_rules.proofs.AddressLemmas.{same_is}
+use Rattle.core_rules.proofs.RowLemmas.{at_there}
 use Rattle.sched_core.proofs.ChangeLemmas.{different_only, sound_filter}
 use Rattle.sched_core.proofs.RegistrationLemmas.{reg_kept, server_kept, cpus_kept, at_kept, sound_changed}
 
@@ -210,14 +210,6 @@ sum_few (r ∷ rows) all =
 
 -- the index over no row, and under other room
 
-pub no_index : AreIndexed [] [] 0
-no_index = record {
-  sound = record { rising = tt; apart = tt; cpus = tt };
-  at = λ server. refl;
-  sum = refl;
-  words = tt;
-}
-
 pub indexed_same : (rows : List ServerRow) (entries new : List (Addr × ℕ)) (total : ℕ)
     → AreIndexed rows entries total → HaveSame same_addr entries new → AreIndexed rows new total
 indexed_same rows entries new total is same = record {
@@ -344,7 +336,3 @@ indexed_changed change n rows entries total is = record {
       (λ r word. subst (λ c. c < 2 ^ 64) (sym (at_kept (λ r. r.cpus) change (cpus_kept change) n r)) word)
       rows is.words);
 }
-
--- as many addresses go in as places are left
-pub room_left : (places numbers spare : ℕ) → places ≤ numbers + spare → numbers < places → 0 < spare
-room_left places numbers spare room has = omega (arith, room, has)

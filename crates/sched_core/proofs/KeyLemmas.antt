@@ -8,22 +8,55 @@ use Rattle.std.specs.List.{AllByRecursion, list_any}
 use Rattle.std.specs.Option.{option_map}
 use Rattle.std.proofs.lemmas.List.{take_more}
 use Rattle.std.proofs.lemmas.List.Folds.{list_any-append}
-use Rattle.lookup_table.specs.Lookup.{value_at, HaveSame, Puts}
-use Rattle.sched_core.specs.declared.entry.CoreEntry.{CoreEntry}
-use Rattle.sched_core.specs.declared.entry.CoreKind.{CoreKind}
-use Rattle.sched_core.specs.declared.entry.CoreKind.TheVariants.{Beat, Reserve, Commit, Undo, Update, Status}
-use Rattle.sched_core.specs.Log.{names, is_this}
-use Rattle.sched_core.specs.Standing.{Registered, standing, ends_by, address_of, key_at}
-use Rattle.sched_core.specs.Laws.{AreRising}
-use Rattle.sched_core.specs.Rows.{servers_of, row_of}
+use Rattle.row_index.specs.Lookup.{value_at, HaveSame, Puts}
+use Rattle.core_rules.specs.declared.entry.CoreEntry.{CoreEntry}
+use Rattle.core_rules.specs.declared.entry.CoreKind.{CoreKind}
+use Rattle.core_rules.specs.declared.entry.CoreKind.TheVariants.{Beat, Reserve, Commit, Undo, Update}
+use Rattle.core_rules.specs.declared.entry.CoreKind.TheVariants.{Status, Drain}
+use Rattle.core_rules.specs.Log.{names, is_this}
+use Rattle.core_rules.specs.Standing.{Registered, registered_by, standing, ends_by, address_of, key_at}
+use Rattle.core_rules.specs.Laws.{AreRising}
+use Rattle.core_rules.specs.Next.{row_by}
+use Rattle.core_rules.specs.Rule.{says_new_by}
+use Rattle.core_rules.specs.Rows.{servers_of, row_of}
 use Rattle.sched_core.specs.Books.{Keys, key_of, key_list, keys_of, kept_by, with_key, without, without_this}
-use Rattle.sched_core.specs.Books.{ended_keys, keys_next, key_by, key_stays, MayRegister}
-use Rattle.sched_core.proofs.Lists.{map-map, list_any-map}
-use Rattle.sched_core.proofs.AllLemmas.{all-unmap}
-use Rattle.sched_core.proofs.StandingLemmas.{keys-absorb}
-use Rattle.sched_core.proofs.PlaceLemmas.{cards_are}
+use Rattle.sched_core.specs.Books.{ended_keys, key_by, MayRegister}
+use Rattle.core_rules.proofs.Lists.{map-map, map-same, list_any-map}
+use Rattle.core_rules.proofs.AllLemmas.{all-unmap}
+use Rattle.core_rules.proofs.StandingLemmas.{standing-push}
+use Rattle.core_rules.proofs.PlaceLemmas.{cards_are}
 use Rattle.sched_core.proofs.RegistrationLemmas.{turned}
 use Rattle.sched_core.proofs.IndexLemmas.{all_end}
+
+-- the keys after an entry of this number
+abbrev pub keys_next : CoreEntry → ℕ → Keys → Keys
+keys_next e number keys = with_key (key_by e.kind number) (ended_keys e.kind keys)
+
+-- whether an entry leaves the key's registration standing
+abbrev pub key_stays : CoreEntry → ℕ × List ℕ → Bool
+key_stays e k = not (ends_by e.kind k.0)
+
+key_made : (k : CoreKind) (now : ℕ) (before : List CoreEntry) (at : CoreEntry)
+    → option_map key_of (registered_by k now before at []) ≡ key_by k (length before)
+key_made (Beat server nonce cpus key pruned reaped replaced true) now before at = refl
+key_made (Beat server nonce cpus key pruned reaped replaced false) now before at = refl
+key_made (Reserve r) now before at = refl
+key_made (Commit job state kept) now before at = refl
+key_made (Undo job noted was_ended) now before at = refl
+key_made (Update server job state answer) now before at = refl
+key_made (Status pruned servers cpus jobs) now before at = refl
+key_made (Drain addr nonce on named) now before at = refl
+
+-- the keys after one more entry
+pub keys-absorb : (keys : List (ℕ × List ℕ)) (log : List CoreEntry) (e : CoreEntry) → keys ≡ key_list log
+    → filter (key_stays e) keys ++ option_to_list (key_by e.kind (length log)) ≡ key_list (log ++ e ∷ [])
+keys-absorb keys log e same =
+    ap (λ ks. filter (key_stays e) ks ++ option_to_list (key_by e.kind (length log))) same
+    ∙ ap (λ ks. ks ++ option_to_list (key_by e.kind (length log)))
+    (sym (map-same (λ k. k) (λ k. refl) (filter (key_stays e) (key_list log))))
+    ∙ ap (λ o. map (λ k. k) (filter (key_stays e) (key_list log)) ++ option_to_list o)
+    (sym (key_made e.kind e.now log e))
+    ∙ sym (standing-push key_of (λ l d k. k) key_stays (λ d g. refl) (λ l d g whole up. refl) log e)
 
 -- keys that are the same at each number are the same
 pub each_key : (old new : Keys) → ((n : ℕ) → new n ≡ old n) → new ≡ old
@@ -206,9 +239,32 @@ key_there log n some none = no_key (standing log) n
 
 -- where an entry brings a key, it is a heartbeat's
 pub key_registers : (k : CoreKind) (number : ℕ) → IsSome (key_by k number) → MayRegister k
-key_registers (Beat server nonce cpus key pruned reaped replaced is_new) number some = tt
+key_registers (Beat server nonce cpus key pruned reaped replaced true) number some = refl
+key_registers (Beat server nonce cpus key pruned reaped replaced false) number some = absurd (false≢true some)
 key_registers (Reserve r) number some = absurd (false≢true some)
 key_registers (Commit job state kept) number some = absurd (false≢true some)
 key_registers (Undo job noted was_ended) number some = absurd (false≢true some)
 key_registers (Update server job state answer) number some = absurd (false≢true some)
 key_registers (Status pruned servers cpus n) number some = absurd (false≢true some)
+key_registers (Drain addr nonce on named) number some = absurd (false≢true some)
+
+-- where an entry brings a registration, it is a heartbeat that says new
+pub row_registers : (k : CoreKind) (number now : ℕ) → IsSome (row_by k number now) → MayRegister k
+row_registers (Beat server nonce cpus key pruned reaped replaced true) number now some = refl
+row_registers (Beat server nonce cpus key pruned reaped replaced false) number now some =
+    absurd (false≢true some)
+row_registers (Reserve r) number now some = absurd (false≢true some)
+row_registers (Commit job state kept) number now some = absurd (false≢true some)
+row_registers (Undo job noted was_ended) number now some = absurd (false≢true some)
+row_registers (Update server job state answer) number now some = absurd (false≢true some)
+row_registers (Status pruned servers cpus n) number now some = absurd (false≢true some)
+row_registers (Drain addr nonce on named) number now some = absurd (false≢true some)
+
+pub registers_new : (k : CoreKind) → MayRegister k → says_new_by k ≡ true
+registers_new (Beat server nonce cpus key pruned reaped replaced is_new) may = may
+registers_new (Reserve r) may = absurd may
+registers_new (Commit job state kept) may = absurd may
+registers_new (Undo job noted was_ended) may = absurd may
+registers_new (Update server job state answer) may = absurd may
+registers_new (Status pruned servers cpus n) may = absurd may
+registers_new (Drain addr nonce on named) may = absurd may

@@ -1,19 +1,19 @@
 -- What a reserve costs in looks.
 use Rattle.std.proofs.Common.{◌≡◌, ◌≤◌, ℕ, suc, ◌+◌, ◌*◌, ◌^◌, List, length, max, ap, ◌∙◌, subst, arith}
 use Rattle.std.proofs.Math.Nat.{pow-suc}
-use Rattle.sched_core.specs.declared.start.Start.{Start}
-use Rattle.sched_core.specs.declared.entry.CoreEntry.{CoreEntry}
-use Rattle.sched_core.specs.declared.entry.Reserved.{Reserved}
-use Rattle.sched_core.specs.declared.entry.Reserved.TheVariants.{Job, NoRoom, Spent}
-use Rattle.sched_core.specs.declared.rows.ServerRow.{ServerRow}
-use Rattle.sched_core.specs.declared.call.Call.TheVariants as call
-use Rattle.sched_core.specs.Reservation.{bookings}
-use Rattle.sched_core.specs.Rows.{servers_of}
-use Rattle.sched_core.specs.Pick.{pick}
-use Rattle.sched_core.specs.Rule.{rule, reserved_at}
+use Rattle.core_rules.specs.declared.start.Start.{Start}
+use Rattle.core_rules.specs.declared.entry.CoreEntry.{CoreEntry}
+use Rattle.core_rules.specs.declared.entry.Reserved.{Reserved}
+use Rattle.core_rules.specs.declared.entry.Reserved.TheVariants.{Job, NoRoom, Spent}
+use Rattle.core_rules.specs.declared.rows.ServerRow.{ServerRow}
+use Rattle.core_rules.specs.declared.call.Call.TheVariants as call
+use Rattle.core_rules.specs.Reservation.{bookings}
+use Rattle.core_rules.specs.Rows.{servers_of}
+use Rattle.core_rules.specs.Pick.{pick}
+use Rattle.core_rules.specs.Rule.{rule, reserved_at}
 use Rattle.sched_core.specs.Most.{most_standing, forgiven_count}
 use Rattle.sched_core.specs.Registrations.{forgiven_in, reserve_looks, decide_looks}
-use Rattle.sched_core.proofs.LegalLemmas.{core_of}
+use Rattle.core_rules.proofs.LegalLemmas.{core_of}
 
 -- the sum of both parts, where there are at most 2^(h + 1) places
 sum_of : (h k first second third : ℕ) → second ≤ first + (2 * (h + 1) * k + 3)

@@ -2,15 +2,15 @@
 use Rattle.std.proofs.Common.{◌≡◌, ℕ, ◌+◌, ◌*◌, ◌≤◌, List, [], ◌∷◌, ◌++◌, map, length, max, ap, refl}
 use Rattle.std.proofs.Common.{◌∙◌, sym, subst, arith}
 use Rattle.std.proofs.lemmas.List.{map-append, length-map}
-use Rattle.sched_core.specs.declared.start.Start.{Start}
-use Rattle.sched_core.specs.declared.entry.CoreEntry.{CoreEntry}
-use Rattle.sched_core.specs.Cuts.{Cut, cuts}
-use Rattle.sched_core.specs.Standing.{standing}
-use Rattle.sched_core.specs.Rows.{row_of}
+use Rattle.core_rules.specs.declared.start.Start.{Start}
+use Rattle.core_rules.specs.declared.entry.CoreEntry.{CoreEntry}
+use Rattle.core_rules.specs.Cuts.{Cut, cuts}
+use Rattle.core_rules.specs.Standing.{standing}
+use Rattle.core_rules.specs.Rows.{row_of}
 use Rattle.sched_core.specs.Booked.{unspent_view}
 use Rattle.sched_core.specs.Books.{Kept, Keys, IsState}
 use Rattle.sched_core.specs.Most.{fronts, greatest, most_standing}
-use Rattle.sched_core.proofs.Lists.{map-map, followed, end_cut, cuts_behind-push}
+use Rattle.core_rules.proofs.Lists.{map-map, followed, end_cut, cuts_behind-push}
 
 greatest_left : (ns ms : List ℕ) → greatest ns ≤ greatest (ns ++ ms)
 greatest_left [] ms = omega arith

@@ -12,24 +12,27 @@ use Rattle.std.proofs.lemmas.List.Elements.{filter-append, filter_map-append}
 use Rattle.dist_types.specs.declared.ids.JobId.{JobId}
 use Rattle.dist_types.specs.declared.results.JobState.{JobState}
 use Rattle.dist_types.specs.declared.results.JobState.TheVariants.{Pending, Ready, Started, Complete}
-use Rattle.following_rows.specs.Following.{HasNone, IsRowOf}
+use Rattle.row_index.specs.Following.{HasNone, IsRowOf}
 use Rattle.sched_core.specs.declared.booked.BookedRow.{BookedRow}
-use Rattle.sched_core.specs.declared.entry.CoreKind.{CoreKind}
-use Rattle.sched_core.specs.declared.entry.CoreKind.TheVariants.{Beat, Reserve, Commit, Undo, Update, Status}
-use Rattle.sched_core.specs.declared.rows.JobRow.{JobRow}
-use Rattle.sched_core.specs.declared.rows.OpenRow.{OpenRow}
-use Rattle.sched_core.specs.Log.{same_job, newer}
-use Rattle.sched_core.specs.Standing.{ends_by}
-use Rattle.sched_core.specs.Reservation.{spends_by, frees_by, undoes_by, reaps_by, completes_by}
-use Rattle.sched_core.specs.Job.{moves_by, closes_by}
-use Rattle.sched_core.specs.Laws.{AreDistinct}
-use Rattle.sched_core.specs.Rule.{is_initial}
-use Rattle.sched_core.specs.Books.{begins_by, open_stays, open_after, open_over, open_by, booked_after}
+use Rattle.core_rules.specs.declared.entry.CoreEntry.{CoreEntry}
+use Rattle.core_rules.specs.declared.entry.CoreKind.{CoreKind}
+use Rattle.core_rules.specs.declared.entry.CoreKind.TheVariants.{Beat, Reserve, Commit, Undo, Update}
+use Rattle.core_rules.specs.declared.entry.CoreKind.TheVariants.{Status, Drain}
+use Rattle.core_rules.specs.declared.rows.JobRow.{JobRow}
+use Rattle.core_rules.specs.declared.rows.OpenRow.{OpenRow}
+use Rattle.core_rules.specs.Log.{same_job, newer}
+use Rattle.core_rules.specs.Standing.{ends_by}
+use Rattle.core_rules.specs.Reservation.{spends_by, frees_by, claims_by, undoes_by, reaps_by, completes_by}
+use Rattle.core_rules.specs.Job.{moves_by, closes_by}
+use Rattle.core_rules.specs.Laws.{AreDistinct}
+use Rattle.core_rules.specs.Rule.{is_initial}
+use Rattle.core_rules.specs.Next.{begins_by, state_after, open_stays, open_after, open_over, open_by}
+use Rattle.sched_core.specs.Books.{booked_after}
 use Rattle.sched_core.specs.Booked.{AreReordered, booked_new, job_part_of, open_part_of, job_view, open_view}
-use Rattle.sched_core.proofs.AllLemmas.{true_false, is_false, same_job-sym, same_job-trans, all-weaker}
-use Rattle.sched_core.proofs.AllLemmas.{all-unmap}
-use Rattle.sched_core.proofs.AllLemmas.{own_only}
-use Rattle.sched_core.proofs.SortLemmas.{found_first}
+use Rattle.core_rules.proofs.AllLemmas.{true_false, is_false, same_job-sym, same_job-trans, all-weaker}
+use Rattle.core_rules.proofs.AllLemmas.{all-unmap}
+use Rattle.core_rules.proofs.AllLemmas.{own_only}
+use Rattle.core_rules.proofs.SortLemmas.{found_first}
 use Rattle.sched_core.proofs.BookedLemmas.{IsSpent}
 
 -- lists in another order
@@ -149,6 +152,20 @@ reorder-find {X} job j xs ys apart same = split (list_any t xs) refl
 
 -- the open jobs of the reservations
 
+-- a reservation after an entry, but for the moment at which its job became ready, which no open job shows
+abbrev turned_by : CoreKind → BookedRow → BookedRow
+turned_by k b = record b {
+  state = state_after k b.job b.state;
+  claimed = b.claimed || claims_by k b.job;
+  unspent = b.unspent && not (spends_by k b.job);
+  unended = b.unended && not (frees_by k b.job b.reg);
+}
+
+open_alike : (e : CoreEntry) (bs more : List BookedRow)
+    → open_view (map (booked_after e) bs ++ more) ≡ open_view (map (turned_by e.kind) bs ++ more)
+open_alike e [] more = refl
+open_alike e (b ∷ bs) more = ap (cons_option (open_part_of (turned_by e.kind b))) (open_alike e bs more)
+
 -- an open job after an entry, where it stays open
 abbrev kept_open : CoreKind → Option OpenRow → Option OpenRow
 kept_open k None = None
@@ -158,11 +175,11 @@ abbrev opened : CoreKind → List OpenRow → List OpenRow
 opened k os = map (open_after k) (filter (open_stays k) os)
 
 all_opened : (k : CoreKind) (bs : List BookedRow)
-    → AllByRecursion (λ b. open_part_of (booked_after k b) ≡ kept_open k (open_part_of b)) bs
-    → open_view (map (booked_after k) bs) ≡ opened k (open_view bs)
+    → AllByRecursion (λ b. open_part_of (turned_by k b) ≡ kept_open k (open_part_of b)) bs
+    → open_view (map (turned_by k) bs) ≡ opened k (open_view bs)
 all_opened k [] all = refl
 all_opened k (b ∷ bs) all =
-    ap (λ o. cons_option o (open_view (map (booked_after k) bs))) all.0
+    ap (λ o. cons_option o (open_view (map (turned_by k) bs))) all.0
     ∙ ap (λ os. cons_option (kept_open k (open_part_of b)) os) (all_opened k bs all.1)
     ∙ split (open_part_of b)
   where
@@ -232,7 +249,7 @@ quiet_part k b (Some s) false true frees spends begin move none other ends moves
     kept false = refl
 
 quiet : (k : CoreKind) (b : BookedRow) → begins_by k b.job ≡ None → spends_by k b.job ≡ false
-    → undoes_by k b.job ≡ false → open_part_of (booked_after k b) ≡ kept_open k (open_part_of b)
+    → undoes_by k b.job ≡ false → open_part_of (turned_by k b) ≡ kept_open k (open_part_of b)
 quiet k b none other alive = quiet_part k b b.state b.unspent b.unended (frees_by k b.job b.reg)
     (spends_by k b.job) (begins_by k b.job) (moves_by k b.job) none other
     (ap (λ u. ((u || reaps_by k b.job) || completes_by k b.job) || ends_by k b.reg) alive
@@ -244,7 +261,7 @@ other_job a b other = is_false (same_job a b) (λ t. true_false (same_job b a) (
 -- an undo ends the reservation that it spends, if it is unended
 undo_part : (k : CoreKind) (b : BookedRow) → b.unspent ≡ true
     → (b.unended && not (frees_by k b.job b.reg)) ≡ false
-    → open_part_of (booked_after k b) ≡ kept_open k (open_part_of b)
+    → open_part_of (turned_by k b) ≡ kept_open k (open_part_of b)
 undo_part k b free ended = rw (free, ended) (hidden b.unended)
   where
     hidden : (u : Bool) → None
@@ -265,14 +282,14 @@ ended_so true false is = absurd (false≢true (sym is))
 
 undo_one : (job : JobId) (noted : Option ℕ) (says : Bool) (b : BookedRow)
     → (same_job b.job job ≡ true → IsSpent says b)
-    → open_part_of (booked_after (Undo job noted says) b) ≡ kept_open (Undo job noted says) (open_part_of b)
+    → open_part_of (turned_by (Undo job noted says) b) ≡ kept_open (Undo job noted says) (open_part_of b)
 undo_one job noted says b spent = split (same_job b.job job) refl
   where
     no_more : (t : Bool) → (t && false) ≡ false
     no_more true = refl
     no_more false = refl
 
-    split : (t : Bool) → same_job b.job job ≡ t → open_part_of (booked_after (Undo job noted says) b)
+    split : (t : Bool) → same_job b.job job ≡ t → open_part_of (turned_by (Undo job noted says) b)
         ≡ kept_open (Undo job noted says) (open_part_of b)
     split true same =
         let mine : IsSpent says b = spent same in
@@ -285,18 +302,18 @@ undo_one job noted says b spent = split (same_job b.job job) refl
 
 -- a commit that drops its reservation finds it ended
 drop_one : (job : JobId) (state : JobState) (b : BookedRow) → (same_job b.job job ≡ true → IsSpent false b)
-    → open_part_of (booked_after (Commit job state false) b)
+    → open_part_of (turned_by (Commit job state false) b)
     ≡ kept_open (Commit job state false) (open_part_of b)
 drop_one job state b spent = split (same_job b.job job) refl
   where
-    split : (t : Bool) → same_job b.job job ≡ t → open_part_of (booked_after (Commit job state false) b)
+    split : (t : Bool) → same_job b.job job ≡ t → open_part_of (turned_by (Commit job state false) b)
         ≡ kept_open (Commit job state false) (open_part_of b)
     split true same = rw (spent same).unended refl
     split false other = quiet (Commit job state false) b refl (other_job job b.job other) refl
 
 -- a commit leaves the reservations of other jobs
 commit_other : (job : JobId) (state : JobState) (b : BookedRow) → same_job b.job job ≡ false
-    → open_part_of (booked_after (Commit job state true) b)
+    → open_part_of (turned_by (Commit job state true) b)
     ≡ kept_open (Commit job state true) (open_part_of b)
 commit_other job state b other =
     let apart : same_job job b.job ≡ false = other_job job b.job other in
@@ -307,7 +324,7 @@ made_open b state = record { job = b.job; reg = Some b.reg; server = Some b.serv
 
 -- and its own reservation is that of an open job
 commit_own : (job : JobId) (state : JobState) (b : BookedRow) → IsSpent true b → same_job job b.job ≡ true
-    → open_part_of (booked_after (Commit job state true) b) ≡ Some (made_open b state)
+    → open_part_of (turned_by (Commit job state true) b) ≡ Some (made_open b state)
 commit_own job state b spent same = rw (spent.unspent, spent.unended, same) refl
 
 -- a reservation that was just made is that of no open job
@@ -318,13 +335,13 @@ new_closed bs (Some j) = filter_map-append open_part_of bs (booked_new j ∷ [])
 
 quiet_next : (k : CoreKind) (bs : List BookedRow) (os : List OpenRow) (o : Option JobRow)
     → open_by k (job_view bs) ≡ None
-    → AllByRecursion (λ b. open_part_of (booked_after k b) ≡ kept_open k (open_part_of b)) bs
+    → AllByRecursion (λ b. open_part_of (turned_by k b) ≡ kept_open k (open_part_of b)) bs
     → AreReordered (open_view bs) os
-    → AreReordered (open_view (map (booked_after k) bs ++ option_to_list (option_map booked_new o)))
+    → AreReordered (open_view (map (turned_by k) bs ++ option_to_list (option_map booked_new o)))
     (opened k os ++ option_to_list (open_by k (job_view bs)))
 quiet_next k bs os o none all same =
     subst (λ l. AreReordered l (opened k os ++ option_to_list (open_by k (job_view bs))))
-    (sym (new_closed (map (booked_after k) bs) o ∙ all_opened k bs all))
+    (sym (new_closed (map (turned_by k) bs) o ∙ all_opened k bs all))
     (subst (AreReordered (opened k (open_view bs)))
     (sym (ap (λ p. opened k os ++ option_to_list p) none ∙ append-nil (opened k os)))
     (reorder-map (open_after k) (filter (open_stays k) (open_view bs)) (filter (open_stays k) os)
@@ -354,13 +371,13 @@ commit_rows : (job : JobId) (state : JobState) (front rest : List BookedRow) (ro
     → open_by (Commit job state true) (job_view (front ++ row ∷ rest))
     ≡ open_over (find (λ j. same_job j.job job) (job_view (front ++ row ∷ rest))) state
     → AreReordered (open_view (front ++ row ∷ rest)) os
-    → AreReordered (open_view (map (booked_after (Commit job state true)) (front ++ row ∷ rest)
+    → AreReordered (open_view (map (turned_by (Commit job state true)) (front ++ row ∷ rest)
     ++ option_to_list (option_map booked_new o)))
     (opened (Commit job state true) os
     ++ option_to_list (open_by (Commit job state true) (job_view (front ++ row ∷ rest))))
 commit_rows job state front rest row os o before behind own spent by same =
     subst (λ l. AreReordered l (opened k os ++ option_to_list (open_by k (job_view (front ++ row ∷ rest)))))
-    (sym (new_closed (map (booked_after k) (front ++ row ∷ rest)) o ∙ cut))
+    (sym (new_closed (map (turned_by k) (front ++ row ∷ rest)) o ∙ cut))
     (subst (λ p. AreReordered (opened k (open_view front) ++ made_open row state ∷ opened k (open_view rest))
     (opened k os ++ option_to_list p))
     (sym (by ∙ ap (λ p. open_over p state) (found_row job front rest row before spent.unended own)))
@@ -375,24 +392,24 @@ commit_rows job state front rest row os o before behind own spent by same =
     k = Commit job state true
 
     others : (bs : List BookedRow) → HasNone (λ b. b.job.0) bs job.0
-        → open_view (map (booked_after (Commit job state true)) bs)
+        → open_view (map (turned_by (Commit job state true)) bs)
         ≡ opened (Commit job state true) (open_view bs)
     others bs none = all_opened (Commit job state true) bs
         (all-weaker (λ b. (b.job.0 == job.0) ≡ false)
-        (λ b. open_part_of (booked_after (Commit job state true) b)
+        (λ b. open_part_of (turned_by (Commit job state true) b)
         ≡ kept_open (Commit job state true) (open_part_of b))
         (λ b other. commit_other job state b other) bs none)
 
-    cut : open_view (map (booked_after (Commit job state true)) (front ++ row ∷ rest))
+    cut : open_view (map (turned_by (Commit job state true)) (front ++ row ∷ rest))
         ≡ opened (Commit job state true) (open_view front) ++ made_open row state
         ∷ opened (Commit job state true) (open_view rest)
-    cut = ap open_view (map-append (booked_after (Commit job state true)) front (row ∷ rest))
-        ∙ filter_map-append open_part_of (map (booked_after (Commit job state true)) front)
-        (map (booked_after (Commit job state true)) (row ∷ rest))
-        ∙ ap (λ p. open_view (map (booked_after (Commit job state true)) front)
-        ++ cons_option p (open_view (map (booked_after (Commit job state true)) rest)))
+    cut = ap open_view (map-append (turned_by (Commit job state true)) front (row ∷ rest))
+        ∙ filter_map-append open_part_of (map (turned_by (Commit job state true)) front)
+        (map (turned_by (Commit job state true)) (row ∷ rest))
+        ∙ ap (λ p. open_view (map (turned_by (Commit job state true)) front)
+        ++ cons_option p (open_view (map (turned_by (Commit job state true)) rest)))
         (commit_own job state row spent (same_job-sym row.job job own))
-        ∙ ap (λ l. l ++ made_open row state ∷ open_view (map (booked_after (Commit job state true)) rest))
+        ∙ ap (λ l. l ++ made_open row state ∷ open_view (map (turned_by (Commit job state true)) rest))
         (others front before)
         ∙ ap (λ l. opened (Commit job state true) (open_view front) ++ made_open row state ∷ l)
         (others rest behind)
@@ -450,47 +467,50 @@ AreSpentBy other bs = Unit {0}
 
 all_quiet : (k : CoreKind) (bs : List BookedRow) → ((b : BookedRow) → begins_by k b.job ≡ None)
     → ((b : BookedRow) → spends_by k b.job ≡ false) → ((b : BookedRow) → undoes_by k b.job ≡ false)
-    → AllByRecursion (λ b. open_part_of (booked_after k b) ≡ kept_open k (open_part_of b)) bs
+    → AllByRecursion (λ b. open_part_of (turned_by k b) ≡ kept_open k (open_part_of b)) bs
 all_quiet k [] none other alive = tt
 all_quiet k (b ∷ bs) none other alive =
     (quiet k b (none b) (other b) (alive b), all_quiet k bs none other alive)
 
-pub open_next : (k : CoreKind) (bs : List BookedRow) (os : List OpenRow) (o : Option JobRow)
+next_by : (k : CoreKind) (bs : List BookedRow) (os : List OpenRow) (o : Option JobRow)
     → AreDistinct (map (λ b. b.job) bs) → AreSpentBy k bs → AreReordered (open_view bs) os
-    → AreReordered (open_view (map (booked_after k) bs ++ option_to_list (option_map booked_new o)))
+    → AreReordered (open_view (map (turned_by k) bs ++ option_to_list (option_map booked_new o)))
     (opened k os ++ option_to_list (open_by k (job_view bs)))
-open_next (Reserve r) bs os o apart spent same = quiet_next (Reserve r) bs os o refl
+next_by (Reserve r) bs os o apart spent same = quiet_next (Reserve r) bs os o refl
     (all_quiet (Reserve r) bs (λ b. refl) (λ b. refl) (λ b. refl)) same
-open_next (Beat server nonce cpus key pruned reaped replaced is_new) bs os o apart spent same =
+next_by (Beat server nonce cpus key pruned reaped replaced is_new) bs os o apart spent same =
     quiet_next (Beat server nonce cpus key pruned reaped replaced is_new) bs os o refl
     (all_quiet (Beat server nonce cpus key pruned reaped replaced is_new) bs (λ b. refl) (λ b. refl)
     (λ b. refl)) same
-open_next (Update server job state answer) bs os o apart spent same =
+next_by (Update server job state answer) bs os o apart spent same =
     quiet_next (Update server job state answer) bs os o refl
     (all_quiet (Update server job state answer) bs (λ b. refl) (λ b. refl) (λ b. refl)) same
-open_next (Status pruned servers cpus n) bs os o apart spent same =
+next_by (Status pruned servers cpus n) bs os o apart spent same =
     quiet_next (Status pruned servers cpus n) bs os o refl
     (all_quiet (Status pruned servers cpus n) bs (λ b. refl) (λ b. refl) (λ b. refl)) same
-open_next (Undo job noted says) bs os o apart spent same =
+next_by (Drain addr nonce on named) bs os o apart spent same =
+    quiet_next (Drain addr nonce on named) bs os o refl
+    (all_quiet (Drain addr nonce on named) bs (λ b. refl) (λ b. refl) (λ b. refl)) same
+next_by (Undo job noted says) bs os o apart spent same =
     quiet_next (Undo job noted says) bs os o refl
     (all-weaker (λ b. same_job b.job job ≡ true → IsSpent says b)
-    (λ b. open_part_of (booked_after (Undo job noted says) b)
+    (λ b. open_part_of (turned_by (Undo job noted says) b)
     ≡ kept_open (Undo job noted says) (open_part_of b))
     (λ b h. undo_one job noted says b h) bs spent) same
-open_next (Commit job state false) bs os o apart spent same =
+next_by (Commit job state false) bs os o apart spent same =
     quiet_next (Commit job state false) bs os o refl
     (all-weaker (λ b. same_job b.job job ≡ true → IsSpent false b)
-    (λ b. open_part_of (booked_after (Commit job state false) b)
+    (λ b. open_part_of (turned_by (Commit job state false) b)
     ≡ kept_open (Commit job state false) (open_part_of b))
     (λ b h. drop_one job state b h) bs spent.0) same
-open_next (Commit job state true) bs os o apart spent same =
+next_by (Commit job state true) bs os o apart spent same =
     let at : (row : BookedRow) × IsRowOf (λ b. b.job.0) bs job.0 row = own_row job bs apart spent.1 in
     let row : BookedRow = at.0 in
     let own : same_job row.job job ≡ true = eq-eqb row.job.0 job.0 at.1.own in
     let all : AllByRecursion (λ b. same_job b.job job ≡ true → IsSpent true b)
     (at.1.front ++ row ∷ at.1.rest) =
     subst (AllByRecursion (λ b. same_job b.job job ≡ true → IsSpent true b)) at.1.are spent.0 in
-    subst (λ l. AreReordered (open_view (map (booked_after (Commit job state true)) l
+    subst (λ l. AreReordered (open_view (map (turned_by (Commit job state true)) l
     ++ option_to_list (option_map booked_new o)))
     (opened (Commit job state true) os ++ option_to_list (open_by (Commit job state true) (job_view l))))
     (sym at.1.are)
@@ -505,6 +525,14 @@ open_next (Commit job state true) bs os o apart spent same =
     by_state Ready h jobs = refl
     by_state Started h jobs = absurd (false≢true h)
     by_state Complete h jobs = absurd (false≢true h)
+
+pub open_next : (e : CoreEntry) (bs : List BookedRow) (os : List OpenRow) (o : Option JobRow)
+    → AreDistinct (map (λ b. b.job) bs) → AreSpentBy e.kind bs → AreReordered (open_view bs) os
+    → AreReordered (open_view (map (booked_after e) bs ++ option_to_list (option_map booked_new o)))
+    (opened e.kind os ++ option_to_list (open_by e.kind (job_view bs)))
+open_next e bs os o apart spent same =
+    subst (λ l. AreReordered l (opened e.kind os ++ option_to_list (open_by e.kind (job_view bs))))
+    (sym (open_alike e bs (option_to_list (option_map booked_new o)))) (next_by e.kind bs os o apart spent same)
 
 -- the jobs of the open ones differ
 others_opened : (j : JobId) (bs : List BookedRow)

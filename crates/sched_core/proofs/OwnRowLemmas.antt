@@ -14,17 +14,18 @@ use Rattle.std.proofs.lemmas.List.Elements.{filter-append}
 use Rattle.dist_types.specs.declared.addr.Addr.{Addr}
 use Rattle.dist_types.specs.declared.ids.JobId.{JobId}
 use Rattle.dist_types.specs.declared.results.JobState.{JobState}
-use Rattle.numbered_lists.specs.Numbered.{list_at, Puts, AreAlike}
+use Rattle.row_index.specs.Lists.{list_at, Puts, AreAlike}
 use Rattle.sched_core.specs.declared.booked.BookedRow.{BookedRow}
-use Rattle.sched_core.specs.declared.entry.CoreKind.{CoreKind}
-use Rattle.sched_core.specs.declared.entry.CoreKind.TheVariants.{Beat, Status}
-use Rattle.sched_core.specs.declared.rows.HeldRow.{HeldRow}
-use Rattle.sched_core.specs.declared.rows.OpenRow.{OpenRow}
-use Rattle.sched_core.specs.Log.{names, names_job, is_this, same_job}
-use Rattle.sched_core.specs.Laws.{AreRising}
-use Rattle.sched_core.specs.Reap.{is_reaped, reap}
-use Rattle.sched_core.specs.Rule.{is_left}
-use Rattle.sched_core.specs.Reservation.{frees_by}
+use Rattle.core_rules.specs.declared.entry.CoreEntry.{CoreEntry}
+use Rattle.dist_types.specs.declared.rules.Rules.{Rules}
+use Rattle.core_rules.specs.declared.entry.CoreKind.TheVariants.{Beat, Status, Drain}
+use Rattle.core_rules.specs.declared.rows.HeldRow.{HeldRow}
+use Rattle.core_rules.specs.declared.rows.OpenRow.{OpenRow}
+use Rattle.core_rules.specs.Log.{names, names_job, is_this, same_job}
+use Rattle.core_rules.specs.Laws.{AreRising}
+use Rattle.core_rules.specs.Reap.{is_reaped, reap}
+use Rattle.core_rules.specs.Rule.{is_left}
+use Rattle.core_rules.specs.Reservation.{frees_by}
 use Rattle.sched_core.specs.Books.{booked_after}
 use Rattle.sched_core.specs.Booked.{held_part_of, held_view, open_view}
 use Rattle.sched_core.specs.Own.{is_own, is_own_in, is_own_at, own_part_of, own_row_at, own_places}
@@ -32,10 +33,10 @@ use Rattle.sched_core.specs.Own.{IsOwnList, AreOwn}
 use Rattle.sched_core.specs.Own.{is_open_row, ended_row, ended_at, ended_at_all, ended_if, ended_job}
 use Rattle.sched_core.specs.Own.{ended_jobs}
 use Rattle.sched_core.specs.Own.{ended_in, ended_in_all}
-use Rattle.sched_core.proofs.Lists.{map-map, filter-map, filter-filter}
-use Rattle.sched_core.proofs.AllLemmas.{is_false, true_false, all-weaker, all-append, all-filter}
+use Rattle.core_rules.proofs.Lists.{map-map, map-same, filter-map, filter-filter}
+use Rattle.core_rules.proofs.AllLemmas.{is_false, true_false, all-weaker, all-append, all-filter}
 use Rattle.sched_core.proofs.ChangeLemmas.{filter_each}
-use Rattle.sched_core.proofs.GrowLemmas.{map-agree}
+use Rattle.core_rules.proofs.GrowLemmas.{map-agree}
 
 -- lists
 
@@ -142,10 +143,10 @@ less_own true true r e = e
 less_own true false r e = absurd (false≢true e)
 less_own false f r e = e
 
-pub own_after : (kind : CoreKind) (bs : List BookedRow) (lists : List (ℕ × List ℕ)) → AreOwn bs lists
-    → AreOwn (map (booked_after kind) bs) lists
-own_after kind bs lists own = own_map (booked_after kind)
-    (λ n b e. less_own b.unended (not (frees_by kind b.job b.reg)) (b.reg == n) e) bs lists own
+pub own_after : (e : CoreEntry) (bs : List BookedRow) (lists : List (ℕ × List ℕ)) → AreOwn bs lists
+    → AreOwn (map (booked_after e) bs) lists
+own_after e bs lists own = own_map (booked_after e)
+    (λ n b is. less_own b.unended (not (frees_by e.kind b.job b.reg)) (b.reg == n) is) bs lists own
 
 pub own_jobs : (jobs : List JobId) (bs : List BookedRow) (lists : List (ℕ × List ℕ)) → AreOwn bs lists
     → AreOwn (map (ended_jobs jobs) bs) lists
@@ -237,6 +238,11 @@ own_put bs old new number list own is puts n =
 pub own_alike : (bs : List BookedRow) (old new : List (ℕ × List ℕ)) → AreOwn bs old → AreAlike old new
     → AreOwn bs new
 own_alike bs old new own alike n = subst (IsOwnList n bs) (sym (alike n)) (own n)
+
+pub own_swept : (old kept new : List (ℕ × List ℕ)) (number : ℕ) (list : List ℕ) → Puts old kept number list
+    → AreAlike kept new → list_at new number ≡ list
+own_swept old kept new number list puts alike =
+    alike number ∙ puts number ∙ ap (λ b. cond b list (list_at old number)) (eq-eqb number number refl)
 
 pub own_forgotten : (n : ℕ) (bs : List BookedRow) (old new : List (ℕ × List ℕ)) → AreOwn bs old
     → Puts old new n [] → AreOwn (map (ended_at n) bs) new
@@ -365,22 +371,22 @@ rows_own n bs list own = sym (filter_map-filter (own_row_at n bs) (is_own_at n b
     ∙ ap (filter_map (own_row_at n bs)) own.1 ∙ rows_at_places n bs
 
 -- what a heartbeat reaps
-pub reap_own : (now n : ℕ) (bs : List BookedRow)
-    → map (λ b. b.job) (filter (λ b. is_reaped now n (held_part_of b)) (filter (is_own n) bs))
-    ≡ reap now n (held_view bs)
-reap_own now n bs =
-    let t : BookedRow → Bool = λ b. is_reaped now n (held_part_of b) in
+pub reap_own : (rules : Rules) (now n : ℕ) (bs : List BookedRow)
+    → map (λ b. b.job) (filter (λ b. is_reaped rules now n (held_part_of b)) (filter (is_own n) bs))
+    ≡ reap rules now n (held_view bs)
+reap_own rules now n bs =
+    let t : BookedRow → Bool = λ b. is_reaped rules now n (held_part_of b) in
     let up : List BookedRow = filter (λ b. b.unended) bs in
     ap (map (λ (b : BookedRow). b.job)) (sym (filter-filter t (is_own n) bs)
-    ∙ filter_each (λ b. is_own n b && t b) (λ b. b.unended && t b) (λ b. same b.unended (b.reg == n) _ _ _) bs
+    ∙ filter_each (λ b. is_own n b && t b) (λ b. b.unended && t b) (λ b. same b.unended (b.reg == n) _ _) bs
     ∙ filter-filter t (λ b. b.unended) bs)
     ∙ sym (map-map (λ (h : HeldRow). h.job) held_part_of (filter t up))
-    ∙ ap (map (λ (h : HeldRow). h.job)) (sym (filter-map (is_reaped now n) held_part_of up))
+    ∙ ap (map (λ (h : HeldRow). h.job)) (sym (filter-map (is_reaped rules now n) held_part_of up))
   where
-    same : (u r c l o : Bool) → ((u && r) && (((r && c) && l) && o)) ≡ (u && (((r && c) && l) && o))
-    same true true c l o = refl
-    same true false c l o = refl
-    same false r c l o = refl
+    same : (u r c o : Bool) → ((u && r) && ((r && c) && o)) ≡ (u && ((r && c) && o))
+    same true true c o = refl
+    same true false c o = refl
+    same false r c o = refl
 
 eq-turn : (a b : ℕ) → (a == b) ≡ (b == a)
 eq-turn a b = split (a == b) refl (b == a) refl
@@ -453,11 +459,6 @@ own_job job b own = sym (ap (λ t. record b { unended = b.unended && not t }) (e
 
 -- a place's row
 
-pub place_there : (n : ℕ) (bs : List BookedRow) (p : ℕ) → is_own_at n bs p ≡ true → p < length bs
-place_there n [] p e = absurd (false≢true e)
-place_there n (b ∷ bs) zero e = omega arith
-place_there n (b ∷ bs) (suc p) e = (let lt = place_there n bs p e in omega (arith, lt))
-
 place_ended : (n : ℕ) (bs : List BookedRow) (p : ℕ) (d : BookedRow) → is_own_at n bs p ≡ true
     → set bs p (ended_row (get_or bs p d)) ≡ ended_in n p bs
 place_ended n [] p d e = absurd (false≢true e)
@@ -505,26 +506,33 @@ three true false false true = refl
 three true false false false = refl
 three false p r j = refl
 
-pub beat_is : (server : Addr) (nonce cpus : ℕ) (key pruned : List ℕ) (reaped : List JobId) (replaced :
+pub beat_is : (now : ℕ) (server : Addr) (nonce cpus : ℕ) (key pruned : List ℕ) (reaped : List JobId) (replaced :
     Option ℕ)
     (is_new : Bool) (bs : List BookedRow)
     → map (ended_jobs reaped) (map (ended_if replaced) (map (ended_at_all pruned) bs))
-    ≡ map (booked_after (Beat server nonce cpus key pruned reaped replaced is_new)) bs
-beat_is server nonce cpus key pruned reaped replaced is_new bs =
+    ≡ map (booked_after (record { now = now; kind = Beat server nonce cpus key pruned reaped replaced is_new }))
+    bs
+beat_is now server nonce cpus key pruned reaped replaced is_new bs =
     let kind = Beat server nonce cpus key pruned reaped replaced is_new in
+    let e : CoreEntry = record { now = now; kind = kind } in
     ap (map (ended_jobs reaped)) (map-map (ended_if replaced) (ended_at_all pruned) bs)
     ∙ map-map (ended_jobs reaped) (λ b. ended_if replaced (ended_at_all pruned b)) bs
-    ∙ map-agree (λ b. ended_jobs reaped (ended_if replaced (ended_at_all pruned b))) (booked_after kind)
+    ∙ map-agree (λ b. ended_jobs reaped (ended_if replaced (ended_at_all pruned b))) (booked_after e)
     (λ b. ap (λ u. record b { unended = u })
     (three b.unended (names pruned b.reg) (is_this replaced b.reg) (names_job reaped b.job))
     ∙ sym (unmarked b b.state b.claimed b.unspent (b.unended && not (frees_by kind b.job b.reg)))) bs
 
-pub status_is : (pruned : List ℕ) (servers cpus n : ℕ) (bs : List BookedRow)
-    → map (ended_at_all pruned) bs ≡ map (booked_after (Status pruned servers cpus n)) bs
-status_is pruned servers cpus n bs =
-    let kind = Status pruned servers cpus n in
-    map-agree (ended_at_all pruned) (booked_after kind)
-    (λ b. sym (unmarked b b.state b.claimed b.unspent (b.unended && not (frees_by kind b.job b.reg)))) bs
+-- a drain leaves all reservations
+pub drain_is : (now : ℕ) (server : Addr) (nonce : ℕ) (on : Bool) (named : Option ℕ) (bs : List BookedRow)
+    → bs ≡ map (booked_after (record { now = now; kind = Drain server nonce on named })) bs
+drain_is now server nonce on named bs =
+    sym (map-same (booked_after (record { now = now; kind = Drain server nonce on named }))
+    (λ b. unmarked b b.state b.claimed b.unspent (b.unended && true)
+    ∙ ap (λ u. record b { unended = u }) (and_all b.unended)) bs)
+  where
+    and_all : (u : Bool) → (u && true) ≡ u
+    and_all true = refl
+    and_all false = refl
 
 -- the first of the rest
 

@@ -5,24 +5,26 @@ use Rattle.std.proofs.Common.{Option, Some, None, ◌⊎◌, inl, inr, refl, ap,
 use Rattle.std.proofs.lemmas.Bool.{cases_lt}
 use Rattle.std.specs.Prelude.{◌==◌, nat_lt, MatchOption}
 use Rattle.std.specs.List.{AllByRecursion}
-use Rattle.winner_tree.specs.declared.keys.LoadKey.{LoadKey}
-use Rattle.winner_tree.specs.declared.keys.MomentKey.{MomentKey}
-use Rattle.winner_tree.specs.Keys.{less_or, load_before, moment_before}
-use Rattle.winner_tree.specs.KeyLaws.{not_less, less_not}
-use Rattle.ranked_rows.specs.Ranks.{HaveNoKey, IsFirstBy, is_early, early_numbers}
-use Rattle.sched_core.specs.declared.rows.ServerRow.{ServerRow}
-use Rattle.sched_core.specs.Pick.{pick, has_room, is_faultless, is_lighter, is_older, is_stale}
-use Rattle.sched_core.specs.Pick.{forgiven}
-use Rattle.sched_core.specs.Prune.{prune, is_expired}
-use Rattle.sched_core.specs.Laws.{AreRising, IsFirst}
-use Rattle.sched_core.specs.Registrations.{HasCpus, AreSoundRows, load_key_by, load_key_of, error_key_by}
-use Rattle.sched_core.specs.Registrations.{error_key_of}
-use Rattle.sched_core.specs.Registrations.{sign_key_of}
-use Rattle.sched_core.proofs.AllLemmas.{all-weaker, all-both, true_false, is_false}
-use Rattle.sched_core.proofs.RoomLemmas.{lt_false, lt_is, ge_is}
-use Rattle.sched_core.proofs.RowLemmas.{at_there}
-use Rattle.sched_core.proofs.PickLemmas.{light_pick, old_pick, none_picked}
-use Rattle.sched_core.proofs.Lists.{filter-filter}
+use Rattle.row_index.specs.declared.keys.LoadKey.{LoadKey}
+use Rattle.row_index.specs.declared.keys.MomentKey.{MomentKey}
+use Rattle.row_index.specs.Keys.{less_or, load_before, moment_before}
+use Rattle.row_index.specs.KeyLaws.{not_less, less_not}
+use Rattle.row_index.specs.Ranks.{HaveNoKey, IsFirstBy, is_early, early_numbers}
+use Rattle.core_rules.specs.declared.rows.ServerRow.{ServerRow}
+use Rattle.core_rules.specs.Pick.{pick, has_room, is_faultless, is_lighter, is_older, is_stale}
+use Rattle.core_rules.specs.Pick.{forgiven}
+use Rattle.core_rules.specs.Prune.{prune, is_expired}
+use Rattle.core_rules.specs.Laws.{AreRising, IsFirst}
+use Rattle.core_rules.specs.Pick.{HasCpus}
+use Rattle.sched_core.specs.Registrations.{AreSoundRows}
+use Rattle.core_rules.specs.Ranked.{load_key_by, load_key_of, error_key_by}
+use Rattle.core_rules.specs.Ranked.{error_key_of}
+use Rattle.core_rules.specs.Ranked.{sign_key_of}
+use Rattle.core_rules.proofs.AllLemmas.{all-weaker, all-both, true_false, is_false}
+use Rattle.core_rules.proofs.RoomLemmas.{lt_false, lt_is, ge_is}
+use Rattle.core_rules.proofs.RowLemmas.{at_there}
+use Rattle.core_rules.proofs.PickLemmas.{light_pick, old_pick, none_picked}
+use Rattle.core_rules.proofs.Lists.{filter-filter}
 
 least : (c : ℕ) → 1 ≤ c → max c 1 ≡ c
 least c some = omega (arith, some)

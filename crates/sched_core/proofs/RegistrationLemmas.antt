@@ -12,30 +12,35 @@ use Rattle.std.proofs.lemmas.Nat.{mul-le}
 use Rattle.std.proofs.lemmas.List.{length-map}
 use Rattle.dist_types.specs.declared.addr.Addr.{Addr}
 use Rattle.dist_types.specs.Addr.{same_addr}
-use Rattle.winner_tree.specs.declared.keys.LoadKey.{LoadKey}
-use Rattle.winner_tree.specs.declared.keys.MomentKey.{MomentKey}
-use Rattle.winner_tree.specs.Keys.{load_before, moment_before}
-use Rattle.winner_tree.specs.KeyLaws.{load_one_way, moment_one_way}
-use Rattle.numbered_slots.specs.Slots.{rows_in, IsPlaceOf}
-use Rattle.ranked_rows.specs.Ranks.{key_stays, touches, touched}
-use Rattle.ranked_rows.proofs.RankLemmas.{in_range}
-use Rattle.sched_core.specs.declared.rows.ServerRow.{ServerRow}
+use Rattle.row_index.specs.declared.keys.LoadKey.{LoadKey}
+use Rattle.row_index.specs.declared.keys.MomentKey.{MomentKey}
+use Rattle.row_index.specs.Keys.{load_before, moment_before}
+use Rattle.row_index.specs.KeyLaws.{load_one_way, moment_one_way}
+use Rattle.row_index.specs.Slots.{rows_in, IsPlaceOf}
+use Rattle.row_index.specs.Ranks.{key_stays, touches, touched}
+use Rattle.row_index.proofs.RankLemmas.{in_range}
+use Rattle.core_rules.specs.declared.rows.ServerRow.{ServerRow}
 use Rattle.sched_core.specs.declared.change.Change.{Change}
 use Rattle.sched_core.specs.declared.change.Change.TheVariants.{Lower, Raise, Forgive, Note, See, LowerAndSee}
-use Rattle.sched_core.specs.declared.entry.CoreKind.{CoreKind}
-use Rattle.sched_core.specs.declared.entry.CoreKind.TheVariants.{Beat, Reserve, Commit, Undo, Update, Status}
-use Rattle.sched_core.specs.Prune.{at_address, left, is_expired, prune}
-use Rattle.sched_core.specs.Laws.{AreDifferent}
-use Rattle.sched_core.specs.Books.{row_by, row_lowered}
-use Rattle.sched_core.proofs.GrowLemmas.{map-agree}
+use Rattle.sched_core.specs.declared.change.Change.TheVariants.{Draining}
+use Rattle.core_rules.specs.declared.entry.CoreKind.{CoreKind}
+use Rattle.core_rules.specs.declared.entry.CoreKind.TheVariants.{Beat, Reserve, Commit, Undo, Update}
+use Rattle.core_rules.specs.declared.entry.CoreKind.TheVariants.{Status, Drain}
+use Rattle.core_rules.specs.Prune.{at_address, left, is_expired, prune}
+use Rattle.core_rules.specs.Laws.{AreDifferent}
+use Rattle.core_rules.specs.Next.{row_by}
+use Rattle.sched_core.specs.Books.{row_lowered}
+use Rattle.core_rules.proofs.GrowLemmas.{map-agree}
 use Rattle.sched_core.specs.Changes.{row_changed, row_changed_at}
-use Rattle.sched_core.specs.Registrations.{AreSoundRows, load_if_room, load_key_by, load_key_of}
-use Rattle.sched_core.specs.Registrations.{error_key_by}
-use Rattle.sched_core.specs.Registrations.{error_key_of, sign_key_of, trees_of, AreFew, heard_part}
+use Rattle.sched_core.specs.Registrations.{AreSoundRows}
+use Rattle.core_rules.specs.Ranked.{load_if_room, load_key_by, load_key_of}
+use Rattle.core_rules.specs.Ranked.{error_key_by}
+use Rattle.core_rules.specs.Ranked.{error_key_of, sign_key_of}
+use Rattle.sched_core.specs.Registrations.{trees_of, AreFew, heard_part}
 use Rattle.sched_core.specs.Registrations.{IsFirstFull}
-use Rattle.sched_core.proofs.AllLemmas.{is_false, true_false}
-use Rattle.sched_core.proofs.AddressLemmas.{same_is}
-use Rattle.sched_core.proofs.RowLemmas.{at_there}
+use Rattle.core_rules.proofs.AllLemmas.{is_false, true_false}
+use Rattle.core_rules.proofs.AddressLemmas.{same_is}
+use Rattle.core_rules.proofs.RowLemmas.{at_there}
 use Rattle.sched_core.proofs.ChangeLemmas.{change_is, filter_each, sound_map}
 
 -- the number, the address and the processors stay
@@ -47,6 +52,7 @@ reg_kept Forgive r = refl
 reg_kept (Note moment) r = refl
 reg_kept (See moment) r = refl
 reg_kept (LowerAndSee moment) r = refl
+reg_kept (Draining on) r = refl
 
 pub server_kept : (change : Change) (r : ServerRow) → (row_changed change r).server ≡ r.server
 server_kept Lower r = refl
@@ -55,6 +61,7 @@ server_kept Forgive r = refl
 server_kept (Note moment) r = refl
 server_kept (See moment) r = refl
 server_kept (LowerAndSee moment) r = refl
+server_kept (Draining on) r = refl
 
 pub cpus_kept : (change : Change) (r : ServerRow) → (row_changed change r).cpus ≡ r.cpus
 cpus_kept Lower r = refl
@@ -63,6 +70,7 @@ cpus_kept Forgive r = refl
 cpus_kept (Note moment) r = refl
 cpus_kept (See moment) r = refl
 cpus_kept (LowerAndSee moment) r = refl
+cpus_kept (Draining on) r = refl
 
 pub at_kept : {X : Type 0} (f : ServerRow → X) (change : Change)
     → ((r : ServerRow) → f (row_changed change r) ≡ f r)
@@ -187,6 +195,7 @@ few_trees : (change : Change) (r : ServerRow)
     → touched load_key_of error_key_of sign_key_of (Some r) (Some (row_changed change r)) ≤ trees_of change
 few_trees Lower r = one_tree r.error r (row_changed Lower r) refl refl
 few_trees Raise r = one_tree r.error r (row_changed Raise r) refl refl
+few_trees (Draining on) r = one_tree r.error r (row_changed (Draining on) r) refl refl
 few_trees Forgive r = one_two (touches load_before (load_key_of r) (load_key_of (row_changed Forgive r)))
     (touches moment_before (error_key_of r) (error_key_of (row_changed Forgive r)))
     (touches moment_before (sign_key_of r) (sign_key_of (row_changed Forgive r)))
@@ -408,6 +417,7 @@ row_by_number (Commit job state kept) number now = tt
 row_by_number (Undo job noted was_ended) number now = tt
 row_by_number (Update server job state answer) number now = tt
 row_by_number (Status pruned servers cpus n) number now = tt
+row_by_number (Drain addr nonce on named) number now = tt
 
 pub above_number : (k : CoreKind) (number now top : ℕ) → top ≤ number
     → IfSome (row_by k number now) (λ r. top ≤ r.reg)
@@ -418,6 +428,7 @@ above_number (Commit job state kept) number now top le = tt
 above_number (Undo job noted was_ended) number now top le = tt
 above_number (Update server job state answer) number now top le = tt
 above_number (Status pruned servers cpus n) number now top le = tt
+above_number (Drain addr nonce on named) number now top le = tt
 
 -- no registration is made by a reserve, so nothing is looked at for it
 pub few_pushed : (k : CoreKind) (number now h first second third : ℕ)
@@ -431,16 +442,7 @@ few_pushed (Commit job state kept) number now h first second third none few = tt
 few_pushed (Undo job noted was_ended) number now h first second third none few = tt
 few_pushed (Update server job state answer) number now h first second third none few = tt
 few_pushed (Status pruned servers cpus n) number now h first second third none few = tt
-
--- the first row, and what is behind it
-pub yields_first : (places rest : List (Option ServerRow)) (place : ℕ) (o : Option ServerRow)
-    → IsFirstFull places place
-    → o ≡ get_or places place None → rest ≡ drop (place + 1) places
-    → MatchOption o ((rows_in places ≡ []) × (rows_in rest ≡ [])) (λ x. rows_in places ≡ x ∷ rows_in rest)
-yields_first places rest place o full is by =
-    subst (λ q. MatchOption q ((rows_in places ≡ []) × (rows_in rest ≡ []))
-    (λ x. rows_in places ≡ x ∷ rows_in rest))
-    (sym (is ∙ full.is)) (full.rest ∙ ap (λ ps. full.row ∷ rows_in ps) (sym by))
+few_pushed (Drain addr nonce on named) number now h first second third none few = tt
 
 -- how many are left of so many rows
 pub left_count : (now : ℕ) (rows : List ServerRow) (pruned : List ℕ) → pruned ≡ prune now rows

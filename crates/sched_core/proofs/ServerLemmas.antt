@@ -6,7 +6,7 @@ use Rattle.std.specs.Cmp.Lexicographic.{pointwise}
 use Rattle.dist_types.specs.declared.addr.Addr.{Addr}
 use Rattle.dist_types.specs.declared.addr.Addr.TheVariants.{V4, V6}
 use Rattle.dist_types.specs.Addr.{same_addr}
-use Rattle.lookup_table.specs.Lookup.{value_at, HaveSame, Puts}
+use Rattle.row_index.specs.Lookup.{value_at, HaveSame, Puts}
 
 -- tests of servers that answer this at each pair of addresses are that of their addresses
 abbrev pub IsTest : (Addr → Addr → Bool) → Type 0

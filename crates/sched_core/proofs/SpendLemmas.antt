@@ -6,15 +6,22 @@ use Rattle.std.specs.List.{list_any}
 use Rattle.std.proofs.lemmas.Bool.{false≢true}
 use Rattle.dist_types.specs.declared.ids.JobId.{JobId}
 use Rattle.dist_types.specs.declared.results.JobState.{JobState}
-use Rattle.sched_core.specs.declared.entry.CoreKind.{CoreKind}
-use Rattle.sched_core.specs.declared.entry.CoreKind.TheVariants.{Reserve, Commit, Undo, Beat, Update, Status}
-use Rattle.sched_core.specs.Booked.{UnspentRow}
-use Rattle.sched_core.specs.Log.{same_job}
+use Rattle.core_rules.specs.declared.entry.CoreKind.{CoreKind}
+use Rattle.core_rules.specs.declared.entry.CoreKind.TheVariants.{Reserve, Commit, Undo, Beat, Update}
+use Rattle.core_rules.specs.declared.entry.CoreKind.TheVariants.{Status, Drain}
+use Rattle.core_rules.specs.Next.{UnspentRow}
+use Rattle.core_rules.specs.Log.{same_job}
 use Rattle.sched_core.specs.Own.{HasJobRoom}
-use Rattle.sched_core.specs.Reservation.{spends_by}
-use Rattle.sched_core.specs.Rule.{undo_by}
-use Rattle.sched_core.specs.Books.{MayRegister, SpendsOne, key_by}
-use Rattle.sched_core.proofs.AllLemmas.{and_right, any-weaker, same_job-sym, same_job-trans}
+use Rattle.core_rules.specs.Reservation.{spends_by}
+use Rattle.core_rules.specs.Rule.{undo_by}
+use Rattle.sched_core.specs.Books.{MayRegister, key_by}
+use Rattle.core_rules.proofs.AllLemmas.{and_right, any-weaker, same_job-sym, same_job-trans}
+
+-- an entry that spends one of the reservations
+abbrev pub SpendsOne : CoreKind → List UnspentRow → Type 0
+SpendsOne (Commit job state kept) unspent = list_any (λ u. same_job job u.job) unspent ≡ true
+SpendsOne (Undo job noted was_ended) unspent = list_any (λ u. same_job job u.job) unspent ≡ true
+SpendsOne other unspent = ⊥
 
 -- what holds of each commit and each undo of a job holds of what spends it
 by_spender : (P : CoreKind → Type 0) (job : JobId)
@@ -28,6 +35,7 @@ by_spender P job commits undoes (Beat server nonce cpus key pruned reaped replac
     absurd (false≢true spends)
 by_spender P job commits undoes (Update server j state answer) spends = absurd (false≢true spends)
 by_spender P job commits undoes (Status pruned servers cpus jobs) spends = absurd (false≢true spends)
+by_spender P job commits undoes (Drain addr nonce on named) spends = absurd (false≢true spends)
 
 module _ (job : JobId) (kind : CoreKind) (spends : spends_by kind job ≡ true) where
   pub spends_no_key : (number : ℕ) → None ≡ key_by kind number

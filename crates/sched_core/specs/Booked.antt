@@ -7,10 +7,11 @@ use Rattle.std.specs.Option.{option_map}
 use Rattle.dist_types.specs.declared.addr.Addr.{Addr}
 use Rattle.dist_types.specs.declared.ids.JobId.{JobId}
 use Rattle.sched_core.specs.declared.booked.BookedRow.{BookedRow}
-use Rattle.sched_core.specs.declared.rows.HeldRow.{HeldRow}
-use Rattle.sched_core.specs.declared.rows.JobRow.{JobRow}
-use Rattle.sched_core.specs.declared.rows.OpenRow.{OpenRow}
-use Rattle.sched_core.specs.Rows.{sorted_into}
+use Rattle.core_rules.specs.declared.rows.HeldRow.{HeldRow}
+use Rattle.core_rules.specs.declared.rows.JobRow.{JobRow}
+use Rattle.core_rules.specs.declared.rows.OpenRow.{OpenRow}
+use Rattle.core_rules.specs.Rows.{sorted_into}
+use Rattle.core_rules.specs.Next.{UnspentRow}
 
 -- a reservation that was just made
 abbrev pub booked_new : JobRow → BookedRow
@@ -21,6 +22,7 @@ booked_new j = record {
   server = j.server;
   reserved_at = j.reserved_at;
   state = j.state;
+  ready_at = j.ready_at;
   claimed = j.claimed;
   unspent = true;
   unended = true;
@@ -34,6 +36,7 @@ held_part_of b = record {
   reg = b.reg;
   reserved_at = b.reserved_at;
   state = b.state;
+  ready_at = b.ready_at;
   claimed = b.claimed;
 }
 
@@ -46,15 +49,9 @@ job_part_of b = record {
   server = b.server;
   reserved_at = b.reserved_at;
   state = b.state;
+  ready_at = b.ready_at;
   claimed = b.claimed;
 }
-
--- A reservation that is unspent: its number, its job, the registration that it was made at, and its address.
-pub record UnspentRow : Type 0 where
-  pub number : ℕ
-  pub job : JobId
-  pub reg : ℕ
-  pub server : Addr
 
 -- a reservation, as an unspent one
 abbrev pub unspent_part_of : BookedRow → UnspentRow

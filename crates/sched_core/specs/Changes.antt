@@ -3,13 +3,14 @@ use Rattle.std.specs.Prelude.{ℕ, ◌-◌, List, Bool, true, not, ◌&&◌, ◌
 use Rattle.std.specs.Prelude.{None, if◌then◌else◌}
 use Rattle.dist_types.specs.declared.addr.Addr.{Addr}
 use Rattle.dist_types.specs.Addr.{same_addr}
-use Rattle.sched_core.specs.declared.entry.Reserved.{Reserved}
-use Rattle.sched_core.specs.declared.entry.Reserved.TheVariants.{Job}
-use Rattle.sched_core.specs.declared.rows.ServerRow.{ServerRow}
+use Rattle.core_rules.specs.declared.entry.Reserved.{Reserved}
+use Rattle.core_rules.specs.declared.entry.Reserved.TheVariants.{Job}
+use Rattle.core_rules.specs.declared.rows.ServerRow.{ServerRow}
 use Rattle.sched_core.specs.declared.change.Change.{Change}
 use Rattle.sched_core.specs.declared.change.Change.TheVariants.{Lower, Raise, Forgive, Note, See, LowerAndSee}
-use Rattle.sched_core.specs.Log.{names, is_this}
-use Rattle.sched_core.specs.Books.{one_more_if}
+use Rattle.sched_core.specs.declared.change.Change.TheVariants.{Draining}
+use Rattle.core_rules.specs.Log.{names, is_this}
+use Rattle.core_rules.specs.Next.{one_more_if}
 
 -- the row after a change
 abbrev pub row_changed : Change → ServerRow → ServerRow
@@ -19,6 +20,7 @@ row_changed Forgive row = record row { error = None }
 row_changed (Note moment) row = record row { error = Some moment }
 row_changed (See moment) row = record row { seen = moment }
 row_changed (LowerAndSee moment) row = record row { load = row.load - 1; seen = moment }
+row_changed (Draining on) row = record row { draining = on }
 
 -- the same, where it is the registration of that number
 abbrev pub row_changed_at : Change → ℕ → ServerRow → ServerRow

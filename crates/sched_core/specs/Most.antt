@@ -1,11 +1,11 @@
 -- The most registrations that stood at one time, and how many a reserve forgives.
 use Rattle.std.specs.Prelude.{ℕ, List, [], ◌∷◌, ◌++◌, length, map, max}
-use Rattle.sched_core.specs.declared.entry.CoreEntry.{CoreEntry}
-use Rattle.sched_core.specs.declared.entry.CoreKind.{CoreKind}
-use Rattle.sched_core.specs.declared.entry.CoreKind.TheVariants.{Reserve}
+use Rattle.core_rules.specs.declared.entry.CoreEntry.{CoreEntry}
+use Rattle.core_rules.specs.declared.entry.CoreKind.{CoreKind}
+use Rattle.core_rules.specs.declared.entry.CoreKind.TheVariants.{Reserve}
 use Rattle.sched_core.specs.Registrations.{forgiven_in}
-use Rattle.sched_core.specs.Cuts.{cuts}
-use Rattle.sched_core.specs.Standing.{standing}
+use Rattle.core_rules.specs.Cuts.{cuts}
+use Rattle.core_rules.specs.Standing.{standing}
 
 -- the log before each entry, and the whole
 abbrev pub fronts : List CoreEntry → List (List CoreEntry)

@@ -2,19 +2,19 @@
 use Rattle.std.specs.Prelude.{◌≡◌, ◌<◌, ℕ, zero, suc, List, [], ◌∷◌, length, map, filter, Bool, true}
 use Rattle.std.specs.Prelude.{false}
 use Rattle.std.specs.Prelude.{◌-◌, not, ◌&&◌, ◌==◌, Option, Some, None, if◌then◌else◌, slice_get, is_some}
-use Rattle.std.specs.Prelude.{count_by}
+use Rattle.std.specs.Prelude.{◌+◌, ◌*◌, count_by, nat_le}
 use Rattle.std.specs.List.{AllByRecursion}
 use Rattle.dist_types.specs.declared.ids.JobId.{JobId}
-use Rattle.numbered_lists.specs.Numbered.{list_at}
+use Rattle.row_index.specs.Lists.{list_at}
 use Rattle.sched_core.specs.declared.booked.BookedRow.{BookedRow}
-use Rattle.sched_core.specs.declared.entry.CoreKind.{CoreKind}
-use Rattle.sched_core.specs.declared.entry.CoreKind.TheVariants.{Beat, Reserve}
-use Rattle.sched_core.specs.declared.entry.Reserved.{Reserved}
-use Rattle.sched_core.specs.declared.entry.Reserved.TheVariants.{Job}
-use Rattle.sched_core.specs.declared.rows.HeldRow.{HeldRow}
-use Rattle.sched_core.specs.declared.rows.ServerRow.{ServerRow}
-use Rattle.sched_core.specs.Log.{names, names_job, is_this, same_job}
-use Rattle.sched_core.specs.Laws.{AreDistinct}
+use Rattle.core_rules.specs.declared.entry.CoreKind.{CoreKind}
+use Rattle.core_rules.specs.declared.entry.CoreKind.TheVariants.{Beat, Reserve}
+use Rattle.core_rules.specs.declared.entry.Reserved.{Reserved}
+use Rattle.core_rules.specs.declared.entry.Reserved.TheVariants.{Job}
+use Rattle.core_rules.specs.declared.rows.HeldRow.{HeldRow}
+use Rattle.core_rules.specs.declared.rows.ServerRow.{ServerRow}
+use Rattle.core_rules.specs.Log.{names, names_job, is_this, same_job}
+use Rattle.core_rules.specs.Laws.{AreDistinct}
 use Rattle.sched_core.specs.Booked.{open_part_of}
 
 -- a reservation is unended and at the registration
@@ -52,6 +52,11 @@ IsOwnList n bs list = AllByRecursion (λ p. p < length bs) list
 -- the same of the list of each registration
 abbrev pub AreOwn : List BookedRow → List (ℕ × List ℕ) → Type 0
 AreOwn bs lists = (n : ℕ) → IsOwnList n bs (list_at lists n)
+
+-- the list of a registration with so many unended reservations, once there is room for one more: where it has
+-- twice as many places and eight, those that are ended are dropped
+abbrev pub swept_list : ℕ → List BookedRow → ℕ → List ℕ → List ℕ
+swept_list n bs load list = if nat_le (2 * load + 8) (length list) then filter (is_own_at n bs) list else list
 
 -- whether the job of a reservation is open
 abbrev pub is_open_row : BookedRow → Bool

@@ -3,22 +3,21 @@ use Rattle.std.specs.Prelude.{◌≡◌, ℕ, ◌+◌, ◌*◌, ◌≤◌, List,
 use Rattle.std.specs.Prelude.{◌∷◌, ◌<◌, ◌==◌, ◌^◌, drop, find, slice_index_or, sum_by, if◌then◌else◌}
 use Rattle.dist_types.specs.declared.addr.Addr.{Addr}
 use Rattle.dist_types.specs.Addr.{same_addr}
-use Rattle.numbered_slots.specs.Slots.{rows_in}
-use Rattle.winner_tree.specs.declared.keys.LoadKey.{LoadKey}
-use Rattle.winner_tree.specs.declared.keys.MomentKey.{MomentKey}
-use Rattle.sched_core.specs.declared.rows.ServerRow.{ServerRow}
+use Rattle.row_index.specs.Slots.{rows_in}
+use Rattle.core_rules.specs.declared.rows.ServerRow.{ServerRow}
 use Rattle.sched_core.specs.declared.change.Change.{Change}
 use Rattle.sched_core.specs.declared.change.Change.TheVariants.{Lower, Raise, Forgive, Note, See, LowerAndSee}
-use Rattle.sched_core.specs.declared.entry.CoreKind.{CoreKind}
-use Rattle.sched_core.specs.declared.entry.CoreKind.TheVariants.{Reserve}
-use Rattle.sched_core.specs.declared.entry.Reserved.{Reserved}
-use Rattle.sched_core.specs.declared.entry.Reserved.TheVariants.{Job}
+use Rattle.sched_core.specs.declared.change.Change.TheVariants.{Draining}
+use Rattle.core_rules.specs.declared.entry.CoreKind.{CoreKind}
+use Rattle.core_rules.specs.declared.entry.CoreKind.TheVariants.{Reserve}
+use Rattle.core_rules.specs.declared.entry.Reserved.{Reserved}
+use Rattle.core_rules.specs.declared.entry.Reserved.TheVariants.{Job}
 use Rattle.std.specs.List.{AllByRecursion}
 use Rattle.std.specs.Option.{option_map}
-use Rattle.lookup_table.specs.Lookup.{value_at}
-use Rattle.sched_core.specs.Laws.{AreRising, AreDifferent}
-use Rattle.sched_core.specs.Pick.{has_room}
-use Rattle.sched_core.specs.Prune.{is_expired, at_address}
+use Rattle.row_index.specs.Lookup.{value_at}
+use Rattle.core_rules.specs.Laws.{AreRising, AreDifferent}
+use Rattle.core_rules.specs.Prune.{is_expired, at_address}
+use Rattle.core_rules.specs.Pick.{HasCpus}
 
 -- How many places there are, the least number above all registrations that were put into them, and whether a
 -- place is left behind the last.
@@ -35,30 +34,6 @@ pub record PlacedRows : Type 0 where
 -- no row, in no place
 abbrev pub no_rows : PlacedRows
 no_rows = record { rows = []; places = record { count = 0; top = 0; has_left = false } }
-
--- its load, its processors and its number, where it has room
-abbrev pub load_if_room : ServerRow → Option LoadKey
-load_if_room r = if has_room r then Some (record { load = r.load; cpus = r.cpus; number = r.reg }) else None
-
--- the same, where it has no remembered error
-abbrev pub load_key_by : Option ℕ → ServerRow → Option LoadKey
-load_key_by None r = load_if_room r
-load_key_by (Some moment) r = None
-
-abbrev pub load_key_of : ServerRow → Option LoadKey
-load_key_of r = load_key_by r.error r
-
--- the moment of its remembered error and its number, where it has one and room
-abbrev pub error_key_by : Option ℕ → ServerRow → Option MomentKey
-error_key_by None r = None
-error_key_by (Some moment) r = if has_room r then Some (record { moment = moment; number = r.reg }) else None
-
-abbrev pub error_key_of : ServerRow → Option MomentKey
-error_key_of r = error_key_by r.error r
-
--- the moment of its last sign and its number
-abbrev pub sign_key_of : ServerRow → Option MomentKey
-sign_key_of r = Some (record { moment = r.seen; number = r.reg })
 
 -- The place has a row, the first of all.
 pub record IsFirstFull (places : List (Option ServerRow)) (place : ℕ) : Type 0 where
@@ -89,6 +64,7 @@ trees_of Forgive = 2
 trees_of (Note moment) = 2
 trees_of (See moment) = 1
 trees_of (LowerAndSee moment) = 2
+trees_of (Draining on) = 1
 
 -- the registrations whose errors a reserve forgives
 abbrev pub forgiven_in : Reserved → List ℕ
@@ -109,10 +85,6 @@ decide_looks other h = 2
 abbrev pub AreFew : CoreKind → ℕ → ℕ → ℕ → Type 0
 AreFew (Reserve reserved) h before after = after ≤ before + reserve_looks reserved h
 AreFew other h before after = Unit {0}
-
--- at least one processor
-abbrev pub HasCpus : ServerRow → Type 0
-HasCpus r = 1 ≤ r.cpus
 
 -- Rows of different registrations: their numbers rise, their addresses differ, and each has processors.
 pub record AreSoundRows (rows : List ServerRow) : Type 0 where

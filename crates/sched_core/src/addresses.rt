@@ -1,10 +1,10 @@
 //! The numbers of the registrations by their addresses.
 ghost use Rattle.std.specs.Prelude.{◌≡◌, ◌≤◌, ◌<◌, ◌+◌, None, Some, OnOk};
-ghost use Rattle.lookup_table.specs.Lookup.{value_at, HaveSame, Puts};
+ghost use Rattle.row_index.specs.Lookup.{value_at, HaveSame, Puts};
 ghost use Rattle.dist_types.specs.Addr.{same_addr};
 
 use dist_types::ids::ServerId;
-use lookup_table::LookupTable;
+use row_index::LookupTable;
 use std::alloc::AllocError;
 
 /// The number at an address.

@@ -4,16 +4,17 @@ ghost use Rattle.std.specs.Option.{option_map};
 ghost use Rattle.sched_core.specs.Booked.{booked_new, held_part_of, job_part_of, open_part_of, job_view};
 ghost use Rattle.sched_core.specs.Booked.{is_unspent_in, is_held_in, address_in, open_in};
 ghost use Rattle.sched_core.specs.Booked.{IsFirstHeld};
-ghost use Rattle.sched_core.specs.Books.{booked_after, job_over, job_in, job_by};
+ghost use Rattle.sched_core.specs.Books.{booked_after};
+ghost use Rattle.core_rules.specs.Next.{job_over, job_in, job_by};
 ghost use Rattle.sched_core.specs.Own.{ended_row, is_own, is_own_at, own_part_of, own_row_at, is_open_row};
 
-use crate::effects::{claims, frees, spends, state_now};
-use crate::entry::{CoreKind, Reserved};
 use crate::registrations::Registrations;
-use crate::rows::{HeldRow, JobRow, OpenRow, ServerRow};
+use core_rules::effects::{claims, frees, ready_now, spends, state_now};
+use core_rules::entry::{CoreEntry, CoreKind, Reserved};
+use core_rules::rows::{HeldRow, JobRow, OpenRow, ServerRow};
 use dist_types::ids::{JobId, ServerId};
 use dist_types::results::JobState;
-use following_rows::Identified;
+use row_index::Identified;
 
 /// A reservation.
 #[derive(Clone, Copy, Debug)]
@@ -30,6 +31,8 @@ pub struct BookedRow {
     pub reserved_at: u64,
     /// The state of its job, if the job is committed.
     pub state: Option<JobState>,
+    /// The moment at which its job became ready, in milliseconds, if it did.
+    pub ready_at: Option<u64>,
     /// Whether the build has begun.
     pub claimed: bool,
     /// Whether no commit and no undo has spent it.
@@ -58,6 +61,7 @@ fn job_of(row: &Option<ServerRow>, number: u64, job: JobId, now: u64) -> Option<
             server: row.server,
             reserved_at: now,
             state: None,
+            ready_at: None,
             claimed: false,
         }),
         None => None,
@@ -94,6 +98,7 @@ pub fn job_made(kind: &CoreKind, rows: &Registrations, number: u64, now: u64) ->
         CoreKind::Beat { .. } => None,
         CoreKind::Update { .. } => None,
         CoreKind::Status { .. } => None,
+        CoreKind::Drain { .. } => None,
     }
 }
 
@@ -109,6 +114,7 @@ pub fn booked(job: &Option<JobRow>) -> Option<BookedRow>
             server: j.server,
             reserved_at: j.reserved_at,
             state: j.state,
+            ready_at: j.ready_at,
             claimed: j.claimed,
             unspent: true,
             unended: true,
@@ -119,9 +125,10 @@ pub fn booked(job: &Option<JobRow>) -> Option<BookedRow>
 
 /// The row of a reservation after an entry.
 #[inline(always)]
-pub fn booked_now(b: &BookedRow, kind: &CoreKind) -> BookedRow
-    ensures { result ≡ booked_after kind.now b.now }
+pub fn booked_now(b: &BookedRow, step: &CoreEntry) -> BookedRow
+    ensures { result ≡ booked_after step.entry.now b.now }
 {
+    let kind = &step.kind;
     BookedRow {
         number: b.number,
         job: b.job,
@@ -129,6 +136,7 @@ pub fn booked_now(b: &BookedRow, kind: &CoreKind) -> BookedRow
         server: b.server,
         reserved_at: b.reserved_at,
         state: state_now(kind, b.job, b.state),
+        ready_at: ready_now(step, b.job, b.ready_at),
         claimed: b.claimed || claims(kind, b.job),
         unspent: b.unspent && !spends(kind, b.job),
         unended: b.unended && !frees(kind, b.job, b.reg),
@@ -196,6 +204,7 @@ pub fn held_part(b: &BookedRow) -> HeldRow
         reg: b.reg,
         reserved_at: b.reserved_at,
         state: b.state,
+        ready_at: b.ready_at,
         claimed: b.claimed,
     }
 }
@@ -211,6 +220,7 @@ pub fn job_part(b: &BookedRow) -> JobRow
         server: b.server,
         reserved_at: b.reserved_at,
         state: b.state,
+        ready_at: b.ready_at,
         claimed: b.claimed,
     }
 }

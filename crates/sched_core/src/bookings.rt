@@ -5,18 +5,19 @@ ghost use Rattle.std.specs.Prelude.{find, slice_index_or, slice_set, if◌then�
 ghost use Rattle.std.specs.Prelude.{OnOk, MatchOption};
 ghost use Rattle.std.specs.List.{list_any};
 ghost use Rattle.std.specs.Option.{option_map};
-ghost use Rattle.following_rows.specs.Following.{HasNone, IsRowOf};
-ghost use Rattle.sched_core.specs.Log.{same_job};
+ghost use Rattle.row_index.specs.Following.{HasNone, IsRowOf};
+ghost use Rattle.core_rules.specs.Log.{same_job};
 ghost use Rattle.sched_core.specs.declared.booked.BookedRow.{BookedRow};
 ghost use Rattle.sched_core.specs.Booked.{held_view, jobs_by_id, unspent_view, open_view};
 ghost use Rattle.sched_core.specs.Books.{booked_after, LeavesOthers};
 ghost use Rattle.sched_core.specs.Own.{ended_row, ended_job, ended_jobs, ended_in, ended_in_all};
 
 use crate::booked::{self, BookedRow, booked_now, is_open};
-use crate::entry::CoreKind;
-use crate::rows::{Jobs, OpenRow};
+use crate::rows::Jobs;
+use core_rules::entry::CoreEntry;
+use core_rules::rows::OpenRow;
 use dist_types::ids::{JobId, ServerId};
-use following_rows::Following;
+use row_index::Following;
 use std::alloc::{AllocError, Global};
 use std::marker::Model;
 
@@ -30,7 +31,7 @@ pub struct Bookings {
 }
 
 impl Model for Bookings {
-    ghost use Rattle.following_rows.specs.Following.{Followed};
+    ghost use Rattle.row_index.specs.Following.{Followed};
     ghost use Rattle.sched_core.specs.declared.booked.BookedRow.{BookedRow};
     ghost use Rattle.sched_core.specs.Booked.{AreCounted};
 
@@ -185,28 +186,28 @@ impl Bookings {
 
     // Gives the reservation in a place its row after an entry.
     #[inline(always)]
-    fn change(&mut self, place: usize, kind: &CoreKind)
+    fn change(&mut self, place: usize, step: &CoreEntry)
         requires { place < length self.old.rows }
         ensures rows { (d : BookedRow) → self.new.rows ≡ slice_set self.old.rows place
-            (booked_after kind.now (slice_index_or self.old.rows place d)) }
+            (booked_after step.entry.now (slice_index_or self.old.rows place d)) }
         ensures first { self.new.first ≡ self.old.first }
         ensures room { self.new.has_room ≡ self.old.has_room }
     {
         let old = self.rows.at(place);
-        let new = booked_now(&old, kind);
+        let new = booked_now(&old, step);
         self.write(place, &old, new);
     }
 
     /// What an entry does that names one job alone.
     #[inline(always)]
-    pub fn settle(&mut self, job: JobId, kind: &CoreKind)
-        requires { LeavesOthers kind.now job }
-        ensures rows { self.new.rows ≡ map (booked_after kind.now) self.old.rows }
+    pub fn settle(&mut self, job: JobId, step: &CoreEntry)
+        requires { LeavesOthers step.now job }
+        ensures rows { self.new.rows ≡ map (booked_after step.entry.now) self.old.rows }
         ensures first { self.new.first ≡ self.old.first }
         ensures room { self.new.has_room ≡ self.old.has_room }
     {
         match self.rows.place_of(job.0) {
-            Some(place) => self.change(place, kind),
+            Some(place) => self.change(place, step),
             None => (),
         }
     }

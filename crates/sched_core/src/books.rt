@@ -3,13 +3,13 @@ ghost use Rattle.std.specs.Prelude.{◌≡◌, ◌==◌, ◌&&◌, ◌<◌, ◌�
 ghost use Rattle.std.specs.Prelude.{◌%◌, Some, length, filter, max, IfSome};
 ghost use Rattle.std.specs.List.{list_any};
 ghost use Rattle.std.specs.Option.{option_map};
-ghost use Rattle.sched_core.specs.Log.{same_job};
-ghost use Rattle.sched_core.specs.Pick.{pick};
-ghost use Rattle.sched_core.specs.Prune.{prune};
-ghost use Rattle.sched_core.specs.Rule.{noted_over, reserved_at, beat_over, counts_over, reaped_by};
-ghost use Rattle.sched_core.specs.Rule.{is_left};
-ghost use Rattle.sched_core.specs.Reap.{reap};
-ghost use Rattle.sched_core.specs.Laws.{AreRising};
+ghost use Rattle.core_rules.specs.Log.{same_job};
+ghost use Rattle.core_rules.specs.Pick.{pick};
+ghost use Rattle.core_rules.specs.Prune.{prune};
+ghost use Rattle.core_rules.specs.Rule.{noted_over, reserved_at, beat_over, drain_over, counts_over, reaped_by};
+ghost use Rattle.core_rules.specs.Rule.{is_left};
+ghost use Rattle.core_rules.specs.Reap.{reap};
+ghost use Rattle.core_rules.specs.Laws.{AreRising};
 ghost use Rattle.sched_core.specs.Own.{HasRoomFor, HasJobRoom, AreReapedApart};
 ghost use Rattle.sched_core.specs.Books.{MayRegister, no_lists, lists_next, booked_by};
 ghost use Rattle.sched_core.specs.Booked.{held_view, jobs_by_id, unspent_view, open_view};
@@ -19,18 +19,21 @@ ghost use Rattle.sched_core.specs.Registrations.{AreFew, AreSoundRows, decide_lo
 use crate::booked::{booked, job_made};
 use crate::bookings::Bookings;
 use crate::change::{absorb_rows, push_row};
-use crate::entry::{CoreEntry, CoreKind, Reserved};
+use crate::own::Reaping;
 use crate::registrations::Registrations;
-use crate::rows::{Jobs, OpenRow, ServerRow, Servers};
-use crate::{decide, own, standing};
+use crate::rows::{Jobs, Servers};
+use crate::{decide, own};
+use core_rules::entry::{CoreEntry, CoreKind, Reserved};
+use core_rules::rows::{OpenRow, ServerRow};
+use core_rules::standing;
 use dist_types::ids::{JobId, ServerId, ServerNonce};
 use dist_types::results::SchedulerStatusResult;
+use dist_types::rules::Rules;
 use dist_types::text::{Bytes, Items};
-use numbered_lists::NumberedLists;
+use row_index::{NumberedLists, Steps};
 use std::alloc::{AllocError, Global};
 use std::marker::{Brand, Model};
 use std::sync::ledger::{Blank, Ledger};
-use winner_tree::Steps;
 
 /// The answers to what is asked of the log. Contracts see its lists, whether there is room for one
 /// registration more, and the registration at which there is room for one reservation more, if there is
@@ -159,11 +162,12 @@ impl Books {
         own::open_left(&self.bookings, &self.own, pruned)
     }
 
-    // The jobs that a heartbeat of the registration reaps.
-    fn reaped_at(&self, alloc: Global, reg: u64, now: u64) -> Result<Vec<JobId>, AllocError>
-        ensures { IfOk result (λ v. v.items ≡ reap now reg (held_view self.now.lists.booked)) }
+    // The jobs that the heartbeat reaps.
+    fn reaped_at(&self, alloc: Global, beat: Reaping) -> Result<Vec<JobId>, AllocError>
+        ensures { IfOk result (λ v. v.items ≡
+            reap beat.rules beat.moment beat.reg (held_view self.now.lists.booked)) }
     {
-        own::reaped_jobs(alloc, self.bookings.rows(), self.own.of(reg), reg, now)
+        own::reaped_jobs(alloc, self.bookings.rows(), self.own.of(beat.reg), beat)
     }
 
     // The jobs that a heartbeat with this nonce reaps, where that registration stands at its address.
@@ -171,16 +175,22 @@ impl Books {
         &self,
         alloc: Global,
         there: &Option<ServerRow>,
+        rules: Rules,
         now: u64,
         nonce: ServerNonce,
     ) -> Result<Vec<JobId>, AllocError>
         ensures { IfOk result (λ v. v.items ≡
-            reaped_by now nonce (held_view self.now.lists.booked) there.now) }
+            reaped_by rules now nonce (held_view self.now.lists.booked) there.now) }
     {
         match there {
             Some(row) => {
                 if row.nonce == nonce {
-                    self.reaped_at(alloc, row.reg, now)
+                    let beat = Reaping {
+                        reg: row.reg,
+                        rules,
+                        moment: now,
+                    };
+                    self.reaped_at(alloc, beat)
                 } else {
                     Ok(Vec::new(alloc))
                 }
@@ -207,10 +217,11 @@ impl Books {
         decide::reserved(alloc, &self.rows, now, base, given, steps)
     }
 
-    /// The entry of a heartbeat. Refused for want of memory alone.
+    /// The entry of a heartbeat by the rules. Refused for want of memory alone.
     pub fn beat(
         &self,
         alloc: Global,
+        rules: Rules,
         now: u64,
         server: ServerId,
         nonce: ServerNonce,
@@ -218,11 +229,11 @@ impl Books {
         key: &[u8],
     ) -> Result<CoreEntry, AllocError>
         ensures { IfOk result (λ e. e ≡
-            beat_over self.now.lists.rows (held_view self.now.lists.booked) now server nonce cpus key.now) }
+            beat_over rules self.now.lists.rows (held_view self.now.lists.booked) now server nonce cpus key.now) }
     {
         let pruned = self.pruned(alloc, now)?;
         let there = self.rows.survivor(now, server);
-        let reaped = self.reaped(alloc, &there, now, nonce)?;
+        let reaped = self.reaped(alloc, &there, rules, now, nonce)?;
         let key = Bytes::from_slice(alloc, key)?;
         let kind = CoreKind::Beat {
             server,
@@ -235,6 +246,20 @@ impl Books {
             is_new: standing::is_new(&there, nonce),
         };
         Ok(CoreEntry { now, kind })
+    }
+
+    /// The entry of a drain. It takes no memory.
+    pub fn drain(&self, now: u64, server: ServerId, nonce: ServerNonce, on: bool) -> CoreEntry
+        ensures { result ≡ drain_over self.now.lists.rows now server nonce on }
+    {
+        let there = self.rows.at(server);
+        let kind = CoreKind::Drain {
+            server,
+            nonce,
+            on,
+            reg: standing::drained(&there, nonce),
+        };
+        CoreEntry { now, kind }
     }
 
     /// The open job of that id.
@@ -328,6 +353,6 @@ impl Books {
         let made = booked(&job);
         absorb_rows(&mut self.rows, &self.bookings, step, steps);
         push_row(&mut self.rows, standing::row_made(step, number), steps);
-        own::absorb(&mut self.bookings, &mut self.own, &step.kind, made);
+        own::absorb(&mut self.bookings, &mut self.own, step, made);
     }
 }

@@ -1,31 +1,33 @@
 //! What an entry does to the registrations that stand, one by one.
 ghost use Rattle.std.specs.Prelude.{◌≡◌, ◌≤◌, ◌+◌, ◌*◌, ◌^◌, ◌++◌, ℕ, true, false, None, IsSome, IfSome};
-ghost use Rattle.std.specs.Prelude.{map, ◌&&◌, ◌∷◌, [], if◌then◌else◌};
+ghost use Rattle.std.specs.Prelude.{map, ◌&&◌, ◌∷◌, [], if◌then◌else◌, find};
 ghost use Rattle.std.specs.List.{AllByRecursion};
 ghost use Rattle.std.specs.Prelude.{filter, not, length, option_to_list};
 ghost use Rattle.std.specs.Option.{option_map};
-ghost use Rattle.sched_core.specs.Log.{names, is_this};
-ghost use Rattle.sched_core.specs.Books.{row_after, row_freed, row_lowered, row_stays, served_by, settled};
-ghost use Rattle.sched_core.specs.Books.{FreesNoOther, place_if, lowered_in};
+ghost use Rattle.core_rules.specs.Log.{names, is_this, same_job};
+ghost use Rattle.core_rules.specs.Next.{row_after, row_freed, row_stays, served_by, settled};
+ghost use Rattle.sched_core.specs.Books.{row_lowered};
+ghost use Rattle.sched_core.specs.Books.{FreesNoOther, lowered_in};
+ghost use Rattle.core_rules.specs.Next.{place_if};
 ghost use Rattle.sched_core.specs.Changes.{row_changed, row_changed_at, row_changed_if, row_forgiven};
 ghost use Rattle.sched_core.specs.Changes.{row_reserved, row_renewed};
 ghost use Rattle.sched_core.specs.Registrations.{AreFew, reserve_looks, AreSoundRows};
-ghost use Rattle.sched_core.specs.Reservation.{frees_by};
+ghost use Rattle.core_rules.specs.Reservation.{frees_by};
 ghost use Rattle.sched_core.specs.Booked.{held_view, open_view, open_in};
 ghost use Rattle.sched_core.specs.declared.change.Change.TheVariants.{See, Lower};
-ghost use Rattle.sched_core.specs.Laws.{AreDistinct};
+ghost use Rattle.core_rules.specs.Laws.{AreDistinct};
 ghost use Rattle.sched_core.specs.Own.{AreReapedApart, row_without};
 
 use crate::booked::{self, BookedRow};
 use crate::bookings::Bookings;
-use crate::effects::{frees, heard, is_number};
-use crate::entry::{CoreEntry, CoreKind, Reserved};
 use crate::registrations::Registrations;
-use crate::rows::ServerRow;
-use crate::standing::{one_more, place_if_heard, place_of};
+use core_rules::effects::{frees, heard, is_number};
+use core_rules::entry::{CoreEntry, CoreKind, Reserved};
+use core_rules::rows::ServerRow;
+use core_rules::standing::{one_more, place_of};
 use dist_types::ids::{JobId, ServerId};
+use row_index::Steps;
 use std::sync::ledger::Ledger;
-use winner_tree::Steps;
 
 /// A change of one registration.
 #[derive(Clone, Copy, Debug)]
@@ -42,6 +44,8 @@ pub enum Change {
     See(u64),
     /// One reservation less, and its last sign at that moment.
     LowerAndSee(u64),
+    /// It drains, or no longer.
+    Draining(bool),
 }
 
 /// The row after a change.
@@ -70,6 +74,10 @@ pub fn changed(row: ServerRow, change: Change) -> ServerRow
         Change::LowerAndSee(moment) => ServerRow {
             load: row.load.saturating_sub(1),
             seen: moment,
+            ..row
+        },
+        Change::Draining(on) => ServerRow {
+            draining: on,
             ..row
         },
     }
@@ -150,7 +158,20 @@ fn renew<L: Ledger>(
     }
 }
 
-/// Gives the registrations their last sign, load and error after an entry.
+/// The registration of the open job of that id, where it counts.
+fn place_if_heard(heard: bool, bookings: &Bookings, job: JobId) -> Option<u64>
+    ensures { result ≡ (if heard then place_if (find (λ o. same_job o.job job) (open_view bookings.now.rows))
+        else None) }
+{
+    if heard {
+        let found = bookings.open_job(job);
+        place_of(&found)
+    } else {
+        None
+    }
+}
+
+/// Gives the registrations their last sign, load and error after an entry, and whether they drain.
 fn change_rows<L: Ledger>(
     rows: &mut Registrations,
     step: &CoreEntry,
@@ -171,6 +192,7 @@ fn change_rows<L: Ledger>(
             apply_if(rows, served, Change::See(step.now), steps);
         }
         CoreKind::Status { .. } => (),
+        CoreKind::Drain { on, reg, .. } => apply_if(rows, *reg, Change::Draining(*on), steps),
     }
 }
 
@@ -214,6 +236,7 @@ fn end_rows<L: Ledger>(rows: &mut Registrations, kind: &CoreKind, steps: &mut St
         }
         CoreKind::Update { .. } => (),
         CoreKind::Status { pruned, .. } => end_all(rows, pruned.get(), steps),
+        CoreKind::Drain { .. } => (),
     }
 }
 
@@ -305,6 +328,7 @@ fn free_rows<L: Ledger>(
         CoreKind::Beat { reaped, .. } => free_each(rows, bookings, reaped.get(), steps),
         CoreKind::Update { job, .. } => free_job(rows, bookings, *job, kind, steps),
         CoreKind::Status { .. } => (),
+        CoreKind::Drain { .. } => (),
     }
 }
 
@@ -403,6 +427,7 @@ pub fn absorb_rows<L: Ledger>(
             lower_and_see(rows, lowered, seen, step.now, steps);
         }
         CoreKind::Status { .. } => settle(rows, bookings, step, steps),
+        CoreKind::Drain { .. } => settle(rows, bookings, step, steps),
     }
 }
 

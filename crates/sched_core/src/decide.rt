@@ -1,18 +1,18 @@
 //! What a call decides over the registrations that stand.
 ghost use Rattle.std.specs.Prelude.{◌≡◌, ◌≤◌, ◌<◌, ◌+◌, ◌^◌, [], ℕ, IfOk};
-ghost use Rattle.sched_core.specs.Pick.{pick, forgiven};
-ghost use Rattle.sched_core.specs.Prune.{prune};
-ghost use Rattle.sched_core.specs.Rule.{noted_over, reserved_at, counts_over};
+ghost use Rattle.core_rules.specs.Pick.{pick, forgiven};
+ghost use Rattle.core_rules.specs.Prune.{prune};
+ghost use Rattle.core_rules.specs.Rule.{noted_over, reserved_at, counts_over};
 ghost use Rattle.sched_core.specs.Registrations.{decide_looks};
 
-use crate::entry::Reserved;
 use crate::registrations::Registrations;
+use core_rules::entry::Reserved;
 use dist_types::ids::{JobId, ServerId};
 use dist_types::results::SchedulerStatusResult;
 use dist_types::text::Items;
+use row_index::Steps;
 use std::alloc::{AllocError, Global};
 use std::sync::ledger::{Blank, Ledger};
-use winner_tree::Steps;
 
 /// The number of the registration that stands at an address, if there is one.
 pub fn noted(rows: &Registrations, server: Option<ServerId>) -> Option<u64>

@@ -4,17 +4,18 @@ ghost use Rattle.std.specs.Prelude.{if◌then◌else◌};
 ghost use Rattle.std.specs.Prelude.{nat_eq};
 ghost use Rattle.std.specs.List.{list_any};
 ghost use Rattle.std.specs.Option.{option_copied};
-ghost use Rattle.lookup_table.specs.Lookup.{value_at};
-ghost use Rattle.sched_core.specs.Rows.{servers_of};
-ghost use Rattle.sched_core.specs.Answers.{IsTokenAt};
+ghost use Rattle.row_index.specs.Lookup.{value_at};
+ghost use Rattle.core_rules.specs.Rows.{servers_of};
+ghost use Rattle.core_rules.specs.Answers.{IsTokenAt};
 ghost use Rattle.sched_core.specs.Books.{kept_by, keys_of, with_key, without, without_this, ended_keys};
 
-use crate::entry::{CoreEntry, CoreKind};
-use crate::error::SchedError;
+use crate::log::CoreLog;
+use core_rules::entry::CoreKind;
+use core_rules::error::SchedError;
 use dist_types::ids::JobId;
 use dist_types::roles::JobAuthorizer;
 use dist_types::text::Text;
-use lookup_table::LookupTable;
+use row_index::LookupTable;
 use std::alloc::AllocError;
 use std::marker::Model;
 
@@ -126,6 +127,7 @@ pub fn end_keys<A: JobAuthorizer>(keys: &mut LookupTable<u64, A>, kind: &CoreKin
         }
         CoreKind::Update { .. } => (),
         CoreKind::Status { pruned, .. } => end_each(keys, pruned.get()),
+        CoreKind::Drain { .. } => (),
     }
 }
 
@@ -150,13 +152,13 @@ fn authorizer_of<A: JobAuthorizer>(keys: &LookupTable<u64, A>, number: u64) -> O
 /// The job's token under the key of a registration that stands. Refused for want of memory alone.
 pub fn token_at<A: JobAuthorizer>(
     keys: &LookupTable<u64, A>,
-    log: &[CoreEntry],
+    log: &CoreLog,
     reg: u64,
     job: JobId,
 ) -> Result<Text, SchedError>
-    requires keys { kept_by A.key_of keys.now.entries ≡ keys_of log.now }
-    requires stands { list_any (λ r. r.reg == reg) (servers_of log.now) ≡ true }
-    ensures token { IfOk result (IsTokenAt A.key_of A.token_for log.now reg job) }
+    requires keys { kept_by A.key_of keys.now.entries ≡ keys_of log.now.items }
+    requires stands { list_any (λ r. r.reg == reg) (servers_of log.now.items) ≡ true }
+    ensures token { IfOk result (IsTokenAt A.key_of A.token_for log.now.items reg job) }
     ensures memory { IfErr result (λ e. e ≡ SchedError.Memory) }
 {
     match authorizer_of(keys, reg) {

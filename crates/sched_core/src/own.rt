@@ -1,64 +1,75 @@
 //! The reservations of a registration, by the list that is kept of their places.
 ghost use Rattle.std.specs.Prelude.{◌≡◌, ◌+◌, ◌%◌, ◌^◌, ◌++◌, ◌∷◌, [], Some, IfOk, IfSome, OnOk, length, map};
-ghost use Rattle.std.specs.Prelude.{filter, option_to_list};
+ghost use Rattle.std.specs.Prelude.{◌*◌, filter, nat_le, option_to_list};
 ghost use Rattle.std.specs.List.{filter_map};
-ghost use Rattle.sched_core.specs.Reap.{is_reaped, reap};
-ghost use Rattle.sched_core.specs.Rule.{is_left};
-ghost use Rattle.sched_core.specs.Laws.{AreRising};
+ghost use Rattle.core_rules.specs.Reap.{is_reaped, reap};
+ghost use Rattle.core_rules.specs.Rule.{is_left};
+ghost use Rattle.core_rules.specs.Laws.{AreRising};
 ghost use Rattle.sched_core.specs.Books.{booked_after};
 ghost use Rattle.sched_core.specs.Booked.{held_part_of, held_view, open_view};
 ghost use Rattle.sched_core.specs.Own.{is_own_at, own_row_at, IsOwnList, AreOwn, is_open_row, room_for};
-ghost use Rattle.sched_core.specs.Own.{ended_at, ended_at_all, ended_if, ended_jobs, IsMadeBy};
+ghost use Rattle.sched_core.specs.Own.{ended_at, ended_at_all, ended_if, ended_jobs, IsMadeBy, swept_list};
+ghost use Rattle.row_index.specs.Lists.{list_at};
 
 use crate::booked::{BookedRow, held_part, is_open, is_own_at, own_row_at};
 use crate::bookings::Bookings;
-use crate::entry::CoreKind;
-use crate::rules::reapable;
+use core_rules::entry::{CoreEntry, CoreKind};
+use core_rules::rules::reapable;
 use dist_types::ids::JobId;
-use numbered_lists::NumberedLists;
+use dist_types::rules::Rules;
+use row_index::NumberedLists;
 use std::alloc::{AllocError, Global};
 
-/// Whether a heartbeat of the registration reaps the reservation, which is unended.
-fn reaps(b: &BookedRow, reg: u64, now: u64) -> bool
-    ensures { result ≡ is_reaped now reg (held_part_of b.now) }
-{
-    let held = held_part(b);
-    reapable(&held, reg, now)
+/// A heartbeat that reaps: of which registration, by which rules and at which moment, in milliseconds.
+#[derive(Clone, Copy, Debug)]
+pub struct Reaping {
+    /// The registration.
+    pub reg: u64,
+    /// The version of the rules.
+    pub rules: Rules,
+    /// The moment.
+    pub moment: u64,
 }
 
-/// The jobs of the reservations in those places that a heartbeat of the registration reaps.
+/// Whether the heartbeat reaps the reservation, which is unended.
+fn reaps(b: &BookedRow, beat: Reaping) -> bool
+    ensures { result ≡ is_reaped beat.rules beat.moment beat.reg (held_part_of b.now) }
+{
+    let held = held_part(b);
+    reapable(beat.rules, &held, beat.reg, beat.moment)
+}
+
+/// The jobs of the reservations in those places that the heartbeat reaps.
 fn jobs_to_reap(
     alloc: Global,
     rows: &[BookedRow],
     places: &[usize],
-    reg: u64,
-    now: u64,
+    beat: Reaping,
 ) -> Result<Vec<JobId>, AllocError>
     ensures { IfOk result (λ v. v.items ≡ map (λ b. b.job)
-        (filter (λ b. is_reaped now reg (held_part_of b)) (filter_map (own_row_at reg rows.now)
-        places.now))) }
+        (filter (λ b. is_reaped beat.rules beat.moment beat.reg (held_part_of b))
+        (filter_map (own_row_at beat.reg rows.now) places.now))) }
 {
     places
         .iter()
-        .filter_map(|place| own_row_at(rows, *place, reg))
-        .filter(|b| reaps(b, reg, now))
+        .filter_map(|place| own_row_at(rows, *place, beat.reg))
+        .filter(|b| reaps(b, beat))
         .map(|b| b.job)
         .collect(alloc)
 }
 
-/// The jobs that a heartbeat of the registration reaps, where the places are its own. Refused for want of
-/// memory alone.
+/// The jobs that the heartbeat reaps, where the places are its registration's own. Refused for want of memory
+/// alone.
 pub fn reaped_jobs(
     alloc: Global,
     rows: &[BookedRow],
     places: &[usize],
-    reg: u64,
-    now: u64,
+    beat: Reaping,
 ) -> Result<Vec<JobId>, AllocError>
-    requires { IsOwnList reg rows.now places.now }
-    ensures { IfOk result (λ v. v.items ≡ reap now reg (held_view rows.now)) }
+    requires { IsOwnList beat.reg rows.now places.now }
+    ensures { IfOk result (λ v. v.items ≡ reap beat.rules beat.moment beat.reg (held_view rows.now)) }
 {
-    jobs_to_reap(alloc, rows, places, reg, now)
+    jobs_to_reap(alloc, rows, places, beat)
 }
 
 /// How many of the reservations in those places are unended, at the registration, and have an open job.
@@ -112,19 +123,23 @@ fn sweep(
     requires ready { own.old.ready ≡ Some reg }
     ensures own { AreOwn bookings.now.rows own.new.lists }
     ensures ready { OnOk result (own.new.ready ≡ Some reg) }
+    ensures swept { OnOk result
+        (list_at own.new.lists reg ≡ filter (is_own_at reg bookings.now.rows) (list_at own.old.lists reg)) }
 {
     let kept = kept_places(alloc, bookings.rows(), own.of(reg), reg)?;
     own.replace(reg, kept);
     own.make_room(reg)
 }
 
-/// Whether a list of so many places has too many for so many unended reservations.
-fn is_long(places: usize, load: u64) -> bool {
-    places as u64 >= load.saturating_mul(2).saturating_add(8)
+/// Whether a list of so many places has too many for so many unended reservations: twice as many, and eight.
+fn is_long(places: usize, load: u64) -> bool
+    ensures { result ≡ nat_le (2 * load + 8) places }
+{
+    places as u128 >= 2 * u128::from(load) + 8
 }
 
-/// Makes room for one reservation more at a registration with so many. Refused for want of memory alone; the
-/// reservations stay.
+/// Makes room for one reservation more at a registration with so many, and drops what is ended from a list that
+/// has twice as many places and eight. Refused for want of memory alone; the reservations stay.
 pub fn make_room(
     alloc: Global,
     bookings: &mut Bookings,
@@ -137,6 +152,8 @@ pub fn make_room(
     ensures first { bookings.new.first ≡ bookings.old.first }
     ensures own { AreOwn bookings.new.rows own.new.lists }
     ensures room { OnOk result (room_for bookings.new.has_room own.new.ready ≡ Some reg) }
+    ensures swept { OnOk result (list_at own.new.lists reg ≡
+        swept_list reg bookings.old.rows load (list_at own.old.lists reg)) }
 {
     bookings.make_room()?;
     own.make_room(reg)?;
@@ -236,22 +253,22 @@ fn beat(
 pub fn absorb(
     bookings: &mut Bookings,
     own: &mut NumberedLists,
-    kind: &CoreKind,
+    step: &CoreEntry,
     made: Option<BookedRow>,
 )
     requires own { AreOwn bookings.old.rows own.old.lists }
-    requires made { IsMadeBy kind.now made }
+    requires made { IsMadeBy step.now.kind made }
     requires room { IfSome made (λ b. room_for bookings.old.has_room own.old.ready ≡ Some b.reg) }
     requires follows { IfSome made
         (λ b. b.job.0 ≡ (bookings.old.first + length bookings.old.rows) % 2 ^ 64) }
-    ensures rows { bookings.new.rows ≡ map (booked_after kind.now) bookings.old.rows ++ option_to_list made }
+    ensures rows { bookings.new.rows ≡ map (booked_after step.entry.now) bookings.old.rows ++ option_to_list made }
     ensures first { bookings.new.first ≡ bookings.old.first }
     ensures own { AreOwn bookings.new.rows own.new.lists }
 {
-    match kind {
+    match &step.kind {
         CoreKind::Reserve(_) => push_if(bookings, own, made),
-        CoreKind::Commit { job, .. } => bookings.settle(*job, kind),
-        CoreKind::Undo { job, .. } => bookings.settle(*job, kind),
+        CoreKind::Commit { job, .. } => bookings.settle(*job, step),
+        CoreKind::Undo { job, .. } => bookings.settle(*job, step),
         CoreKind::Beat {
             pruned,
             replaced,
@@ -260,7 +277,8 @@ pub fn absorb(
         } => {
             beat(bookings, own, pruned.get(), *replaced, reaped.get());
         }
-        CoreKind::Update { job, .. } => bookings.settle(*job, kind),
+        CoreKind::Update { job, .. } => bookings.settle(*job, step),
         CoreKind::Status { pruned, .. } => end_all(bookings, own, pruned.get()),
+        CoreKind::Drain { .. } => (),
     }
 }

@@ -1,10 +1,10 @@
 //! Rows by place.
 ghost use Rattle.std.specs.Prelude.{◌≡◌, [], MatchOption};
-ghost use Rattle.numbered_slots.specs.Slots.{rows_in};
+ghost use Rattle.row_index.specs.Slots.{rows_in};
 ghost use Rattle.sched_core.specs.Registrations.{IsFirstFull, heard_part};
 
-use crate::rows::ServerRow;
-use crate::standing::is_silent;
+use core_rules::rows::ServerRow;
+use core_rules::standing::is_silent;
 
 /// The place of the first row, if there is one.
 pub fn first_full(places: &[Option<ServerRow>]) -> Option<usize>

@@ -1,10 +1,10 @@
 //! The processors of the registrations that stand.
 ghost use Rattle.std.specs.Prelude.{◌≡◌, ◌≤◌, ◌<◌, ◌+◌, ◌-◌, ◌^◌, min, sum_by};
-ghost use Rattle.numbered_slots.specs.Slots.{rows_in};
+ghost use Rattle.row_index.specs.Slots.{rows_in};
 ghost use Rattle.sched_core.specs.Registrations.{cpus_in, cpus_at};
 
-use crate::rows::ServerRow;
-use ranked_rows::Ranks;
+use core_rules::rows::ServerRow;
+use row_index::Ranks;
 
 /// The processors of a row, or 0.
 fn cpus_in(row: &Option<ServerRow>) -> u64

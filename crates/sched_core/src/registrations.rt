@@ -2,92 +2,23 @@
 //! load, error and last sign. Contracts see the rows as a list.
 ghost use Rattle.std.specs.Prelude.{◌≡◌, ◌≤◌, ◌<◌, ◌+◌, ◌*◌, ◌^◌, ◌==◌, ℕ, [], ◌∷◌, ◌++◌, IfOk, OnOk, true};
 ghost use Rattle.std.specs.Prelude.{◌-◌, Some, length, map, filter, find, not, max, min, sum_by};
-ghost use Rattle.numbered_slots.specs.Slots.{rows_in, top};
-ghost use Rattle.sched_core.specs.Pick.{pick, forgiven};
-ghost use Rattle.sched_core.specs.Prune.{prune, left, at_address};
+ghost use Rattle.row_index.specs.Slots.{rows_in, top};
+ghost use Rattle.core_rules.specs.Pick.{pick, forgiven};
+ghost use Rattle.core_rules.specs.Prune.{prune, left, at_address};
 ghost use Rattle.sched_core.specs.Changes.{row_changed_at};
-ghost use Rattle.sched_core.specs.Registrations.{load_if_room, load_key_of, error_key_by, error_key_of};
-ghost use Rattle.sched_core.specs.Registrations.{sign_key_of, no_rows, trees_of, AreSoundRows};
+ghost use Rattle.sched_core.specs.Registrations.{no_rows, trees_of, AreSoundRows};
 
 use crate::change::{Change, changed};
-use crate::rows::{ServerRow, Servers};
-use crate::rules::{ERROR_TIMEOUT, is_roomy};
-use crate::standing::HEARTBEAT_TIMEOUT;
+use crate::rows::Servers;
 use crate::{addresses, places, processors};
+use core_rules::rows::ServerRow;
+use core_rules::rules::ERROR_TIMEOUT;
+use core_rules::standing::HEARTBEAT_TIMEOUT;
 use dist_types::ids::ServerId;
-use lookup_table::LookupTable;
-use numbered_slots::Numbered;
-use ranked_rows::{Ranked, Ranks};
+use row_index::{LoadKey, LookupTable, MomentKey, Numbered, Ranked, Ranks, Steps};
 use std::alloc::{AllocError, Global};
 use std::marker::{Brand, Model};
 use std::sync::ledger::{Blank, Ledger};
-use winner_tree::{LoadKey, MomentKey, Steps};
-
-impl Numbered for ServerRow {
-    ghost number_of = { λ row. row.reg };
-
-    fn number(&self) -> u64 {
-        self.reg
-    }
-}
-
-/// The key by load of a row with room.
-fn load_if_room(row: &ServerRow) -> Option<LoadKey>
-    ensures { result ≡ load_if_room row.now }
-{
-    if is_roomy(row) {
-        Some(LoadKey {
-            load: row.load,
-            cpus: row.cpus,
-            number: row.reg,
-        })
-    } else {
-        None
-    }
-}
-
-/// The key by error of a row with room that has this error.
-fn error_if_room(row: &ServerRow, moment: u64) -> Option<MomentKey>
-    ensures { result ≡ error_key_by (Some moment) row.now }
-{
-    if is_roomy(row) {
-        Some(MomentKey {
-            moment,
-            number: row.reg,
-        })
-    } else {
-        None
-    }
-}
-
-impl Ranked for ServerRow {
-    ghost load_of = { load_key_of };
-
-    ghost error_of = { error_key_of };
-
-    ghost sign_of = { sign_key_of };
-
-    fn load_key(&self) -> Option<LoadKey> {
-        match self.error {
-            Some(_) => None,
-            None => load_if_room(self),
-        }
-    }
-
-    fn error_key(&self) -> Option<MomentKey> {
-        match self.error {
-            Some(moment) => error_if_room(self, moment),
-            None => None,
-        }
-    }
-
-    fn sign_key(&self) -> Option<MomentKey> {
-        Some(MomentKey {
-            moment: self.seen,
-            number: self.reg,
-        })
-    }
-}
 
 /// The registrations that stand. Contracts see their rows by rising number, how many places they stand in,
 /// the least number above all that were put there, and whether a place is left.
@@ -100,7 +31,7 @@ pub struct Registrations {
 
 impl Model for Registrations {
     ghost use Rattle.std.specs.Prelude.{◌+◌, ◌≤◌, length, nat_lt};
-    ghost use Rattle.numbered_slots.specs.Slots.{rows_in, top};
+    ghost use Rattle.row_index.specs.Slots.{rows_in, top};
     ghost use Rattle.sched_core.specs.Registrations.{AreIndexed, PlacedRows};
 
     ghost Value = { PlacedRows };

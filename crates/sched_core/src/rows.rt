@@ -1,82 +1,13 @@
-//! What is asked of the log, as rows.
+//! The rows of what is kept, one after the other.
 ghost use Rattle.std.specs.Prelude.{◌≡◌, ◌++◌};
 ghost use Rattle.std.specs.Iterator.{YieldsFirst, item_count};
-ghost use Rattle.numbered_slots.specs.Slots.{rows_in};
+ghost use Rattle.row_index.specs.Slots.{rows_in};
 ghost use Rattle.sched_core.specs.Booked.{job_view};
 
 use crate::booked::{BookedRow, first_held, job_part};
 use crate::places::first_full;
-use dist_types::ids::{JobId, ServerId, ServerNonce};
-use dist_types::results::JobState;
+pub use core_rules::rows::{HeldRow, JobRow, OpenRow, ServerRow};
 use std::marker::Model;
-
-/// A registration that stands.
-#[derive(Clone, Copy, Debug)]
-pub struct ServerRow {
-    /// Its number: the place in the log of the heartbeat that made it.
-    pub reg: u64,
-    /// Its address.
-    pub server: ServerId,
-    /// Its processors.
-    pub cpus: u64,
-    /// The nonce of this start of the server.
-    pub nonce: ServerNonce,
-    /// The moment of its last sign, in milliseconds.
-    pub seen: u64,
-    /// How many unended reservations it has.
-    pub load: u64,
-    /// The moment of its remembered error, in milliseconds.
-    pub error: Option<u64>,
-}
-
-/// A reservation that is unended.
-#[derive(Clone, Copy, Debug)]
-pub struct HeldRow {
-    /// Its number: the place in the log of the entry that made it.
-    pub number: u64,
-    /// Its job.
-    pub job: JobId,
-    /// The registration that it is at.
-    pub reg: u64,
-    /// The moment at which it was made, in milliseconds.
-    pub reserved_at: u64,
-    /// The state of its job, if the job is committed.
-    pub state: Option<JobState>,
-    /// Whether the build has begun.
-    pub claimed: bool,
-}
-
-/// A reservation that is unended, with the address of its registration.
-#[derive(Clone, Copy, Debug)]
-pub struct JobRow {
-    /// The number of the reservation: the place in the log of the entry that made it.
-    pub number: u64,
-    /// Its job.
-    pub job: JobId,
-    /// The registration that it is at.
-    pub reg: u64,
-    /// The address of that registration.
-    pub server: ServerId,
-    /// The moment at which it was made, in milliseconds.
-    pub reserved_at: u64,
-    /// The state of its job, if the job is committed.
-    pub state: Option<JobState>,
-    /// Whether the build has begun.
-    pub claimed: bool,
-}
-
-/// A job that is committed and open.
-#[derive(Clone, Copy, Debug)]
-pub struct OpenRow {
-    /// The job.
-    pub job: JobId,
-    /// The registration that it was reserved at.
-    pub reg: Option<u64>,
-    /// The address of that registration.
-    pub server: Option<ServerId>,
-    /// Its state.
-    pub state: JobState,
-}
 
 /// The registrations that stand, by rising number. Contracts see it as the list of the rows that are
 /// still to come.
@@ -87,8 +18,8 @@ pub struct Servers<'a> {
 
 impl<'a> Model for Servers<'a> {
     ghost use Rattle.std.specs.Prelude.{List};
-    ghost use Rattle.numbered_slots.specs.Slots.{rows_in};
-    ghost use Rattle.sched_core.specs.declared.rows.ServerRow.{ServerRow};
+    ghost use Rattle.row_index.specs.Slots.{rows_in};
+    ghost use Rattle.core_rules.specs.declared.rows.ServerRow.{ServerRow};
 
     ghost Value = { List ServerRow };
 
@@ -129,7 +60,7 @@ pub struct Jobs<'a> {
 
 impl<'a> Model for Jobs<'a> {
     ghost use Rattle.std.specs.Prelude.{List, ◌++◌};
-    ghost use Rattle.sched_core.specs.declared.rows.JobRow.{JobRow};
+    ghost use Rattle.core_rules.specs.declared.rows.JobRow.{JobRow};
     ghost use Rattle.sched_core.specs.Booked.{job_view};
 
     ghost Value = { List JobRow };

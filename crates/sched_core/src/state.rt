@@ -2,46 +2,50 @@
 ghost use Rattle.std.specs.Prelude.{◌≡◌, ◌↔◌, ◌⊎◌, ◌<◌, ◌≤◌, ◌+◌, ◌^◌, ◌++◌, ◌∷◌, [], Err, Some, IfOk};
 ghost use Rattle.std.specs.Prelude.{IfErr};
 ghost use Rattle.std.specs.Prelude.{OnOk, OnErr, IsErrOf, length, map, true, if◌then◌else◌, option_to_list};
-ghost use Rattle.std.specs.Prelude.{◌*◌, ℕ, max, vec_len, vec_capacity, option_and_then};
+ghost use Rattle.std.specs.Prelude.{◌*◌, ◌/◌, ℕ, false, max, option_and_then};
 ghost use Rattle.sched_core.specs.Most.{most_standing, forgiven_count};
 ghost use Rattle.sched_core.specs.Registrations.{AreFew};
 ghost use Rattle.std.specs.List.{AllByRecursion};
-ghost use Rattle.sched_core.specs.Log.{Core, logged};
-ghost use Rattle.sched_core.specs.Standing.{address_of};
-ghost use Rattle.sched_core.specs.Reservation.{bookings, unspent, unended, spends_by};
-ghost use Rattle.sched_core.specs.Job.{open_jobs};
-ghost use Rattle.sched_core.specs.Rule.{rule, says_new_entry, counts_of, is_among, is_initial};
-ghost use Rattle.sched_core.specs.Rule.{place_at, noted_over};
-ghost use Rattle.sched_core.specs.Rows.{servers_of, jobs_of, job_row, unended_by_id};
-ghost use Rattle.sched_core.specs.Answers.{Leaves, IsPicked, RefusesReserve, committed_by, undo_answer};
-ghost use Rattle.sched_core.specs.Answers.{updated_by};
-ghost use Rattle.sched_core.specs.Laws.{IsLegal, IsLawful, IsRule};
+ghost use Rattle.core_rules.specs.Log.{Core, logged};
+ghost use Rattle.core_rules.specs.Standing.{address_of};
+ghost use Rattle.core_rules.specs.Reservation.{bookings, unspent, unended, spends_by};
+ghost use Rattle.core_rules.specs.Job.{open_jobs};
+ghost use Rattle.core_rules.specs.Rule.{rule, says_new_entry, counts_of, knows_of, is_among, is_initial};
+ghost use Rattle.core_rules.specs.Rule.{place_at, noted_over};
+ghost use Rattle.core_rules.specs.Rows.{servers_of, jobs_of, job_row, unended_by_id};
+ghost use Rattle.core_rules.specs.Answers.{Leaves, RefusesReserve, committed_by, undo_answer};
+ghost use Rattle.sched_core.specs.Picked.{IsPicked};
+ghost use Rattle.core_rules.specs.Answers.{updated_by};
+ghost use Rattle.core_rules.specs.Laws.{IsLegal, IsLawful, IsRule};
 ghost use Rattle.sched_core.specs.Books.{IsState, MayRegister, Kept, key_by, kept_by};
 ghost use Rattle.sched_core.specs.Own.{HasRoomFor, HasJobRoom};
 ghost use Rattle.sched_core.specs.Books.{unspent_next};
 ghost use Rattle.sched_core.specs.Booked.{unspent_view};
-ghost use Rattle.sched_core.specs.declared.call.Call.TheVariants as call;
+ghost use Rattle.core_rules.specs.declared.call.Call.TheVariants as call;
 
-use crate::answers::{Committed, Picked, Undone};
+use crate::answers::Picked;
 use crate::books::Books;
-use crate::entry::{CoreEntry, CoreKind, Reserved};
-use crate::error::SchedError;
 use crate::keys::{self, RegistrationKey};
-use crate::laws::legal_logs_are_lawful;
+use crate::log::CoreLog;
 use crate::reservation::Reservation;
 use crate::rows::{Jobs, Servers};
-use crate::start::Start;
-use crate::{rules, standing, tickets};
+use crate::tickets;
+use core_rules::answers::{Committed, Undone, answer_commit, answer_undo, answer_update};
+use core_rules::entry::{CoreEntry, CoreKind, Reserved};
+use core_rules::error::SchedError;
+use core_rules::laws::legal_logs_are_lawful;
+use core_rules::start::Start;
+use core_rules::{rules, standing};
 use dist_types::ids::{JobId, ServerId, ServerNonce};
 use dist_types::results::{
     HeartbeatServerResult, JobState, SchedulerStatusResult, UpdateJobStateResult,
 };
 use dist_types::roles::JobAuthorizer;
-use lookup_table::LookupTable;
+use dist_types::rules::Rules;
+use row_index::{LookupTable, Steps};
 use std::alloc::{AllocError, Global};
 use std::marker::{Brand, Model};
 use std::sync::ledger::{Blank, Ledger};
-use winner_tree::Steps;
 
 /// The most processors that a heartbeat may say.
 const MOST_CPUS: u64 = 4294967295;
@@ -60,12 +64,11 @@ pub struct SchedState<A: JobAuthorizer> {
 struct Journal<A: JobAuthorizer> {
     books: Books,
     keys: LookupTable<u64, A>,
-    log: Vec<CoreEntry>,
+    log: CoreLog,
 }
 
 impl<A: JobAuthorizer> Model for SchedState<A> {
-    ghost use Rattle.std.specs.Prelude.{vec_len, vec_capacity};
-    ghost use Rattle.sched_core.specs.Log.{Core};
+    ghost use Rattle.core_rules.specs.Log.{Core};
 
     ghost Value = { Core };
 
@@ -75,13 +78,14 @@ impl<A: JobAuthorizer> Model for SchedState<A> {
 
     ghost invariant = { λ s. IsState s.start s.journal.books (kept_by A.key_of s.journal.keys.entries)
         s.journal.log.items
-        (vec_len s.journal.log) (vec_capacity s.journal.log) };
+        s.journal.log.len s.journal.log.capacity };
 }
 
 impl<A: JobAuthorizer> SchedState<A> {
     /// A scheduler with an empty log, whose first job has the id `base`. It takes no memory.
     pub fn new(alloc: Global, base: u64) -> Self
-        ensures empty { result ≡ record { start = record { base = base; count = 0 }; log = [] } }
+        ensures empty { result ≡
+            record { start = record { base = base; count = 0; rules = Rules.One }; log = [] } }
     {
         SchedState::with_job_ids(alloc, base, 0)
     }
@@ -89,15 +93,24 @@ impl<A: JobAuthorizer> SchedState<A> {
     /// A scheduler with an empty log, which goes on where `count` jobs were reserved before: its next
     /// job has the id `base + count`, modulo 2^64. It takes no memory.
     pub fn with_job_ids(alloc: Global, base: u64, count: u64) -> Self
-        ensures empty { result ≡ record { start = record { base = base; count = count }; log = [] } }
+        ensures empty { result ≡
+            record { start = record { base = base; count = count; rules = Rules.One }; log = [] } }
+    {
+        SchedState::with_rules(alloc, base, count, Rules::One)
+    }
+
+    /// The same, by that version of the rules.
+    pub fn with_rules(alloc: Global, base: u64, count: u64, rules: Rules) -> Self
+        ensures empty { result ≡
+            record { start = record { base = base; count = count; rules = rules }; log = [] } }
     {
         SchedState {
             alloc,
-            start: Start { base, count },
+            start: Start { base, count, rules },
             journal: Journal {
                 books: Books::new(alloc, base.wrapping_add(count)),
                 keys: LookupTable::new(alloc),
-                log: Vec::new(alloc),
+                log: CoreLog::new(alloc),
             },
         }
     }
@@ -114,6 +127,13 @@ impl<A: JobAuthorizer> SchedState<A> {
         ensures count { result ≡ self.now.start.count }
     {
         self.start.count
+    }
+
+    /// The version of the rules that it goes by.
+    pub fn rules(&self) -> Rules
+        ensures rules { result ≡ self.now.start.rules }
+    {
+        self.start.rules
     }
 
     /// How many reservations the log makes: one for each id that was given since it began. It takes no
@@ -140,7 +160,7 @@ impl<A: JobAuthorizer> SchedState<A> {
         ensures lawful { IsLawful self.now.log }
     {
         legal_logs_are_lawful();
-        self.journal.log.as_slice()
+        self.journal.log.whole()
     }
 
     /// The registrations that stand, by rising number, as the whole log gives them. It takes no
@@ -173,8 +193,12 @@ impl<A: JobAuthorizer> SchedState<A> {
             (rule self.old (call.Reserve now)).kind) }
         ensures refused { IfErr result (RefusesReserve (rule self.old (call.Reserve now)).kind) }
         ensures err { IfErr result (λ e. Leaves e self.old self.new (rule self.old (call.Reserve now))) }
+        // So every law of legal logs holds: ids differ, and a reserve goes to the first of those with room.
+        ensures lawful { IsLawful self.new.log }
     {
-        reserve_uncounted::<A, Brand>(self, now, Blank::new(1))
+        let picked = reserve_uncounted::<A, Brand>(self, now, Blank::new(1));
+        self.keeps_laws();
+        picked
     }
 
     /// The same, with its looks at the trees of the books counted: where at most 2^h registrations ever
@@ -185,6 +209,26 @@ impl<A: JobAuthorizer> SchedState<A> {
         steps: &mut Steps<L>,
     ) -> Result<Picked, SchedError>
         // It appends the one entry that the core rule gives, and answers what that entry says.
+        ensures logged { OnOk result (self.new ≡ logged self.old (rule self.old (call.Reserve now))) }
+        ensures picked { IfOk result (IsPicked A.key_of A.token_for self.old.log
+            (rule self.old (call.Reserve now)).kind) }
+        ensures refused { IfErr result (RefusesReserve (rule self.old (call.Reserve now)).kind) }
+        ensures err { IfErr result (λ e. Leaves e self.old self.new (rule self.old (call.Reserve now))) }
+        ensures looks { (h : ℕ) → max 1 (most_standing self.old.log) ≤ 2 ^ h → steps.new ≤ steps.old +
+            (6 * h + 8) * (1 + forgiven_count (rule self.old (call.Reserve now)).kind) }
+        ensures lawful { IsLawful self.new.log }
+    {
+        let picked = self.enter_reserve(now, steps);
+        self.keeps_laws();
+        picked
+    }
+
+    /// The same.
+    fn enter_reserve<L: Ledger>(
+        &mut self,
+        now: u64,
+        steps: &mut Steps<L>,
+    ) -> Result<Picked, SchedError>
         ensures logged { OnOk result (self.new ≡ logged self.old (rule self.old (call.Reserve now))) }
         ensures picked { IfOk result (IsPicked A.key_of A.token_for self.old.log
             (rule self.old (call.Reserve now)).kind) }
@@ -225,17 +269,21 @@ impl<A: JobAuthorizer> SchedState<A> {
             logged self.old (rule self.old (call.Commit now r.number r.job state)) else self.old) }
         ensures answer { result ≡ committed_by (is_among (unspent self.old.log) r.number r.job)
             (rule self.old (call.Commit now r.number r.job state)).kind r }
+        // So every law of legal logs holds: a reservation is spent once, and ends once at most.
+        ensures lawful { IsLawful self.new.log }
     {
         let number = r.number();
         let job = r.job_id();
         let alloc = r.into_alloc();
         if !self.owns(number, job) {
+            self.keeps_laws();
             return Committed::Foreign(job);
         }
         let kept = self.holds(number, job);
         let kind = CoreKind::Commit { job, state, kept };
         self.spend(number, job, CoreEntry { now, kind });
-        tickets::committed(kept, alloc)
+        self.keeps_laws();
+        answer_commit(kept, alloc)
     }
 
     /// Gives a reservation back at the moment `now`, in milliseconds, which is noted as the error of the
@@ -247,18 +295,30 @@ impl<A: JobAuthorizer> SchedState<A> {
             logged self.old (rule self.old (call.Undo now r.number r.job)) else self.old) }
         ensures answer { result ≡ undo_answer (is_among (unspent self.old.log) r.number r.job)
             (rule self.old (call.Undo now r.number r.job)).kind }
+        ensures lawful { IsLawful self.new.log }
     {
         let number = r.number();
         let job = r.job_id();
         r.spend();
         if !self.owns(number, job) {
+            self.keeps_laws();
             return Undone::Foreign;
         }
         let noted = self.noted(number, job);
         let ended = self.holds(number, job);
         let kind = CoreKind::Undo { job, noted, ended };
         self.spend(number, job, CoreEntry { now, kind });
-        tickets::undone(noted, ended)
+        self.keeps_laws();
+        answer_undo(noted, ended)
+    }
+
+    /// Each entry of the log is the core rule's over those before it, so all laws of legal logs hold of it.
+    #[inline(always)]
+    fn keeps_laws(&self)
+        ensures { IsLawful self.now.log }
+    {
+        let _start = self.start;
+        legal_logs_are_lawful();
     }
 
     /// Whether this state made the reservation of that number and job, and it is unspent.
@@ -324,17 +384,17 @@ impl<A: JobAuthorizer> SchedState<A> {
         if cpus == 0 || cpus > MOST_CPUS {
             return Err(SchedError::BadCpus(cpus));
         }
-        let entry = self
-            .journal
-            .books
-            .beat(self.alloc, now, server, nonce, cpus, key.key())?;
-        let is_new = entry.is_new_beat();
-        make_row_room(
+        let entry = self.journal.books.beat(
             self.alloc,
-            &mut self.journal.books,
-            &mut self.journal.keys,
-            &mut self.journal.log,
+            self.start.rules,
+            now,
+            server,
+            nonce,
+            cpus,
+            key.key(),
         )?;
+        let is_new = entry.is_new_beat();
+        make_beat_room(self.alloc, is_new, &mut self.journal)?;
         let key = keys::key_made(is_new, self.journal.log.len() as u64, key);
         take_uncounted::<A, Brand>(self.start, &mut self.journal, entry, key, Blank::new(1));
         Ok(HeartbeatServerResult { is_new })
@@ -369,7 +429,7 @@ impl<A: JobAuthorizer> SchedState<A> {
         };
         let entry = CoreEntry { now, kind };
         take_uncounted::<A, Brand>(self.start, &mut self.journal, entry, None, Blank::new(1));
-        tickets::updated(answer, state)
+        answer_update(answer, state)
     }
 
     /// Prunes the registrations that are silent for too long at the moment `now`, in milliseconds, and
@@ -387,37 +447,63 @@ impl<A: JobAuthorizer> SchedState<A> {
         take_uncounted::<A, Brand>(self.start, &mut self.journal, entry, None, Blank::new(1));
         Ok(answer)
     }
+
+    /// Lets the registration that stands at the address under the nonce drain at the moment `now`, in
+    /// milliseconds, or ends that: one that drains has no room, and its jobs go on. It answers whether
+    /// there is such a registration; where there is none that is logged all the same. It prunes nothing,
+    /// and is no sign of the server. Memory changes nothing.
+    pub fn drain(
+        &mut self,
+        now: u64,
+        server: ServerId,
+        nonce: ServerNonce,
+        on: bool,
+    ) -> Result<bool, SchedError>
+        requires version { self.old.start.rules ≡ Rules.Two }
+        ensures logged { OnOk result (self.new ≡ logged self.old
+            (rule self.old (call.Drain now server nonce on))) }
+        ensures answer { IfOk result (λ known. known ≡
+            knows_of (rule self.old (call.Drain now server nonce on))) }
+        ensures memory { IfErr result (λ e. e ≡ SchedError.Memory) }
+        ensures err { OnErr result (self.new ≡ self.old) }
+    {
+        let entry = self.journal.books.drain(now, server, nonce, on);
+        let known = entry.is_known();
+        make_log_room(&self.journal.books, &mut self.journal.log)?;
+        take_uncounted::<A, Brand>(self.start, &mut self.journal, entry, None, Blank::new(1));
+        Ok(known)
+    }
 }
 
 /// Makes room in the log for one more entry, beside those that spend the reservations, and for one
 /// reservation more. Refused for want of memory alone; the entries stay.
-fn make_log_room(books: &Books, log: &mut Vec<CoreEntry>) -> Result<(), AllocError>
+fn make_log_room(books: &Books, log: &mut CoreLog) -> Result<(), AllocError>
     ensures log { log.new.items ≡ log.old.items }
-    ensures log_room { vec_len log.old + length (unspent_view books.now.lists.booked) ≤ vec_capacity log.old →
-        vec_len log.new + length (unspent_view books.now.lists.booked) ≤ vec_capacity log.new }
+    ensures log_room { log.old.len + length (unspent_view books.now.lists.booked) ≤ log.old.capacity →
+        log.new.len + length (unspent_view books.now.lists.booked) ≤ log.new.capacity }
     ensures spare { OnOk result
-        (vec_len log.new + length (unspent_view books.now.lists.booked) + 2 ≤ vec_capacity log.new) }
+        (log.new.len + length (unspent_view books.now.lists.booked) + 2 ≤ log.new.capacity) }
 {
-    log.reserve(books.unspent_count() + 2)
+    log.make_room(books.unspent_count() + 2)
 }
 
 /// Makes room for what a reserve adds. Refused for want of memory alone; the lists stay.
 fn make_job_room(
     alloc: Global,
     books: &mut Books,
-    log: &mut Vec<CoreEntry>,
+    log: &mut CoreLog,
     reserved: &Reserved,
 ) -> Result<(), AllocError>
     ensures lists { books.new.lists ≡ books.old.lists }
     ensures log { log.new.items ≡ log.old.items }
-    ensures log_room { vec_len log.old + length (unspent_view books.old.lists.booked) ≤ vec_capacity log.old →
-        vec_len log.new + length (unspent_view books.old.lists.booked) ≤ vec_capacity log.new }
+    ensures log_room { log.old.len + length (unspent_view books.old.lists.booked) ≤ log.old.capacity →
+        log.new.len + length (unspent_view books.old.lists.booked) ≤ log.new.capacity }
     ensures first { books.new.first ≡ books.old.first }
     ensures room { OnOk result (HasRoomFor reserved.now books.new.job_room) }
     ensures top { books.new.top ≡ books.old.top }
     ensures places { books.new.places ≡ books.old.places }
     ensures spare { OnOk result
-        (vec_len log.new + length (unspent_view books.old.lists.booked) + 2 ≤ vec_capacity log.new) }
+        (log.new.len + length (unspent_view books.old.lists.booked) + 2 ≤ log.new.capacity) }
 {
     books.make_job_room(alloc, reserved)?;
     make_log_room(books, log)
@@ -428,24 +514,62 @@ fn make_row_room<A: JobAuthorizer>(
     alloc: Global,
     books: &mut Books,
     keys: &mut LookupTable<u64, A>,
-    log: &mut Vec<CoreEntry>,
+    log: &mut CoreLog,
 ) -> Result<(), AllocError>
     ensures lists { books.new.lists ≡ books.old.lists }
     ensures keys { kept_by A.key_of keys.new.entries ≡ kept_by A.key_of keys.old.entries }
     ensures log { log.new.items ≡ log.old.items }
-    ensures log_room { vec_len log.old + length (unspent_view books.old.lists.booked) ≤ vec_capacity log.old →
-        vec_len log.new + length (unspent_view books.old.lists.booked) ≤ vec_capacity log.new }
+    ensures log_room { log.old.len + length (unspent_view books.old.lists.booked) ≤ log.old.capacity →
+        log.new.len + length (unspent_view books.old.lists.booked) ≤ log.new.capacity }
     ensures first { books.new.first ≡ books.old.first }
     ensures room { OnOk result (books.new.has_row_room ≡ true) }
     ensures top { books.new.top ≤ books.old.top }
     ensures places { books.new.places ≤ max books.old.places (2 * max 1 (length books.old.lists.rows)) }
     ensures keys_room { OnOk result (0 < keys.new.spare) }
     ensures spare { OnOk result
-        (vec_len log.new + length (unspent_view books.old.lists.booked) + 2 ≤ vec_capacity log.new) }
+        (log.new.len + length (unspent_view books.old.lists.booked) + 2 ≤ log.new.capacity) }
 {
     books.make_row_room(alloc)?;
     keys::make_room(keys)?;
     make_log_room(books, log)
+}
+
+/// Makes room for what a heartbeat adds: one that says old adds its entry alone. Refused for want of memory
+/// alone; the lists stay.
+fn make_beat_room<A: JobAuthorizer>(
+    alloc: Global,
+    is_new: bool,
+    journal: &mut Journal<A>,
+) -> Result<(), AllocError>
+    ensures lists { journal.new.books.lists ≡ journal.old.books.lists }
+    ensures keys { kept_by A.key_of journal.new.keys.entries ≡ kept_by A.key_of journal.old.keys.entries }
+    ensures log { journal.new.log.items ≡ journal.old.log.items }
+    ensures log_room { journal.old.log.len + length (unspent_view journal.old.books.lists.booked)
+        ≤ journal.old.log.capacity →
+        journal.new.log.len + length (unspent_view journal.old.books.lists.booked)
+        ≤ journal.new.log.capacity }
+    ensures first { journal.new.books.first ≡ journal.old.books.first }
+    ensures room { OnOk result (is_new ≡ true → journal.new.books.has_row_room ≡ true) }
+    ensures top { journal.new.books.top ≤ journal.old.books.top }
+    ensures places { journal.new.books.places ≤
+        max journal.old.books.places (2 * max 1 (length journal.old.books.lists.rows)) }
+    ensures keys_room { OnOk result (is_new ≡ true → 0 < journal.new.keys.spare) }
+    ensures spare { OnOk result
+        (journal.new.log.len + length (unspent_view journal.old.books.lists.booked) + 2
+        ≤ journal.new.log.capacity) }
+    ensures old { is_new ≡ false → (journal.new.books ≡ journal.old.books)
+        × (journal.new.keys ≡ journal.old.keys) }
+{
+    if is_new {
+        make_row_room(
+            alloc,
+            &mut journal.books,
+            &mut journal.keys,
+            &mut journal.log,
+        )
+    } else {
+        make_log_room(&journal.books, &mut journal.log)
+    }
 }
 
 /// Takes the next entry into the books and the log. It takes no memory.
@@ -458,24 +582,24 @@ fn take<A: JobAuthorizer, L: Ledger>(
     steps: &mut Steps<L>,
 )
     requires state { IsState start journal.old.books (kept_by A.key_of journal.old.keys.entries)
-        journal.old.log.items (vec_len journal.old.log) (vec_capacity journal.old.log) }
+        journal.old.log.items journal.old.log.len journal.old.log.capacity }
     requires rule { IsRule (record { start = start; log = journal.old.log.items }) step }
     requires key { key ≡ key_by step.kind (length journal.old.log.items) }
     requires row_room { MayRegister step.kind → journal.old.books.has_row_room ≡ true }
     requires job_room { HasJobRoom step.kind journal.old.books.job_room }
     requires keys_room { MayRegister step.kind → 0 < journal.old.keys.spare }
-    requires log_room { vec_len journal.old.log + 1 +
+    requires log_room { journal.old.log.len + 1 +
         length (unspent_next journal.old.books.lists step (length journal.old.log.items))
-        ≤ vec_capacity journal.old.log }
+        ≤ journal.old.log.capacity }
     ensures state { IsState start journal.new.books (kept_by A.key_of journal.new.keys.entries)
-        journal.new.log.items (vec_len journal.new.log) (vec_capacity journal.new.log) }
+        journal.new.log.items journal.new.log.len journal.new.log.capacity }
     ensures log { journal.new.log.items ≡ journal.old.log.items ++ step ∷ [] }
     ensures looks { (h : ℕ) → journal.old.books.places ≤ 2 ^ h → AreFew step.kind h steps.old steps.new }
 {
     journal.books.absorb(&step, journal.log.len() as u64, steps);
     keys::end_keys(&mut journal.keys, &step.kind);
     keys::put_key(&mut journal.keys, key);
-    standing::push_reserved(&mut journal.log, step);
+    journal.log.push(step);
 }
 
 /// The same, where nobody counts.
@@ -491,17 +615,17 @@ fn take_uncounted<A: JobAuthorizer, L: Ledger>(
     requires parts { blank.parts ≡ L.parts }
     requires some { 0 < blank.parts }
     requires state { IsState start journal.old.books (kept_by A.key_of journal.old.keys.entries)
-        journal.old.log.items (vec_len journal.old.log) (vec_capacity journal.old.log) }
+        journal.old.log.items journal.old.log.len journal.old.log.capacity }
     requires rule { IsRule (record { start = start; log = journal.old.log.items }) step }
     requires key { key ≡ key_by step.kind (length journal.old.log.items) }
     requires row_room { MayRegister step.kind → journal.old.books.has_row_room ≡ true }
     requires job_room { HasJobRoom step.kind journal.old.books.job_room }
     requires keys_room { MayRegister step.kind → 0 < journal.old.keys.spare }
-    requires log_room { vec_len journal.old.log + 1 +
+    requires log_room { journal.old.log.len + 1 +
         length (unspent_next journal.old.books.lists step (length journal.old.log.items))
-        ≤ vec_capacity journal.old.log }
+        ≤ journal.old.log.capacity }
     ensures state { IsState start journal.new.books (kept_by A.key_of journal.new.keys.entries)
-        journal.new.log.items (vec_len journal.new.log) (vec_capacity journal.new.log) }
+        journal.new.log.items journal.new.log.len journal.new.log.capacity }
     ensures log { journal.new.log.items ≡ journal.old.log.items ++ step ∷ [] }
 {
     let mut steps = Steps::<L>::new(blank);

@@ -1,21 +1,13 @@
 -- What the passes of workers count and hold, added up.
-use Rattle.std.proofs.Common.{◌≡◌, ℕ, suc, ◌+◌, ◌<◌, ◌≤◌, List, [], ◌∷◌, ◌++◌, length, map, refl, arith}
+use Rattle.std.proofs.Common.{◌≡◌, ℕ, suc, ◌+◌, ◌<◌, List, [], ◌∷◌, ◌++◌, length, map, refl, arith}
 use Rattle.std.specs.Prelude.{slice_index_or}
 use Rattle.std.specs.List.{sum_by}
 use Rattle.std.proofs.lemmas.List.Sums.{sum_by-append, sum_by-cons}
-use Rattle.sched.specs.Pass.{Rises}
-
-pub none_joined : (x : ℕ) → x ≤ 18446744073709551615 → Rises 0 x x
-none_joined x within = omega (arith, within)
 
 pub one_more : {W : Type 0} (f : W → ℕ) (ws : List W) (w : W) → sum_by f (ws ++ w ∷ []) ≡ sum_by f ws + f w
 one_more f ws w =
     let none : sum_by f [] ≡ 0 = refl in
     omega (arith, sum_by-append f ws (w ∷ []), sum_by-cons f w [], none)
-
-pub one_joined : {W : Type 0} (f : W → ℕ) (ws : List W) (w : W) (x y z : ℕ) → Rises (sum_by f ws) x y
-    → Rises (f w) y z → Rises (sum_by f (ws ++ w ∷ [])) x z
-one_joined f ws w x y z before more = omega (arith, one_more f ws w, before, more)
 
 -- workers that hold what they held, one by one, hold as much in all
 pub sum_same : {W : Type 0} (f : W → ℕ) (xs ys : List W) → length ys ≡ length xs

@@ -10,8 +10,8 @@ use Rattle.dist_types.specs.declared.results.AllocJobResult.{AllocJobResult}
 use Rattle.dist_types.specs.declared.results.JobState.{JobState}
 use Rattle.dist_types.specs.declared.token_error.TokenError.{TokenError}
 use Rattle.http_head.specs.declared.request.Request.{Request}
-use Rattle.sched_core.specs.declared.answers.Undone.{Undone}
-use Rattle.sched_core.specs.declared.error.SchedError.TheVariants as error
+use Rattle.core_rules.specs.declared.answers.Undone.{Undone}
+use Rattle.core_rules.specs.declared.error.SchedError.TheVariants as error
 use Rattle.sched.specs.Course.{Course, FailsWith, IsCourseAnswer, fault_after}
 use Rattle.sched.specs.Course as course
 use Rattle.sched.specs.Heard.{RefusesUpdate}

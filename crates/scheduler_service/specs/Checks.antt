@@ -1,10 +1,10 @@
 -- What the checks that a configuration chooses answer: what the chosen one does.
-use Rattle.std.specs.Prelude.{◌≡◌, ℕ, List, Option, Result, ⊤}
+use Rattle.std.specs.Prelude.{◌≡◌, ℕ, Bool, false, List, Option, Result, ⊤}
 use Rattle.std.specs.Result.{result_ok}
 use Rattle.dist_types.specs.declared.addr.Addr.{Addr}
 use Rattle.dist_types.specs.declared.dialer.Asked.{Asked}
 use Rattle.dist_types.specs.declared.token_error.TokenError.{TokenError}
-use Rattle.dist_token.specs.Checks.{equal_verdict, fixed_shown}
+use Rattle.dist_token.specs.Checks.{equal_verdict, equal_refuses, fixed_shown}
 use Rattle.dist_token.specs.Forwarded.{MayAnswer, forwarding_shown}
 use Rattle.dist_token.specs.ProxyViews.{seen}
 use Rattle.dist_token.specs.Verdict.{server_verdict, plain_server}
@@ -32,3 +32,8 @@ may_answer asked faults (Forwarded old) now token answer (Forwarded new) =
 abbrev pub shown : {D : Type 0} → ClientCheck D → TokenError → List ℕ
 shown (Fixed check) e = fixed_shown
 shown (Forwarded check) e = forwarding_shown
+
+-- whether it refuses a token whatever the moment is: the check of one token any other
+abbrev pub refuses : {D : Type 0} → ClientCheck D → List ℕ → Bool
+refuses (Fixed text) token = equal_refuses text token
+refuses (Forwarded check) token = false

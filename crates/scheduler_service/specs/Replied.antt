@@ -9,7 +9,7 @@ use Rattle.dist_types.specs.declared.results.JobState.{JobState}
 use Rattle.dist_types.specs.declared.results.SchedulerStatusResult.{SchedulerStatusResult}
 use Rattle.dist_types.specs.declared.results.UpdateJobStateResult.{UpdateJobStateResult}
 use Rattle.dist_wire.specs.declared.heartbeat.HeartbeatServerHttpRequest.{HeartbeatServerHttpRequest}
-use Rattle.sched_core.specs.declared.error.SchedError.TheVariants as error
+use Rattle.core_rules.specs.declared.error.SchedError.TheVariants as error
 use Rattle.sched.specs.Course.{IsAllocation}
 use Rattle.sched.specs.Heard.{IsHeard, IsUpdated, IsCounted}
 use Rattle.sched.specs.Outside.{Moments, Requests}

@@ -8,6 +8,7 @@ ghost use Rattle.scheduler_service.specs.Replied.{IsHeardAndTold, IsUpdatedAndTo
 ghost use Rattle.scheduler_service.specs.Replied.{IsAllocated, IsAllocatedAndTold, IsDone};
 
 use crate::asking::Asking;
+use core_rules::error::SchedError;
 use dist_token::job_token::JWTJobAuthorizer;
 use dist_types::clock::Clock;
 use dist_types::dialer::Dialer;
@@ -26,7 +27,6 @@ use http_routes::route::SchedRouted;
 use sched::fault::SchedFault;
 use sched::pass::Pass;
 use sched::scheduler::Scheduler;
-use sched_core::error::SchedError;
 use std::alloc::Global;
 use std::sync::Wait;
 

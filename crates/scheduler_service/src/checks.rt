@@ -1,6 +1,7 @@
 //! The checks of tokens that a configuration chooses.
 use dist_token::checks::{
     ClientAuthCheck, ClientVisibleMsg, EqCheck, JwtServerCheck, PlainServerCheck, ServerAuthCheck,
+    TokenRefusal,
 };
 use dist_token::proxy::ProxyTokenCheck;
 use dist_types::dialer::Dialer;
@@ -39,12 +40,28 @@ pub enum ClientCheck<D: Dialer> {
     Forwarded(ProxyTokenCheck<D>),
 }
 
+impl<D: Dialer> TokenRefusal for ClientCheck<D> {
+    ghost use Rattle.scheduler_service.specs.Checks.{refuses};
+
+    ghost refuses = { refuses };
+
+    fn is_refused(&self, token: &str) -> bool {
+        match self {
+            ClientCheck::Fixed(check) => check.is_refused(token),
+            ClientCheck::Forwarded(check) => check.is_refused(token),
+        }
+    }
+}
+
 impl<D: Dialer + Send> ClientAuthCheck for ClientCheck<D> {
     ghost use Rattle.scheduler_service.specs.Checks.{may_answer, shown};
+    ghost use Rattle.scheduler_service.specs.CheckLaws.{refusals};
 
     ghost may_answer = { may_answer D.asked D.faults };
 
     ghost shown = { shown };
+
+    ghost refusals = { refusals D.asked D.faults };
 
     fn check(&mut self, now: u64, token: &str) -> Result<(), TokenError> {
         match self {

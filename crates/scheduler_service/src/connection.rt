@@ -6,6 +6,7 @@ ghost use Rattle.scheduler_service.specs.Connection.{IsReplied};
 ghost use Rattle.http_connections.specs.Served.{IsServedBy};
 
 use crate::answer::answer;
+use crate::heads::PeerHeads;
 use crate::route::route;
 use dist_token::checks::{ClientAuthCheck, ServerAuthCheck};
 use dist_token::job_token::JWTJobAuthorizer;
@@ -103,7 +104,12 @@ pub fn serve_scheduler_connection<
         result }
     ensures holds { held_of pass.new ≡ held_of pass.old }
 {
-    let request = match take(alloc, link) {
+    let heads = PeerHeads {
+        peer,
+        client: &*client,
+        server,
+    };
+    let request = match take(alloc, link, &heads) {
         Ok(request) => request,
         Err(ReadError::Failed) => return Served::ReadFault,
         Err(ReadError::Memory) => return Served::Memory,

@@ -14,6 +14,7 @@ pub mod answer;
 pub mod asking;
 pub mod checks;
 pub mod connection;
+mod heads;
 mod host;
 pub mod route;
 pub mod run_scheduler;

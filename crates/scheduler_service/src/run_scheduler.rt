@@ -15,13 +15,14 @@ use dist_token::server_token::{INSECURE_DIST_CLIENT_TOKEN, INSECURE_DIST_SERVER_
 use dist_types::clock::RealClock;
 use dist_types::tcp::TcpDialer;
 use http_connections::accepting::{Accepting, Sharing, WORKERS, socket_addr};
-use http_connections::start::{Start, StartFault};
-use http_connections::stream::LimitedNet;
+use http_connections::asking::{LimitedNet, SHORT_LIMITS};
+use http_connections::reception::Reception;
+use http_connections::start::{Start, StartFault, has_thread};
+use http_routes::kind::Role;
 use sched::scheduler::Scheduler;
 use std::alloc::Global;
 use std::net::{Net, TcpListener, TcpStream};
 use std::sync::Wait;
-use std::sync::atomic::AtomicU64;
 use std::thread::Threads;
 use std::time::Clock;
 
@@ -58,14 +59,14 @@ fn server_check(alloc: Global, auth: &ServerAuth) -> Result<ServerCheck, StartFa
 }
 
 /// How a scheduler asks build servers and the peer of its clients' tokens, all of which answer at once.
-type SchedulerDialer<'a, R> = TcpDialer<LimitedNet<'a, R>>;
+type SchedulerDialer<R> = TcpDialer<LimitedNet<R>>;
 
 /// The check of clients' tokens that a configuration chooses. Refused where memory ran out, or where the URL
 /// of a peer is not of http.
-fn client_check<'a, R: Net + Clock>(
-    sharing: &Sharing<'a, R>,
+fn client_check<R: Net + Clock + Wait + Copy>(
+    sharing: &Sharing<'_, R>,
     auth: &ClientAuth,
-) -> Result<ClientCheck<SchedulerDialer<'a, R>>, StartFault>
+) -> Result<ClientCheck<SchedulerDialer<R>>, StartFault>
     ensures { IfOk result (λ check. IsChosen real_asked real_dialer_faults auth.now check) }
 {
     match auth {
@@ -84,7 +85,7 @@ fn client_check<'a, R: Net + Clock>(
             if url.scheme() != "http" {
                 return Err(StartFault);
             }
-            let dialer = TcpDialer::new(sharing.alloc, sharing.asking());
+            let dialer = TcpDialer::new(sharing.alloc, sharing.asking(SHORT_LIMITS));
             let check = ProxyTokenCheck::new(sharing.alloc, dialer, url, *cache_secs);
             Ok(ClientCheck::Forwarded(check))
         }
@@ -94,59 +95,65 @@ fn client_check<'a, R: Net + Clock>(
 /// What a worker of a scheduler has for its own.
 type SchedulerKit<'a, R> = Kit<
     Accepting<'a, R>,
-    SchedulerDialer<'a, R>,
+    SchedulerDialer<R>,
     RealClock<&'a R>,
-    ClientCheck<SchedulerDialer<'a, R>>,
+    ClientCheck<SchedulerDialer<R>>,
 >;
 
-/// What one worker has for its own.
-fn scheduler_kit<'a, R: Net + Clock>(
+/// What the worker of that number, from 0, has for its own.
+fn scheduler_kit<'a, R: Net + Clock + Wait + Copy>(
     sharing: &Sharing<'a, R>,
     auth: &ClientAuth,
+    number: usize,
 ) -> Result<SchedulerKit<'a, R>, StartFault>
     ensures { IfOk result (λ kit. IsChosen real_asked real_dialer_faults auth.now kit.client) }
 {
     let client = client_check(sharing, auth)?;
     Ok(Kit {
-        tasks: sharing.tasks(),
-        dialer: TcpDialer::new(sharing.alloc, sharing.asking()),
+        tasks: sharing.tasks(number),
+        dialer: TcpDialer::new(sharing.alloc, sharing.asking(SHORT_LIMITS)),
         clock: RealClock::new(sharing.rt),
         client,
     })
 }
 
 /// What all workers have.
-fn scheduler_kits<'a, R: Net + Clock>(
+fn scheduler_kits<'a, R: Net + Clock + Wait + Copy>(
     sharing: &Sharing<'a, R>,
     auth: &ClientAuth,
 ) -> Result<Vec<SchedulerKit<'a, R>>, StartFault> {
     let mut kits = Vec::with_capacity(sharing.alloc, WORKERS)?;
-    for _ in 0..WORKERS {
-        let kit = scheduler_kit(sharing, auth)?;
+    for number in 0..WORKERS {
+        let kit = scheduler_kit(sharing, auth, number)?;
         kits.push(kit)?;
     }
     Ok(kits)
 }
 
 /// Serves as a scheduler until the listener ends. Refused where the address is taken, a check cannot be made
-/// as the configuration says, or memory ran out.
+/// as the configuration says, no thread can be started, the system does not watch the links, or memory ran
+/// out.
 pub fn serve_scheduler<
-    R: Threads + Wait + Sync + Clock + Net<Listener = TcpListener, Stream = TcpStream>,
+    R: Threads
+        + Wait
+        + Sync
+        + Send
+        + Copy
+        + Clock
+        + Net<Listener = TcpListener, Stream = TcpStream>,
 >(rt: &R, alloc: Global, config: &SchedulerConfig, start: Start) -> Result<(), StartFault> {
     let listener = TcpListener::bind(rt, socket_addr(config.public_addr))?;
     let (scheduler, mut pass) = Scheduler::<JWTJobAuthorizer>::new(alloc, start.word)?;
     let server = server_check(alloc, &config.server_auth)?;
-    let tickets = AtomicU64::new(0);
+    has_thread(rt)?;
+    let reception = Reception::new(rt, alloc, Role::Scheduler, listener, start)?;
     let sharing = Sharing {
         rt,
         alloc,
-        listener: &listener,
-        tickets: &tickets,
+        reception: &reception,
         start,
     };
     let kits = scheduler_kits(&sharing, &config.client_auth)?;
-    match serve_scheduler_workers(rt, alloc, &scheduler, &mut pass, kits, &server) {
-        Ok(_) => Ok(()),
-        Err(_) => Err(StartFault),
-    }
+    serve_scheduler_workers(rt, alloc, &scheduler, &mut pass, kits, &server)?;
+    reception.outcome(rt)
 }

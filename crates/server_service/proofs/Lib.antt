@@ -1,3 +1,4 @@
 pub mod PeerLemmas
 pub mod RanLemmas
 pub mod ToldLemmas
+pub mod SettledLemmas

@@ -7,6 +7,7 @@ ghost use Rattle.server_service.specs.Replied.{IsReplied};
 ghost use Rattle.server_service.specs.Told.{peer_of};
 
 use crate::answer::answer;
+use crate::heads::JobHeads;
 use crate::route::{body_of, route};
 use build_server::keeping::Keeping;
 use dist_token::job_token::JWTJobAuthorizer;
@@ -94,7 +95,7 @@ pub fn serve_server_connection<L: Link, D: Dialer, K: Keeping, B: BuilderIncomin
         })
         result }
 {
-    let request = match take(alloc, link) {
+    let request = match take(alloc, link, &JobHeads { key }) {
         Ok(request) => request,
         Err(ReadError::Failed) => return Served::ReadFault,
         Err(ReadError::Memory) => return Served::Memory,

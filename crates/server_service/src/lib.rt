@@ -13,6 +13,7 @@
 pub mod answer;
 pub mod body;
 pub mod connection;
+mod heads;
 pub mod heartbeat;
 mod peer;
 pub mod route;

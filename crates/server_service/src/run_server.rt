@@ -9,23 +9,27 @@ use build_server::server::Server;
 use build_server::state::ServerState;
 use dist_config::config::ServerConfig;
 use dist_token::job_token::JWTJobAuthorizer;
+use dist_types::builder::BuilderIncoming;
 use dist_types::ids::ServerNonce;
 use dist_types::tcp::TcpDialer;
 use dist_types::text::Bytes;
 use dist_wire::heartbeat::HeartbeatServerHttpRequest;
+use folders::folder::Folder;
+use folders::real_folder::RealFolder;
 use http_connections::accepting::{Accepting, Sharing, WORKERS, socket_addr};
-use http_connections::start::{Start, StartFault};
-use lru_disk_cache::TcCache;
-use lru_disk_cache::folder::Folder;
-use lru_disk_cache::real_folder::RealFolder;
+use http_connections::asking::{LimitedNet, REPORT_LIMITS, SHORT_LIMITS};
+use http_connections::reception::Reception;
+use http_connections::start::{Start, StartFault, has_thread};
+use http_routes::kind::Role;
 use std::alloc::Global;
+use std::fs::File;
 use std::net::{Net, TcpListener, TcpStream};
 use std::rt::Files;
-use std::sync::atomic::AtomicU64;
 use std::sync::{Condvar, Mutex, Wait};
+use std::thread;
 use std::thread::Threads;
 use std::time::{Clock, Duration};
-use std::{fs, thread};
+use toolchain_cache::TcCache;
 use url::Url;
 
 /// Where in its folder a server keeps its archives.
@@ -66,7 +70,7 @@ impl Ending {
 
 /// Tells the scheduler again and again that the server stands, until the listener ended. What waits longer
 /// than the limit for an answer is not told.
-fn beat_until_ended<R: Wait + Clock + Net<Stream = TcpStream>>(
+fn beat_until_ended<R: Wait + Clock + Copy + Net<Stream = TcpStream>>(
     sharing: &Sharing<'_, R>,
     ending: &Ending,
     config: &ServerConfig,
@@ -74,7 +78,7 @@ fn beat_until_ended<R: Wait + Clock + Net<Stream = TcpStream>>(
 )
     requires http { IsHttp config.now.scheduler_url }
 {
-    let mut dialer = TcpDialer::new(sharing.alloc, sharing.asking());
+    let mut dialer = TcpDialer::new(sharing.alloc, sharing.asking(SHORT_LIMITS));
     for _ in sharing.rt.forever() {
         let told = beat_once(
             sharing.alloc,
@@ -100,15 +104,16 @@ fn tested(base: &Url) -> Result<(), StartFault>
     }
 }
 
-/// The server of a configuration, which holds nothing, over the archives that stand in its folder. The folder
-/// is made where there is none.
-fn server_of<'a, R: Files + AllocGlobal>(
-    rt: &'a R,
+/// The server of a configuration, which holds nothing, over the archives that stand in its folder. The
+/// folder is made where there is none, and held while the server lives, so that a second one is refused.
+fn server_of<R: Files<File = File> + AllocGlobal + Copy + Drop>(
+    rt: R,
     alloc: Global,
     config: &ServerConfig,
-) -> Result<Server<RealFolder<&'a R>>, StartFault> {
-    fs::create_dir_all(rt, config.cache_dir.get())?;
-    let folder = RealFolder::new(rt, config.cache_dir.get())?;
+) -> Result<Server<RealFolder<R>>, StartFault> {
+    let Ok(folder) = RealFolder::open(rt, config.cache_dir.get()) else {
+        return Err(StartFault);
+    };
     match TcCache::new(alloc, folder, CACHE_PATH, config.toolchain_cache_size) {
         Ok(cache) => Ok(Server::new(alloc, ServerState::new(alloc, cache))),
         Err(_) => Err(StartFault),
@@ -126,35 +131,52 @@ fn beat_of(alloc: Global, start: &Start) -> Result<HeartbeatServerHttpRequest, S
 }
 
 /// What a worker of a build server has for its own.
-type ServerKit<'a, R> = BuildKit<Accepting<'a, R>, TcpDialer<&'a R>, EchoBuilder>;
+type ServerKit<'a, R, B> = BuildKit<Accepting<'a, R>, TcpDialer<LimitedNet<R>>, B>;
 
-/// What all workers have.
-fn server_kits<'a, R: Net + Clock>(
+/// What all workers have: one for each builder.
+fn server_kits<'a, R: Net + Clock + Wait + Copy, B: BuilderIncoming + Drop>(
     sharing: &Sharing<'a, R>,
-) -> Result<Vec<ServerKit<'a, R>>, StartFault> {
-    let mut kits = Vec::with_capacity(sharing.alloc, WORKERS)?;
-    for _ in 0..WORKERS {
+    builders: Vec<B>,
+) -> Result<Vec<ServerKit<'a, R, B>>, StartFault> {
+    let mut kits = Vec::with_capacity(sharing.alloc, builders.len())?;
+    for builder in builders {
         kits.push(BuildKit {
-            tasks: sharing.tasks(),
-            dialer: TcpDialer::new(sharing.alloc, sharing.rt),
-            builder: EchoBuilder::new(sharing.alloc),
+            tasks: sharing.tasks(kits.len()),
+            dialer: TcpDialer::new(sharing.alloc, sharing.asking(REPORT_LIMITS)),
+            builder,
         })?;
     }
     Ok(kits)
 }
 
+/// A builder that echoes for each worker.
+fn echo_builders(alloc: Global) -> Result<Vec<EchoBuilder>, StartFault> {
+    let mut builders = Vec::with_capacity(alloc, WORKERS)?;
+    for _ in 0..WORKERS {
+        builders.push(EchoBuilder::new(alloc))?;
+    }
+    Ok(builders)
+}
+
 /// Serves all connections of the kits, and tells that the listener ended.
 fn serve_until_ended<
     'a,
-    R: Threads + Wait + Sync + Clock + Net<Listener = TcpListener, Stream = TcpStream>,
+    R: Threads
+        + Wait
+        + Sync
+        + Send
+        + Copy
+        + Clock
+        + Net<Listener = TcpListener, Stream = TcpStream>,
     F: Folder + Send,
+    B: BuilderIncoming + Drop + Send,
 >(
     rt: &R,
     alloc: Global,
     ending: &Ending,
     server: &Server<F>,
     key: &JWTJobAuthorizer,
-    kits: Vec<ServerKit<'a, R>>,
+    kits: Vec<ServerKit<'a, R, B>>,
     config: &ServerConfig,
 ) -> Result<(), StartFault>
     requires http { IsHttp config.now.scheduler_url }
@@ -178,13 +200,20 @@ fn serve_until_ended<
 /// Serves, and tells heartbeats in a thread of its own, until the listener ended.
 fn serve_and_beat<
     'a,
-    R: Threads + Wait + Sync + Clock + Net<Listener = TcpListener, Stream = TcpStream>,
+    R: Threads
+        + Wait
+        + Sync
+        + Send
+        + Copy
+        + Clock
+        + Net<Listener = TcpListener, Stream = TcpStream>,
     F: Folder + Send,
+    B: BuilderIncoming + Drop + Send,
 >(
     sharing: &Sharing<'a, R>,
     server: &Server<F>,
     key: &JWTJobAuthorizer,
-    kits: Vec<ServerKit<'a, R>>,
+    kits: Vec<ServerKit<'a, R, B>>,
     config: &ServerConfig,
     beat: &HeartbeatServerHttpRequest,
 ) -> Result<(), StartFault>
@@ -207,48 +236,65 @@ fn serve_and_beat<
     served
 }
 
-/// Whether a thread can be started.
-fn has_thread<R: Threads>(rt: &R) -> bool {
-    match thread::spawn(rt, || ()) {
-        Ok(thread) => {
-            thread.join(rt);
-            true
-        }
-        Err(_) => false,
-    }
-}
-
-/// Serves as a build server until the listener ends. Refused at once where the address is taken, the folder
-/// cannot be opened, the scheduler's URL is not of http, no thread can be started, or memory ran out.
+/// Serves as a build server until the listener ends, by builders that echo. Refused at once where the
+/// address is taken, the folder cannot be opened, the scheduler's URL is not of
+/// http, no thread can be started, the system does not watch the links, or memory ran out.
 pub fn serve_server<
     R: Threads
         + Wait
         + Sync
+        + Send
+        + Copy
         + Clock
         + Net<Listener = TcpListener, Stream = TcpStream>
-        + Files
-        + AllocGlobal,
+        + Files<File = File>
+        + AllocGlobal
+        + Drop,
 >(rt: &R, alloc: Global, config: &ServerConfig, start: Start) -> Result<(), StartFault>
 where
-    R::File: Send,
+    R::Dir: Send,
+{
+    let builders = echo_builders(alloc)?;
+    serve_server_with(rt, alloc, config, start, builders)
+}
+
+/// The same by these builders, each of which a worker has for its own.
+pub fn serve_server_with<
+    R: Threads
+        + Wait
+        + Sync
+        + Send
+        + Copy
+        + Clock
+        + Net<Listener = TcpListener, Stream = TcpStream>
+        + Files<File = File>
+        + AllocGlobal
+        + Drop,
+    B: BuilderIncoming + Drop + Send,
+>(
+    rt: &R,
+    alloc: Global,
+    config: &ServerConfig,
+    start: Start,
+    builders: Vec<B>,
+) -> Result<(), StartFault>
+where
     R::Dir: Send,
 {
     tested(&config.scheduler_url)?;
     let listener = TcpListener::bind(rt, socket_addr(config.bind_address))?;
-    let tickets = AtomicU64::new(0);
-    let server = server_of(rt, alloc, config)?;
+    let server = server_of(*rt, alloc, config)?;
     let beat = beat_of(alloc, &start)?;
     let key = JWTJobAuthorizer::new(Vec::from_slice(alloc, &start.key)?);
+    has_thread(rt)?;
+    let reception = Reception::new(rt, alloc, Role::Server, listener, start)?;
     let sharing = Sharing {
         rt,
         alloc,
-        listener: &listener,
-        tickets: &tickets,
+        reception: &reception,
         start,
     };
-    if !has_thread(rt) {
-        return Err(StartFault);
-    }
-    let kits = server_kits(&sharing)?;
-    serve_and_beat(&sharing, &server, &key, kits, config, &beat)
+    let kits = server_kits(&sharing, builders)?;
+    serve_and_beat(&sharing, &server, &key, kits, config, &beat)?;
+    reception.outcome(rt)
 }

@@ -1,6 +1,6 @@
 use Rattle.std.proofs.Common.{◌∙◌, ap, Err}
-use Rattle.lru_disk_cache.proofs.CallLemmas.{taken_missing}
-use Rattle.lru_disk_cache.proofs.Removals.{removed_part}
+use Rattle.folders.proofs.CallLemmas.{taken_missing}
+use Rattle.folders.proofs.Removals.{removed_part}
 use Rattle.disk_cache.proofs.emptied.discard.Goals as goal
 
 pub returns-in-Err-Missing-clause-exact : goal.returns-in-Err-Missing-clause-exact

@@ -1,12 +1,12 @@
 use Rattle.std.proofs.Common.{Err, ap, ◌∙◌, arith}
-use Rattle.lru_disk_cache.specs.Files.{front, found_under}
-use Rattle.lru_disk_cache.specs.Disk.{ButUnder}
-use Rattle.lru_disk_cache.proofs.Became.{became_map}
-use Rattle.lru_disk_cache.proofs.Fills.{counts_after}
+use Rattle.folders.specs.Files.{front, found_under}
+use Rattle.folders.specs.Changed.{ButUnder}
+use Rattle.folders.proofs.Became.{became_map}
+use Rattle.folders.proofs.CallLemmas.{counts_after}
 use Rattle.disk_cache.specs.Opening.{SameArchives}
-use Rattle.lru_disk_cache.specs.Held.{Never}
-use Rattle.lru_disk_cache.proofs.CallLemmas.{left_same}
-use Rattle.lru_disk_cache.proofs.Removals.{same_spared}
+use Rattle.folders.specs.Held.{Never}
+use Rattle.folders.proofs.CallLemmas.{left_same}
+use Rattle.folders.proofs.Removals.{same_spared}
 use Rattle.disk_cache.proofs.EmptyLemmas.{Emptying, listed_first, listed_more, listed_last, listed_part}
 use Rattle.disk_cache.proofs.EmptyLemmas.{listed_removed}
 use Rattle.disk_cache.proofs.emptied.empty.Goals as goal

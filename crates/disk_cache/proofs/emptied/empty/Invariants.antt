@@ -1,6 +1,6 @@
 -- Of the files that were found those so far are gone.
 use Rattle.std.proofs.Common.{◌≡◌}
-use Rattle.lru_disk_cache.specs.Held.{Became}
+use Rattle.folders.specs.Held.{Became}
 use Rattle.disk_cache.proofs.EmptyLemmas.{Emptying}
 use Rattle.disk_cache.proofs.emptied.empty.Given as goal
 

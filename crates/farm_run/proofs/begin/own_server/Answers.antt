@@ -1,7 +1,7 @@
 use Rattle.std.proofs.Common.{ap, ◌∙◌, Option, Some}
-use Rattle.lru_disk_cache.specs.Archives.{Archives}
-use Rattle.lru_disk_cache.specs.Files.{Files}
-use Rattle.lru_disk_cache.specs.InMemory.{folder_held}
+use Rattle.toolchain_cache.specs.Archives.{Archives}
+use Rattle.folders.specs.Files.{Files}
+use Rattle.folders.specs.InMemory.{folder_held}
 use Rattle.farm_stations.specs.Post.{outside_of}
 use Rattle.farm_entries.specs.Sites.{site_server}
 use Rattle.farm_run.proofs.BeginLemmas.{own_found, none_distinct}

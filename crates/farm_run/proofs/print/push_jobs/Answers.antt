@@ -1,6 +1,6 @@
 use Rattle.std.proofs.Common.{ap, ◌∙◌, ◌++◌, string_bytes}
 use Rattle.std.specs.List.{flat_map}
-use Rattle.sched_core.specs.Rows.{unended_by_id}
+use Rattle.core_rules.specs.Rows.{unended_by_id}
 use Rattle.farm_entries.specs.Seen.{core_log}
 use Rattle.farm_run.proofs.LineLemmas.{row_line, lines_are}
 use Rattle.farm_run.proofs.print.push_jobs.Goals as goal

@@ -1,6 +1,6 @@
 use Rattle.std.proofs.Common.{◌≡◌, ◌++◌, string_bytes}
 use Rattle.std.specs.List.{flat_map}
-use Rattle.sched_core.specs.Rows.{unended_by_id}
+use Rattle.core_rules.specs.Rows.{unended_by_id}
 use Rattle.farm_entries.specs.Seen.{core_log}
 use Rattle.farm_entries.specs.Printed.{job_text}
 use Rattle.farm_run.proofs.LineLemmas.{row_line}

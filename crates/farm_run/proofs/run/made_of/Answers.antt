@@ -1,5 +1,5 @@
 use Rattle.std.proofs.Common.{◌≡◌, inl, map, ℕ, List, Bool, cond, Option, Some, None, length, refl, sym, ap, ◌∙◌, rules}
-use Rattle.sched_core.specs.declared.entry.CoreEntry.{CoreEntry}
+use Rattle.core_rules.specs.declared.entry.CoreEntry.{CoreEntry}
 use Rattle.farm_script.specs.declared.event.EventKind.TheVariants as kind
 use Rattle.farm_entries.specs.Calls.{settles_by, delivery_at}
 use Rattle.farm_run.specs.Farm.{acted}

@@ -1,6 +1,6 @@
 use Rattle.std.proofs.Common.{ℕ, List, ap, ◌∙◌}
-use Rattle.sched_core.specs.Rule.{rule}
-use Rattle.sched_core.specs.declared.call.Call.TheVariants as call
+use Rattle.core_rules.specs.Rule.{rule}
+use Rattle.core_rules.specs.declared.call.Call.TheVariants as call
 use Rattle.dist_token.specs.Token.{token_text, job_claims_text}
 use Rattle.farm_run.specs.declared.pending.Made.{Made}
 use Rattle.farm_run.proofs.ServeLemmas.{told_core, no_room_told, spent_told}

@@ -1,6 +1,6 @@
 use Rattle.std.proofs.Common.{◌≡◌, Bool, ap, ◌∙◌}
-use Rattle.sched_core.specs.Rule.{rule}
-use Rattle.sched_core.specs.declared.call.Call.TheVariants as call
+use Rattle.core_rules.specs.Rule.{rule}
+use Rattle.core_rules.specs.declared.call.Call.TheVariants as call
 use Rattle.http_routes.specs.Replies.{heard_response}
 use Rattle.farm_run.proofs.ServeLemmas.{last_is}
 use Rattle.farm_run.proofs.serve.take_beat.Goals as goal

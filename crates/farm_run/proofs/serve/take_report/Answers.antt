@@ -1,6 +1,6 @@
 use Rattle.std.proofs.Common.{sym, ◌∙◌}
-use Rattle.sched_core.specs.Rule.{rule}
-use Rattle.sched_core.specs.declared.call.Call.TheVariants as call
+use Rattle.core_rules.specs.Rule.{rule}
+use Rattle.core_rules.specs.declared.call.Call.TheVariants as call
 use Rattle.farm_entries.specs.Answers.{update_by}
 use Rattle.farm_run.proofs.ServeLemmas.{last_is, leaves_logged, told_taken}
 use Rattle.farm_run.proofs.serve.take_report.Goals as goal

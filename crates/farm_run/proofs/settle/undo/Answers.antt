@@ -1,5 +1,5 @@
-use Rattle.sched_core.specs.Rule.{rule}
-use Rattle.sched_core.specs.declared.call.Call.TheVariants as call
+use Rattle.core_rules.specs.Rule.{rule}
+use Rattle.core_rules.specs.declared.call.Call.TheVariants as call
 use Rattle.farm_run.proofs.ServeLemmas.{told_core, undone_is}
 use Rattle.farm_run.proofs.settle.undo.Goals as goal
 

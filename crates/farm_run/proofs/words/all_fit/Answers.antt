@@ -1,7 +1,7 @@
 use Rattle.std.proofs.Common.{◌≡◌, ◌+◌, ◌++◌, ◌∷◌, [], take, ap, ◌∙◌, sym}
 use Rattle.std.proofs.lemmas.List.{take_more}
 use Rattle.dist_types.specs.Addr.{IsAddr}
-use Rattle.sched_core.proofs.AllLemmas.{all-append}
+use Rattle.core_rules.proofs.AllLemmas.{all-append}
 use Rattle.farm_entries.specs.declared.site.SiteServer.{SiteServer as SetupServer}
 use Rattle.farm_run.proofs.words.all_fit.Goals as goal
 

@@ -1,8 +1,9 @@
 use Rattle.std.proofs.Common.{◌≡◌, ◌<◌, length, subst, arith}
 use Rattle.std.proofs.lemmas.Bool.Decides.{nat_tests}
-use Rattle.farm_script.specs.Script.{read_of, script, IsScriptFault, IsScriptAnswer}
+use Rattle.farm_script.specs.Script.{read_of, judge, finished, script, IsScriptFault, IsScriptAnswer}
 use Rattle.farm_script.proofs.SpelledLemmas.{read_said, read_setup, told_faulty, read_faulty}
-use Rattle.farm_script.proofs.ScriptLemmas.{Done, line_step, line_stop, at_end}
+use Rattle.line_program.proofs.LinesLemmas.{line_step, at_end}
+use Rattle.farm_script.proofs.ScriptLemmas.{Done, line_stop}
 use Rattle.farm_script.proofs.script.read_script.Goals as goal
 
 pub returns-in-Err : goal.returns-in-Err
@@ -20,7 +21,7 @@ returns-in-Err c =
 gives : goal.returns-clause-exact
 gives c =
     let none : length c.loop-rest.rest.now ≡ 0 = grind (arith, nat_tests) in
-    let e = at_end c.loop-rest.number c.loop-rest.room (read_of c.loop-rest.reading) c.loop-rest.rest.now
+    let e = at_end judge finished c.loop-rest.number c.loop-rest.room (read_of c.loop-rest.reading) c.loop-rest.rest.now
     (script c.args.bytes.now) none c.loop-rest.invariant.same in
     subst (λ (done : Done). IsScriptAnswer (λ x. (x.0, x.1.items)) c.finish.result done) e c.finish.ensures
 
@@ -28,7 +29,7 @@ pub loop-rest-preserved : goal.loop-rest-preserved
 loop-rest-preserved c =
     let some : 0 < length c.loop-rest.rest.now = grind (arith, nat_tests) in
     record {
-      same = line_step c.loop-rest.number c.loop-rest.room (read_of c.loop-rest.reading)
+      same = line_step judge finished c.loop-rest.number c.loop-rest.room (read_of c.loop-rest.reading)
           (read_of c.in-Ok.next) c.loop-rest.rest.now c.split_at.result.0.now c.split_at.result.1.now
           c.first_len.result (script c.args.bytes.now)
           some c.first_len.ensures.len c.split_at.ensures.front c.split_at.ensures.back c.in-Ok.ensures.exact

@@ -1,5 +1,5 @@
 use Rattle.std.proofs.Common.{◌≡◌, ◌≤◌, length}
-use Rattle.farm_script.specs.Pieces.{pieces}
+use Rattle.line_program.specs.Pieces.{pieces}
 use Rattle.farm_script.specs.Script.{read_of, script_from, script}
 use Rattle.farm_script.proofs.script.read_script.Given as goal
 

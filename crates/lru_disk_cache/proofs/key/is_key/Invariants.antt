@@ -1,7 +1,8 @@
 -- Whether the parts so far are plain, and whether the last is a temporary file's name.
 use Rattle.std.proofs.Common.{◌≡◌, [], map}
 use Rattle.std.specs.List.{list_all}
-use Rattle.lru_disk_cache.specs.Key.{is_plain, is_temporary, last_behind}
+use Rattle.folders.specs.Plain.{is_plain}
+use Rattle.lru_disk_cache.specs.Key.{is_temporary, last_behind}
 use Rattle.lru_disk_cache.proofs.key.is_key.Given as goal
 
 abbrev pub invariant-loop-part : goal.invariant-loop-part

@@ -1,7 +1,7 @@
 -- The folder shows what is still to go and what stays.
 use Rattle.std.proofs.Common.{◌≡◌, drop}
-use Rattle.lru_disk_cache.specs.Held.{Became}
-use Rattle.lru_disk_cache.specs.Disk.{OnlyRemoved, ButUnder, RemovedUnder}
+use Rattle.folders.specs.Held.{Became}
+use Rattle.folders.specs.Changed.{OnlyRemoved, ButUnder, RemovedUnder}
 use Rattle.lru_disk_cache.specs.Opened.{Shows}
 use Rattle.lru_disk_cache.proofs.opening.drop_old.Given as goal
 

@@ -1,12 +1,13 @@
 use Rattle.std.proofs.Common.{ap, sym, ◌∙◌}
-use Rattle.lru_disk_cache.specs.Files.{front}
+use Rattle.folders.specs.Files.{front}
 use Rattle.lru_disk_cache.specs.Entries.{Listed, trim}
 use Rattle.lru_disk_cache.proofs.Opens.{opens, opens_stands, opens_in_step, opens_cleared, from_empty}
 use Rattle.lru_disk_cache.proofs.Opens.{keys_from_empty, kept_from_empty, room_in_empty}
-use Rattle.lru_disk_cache.specs.Held.{Never}
-use Rattle.lru_disk_cache.proofs.CallLemmas.{left_same}
-use Rattle.lru_disk_cache.proofs.Exactly.{removed_twice, outside_twice}
-use Rattle.lru_disk_cache.proofs.Removals.{same_spared, spared_both}
+use Rattle.folders.specs.Held.{Never}
+use Rattle.folders.proofs.CallLemmas.{left_same}
+use Rattle.folders.proofs.Exactly.{removed_twice, outside_twice}
+use Rattle.folders.proofs.Removals.{same_spared, spared_both}
+use Rattle.lru_disk_cache.proofs.Keeping.{opened_same, sorted_opened, dropped_opened}
 use Rattle.lru_disk_cache.proofs.opening.open.Goals as goal
 
 pub list_all-requires : goal.list_all-requires
@@ -121,3 +122,77 @@ returns-clause-spares g c = (spared_both c.args.root.now (g.F.Folder.held c.args
     (same_spared c.args.root.now (g.F.Folder.held c.args.folder.now).files (g.F.Folder.held c.list.new.self).files
     (left_same Never c.list.result (g.F.Folder.held c.args.folder.now) (g.F.Folder.held c.list.new.self)
     c.list.ensures.leaves)) c.sort_out.ensures.spares) c.drop_old.ensures.spares)
+
+pub returns-in_err-found-clause-keeps : goal.returns-in_err-found-clause-keeps
+returns-in_err-found-clause-keeps g c =
+    opened_same c.args.root.now c.args.capacity (g.F.Folder.held c.args.folder.now).files
+    (g.F.Folder.held c.list.new.self).files
+    (left_same Never c.list.result (g.F.Folder.held c.args.folder.now) (g.F.Folder.held c.list.new.self)
+    c.list.ensures.leaves)
+
+pub returns-in_err-sort_out-clause-keeps : goal.returns-in_err-sort_out-clause-keeps
+returns-in_err-sort_out-clause-keeps g c =
+    sorted_opened c.args.root.now c.args.capacity (g.F.Folder.held c.args.folder.now)
+    (g.F.Folder.held c.list.new.self) (g.F.Folder.held c.sort_out.new.folder) c.in_ok-found.ensures.distinct
+    (left_same Never c.list.result (g.F.Folder.held c.args.folder.now) (g.F.Folder.held c.list.new.self)
+    c.list.ensures.leaves) c.sort_out.ensures.keeps
+
+pub returns-in_err-rest-clause-keeps : goal.returns-in_err-rest-clause-keeps
+returns-in_err-rest-clause-keeps g c =
+    let same = left_same Never c.list.result (g.F.Folder.held c.args.folder.now)
+    (g.F.Folder.held c.list.new.self) c.list.ensures.leaves in
+    let good_is = kept_from_empty c.args.root.now c.args.capacity c.in_ok-found.found.items c.deref.result.now
+    c.new-good.result.items c.sort_out.new.good.items c.new-good.ensures.items c.deref.ensures.value
+    c.in_ok-sort_out.ensures.list in
+    dropped_opened c.args.root.now (front c.get.result.now) c.args.capacity c.in_ok-found.found.items
+    c.deref-2.result.now (g.F.Folder.held c.args.folder.now) (g.F.Folder.held c.sort_out.new.folder)
+    (g.F.Folder.held c.drop_old.new.folder) (ap front c.get.ensures.text ∙ sym c.requires)
+    (c.deref-2.ensures.value ∙ good_is) c.in_ok-found.ensures.found
+    (sorted_opened c.args.root.now c.args.capacity (g.F.Folder.held c.args.folder.now)
+    (g.F.Folder.held c.list.new.self) (g.F.Folder.held c.sort_out.new.folder) c.in_ok-found.ensures.distinct
+    same c.sort_out.ensures.keeps) c.drop_old.ensures.keeps
+
+pub returns-in_default-clause-keeps : goal.returns-in_default-clause-keeps
+returns-in_default-clause-keeps g c =
+    let same = left_same Never c.list.result (g.F.Folder.held c.args.folder.now)
+    (g.F.Folder.held c.list.new.self) c.list.ensures.leaves in
+    let good_is = kept_from_empty c.args.root.now c.args.capacity c.in_ok-found.found.items c.deref.result.now
+    c.new-good.result.items c.sort_out.new.good.items c.new-good.ensures.items c.deref.ensures.value
+    c.in_ok-sort_out.ensures.list in
+    dropped_opened c.args.root.now (front c.get.result.now) c.args.capacity c.in_ok-found.found.items
+    c.deref-2.result.now (g.F.Folder.held c.args.folder.now) (g.F.Folder.held c.sort_out.new.folder)
+    (g.F.Folder.held c.drop_old.new.folder) (ap front c.get.ensures.text ∙ sym c.requires)
+    (c.deref-2.ensures.value ∙ good_is) c.in_ok-found.ensures.found
+    (sorted_opened c.args.root.now c.args.capacity (g.F.Folder.held c.args.folder.now)
+    (g.F.Folder.held c.list.new.self) (g.F.Folder.held c.sort_out.new.folder) c.in_ok-found.ensures.distinct
+    same c.sort_out.ensures.keeps) c.drop_old.ensures.keeps
+
+pub returns-in_default-list_all-clause-keeps : goal.returns-in_default-list_all-clause-keeps
+returns-in_default-list_all-clause-keeps g c =
+    let same = left_same Never c.list.result (g.F.Folder.held c.args.folder.now)
+    (g.F.Folder.held c.list.new.self) c.list.ensures.leaves in
+    let good_is = kept_from_empty c.args.root.now c.args.capacity c.in_ok-found.found.items c.deref.result.now
+    c.new-good.result.items c.sort_out.new.good.items c.new-good.ensures.items c.deref.ensures.value
+    c.in_ok-sort_out.ensures.list in
+    dropped_opened c.args.root.now (front c.get.result.now) c.args.capacity c.in_ok-found.found.items
+    c.deref-2.result.now (g.F.Folder.held c.args.folder.now) (g.F.Folder.held c.sort_out.new.folder)
+    (g.F.Folder.held c.drop_old.new.folder) (ap front c.get.ensures.text ∙ sym c.requires)
+    (c.deref-2.ensures.value ∙ good_is) c.in_ok-found.ensures.found
+    (sorted_opened c.args.root.now c.args.capacity (g.F.Folder.held c.args.folder.now)
+    (g.F.Folder.held c.list.new.self) (g.F.Folder.held c.sort_out.new.folder) c.in_ok-found.ensures.distinct
+    same c.sort_out.ensures.keeps) c.drop_old.ensures.keeps
+
+pub returns-clause-keeps : goal.returns-clause-keeps
+returns-clause-keeps g c =
+    let same = left_same Never c.list.result (g.F.Folder.held c.args.folder.now)
+    (g.F.Folder.held c.list.new.self) c.list.ensures.leaves in
+    let good_is = kept_from_empty c.args.root.now c.args.capacity c.in_ok-found.found.items c.deref.result.now
+    c.new-good.result.items c.sort_out.new.good.items c.new-good.ensures.items c.deref.ensures.value
+    c.in_ok-sort_out.ensures.list in
+    dropped_opened c.args.root.now (front c.get.result.now) c.args.capacity c.in_ok-found.found.items
+    c.deref-2.result.now (g.F.Folder.held c.args.folder.now) (g.F.Folder.held c.sort_out.new.folder)
+    (g.F.Folder.held c.drop_old.new.folder) (ap front c.get.ensures.text ∙ sym c.requires)
+    (c.deref-2.ensures.value ∙ good_is) c.in_ok-found.ensures.found
+    (sorted_opened c.args.root.now c.args.capacity (g.F.Folder.held c.args.folder.now)
+    (g.F.Folder.held c.list.new.self) (g.F.Folder.held c.sort_out.new.folder) c.in_ok-found.ensures.distinct
+    same c.sort_out.ensures.keeps) c.drop_old.ensures.keeps

@@ -1,8 +1,10 @@
-use Rattle.std.proofs.Common.{Some, sym, ap, ◌∙◌}
-use Rattle.lru_disk_cache.specs.Opened.{stripped}
-use Rattle.lru_disk_cache.proofs.Exactly.{outside_ok}
+use Rattle.std.proofs.Common.{[], ◌++◌, Some, sym, ap, subst, ◌∙◌}
+use Rattle.lru_disk_cache.specs.Key.{is_key}
+use Rattle.lru_disk_cache.specs.Opened.{stripped, with_key, Shows}
+use Rattle.folders.proofs.Exactly.{outside_ok}
 use Rattle.lru_disk_cache.proofs.Sorting.{one_dropped, one_kept}
-use Rattle.lru_disk_cache.proofs.Removals.{spared_at}
+use Rattle.folders.proofs.Removals.{spared_at}
+use Rattle.lru_disk_cache.proofs.Keeping.{kept_but, not_key, too_large}
 use Rattle.lru_disk_cache.proofs.opening.sort_one.Goals as goal
 
 pub returns-then-not-is_key-clause-shows : goal.returns-then-not-is_key-clause-shows
@@ -48,3 +50,26 @@ returns-then-not-is_key-clause-spares g c = spared_at c.args.root.now c.in_ok-ke
 pub returns-then-file-capacity-clause-spares : goal.returns-then-file-capacity-clause-spares
 returns-then-file-capacity-clause-spares g c = spared_at c.args.root.now c.in_ok-key.key (g.F.Folder.held c.args.folder.now).files
     (g.F.Folder.held c.remove_file-then-file-capacity.new.folder).files c.remove_file-then-file-capacity.ensures.part
+
+pub returns-then-not-is_key-clause-keeps : goal.returns-then-not-is_key-clause-keeps
+returns-then-not-is_key-clause-keeps g c = λ rest shows.
+    let is = sym (c.in-Some.ensures ∙ (λ i. stripped (c.get.ensures.text i) (c.get-2.ensures.text i)))
+    ∙ ap Some (sym c.in_ok-key.ensures.text) in
+    kept_but c.args.root.now c.in_ok-key.key c.args.file.now.size c.args.capacity c.args.good.now.items rest
+    (g.F.Folder.held c.args.folder.now) (g.F.Folder.held c.remove_file.new.folder)
+    (not_key c.args.capacity c.in_ok-key.key c.args.file.now.size
+    (sym (c.is_key.ensures ∙ ap is_key c.get-3.ensures.text) ∙ c.if-not-is_key.true))
+    c.remove_file.ensures.part
+    (subst (λ o. Shows c.args.root.now (g.F.Folder.held c.args.folder.now)
+    (c.args.good.now.items ++ (with_key o c.args.file.now.size [] ++ rest))) is shows)
+
+pub returns-then-file-capacity-clause-keeps : goal.returns-then-file-capacity-clause-keeps
+returns-then-file-capacity-clause-keeps g c = λ rest shows.
+    let is = sym (c.in-Some.ensures ∙ (λ i. stripped (c.get.ensures.text i) (c.get-2.ensures.text i)))
+    ∙ ap Some (sym c.in_ok-key.ensures.text) in
+    kept_but c.args.root.now c.in_ok-key.key c.args.file.now.size c.args.capacity c.args.good.now.items rest
+    (g.F.Folder.held c.args.folder.now) (g.F.Folder.held c.remove_file-then-file-capacity.new.folder)
+    (too_large c.args.capacity c.in_ok-key.key c.args.file.now.size c.if-file-capacity.true)
+    c.remove_file-then-file-capacity.ensures.part
+    (subst (λ o. Shows c.args.root.now (g.F.Folder.held c.args.folder.now)
+    (c.args.good.now.items ++ (with_key o c.args.file.now.size [] ++ rest))) is shows)

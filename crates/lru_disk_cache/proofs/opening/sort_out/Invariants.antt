@@ -1,8 +1,8 @@
 -- What is kept of the files so far, and with the others what the folder shows.
 use Rattle.std.proofs.Common.{◌≡◌, ◌++◌, take, drop}
-use Rattle.lru_disk_cache.specs.Held.{Became}
-use Rattle.lru_disk_cache.specs.Disk.{OnlyRemoved, ButUnder, RemovedUnder}
-use Rattle.lru_disk_cache.specs.Opened.{keyed, kept, Shows}
+use Rattle.folders.specs.Held.{Became}
+use Rattle.folders.specs.Changed.{OnlyRemoved, ButUnder, RemovedUnder}
+use Rattle.lru_disk_cache.specs.Opened.{keyed, kept, Shows, KeepsKept}
 use Rattle.lru_disk_cache.proofs.opening.sort_out.Given as goal
 
 abbrev pub invariant-loop-file : goal.invariant-loop-file
@@ -12,4 +12,5 @@ invariant-loop-file g l =
     × Became OnlyRemoved (g.F.Folder.held l.fn.folder).files (g.F.Folder.held l.folder).files
     × Became (ButUnder l.root) (g.F.Folder.held l.fn.folder).files (g.F.Folder.held l.folder).files
     × Became (RemovedUnder l.root) (g.F.Folder.held l.fn.folder).files (g.F.Folder.held l.folder).files
+    × Became (KeepsKept l.root l.capacity) (g.F.Folder.held l.fn.folder).files (g.F.Folder.held l.folder).files
     × ((g.F.Folder.held l.folder).faults ≡ (g.F.Folder.held l.fn.folder).faults)

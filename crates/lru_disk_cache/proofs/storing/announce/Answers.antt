@@ -3,7 +3,7 @@ use Rattle.lru_disk_cache.proofs.Fills.{keeps_temp, stands_kept, under_temp, und
 use Rattle.lru_disk_cache.proofs.Fills.{temp_avoided, temp_untouched, untouched_then, untouched_listed}
 use Rattle.lru_disk_cache.proofs.Fills.{both_keep, still_found}
 use Rattle.lru_disk_cache.proofs.Standing.{end_all}
-use Rattle.lru_disk_cache.specs.Disk.{IsNeither}
+use Rattle.folders.specs.Changed.{IsNeither}
 use Rattle.lru_disk_cache.proofs.Spared.{beside_one, all_removed, one_then}
 use Rattle.lru_disk_cache.proofs.storing.announce.Goals as goal
 

@@ -1,5 +1,5 @@
 use Rattle.std.proofs.Common.{ap}
-use Rattle.lru_disk_cache.proofs.CallLemmas.{touched_same, read_same, same_then, content_before, fetch_counts}
+use Rattle.folders.proofs.CallLemmas.{touched_same, read_same, same_then, content_before, fetch_counts}
 use Rattle.lru_disk_cache.proofs.storing.fetch.Goals as goal
 
 pub returns-in_err-touch-clause-others : goal.returns-in_err-touch-clause-others

@@ -1,6 +1,7 @@
 use Rattle.std.proofs.Common.{ap, subst, sym, ◌∙◌}
 use Rattle.std.specs.Str.{bytes_eq}
-use Rattle.lru_disk_cache.specs.Disk.{Stands, IsNeither}
+use Rattle.lru_disk_cache.specs.Disk.{Stands}
+use Rattle.folders.specs.Changed.{IsNeither}
 use Rattle.lru_disk_cache.specs.Entries.{trim}
 use Rattle.lru_disk_cache.proofs.Fills.{from_kept, content_after, outside_listed, outside_then, kept_ok}
 use Rattle.lru_disk_cache.proofs.Fills.{left_err, listed_untouched, fill_untouched}
@@ -103,7 +104,9 @@ returns-in_err-make_room-clause-whole g c =
     listed_moved c.args.root.now c.args.arrival.now.key c.args.arrival.now.from c.args.arrival.now.path
     c.unlist.new.self.entries (g.F.Folder.held c.args.folder.now).files
     (g.F.Folder.held c.make_room.new.folder).files c.requires.path c.unlist.ensures.absent
-    c.make_room.ensures.drops.others
+    (avoids_removed c.args.root.now c.args.arrival.now.from
+    (bytes_eq c.args.arrival.now.key) c.args.table.now.entries c.unlist.new.self.entries
+    (ap (λ t. t.entries) c.unlist.ensures.entries) c.requires.avoids) c.make_room.ensures.drops.others
 
 pub returns-clause-whole : goal.returns-clause-whole
 returns-clause-whole g c =

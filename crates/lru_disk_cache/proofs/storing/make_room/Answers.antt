@@ -1,6 +1,7 @@
 use Rattle.std.proofs.Common.{◌<◌, ◌≤◌, ◌∙◌, sym, arith}
 use Rattle.lru_disk_cache.specs.Entries.{total}
-use Rattle.lru_disk_cache.proofs.Exactly.{still_made, all_made, removed_both}
+use Rattle.lru_disk_cache.proofs.Made.{still_made, all_made}
+use Rattle.folders.proofs.Exactly.{removed_both}
 use Rattle.lru_disk_cache.proofs.Standing.{drops_more}
 use Rattle.lru_disk_cache.proofs.Trims.{trim_fits}
 use Rattle.lru_disk_cache.proofs.storing.make_room.Goals as goal

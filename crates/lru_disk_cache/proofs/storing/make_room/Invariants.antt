@@ -1,8 +1,9 @@
 -- What was dropped so far had to go, and there was no fault.
 use Rattle.std.proofs.Common.{◌≡◌, length}
 use Rattle.std.specs.Option.{option_map}
-use Rattle.lru_disk_cache.specs.Held.{Became}
-use Rattle.lru_disk_cache.specs.Disk.{Drops, OnlyRemoved, dropped, without_each}
+use Rattle.folders.specs.Held.{Became}
+use Rattle.lru_disk_cache.specs.Disk.{Drops, dropped, without_each}
+use Rattle.folders.specs.Changed.{OnlyRemoved}
 use Rattle.lru_disk_cache.proofs.storing.make_room.Given as goal
 
 abbrev pub invariant-loop-folder : goal.invariant-loop-folder

@@ -1,4 +1,4 @@
-use Rattle.lru_disk_cache.specs.Held.{Lacks}
+use Rattle.folders.specs.Held.{Lacks}
 use Rattle.lru_disk_cache.proofs.Reserving.{files_left, held_left}
 use Rattle.lru_disk_cache.proofs.storing.measure.Goals as goal
 

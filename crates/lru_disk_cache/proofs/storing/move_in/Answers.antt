@@ -1,10 +1,10 @@
-use Rattle.lru_disk_cache.specs.Held.{Never}
-use Rattle.lru_disk_cache.proofs.CallLemmas.{left_same}
+use Rattle.folders.specs.Held.{Never}
+use Rattle.folders.proofs.CallLemmas.{left_same}
 use Rattle.lru_disk_cache.proofs.Fills.{stands_kept, same_keeps, same_outside, same_untouched, same_sized}
 use Rattle.lru_disk_cache.proofs.Fills.{same_content, same_kept, same_left, outside_then, untouched_then}
 use Rattle.lru_disk_cache.proofs.Fills.{on_err}
 use Rattle.lru_disk_cache.proofs.Whole.{same_moved, same_then_moved}
-use Rattle.lru_disk_cache.specs.Disk.{IsNeither}
+use Rattle.folders.specs.Changed.{IsNeither}
 use Rattle.lru_disk_cache.proofs.Spared.{all_kept, one_then}
 use Rattle.lru_disk_cache.proofs.storing.move_in.Goals as goal
 

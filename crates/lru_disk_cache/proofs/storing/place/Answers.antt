@@ -1,5 +1,5 @@
 use Rattle.std.proofs.Common.{Ok, Err, List, ℕ, ◌++◌, ◌∷◌, [], ap, subst, sym, ◌∙◌}
-use Rattle.lru_disk_cache.specs.Held.{Became}
+use Rattle.folders.specs.Held.{Became}
 use Rattle.lru_disk_cache.specs.Disk.{Stands, ButThese}
 use Rattle.lru_disk_cache.specs.Entries.{Listed}
 use Rattle.lru_disk_cache.proofs.Renames.{renamed, Carried}
@@ -118,13 +118,13 @@ pub returns-in-Ok-rename-clause-whole : goal.returns-in-Ok-rename-clause-whole
 returns-in-Ok-rename-clause-whole g c =
     renamed_whole c.get.result.now c.args.arrival.now.from c.get-2.result.now c.args.arrival.now.path
     (Ok c.in-Ok-rename.field-0) (g.F.Folder.held c.args.folder.now) (g.F.Folder.held c.rename.new.self)
-    c.get.ensures.text c.get-2.ensures.text c.in-Ok-rename.ensures.renames
+    c.get.ensures.text c.get-2.ensures.text c.requires.apart c.in-Ok-rename.ensures.renames
 
 pub returns-in-Err-clause-whole : goal.returns-in-Err-clause-whole
 returns-in-Err-clause-whole g c =
     renamed_whole c.get.result.now c.args.arrival.now.from c.get-2.result.now c.args.arrival.now.path
     (Err c.in-Err.fault) (g.F.Folder.held c.args.folder.now) (g.F.Folder.held c.rename.new.self)
-    c.get.ensures.text c.get-2.ensures.text c.in-Err.ensures.renames
+    c.get.ensures.text c.get-2.ensures.text c.requires.apart c.in-Err.ensures.renames
 
 pub returns-in-Ok-rename-clause-removed : goal.returns-in-Ok-rename-clause-removed
 returns-in-Ok-rename-clause-removed g c =

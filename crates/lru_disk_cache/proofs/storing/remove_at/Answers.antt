@@ -1,5 +1,6 @@
 use Rattle.std.proofs.Common.{◌∙◌, refl, ap, Err}
-use Rattle.lru_disk_cache.proofs.CallLemmas.{removed_others, gone_ok, taken_ok, taken_missing}
+use Rattle.folders.proofs.CallLemmas.{removed_others, gone_ok, taken_ok, taken_missing}
+use Rattle.folders.proofs.Removals.{removed_part}
 use Rattle.lru_disk_cache.proofs.storing.remove_at.Goals as goal
 
 pub returns-in-Ok-clause-others : goal.returns-in-Ok-clause-others
@@ -29,3 +30,19 @@ returns-in-Err-Missing-clause-exact g c =
 pub returns-in-Err-Memory-clause-others : goal.returns-in-Err-Memory-clause-others
 returns-in-Err-Memory-clause-others g c =
     removed_others c.args.path.now c.remove.result _ _ c.remove.ensures.removes
+
+pub returns-in-Ok-clause-part : goal.returns-in-Ok-clause-part
+returns-in-Ok-clause-part g c =
+    removed_part c.args.path.now c.args.path.now c.remove.result _ _ refl c.remove.ensures.removes
+
+pub returns-in-Err-Failed-clause-part : goal.returns-in-Err-Failed-clause-part
+returns-in-Err-Failed-clause-part g c =
+    removed_part c.args.path.now c.args.path.now c.remove.result _ _ refl c.remove.ensures.removes
+
+pub returns-in-Err-Memory-clause-part : goal.returns-in-Err-Memory-clause-part
+returns-in-Err-Memory-clause-part g c =
+    removed_part c.args.path.now c.args.path.now c.remove.result _ _ refl c.remove.ensures.removes
+
+pub returns-in-Err-Missing-clause-part : goal.returns-in-Err-Missing-clause-part
+returns-in-Err-Missing-clause-part g c =
+    removed_part c.args.path.now c.args.path.now c.remove.result _ _ refl c.remove.ensures.removes

@@ -1,7 +1,7 @@
 use Rattle.std.proofs.Common.{◌++◌, ◌∙◌, ap, Err}
-use Rattle.lru_disk_cache.proofs.CallLemmas.{removed_at, gone_ok, taken_ok, taken_missing}
-use Rattle.lru_disk_cache.proofs.Exactly.{removed_only}
-use Rattle.lru_disk_cache.proofs.Removals.{removed_part}
+use Rattle.folders.proofs.CallLemmas.{removed_at, gone_ok, taken_ok, taken_missing}
+use Rattle.folders.proofs.Exactly.{removed_only}
+use Rattle.folders.proofs.Removals.{removed_part}
 use Rattle.lru_disk_cache.proofs.storing.remove_file.Goals as goal
 
 pub returns-in-Ok-clause-others : goal.returns-in-Ok-clause-others

@@ -4,7 +4,7 @@ use Rattle.lru_disk_cache.proofs.Fills.{under_both, kept_behind, left_behind, co
 use Rattle.lru_disk_cache.proofs.Fills.{temp_untouched, store_untouched}
 use Rattle.lru_disk_cache.proofs.Whole.{temp_new, written_whole}
 use Rattle.std.specs.Option.{option_map}
-use Rattle.lru_disk_cache.specs.Disk.{IsNeither}
+use Rattle.folders.specs.Changed.{IsNeither}
 use Rattle.lru_disk_cache.proofs.Spared.{beside_one, one_then}
 use Rattle.lru_disk_cache.proofs.storing.store.Goals as goal
 

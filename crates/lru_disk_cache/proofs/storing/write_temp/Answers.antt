@@ -1,5 +1,5 @@
-use Rattle.lru_disk_cache.specs.Held.{Never}
-use Rattle.lru_disk_cache.proofs.CallLemmas.{left_same, same_at, at_then}
+use Rattle.folders.specs.Held.{Never}
+use Rattle.folders.proofs.CallLemmas.{left_same, same_at, at_then}
 use Rattle.lru_disk_cache.proofs.Fills.{wrote, wrote_others}
 use Rattle.lru_disk_cache.proofs.storing.write_temp.Goals as goal
 

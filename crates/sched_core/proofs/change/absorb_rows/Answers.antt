@@ -35,3 +35,6 @@ returns-in-Update-clause-looks g c = rw c.in-Update.is (λ h le. tt)
 
 pub returns-in-Status-clause-looks : goal.returns-in-Status-clause-looks
 returns-in-Status-clause-looks g c = rw c.in-Status.is (λ h le. tt)
+
+pub returns-in-Drain-clause-looks : goal.returns-in-Drain-clause-looks
+returns-in-Drain-clause-looks g c = rw c.in-Drain.is (λ h le. tt)

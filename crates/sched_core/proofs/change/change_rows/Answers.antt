@@ -1,10 +1,10 @@
 use Rattle.std.proofs.Common.{◌≡◌, ◌∙◌, None, find}
 use Rattle.std.specs.Prelude.{if◌then◌else◌}
-use Rattle.sched_core.specs.Log.{same_job}
-use Rattle.sched_core.specs.Standing.{is_heard}
-use Rattle.sched_core.specs.Books.{place_if}
+use Rattle.core_rules.specs.Log.{same_job}
+use Rattle.core_rules.specs.Standing.{is_heard}
+use Rattle.core_rules.specs.Next.{place_if}
 use Rattle.sched_core.specs.Booked.{open_view}
-use Rattle.sched_core.proofs.ChangeLemmas.{commit_quiet, status_quiet, update_seen}
+use Rattle.sched_core.proofs.ChangeLemmas.{commit_quiet, status_quiet, update_seen, drain_marks}
 use Rattle.sched_core.proofs.change.change_rows.Goals as goal
 
 pub returns-in-Commit-clause-rows : goal.returns-in-Commit-clause-rows
@@ -26,3 +26,9 @@ pub returns-in-Status-clause-rows : goal.returns-in-Status-clause-rows
 returns-in-Status-clause-rows g c =
     status_quiet c.args.step.now (open_view c.args.bookings.now.rows) c.args.rows.now.rows c.in-Status.pruned
     c.in-Status.servers c.in-Status.cpus c.in-Status.jobs c.in-Status.is
+
+pub returns-in-Drain-clause-rows : goal.returns-in-Drain-clause-rows
+returns-in-Drain-clause-rows g c =
+    c.apply_if-in-Drain.ensures.rows
+    ∙ drain_marks c.args.step.now (open_view c.args.bookings.now.rows) c.args.rows.now.rows c.in-Drain.server
+    c.in-Drain.nonce c.in-Drain.on c.in-Drain.reg c.in-Drain.is

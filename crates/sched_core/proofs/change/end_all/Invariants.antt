@@ -1,5 +1,5 @@
 use Rattle.std.proofs.Common.{◌≡◌, filter, not, take}
-use Rattle.sched_core.specs.Log.{names}
+use Rattle.core_rules.specs.Log.{names}
 use Rattle.sched_core.proofs.change.end_all.Given as goal
 
 abbrev pub invariant-loop-number : goal.invariant-loop-number

@@ -17,3 +17,6 @@ pub returns-in-Beat-clause-rows : goal.returns-in-Beat-clause-rows
 returns-in-Beat-clause-rows g c =
     rw (c.in-Beat.is, c.end_if.ensures.rows, c.end_all.ensures.rows, c.get.ensures.items)
     (end_both c.in-Beat.pruned c.in-Beat.replaced c.args.rows.now.rows)
+
+pub returns-in-Drain-clause-rows : goal.returns-in-Drain-clause-rows
+returns-in-Drain-clause-rows g c = rw c.in-Drain.is (keep_all c.args.rows.now.rows)

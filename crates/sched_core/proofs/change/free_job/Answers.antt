@@ -1,5 +1,5 @@
 use Rattle.std.proofs.Common.{◌∙◌}
-use Rattle.sched_core.specs.Reservation.{frees_by}
+use Rattle.core_rules.specs.Reservation.{frees_by}
 use Rattle.sched_core.proofs.FreeLemmas.{job_gone, job_freed}
 use Rattle.sched_core.proofs.change.free_job.Goals as goal
 

@@ -1,5 +1,5 @@
 use Rattle.std.proofs.Common.{[], ◌∷◌}
-use Rattle.sched_core.specs.Log.{names_job}
+use Rattle.core_rules.specs.Log.{names_job}
 use Rattle.sched_core.proofs.FreeLemmas.{job_gone, job_freed, others_unnamed, own_named}
 use Rattle.sched_core.proofs.change.free_one.Goals as goal
 

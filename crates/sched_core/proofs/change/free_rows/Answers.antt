@@ -1,6 +1,6 @@
 use Rattle.std.proofs.Common.{refl, ◌∙◌}
-use Rattle.sched_core.specs.declared.entry.CoreKind.TheVariants.{Reserve, Commit}
-use Rattle.sched_core.specs.Reservation.{frees_by}
+use Rattle.core_rules.specs.declared.entry.CoreKind.TheVariants.{Reserve, Commit, Drain}
+use Rattle.core_rules.specs.Reservation.{frees_by}
 use Rattle.sched_core.specs.Booked.{held_view}
 use Rattle.sched_core.proofs.FreeLemmas.{never_freed, beat_freed, status_freed}
 use Rattle.sched_core.proofs.BookingLemmas.{undo_frees, update_frees}
@@ -38,3 +38,8 @@ pub returns-in-Status-clause-rows : goal.returns-in-Status-clause-rows
 returns-in-Status-clause-rows g c = rw c.in-Status.is (status_freed c.in-Status.pruned c.in-Status.servers
     c.in-Status.cpus c.in-Status.jobs c.args.bookings.now.rows c.args.rows.now.rows
     (rw c.in-Status.is at c.requires.stay))
+
+pub returns-in-Drain-clause-rows : goal.returns-in-Drain-clause-rows
+returns-in-Drain-clause-rows g c = rw c.in-Drain.is
+    (never_freed (frees_by (Drain c.in-Drain.server c.in-Drain.nonce c.in-Drain.on c.in-Drain.reg))
+    c.args.bookings.now.rows c.args.rows.now.rows (λ b. refl))

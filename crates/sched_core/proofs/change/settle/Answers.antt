@@ -1,4 +1,4 @@
-use Rattle.sched_core.specs.Books.{row_stays}
+use Rattle.core_rules.specs.Next.{row_stays}
 use Rattle.sched_core.proofs.FreeLemmas.{all_pass}
 use Rattle.sched_core.proofs.change.settle.Goals as goal
 

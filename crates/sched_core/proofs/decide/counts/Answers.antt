@@ -1,5 +1,5 @@
 use Rattle.std.proofs.Common.{◌≡◌, ◌≤◌, ◌-◌, ◌∙◌, length, refl, ap, sym, subst}
-use Rattle.sched_core.specs.Prune.{left}
+use Rattle.core_rules.specs.Prune.{left}
 use Rattle.sched_core.proofs.RegistrationLemmas.{left_count}
 use Rattle.sched_core.proofs.decide.counts.Goals as goal
 

@@ -1,6 +1,6 @@
 use Rattle.std.proofs.Common.{◌≤◌, length, ◌∙◌, arith, get_or}
 use Rattle.std.proofs.lemmas.List.{get_or_default}
-use Rattle.numbered_lists.specs.Numbered.{list_at}
+use Rattle.row_index.specs.Lists.{list_at}
 use Rattle.sched_core.proofs.OwnRowLemmas.{left_first, left_next, left_last}
 use Rattle.sched_core.proofs.own.open_left.Goals as goal
 

@@ -1,5 +1,5 @@
 use Rattle.std.proofs.Common.{◌≡◌, take, filter, length}
-use Rattle.sched_core.specs.Rule.{is_left}
+use Rattle.core_rules.specs.Rule.{is_left}
 use Rattle.sched_core.specs.Booked.{open_view}
 use Rattle.sched_core.proofs.own.open_left.Given as goal
 

@@ -1,14 +1,14 @@
 use Rattle.std.proofs.Common.{ap, ◌∙◌, map, filter}
 use Rattle.std.proofs.lemmas.Result.{IfOk-weaker}
 use Rattle.sched_core.specs.declared.booked.BookedRow.{BookedRow}
-use Rattle.sched_core.specs.Reap.{is_reaped}
+use Rattle.core_rules.specs.Reap.{is_reaped}
 use Rattle.sched_core.specs.Booked.{held_part_of}
 use Rattle.sched_core.proofs.OwnRowLemmas.{rows_own, reap_own}
 use Rattle.sched_core.proofs.own.reaped_jobs.Goals as goal
 
 pub returns : goal.returns
 returns c = let a = c.args in IfOk-weaker c.jobs_to_reap.result _ _
-    (λ v h. h ∙ ap (λ l. map (λ (b : BookedRow). b.job) (filter (λ b. is_reaped a.now a.reg (held_part_of
+    (λ v h. h ∙ ap (λ l. map (λ (b : BookedRow). b.job) (filter (λ b. is_reaped a.beat.rules a.beat.moment a.beat.reg (held_part_of
     b)) l))
-    (rows_own a.reg a.rows.now a.places.now c.requires)
-    ∙ reap_own a.now a.reg a.rows.now) c.jobs_to_reap.ensures
+    (rows_own a.beat.reg a.rows.now a.places.now c.requires)
+    ∙ reap_own a.beat.rules a.beat.moment a.beat.reg a.rows.now) c.jobs_to_reap.ensures

@@ -1,6 +1,6 @@
 use Rattle.std.proofs.Common.{◌≡◌, ◌-◌, take}
 use Rattle.std.specs.List.{sum_by}
-use Rattle.numbered_slots.specs.Slots.{rows_in}
+use Rattle.row_index.specs.Slots.{rows_in}
 use Rattle.sched_core.specs.Registrations.{cpus_at}
 use Rattle.sched_core.proofs.processors.less.Given as goal
 

@@ -1,10 +1,12 @@
 use Rattle.std.proofs.Common.{◌≡◌, [], ◌∷◌, ◌++◌, ◌+◌, length, refl, ap, ◌∙◌, sym, subst}
 use Rattle.std.proofs.Common.{arith, length-append}
-use Rattle.sched_core.specs.Books.{AreBooks, job_by, key_by, keys_next, kept_by, with_key, lists_next}
+use Rattle.sched_core.specs.Books.{AreBooks, key_by, kept_by, with_key, lists_next}
+use Rattle.sched_core.proofs.KeyLemmas.{keys_next}
+use Rattle.core_rules.specs.Next.{job_by}
 use Rattle.sched_core.specs.Books.{rows_next, unspent_next}
 use Rattle.sched_core.specs.Registrations.{AreSoundRows}
 use Rattle.sched_core.specs.Booked.{unspent_view}
-use Rattle.sched_core.proofs.LegalLemmas.{legal-push}
+use Rattle.core_rules.proofs.LegalLemmas.{legal-push}
 use Rattle.sched_core.proofs.BookedLemmas.{unspent_after}
 use Rattle.sched_core.proofs.BookLemmas.{absorbed, next_follows, reaped_apart}
 use Rattle.sched_core.proofs.ChangeLemmas.{sound_rows}
@@ -17,7 +19,7 @@ absorb-requires-clause-sound g c =
     let a = c.args in
     let log = a.journal.now.log.items in
     let lists = a.journal.now.books.lists in
-    let number : c.len.result ≡ length log = c.len.ensures ∙ a.journal.now.log.ok.0 in
+    let number : c.len.result ≡ length log = c.len.ensures in
     let books : AreBooks (lists_next lists a.step (length log))
     (keys_next a.step (length log) (kept_by g.A.JobAuthorizer.key_of a.journal.now.keys.entries))
     (log ++ a.step ∷ []) =
@@ -30,7 +32,7 @@ absorb-requires-clause-sound g c =
 pub absorb-requires-clause-above : goal.absorb-requires-clause-above
 absorb-requires-clause-above g c =
     let log = c.args.journal.now.log in
-    let number : c.len.result ≡ length log.items = c.len.ensures ∙ log.ok.0 in
+    let number : c.len.result ≡ length log.items = c.len.ensures in
     let top = c.requires.state.top in
     omega (arith, number, top)
 
@@ -57,16 +59,16 @@ pub returns-clause-state : goal.returns-clause-state
 returns-clause-state g c =
     let a = c.args in
     let log = a.journal.now.log.items in
-    let number : c.len.result ≡ length log = c.len.ensures ∙ a.journal.now.log.ok.0 in
+    let number : c.len.result ≡ length log = c.len.ensures in
     let does : c.absorb.new.self.lists ≡ lists_next a.journal.now.books.lists a.step (length log) =
     c.absorb.ensures.lists ∙ ap (lists_next a.journal.now.books.lists a.step) number in
     let made = job_by a.step.kind a.journal.now.books.lists.rows (length log) a.step.now in
     let spent : length (unspent_view c.absorb.new.self.lists.booked) ≡ length
     (unspent_next a.journal.now.books.lists a.step (length log)) =
     ap (λ l. length (unspent_view l.booked)) does
-    ∙ ap length (unspent_after a.step.kind a.journal.now.books.lists.booked made) in
-    let len = c.push_reserved.ensures.len in
-    let capacity = c.push_reserved.ensures.capacity in
+    ∙ ap length (unspent_after a.step a.journal.now.books.lists.booked made) in
+    let len = c.push.ensures.len in
+    let capacity = c.push.ensures.capacity in
     let log_room = c.requires.log_room in
     let longer : length (log ++ a.step ∷ []) ≡ length log + 1 = length-append log (a.step ∷ []) in
     let top = c.absorb.ensures.top in
@@ -79,14 +81,14 @@ returns-clause-state g c =
     c.requires.key
     ∙ ap (with_key (key_by a.step.kind (length log))) c.end_keys.ensures.keys in
     record {
-      books = rw (c.push_reserved.ensures.items, does)
+      books = rw (c.push.ensures.items, does)
           (absorbed a.start a.journal.now.books.lists _ _ log a.step
           c.requires.state.fits c.requires.state.books c.requires.state.legal c.requires.rule keys);
       fits = c.requires.state.fits;
-      legal = rw c.push_reserved.ensures.items
+      legal = rw c.push.ensures.items
           (legal-push a.start [] log a.step c.requires.state.legal c.requires.rule);
       log_room = omega (arith, spent, len, capacity, log_room);
       first = c.absorb.ensures.first ∙ c.requires.state.first;
-      top = rw c.push_reserved.ensures.items (omega (arith, longer, number, top));
-      places = rw c.push_reserved.ensures.items (omega (arith, places, few, grown));
+      top = rw c.push.ensures.items (omega (arith, longer, number, top));
+      places = rw c.push.ensures.items (omega (arith, places, few, grown));
     }

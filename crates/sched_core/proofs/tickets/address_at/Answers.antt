@@ -1,5 +1,5 @@
 use Rattle.std.proofs.Common.{◌∙◌, sym}
-use Rattle.sched_core.proofs.StateLemmas.{row_address, row_found}
+use Rattle.core_rules.proofs.StateLemmas.{row_address, row_found}
 use Rattle.sched_core.proofs.tickets.address_at.Goals as goal
 
 pub unreachable-requires : goal.unreachable-requires
@@ -7,5 +7,5 @@ unreachable-requires c = row_found c.args.books.now.lists.rows c.args.reg c.requ
     (sym c.row.ensures ∙ c.in-None.is)
 
 pub returns : goal.returns
-returns c = row_address c.args.log.now c.args.books.now.lists.rows c.args.reg c.in-Some.row c.requires.rows
+returns c = row_address c.args.log.now.items c.args.books.now.lists.rows c.args.reg c.in-Some.row c.requires.rows
     (sym c.row.ensures ∙ c.in-Some.is)

@@ -1,5 +1,6 @@
 use Rattle.std.proofs.Common.{ap, sym, ◌∙◌}
-use Rattle.http_connections.proofs.ConnectionLemmas.{sent}
+use Rattle.http_connections.proofs.ConnectionLemmas.{sent_by, unsent}
+use Rattle.server_service.proofs.SettledLemmas.{replied_whole}
 use Rattle.server_service.proofs.connection.serve_server_connection.Goals as goal
 
 pub returns-in-Ok-replied : goal.returns-in-Ok-replied
@@ -8,8 +9,9 @@ returns-in-Ok-replied g c =
     let same = ap (λ p. p.0)
     (sym (alone c.take.new.link) ∙ (sym c.send.ensures.apart ∙ alone c.send.new.link)) in
     record {
-      served = sent _ _ _ c.in-Ok.request c.in-Ok-replied.reply c.send.result _ _ _ _ _ _ _ _ _ _ _
+      served = sent_by _ _ _ _ c.in-Ok.request c.in-Ok-replied.reply c.send.result _ _ _ _ _ _ _ _ _ _ _
           c.in-Ok.ensures.cut same c.in-Ok.ensures.writes.0 c.in-Ok.ensures.writes.1
+          (replied_whole _ _ _ _ _)
           c.in-Ok-replied.ensures.replied
           (record {
             answered = c.send.ensures.answered;
@@ -18,3 +20,9 @@ returns-in-Ok-replied g c =
             no_read = c.send.ensures.no_read;
           });
     }
+
+pub returns : goal.returns
+returns g c = record {
+  served = unsent _ _ _ _ c.in-Ok.request c.in-Err.field-0 _ _ _ _ _ _ _ _ c.in-Ok.ensures.cut
+      c.in-Ok.ensures.writes.0 (replied_whole _ _ _ _ _) c.in-Err.ensures.replied;
+}

@@ -1,9 +1,9 @@
 use Rattle.std.proofs.Common.{◌≡◌, ◌∙◌, None, Some, IsSome, refl, sym, subst}
-use Rattle.lru_disk_cache.specs.Files.{front}
-use Rattle.lru_disk_cache.specs.Held.{Holds, Became}
-use Rattle.lru_disk_cache.specs.Disk.{ButUnder}
-use Rattle.lru_disk_cache.specs.Archives.{opened_archives}
-use Rattle.lru_disk_cache.proofs.Became.{untold}
+use Rattle.folders.specs.Files.{front}
+use Rattle.folders.specs.Held.{Holds, Became}
+use Rattle.folders.specs.Changed.{ButUnder}
+use Rattle.toolchain_cache.specs.Archives.{opened_archives}
+use Rattle.folders.proofs.Became.{untold}
 use Rattle.disk_cache.specs.Names.{cache_path, temp_dir}
 use Rattle.disk_cache.specs.Opening.{IsEmpty, ButOwn, LeftOpen, OpeningFails}
 use Rattle.disk_cache.specs.WeakMaps.{weak_map_at}

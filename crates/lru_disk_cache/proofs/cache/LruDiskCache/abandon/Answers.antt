@@ -1,8 +1,11 @@
 use Rattle.std.proofs.Common.{◌≡◌, ◌+◌, ◌≤◌, true, false, IfErr, OnOk, refl, sym, ap, subst, ◌∙◌, arith}
-use Rattle.lru_disk_cache.specs.Files.{without}
-use Rattle.lru_disk_cache.specs.Held.{Holds, Lacks, Became}
+use Rattle.folders.specs.Files.{without}
+use Rattle.folders.specs.Held.{Holds, Lacks, Became}
 use Rattle.lru_disk_cache.specs.Entries.{total}
-use Rattle.lru_disk_cache.specs.Disk.{ButAt, Keeps}
+use Rattle.folders.specs.Changed.{ButAt, OnlyRemoved}
+use Rattle.lru_disk_cache.specs.Disk.{Keeps}
+use Rattle.lru_disk_cache.proofs.Spared.{only_removed}
+use Rattle.folders.proofs.Exactly.{none_removed}
 use Rattle.lru_disk_cache.specs.Reserved.{KeepsReserved, held_size, is_pending, without_number}
 use Rattle.lru_disk_cache.specs.Adding.{entry_path, abandoned, AbandonFails}
 use Rattle.lru_disk_cache.proofs.Fills.{on_ok, counts_ok, keeps_avoided, temp_avoids, stands_kept}
@@ -170,3 +173,13 @@ returns-clause-in_step g c =
     (closed_ok (Became (λ old new. new ≡ without c.in-Some.temp.now old)
     (g.F.Folder.held c.self.inside.folder).files (g.F.Folder.held c.remove_at-answer.new.folder).files)
     c.remove_at-answer.result c.closed.result c.closed.ensures c.remove_at-answer.ensures.exact))
+
+pub returns-clause-removed : goal.returns-clause-removed
+returns-clause-removed g c =
+    subst (λ s. Became OnlyRemoved (g.F.Folder.held s.folder).files
+    (g.F.Folder.held c.remove_at-answer.new.folder).files) c.self.view_is
+    (only_removed c.in-Some.temp.now (g.F.Folder.held c.self.inside.folder).files
+    (g.F.Folder.held c.remove_at-answer.new.folder).files c.remove_at-answer.ensures.part)
+
+pub returns-in_default-clause-removed : goal.returns-in_default-clause-removed
+returns-in_default-clause-removed g c = none_removed (g.F.Folder.held c.args.self.now.folder).files

@@ -1,6 +1,6 @@
 use Rattle.std.proofs.Common.{rules, ◌≡◌, ◌+◌, ◌≤◌, ◌++◌, Some, sym, ap, subst, ◌∙◌, arith}
-use Rattle.lru_disk_cache.specs.Files.{size_at}
-use Rattle.lru_disk_cache.specs.Held.{Became}
+use Rattle.folders.specs.Files.{size_at}
+use Rattle.folders.specs.Held.{Became}
 use Rattle.lru_disk_cache.specs.Key.{is_key, temp_name}
 use Rattle.lru_disk_cache.specs.Entries.{Listed, total}
 use Rattle.lru_disk_cache.specs.Reserved.{KeepsReserved, held_size, without_number}

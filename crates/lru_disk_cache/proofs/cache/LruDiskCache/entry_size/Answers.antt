@@ -1,6 +1,6 @@
 use Rattle.std.proofs.Common.{◌≡◌, ◌++◌, Some, true, false, IfOk, IfErr, OnOk, refl, sym, subst}
-use Rattle.lru_disk_cache.specs.Files.{size_at}
-use Rattle.lru_disk_cache.specs.Held.{Holds}
+use Rattle.folders.specs.Files.{size_at}
+use Rattle.folders.specs.Held.{Holds}
 use Rattle.lru_disk_cache.specs.Key.{temp_name}
 use Rattle.lru_disk_cache.specs.Reserved.{is_pending}
 use Rattle.lru_disk_cache.specs.Adding.{HasSize, WriteFails}
@@ -71,5 +71,5 @@ returns-clause-fails g c =
     (disk_of c.self.inside.path c.self.inside.root c.self.inside.table c.self.inside.pending)
     (disk_of c.self.inside.path c.self.inside.root c.self.inside.table c.self.inside.pending)
     c.in-Some.temp.now c.measure.result (g.F.Folder.held c.self.inside.folder)
-    (g.F.Folder.held c.measure.new.folder) c.self.invariant t.0 t.1
+    (g.F.Folder.held c.measure.new.folder) c.self.invariant refl t.0 t.1
     c.measure.ensures.fails)

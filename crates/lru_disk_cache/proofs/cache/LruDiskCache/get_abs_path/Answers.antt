@@ -1,6 +1,6 @@
 use Rattle.std.proofs.Common.{refl, sym, ap}
-use Rattle.lru_disk_cache.specs.Disk.{SameAt}
-use Rattle.lru_disk_cache.proofs.Became.{became_same}
+use Rattle.folders.specs.Changed.{SameAt}
+use Rattle.folders.proofs.Became.{became_same}
 use Rattle.lru_disk_cache.proofs.Stores.{promoted_store}
 use Rattle.lru_disk_cache.proofs.Trims.{none_promoted}
 use Rattle.lru_disk_cache.proofs.cache.LruDiskCache.get_abs_path.Goals as goal
@@ -21,3 +21,9 @@ invariant_of-self g c =
 
 pub returns-clause-stands : goal.returns-clause-stands
 returns-clause-stands g c = invariant_of-self g c
+
+pub returns-then-not-has-clause-ok : goal.returns-then-not-has-clause-ok
+returns-then-not-has-clause-ok g c =
+    sym (ap (λ es. record c.args.self.now.disk { entries = es })
+    (none_promoted c.args.key.now c.args.key.now c.self.inside.table.entries c.args.self.now.disk.entries
+    c.has.result refl (ap (λ s. s.disk.entries) c.self.view_is) c.has.ensures c.if-not-has.true))

@@ -1,5 +1,5 @@
 use Rattle.std.proofs.Common.{rules, subst, sym, ◌∙◌}
-use Rattle.lru_disk_cache.specs.Held.{Lacks}
+use Rattle.folders.specs.Held.{Lacks}
 use Rattle.lru_disk_cache.proofs.Standing.{listed_there}
 use Rattle.lru_disk_cache.proofs.Stores.{promoted_store}
 use Rattle.lru_disk_cache.proofs.DiskSteps.{step_touched}

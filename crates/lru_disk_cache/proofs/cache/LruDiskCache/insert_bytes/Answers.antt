@@ -1,11 +1,12 @@
 use Rattle.std.proofs.Common.{rules, ◌+◌, ◌≤◌, ◌++◌, ◌∙◌, ap, subst, arith}
-use Rattle.lru_disk_cache.specs.Held.{Became}
+use Rattle.folders.specs.Held.{Became}
 use Rattle.lru_disk_cache.specs.Reserved.{held_size, KeepsReserved}
 use Rattle.lru_disk_cache.proofs.Reserving.{these_reserved}
 use Rattle.lru_disk_cache.proofs.Stores.{insert_store, stored_exact}
 use Rattle.lru_disk_cache.proofs.DiskSteps.{step_stored}
 use Rattle.lru_disk_cache.proofs.Insides.{disk_of}
-use Rattle.lru_disk_cache.specs.Disk.{RemovedOrSame, IsBeside}
+use Rattle.folders.specs.Changed.{RemovedOrSame}
+use Rattle.lru_disk_cache.specs.Disk.{IsBeside}
 use Rattle.lru_disk_cache.proofs.Spared.{beside_temp}
 use Rattle.lru_disk_cache.proofs.cache.LruDiskCache.insert_bytes.Goals as goal
 

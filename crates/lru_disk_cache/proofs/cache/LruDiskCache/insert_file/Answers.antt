@@ -1,5 +1,5 @@
 use Rattle.std.proofs.Common.{rules, ◌+◌, ◌≤◌, sym, ap, subst, ◌∙◌, arith}
-use Rattle.lru_disk_cache.specs.Held.{Became}
+use Rattle.folders.specs.Held.{Became}
 use Rattle.lru_disk_cache.specs.Key.{names_temporary}
 use Rattle.lru_disk_cache.specs.Reserved.{KeepsReserved, held_size}
 use Rattle.lru_disk_cache.specs.Store.{Disk}

@@ -1,6 +1,6 @@
 use Rattle.std.proofs.Common.{◌≡◌, ◌++◌, ◌∙◌, length, Some, Ok, sym, subst}
-use Rattle.lru_disk_cache.specs.Files.{file_at}
-use Rattle.lru_disk_cache.specs.Held.{Holds}
+use Rattle.folders.specs.Files.{file_at}
+use Rattle.folders.specs.Held.{Holds}
 use Rattle.lru_disk_cache.specs.Store.{inserted, insert_verdict}
 use Rattle.lru_disk_cache.specs.Moving.{Wrote}
 use Rattle.lru_disk_cache.proofs.Moves.{with_failed, with_fails, with_ok}

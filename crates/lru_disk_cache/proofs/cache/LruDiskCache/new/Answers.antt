@@ -5,12 +5,14 @@ use denote.Enum.Declared as declared
 use Rattle.std.specs.contracts.result.Result as result
 use Rattle.lru_metered.specs.Metered.{Metered}
 use Rattle.lru_disk_cache.specs.contracts.table.Table as table
-use Rattle.lru_disk_cache.specs.contracts.fault.FolderFault as fault
+use Rattle.folders.specs.contracts.fault.FolderFault as fault
 use Rattle.lru_disk_cache.specs.Entries.{Listed, total}
-use Rattle.lru_disk_cache.proofs.Removals.{none_spared}
-use Rattle.lru_disk_cache.specs.Files.{front}
-use Rattle.lru_disk_cache.specs.Held.{Became}
-use Rattle.lru_disk_cache.specs.Disk.{RemovedUnder}
+use Rattle.lru_disk_cache.specs.Opened.{KeepsOpened}
+use Rattle.lru_disk_cache.proofs.Keeping.{none_opened}
+use Rattle.folders.proofs.Removals.{none_spared}
+use Rattle.folders.specs.Files.{front}
+use Rattle.folders.specs.Held.{Became}
+use Rattle.folders.specs.Changed.{RemovedUnder}
 use Rattle.lru_disk_cache.proofs.cache.LruDiskCache.new.Goals as goal
 
 pub invariant_of-result : goal.invariant_of-result
@@ -40,3 +42,12 @@ returns-in_default-clause-left g c = none_spared (front c.args.path.now) (g.F.Fo
 pub returns-in-Err-clause-left : goal.returns-in-Err-clause-left
 returns-in-Err-clause-left g c = subst (λ r. Became (RemovedUnder r) (g.F.Folder.held c.args.folder).files
     (g.F.Folder.held c.open.new.folder).files) c.in-Ok.ensures.1 c.open.ensures.spares
+
+pub returns-in_default-clause-spared : goal.returns-in_default-clause-spared
+returns-in_default-clause-spared g c =
+    none_opened (front c.args.path.now) c.args.size (g.F.Folder.held c.args.folder).files
+
+pub returns-in-Err-clause-spared : goal.returns-in-Err-clause-spared
+returns-in-Err-clause-spared g c =
+    subst (λ r. Became (KeepsOpened r c.args.size) (g.F.Folder.held c.args.folder).files
+    (g.F.Folder.held c.open.new.folder).files) c.in-Ok.ensures.1 c.open.ensures.keeps

@@ -1,5 +1,5 @@
 use Rattle.std.proofs.Common.{rules, ◌+◌, ◌≤◌, true, sym, ap, subst, ◌∙◌, arith}
-use Rattle.lru_disk_cache.specs.Held.{Became}
+use Rattle.folders.specs.Held.{Became}
 use Rattle.lru_disk_cache.specs.Key.{is_key}
 use Rattle.lru_disk_cache.specs.Entries.{total}
 use Rattle.lru_disk_cache.specs.Reserved.{KeepsReserved, held_size}
@@ -7,7 +7,8 @@ use Rattle.lru_disk_cache.specs.Store.{IsStore}
 use Rattle.lru_disk_cache.proofs.Reserving.{temp_reserved}
 use Rattle.lru_disk_cache.proofs.Stores.{disk_of, announced_store, prepared_store}
 use Rattle.lru_disk_cache.proofs.DiskSteps.{step_prepared}
-use Rattle.lru_disk_cache.specs.Disk.{RemovedOrSame, IsNoTemp}
+use Rattle.folders.specs.Changed.{RemovedOrSame}
+use Rattle.lru_disk_cache.specs.Disk.{IsNoTemp}
 use Rattle.lru_disk_cache.proofs.Spared.{but_temps}
 use Rattle.lru_disk_cache.proofs.cache.LruDiskCache.prepare_add.Goals as goal
 

@@ -1,4 +1,4 @@
-use Rattle.lru_disk_cache.specs.Held.{Lacks}
+use Rattle.folders.specs.Held.{Lacks}
 use Rattle.lru_disk_cache.proofs.Asides.{below_store, below_same}
 use Rattle.lru_disk_cache.proofs.Insides.{disk_of}
 use Rattle.lru_disk_cache.proofs.cache.LruDiskCache.read_aside.Goals as goal

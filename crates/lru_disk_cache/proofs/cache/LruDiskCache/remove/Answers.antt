@@ -1,15 +1,15 @@
-use Rattle.std.proofs.Common.{rules, ◌++◌, IsSome, ap, sym, subst, ◌∙◌}
-use Rattle.lru_disk_cache.specs.Held.{Became}
+use Rattle.std.proofs.Common.{rules, ◌++◌, IsSome, refl, ap, sym, subst, ◌∙◌}
+use Rattle.folders.specs.Held.{Became}
 use Rattle.lru_disk_cache.specs.Disk.{Keeps}
 use Rattle.lru_disk_cache.specs.Reserved.{KeepsReserved}
-use Rattle.lru_disk_cache.proofs.Standing.{keeps_absent}
-use Rattle.lru_disk_cache.proofs.Reserving.{listed_key, key_reserved}
+use Rattle.lru_disk_cache.proofs.Standing.{keeps_absent, none_lost}
+use Rattle.lru_disk_cache.proofs.Reserving.{listed_key, key_reserved, none_reserved}
 use Rattle.lru_disk_cache.proofs.Stores.{removed_store}
 use Rattle.lru_disk_cache.proofs.Trims.{none_out}
 use Rattle.std.specs.Map.{lookup}
 use Rattle.std.specs.Str.{bytes_eq}
 use Rattle.lru_disk_cache.proofs.DiskSteps.{step_removed}
-use Rattle.lru_disk_cache.specs.Disk.{OnlyRemoved}
+use Rattle.folders.specs.Changed.{OnlyRemoved}
 use Rattle.lru_disk_cache.proofs.Spared.{only_removed}
 use Rattle.lru_disk_cache.proofs.cache.LruDiskCache.remove.Goals as goal
 
@@ -106,3 +106,33 @@ returns-clause-removed g c =
     (g.F.Folder.held c.remove_file.new.folder).files) c.self.view_is
     (only_removed (c.self.inside.root ++ c.in-Ok.key) (g.F.Folder.held c.self.inside.folder).files
     (g.F.Folder.held c.remove_file.new.folder).files c.remove_file.ensures.part)
+
+pub returns-then-not-has-clause-ok : goal.returns-then-not-has-clause-ok
+returns-then-not-has-clause-ok g c =
+    sym (ap (λ es. record c.args.self.now.disk { entries = es })
+    (none_out c.args.key.now c.args.key.now c.self.inside.table.entries c.args.self.now.disk.entries
+    c.has.result refl (ap (λ s. s.disk.entries) c.self.view_is) c.has.ensures c.if-not-has.true))
+
+pub returns-then-not-has-clause-kept : goal.returns-then-not-has-clause-kept
+returns-then-not-has-clause-kept g c =
+    none_lost c.args.self.now.disk.root c.args.self.now.disk.entries (g.F.Folder.held c.args.self.now.folder)
+
+pub returns-then-not-has-clause-reserved : goal.returns-then-not-has-clause-reserved
+returns-then-not-has-clause-reserved g c =
+    none_reserved c.args.self.now.disk.pending (g.F.Folder.held c.args.self.now.folder).files
+
+pub returns-in_default-clause-kept : goal.returns-in_default-clause-kept
+returns-in_default-clause-kept g c =
+    none_lost c.args.self.now.disk.root c.args.self.now.disk.entries (g.F.Folder.held c.args.self.now.folder)
+
+pub returns-in_default-clause-reserved : goal.returns-in_default-clause-reserved
+returns-in_default-clause-reserved g c =
+    none_reserved c.args.self.now.disk.pending (g.F.Folder.held c.args.self.now.folder).files
+
+pub returns-then-not-contains-clause-kept : goal.returns-then-not-contains-clause-kept
+returns-then-not-contains-clause-kept g c =
+    none_lost c.args.self.now.disk.root c.args.self.now.disk.entries (g.F.Folder.held c.args.self.now.folder)
+
+pub returns-then-not-contains-clause-reserved : goal.returns-then-not-contains-clause-reserved
+returns-then-not-contains-clause-reserved g c =
+    none_reserved c.args.self.now.disk.pending (g.F.Folder.held c.args.self.now.folder).files

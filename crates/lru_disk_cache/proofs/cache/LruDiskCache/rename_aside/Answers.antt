@@ -1,5 +1,5 @@
 use Rattle.std.proofs.Common.{sym, subst}
-use Rattle.lru_disk_cache.specs.Disk.{IsOutside}
+use Rattle.folders.specs.Changed.{IsOutside}
 use Rattle.lru_disk_cache.proofs.Asides.{below_store, below_renamed}
 use Rattle.lru_disk_cache.proofs.Insides.{disk_of}
 use Rattle.lru_disk_cache.proofs.cache.LruDiskCache.rename_aside.Goals as goal

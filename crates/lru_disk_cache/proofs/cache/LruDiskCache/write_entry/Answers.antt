@@ -1,7 +1,8 @@
 use Rattle.std.proofs.Common.{◌≡◌, true, false, IfErr, OnOk, OnErr, refl, sym, subst}
-use Rattle.lru_disk_cache.specs.Files.{appended, PartAppended}
-use Rattle.lru_disk_cache.specs.Held.{Became, BecameBy}
-use Rattle.lru_disk_cache.specs.Disk.{ButAt, Keeps}
+use Rattle.folders.specs.Files.{appended, PartAppended}
+use Rattle.folders.specs.Held.{Became, BecameBy}
+use Rattle.folders.specs.Changed.{ButAt}
+use Rattle.lru_disk_cache.specs.Disk.{Keeps}
 use Rattle.lru_disk_cache.specs.Reserved.{KeepsReserved, is_pending, without_number}
 use Rattle.lru_disk_cache.specs.Adding.{entry_path, WriteFails}
 use Rattle.lru_disk_cache.proofs.Fills.{on_ok, keeps_avoided, temp_avoids}
@@ -83,7 +84,7 @@ returns-clause-fails g c =
     (disk_of c.self.inside.path c.self.inside.root c.self.inside.table c.self.inside.pending)
     (disk_of c.self.inside.path c.self.inside.root c.self.inside.table c.self.inside.pending)
     c.in-Some.temp.now c.add_to.result (g.F.Folder.held c.self.inside.folder)
-    (g.F.Folder.held c.add_to.new.folder) c.self.invariant t.0 t.1
+    (g.F.Folder.held c.add_to.new.folder) c.self.invariant refl t.0 t.1
     c.add_to.ensures.fails)
 
 pub returns-clause-others : goal.returns-clause-others

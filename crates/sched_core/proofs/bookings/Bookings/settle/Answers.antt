@@ -10,11 +10,11 @@ change-requires c = let s = c.self.inside in
 pub returns-in-Some-clause-rows : goal.returns-in-Some-clause-rows
 returns-in-Some-clause-rows c = let s = c.self.inside in
     rw (← c.self.view_is)
-    (one_settled (booked_after c.args.kind.now) (booked_after c.args.kind.now) c.args.job s.rows.rows
+    (one_settled (booked_after c.args.step.now) (booked_after c.args.step.now) c.args.job s.rows.rows
     c.change.new.self.rows c.in-Some.place c.requires (λ b own. refl) c.in-Some.ensures
     (rw (← c.self.view_is) at c.change.ensures.rows))
 
 pub returns-in-None-clause-rows : goal.returns-in-None-clause-rows
 returns-in-None-clause-rows c = let s = c.self.inside in
     rw (← c.self.view_is)
-    (none_settled (booked_after c.args.kind.now) c.args.job s.rows.rows c.requires c.in-None.ensures)
+    (none_settled (booked_after c.args.step.now) c.args.job s.rows.rows c.requires c.in-None.ensures)

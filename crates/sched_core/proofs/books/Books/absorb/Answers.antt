@@ -1,7 +1,15 @@
 use Rattle.std.proofs.Common.{◌∙◌}
 use Rattle.sched_core.proofs.BookLemmas.{made_by, room_made}
+use Rattle.sched_core.proofs.KeyLemmas.{row_registers}
 use Rattle.sched_core.proofs.RegistrationLemmas.{row_by_number, above_number, few_pushed}
 use Rattle.sched_core.proofs.books.Books.absorb.Goals as goal
+
+pub push_row-requires-clause-room : goal.push_row-requires-clause-room
+push_row-requires-clause-room g c =
+    let s = c.self.inside in
+    rw (c.row_made.ensures, c.absorb_rows.ensures.places)
+    (λ some. (rw (← c.self.view_is) at c.requires.row_room)
+    (row_registers c.args.step.now.kind c.args.number c.args.step.now.now some))
 
 pub push_row-requires-clause-above : goal.push_row-requires-clause-above
 push_row-requires-clause-above g c =

@@ -1,5 +1,5 @@
 use Rattle.std.proofs.Common.{◌∙◌, sym}
-use Rattle.numbered_slots.specs.Slots.{rows_in}
+use Rattle.row_index.specs.Slots.{rows_in}
 use Rattle.sched_core.proofs.IndexLemmas.{by_number, none_at}
 use Rattle.sched_core.proofs.registrations.Registrations.at.Goals as goal
 

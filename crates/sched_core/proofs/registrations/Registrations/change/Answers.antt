@@ -1,5 +1,5 @@
 use Rattle.std.proofs.Common.{◌+◌, ◌*◌}
-use Rattle.numbered_slots.specs.Slots.{rows_in}
+use Rattle.row_index.specs.Slots.{rows_in}
 use Rattle.sched_core.proofs.RegistrationLemmas.{changed_rows, changed_looks, not_there}
 use Rattle.sched_core.proofs.RegistrationLemmas.{found_there, only_there, place_kept, is_full}
 use Rattle.sched_core.proofs.IndexLemmas.{indexed_changed}

@@ -1,6 +1,6 @@
 use Rattle.std.proofs.Common.{◌-◌, ◌^◌, ◌∙◌, min, ap}
 use Rattle.std.specs.Prelude.{sum_by}
-use Rattle.numbered_slots.specs.Slots.{rows_in}
+use Rattle.row_index.specs.Slots.{rows_in}
 use Rattle.sched_core.specs.Registrations.{cpus_at}
 use Rattle.sched_core.proofs.IndexLemmas.{left_sum}
 use Rattle.sched_core.proofs.registrations.Registrations.cpus_left.Goals as goal

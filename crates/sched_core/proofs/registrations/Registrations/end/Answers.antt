@@ -1,5 +1,5 @@
 use Rattle.std.proofs.Common.{◌∙◌, sym, arith}
-use Rattle.numbered_slots.specs.Slots.{rows_in}
+use Rattle.row_index.specs.Slots.{rows_in}
 use Rattle.sched_core.proofs.RegistrationLemmas.{ended_rows}
 use Rattle.sched_core.proofs.IndexLemmas.{ended_sum, indexed_ended, none_ends}
 use Rattle.sched_core.proofs.registrations.Registrations.end.Goals as goal

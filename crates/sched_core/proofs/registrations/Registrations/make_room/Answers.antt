@@ -1,5 +1,5 @@
 use Rattle.std.proofs.Common.{arith}
-use Rattle.numbered_slots.specs.Slots.{rows_in}
+use Rattle.row_index.specs.Slots.{rows_in}
 use Rattle.sched_core.proofs.IndexLemmas.{indexed_same}
 use Rattle.sched_core.proofs.registrations.Registrations.make_room.Goals as goal
 

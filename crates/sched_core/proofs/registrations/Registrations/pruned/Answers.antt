@@ -1,6 +1,6 @@
 use Rattle.std.proofs.Common.{◌≡◌, sym, subst}
 use Rattle.std.specs.Prelude.{IfOk}
-use Rattle.numbered_slots.specs.Slots.{rows_in}
+use Rattle.row_index.specs.Slots.{rows_in}
 use Rattle.sched_core.proofs.RankedLemmas.{prune_is}
 use Rattle.sched_core.proofs.registrations.Registrations.pruned.Goals as goal
 

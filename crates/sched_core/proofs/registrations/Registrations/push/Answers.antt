@@ -1,6 +1,6 @@
 use Rattle.std.proofs.Common.{[], ◌∷◌, arith, length-append}
-use Rattle.numbered_slots.specs.Slots.{rows_in}
-use Rattle.numbered_slots.proofs.SlotLemmas.{top-push}
+use Rattle.row_index.specs.Slots.{rows_in}
+use Rattle.row_index.proofs.SlotLemmas.{top-push}
 use Rattle.sched_core.proofs.IndexLemmas.{indexed_pushed, sum_few}
 use Rattle.sched_core.proofs.registrations.Registrations.push.Goals as goal
 

@@ -1,6 +1,6 @@
 use Rattle.std.proofs.Common.{ap, sym, ◌∙◌}
-use Rattle.sched_core.specs.declared.entry.CoreKind.TheVariants.{Commit}
-use Rattle.sched_core.specs.declared.call.Call.TheVariants as call
+use Rattle.core_rules.specs.declared.entry.CoreKind.TheVariants.{Commit}
+use Rattle.core_rules.specs.declared.call.Call.TheVariants as call
 use Rattle.sched_core.proofs.state.SchedState.commit.Goals as goal
 
 pub spend-requires-clause-rule : goal.spend-requires-clause-rule

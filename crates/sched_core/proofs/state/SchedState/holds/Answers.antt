@@ -1,6 +1,6 @@
 use Rattle.std.proofs.Common.{◌∙◌}
 use Rattle.sched_core.specs.Booked.{held_view}
-use Rattle.sched_core.proofs.StateLemmas.{held_among}
+use Rattle.core_rules.proofs.StateLemmas.{held_among}
 use Rattle.sched_core.proofs.state.SchedState.holds.Goals as goal
 
 pub returns : goal.returns

@@ -1,10 +1,10 @@
 use Rattle.std.proofs.Common.{◌≡◌, true, ap, ◌∙◌, sym, subst}
-use Rattle.sched_core.specs.Rows.{servers_of}
-use Rattle.sched_core.specs.Reservation.{unspent}
-use Rattle.sched_core.specs.Rule.{noted_over, is_among}
+use Rattle.core_rules.specs.Rows.{servers_of}
+use Rattle.core_rules.specs.Reservation.{unspent}
+use Rattle.core_rules.specs.Rule.{noted_over, is_among}
 use Rattle.sched_core.specs.Booked.{unspent_view}
 use Rattle.sched_core.proofs.BookLemmas.{unspent_addressed}
-use Rattle.sched_core.proofs.StateLemmas.{spent_among, spent_address}
+use Rattle.core_rules.proofs.StateLemmas.{spent_among, spent_address}
 use Rattle.sched_core.proofs.state.SchedState.noted.Goals as goal
 
 pub returns : goal.returns

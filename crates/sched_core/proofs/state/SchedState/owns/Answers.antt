@@ -1,6 +1,6 @@
 use Rattle.std.proofs.Common.{◌∙◌}
 use Rattle.sched_core.specs.Booked.{unspent_view}
-use Rattle.sched_core.proofs.StateLemmas.{spent_among}
+use Rattle.core_rules.proofs.StateLemmas.{spent_among}
 use Rattle.sched_core.proofs.state.SchedState.owns.Goals as goal
 
 pub returns : goal.returns

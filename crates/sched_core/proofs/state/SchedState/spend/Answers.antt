@@ -1,11 +1,10 @@
 use Rattle.std.proofs.Common.{◌≡◌, true, length, ◌∙◌, sym, subst}
-use Rattle.std.specs.Prelude.{vec_len, vec_capacity}
 use Rattle.sched_core.specs.Booked.{unspent_view}
-use Rattle.sched_core.specs.Reservation.{unspent}
-use Rattle.sched_core.specs.Rule.{is_among}
+use Rattle.core_rules.specs.Reservation.{unspent}
+use Rattle.core_rules.specs.Rule.{is_among}
 use Rattle.sched_core.proofs.BookLemmas.{log_room-spent}
 use Rattle.sched_core.proofs.SpendLemmas.{spends_no_key, registers_none, wants_no_room, spends_one}
-use Rattle.sched_core.proofs.StateLemmas.{spent_among}
+use Rattle.core_rules.proofs.StateLemmas.{spent_among}
 use Rattle.sched_core.proofs.state.SchedState.spend.Goals as goal
 
 pub take_uncounted-requires-clause-rule : goal.take_uncounted-requires-clause-rule
@@ -34,7 +33,7 @@ take_uncounted-requires-clause-log_room g c κs within =
     let owned : is_among (unspent s.journal.log.items) c.args.number c.args.job ≡ true =
     subst (λ v. is_among (unspent v.log) c.args.number c.args.job ≡ true) (sym c.self.view_is) c.requires.owned in
     log_room-spent s.journal.books.lists c.args.entry.now (length s.journal.log.items) c.args.entry.kind
-    (vec_len s.journal.log) (vec_capacity s.journal.log)
+    s.journal.log.len s.journal.log.capacity
     (spends_one c.args.job c.args.entry.kind c.requires.spends us c.args.number
     (spent_among us s.journal.log.items c.args.number c.args.job c.self.invariant.books.unspent ∙ owned))
     c.self.invariant.log_room

@@ -1,15 +1,14 @@
 use Rattle.std.proofs.Common.{◌≡◌, length, ap, ◌∙◌, sym, subst}
-use Rattle.std.specs.Prelude.{vec_len, vec_capacity}
-use Rattle.sched_core.specs.Laws.{IsRule}
-use Rattle.sched_core.specs.declared.call.Call.TheVariants as call
-use Rattle.sched_core.proofs.LegalLemmas.{core_of}
-use Rattle.sched_core.specs.Log.{logged}
-use Rattle.sched_core.specs.Rows.{servers_of, open_rows}
-use Rattle.sched_core.specs.Rule.{counts_over}
+use Rattle.core_rules.specs.Laws.{IsRule}
+use Rattle.core_rules.specs.declared.call.Call.TheVariants as call
+use Rattle.core_rules.proofs.LegalLemmas.{core_of}
+use Rattle.core_rules.specs.Log.{logged}
+use Rattle.core_rules.specs.Rows.{servers_of, open_rows}
+use Rattle.core_rules.specs.Rule.{counts_over}
 use Rattle.sched_core.proofs.BookLemmas.{log_room-one, counts_are}
-use Rattle.sched_core.specs.Prune.{is_expired}
+use Rattle.core_rules.specs.Prune.{is_expired}
 use Rattle.sched_core.proofs.ChangeLemmas.{sound_rows}
-use Rattle.sched_core.proofs.RisingLemmas.{rising-filter}
+use Rattle.core_rules.proofs.RisingLemmas.{rising-filter}
 use Rattle.sched_core.proofs.MostLemmas.{roomy_log}
 use Rattle.sched_core.proofs.state.SchedState.status.Goals as goal
 
@@ -45,15 +44,15 @@ take_uncounted-requires-clause-keys_room g c κs within = rw c.status_entry-entr
 pub take_uncounted-requires-clause-log_room : goal.take_uncounted-requires-clause-log_room
 take_uncounted-requires-clause-log_room g c κs within =
     log_room-one c.self.inside.journal.books.lists c.status_entry-entry.result
-    (length c.make_log_room.new.log.items) (vec_len c.make_log_room.new.log)
-    (vec_capacity c.make_log_room.new.log) c.in_ok-make_log_room.ensures.spare
+    (length c.make_log_room.new.log.items) c.make_log_room.new.log.len
+    c.make_log_room.new.log.capacity c.in_ok-make_log_room.ensures.spare
 
 pub take_uncounted-requires-clause-state : goal.take_uncounted-requires-clause-state
 take_uncounted-requires-clause-state g c κs within =
     let j = c.self.inside.journal in
     roomy_log c.self.inside.start j.books _ j.log.items c.make_log_room.new.log.items
-    (vec_len j.log) (vec_capacity j.log) (vec_len c.make_log_room.new.log)
-    (vec_capacity c.make_log_room.new.log) c.self.invariant c.in_ok-make_log_room.ensures.log
+    j.log.len j.log.capacity c.make_log_room.new.log.len
+    c.make_log_room.new.log.capacity c.self.invariant c.in_ok-make_log_room.ensures.log
     c.in_ok-make_log_room.ensures.log_room
 
 pub returns-clause-logged : goal.returns-clause-logged

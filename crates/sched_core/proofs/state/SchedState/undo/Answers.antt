@@ -1,5 +1,5 @@
 use Rattle.std.proofs.Common.{sym, ◌∙◌}
-use Rattle.sched_core.specs.declared.call.Call.TheVariants as call
+use Rattle.core_rules.specs.declared.call.Call.TheVariants as call
 use Rattle.sched_core.proofs.SpendLemmas.{undo_same}
 use Rattle.sched_core.proofs.state.SchedState.undo.Goals as goal
 

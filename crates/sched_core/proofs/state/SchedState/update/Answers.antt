@@ -1,16 +1,15 @@
 use Rattle.std.proofs.Common.{◌≡◌, length, ap, ◌∙◌, sym, subst}
-use Rattle.std.specs.Prelude.{vec_len, vec_capacity}
-use Rattle.sched_core.specs.declared.entry.CoreEntry.{CoreEntry}
-use Rattle.sched_core.specs.declared.entry.CoreKind.TheVariants.{Update}
-use Rattle.sched_core.specs.Log.{logged}
-use Rattle.sched_core.specs.Rows.{open_rows}
-use Rattle.sched_core.specs.Advance.{advance}
-use Rattle.sched_core.specs.Answers.{verdict}
-use Rattle.sched_core.specs.Laws.{IsRule}
-use Rattle.sched_core.specs.declared.call.Call.TheVariants as call
-use Rattle.sched_core.proofs.LegalLemmas.{core_of}
+use Rattle.core_rules.specs.declared.entry.CoreEntry.{CoreEntry}
+use Rattle.core_rules.specs.declared.entry.CoreKind.TheVariants.{Update}
+use Rattle.core_rules.specs.Log.{logged}
+use Rattle.core_rules.specs.Rows.{open_rows}
+use Rattle.core_rules.specs.Advance.{advance}
+use Rattle.core_rules.specs.Answers.{verdict}
+use Rattle.core_rules.specs.Laws.{IsRule}
+use Rattle.core_rules.specs.declared.call.Call.TheVariants as call
+use Rattle.core_rules.proofs.LegalLemmas.{core_of}
 use Rattle.sched_core.proofs.BookLemmas.{log_room-one, open_found}
-use Rattle.sched_core.proofs.StateLemmas.{on_ok, verdict_leaves}
+use Rattle.core_rules.proofs.StateLemmas.{on_ok, verdict_leaves}
 use Rattle.sched_core.proofs.MostLemmas.{roomy_log}
 use Rattle.sched_core.proofs.state.SchedState.update.Goals as goal
 
@@ -39,8 +38,8 @@ take_uncounted-requires-clause-log_room g c κs within = log_room-one c.self.ins
     (record {
       now = c.args.now;
       kind = Update c.args.server c.args.job c.args.state c.answer_by-answer.result;
-    }) (length c.make_log_room.new.log.items) (vec_len c.make_log_room.new.log)
-    (vec_capacity c.make_log_room.new.log) c.in_ok-make_log_room.ensures.spare
+    }) (length c.make_log_room.new.log.items) c.make_log_room.new.log.len
+    c.make_log_room.new.log.capacity c.in_ok-make_log_room.ensures.spare
 
 pub returns-clause-logged : goal.returns-clause-logged
 returns-clause-logged g c =
@@ -53,7 +52,7 @@ returns-clause-logged g c =
           c.self.invariant.books,
     ) at c.answer_by-answer.ensures in
     rw (← c.self.view_is, c.take_uncounted.ensures.log, c.in_ok-make_log_room.ensures.log)
-    (on_ok c.updated.result _
+    (on_ok c.answer_update.result _
     (ap (λ r. logged (core_of s.start s.journal.log.items)
     (record { now = a.now; kind = Update a.server a.job a.state r })) answer))
 
@@ -67,7 +66,7 @@ returns-clause-answer g c = λ refused.
       open_found s.journal.books.lists _ s.journal.log.items a.job
           c.self.invariant.books,
     ) at c.answer_by-answer.ensures in
-    rw (← c.self.view_is) (c.updated.ensures ∙ ap (λ r. verdict r a.state) answer)
+    rw (← c.self.view_is) (c.answer_update.ensures ∙ ap (λ r. verdict r a.state) answer)
 
 pub returns-clause-err : goal.returns-clause-err
 returns-clause-err g c =
@@ -80,7 +79,7 @@ returns-clause-err g c =
           c.self.invariant.books,
     ) at c.answer_by-answer.ensures in
     rw (
-      c.updated.ensures,
+      c.answer_update.ensures,
       ← c.self.view_is,
       c.take_uncounted.ensures.log,
       c.in_ok-make_log_room.ensures.log,
@@ -93,6 +92,6 @@ pub take_uncounted-requires-clause-state : goal.take_uncounted-requires-clause-s
 take_uncounted-requires-clause-state g c κs within =
     let j = c.self.inside.journal in
     roomy_log c.self.inside.start j.books _ j.log.items c.make_log_room.new.log.items
-    (vec_len j.log) (vec_capacity j.log) (vec_len c.make_log_room.new.log)
-    (vec_capacity c.make_log_room.new.log) c.self.invariant c.in_ok-make_log_room.ensures.log
+    j.log.len j.log.capacity c.make_log_room.new.log.len
+    c.make_log_room.new.log.capacity c.self.invariant c.in_ok-make_log_room.ensures.log
     c.in_ok-make_log_room.ensures.log_room

@@ -1,8 +1,0 @@
--- The name of the file is no temporary one's.
-use Rattle.std.proofs.Common.{refl}
-use Rattle.lru_disk_cache.specs.Key.{is_temporary}
-use Rattle.cache_orders.proofs.calls.insert_file.Goals as goal
-
-pub insert_file-requires-clause-named : goal.insert_file-requires-clause-named
-unfolding is_temporary
-insert_file-requires-clause-named g c = refl

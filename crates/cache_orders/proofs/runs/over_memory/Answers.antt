@@ -1,6 +1,0 @@
--- A folder of no file has no path twice.
-use Rattle.lru_disk_cache.proofs.Distinct.{none_distinct}
-use Rattle.cache_orders.proofs.runs.over_memory.Goals as goal
-
-pub new-folder-requires : goal.new-folder-requires
-new-folder-requires g c = none_distinct c.new.result.items c.new.ensures.items

@@ -1,0 +1,13 @@
+pub mod Files
+pub mod Told
+pub mod Unknown
+pub mod Values
+pub mod Profile
+pub mod Reading
+pub mod Options
+pub mod Clap
+pub mod Asked
+pub mod Views
+pub mod Parsed
+pub mod Signed
+pub mod Line

@@ -1,0 +1,14 @@
+use Rattle.std.proofs.Common.{◌∙◌, sym, ap}
+use Rattle.std.specs.Prelude.{option_and_then}
+use Rattle.core_rules.specs.Standing.{address_of}
+use Rattle.core_reference.proofs.IndexLemmas.{address_is, place_is}
+use Rattle.core_reference.proofs.plain.address.Goals as goal
+
+pub returns-in-Some : goal.returns-in-Some
+returns-in-Some c = c.address_in.ensures ∙ sym (address_is c.args.log.now c.in-Some.reg)
+    ∙ ap (option_and_then (address_of c.args.log.now))
+    (sym c.in-Some.is ∙ c.reg_of.ensures ∙ sym (place_is c.args.log.now c.args.number))
+
+pub returns-in-None : goal.returns-in-None
+returns-in-None c = ap (option_and_then (address_of c.args.log.now))
+    (sym c.in-None.is ∙ c.reg_of.ensures ∙ sym (place_is c.args.log.now c.args.number))

@@ -1,3 +1,0 @@
-pub mod TableLemmas
-pub mod ReadLemmas
-pub mod LeastLemmas

@@ -1,6 +1,0 @@
-use Rattle.std.proofs.Common.{◌≡◌, ◌+◌, drop}
-use Rattle.farm_script.specs.Pieces.{piece_len}
-use Rattle.farm_script.proofs.pieces.first_len.Given as goal
-
-abbrev pub invariant-loop-i : goal.invariant-loop-i
-invariant-loop-i l = l.i + piece_len (drop l.i l.rest) ≡ piece_len l.rest

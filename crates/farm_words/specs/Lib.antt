@@ -1,6 +1,0 @@
-pub mod Options
-pub mod Clap
-pub mod Asked
-pub mod Views
-pub mod Parsed
-pub mod Signed

@@ -1,8 +1,0 @@
-use Rattle.following_rows.proofs.FollowLemmas.{following_put}
-use Rattle.following_rows.proofs.followed.Following.put.Goals as goal
-
-pub invariant_of-self : goal.invariant_of-self
-invariant_of-self g c =
-    let s = c.self.inside in
-    following_put g.T.Identified.id_of s.first c.args.place c.args.row s.rows.items c.self.invariant
-    ((rw (← c.self.view_is) at c.requires.same) c.args.row)

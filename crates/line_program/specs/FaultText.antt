@@ -1,0 +1,29 @@
+-- What faults are told as.
+use Rattle.std.specs.Prelude.{ℕ, List, codes}
+use Rattle.std.specs.Fmt.{decimal}
+use Rattle.line_program.specs.Texts.{◌⧺◌}
+use Rattle.line_program.specs.declared.fault.ConfigCause.{ConfigCause}
+use Rattle.line_program.specs.declared.fault.ConfigCause.TheVariants.{Missing, Unreadable, NotToml, Key}
+use Rattle.line_program.specs.declared.fault.FarmFault.{FarmFault}
+use Rattle.line_program.specs.declared.fault.FarmFault.TheVariants.{Usage, BadLine, DuplicateAddress}
+use Rattle.line_program.specs.declared.fault.FarmFault.TheVariants.{ScopedAddress, ReadFault, WriteFault}
+use Rattle.line_program.specs.declared.fault.FarmFault.TheVariants.{BadConfig, ServeFault, Memory}
+
+-- why a configuration is none
+abbrev pub cause_text : ConfigCause → List ℕ
+cause_text Missing = codes "file missing"
+cause_text Unreadable = codes "file unreadable"
+cause_text NotToml = codes "not TOML"
+cause_text (Key name) = codes "key " ⧺ name
+
+-- why a command did not do its work
+abbrev pub said_text : FarmFault → List ℕ
+said_text Usage = codes "these words name no command"
+said_text (BadLine n) = codes "bad line " ⧺ decimal n
+said_text (DuplicateAddress n) = codes "duplicate address on line " ⧺ decimal n
+said_text (ScopedAddress n) = codes "scoped address on line " ⧺ decimal n
+said_text ReadFault = codes "read fault"
+said_text WriteFault = codes "write fault"
+said_text (BadConfig cause) = codes "bad configuration: " ⧺ cause_text cause
+said_text ServeFault = codes "serve fault"
+said_text Memory = codes "out of memory"

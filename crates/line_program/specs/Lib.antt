@@ -1,0 +1,8 @@
+pub mod FaultText
+pub mod Input
+pub mod Limits
+pub mod Lines
+pub mod Pieces
+pub mod Report
+pub mod Side
+pub mod Texts

@@ -1,9 +1,0 @@
-use Rattle.std.proofs.Common.{None}
-use Rattle.numbered_lists.proofs.ListLemmas.{put_seen}
-use Rattle.numbered_lists.proofs.numbered.NumberedLists.forget.Goals as goal
-
-pub returns : goal.returns
-returns c = let s = c.self.inside in record {
-  lists = rw (← c.self.view_is) (put_seen (λ v. v.items) s.lists.entries c.remove-list.new.self.entries
-      c.args.number None c.remove-list.ensures.updates.0);
-}

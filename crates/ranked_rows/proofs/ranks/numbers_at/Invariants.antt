@@ -1,7 +1,0 @@
-use Rattle.std.proofs.Common.{◌≡◌, map, take}
-use Rattle.ranked_rows.specs.Ranks.{number_at}
-use Rattle.ranked_rows.proofs.ranks.numbers_at.Given as goal
-
-abbrev pub invariant-loop-place : goal.invariant-loop-place
-invariant-loop-place g l = l.numbers.items
-    ≡ map (number_at g.T.Numbered.number_of l.slots.places) (take l.place-index l.places)

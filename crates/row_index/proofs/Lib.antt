@@ -1,0 +1,10 @@
+pub mod BoardLemmas
+pub mod EarlyLemmas
+pub mod FollowLemmas
+pub mod KeyLemmas
+pub mod ListLemmas
+pub mod MatchLemmas
+pub mod OpenLemmas
+pub mod RankLemmas
+pub mod SlotLemmas
+pub mod TreeLemmas

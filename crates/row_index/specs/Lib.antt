@@ -1,0 +1,9 @@
+pub mod Following
+pub mod KeyLaws
+pub mod Keys
+pub mod Lists
+pub mod Lookup
+pub mod Matches
+pub mod Ranks
+pub mod Slots
+pub mod Winner

@@ -1,5 +1,0 @@
-use Rattle.sched_core.proofs.HeldLemmas.{legal_standing}
-use Rattle.sched_core.proofs.laws.reservations_are_at_standing_servers.Goals as goal
-
-pub returns : goal.returns
-returns c = legal_standing

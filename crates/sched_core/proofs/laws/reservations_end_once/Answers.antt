@@ -1,5 +1,0 @@
-use Rattle.sched_core.proofs.OnceLemmas.{legal_all}
-use Rattle.sched_core.proofs.laws.reservations_end_once.Goals as goal
-
-pub returns : goal.returns
-returns c = λ start log fits legal. (legal_all start log fits legal).ended

@@ -1,0 +1,13 @@
+pub mod ArchiveKeys
+pub mod ArchiveOpens
+pub mod Archived
+pub mod ArchivesKept
+pub mod Ids
+pub mod InStep
+pub mod Insides
+pub mod Judged
+pub mod KeyLemmas
+pub mod OverFolder
+pub mod TcSteps
+pub mod Unkeyed
+pub mod WithMoves

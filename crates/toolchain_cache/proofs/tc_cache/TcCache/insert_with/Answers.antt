@@ -1,0 +1,45 @@
+use Rattle.std.proofs.Common.{◌≡◌, length, Some, Ok, sym, subst}
+use Rattle.folders.specs.Files.{file_at}
+use Rattle.folders.specs.Held.{Holds}
+use Rattle.toolchain_cache.specs.Archives.{archive_path}
+use Rattle.toolchain_cache.specs.Archiving.{archive_verdict, with_archive}
+use Rattle.lru_disk_cache.specs.Moving.{Wrote}
+use Rattle.toolchain_cache.proofs.WithMoves.{store_failed, store_fails}
+use Rattle.lru_disk_cache.proofs.Moves.{with_ok}
+use Rattle.lru_disk_cache.proofs.Whole.{closure_whole}
+use Rattle.toolchain_cache.proofs.tc_cache.TcCache.insert_with.Goals as goal
+
+pub returns-in-Ok-clause-ok : goal.returns-in-Ok-clause-ok
+returns-in-Ok-clause-ok g c =
+    let wrote = subst (Wrote g.W.FnOnce (λ v. v.items) c.args.with (Ok (tt {0})))
+    (sym c.deref.ensures.value) c.in-Ok.ensures.ok in
+    with_ok (Wrote g.W.FnOnce (λ v. v.items) c.args.with)
+    (λ b. archive_verdict c.args.self.now.capacity c.args.tc.now b ≡ Ok (tt {0}))
+    (λ b. c.insert_bytes.new.self.archives ≡ with_archive c.args.self.now.capacity c.args.tc.now
+    (length b) c.args.self.now.archives) (λ b. Holds (g.F.Folder.held c.insert_bytes.new.self.folder)
+    (λ files. file_at files (archive_path c.args.self.now.path c.args.tc.now) ≡ Some b))
+    c.deref.result.now c.insert_bytes.result wrote c.insert_bytes.ensures.admits c.insert_bytes.ensures.ok
+    c.insert_bytes.ensures.content
+
+pub returns-in-Ok-clause-fails : goal.returns-in-Ok-clause-fails
+returns-in-Ok-clause-fails g c =
+    let wrote = subst (Wrote g.W.FnOnce (λ v. v.items) c.args.with (Ok (tt {0})))
+    (sym c.deref.ensures.value) c.in-Ok.ensures.ok in
+    store_fails (Wrote g.W.FnOnce (λ v. v.items) c.args.with) c.args.self.now.capacity c.args.tc.now
+    c.deref.result.now c.args.self.now.archives c.insert_bytes.new.self.archives c.insert_bytes.result
+    (g.F.Folder.held c.args.self.now.folder) (g.F.Folder.held c.insert_bytes.new.self.folder) wrote
+    c.insert_bytes.ensures.fails
+
+pub returns-in-Err-clause-fails : goal.returns-in-Err-clause-fails
+returns-in-Err-clause-fails g c =
+    store_failed (Wrote g.W.FnOnce (λ v. v.items) c.args.with) c.args.self.now.capacity c.args.tc.now
+    c.args.self.now.archives c.in-Err.error (g.F.Folder.held c.args.self.now.folder)
+    c.in-Err.ensures.fails
+
+pub returns-in-Ok-clause-whole : goal.returns-in-Ok-clause-whole
+returns-in-Ok-clause-whole g c =
+    closure_whole (Wrote g.W.FnOnce (λ v. v.items) c.args.with (Ok (tt {0})))
+    (archive_path c.args.self.now.path c.args.tc.now) c.deref.result.now
+    (g.F.Folder.held c.args.self.now.folder).files (g.F.Folder.held c.insert_bytes.new.self.folder).files
+    (subst (Wrote g.W.FnOnce (λ v. v.items) c.args.with (Ok (tt {0}))) (sym c.deref.ensures.value)
+    c.in-Ok.ensures.ok) c.insert_bytes.ensures.whole

@@ -1,0 +1,125 @@
+use Rattle.std.proofs.Common.{◌≡◌, ◌∙◌, List, ℕ, true, false, map, ap, subst}
+use Rattle.folders.specs.Files.{front}
+use Rattle.folders.specs.Held.{Holds, Became}
+use Rattle.folders.specs.Changed.{ButUnder, OnlyRemoved}
+use Rattle.toolchain_cache.specs.Archives.{archive_path, opened_archives, paths_under, IsInStep}
+use Rattle.toolchain_cache.specs.Archiving.{Relists}
+use Rattle.toolchain_cache.specs.Cleaned.{are_archive_keys}
+use Rattle.toolchain_cache.proofs.OverFolder.{hold_new, opened_new, relists_new, keys_new, in_step_new}
+use Rattle.toolchain_cache.proofs.OverFolder.{cleared_new, outside_new, made_ok, made_fails}
+use Rattle.folders.proofs.Became.{became_map}
+use Rattle.folders.proofs.Exactly.{removed_both}
+use Rattle.toolchain_cache.proofs.Insides.{archives_of}
+use Rattle.folders.proofs.Removals.{none_spared, spared_both, spared_of, handed_back}
+use Rattle.folders.specs.Changed.{RemovedUnder}
+use Rattle.toolchain_cache.proofs.tc_cache.TcCache.new.Goals as goal
+
+pub over-requires-clause-hold : goal.over-requires-clause-hold
+over-requires-clause-hold g c =
+    hold_new c.args.cache_dir.now c.in-Ok.root c.args.cache_size (g.F.Folder.held c.args.folder)
+    (g.F.Folder.held c.clean.new.folder) (g.F.Folder.held c.in-Ok-new.cache.folder) c.in-Ok-new.cache.disk
+    c.in-Ok.ensures.1 c.in-Ok-clean.ensures.cleaned c.in-Ok-new.ensures.opened c.in-Ok-new.ensures.removed
+    c.in-Ok-new.ensures.stands
+
+pub returns-in-Ok-new-clause-opened : goal.returns-in-Ok-new-clause-opened
+returns-in-Ok-new-clause-opened g c =
+    made_ok (λ t. Holds (g.F.Folder.held c.args.folder)
+    (λ files. t.archives ≡ opened_archives c.args.cache_dir.now c.args.cache_size files))
+    (are_archive_keys c.in-Ok-new.cache.disk.entries ≡ true)
+    (archives_of c.in-Ok-new.cache.disk c.in-Ok-new.cache.folder) c.over.result
+    c.over.ensures.ok c.over.ensures.keys
+    (λ k. opened_new c.args.cache_dir.now c.in-Ok.root c.args.cache_size (g.F.Folder.held c.args.folder)
+    (g.F.Folder.held c.clean.new.folder) (g.F.Folder.held c.in-Ok-new.cache.folder) c.in-Ok-new.cache.disk
+    c.in-Ok.ensures.1 c.in-Ok-clean.ensures.cleaned c.in-Ok-new.ensures.opened)
+
+pub returns-in-Ok-new-clause-relists : goal.returns-in-Ok-new-clause-relists
+returns-in-Ok-new-clause-relists g c =
+    made_ok (λ t. Holds (g.F.Folder.held c.args.folder)
+    (λ files. Relists c.args.cache_dir.now c.args.cache_size files t.archives))
+    (are_archive_keys c.in-Ok-new.cache.disk.entries ≡ true)
+    (archives_of c.in-Ok-new.cache.disk c.in-Ok-new.cache.folder) c.over.result
+    c.over.ensures.ok c.over.ensures.keys
+    (λ k. relists_new c.args.cache_dir.now c.in-Ok.root c.args.cache_size (g.F.Folder.held c.args.folder)
+    (g.F.Folder.held c.clean.new.folder) (g.F.Folder.held c.in-Ok-new.cache.folder) c.in-Ok-new.cache.disk
+    c.in-Ok.ensures.1 c.in-Ok-clean.ensures.cleaned c.in-Ok-new.ensures.opened)
+
+pub returns-in-Ok-new-clause-in_step : goal.returns-in-Ok-new-clause-in_step
+returns-in-Ok-new-clause-in_step g c =
+    made_ok (λ t. IsInStep c.args.cache_dir.now (g.F.Folder.held t.folder) t.archives)
+    (are_archive_keys c.in-Ok-new.cache.disk.entries ≡ true)
+    (archives_of c.in-Ok-new.cache.disk c.in-Ok-new.cache.folder) c.over.result
+    c.over.ensures.ok c.over.ensures.keys
+    (λ k. in_step_new c.args.cache_dir.now c.in-Ok.root c.args.cache_size (g.F.Folder.held c.args.folder)
+    (g.F.Folder.held c.clean.new.folder) (g.F.Folder.held c.in-Ok-new.cache.folder) c.in-Ok-new.cache.disk
+    (c.in-Ok-new.ensures.stands.root ∙ ap front c.in-Ok-new.ensures.empty.0) c.in-Ok-new.ensures.cleared
+    (hold_new c.args.cache_dir.now c.in-Ok.root c.args.cache_size (g.F.Folder.held c.args.folder)
+    (g.F.Folder.held c.clean.new.folder) (g.F.Folder.held c.in-Ok-new.cache.folder) c.in-Ok-new.cache.disk
+    c.in-Ok.ensures.1 c.in-Ok-clean.ensures.cleaned c.in-Ok-new.ensures.opened c.in-Ok-new.ensures.removed
+    c.in-Ok-new.ensures.stands) k)
+
+pub returns-in-Ok-new-clause-cleared : goal.returns-in-Ok-new-clause-cleared
+returns-in-Ok-new-clause-cleared g c =
+    made_ok (λ t. Holds (g.F.Folder.held t.folder)
+    (λ files. paths_under c.args.cache_dir.now files ≡ map
+    (λ (a : List ℕ × ℕ). archive_path c.args.cache_dir.now a.0) t.archives))
+    (are_archive_keys c.in-Ok-new.cache.disk.entries ≡ true)
+    (archives_of c.in-Ok-new.cache.disk c.in-Ok-new.cache.folder) c.over.result
+    c.over.ensures.ok c.over.ensures.keys
+    (λ k. cleared_new c.args.cache_dir.now c.in-Ok.root c.args.cache_size (g.F.Folder.held c.args.folder)
+    (g.F.Folder.held c.clean.new.folder) (g.F.Folder.held c.in-Ok-new.cache.folder) c.in-Ok-new.cache.disk
+    (c.in-Ok-new.ensures.stands.root ∙ ap front c.in-Ok-new.ensures.empty.0) c.in-Ok-new.ensures.cleared
+    k)
+
+pub returns-in-Ok-new-clause-fails : goal.returns-in-Ok-new-clause-fails
+returns-in-Ok-new-clause-fails g c =
+    made_fails g.F.Folder.held (are_archive_keys c.in-Ok-new.cache.disk.entries ≡ false)
+    (g.F.Folder.held c.args.folder) c.over.result c.over.ensures.why
+    (λ k. keys_new c.args.cache_dir.now c.in-Ok.root c.args.cache_size (g.F.Folder.held c.args.folder)
+    (g.F.Folder.held c.clean.new.folder) (g.F.Folder.held c.in-Ok-new.cache.folder) c.in-Ok-new.cache.disk
+    c.in-Ok.ensures.1 c.in-Ok-clean.ensures.cleaned c.in-Ok-new.ensures.opened k)
+
+pub returns-in-Ok-new-clause-removed : goal.returns-in-Ok-new-clause-removed
+returns-in-Ok-new-clause-removed g c =
+    made_ok (λ t. Became OnlyRemoved (g.F.Folder.held c.args.folder).files (g.F.Folder.held t.folder).files)
+    (are_archive_keys c.in-Ok-new.cache.disk.entries ≡ true)
+    (archives_of c.in-Ok-new.cache.disk c.in-Ok-new.cache.folder) c.over.result
+    c.over.ensures.ok c.over.ensures.keys
+    (λ k. removed_both (g.F.Folder.held c.args.folder).files (g.F.Folder.held c.clean.new.folder).files
+    (g.F.Folder.held c.in-Ok-new.cache.folder).files
+    (became_map (RemovedUnder c.in-Ok.root) OnlyRemoved (g.F.Folder.held c.args.folder).files
+    (g.F.Folder.held c.clean.new.folder).files (λ f h r. r.0) c.clean.ensures.spares)
+    c.in-Ok-new.ensures.removed)
+
+pub returns-in-Ok-new-clause-others : goal.returns-in-Ok-new-clause-others
+returns-in-Ok-new-clause-others g c =
+    made_ok (λ t. Became (ButUnder (front c.args.cache_dir.now)) (g.F.Folder.held c.args.folder).files
+    (g.F.Folder.held t.folder).files) (are_archive_keys c.in-Ok-new.cache.disk.entries ≡ true)
+    (archives_of c.in-Ok-new.cache.disk c.in-Ok-new.cache.folder) c.over.result
+    c.over.ensures.ok c.over.ensures.keys
+    (λ k. outside_new c.args.cache_dir.now c.in-Ok.root c.args.cache_size (g.F.Folder.held c.args.folder)
+    (g.F.Folder.held c.clean.new.folder) (g.F.Folder.held c.in-Ok-new.cache.folder) c.in-Ok-new.cache.disk
+    c.in-Ok.ensures.1 c.in-Ok-clean.ensures.cleaned
+    (c.in-Ok-new.ensures.stands.root ∙ ap front c.in-Ok-new.ensures.empty.0) c.in-Ok-new.ensures.others)
+
+pub returns-in_default-clause-left : goal.returns-in_default-clause-left
+returns-in_default-clause-left g c = none_spared (front c.args.cache_dir.now) (g.F.Folder.held c.args.folder).files
+
+pub returns-in-Err-clause-left : goal.returns-in-Err-clause-left
+returns-in-Err-clause-left g c = (subst (λ r. Became (RemovedUnder r) (g.F.Folder.held c.args.folder).files (g.F.Folder.held c.clean.new.folder).files)
+    c.in-Ok.ensures.1 c.clean.ensures.spares)
+
+pub returns-clause-left : goal.returns-clause-left
+returns-clause-left g c = spared_both (front c.args.cache_dir.now) (g.F.Folder.held c.args.folder).files (g.F.Folder.held c.clean.new.folder).files
+    (g.F.Folder.held c.in-Err-new.refusal.1).files (subst (λ r. Became (RemovedUnder r) (g.F.Folder.held c.args.folder).files (g.F.Folder.held c.clean.new.folder).files)
+    c.in-Ok.ensures.1 c.clean.ensures.spares) c.in-Err-new.ensures.left
+
+pub returns-in-Ok-new-clause-left : goal.returns-in-Ok-new-clause-left
+returns-in-Ok-new-clause-left g c = handed_back g.F.Folder.held (λ o. Became (RemovedUnder (front c.args.cache_dir.now)) (g.F.Folder.held c.args.folder).files o)
+    c.in-Ok-new.cache.folder c.over.result c.over.ensures.folder
+    (spared_both (front c.args.cache_dir.now) (g.F.Folder.held c.args.folder).files (g.F.Folder.held c.clean.new.folder).files
+    (g.F.Folder.held c.in-Ok-new.cache.folder).files (subst (λ r. Became (RemovedUnder r) (g.F.Folder.held c.args.folder).files (g.F.Folder.held c.clean.new.folder).files)
+    c.in-Ok.ensures.1 c.clean.ensures.spares)
+    (spared_of c.in-Ok-new.cache.disk.root (front c.args.cache_dir.now) (g.F.Folder.held c.clean.new.folder).files
+    (g.F.Folder.held c.in-Ok-new.cache.folder).files
+    (c.in-Ok-new.ensures.stands.root ∙ ap front c.in-Ok-new.ensures.empty.0) c.in-Ok-new.ensures.removed
+    c.in-Ok-new.ensures.others))

@@ -1,0 +1,63 @@
+use Rattle.std.proofs.Common.{◌≡◌, ◌≤◌, sym, ap, subst, arith}
+use Rattle.folders.specs.Changed.{IsOutside}
+use Rattle.lru_disk_cache.specs.Entries.{total}
+use Rattle.lru_disk_cache.specs.Store.{Disk}
+use Rattle.toolchain_cache.specs.Archives.{IsInStep}
+use Rattle.toolchain_cache.specs.Keyed.{unkeyed, IsKeyed}
+use Rattle.lru_disk_cache.proofs.Asides.{below_wrote}
+use Rattle.toolchain_cache.proofs.ArchivesKept.{archives_wrote}
+use Rattle.toolchain_cache.proofs.TcSteps.{aside_keyed, aside_step}
+use Rattle.toolchain_cache.proofs.Unkeyed.{keyed_store}
+use Rattle.toolchain_cache.proofs.tc_cache.TcCache.write_aside.Goals as goal
+
+pub invariant_of-self : goal.invariant_of-self
+invariant_of-self g c =
+    let away = subst (λ s. IsOutside s.path c.args.path.now) (sym c.self.view_is) c.requires in
+    aside_keyed c.self.inside.cache.disk c.write_aside-answer.new.self.disk
+    (g.F.Folder.held c.self.inside.cache.folder) (g.F.Folder.held c.write_aside-answer.new.self.folder)
+    c.self.invariant c.write_aside-answer.ensures.disk
+    (below_wrote c.self.inside.cache.disk.root c.self.inside.cache.disk.path c.args.path.now
+    c.args.bytes.now c.write_aside-answer.result (g.F.Folder.held c.self.inside.cache.folder)
+    (g.F.Folder.held c.write_aside-answer.new.self.folder) c.self.invariant.root away
+    c.write_aside-answer.ensures.writes)
+
+pub returns-clause-at : goal.returns-clause-at
+returns-clause-at g c =
+    subst (λ s. (c.write_aside-answer.new.self.disk.path ≡ s.path)
+    × (c.write_aside-answer.new.self.disk.capacity ≡ s.capacity)
+    × (unkeyed c.write_aside-answer.new.self.disk.entries ≡ s.archives)) c.self.view_is (
+      ap (λ (d : Disk). d.path) c.write_aside-answer.ensures.disk,
+      ap (λ (d : Disk). d.capacity) c.write_aside-answer.ensures.disk,
+      ap (λ (d : Disk). unkeyed d.entries) c.write_aside-answer.ensures.disk,
+    )
+
+pub returns-clause-in_step : goal.returns-clause-in_step
+returns-clause-in_step g c =
+    let away = subst (λ s. IsOutside s.path c.args.path.now) (sym c.self.view_is) c.requires in
+    subst (λ s. IsInStep s.path (g.F.Folder.held s.folder) s.archives
+    → IsInStep c.write_aside-answer.new.self.disk.path
+    (g.F.Folder.held c.write_aside-answer.new.self.folder)
+    (unkeyed c.write_aside-answer.new.self.disk.entries)) c.self.view_is
+    (aside_step c.self.inside.cache.disk c.write_aside-answer.new.self.disk
+    (g.F.Folder.held c.self.inside.cache.folder) (g.F.Folder.held c.write_aside-answer.new.self.folder)
+    c.write_aside-answer.ensures.disk
+    (archives_wrote c.self.inside.cache.disk.path c.args.path.now c.args.bytes.now
+    c.write_aside-answer.result (g.F.Folder.held c.self.inside.cache.folder)
+    (g.F.Folder.held c.write_aside-answer.new.self.folder) away c.write_aside-answer.ensures.writes))
+
+pub returns-clause-stands : goal.returns-clause-stands
+returns-clause-stands g c =
+    let away = subst (λ s. IsOutside s.path c.args.path.now) (sym c.self.view_is) c.requires in
+    let keyed : IsKeyed (g.F.Folder.held c.write_aside-answer.new.self.folder)
+    c.write_aside-answer.new.self.disk =
+    aside_keyed c.self.inside.cache.disk c.write_aside-answer.new.self.disk
+    (g.F.Folder.held c.self.inside.cache.folder) (g.F.Folder.held c.write_aside-answer.new.self.folder)
+    c.self.invariant c.write_aside-answer.ensures.disk
+    (below_wrote c.self.inside.cache.disk.root c.self.inside.cache.disk.path c.args.path.now
+    c.args.bytes.now c.write_aside-answer.result (g.F.Folder.held c.self.inside.cache.folder)
+    (g.F.Folder.held c.write_aside-answer.new.self.folder) c.self.invariant.root away
+    c.write_aside-answer.ensures.writes) in
+    let fits : total c.write_aside-answer.new.self.disk.entries ≤ c.write_aside-answer.new.self.disk.capacity
+    = omega (arith, c.write_aside-answer.ensures.stands.fits) in
+    keyed_store (g.F.Folder.held c.write_aside-answer.new.self.folder) c.write_aside-answer.new.self.disk
+    keyed c.len-len.ensures.distinct fits

@@ -1,0 +1,38 @@
+-- Which files an opening of a cache of archives leaves.
+use Rattle.std.specs.Prelude.{◌≡◌, ℕ, Bool, ◌&&◌, nat_le, List, ◌++◌, length, filter}
+use Rattle.std.specs.List.{list_all, IsDistinct}
+use Rattle.std.specs.Map.{keys_of}
+use Rattle.std.specs.Str.{bytes_eq}
+use Rattle.folders.specs.Files.{Files, is_behind}
+use Rattle.folders.specs.declared.folder.Found.{Found}
+use Rattle.lru_disk_cache.specs.Entries.{Entries}
+use Rattle.toolchain_cache.specs.Archives.{is_id, id_of, archive_key}
+use Rattle.folders.specs.Changed.{ButUnder}
+use Rattle.toolchain_cache.specs.Keyed.{id_in}
+
+-- a file, as it is found
+abbrev pub found_of : List ℕ × List ℕ → Found
+found_of f = record { path = f.0; size = length f.1 }
+
+-- the files whose paths begin so
+abbrev pub under : List ℕ → Files → Files
+under root files = filter (λ f. is_behind root f.0) files
+
+-- it is within the capacity, and stands where its SHA-256 says
+abbrev pub is_sound : List ℕ → ℕ → List ℕ × List ℕ → Bool
+is_sound root capacity f = nat_le (length f.1) capacity && bytes_eq f.0 (root ++ archive_key (id_of f.1))
+
+-- of the files under a root those are left that are sound, in their order, all others stay, and all paths
+-- differ
+abbrev pub Cleaned : List ℕ → ℕ → Files → Files → Type 0
+Cleaned root capacity old new =
+    IsDistinct bytes_eq (keys_of new) × (under root new ≡ filter (is_sound root capacity) (under root old))
+    × ButUnder root old new
+
+-- whether a key is one of an archive
+abbrev pub is_archive_key : List ℕ → Bool
+is_archive_key key = is_id (id_in key) && bytes_eq key (archive_key (id_in key))
+
+-- whether all are
+abbrev pub are_archive_keys : Entries → Bool
+are_archive_keys entries = list_all (λ e. is_archive_key e.0) entries

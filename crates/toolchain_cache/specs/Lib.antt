@@ -1,0 +1,4 @@
+pub mod Archives
+pub mod Archiving
+pub mod Keyed
+pub mod Cleaned

@@ -1,4 +1,0 @@
-pub mod KeyLaws
-pub mod Keys
-pub mod Matches
-pub mod Winner
