@@ -10,6 +10,7 @@ use Rattle.std.proofs.lemmas.List.{take_more}
 use Rattle.std.proofs.lemmas.List.Folds.{list_any-append}
 use Rattle.row_index.specs.Lookup.{value_at, HaveSame, Puts}
 use Rattle.core_rules.specs.declared.entry.CoreEntry.{CoreEntry}
+use Rattle.core_rules.specs.declared.rows.ServerRow.{ServerRow}
 use Rattle.core_rules.specs.declared.entry.CoreKind.{CoreKind}
 use Rattle.core_rules.specs.declared.entry.CoreKind.TheVariants.{Beat, Reserve, Commit, Undo, Update}
 use Rattle.core_rules.specs.declared.entry.CoreKind.TheVariants.{Status, Drain}
@@ -20,7 +21,7 @@ use Rattle.core_rules.specs.Next.{row_by}
 use Rattle.core_rules.specs.Rule.{says_new_by}
 use Rattle.core_rules.specs.Rows.{servers_of, row_of}
 use Rattle.sched_core.specs.Books.{Keys, key_of, key_list, keys_of, kept_by, with_key, without, without_this}
-use Rattle.sched_core.specs.Books.{ended_keys, key_by, MayRegister}
+use Rattle.sched_core.specs.Books.{ended_keys, key_by, HaveKeys, MayRegister}
 use Rattle.core_rules.proofs.Lists.{map-map, map-same, list_any-map}
 use Rattle.core_rules.proofs.AllLemmas.{all-unmap}
 use Rattle.core_rules.proofs.StandingLemmas.{standing-push}
@@ -236,6 +237,16 @@ pub key_there : (log : List CoreEntry) (n : ℕ) → list_any (λ r. r.reg == n)
     → keys_of log n ≡ None → ⊥
 key_there log n some none = no_key (standing log) n
     (sym (list_any-map (λ r. r.reg == n) (row_of log) (standing log)) ∙ some) none
+
+-- so each has its key among those that are kept
+pub have_keys : (log : List CoreEntry) (rows : List ServerRow) (keys : Keys) → rows ≡ servers_of log
+    → keys ≡ keys_of log → HaveKeys rows keys
+have_keys log rows keys stand kept n there = some (keys n) (λ none. key_there log n
+    (subst (λ rs. list_any (λ r. r.reg == n) rs ≡ true) stand there) (sym (ap (λ k. k n) kept) ∙ none))
+  where
+    some : (key : Option (List ℕ)) → (key ≡ None → ⊥) → IsSome key
+    some None absent = absurd (absent refl)
+    some (Some key) absent = refl
 
 -- where an entry brings a key, it is a heartbeat's
 pub key_registers : (k : CoreKind) (number : ℕ) → IsSome (key_by k number) → MayRegister k

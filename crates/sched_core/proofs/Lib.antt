@@ -9,6 +9,7 @@ pub mod KeyLemmas
 pub mod LookLemmas
 pub mod MostLemmas
 pub mod OpenLemmas
+pub mod OwnPlaceLemmas
 pub mod OwnRowLemmas
 pub mod PlacedLemmas
 pub mod RankedLemmas

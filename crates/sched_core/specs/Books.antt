@@ -1,6 +1,6 @@
 -- What the scheduler keeps beside its log, and what one entry does to it.
 use Rattle.std.specs.Prelude.{◌≡◌, ◌≤◌, ◌<◌, ℕ, ◌+◌, ◌-◌, ◌*◌, ◌^◌, max, List, [], ◌++◌, length, map}
-use Rattle.std.specs.Prelude.{filter, Bool}
+use Rattle.std.specs.Prelude.{filter, Bool, IsSome}
 use Rattle.std.specs.Prelude.{true, false, not, ◌&&◌, ◌||◌, ◌==◌, Option, Some, None, if◌then◌else◌}
 use Rattle.std.specs.Prelude.{count_by, unwrap_or, option_to_list, min, nat_eq, ◌%◌}
 use Rattle.std.specs.List.{AllByRecursion, find, list_any}
@@ -60,6 +60,17 @@ keys_of log n = value_at nat_eq n (key_list log)
 -- the keys of the authorizers that are kept under numbers
 abbrev pub kept_by : {A : Type 0} → (A → List ℕ) → List (ℕ × A) → Keys
 kept_by own_key entries n = option_map own_key (value_at nat_eq n entries)
+
+-- each registration of these rows has a key
+abbrev pub HaveKeys : List ServerRow → Keys → Type 0
+HaveKeys rows keys = (n : ℕ) → list_any (λ r. r.reg == n) rows ≡ true → IsSome (keys n)
+
+-- what is kept of a log: the number of its next entry, the registrations that stand, and their keys
+pub record IsKeptOf (log : List CoreEntry) (next : ℕ) (kept_rows : List ServerRow) (kept_keys : Keys)
+    : Type 0 where
+  pub number : next ≡ length log
+  pub rows : kept_rows ≡ servers_of log
+  pub keys : kept_keys ≡ keys_of log
 
 -- those keys, and one more, if there is one
 abbrev pub with_key : Option (ℕ × List ℕ) → Keys → Keys

@@ -1,15 +1,13 @@
 //! The keys of the registrations that stand, under their numbers.
-ghost use Rattle.std.specs.Prelude.{◌≡◌, ◌<◌, ◌≤◌, ◌==◌, IfOk, IfErr, OnOk, IsSome, Some, None, true};
+ghost use Rattle.std.specs.Prelude.{◌≡◌, ◌<◌, ◌≤◌, List, IfOk, IfErr, OnOk, IsSome, Some, None};
 ghost use Rattle.std.specs.Prelude.{if◌then◌else◌};
 ghost use Rattle.std.specs.Prelude.{nat_eq};
-ghost use Rattle.std.specs.List.{list_any};
 ghost use Rattle.std.specs.Option.{option_copied};
 ghost use Rattle.row_index.specs.Lookup.{value_at};
-ghost use Rattle.core_rules.specs.Rows.{servers_of};
+ghost use Rattle.core_rules.specs.declared.entry.CoreEntry.{CoreEntry};
 ghost use Rattle.core_rules.specs.Answers.{IsTokenAt};
 ghost use Rattle.sched_core.specs.Books.{kept_by, keys_of, with_key, without, without_this, ended_keys};
 
-use crate::log::CoreLog;
 use core_rules::entry::CoreKind;
 use core_rules::error::SchedError;
 use dist_types::ids::JobId;
@@ -149,16 +147,15 @@ fn authorizer_of<A: JobAuthorizer>(keys: &LookupTable<u64, A>, number: u64) -> O
     keys.get(&number)
 }
 
-/// The job's token under the key of a registration that stands. Refused for want of memory alone.
+/// The job's token under the key of a registration that has one. Refused for want of memory alone.
 pub fn token_at<A: JobAuthorizer>(
     keys: &LookupTable<u64, A>,
-    log: &CoreLog,
     reg: u64,
     job: JobId,
 ) -> Result<Text, SchedError>
-    requires keys { kept_by A.key_of keys.now.entries ≡ keys_of log.now.items }
-    requires stands { list_any (λ r. r.reg == reg) (servers_of log.now.items) ≡ true }
-    ensures token { IfOk result (IsTokenAt A.key_of A.token_for log.now.items reg job) }
+    requires there { IsSome (kept_by A.key_of keys.now.entries reg) }
+    ensures token { (log : List CoreEntry) → kept_by A.key_of keys.now.entries ≡ keys_of log
+        → IfOk result (IsTokenAt A.key_of A.token_for log reg job) }
     ensures memory { IfErr result (λ e. e ≡ SchedError.Memory) }
 {
     match authorizer_of(keys, reg) {

@@ -17,6 +17,7 @@ mod decide;
 mod keys;
 mod log;
 mod own;
+mod own_places;
 mod places;
 mod processors;
 mod registrations;

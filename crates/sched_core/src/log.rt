@@ -1,9 +1,11 @@
-//! The log as it is kept: it is looked at by its length alone, but for its history.
-ghost use Rattle.std.specs.Prelude.{◌≡◌, ◌≤◌, ◌<◌, ◌+◌, ◌/◌, ◌++◌, ◌∷◌, [], OnOk, length, max};
+//! The log as it is kept: its length is told, a look at an entry is counted, and the whole is for its history.
+ghost use Rattle.std.specs.Prelude.{◌≡◌, ◌≤◌, ◌<◌, ◌+◌, ◌/◌, ◌++◌, ◌∷◌, [], OnOk, Some, length, max, slice_get};
 
 use core_rules::entry::CoreEntry;
+use row_index::Steps;
 use std::alloc::{AllocError, Global};
 use std::marker::Model;
+use std::sync::ledger::Ledger;
 
 /// A log that grows gets room for one spare entry beside so many.
 const SPARE_PART: usize = 8;
@@ -44,6 +46,16 @@ impl CoreLog {
         ensures { result ≡ length self.now.items }
     {
         self.entries.len()
+    }
+
+    /// An entry. What is bounded in looks reads entries by this alone.
+    pub fn look<L: Ledger>(&self, at: usize, steps: &mut Steps<L>) -> &CoreEntry
+        requires { at < length self.now.items }
+        ensures entry { slice_get self.now.items at ≡ Some result.now }
+        ensures counted { steps.new ≡ steps.old + 1 }
+    {
+        steps.tick();
+        &self.entries[at]
     }
 
     /// All entries, oldest first. Only `history` reads them.

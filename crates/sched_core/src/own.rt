@@ -1,5 +1,5 @@
 //! The reservations of a registration, by the list that is kept of their places.
-ghost use Rattle.std.specs.Prelude.{◌≡◌, ◌+◌, ◌%◌, ◌^◌, ◌++◌, ◌∷◌, [], Some, IfOk, IfSome, OnOk, length, map};
+ghost use Rattle.std.specs.Prelude.{◌≡◌, ◌<◌, ◌+◌, ◌%◌, ◌^◌, ◌++◌, ◌∷◌, [], Some, IfOk, IfSome, OnOk, length, map};
 ghost use Rattle.std.specs.Prelude.{◌*◌, filter, nat_le, option_to_list};
 ghost use Rattle.std.specs.List.{filter_map};
 ghost use Rattle.core_rules.specs.Reap.{is_reaped, reap};
@@ -11,14 +11,17 @@ ghost use Rattle.sched_core.specs.Own.{is_own_at, own_row_at, IsOwnList, AreOwn,
 ghost use Rattle.sched_core.specs.Own.{ended_at, ended_at_all, ended_if, ended_jobs, IsMadeBy, swept_list};
 ghost use Rattle.row_index.specs.Lists.{list_at};
 
-use crate::booked::{BookedRow, held_part, is_open, is_own_at, own_row_at};
+use crate::booked::{BookedRow, held_part, is_open, own_row_at};
 use crate::bookings::Bookings;
+use crate::own_places::OwnPlaces;
 use core_rules::entry::{CoreEntry, CoreKind};
 use core_rules::rules::reapable;
 use dist_types::ids::JobId;
 use dist_types::rules::Rules;
-use row_index::NumberedLists;
+use row_index::{NumberedLists, Steps};
 use std::alloc::{AllocError, Global};
+use std::marker::Brand;
+use std::sync::ledger::{Blank, Ledger};
 
 /// A heartbeat that reaps: of which registration, by which rules and at which moment, in milliseconds.
 #[derive(Clone, Copy, Debug)]
@@ -96,29 +99,17 @@ pub fn open_left(bookings: &Bookings, own: &NumberedLists, pruned: &[u64]) -> u6
     left as u64
 }
 
-/// Those of the places that have an unended reservation at the registration.
-fn kept_places(
-    alloc: Global,
-    rows: &[BookedRow],
-    places: &[usize],
-    reg: u64,
-) -> Result<Vec<usize>, AllocError>
-    ensures { IfOk result (λ v. v.items ≡ filter (is_own_at reg rows.now) places.now) }
-{
-    places
-        .iter()
-        .copied()
-        .filter(|place| is_own_at(rows, *place, reg))
-        .collect(alloc)
-}
-
 /// Drops from the list of a registration what is ended. Refused for want of memory alone.
-fn sweep(
+fn sweep<L: Ledger>(
     alloc: Global,
     bookings: &Bookings,
     own: &mut NumberedLists,
     reg: u64,
+    blank: Blank,
 ) -> Result<(), AllocError>
+    requires name { blank.name ≡ L.name }
+    requires parts { blank.parts ≡ L.parts }
+    requires some { 0 < blank.parts }
     requires own { AreOwn bookings.now.rows own.old.lists }
     requires ready { own.old.ready ≡ Some reg }
     ensures own { AreOwn bookings.now.rows own.new.lists }
@@ -126,7 +117,8 @@ fn sweep(
     ensures swept { OnOk result
         (list_at own.new.lists reg ≡ filter (is_own_at reg bookings.now.rows) (list_at own.old.lists reg)) }
 {
-    let kept = kept_places(alloc, bookings.rows(), own.of(reg), reg)?;
+    let mut steps = Steps::<L>::new(blank);
+    let kept = OwnPlaces::of(own, reg).kept(alloc, bookings.rows(), reg, &mut steps)?;
     own.replace(reg, kept);
     own.make_room(reg)
 }
@@ -157,8 +149,8 @@ pub fn make_room(
 {
     bookings.make_room()?;
     own.make_room(reg)?;
-    if is_long(own.of(reg).len(), load) {
-        return sweep(alloc, bookings, own, reg);
+    if is_long(OwnPlaces::of(own, reg).len(), load) {
+        return sweep::<Brand>(alloc, bookings, own, reg, Blank::new(1));
     }
     Ok(())
 }

@@ -14,10 +14,11 @@ ghost use Rattle.core_rules.specs.Rule.{rule, says_new_entry, counts_of, knows_o
 ghost use Rattle.core_rules.specs.Rule.{place_at, noted_over};
 ghost use Rattle.core_rules.specs.Rows.{servers_of, jobs_of, job_row, unended_by_id};
 ghost use Rattle.core_rules.specs.Answers.{Leaves, RefusesReserve, committed_by, undo_answer};
-ghost use Rattle.sched_core.specs.Picked.{IsPicked};
+ghost use Rattle.sched_core.specs.Picked.{IsPicked, IsReservedAs};
+ghost use Rattle.core_rules.specs.Next.{IsAtRow};
 ghost use Rattle.core_rules.specs.Answers.{updated_by};
 ghost use Rattle.core_rules.specs.Laws.{IsLegal, IsLawful, IsRule};
-ghost use Rattle.sched_core.specs.Books.{IsState, MayRegister, Kept, key_by, kept_by};
+ghost use Rattle.sched_core.specs.Books.{IsState, MayRegister, Kept, key_by, kept_by, keys_of};
 ghost use Rattle.sched_core.specs.Own.{HasRoomFor, HasJobRoom};
 ghost use Rattle.sched_core.specs.Books.{unspent_next};
 ghost use Rattle.sched_core.specs.Booked.{unspent_view};
@@ -201,8 +202,9 @@ impl<A: JobAuthorizer> SchedState<A> {
         picked
     }
 
-    /// The same, with its looks at the trees of the books counted: where at most 2^h registrations ever
-    /// stood at one time it takes no more than 6h + 8, and as many again for each error that it forgets.
+    /// The same, with its looks at the trees of the books and at the entries of the log counted: where at
+    /// most 2^h registrations ever stood at one time it takes no more than 6h + 8, and as many again for each
+    /// error that it forgets.
     pub fn reserve_counted<L: Ledger>(
         &mut self,
         now: u64,
@@ -248,12 +250,7 @@ impl<A: JobAuthorizer> SchedState<A> {
             &mut self.journal.log,
             &reserved,
         )?;
-        let made = tickets::made(
-            &self.journal.books,
-            &self.journal.keys,
-            &self.journal.log,
-            &reserved,
-        )?;
+        let made = made_next(&self.journal, &reserved)?;
         let kind = CoreKind::Reserve(reserved);
         let entry = CoreEntry { now, kind };
         take(self.start, &mut self.journal, entry, None, steps);
@@ -507,6 +504,22 @@ fn make_job_room(
 {
     books.make_job_room(alloc, reserved)?;
     make_log_room(books, log)
+}
+
+/// What a reserve makes whose entry is the next one and says this. Refused for want of memory alone.
+fn made_next<A: JobAuthorizer>(
+    journal: &Journal<A>,
+    reserved: &Reserved,
+) -> Result<Option<Picked>, SchedError>
+    requires rows { journal.now.books.lists.rows ≡ servers_of journal.now.log.items }
+    requires keys { kept_by A.key_of journal.now.keys.entries ≡ keys_of journal.now.log.items }
+    requires stands { IsAtRow reserved.now journal.now.books.lists.rows }
+    ensures made { IfOk result
+        (IsReservedAs A.key_of A.token_for journal.now.log.items reserved.now) }
+    ensures memory { IfErr result (λ e. e ≡ SchedError.Memory) }
+{
+    let number = journal.log.len() as u64;
+    tickets::made(&journal.books, &journal.keys, number, reserved)
 }
 
 /// Makes room for what a heartbeat may add. Refused for want of memory alone; the lists stay.

@@ -14,8 +14,8 @@ use Rattle.sched_core.proofs.LookLemmas.{decided_looks, reserve_bound, twice_pow
 use Rattle.sched_core.proofs.MostLemmas.{still_state}
 use Rattle.sched_core.proofs.state.SchedState.enter_reserve.Goals as goal
 
-pub made-requires-2-clause-stands : goal.made-requires-2-clause-stands
-made-requires-2-clause-stands g c κs within =
+pub made_next-requires-clause-stands : goal.made_next-requires-clause-stands
+made_next-requires-clause-stands g c κs within =
     rw (c.in_ok-make_job_room.ensures.lists, c.in_ok-reserved.ensures.reserved)
     (reserved_row c.self.inside.journal.books.lists.rows c.args.now c.self.inside.start.base _)
 
