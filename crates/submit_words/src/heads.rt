@@ -1,0 +1,36 @@
+//! What is shown of heads: their lines, but of a token no more than that there is one.
+ghost use Rattle.std.specs.Prelude.{◌≡◌, ◌++◌, ◌∷◌, [], IfOk, string_bytes, nat_eq};
+ghost use Rattle.std.specs.List.{starts_with};
+ghost use Rattle.submit_words.specs.Heads.{has_token, shown_line, shown_head};
+
+use std::alloc::{AllocError, Global};
+
+/// What is shown of a line with a token.
+const HIDDEN: &str = "Authorization: (hidden)";
+
+// Whether a line has a token.
+fn has_token(line: &str) -> bool
+    ensures { result ≡ has_token line.now }
+{
+    line.as_bytes().starts_with(b"Authorization:")
+}
+
+/// What is shown of a line of a head: the line, but of one with a token no more than that.
+pub fn shown_line(line: &str) -> &str
+    ensures { result.now ≡ shown_line line.now }
+{
+    if has_token(line) { HIDDEN } else { line }
+}
+
+/// What is shown of a head: each of its lines behind a mark, and a line end.
+pub fn shown_head(alloc: Global, mark: &str, head: &str) -> Result<String, AllocError>
+    ensures { IfOk result (λ text. string_bytes text ≡ shown_head mark.now head.now) }
+{
+    let mut text = String::new(alloc);
+    for line in head.split('\n') {
+        text.push_str(mark)?;
+        text.push_str(shown_line(line))?;
+        text.push_str("\n")?;
+    }
+    Ok(text)
+}
