@@ -12,7 +12,7 @@ use std::rt::Files;
 use std::time::{Clock, SystemTime};
 use submit_words::job::Job;
 use submit_words::refusal::Refusal;
-use toolchain_cache::digest::toolchain_of;
+use toolchain_cache::toolchain_of;
 
 /// The archive of a job's toolchain.
 #[derive(Drop)]

@@ -42,10 +42,16 @@ fn main(rt: HostRuntime) -> ExitCode {
     let told = match asked_by(alloc, &words) {
         Ok(Invocation::Job(job)) => {
             let progress = rt.stderr().is_terminal() && !job.verbose;
+            let heads = if job.verbose {
+                Some(StdSink::new(rt.stderr()))
+            } else {
+                None
+            };
             let mut streams = Streams {
                 input: StdSource::new(rt.stdin()),
                 out,
                 errs: StdSink::new(rt.stderr()),
+                heads,
             };
             let status = submit::submit(&rt, alloc, &job, &mut streams, progress);
             return ExitCode::from(status);

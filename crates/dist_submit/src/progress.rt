@@ -3,6 +3,7 @@ use dist_types::sink::{Sink, write_all};
 use std::alloc::Global;
 
 /// Where the line is shown, if it is: a terminal.
+#[derive(Drop)]
 pub(crate) struct Progress<'a, E: Sink> {
     alloc: Global,
     errs: &'a mut E,

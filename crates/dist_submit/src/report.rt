@@ -42,6 +42,8 @@ pub(crate) struct Report {
     pub server: Option<String>,
     /// The code that it ended with, if it ran.
     pub code: Option<i32>,
+    /// Whether the last line of the job's standard error has no end.
+    pub is_open: bool,
     /// How often a job was asked for.
     pub tries: u64,
     /// How many bytes went and came.
@@ -96,6 +98,7 @@ impl Report {
             job: None,
             server: None,
             code: None,
+            is_open: false,
             tries: 0,
             bytes: Sizes {
                 archive: 0,

@@ -12,7 +12,7 @@ use dist_types::output::ProcessOutput;
 use dist_types::results::{
     AllocJobResult, JobAlloc, JobComplete, RunJobResult, SubmitToolchainResult,
 };
-use dist_types::sink::{Sink, StdSink, write_all};
+use dist_types::sink::{Sink, write_all};
 use dist_types::source::Source;
 use dist_types::text::{Bytes, Items, Text};
 use dist_types::toolchain::Toolchain;
@@ -20,7 +20,6 @@ use http_calls::calls::Client;
 use http_calls::http;
 use path_pkg::mem_packager::MemPackager;
 use std::alloc::Global;
-use std::io::Eprint;
 use std::net::Net;
 use std::rt::Files;
 use std::thread;
@@ -42,9 +41,12 @@ pub(crate) struct Streams<I: Source, K: Sink, E: Sink> {
     pub out: K,
     /// Standard error.
     pub errs: E,
+    /// Where heads are shown, if they are.
+    pub heads: Option<E>,
 }
 
 /// What a job is asked with: its words, the bytes of its inputs, the names of its outputs, and until when.
+#[derive(Drop)]
 struct Order<'a> {
     alloc: Global,
     job: &'a Job<'a>,
@@ -86,6 +88,7 @@ fn copies(alloc: Global, names: &[String]) -> Result<Vec<String>, Refusal> {
 }
 
 /// One try: asks for a job, brings the archive where it is wanted, and has the job run.
+#[derive(Drop)]
 struct Try<'a, R, C> {
     rt: &'a R,
     order: &'a Order<'a>,
@@ -237,9 +240,10 @@ fn order_of<'a, R: Files + AllocGlobal + Clock, I: Source>(
 }
 
 /// Has the job built over the network, its archive kept in memory.
-fn built<R: Files + AllocGlobal + Clock + Net + Eprint, E: Sink>(
+fn built<R: Files + AllocGlobal + Clock + Net, E: Sink + Drop>(
     rt: &R,
     order: &Order<'_>,
+    heads: Option<E>,
     report: &mut Report,
     progress: &mut Progress<'_, E>,
 ) -> Result<JobComplete, Refusal> {
@@ -256,11 +260,6 @@ fn built<R: Files + AllocGlobal + Clock + Net + Eprint, E: Sink>(
         Ok(toolchains) => toolchains,
         Err(refusal) => return Err(refused::toolchain(alloc, refusal)),
     };
-    let heads = if job.verbose {
-        Some(StdSink::new(rt.stderr()))
-    } else {
-        None
-    };
     let dialer = TimedDialer::new(alloc, rt, order.deadline, heads);
     let mut client = http::Client::new(alloc, dialer, toolchains, url, token, false);
     let mut one = Try {
@@ -274,7 +273,7 @@ fn built<R: Files + AllocGlobal + Clock + Net + Eprint, E: Sink>(
 }
 
 /// Hands on what the job wrote.
-fn told<I: Source, K: Sink, E: Sink>(
+fn told<I: Source, K: Sink, E: Sink + Drop>(
     output: &ProcessOutput,
     streams: &mut Streams<I, K, E>,
 ) -> Result<(), Refusal> {
@@ -284,6 +283,14 @@ fn told<I: Source, K: Sink, E: Sink>(
         Ok(())
     } else {
         Err(Refusal::WriteFault)
+    }
+}
+
+/// Whether the last line of a text has no end.
+fn is_open(text: &[u8]) -> bool {
+    match text.last() {
+        Some(last) => *last != b'\n',
+        None => false,
     }
 }
 
@@ -297,7 +304,7 @@ fn size_of(complete: &JobComplete) -> u64 {
 }
 
 /// Hands on what the job made: what it wrote, and then its outputs, also where one of them cannot be.
-fn handed_on<R: Files + AllocGlobal + Clock, I: Source, K: Sink, E: Sink>(
+fn handed_on<R: Files + AllocGlobal + Clock, I: Source, K: Sink, E: Sink + Drop>(
     rt: &R,
     order: &Order<'_>,
     complete: &JobComplete,
@@ -309,6 +316,7 @@ fn handed_on<R: Files + AllocGlobal + Clock, I: Source, K: Sink, E: Sink>(
     report.bytes.stdout = output.stdout.get().len() as u64;
     report.bytes.stderr = output.stderr.get().len() as u64;
     report.bytes.outputs = size_of(complete);
+    report.is_open = is_open(output.stderr.get());
     let told = told(output, streams);
     let begin = millis(rt);
     let written = outputs::write_all(rt, order.alloc, order.job, complete.outputs.get());
@@ -317,7 +325,7 @@ fn handed_on<R: Files + AllocGlobal + Clock, I: Source, K: Sink, E: Sink>(
 }
 
 /// Has the job built, and hands on what it made; its status.
-fn status_of<R: Files + AllocGlobal + Clock + Net + Eprint, I: Source, K: Sink, E: Sink>(
+fn status_of<R: Files + AllocGlobal + Clock + Net, I: Source, K: Sink, E: Sink + Drop>(
     rt: &R,
     alloc: Global,
     job: &Job<'_>,
@@ -327,15 +335,19 @@ fn status_of<R: Files + AllocGlobal + Clock + Net + Eprint, I: Source, K: Sink, 
 ) -> Result<u8, Refusal> {
     let order = order_of(rt, alloc, job, &mut streams.input)?;
     report.bytes.inputs = order.inputs.len() as u64;
-    let mut progress = Progress::new(alloc, &mut streams.errs, is_shown);
-    let built = built(rt, &order, report, &mut progress);
-    progress.clear();
-    handed_on(rt, &order, &built?, report, streams)
+    let heads = streams.heads.take();
+    let complete = {
+        let mut progress = Progress::new(alloc, &mut streams.errs, is_shown);
+        let complete = built(rt, &order, heads, report, &mut progress);
+        progress.clear();
+        complete?
+    };
+    handed_on(rt, &order, &complete, report, streams)
 }
 
-/// Says on standard error why the program ends so, where that status is no job's; and where it is a job's own though a
-/// refusal could have it.
-fn say<E: Sink>(alloc: Global, errs: &mut E, status: u8, refusal: Option<&Refusal>) {
+/// Says on standard error, behind a line that has begun, why the program ends so, where that status is no job's; and
+/// where it is a job's own though a refusal could have it.
+fn say<E: Sink>(alloc: Global, errs: &mut E, begun: bool, status: u8, refusal: Option<&Refusal>) {
     let line = match refusal {
         Some(refusal) => format!(in alloc; "dist_submit: {refusal}\n"),
         None if is_reserved(status) => {
@@ -343,13 +355,16 @@ fn say<E: Sink>(alloc: Global, errs: &mut E, status: u8, refusal: Option<&Refusa
         }
         None => return,
     };
+    if begun {
+        let _ = write_all(errs, b"\n");
+    }
     if let Ok(line) = line {
         let _ = write_all(errs, line.as_str().as_bytes());
     }
 }
 
 /// Has the job built, hands on what it made, and tells how it ended; the status.
-pub(crate) fn submit<R: Files + AllocGlobal + Clock + Net + Eprint, I: Source, K: Sink, E: Sink>(
+pub(crate) fn submit<R: Files + AllocGlobal + Clock + Net, I: Source, K: Sink, E: Sink + Drop>(
     rt: &R,
     alloc: Global,
     job: &Job<'_>,
@@ -362,7 +377,7 @@ pub(crate) fn submit<R: Files + AllocGlobal + Clock + Net + Eprint, I: Source, K
         Ok(status) => (*status, None),
         Err(refusal) => (refusal.status(), Some(refusal)),
     };
-    say(alloc, &mut streams.errs, status, refusal);
+    say(alloc, &mut streams.errs, report.is_open, status, refusal);
     if job.json {
         if let Ok(line) = report.line(alloc, status, refusal) {
             let _ = write_all(&mut streams.out, &line);

@@ -10,6 +10,10 @@ has_token line = starts_with nat_eq line (codes "Authorization:")
 abbrev pub shown_line : List ℕ → List ℕ
 shown_line line = if has_token line then codes "Authorization: (hidden)" else line
 
--- Each line behind a mark, with a line end.
+-- each line behind a mark, with a line end
+abbrev pub shown_lines : List ℕ → List (List ℕ) → List ℕ
+shown_lines mark lines = flat_map (λ line. (mark ++ shown_line line) ++ 10 ∷ []) lines
+
+-- What is shown of a head: of each of its lines.
 abbrev pub shown_head : List ℕ → List ℕ → List ℕ
-shown_head mark head = flat_map (λ line. mark ++ shown_line line ++ 10 ∷ []) (slice_split (λ b. b == 10) head)
+shown_head mark head = shown_lines mark (slice_split (λ b. b == 10) head)

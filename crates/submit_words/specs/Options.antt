@@ -27,24 +27,27 @@ bare_app = on_top (λ s. record s { no_binary_name = true; disable_help_flag = t
 
 -- whom is asked, under which token, with which archive
 abbrev pub with_places : App → App
-with_places a = with_rule (with_rule (with_rule (with_rule (with_rule a (option_rule (codes "scheduler")))
-    (option_rule (codes "token"))) (option_rule (codes "token-file"))) (option_rule (codes "archive")))
-    (option_rule (codes "cache"))
+with_places a = with_rule (with_rule (with_rule (with_rule a (option_rule (codes "scheduler")))
+    (option_rule (codes "token"))) (option_rule (codes "token-file"))) (option_rule (codes "archive"))
 
 -- what is run
 abbrev pub with_run : App → App
 with_run a = with_rule (with_rule (with_rule (with_rule a (option_rule (codes "cwd"))) (list_rule (codes "env")))
     (option_rule (codes "input"))) (list_rule (codes "output"))
 
--- how long, how often, and what is shown
-abbrev pub with_manner : App → App
-with_manner a = with_rule (with_rule (with_rule (with_rule (with_rule (with_rule a
-    (option_rule (codes "tries"))) (option_rule (codes "max-time"))) (flag_rule (codes "verbose")))
+-- which ids are kept, how often and how long a job is asked for
+abbrev pub with_limits : App → App
+with_limits a = with_rule (with_rule (with_rule a (option_rule (codes "cache"))) (option_rule (codes "tries")))
+    (option_rule (codes "max-time"))
+
+-- what is shown
+abbrev pub with_flags : App → App
+with_flags a = with_rule (with_rule (with_rule (with_rule a (flag_rule (codes "verbose")))
     (flag_rule (codes "json"))) (flag_rule (codes "help"))) (flag_rule (codes "version"))
 
 -- the program's options
 abbrev pub submit_app : App
-submit_app = with_manner (with_run (with_places bare_app))
+submit_app = with_flags (with_limits (with_run (with_places bare_app)))
 
 -- what the options say
 pub record Said : Type 0 where

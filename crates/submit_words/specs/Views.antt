@@ -1,6 +1,6 @@
 -- What is asked for, as the Rust types hold it.
 use Rattle.std.specs.Prelude.{map, option_map, string_bytes}
-use Rattle.submit_words.specs.Words.{Asked, Invocation, Job, Pair, Terms, Token, word, file, help, version, job}
+use Rattle.submit_words.specs.Words.{Asked, Invocation, Job, Pair, Terms, Token, by_word, by_file, help, version, job}
 use Rattle.submit_words.specs.declared.job.Invocation as code
 use Rattle.submit_words.specs.declared.job.Invocation.TheVariants as codes
 use Rattle.submit_words.specs.declared.job.Job as code_job
@@ -11,8 +11,8 @@ use Rattle.submit_words.specs.declared.words.Asked as code_asked
 use Rattle.submit_words.specs.declared.words.Terms as code_terms
 
 abbrev pub token_seen : code_token.Token → Token
-token_seen (Word text) = word text.now
-token_seen (File name) = file name.now
+token_seen (Word text) = by_word text.now
+token_seen (File name) = by_file name.now
 
 abbrev pub pair_seen : code_pair.Pair → Pair
 pair_seen p = (p.name.now, p.text.now)

@@ -1,7 +1,7 @@
 -- What the program's words ask for.
 use Rattle.std.specs.Prelude.{ℕ, List, [], ◌∷◌, Bool, ◌&&◌, ◌||◌, not, ◌==◌, nat_le, nat_lt, length}
 use Rattle.std.specs.Prelude.{Option, Some, None, if◌then◌else◌, option_map, option_and_then, codes, unwrap_or}
-use Rattle.std.specs.Prelude.{slice_index, take, drop, ◌+◌, ◌<◌}
+use Rattle.std.specs.Prelude.{slice_index, take, drop, ◌+◌, ◌<◌, ◌^◌, ◌++◌}
 use Rattle.std.specs.Str.{bytes_eq}
 use Rattle.std.specs.Str.Parse.{digits_value}
 use Rattle.std.specs.Char.{is_ascii_digit}
@@ -11,8 +11,8 @@ use Rattle.submit_words.specs.Options.{Said, options_in}
 
 -- where the clients' token stands: in a word, or in the file of this name
 pub data Token : Type 0 where
-  word : List ℕ → Token
-  file : List ℕ → Token
+  by_word : List ℕ → Token
+  by_file : List ℕ → Token
 
 -- a name and what belongs to it: a variable's value, or an output's file
 abbrev pub Pair : Type 0
@@ -47,9 +47,12 @@ abbrev pub is_dashes : List ℕ → Bool
 is_dashes word = bytes_eq word (codes "--")
 
 -- the words in front of it, and those behind it if it stands
+abbrev pub front_from : List (List ℕ) → List (List ℕ) → List (List ℕ)
+front_from before [] = before
+front_from before (w ∷ words) = if is_dashes w then before else front_from (before ++ w ∷ []) words
+
 abbrev pub front_of : List (List ℕ) → List (List ℕ)
-front_of [] = []
-front_of (w ∷ words) = if is_dashes w then [] else w ∷ front_of words
+front_of words = front_from [] words
 
 abbrev pub command_of : List (List ℕ) → Option (List (List ℕ))
 command_of [] = None
@@ -77,12 +80,17 @@ is_digits text = nat_lt 0 (length text) && list_all is_ascii_digit text
 abbrev pub is_plain : List ℕ → Bool
 is_plain text = is_digits text && (not (slice_index text 0 == 48) || length text == 1)
 
-abbrev pub is_within : ℕ → ℕ → Bool
-is_within most n = nat_le 1 n && nat_le n most
+-- the number of 64 bits that they say
+unfoldable pub plain_in : List ℕ → Option ℕ
+plain_in text =
+    if is_plain text && nat_lt (digits_value 10 text) (2 ^ 64) then Some (digits_value 10 text) else None
 
-unfoldable pub number_in : ℕ → List ℕ → Option ℕ
-number_in most text =
-    if is_plain text && is_within most (digits_value 10 text) then Some (digits_value 10 text) else None
+-- a number from 1 to the most
+abbrev pub within : ℕ → ℕ → Option ℕ
+within most n = if nat_le 1 n && nat_le n most then Some n else None
+
+abbrev pub number_in : ℕ → List ℕ → Option ℕ
+number_in most text = option_and_then (within most) (plain_in text)
 
 -- how often: 5 times where nothing is said, else 1 to 100
 abbrev pub tries_in : Option (List ℕ) → Option ℕ
@@ -113,16 +121,19 @@ output_of (byte ∷ name) (Some (next ∷ file)) = Some (byte ∷ name, next ∷
 abbrev pub output_in : List ℕ → Option Pair
 output_in text = output_of (name_and_value text).0 (name_and_value text).1
 
--- what each says, if each says something
+-- what each says behind those before, if each says something
+abbrev pub each_from : (List ℕ → Option Pair) → List Pair → List (List ℕ) → Option (List Pair)
+each_from f before [] = Some before
+each_from f before (x ∷ xs) = option_and_then (λ pair. each_from f (before ++ pair ∷ []) xs) (f x)
+
 abbrev pub each : (List ℕ → Option Pair) → List (List ℕ) → Option (List Pair)
-each f [] = Some []
-each f (x ∷ xs) = option_and_then (λ y. option_map (λ ys. y ∷ ys) (each f xs)) (f x)
+each f texts = each_from f [] texts
 
 -- exactly one of both
 abbrev pub token_of : Option (List ℕ) → Option (List ℕ) → Option Token
 token_of None None = None
-token_of (Some text) None = Some (word text)
-token_of None (Some name) = Some (file name)
+token_of (Some text) None = Some (by_word text)
+token_of None (Some name) = Some (by_file name)
 token_of (Some text) (Some name) = None
 
 -- an executable with its arguments

@@ -3,7 +3,7 @@ ghost use Rattle.std.specs.Prelude.{◌≡◌, IfOk, false, map, option_map, str
 ghost use Rattle.clap.specs.Words.{app_of, found_of, rule_of, rows_of, first_of, all_of};
 ghost use Rattle.submit_words.specs.Misuse.{Reads};
 ghost use Rattle.submit_words.specs.Options.{option_rule, list_rule, flag_rule, bare_app, with_places};
-ghost use Rattle.submit_words.specs.Options.{with_run, with_manner, submit_app, said_in, said_of, is_set};
+ghost use Rattle.submit_words.specs.Options.{with_run, with_limits, with_flags, submit_app, said_in, said_of, is_set};
 ghost use Rattle.submit_words.specs.Options as spec;
 
 use crate::misuse::{Misuse, usage};
@@ -87,8 +87,7 @@ fn with_places<'a>(alloc: Global, command: Command<'a>) -> Result<Command<'a>, A
         .arg(option(alloc, "scheduler"))?
         .arg(option(alloc, "token"))?
         .arg(option(alloc, "token-file"))?
-        .arg(option(alloc, "archive"))?
-        .arg(option(alloc, "cache"))
+        .arg(option(alloc, "archive"))
 }
 
 // What is run.
@@ -102,13 +101,21 @@ fn with_run<'a>(alloc: Global, command: Command<'a>) -> Result<Command<'a>, Allo
         .arg(list(alloc, "output"))
 }
 
-// How long, how often, and what is shown.
-fn with_manner<'a>(alloc: Global, command: Command<'a>) -> Result<Command<'a>, AllocError>
-    ensures { IfOk result (λ c. app_of c ≡ with_manner (app_of command.entry)) }
+// Which ids are kept, how often and how long a job is asked for.
+fn with_limits<'a>(alloc: Global, command: Command<'a>) -> Result<Command<'a>, AllocError>
+    ensures { IfOk result (λ c. app_of c ≡ with_limits (app_of command.entry)) }
 {
     command
+        .arg(option(alloc, "cache"))?
         .arg(option(alloc, "tries"))?
-        .arg(option(alloc, "max-time"))?
+        .arg(option(alloc, "max-time"))
+}
+
+// What is shown.
+fn with_flags<'a>(alloc: Global, command: Command<'a>) -> Result<Command<'a>, AllocError>
+    ensures { IfOk result (λ c. app_of c ≡ with_flags (app_of command.entry)) }
+{
+    command
         .arg(flag(alloc, "verbose"))?
         .arg(flag(alloc, "json"))?
         .arg(flag(alloc, "help"))?
@@ -121,7 +128,8 @@ fn option_command<'a>(alloc: Global) -> Result<Command<'a>, AllocError>
 {
     let command = with_places(alloc, bare_command(alloc))?;
     let command = with_run(alloc, command)?;
-    with_manner(alloc, command)
+    let command = with_limits(alloc, command)?;
+    with_flags(alloc, command)
 }
 
 // The first value of an option.

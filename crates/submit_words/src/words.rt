@@ -29,6 +29,7 @@ pub const MOST_SECONDS: u64 = 86_400;
 pub const CWD: &str = "/";
 
 // Whom is asked, under which token, with which archive, and what is run.
+#[derive(Clone, Copy)]
 struct Asked<'a> {
     scheduler: &'a str,
     token: Token<'a>,
@@ -53,8 +54,8 @@ fn dashes_at(words: &[String]) -> Option<usize>
         ≡ option_map (map string_bytes) (spec.command_at result words.now) }
     ensures within { spec.IsWithin result words.now }
 {
-    for i in 0..words.len() {
-        if words[i].as_str() == "--" {
+    for (i, word) in words.iter().enumerate() {
+        if word.as_str() == "--" {
             return Some(i);
         }
     }
