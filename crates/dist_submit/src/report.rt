@@ -1,4 +1,5 @@
 //! What is told of a job in a line of JSON.
+use dist_types::addr::Addr;
 use json::Writer;
 use std::alloc::{AllocError, Global};
 use submit_words::refusal::Refusal;
@@ -34,12 +35,12 @@ pub(crate) struct Times {
 }
 
 /// What is told of a job.
-#[derive(Debug, Drop)]
+#[derive(Clone, Copy, Debug)]
 pub(crate) struct Report {
     /// The job that was given last, if one was.
     pub job: Option<u64>,
     /// Its server's address.
-    pub server: Option<String>,
+    pub server: Option<Addr>,
     /// The code that it ended with, if it ran.
     pub code: Option<i32>,
     /// Whether the last line of the job's standard error has no end.
@@ -57,11 +58,31 @@ fn number(out: &mut Writer, key: &str, value: u64) -> Result<(), AllocError> {
     out.u64(value)
 }
 
-fn text(out: &mut Writer, key: &str, value: Option<&str>) -> Result<(), AllocError> {
+fn text(out: &mut Writer, key: &str, value: &Option<String>) -> Result<(), AllocError> {
     out.key(key)?;
     match value {
-        Some(value) => out.string(value),
+        Some(value) => out.string(value.as_str()),
         None => out.null(),
+    }
+}
+
+fn address_text(alloc: Global, address: Option<Addr>) -> Result<Option<String>, AllocError> {
+    match address {
+        Some(address) => {
+            let text = format!(in alloc; "{address}")?;
+            Ok(Some(text))
+        }
+        None => Ok(None),
+    }
+}
+
+fn cause_of(alloc: Global, refusal: Option<&Refusal>) -> Result<Option<String>, AllocError> {
+    match refusal {
+        Some(refusal) => {
+            let cause = format!(in alloc; "{refusal}")?;
+            Ok(Some(cause))
+        }
+        None => Ok(None),
     }
 }
 
@@ -121,10 +142,7 @@ impl Report {
     fn write_job(&self, alloc: Global, out: &mut Writer) -> Result<(), AllocError> {
         out.key("code")?;
         match self.code {
-            Some(code) => {
-                let code = format!(in alloc; "{code}")?;
-                out.number(code.as_str())?;
-            }
+            Some(code) => out.i64(i64::from(code))?,
             None => out.null()?,
         }
         out.key("job")?;
@@ -132,7 +150,8 @@ impl Report {
             Some(job) => out.u64(job)?,
             None => out.null()?,
         }
-        text(out, "server", self.server.as_ref().map(|s| s.as_str()))
+        let server = address_text(alloc, self.server)?;
+        text(out, "server", &server)
     }
 
     /// The line: how the program ends, the job, and what is told of it.
@@ -142,10 +161,7 @@ impl Report {
         status: u8,
         refusal: Option<&Refusal>,
     ) -> Result<Vec<u8>, AllocError> {
-        let cause = match refusal {
-            Some(refusal) => Some(format!(in alloc; "{refusal}")?),
-            None => None,
-        };
+        let cause = cause_of(alloc, refusal)?;
         let mut out = Writer::new(Vec::new(alloc));
         out.begin_object()?;
         number(&mut out, "status", u64::from(status))?;
@@ -153,7 +169,7 @@ impl Report {
         number(&mut out, "tries", self.tries)?;
         self.bytes.write(&mut out)?;
         self.times.write(&mut out)?;
-        text(&mut out, "refusal", cause.as_ref().map(|c| c.as_str()))?;
+        text(&mut out, "refusal", &cause)?;
         out.end_object()?;
         let mut line = out.into_inner();
         line.push(b'\n')?;

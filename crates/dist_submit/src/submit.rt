@@ -47,9 +47,9 @@ pub(crate) struct Streams<I: Source, K: Sink, E: Sink> {
 
 /// What a job is asked with: its words, the bytes of its inputs, the names of its outputs, and until when.
 #[derive(Drop)]
-struct Order<'a> {
+struct Order<'a, 'w> {
     alloc: Global,
-    job: &'a Job<'a>,
+    job: &'a Job<'w>,
     inputs: Vec<u8>,
     names: Vec<String>,
     deadline: Deadline,
@@ -89,15 +89,15 @@ fn copies(alloc: Global, names: &[String]) -> Result<Vec<String>, Refusal> {
 
 /// One try: asks for a job, brings the archive where it is wanted, and has the job run.
 #[derive(Drop)]
-struct Try<'a, R, C> {
-    rt: &'a R,
-    order: &'a Order<'a>,
-    client: &'a mut C,
-    archive: &'a mut Archive,
-    report: &'a mut Report,
+struct Try<'r, 'o, 'j, 'w, R, C: Client + Drop> {
+    rt: &'r R,
+    order: &'o Order<'j, 'w>,
+    client: C,
+    archive: Archive,
+    report: Report,
 }
 
-impl<R: Files + AllocGlobal + Clock, C: Client> Try<'_, R, C> {
+impl<R: Files + AllocGlobal + Clock, C: Client + Drop> Try<'_, '_, '_, '_, R, C> {
     // Asks the scheduler for a job, and tells whether its server wants the archive.
     fn ask(&mut self, id: &Toolchain) -> Result<(JobAlloc, bool), Refusal> {
         let alloc = self.order.alloc;
@@ -112,8 +112,7 @@ impl<R: Files + AllocGlobal + Clock, C: Client> Try<'_, R, C> {
                 },
             ) => {
                 self.report.job = Some(job_alloc.job_id.0);
-                let server = format!(in alloc; "{}", job_alloc.server_id.addr())?;
-                self.report.server = Some(server);
+                self.report.server = Some(job_alloc.server_id.addr());
                 Ok((job_alloc, need_toolchain))
             }
             Ok(AllocJobResult::Fail { msg }) => Err(Refusal::NoJob(msg.into_inner())),
@@ -125,7 +124,7 @@ impl<R: Files + AllocGlobal + Clock, C: Client> Try<'_, R, C> {
     fn bring(&mut self, job: &JobAlloc, id: &Toolchain) -> Result<(), Refusal> {
         let alloc = self.order.alloc;
         let begin = millis(self.rt);
-        self.archive.place(self.rt, alloc, self.client, id)?;
+        self.archive.place(self.rt, alloc, &mut self.client, id)?;
         let answer = self.client.do_submit_toolchain(job, id);
         self.report.times.bring = since(self.rt, begin);
         match answer {
@@ -164,7 +163,7 @@ impl<R: Files + AllocGlobal + Clock, C: Client> Try<'_, R, C> {
         let alloc = self.order.alloc;
         progress.tell("reading the archive");
         let begin = millis(self.rt);
-        let id = self.archive.id(self.rt, alloc, self.client)?;
+        let id = self.archive.id(self.rt, alloc, &mut self.client)?;
         self.report.times.read = self.report.times.read.saturating_add(since(self.rt, begin));
         progress.tell("asking for a job");
         let (job, is_wanted) = self.ask(&id)?;
@@ -192,8 +191,8 @@ fn in_time<C: Clock>(clock: &C, deadline: Deadline, refusal: Refusal) -> Refusal
 }
 
 /// Tries until a job ran, as often as the words say, where a refusal means that.
-fn tried<R: Files + AllocGlobal + Clock, C: Client, E: Sink>(
-    one: &mut Try<'_, R, C>,
+fn tried<R: Files + AllocGlobal + Clock, C: Client + Drop, E: Sink>(
+    one: &mut Try<'_, '_, '_, '_, R, C>,
     progress: &mut Progress<'_, E>,
 ) -> Result<JobComplete, Refusal> {
     let deadline = one.order.deadline;
@@ -208,7 +207,7 @@ fn tried<R: Files + AllocGlobal + Clock, C: Client, E: Sink>(
                 return Err(Refusal::TimeOut);
             }
         }
-        one.report.tries = number + 1;
+        one.report.tries = number.saturating_add(1);
         match one.complete(progress) {
             Ok(complete) => return Ok(complete),
             Err(refusal) => last = in_time(one.rt, deadline, refusal),
@@ -221,12 +220,12 @@ fn tried<R: Files + AllocGlobal + Clock, C: Client, E: Sink>(
 }
 
 /// What a job is asked with, once the files that its words name are read.
-fn order_of<'a, R: Files + AllocGlobal + Clock, I: Source>(
+fn order_of<'a, 'w, R: Files + AllocGlobal + Clock, I: Source>(
     rt: &R,
     alloc: Global,
-    job: &'a Job<'a>,
+    job: &'a Job<'w>,
     input: &mut I,
-) -> Result<Order<'a>, Refusal> {
+) -> Result<Order<'a, 'w>, Refusal> {
     let deadline = Deadline::within(rt, job.seconds);
     let names = outputs::names(alloc, job)?;
     let inputs = files::inputs(rt, alloc, job, input)?;
@@ -242,7 +241,7 @@ fn order_of<'a, R: Files + AllocGlobal + Clock, I: Source>(
 /// Has the job built over the network, its archive kept in memory.
 fn built<R: Files + AllocGlobal + Clock + Net, E: Sink + Drop>(
     rt: &R,
-    order: &Order<'_>,
+    order: &Order<'_, '_>,
     heads: Option<E>,
     report: &mut Report,
     progress: &mut Progress<'_, E>,
@@ -254,22 +253,24 @@ fn built<R: Files + AllocGlobal + Clock + Net, E: Sink + Drop>(
     };
     let begin = millis(rt);
     let token = files::token(rt, alloc, job)?;
-    let mut archive = Archive::of(rt, alloc, job)?;
+    let archive = Archive::of(rt, alloc, job)?;
     report.times.read = since(rt, begin);
     let toolchains = match ClientToolchains::new(alloc, ReliableFolder::new(alloc), "", ROOM, &[]) {
         Ok(toolchains) => toolchains,
         Err(refusal) => return Err(refused::toolchain(alloc, refusal)),
     };
     let dialer = TimedDialer::new(alloc, rt, order.deadline, heads);
-    let mut client = http::Client::new(alloc, dialer, toolchains, url, token, false);
+    let client = http::Client::new(alloc, dialer, toolchains, url, token, false);
     let mut one = Try {
         rt,
         order,
-        client: &mut client,
-        archive: &mut archive,
-        report,
+        client,
+        archive,
+        report: *report,
     };
-    tried(&mut one, progress)
+    let answer = tried(&mut one, progress);
+    *report = one.report;
+    answer
 }
 
 /// Hands on what the job wrote.
@@ -306,7 +307,7 @@ fn size_of(complete: &JobComplete) -> u64 {
 /// Hands on what the job made: what it wrote, and then its outputs, also where one of them cannot be.
 fn handed_on<R: Files + AllocGlobal + Clock, I: Source, K: Sink, E: Sink + Drop>(
     rt: &R,
-    order: &Order<'_>,
+    order: &Order<'_, '_>,
     complete: &JobComplete,
     report: &mut Report,
     streams: &mut Streams<I, K, E>,
