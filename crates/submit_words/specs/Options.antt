@@ -25,20 +25,23 @@ abbrev pub bare_app : App
 bare_app = on_top (λ s. record s { no_binary_name = true; disable_help_flag = true })
     (new_app (codes "dist_submit"))
 
--- whom is asked, under which token, with which archive
-abbrev pub with_places : App → App
-with_places a = with_rule (with_rule (with_rule (with_rule a (option_rule (codes "scheduler")))
-    (option_rule (codes "token"))) (option_rule (codes "token-file"))) (option_rule (codes "archive"))
+-- whom is asked, under which token
+abbrev pub with_client : App → App
+with_client a = with_rule (with_rule (with_rule a (option_rule (codes "scheduler")))
+    (option_rule (codes "token"))) (option_rule (codes "token-file"))
+
+-- with which archive, and where its id is kept
+abbrev pub with_archive : App → App
+with_archive a = with_rule (with_rule a (option_rule (codes "archive"))) (option_rule (codes "cache"))
 
 -- what is run
 abbrev pub with_run : App → App
 with_run a = with_rule (with_rule (with_rule (with_rule a (option_rule (codes "cwd"))) (list_rule (codes "env")))
     (option_rule (codes "input"))) (list_rule (codes "output"))
 
--- which ids are kept, how often and how long a job is asked for
+-- how often and how long a job is asked for
 abbrev pub with_limits : App → App
-with_limits a = with_rule (with_rule (with_rule a (option_rule (codes "cache"))) (option_rule (codes "tries")))
-    (option_rule (codes "max-time"))
+with_limits a = with_rule (with_rule a (option_rule (codes "tries"))) (option_rule (codes "max-time"))
 
 -- what is shown
 abbrev pub with_flags : App → App
@@ -47,7 +50,7 @@ with_flags a = with_rule (with_rule (with_rule (with_rule a (flag_rule (codes "v
 
 -- the program's options
 abbrev pub submit_app : App
-submit_app = with_flags (with_limits (with_run (with_places bare_app)))
+submit_app = with_flags (with_limits (with_run (with_archive (with_client bare_app))))
 
 -- what the options say
 pub record Said : Type 0 where

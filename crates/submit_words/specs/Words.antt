@@ -203,9 +203,13 @@ invocation_of said command =
     else if said.version then Some version
     else option_map job (job_of said command)
 
+-- the options, and the command behind them
+abbrev pub invocation_with : List (List ℕ) → Option (List (List ℕ)) → Option Invocation
+invocation_with front command = option_and_then (λ said. invocation_of said command) (options_in front)
+
 -- the words behind the program's name
 abbrev pub invocation_in : List (List ℕ) → Option Invocation
-invocation_in words = option_and_then (λ said. invocation_of said (command_of words)) (options_in (front_of words))
+invocation_in words = invocation_with (front_of words) (command_of words)
 
 -- What the words ask for; the first is the program's name.
 abbrev pub asked_by : List (List ℕ) → Option Invocation

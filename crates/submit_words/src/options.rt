@@ -2,7 +2,7 @@
 ghost use Rattle.std.specs.Prelude.{◌≡◌, IfOk, false, map, option_map, string_bytes, unwrap_or, []};
 ghost use Rattle.clap.specs.Words.{app_of, found_of, rule_of, rows_of, first_of, all_of};
 ghost use Rattle.submit_words.specs.Misuse.{Reads};
-ghost use Rattle.submit_words.specs.Options.{option_rule, list_rule, flag_rule, bare_app, with_places};
+ghost use Rattle.submit_words.specs.Options.{option_rule, list_rule, flag_rule, bare_app, with_client, with_archive};
 ghost use Rattle.submit_words.specs.Options.{with_run, with_limits, with_flags, submit_app, said_in, said_of, is_set};
 ghost use Rattle.submit_words.specs.Options as spec;
 
@@ -79,15 +79,23 @@ fn bare_command<'a>(alloc: Global) -> Command<'a>
         .disable_help_flag(true)
 }
 
-// Whom is asked, under which token, with which archive.
-fn with_places<'a>(alloc: Global, command: Command<'a>) -> Result<Command<'a>, AllocError>
-    ensures { IfOk result (λ c. app_of c ≡ with_places (app_of command.entry)) }
+// Whom is asked, under which token.
+fn with_client<'a>(alloc: Global, command: Command<'a>) -> Result<Command<'a>, AllocError>
+    ensures { IfOk result (λ c. app_of c ≡ with_client (app_of command.entry)) }
 {
     command
         .arg(option(alloc, "scheduler"))?
         .arg(option(alloc, "token"))?
-        .arg(option(alloc, "token-file"))?
-        .arg(option(alloc, "archive"))
+        .arg(option(alloc, "token-file"))
+}
+
+// With which archive, and where its id is kept.
+fn with_archive<'a>(alloc: Global, command: Command<'a>) -> Result<Command<'a>, AllocError>
+    ensures { IfOk result (λ c. app_of c ≡ with_archive (app_of command.entry)) }
+{
+    command
+        .arg(option(alloc, "archive"))?
+        .arg(option(alloc, "cache"))
 }
 
 // What is run.
@@ -101,12 +109,11 @@ fn with_run<'a>(alloc: Global, command: Command<'a>) -> Result<Command<'a>, Allo
         .arg(list(alloc, "output"))
 }
 
-// Which ids are kept, how often and how long a job is asked for.
+// How often and how long a job is asked for.
 fn with_limits<'a>(alloc: Global, command: Command<'a>) -> Result<Command<'a>, AllocError>
     ensures { IfOk result (λ c. app_of c ≡ with_limits (app_of command.entry)) }
 {
     command
-        .arg(option(alloc, "cache"))?
         .arg(option(alloc, "tries"))?
         .arg(option(alloc, "max-time"))
 }
@@ -126,7 +133,8 @@ fn with_flags<'a>(alloc: Global, command: Command<'a>) -> Result<Command<'a>, Al
 fn option_command<'a>(alloc: Global) -> Result<Command<'a>, AllocError>
     ensures { IfOk result (λ command. app_of command ≡ submit_app) }
 {
-    let command = with_places(alloc, bare_command(alloc))?;
+    let command = with_client(alloc, bare_command(alloc))?;
+    let command = with_archive(alloc, command)?;
     let command = with_run(alloc, command)?;
     let command = with_limits(alloc, command)?;
     with_flags(alloc, command)

@@ -5,7 +5,7 @@ ghost use Rattle.submit_words.specs.Misuse.{Reads};
 ghost use Rattle.submit_words.specs.Options.{said_of};
 ghost use Rattle.submit_words.specs.Words.{is_dashes, front_of, command_of, tries_in, seconds_in, variable_in};
 ghost use Rattle.submit_words.specs.Words.{output_in, each, token_of, run_of, asked_of, terms_of, job_of};
-ghost use Rattle.submit_words.specs.Words.{invocation_of, invocation_in};
+ghost use Rattle.submit_words.specs.Words.{invocation_of, invocation_with, invocation_in};
 ghost use Rattle.submit_words.specs.Words as spec;
 ghost use Rattle.submit_words.specs.Views.{token_seen, pair_seen, asked_seen, terms_seen, job_seen};
 ghost use Rattle.submit_words.specs.Views.{invocation_seen};
@@ -215,7 +215,10 @@ fn terms_of<'a>(alloc: Global, said: &Options<'a>) -> Result<Terms<'a>, Misuse>
     ensures { Reads terms_seen (terms_of (said_of said.now)) result }
 {
     let variables = variables_in(alloc, &said.env)?;
-    let outputs = outputs_in(alloc, &said.output)?;
+    let outputs = match outputs_in(alloc, &said.output) {
+        Ok(outputs) => outputs,
+        Err(misuse) => return Err(misuse),
+    };
     let tries = tries_in(alloc, said.tries)?;
     let seconds = seconds_in(alloc, said.max_time)?;
     Ok(Terms {
@@ -284,12 +287,23 @@ fn cut(words: &[String]) -> (&[String], Option<&[String]>)
     }
 }
 
+fn invocation_with<'a>(
+    alloc: Global,
+    front: &'a [String],
+    command: Option<&'a [String]>,
+) -> Result<Invocation<'a>, Misuse>
+    ensures { Reads invocation_seen (invocation_with (map string_bytes front.now)
+        (option_map (λ words. map string_bytes words.now) command.entry)) result }
+{
+    let said = options_in(alloc, front)?;
+    invocation_of(alloc, &said, command)
+}
+
 fn invocation_in(alloc: Global, words: &[String]) -> Result<Invocation<'_>, Misuse>
     ensures { Reads invocation_seen (invocation_in (map string_bytes words.now)) result }
 {
     let (front, command) = cut(words);
-    let said = options_in(alloc, front)?;
-    invocation_of(alloc, &said, command)
+    invocation_with(alloc, front, command)
 }
 
 /// What words ask for; the first is the program's name. Usage exactly where they ask for nothing, unless

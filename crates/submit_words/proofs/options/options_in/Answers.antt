@@ -18,8 +18,8 @@ returns-in-Ok c =
     subst (λ a. fault_of a words ≡ []) app (c.in-Ok.ensures.kinds (ap is_simple_and_free app ∙ is_free)) in
     let same : rows_of (found_of c.in-Ok.matches) ≡ matches_of submit_app words =
     (c.in-Ok.ensures.matches (ap is_simple app ∙ simple)).0 ∙ ap (λ a. matches_of a words) app in
-    taken_says words (rows_of (found_of c.in-Ok.matches)) (said_of c.in_ok-said.said) none same
-    c.in_ok-said.ensures
+    taken_says words (rows_of (found_of c.in-Ok.matches)) (said_of c.in_ok-said-in-Ok.said) none same
+    c.in_ok-said-in-Ok.ensures
 
 pub returns : goal.returns
 returns c =
