@@ -149,8 +149,10 @@ impl<R: Files + AllocGlobal + Clock, C: Client + Drop> Try<'_, '_, '_, '_, R, C>
         let answer = self.client.do_run_job(job, command, names, &mut packed);
         self.report.times.run = since(self.rt, begin);
         match answer {
-            Ok((RunJobResult::Complete(complete), _paths)) => Ok(complete),
-            Ok((RunJobResult::JobNotFound, _paths)) => Err(Refusal::JobNotFound),
+            Ok((ran, _paths)) => match ran {
+                RunJobResult::Complete(complete) => Ok(complete),
+                RunJobResult::JobNotFound => Err(Refusal::JobNotFound),
+            },
             Err(refusal) => Err(refused::call(alloc, Step::Run, refusal)),
         }
     }

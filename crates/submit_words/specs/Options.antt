@@ -27,12 +27,12 @@ bare_app = on_top (λ s. record s { no_binary_name = true; disable_help_flag = t
 
 -- whom is asked, under which token
 abbrev pub with_client : App → App
-with_client a = with_rule (with_rule (with_rule a (option_rule (codes "scheduler")))
-    (option_rule (codes "token"))) (option_rule (codes "token-file"))
+with_client a = with_rule (with_rule a (option_rule (codes "scheduler"))) (option_rule (codes "token"))
 
--- with which archive, and where its id is kept
-abbrev pub with_archive : App → App
-with_archive a = with_rule (with_rule a (option_rule (codes "archive"))) (option_rule (codes "cache"))
+-- which files are read and kept
+abbrev pub with_files : App → App
+with_files a = with_rule (with_rule (with_rule a (option_rule (codes "token-file")))
+    (option_rule (codes "archive"))) (option_rule (codes "cache"))
 
 -- what is run
 abbrev pub with_run : App → App
@@ -50,7 +50,7 @@ with_flags a = with_rule (with_rule (with_rule (with_rule a (flag_rule (codes "v
 
 -- the program's options
 abbrev pub submit_app : App
-submit_app = with_flags (with_limits (with_run (with_archive (with_client bare_app))))
+submit_app = with_flags (with_limits (with_run (with_files (with_client bare_app))))
 
 -- what the options say
 pub record Said : Type 0 where

@@ -2,7 +2,7 @@
 ghost use Rattle.std.specs.Prelude.{◌≡◌, IfOk, false, map, option_map, string_bytes, unwrap_or, []};
 ghost use Rattle.clap.specs.Words.{app_of, found_of, rule_of, rows_of, first_of, all_of};
 ghost use Rattle.submit_words.specs.Misuse.{Reads};
-ghost use Rattle.submit_words.specs.Options.{option_rule, list_rule, flag_rule, bare_app, with_client, with_archive};
+ghost use Rattle.submit_words.specs.Options.{option_rule, list_rule, flag_rule, bare_app, with_client, with_files};
 ghost use Rattle.submit_words.specs.Options.{with_run, with_limits, with_flags, submit_app, said_in, said_of, is_set};
 ghost use Rattle.submit_words.specs.Options as spec;
 
@@ -85,15 +85,15 @@ fn with_client<'a>(alloc: Global, command: Command<'a>) -> Result<Command<'a>, A
 {
     command
         .arg(option(alloc, "scheduler"))?
-        .arg(option(alloc, "token"))?
-        .arg(option(alloc, "token-file"))
+        .arg(option(alloc, "token"))
 }
 
-// With which archive, and where its id is kept.
-fn with_archive<'a>(alloc: Global, command: Command<'a>) -> Result<Command<'a>, AllocError>
-    ensures { IfOk result (λ c. app_of c ≡ with_archive (app_of command.entry)) }
+// Which files are read and kept.
+fn with_files<'a>(alloc: Global, command: Command<'a>) -> Result<Command<'a>, AllocError>
+    ensures { IfOk result (λ c. app_of c ≡ with_files (app_of command.entry)) }
 {
     command
+        .arg(option(alloc, "token-file"))?
         .arg(option(alloc, "archive"))?
         .arg(option(alloc, "cache"))
 }
@@ -134,7 +134,7 @@ fn option_command<'a>(alloc: Global) -> Result<Command<'a>, AllocError>
     ensures { IfOk result (λ command. app_of command ≡ submit_app) }
 {
     let command = with_client(alloc, bare_command(alloc))?;
-    let command = with_archive(alloc, command)?;
+    let command = with_files(alloc, command)?;
     let command = with_run(alloc, command)?;
     let command = with_limits(alloc, command)?;
     with_flags(alloc, command)
