@@ -1,10 +1,14 @@
 -- What the matches of clap tell, by its rows.
-use Rattle.std.proofs.Common.{◌≡◌, List, ℕ, [], ◌∷◌, Option, Some, None, true, option_map, refl, sym, ◌∙◌, ap}
+use Rattle.std.proofs.Common.{◌≡◌, List, ℕ, [], ◌∷◌, Option, Some, None, Result, Ok, Err, IfOk, true, false}
+use Rattle.std.proofs.Common.{option_map, refl, sym, ◌∙◌, ap, ap₂}
+use Rattle.clap.specs.Built.{AddsArg}
 use Rattle.clap.specs.Faults.{fault_of, is_simple_and_free}
 use Rattle.clap.specs.Kinds.{IsAmong, Kinds}
 use Rattle.clap.specs.Matches.{first_value, matched_of, raw_values}
-use Rattle.clap.specs.Simple.{is_simple, matches_of}
-use Rattle.clap.specs.Walk.{Row, Text, all_of, first_of, rows_of}
+use Rattle.clap.specs.Simple.{App, app_of, is_simple, matches_of, with_rule}
+use Rattle.clap.specs.Walk.{Row, Rule, Text, all_of, first_of, rows_of, rule_of}
+use Rattle.clap.specs.declared.builder.arg.Arg.{Arg}
+use Rattle.clap.specs.declared.builder.command.Command.{Command}
 use Rattle.clap.specs.declared.error.kind.ErrorKind.{ErrorKind}
 use Rattle.clap.specs.declared.parser.matches.Found.{Found}
 use Rattle.clap.proofs.WalkLemmas.{first_value-rows, raw_values-rows}
@@ -45,3 +49,10 @@ refused_says words k among = by (fault_of submit_app words) refl among
 pub refuses_none : {U : Type 0} (m : Misuse) (meaning : Option U) → meaning ≡ None → Refuses m meaning
 refuses_none (Usage cause) meaning e = e
 refuses_none Memory meaning e = tt
+
+-- what an argument more makes of a command
+pub adds : {E : Type 0} (r : Result Command E) (old : Command) (a : Arg) (base : App) (rule : Rule)
+    → IfOk r (AddsArg old a) → a.global ≡ false → rule_of a ≡ rule → app_of old ≡ base
+    → IfOk r (λ c. app_of c ≡ with_rule base rule)
+adds (Ok c) old a base rule h local is at = h.shape local ∙ ap₂ with_rule at is
+adds (Err e) old a base rule h local is at = tt
