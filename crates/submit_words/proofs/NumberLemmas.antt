@@ -7,7 +7,7 @@ use Rattle.std.specs.Result.{OkIff}
 use Rattle.std.specs.Str.Parse.{digits_value, ParsesUnsigned}
 use Rattle.std.proofs.lemmas.Bool.Decides.{nat_tests}
 use Rattle.std.proofs.lemmas.Str.Parse.{IsNumeralModel, numerals_by_value, parse_digits}
-use Rattle.submit_words.specs.Words.{is_digits, is_plain, plain_in}
+use Rattle.submit_words.specs.Words.{is_plain, plain_in}
 
 -- the texts of digits, as `parse` reads them
 digits : IsNumeralModel (λ ds. list_all is_ascii_digit ds ≡ true) (digits_value 10)

@@ -1,5 +1,5 @@
 -- What the matches of clap tell, by its rows.
-use Rattle.std.proofs.Common.{◌≡◌, List, ℕ, [], ◌∷◌, Option, Some, None, Result, Ok, Err, IfOk, true, false}
+use Rattle.std.proofs.Common.{◌≡◌, List, [], ◌∷◌, Option, Some, None, Result, Ok, Err, IfOk, true, false}
 use Rattle.std.proofs.Common.{option_map, refl, sym, ◌∙◌, ap, ap₂}
 use Rattle.clap.specs.Built.{AddsArg}
 use Rattle.clap.specs.Faults.{fault_of, is_simple_and_free}

@@ -1,4 +1,4 @@
-use Rattle.std.proofs.Common.{◌≡◌, inl, inr, List, [], ℕ, Some, true, false, map, string_bytes, sym, ◌∙◌, ap}
+use Rattle.std.proofs.Common.{◌≡◌, inl, inr, List, [], ℕ, true, false, map, string_bytes, sym, ◌∙◌, ap}
 use Rattle.std.proofs.Common.{subst}
 use Rattle.clap.specs.Faults.{fault_of, is_simple_and_free}
 use Rattle.clap.specs.Kinds.{HasKind}

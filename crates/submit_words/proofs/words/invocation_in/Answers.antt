@@ -1,4 +1,4 @@
-use Rattle.std.proofs.Common.{map, option_map, string_bytes, subst}
+use Rattle.std.proofs.Common.{map, string_bytes, subst}
 use Rattle.submit_words.specs.Misuse.{Reads}
 use Rattle.submit_words.specs.Views.{invocation_seen}
 use Rattle.submit_words.specs.Words.{command_of, invocation_with}
