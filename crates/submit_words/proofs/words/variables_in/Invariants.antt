@@ -1,0 +1,9 @@
+-- what is left, behind those so far, is what all of them say
+use Rattle.std.proofs.Common.{◌≡◌, map, drop}
+use Rattle.submit_words.specs.Views.{pair_seen}
+use Rattle.submit_words.specs.Words.{each, each_from, variable_in}
+use Rattle.submit_words.proofs.words.variables_in.Given as goal
+
+abbrev pub invariant-loop-text : goal.invariant-loop-text
+invariant-loop-text l = each_from variable_in (map pair_seen l.pairs.items) (map (λ t. t.now) (drop l.text-index l.texts))
+    ≡ each variable_in (map (λ t. t.now) l.texts)
