@@ -16,8 +16,9 @@ use dist_types::text::Bytes;
 use dist_wire::heartbeat::HeartbeatServerHttpRequest;
 use folders::folder::Folder;
 use folders::real_folder::RealFolder;
-use http_connections::accepting::{Accepting, Sharing, WORKERS, socket_addr};
+use http_connections::accepting::{Accepting, QUICK_WORKERS, Sharing, WORKERS, socket_addr};
 use http_connections::asking::{LimitedNet, REPORT_LIMITS, SHORT_LIMITS};
+use http_connections::queues::Takes;
 use http_connections::reception::Reception;
 use http_connections::start::{Start, StartFault, has_thread};
 use http_routes::kind::Role;
@@ -133,15 +134,44 @@ fn beat_of(alloc: Global, start: &Start) -> Result<HeartbeatServerHttpRequest, S
 /// What a worker of a build server has for its own.
 type ServerKit<'a, R, B> = BuildKit<Accepting<'a, R>, TcpDialer<LimitedNet<R>>, B>;
 
+/// From which queues the worker of that number takes, from 0, where there are so many: the last two only what waits
+/// for nobody, and the first half of the others also what still comes. Those that take the least stand last, since
+/// workers that cannot be started are run by the caller, the first of them first.
+fn takes_of(number: usize, workers: usize) -> Takes {
+    let build = workers.saturating_sub(QUICK_WORKERS).max(1);
+    if number >= build {
+        Takes::Quick
+    } else if number < build.div_ceil(2) {
+        Takes::All
+    } else {
+        Takes::Whole
+    }
+}
+
+/// The tasks of the worker of that number, from 0, where there are so many.
+fn tasks_of<'a, R: Wait + Clock + Copy>(
+    sharing: &Sharing<'a, R>,
+    number: usize,
+    workers: usize,
+) -> Accepting<'a, R> {
+    Accepting::new(
+        sharing.rt,
+        sharing.reception,
+        takes_of(number, workers),
+        sharing.start.timeout_ms,
+    )
+}
+
 /// What all workers have: one for each builder.
 fn server_kits<'a, R: Net + Clock + Wait + Copy, B: BuilderIncoming + Drop>(
     sharing: &Sharing<'a, R>,
     builders: Vec<B>,
 ) -> Result<Vec<ServerKit<'a, R, B>>, StartFault> {
-    let mut kits = Vec::with_capacity(sharing.alloc, builders.len())?;
+    let workers = builders.len();
+    let mut kits = Vec::with_capacity(sharing.alloc, workers)?;
     for builder in builders {
         kits.push(BuildKit {
-            tasks: sharing.tasks(kits.len()),
+            tasks: tasks_of(sharing, kits.len(), workers),
             dialer: TcpDialer::new(sharing.alloc, sharing.asking(REPORT_LIMITS)),
             builder,
         })?;
@@ -258,7 +288,8 @@ where
     serve_server_with(rt, alloc, config, start, builders)
 }
 
-/// The same by these builders, each of which a worker has for its own.
+/// The same by these builders, each of which a worker has for its own. The last two workers take only requests that
+/// wait for nobody, so two fewer than the builders build at once.
 pub fn serve_server_with<
     R: Threads
         + Wait
