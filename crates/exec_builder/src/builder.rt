@@ -180,7 +180,9 @@ impl<D: Dialer, P: Pause> ExecBuilder<D, P> {
         ensures builds { Builds self.old.executor
             (record { id = toolchain.now; archive = archive.now; run = run.now; inputs = inputs.now })
             result self.old.dialing self.new.dialing }
-        ensures same { self.new ≡ record self.old { dialing = self.new.dialing } }
+        ensures executor { self.new.executor ≡ self.old.executor }
+        ensures paused { self.new.paused ≡ self.old.paused }
+        ensures refusals { self.new.refusals ≡ self.old.refusals }
     {
         let alloc = self.executor.host.alloc();
         match run_question(alloc, &self.executor, toolchain, run, inputs) {
@@ -198,7 +200,10 @@ impl<D: Dialer, P: Pause> ExecBuilder<D, P> {
 
     /// Holds a refusal back where no reply came.
     fn hold(&mut self, said: &Result<Said, Memory>)
-        ensures { self.new ≡ record self.old { paused = paused_with said.now self.old.paused } }
+        ensures paused { self.new.paused ≡ paused_with said.now self.old.paused }
+        ensures executor { self.new.executor ≡ self.old.executor }
+        ensures dialing { self.new.dialing ≡ self.old.dialing }
+        ensures refusals { self.new.refusals ≡ self.old.refusals }
     {
         match said {
             Ok(Said::Gone) => self.pause.pause(HOLD_MS),
@@ -212,7 +217,11 @@ impl<D: Dialer, P: Pause> ExecBuilder<D, P> {
     /// Answers, and counts a refusal.
     fn answer(&mut self, said: Result<Said, Memory>) -> Result<BuildResult, BuildFault>
         ensures gives { result ≡ answer_to said }
-        ensures counts { self.new ≡ record self.old { refusals = refusals_with result self.old.refusals } }
+        ensures refusals { self.new.refusals ≡ refusals_with result self.old.refusals }
+        ensures later { self.old.refusals ≤ self.new.refusals }
+        ensures executor { self.new.executor ≡ self.old.executor }
+        ensures dialing { self.new.dialing ≡ self.old.dialing }
+        ensures paused { self.new.paused ≡ self.old.paused }
     {
         match said {
             Ok(said) => match answer_of(said) {
@@ -225,6 +234,24 @@ impl<D: Dialer, P: Pause> ExecBuilder<D, P> {
             },
             Err(_) => Err(BuildFault::Memory),
         }
+    }
+
+    /// Asks the executor to run a command, holds a refusal back where no reply came, and answers.
+    fn build(
+        &mut self,
+        toolchain: &Toolchain,
+        archive: &[u8],
+        run: &RunJobHttpRequest,
+        inputs: &[u8],
+    ) -> Result<BuildResult, BuildFault>
+        ensures built { IsBuiltBy
+            (record { id = toolchain.now; archive = archive.now; run = run.now; inputs = inputs.now })
+            result self.old self.new }
+        ensures later { self.old.refusals ≤ self.new.refusals }
+    {
+        let said = self.ask(toolchain, archive, run, inputs);
+        self.hold(&said);
+        self.answer(said)
     }
 }
 
@@ -264,11 +291,9 @@ impl<D: Dialer, P: Pause> BuilderIncoming for ExecBuilder<D, P> {
         ensures later { self.old.refusals ≤ self.new.refusals }
         ensures cause { result ≡ Err BuildFault.Refused → Rose self.old.refusals self.new.refusals }
     {
-        let Ok(run) = run_of(self.executor.host.alloc(), command, outputs) else {
-            return Err(BuildFault::Memory);
-        };
-        let said = self.ask(toolchain, archive, &run, inputs);
-        self.hold(&said);
-        self.answer(said)
+        match run_of(self.executor.host.alloc(), command, outputs) {
+            Ok(run) => self.build(toolchain, archive, &run, inputs),
+            Err(_) => Err(BuildFault::Memory),
+        }
     }
 }
