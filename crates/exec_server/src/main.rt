@@ -60,7 +60,7 @@ struct Ready<'a, R: Net + Clock + Copy + Drop> {
 }
 
 /// What the words ask for, made ready.
-fn ready<R: Threads + Files<File = File> + RandomSource + Net + Clock + Copy + Drop>(
+fn prepared<R: Threads + Files<File = File> + RandomSource + Net + Clock + Copy + Drop>(
     rt: &R,
     alloc: Global,
     words: io::Result<env::Args>,
@@ -91,7 +91,7 @@ fn main(rt: HostRuntime) -> ExitCode {
         config,
         start,
         builders,
-    } = match ready(&rt, alloc, env::args(&rt)) {
+    } = match prepared(&rt, alloc, env::args(&rt)) {
         Ok(ready) => ready,
         Err(fault) => {
             let _ = eprintln!(rt; "exec_server: {fault}");
