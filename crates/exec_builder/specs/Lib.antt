@@ -1,0 +1,5 @@
+pub mod Asking
+pub mod Builds
+pub mod Pause
+pub mod Questions
+pub mod Said
