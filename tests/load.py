@@ -43,6 +43,9 @@ Refused = loopback.Refused
 TOKEN = "c1"
 PROCESSORS = 64
 TICK_SECONDS = 0.02
+# A test that a machine fails which stood still for longer tells nothing, and is tried again.
+STOOD_STILL_SECONDS = 0.5
+TRIES = 3
 MIB = 1 << 20
 SERVER_OF_FIXED = 'type = "token"\ntoken = "s1"'
 
