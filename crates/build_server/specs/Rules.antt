@@ -1,7 +1,7 @@
 -- The rules of a build server, over what it keeps.
 use Rattle.std.specs.Prelude.{◌≡◌, ◌≢◌, ◌≤◌, ◌⊎◌, ℕ, Bool, true, false, not, nat_lt, is_some, if◌then◌else◌}
 use Rattle.std.specs.Prelude.{List, [], ◌∷◌, ◌++◌, ◌-◌, length, Option, Some, None, Result, Ok, Err, OnOk}
-use Rattle.std.specs.Prelude.{OnErr}
+use Rattle.std.specs.Prelude.{OnErr, IfErr}
 use Rattle.std.specs.Str.{bytes_eq}
 use Rattle.dist_types.specs.declared.ids.JobId.{JobId}
 use Rattle.dist_types.specs.declared.outgoing.CallFault.{CallFault}
@@ -11,11 +11,14 @@ use Rattle.dist_types.specs.declared.results.JobState.TheVariants.{Pending, Read
 use Rattle.dist_types.specs.declared.results.SubmitToolchainResult.{SubmitToolchainResult}
 use Rattle.dist_types.specs.declared.results.SubmitToolchainResult.TheVariants as answer
 use Rattle.dist_types.specs.declared.results.UpdateJobStateResult.{UpdateJobStateResult}
-use Rattle.toolchain_cache.specs.Archives.{Archives, id_of}
+use Rattle.toolchain_cache.specs.Archives.{Archives, id_of, archive_path, IsInStep}
+use Rattle.toolchain_cache.specs.Archiving.{archive_verdict, with_archive, StoreFails}
 use Rattle.lru_disk_cache.specs.Disk.{dropped}
+use Rattle.lru_disk_cache.specs.Store.{Uncounted}
+use Rattle.lru_disk_cache.specs.declared.error.Error.{Error}
 use Rattle.folders.specs.Changed.{ButUnder}
 use Rattle.lru_disk_cache.specs.Entries.{promoted_key}
-use Rattle.folders.specs.Files.{front}
+use Rattle.folders.specs.Files.{front, file_at}
 use Rattle.folders.specs.Held.{Held, Holds, Became}
 use Rattle.build_server.specs.Books.{Books, held_for, placed, without_job, is_listed, ids, without_ids, Fails}
 use Rattle.build_server.specs.Books.{KeepsStep}
@@ -156,6 +159,22 @@ submit_result (submitted.Stored size dropped) = answer.Success
 submit_result submitted.Digest = answer.CannotCache
 submit_result submitted.Capacity = answer.CannotCache
 submit_result (submitted.Folder dropped) = answer.CannotCache
+
+-- adopting
+
+-- An archive is stored under no job, as a cache of archives stores it: what is held stays. Where it is refused the
+-- refusal is that cache's, and leaves what it leaves there.
+pub record Adopts (tc bytes : List ℕ) (old new : Books) (result : Result (Unit {0}) Error) : Type 0 where
+  pub held : new.held ≡ old.held
+  pub admits : OnOk result (archive_verdict old.capacity tc bytes ≡ Ok (tt {0}))
+  pub archives : OnOk result (new.archives ≡ with_archive old.capacity tc (length bytes) old.archives)
+  pub content : OnOk result (Holds new.folder (λ files. file_at files (archive_path old.path tc) ≡ Some bytes))
+  pub fails : IfErr result
+      (λ e. StoreFails old.capacity tc bytes e old.archives new.archives old.folder new.folder)
+  pub step : IsInStep old.path old.folder old.archives → OnOk result (IsInStep new.path new.folder new.archives)
+  pub steady : OnOk result (new.folder.faults ≡ old.folder.faults)
+  pub uncounted : IfErr result (λ e. Uncounted e old.folder new.folder)
+  pub place : SamePlace old new
 
 -- taking out
 

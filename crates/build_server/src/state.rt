@@ -2,7 +2,7 @@
 ghost use Rattle.std.specs.Prelude.{◌≡◌, []};
 ghost use Rattle.toolchain_cache.specs.Archives.{IsArchiveStore};
 ghost use Rattle.build_server.specs.Books.{AreRising};
-ghost use Rattle.build_server.specs.Rules.{Assigns, Submits, Begins, TakesIn, TakesOut, need_by};
+ghost use Rattle.build_server.specs.Rules.{Assigns, Submits, Begins, TakesIn, TakesOut, Adopts, need_by};
 
 use crate::archive::HashedArchive;
 use crate::fault::{ServerFault, Update, fault_of};
@@ -15,6 +15,7 @@ use dist_types::ids::JobId;
 use dist_types::results::{AssignJobResult, JobState};
 use dist_types::toolchain::Toolchain;
 use folders::folder::Folder;
+use lru_disk_cache::Error;
 use std::alloc::Global;
 use std::marker::Model;
 use toolchain_cache::{Archives, TcCache};
@@ -164,6 +165,16 @@ impl<F: Folder> ServerState<F> {
             return Ok(Submitted::Listed);
         }
         store(self.alloc, &mut self.cache, &tc, archive)
+    }
+
+    /// Stores bytes as the archive of a toolchain, as the most recent, under no job: as
+    /// `TcCache::insert_bytes` does, with its refusals. What is held stays. It hashes the bytes once and copies
+    /// none.
+    pub fn adopt(&mut self, tc: &Toolchain, bytes: &[u8]) -> Result<(), Error>
+        ensures adopts { Adopts tc.now bytes.now self.old self.new result }
+    {
+        let answer = self.cache.insert_bytes(tc, bytes);
+        answer
     }
 
     // Takes a job out and reads its archive, after Started was accepted.

@@ -21,6 +21,8 @@ pub data Invocation : Type 0 where
   server : List ℕ → Invocation
   -- the storm of so many events
   storm : ℕ → Invocation
+  -- the audit of a printed run
+  audit : Invocation
 
 -- a number of bits: an optional plus and at least one digit, a multiple of 8 from 64 to 4096
 abbrev pub is_length : ℕ → Bool
@@ -41,6 +43,10 @@ events_in text = if is_plain text && nat_le (digits_value 10 text) 100000 then S
 abbrev pub farm_row : List (List ℕ) → Option Invocation
 farm_row [] = Some farm
 farm_row (word ∷ words) = None
+
+abbrev pub audit_row : List (List ℕ) → Option Invocation
+audit_row [] = Some audit
+audit_row (word ∷ words) = None
 
 abbrev pub storm_row : List (List ℕ) → Option Invocation
 storm_row [] = None
@@ -103,6 +109,7 @@ command_row (word ∷ words) =
     then option_map scheduler (option_and_then file_of (options_in words))
     else if bytes_eq word (codes "server") then option_map server (option_and_then file_of (options_in words))
     else if bytes_eq word (codes "storm") then storm_row words
+    else if bytes_eq word (codes "audit") then audit_row words
     else None
 
 -- the first word is the program's name

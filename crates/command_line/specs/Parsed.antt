@@ -13,9 +13,10 @@ use Rattle.command_line.specs.Told.{◌>>=◌}
 use Rattle.command_line.specs.Profile.{scheduler_config_in, server_config_in}
 use Rattle.command_line.specs.Reading.{says, IsFileFault}
 use Rattle.command_line.specs.declared.command.Command.{Command}
-use Rattle.command_line.specs.declared.command.Command.TheVariants.{Auth, Scheduler, Server, Farm, Storm}
+use Rattle.command_line.specs.declared.command.Command.TheVariants.{Auth, Scheduler, Server, Farm, Storm, Audit}
 use Rattle.command_line.specs.declared.command.AuthSubcommand.TheVariants.{Base64, JwtHS256ServerToken}
 use Rattle.command_line.specs.Asked.{Invocation, farm, random, token_under, token_of, scheduler, server, storm}
+use Rattle.command_line.specs.Asked.{audit}
 
 -- the token of a server under the signing key of a scheduler, which has one
 abbrev pub signed : Addr → ServerAuth → Result Command ConfigCause
@@ -33,6 +34,7 @@ command_in (token_of address path) files = says scheduler_config_in path files >
 command_in (scheduler path) files = says scheduler_config_in path files >>= (λ config. Ok (Scheduler config))
 command_in (server path) files = says server_config_in path files >>= (λ config. Ok (Server config))
 command_in (storm n) files = Ok (Storm n)
+command_in audit files = Ok Audit
 
 -- what is said over the files that a command reads, where they are told; over none for a command that reads
 -- none
@@ -44,6 +46,7 @@ OverFiles (token_of address path) files says = IfSome files says
 OverFiles (scheduler path) files says = IfSome files says
 OverFiles (server path) files says = IfSome files says
 OverFiles (storm n) files says = says []
+OverFiles audit files says = says []
 
 -- a command that reads a file
 abbrev pub ReadsFile : Invocation → Type 0
@@ -54,6 +57,7 @@ ReadsFile (token_of address path) = Unit {0}
 ReadsFile (scheduler path) = Unit {0}
 ReadsFile (server path) = Unit {0}
 ReadsFile (storm n) = ⊥
+ReadsFile audit = ⊥
 
 -- The answer is the command that is asked for over the files, and reading did not fail; or its file has a
 -- fault, which is told; or memory ran out.

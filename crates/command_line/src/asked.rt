@@ -1,7 +1,7 @@
 //! What words ask for, by the rows of the command line.
 ghost use Rattle.std.specs.Prelude.{◌≡◌, ◌/◌, ◌∷◌, IfOk, map, option_map, option_and_then, string_bytes};
 ghost use Rattle.command_line.specs.Options.{said_of, options_in};
-ghost use Rattle.command_line.specs.Asked.{farm_row, storm_row, key_row, shared_length, shared_by, keyed};
+ghost use Rattle.command_line.specs.Asked.{farm_row, audit_row, storm_row, key_row, shared_length, shared_by, keyed};
 ghost use Rattle.command_line.specs.Asked.{token_by, file_of, auth_row, command_row, asked_by};
 ghost use Rattle.command_line.specs.Asked as spec;
 ghost use Rattle.command_line.specs.Views.{asked_of};
@@ -36,6 +36,8 @@ pub enum Asked<'a> {
     Server(&'a str),
     /// The storm of so many events.
     Storm(u64),
+    /// The audit of a printed run.
+    Audit,
 }
 
 fn farm_row(words: &[String]) -> Option<Asked<'_>>
@@ -43,6 +45,15 @@ fn farm_row(words: &[String]) -> Option<Asked<'_>>
 {
     match words.split_first() {
         None => Some(Asked::Farm),
+        Some(_) => None,
+    }
+}
+
+fn audit_row(words: &[String]) -> Option<Asked<'_>>
+    ensures { option_map asked_of result ≡ audit_row (map string_bytes words.now) }
+{
+    match words.split_first() {
+        None => Some(Asked::Audit),
         Some(_) => None,
     }
 }
@@ -244,6 +255,9 @@ fn command_row<'a>(alloc: Global, words: &'a [String]) -> Result<Option<Asked<'a
     }
     if word == "storm" {
         return Ok(storm_row(rest));
+    }
+    if word == "audit" {
+        return Ok(audit_row(rest));
     }
     Ok(None)
 }

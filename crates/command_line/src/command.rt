@@ -34,4 +34,6 @@ pub enum Command {
     Farm,
     /// The storm of so many events.
     Storm(u64),
+    /// The audit of a printed run.
+    Audit,
 }

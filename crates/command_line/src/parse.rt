@@ -129,6 +129,7 @@ fn command_of<D: Files>(
         Asked::Scheduler(path) => scheduler_of(alloc, files, path),
         Asked::Server(path) => server_of(alloc, files, path),
         Asked::Storm(count) => Ok(Command::Storm(count)),
+        Asked::Audit => Ok(Command::Audit),
     }
 }
 

@@ -13,14 +13,14 @@ use Rattle.line_program.specs.declared.fault.ConfigCause.TheVariants.{Missing, U
 use Rattle.line_program.specs.declared.fault.FarmFault.{FarmFault}
 use Rattle.line_program.specs.declared.fault.FarmFault.TheVariants.{Usage, BadLine, DuplicateAddress}
 use Rattle.line_program.specs.declared.fault.FarmFault.TheVariants.{ScopedAddress, ReadFault, WriteFault}
-use Rattle.line_program.specs.declared.fault.FarmFault.TheVariants.{BadConfig, ServeFault, Memory}
+use Rattle.line_program.specs.declared.fault.FarmFault.TheVariants.{BadConfig, ServeFault, Memory, AuditRefused}
 use Rattle.farm_script.specs.FirstFaulty.{IsFirstFaulty, IsFaultless}
 use Rattle.command_line.specs.declared.files.NamedFile.{NamedFile}
 use Rattle.command_line.specs.declared.command.AuthSubcommand.{AuthSubcommand}
 use Rattle.command_line.specs.declared.command.Command.{Command}
-use Rattle.command_line.specs.declared.command.Command.TheVariants.{Farm, Storm, Auth, Scheduler, Server}
+use Rattle.command_line.specs.declared.command.Command.TheVariants.{Farm, Storm, Auth, Scheduler, Server, Audit}
 use Rattle.command_line.specs.Asked.{Invocation, farm, random, token_under, token_of, scheduler, server, storm}
-use Rattle.command_line.specs.Asked.{asked_by}
+use Rattle.command_line.specs.Asked.{asked_by, audit}
 use Rattle.command_line.specs.Parsed.{OverFiles, command_in}
 use Rattle.line_program.specs.Report.{fault_status, IsTold, IsLong, StandsFor, IsReported}
 use Rattle.line_program.specs.Side.{Side}
@@ -29,6 +29,7 @@ use Rattle.farm.specs.Command.{IsStormRun, IsAuthRun, IsStarted, IsCarriedOut, I
 use Rattle.farm.specs.Command.{IsWorked, IsDoneBy, IsDone}
 use Rattle.farm.specs.Command.{IsAnswered}
 use Rattle.farm.proofs.ScriptRunLemmas.{whole_in_part}
+use Rattle.farm.proofs.AuditLemmas.{memory_audit, input_audit, out_audit}
 
 status_some : (f : FarmFault) → 0 < fault_status f
 status_some Usage = omega arith
@@ -39,9 +40,10 @@ status_some ReadFault = omega arith
 status_some WriteFault = omega arith
 status_some (BadConfig c) = omega arith
 status_some ServeFault = omega arith
+status_some (AuditRefused n why) = omega arith
 status_some Memory = omega arith
 
-status_most : (f : FarmFault) → fault_status f ≤ 7
+status_most : (f : FarmFault) → fault_status f ≤ 8
 status_most Usage = omega arith
 status_most (BadLine n) = omega arith
 status_most (DuplicateAddress n) = omega arith
@@ -50,6 +52,7 @@ status_most ReadFault = omega arith
 status_most WriteFault = omega arith
 status_most (BadConfig c) = omega arith
 status_most ServeFault = omega arith
+status_most (AuditRefused n why) = omega arith
 status_most Memory = omega arith
 
 told_some : (f : FarmFault) (answer : ℕ) (e x : Side) → IsTold program_name f answer e x → 0 < answer
@@ -57,7 +60,7 @@ told_some f answer e x (inl p) = omega (arith, p.0, status_some f)
 told_some f answer e x (inr p) = omega (arith, p.0)
 
 -- a status that is not 5 is the fault's own, and errs did not fail
-own : (f : FarmFault) (answer : ℕ) (e x : Side) → IsTold program_name f answer e x → answer ≢ 5 → (answer ≡ fault_status f)
+pub own : (f : FarmFault) (answer : ℕ) (e x : Side) → IsTold program_name f answer e x → answer ≢ 5 → (answer ≡ fault_status f)
     × (x.faults ≡ e.faults)
 own f answer e x (inl p) h = (p.0, p.2)
 own f answer e x (inr p) h = absurd (h p.0)
@@ -70,6 +73,7 @@ memory_run (BadLine n) i j o p long h = (h.0.1, h.1, whole_in_part i j h.0)
 memory_run (DuplicateAddress n) i j o p long h = (h.0.1, h.1, whole_in_part i j h.0)
 memory_run (ScopedAddress n) i j o p long h = (h.0.1, h.1, whole_in_part i j h.0)
 memory_run (BadConfig c) i j o p long h = absurd h
+memory_run (AuditRefused n why) i j o p long h = absurd h
 memory_run Usage i j o p long h = absurd long
 memory_run ReadFault i j o p long h = absurd long
 memory_run WriteFault i j o p long h = absurd long
@@ -78,6 +82,7 @@ memory_run Memory i j o p long h = absurd long
 
 memory_storm : (n : ℕ) (met : FarmFault) (o p : Side) → IsLong met → IsStormRun n (Err met) o p → ⊥
 memory_storm n (BadConfig c) o p long h = h
+memory_storm n (AuditRefused k why) o p long h = h
 memory_storm n (BadLine k) o p long h = h
 memory_storm n (DuplicateAddress k) o p long h = h
 memory_storm n (ScopedAddress k) o p long h = h
@@ -94,6 +99,7 @@ memory_auth auth (BadConfig Missing) s t o p long h = absurd h
 memory_auth auth (BadConfig Unreadable) s t o p long h = absurd h
 memory_auth auth (BadConfig NotToml) s t o p long h = absurd h
 memory_auth auth (BadLine n) s t o p long h = absurd h
+memory_auth auth (AuditRefused n why) s t o p long h = absurd h
 memory_auth auth (DuplicateAddress n) s t o p long h = absurd h
 memory_auth auth (ScopedAddress n) s t o p long h = absurd h
 memory_auth auth Usage s t o p long h = absurd long
@@ -106,6 +112,7 @@ no_start : (row : Result (Unit {0}) Failed → ServeCall) (met : FarmFault) (s t
     → IsStarted row (Err met) s t → ⊥
 no_start row (BadConfig c) s t long h = h
 no_start row (BadLine n) s t long h = h
+no_start row (AuditRefused n why) s t long h = h
 no_start row (DuplicateAddress n) s t long h = h
 no_start row (ScopedAddress n) s t long h = h
 no_start row Usage s t long h = long
@@ -121,6 +128,8 @@ memory_out Farm met before after long h =
 memory_out (Storm n) met before after long h = absurd (memory_storm n met before.out after.out long h.0)
 memory_out (Auth auth) met before after long h =
     (memory_auth auth met before.random after.random before.out after.out long h.0, h.1, h.2)
+memory_out Audit met before after long h =
+    (memory_audit met before.input after.input before.out after.out long h.0, h.1, h.2)
 memory_out (Scheduler config) met before after long h =
     absurd (no_start (scheduler_call config) met before.serve after.serve long h.0)
 memory_out (Server config) met before after long h =
@@ -133,6 +142,7 @@ memory_unparsed what (BadConfig Missing) before after long h = absurd long
 memory_unparsed what (BadConfig Unreadable) before after long h = absurd long
 memory_unparsed what (BadConfig NotToml) before after long h = absurd long
 memory_unparsed what (BadLine n) before after long h = absurd h.0
+memory_unparsed what (AuditRefused n why) before after long h = absurd h.0
 memory_unparsed what (DuplicateAddress n) before after long h = absurd h.0
 memory_unparsed what (ScopedAddress n) before after long h = absurd h.0
 memory_unparsed what Usage before after long h = absurd long
@@ -176,11 +186,11 @@ answered (Err met) answer c e x done told = record {
 
 -- ---- clauses that follow of the answer
 
-told_most : (f : FarmFault) (answer : ℕ) (e x : Side) → IsTold program_name f answer e x → answer ≤ 7
+told_most : (f : FarmFault) (answer : ℕ) (e x : Side) → IsTold program_name f answer e x → answer ≤ 8
 told_most f answer e x (inl p) = omega (arith, p.0, status_most f)
 told_most f answer e x (inr p) = omega (arith, p.0)
 
-pub statuses_of : (answer : ℕ) (c : Called) (e x : Side) → IsAnswered answer c e x → answer ≤ 7
+pub statuses_of : (answer : ℕ) (c : Called) (e x : Side) → IsAnswered answer c e x → answer ≤ 8
 statuses_of zero c e x a = omega arith
 statuses_of (suc n) c e x a = let t = a.told (omega arith) in told_most t.0 (suc n) e x t.2
 
@@ -198,6 +208,7 @@ farm_unparsed : (f : FarmFault) (before after : Moment) → IsUnparsed farm (Err
 farm_unparsed Memory before after h = refl
 farm_unparsed (BadConfig c) before after h = absurd h.0.0
 farm_unparsed (BadLine n) before after h = absurd h.0
+farm_unparsed (AuditRefused n why) before after h = absurd h.0
 farm_unparsed (DuplicateAddress n) before after h = absurd h.0
 farm_unparsed (ScopedAddress n) before after h = absurd h.0
 farm_unparsed Usage before after h = absurd h.0
@@ -240,10 +251,11 @@ run_status Memory answer i j o p e x h (inl t) = inr (inl t.0)
 run_status ReadFault answer i j o p e x h (inl t) = inr (inr (inl t.0))
 run_status WriteFault answer i j o p e x h (inl t) = inr (inr (inr t.0))
 run_status (BadConfig c) answer i j o p e x h (inl t) = absurd h
+run_status (AuditRefused n why) answer i j o p e x h (inl t) = absurd h
 run_status ServeFault answer i j o p e x h (inl t) = absurd h
 run_status Usage answer i j o p e x h (inl t) = absurd h
 
-memory_status : (f : FarmFault) (answer : ℕ) (e x : Side) → f ≡ Memory → IsTold program_name f answer e x → (answer ≡ 3)
+pub memory_status : (f : FarmFault) (answer : ℕ) (e x : Side) → f ≡ Memory → IsTold program_name f answer e x → (answer ≡ 3)
     ⊎ (answer ≡ 5)
 memory_status f answer e x is told = by_told (subst (λ (g : FarmFault). IsTold program_name g answer e x) is told)
   where
@@ -251,11 +263,11 @@ memory_status f answer e x is told = by_told (subst (λ (g : FarmFault). IsTold 
     by_told (inl t) = inl t.0
     by_told (inr t) = inr t.0
 
-three_of : (P Q : Type 0) (answer : ℕ) → (answer ≡ 3) ⊎ (answer ≡ 5) → P ⊎ ((answer ≡ 3) ⊎ (Q ⊎ (answer ≡ 5)))
+pub three_of : (P Q : Type 0) (answer : ℕ) → (answer ≡ 3) ⊎ (answer ≡ 5) → P ⊎ ((answer ≡ 3) ⊎ (Q ⊎ (answer ≡ 5)))
 three_of P Q answer (inl e) = inr (inl e)
 three_of P Q answer (inr e) = inr (inr (inr e))
 
-always : {A : Type 0} {P : A → Type 0} (o : Option A) → ((x : A) → P x) → IfSome o P
+pub always : {A : Type 0} {P : A → Type 0} (o : Option A) → ((x : A) → P x) → IfSome o P
 always (Some x) h = h x
 always None h = tt
 
@@ -296,6 +308,7 @@ fine_status Memory answer i j o p e x h (inl t) = always i.content (λ bytes fin
 fine_status ReadFault answer i j o p e x h (inl t) = always i.content (λ bytes fine. inr (inr (inl t.0)))
 fine_status WriteFault answer i j o p e x h (inl t) = always i.content (λ bytes fine. inr (inr (inr t.0)))
 fine_status (BadConfig c) answer i j o p e x h (inl t) = absurd h
+fine_status (AuditRefused n why) answer i j o p e x h (inl t) = absurd h
 fine_status ServeFault answer i j o p e x h (inl t) = absurd h
 fine_status Usage answer i j o p e x h (inl t) = absurd h
 
@@ -328,6 +341,7 @@ left_run Memory answer i j o p h is few = absurd (omega (arith, is, few))
 left_run ReadFault answer i j o p h is few = absurd (omega (arith, is, few))
 left_run WriteFault answer i j o p h is few = absurd (omega (arith, is, few))
 left_run (BadConfig c) answer i j o p h is few = absurd h
+left_run (AuditRefused n why) answer i j o p h is few = absurd h
 left_run ServeFault answer i j o p h is few = absurd h
 left_run Usage answer i j o p h is few = absurd h
 
@@ -362,6 +376,7 @@ input_run Memory answer i j o p h is four five = h.0
 input_run ReadFault answer i j o p h is four five = absurd (four is)
 input_run WriteFault answer i j o p h is four five = absurd (five is)
 input_run (BadConfig c) answer i j o p h is four five = absurd h
+input_run (AuditRefused n why) answer i j o p h is four five = absurd h
 input_run ServeFault answer i j o p h is four five = absurd h
 input_run Usage answer i j o p h is four five = absurd h
 
@@ -370,6 +385,8 @@ input_out : (command : Command) (f : FarmFault) (answer : ℕ) (before after : M
     → answer ≢ 4 → answer ≢ 5 → after.input.faults ≡ before.input.faults
 input_out Farm f answer before after h is four five =
     input_run f answer before.input after.input before.out after.out h.0 is four five
+input_out Audit f answer before after h is four five =
+    input_audit f answer before.input after.input before.out after.out h.0 is four five
 input_out (Storm n) f answer before after h is four five = ap (λ (s : Side). s.faults) h.1
 input_out (Auth auth) f answer before after h is four five = ap (λ (s : Side). s.faults) h.1
 input_out (Scheduler config) f answer before after h is four five = ap (λ (s : Side). s.faults) h.1
@@ -392,6 +409,7 @@ input_done (Some what) before after (inr h) = by_command h.command h.carried_out
     by_command : (command : Command) → IsCarriedOut command (Ok tt) before after
         → after.input.faults ≡ before.input.faults
     by_command Farm out = out.0.0.1
+    by_command Audit out = out.0.0.1
     by_command (Storm n) out = ap (λ (s : Side). s.faults) out.1
     by_command (Auth auth) out = ap (λ (s : Side). s.faults) out.1
     by_command (Scheduler config) out = ap (λ (s : Side). s.faults) out.1
@@ -413,6 +431,7 @@ out_run Memory answer i j o p h is five = ap (λ (s : Side). s.faults) h.1
 out_run ReadFault answer i j o p h is five = ap (λ (s : Side). s.faults) h.1
 out_run WriteFault answer i j o p h is five = absurd (five is)
 out_run (BadConfig c) answer i j o p h is five = absurd h
+out_run (AuditRefused n why) answer i j o p h is five = absurd h
 out_run ServeFault answer i j o p h is five = absurd h
 out_run Usage answer i j o p h is five = absurd h
 
@@ -425,6 +444,7 @@ out_storm n (DuplicateAddress k) answer o p h is five = absurd h
 out_storm n (ScopedAddress k) answer o p h is five = absurd h
 out_storm n ReadFault answer o p h is five = absurd h
 out_storm n (BadConfig c) answer o p h is five = absurd h
+out_storm n (AuditRefused k why) answer o p h is five = absurd h
 out_storm n ServeFault answer o p h is five = absurd h
 out_storm n Usage answer o p h is five = absurd h
 
@@ -438,6 +458,7 @@ out_auth auth (BadConfig NotToml) answer s t o p h is five = absurd h
 out_auth auth Memory answer s t o p h is five = ap (λ (s : Side). s.faults) h
 out_auth auth WriteFault answer s t o p h is five = absurd (five is)
 out_auth auth (BadLine n) answer s t o p h is five = absurd h
+out_auth auth (AuditRefused n why) answer s t o p h is five = absurd h
 out_auth auth (DuplicateAddress n) answer s t o p h is five = absurd h
 out_auth auth (ScopedAddress n) answer s t o p h is five = absurd h
 out_auth auth ReadFault answer s t o p h is five = absurd h
@@ -449,6 +470,8 @@ out_out : (command : Command) (f : FarmFault) (answer : ℕ) (before after : Mom
     → answer ≢ 5 → after.out.faults ≡ before.out.faults
 out_out Farm f answer before after h is five = out_run f answer before.input after.input before.out after.out
     h.0 is five
+out_out Audit f answer before after h is five =
+    out_audit f answer before.input after.input before.out after.out h.0 is five
 out_out (Storm n) f answer before after h is five = out_storm n f answer before.out after.out h.0 is five
 out_out (Auth auth) f answer before after h is five =
     out_auth auth f answer before.random after.random before.out after.out h.0 is five
@@ -472,6 +495,7 @@ out_done (Some what) before after (inr h) = by_command h.command h.carried_out
     by_command : (command : Command) → IsCarriedOut command (Ok tt) before after
         → after.out.faults ≡ before.out.faults
     by_command Farm out = out.0.1
+    by_command Audit out = out.0.1
     by_command (Storm n) out = out.0.3
     by_command (Auth auth) out = out.0.4
     by_command (Scheduler config) out = ap (λ (s : Side). s.faults) out.2
@@ -496,6 +520,7 @@ serve_started row Memory answer s t h is seven = absurd h
 serve_started row WriteFault answer s t h is seven = absurd h
 serve_started row ReadFault answer s t h is seven = absurd h
 serve_started row (BadConfig c) answer s t h is seven = absurd h
+serve_started row (AuditRefused n why) answer s t h is seven = absurd h
 serve_started row (BadLine n) answer s t h is seven = absurd h
 serve_started row (DuplicateAddress n) answer s t h is seven = absurd h
 serve_started row (ScopedAddress n) answer s t h is seven = absurd h
@@ -505,6 +530,7 @@ serve_out : (command : Command) (f : FarmFault) (answer : ℕ) (before after : M
     → IsCarriedOut command (Err f) before after → answer ≡ fault_status f
     → answer ≢ 7 → after.serve.faults ≡ before.serve.faults
 serve_out Farm f answer before after h is seven = ap (λ (s : Serving). s.faults) h.2
+serve_out Audit f answer before after h is seven = ap (λ (s : Serving). s.faults) h.2
 serve_out (Storm n) f answer before after h is seven = ap (λ (s : Serving). s.faults) h.3
 serve_out (Auth auth) f answer before after h is seven = ap (λ (s : Serving). s.faults) h.2
 serve_out (Scheduler config) f answer before after h is seven =
@@ -529,6 +555,7 @@ serve_done (Some what) before after (inr h) = by_command h.command h.carried_out
     by_command : (command : Command) → IsCarriedOut command (Ok tt) before after
         → after.serve.faults ≡ before.serve.faults
     by_command Farm out = ap (λ (s : Serving). s.faults) out.2
+    by_command Audit out = ap (λ (s : Serving). s.faults) out.2
     by_command (Storm n) out = ap (λ (s : Serving). s.faults) out.3
     by_command (Auth auth) out = ap (λ (s : Serving). s.faults) out.2
     by_command (Scheduler config) out = out.0.1
@@ -556,6 +583,7 @@ storm_status n (DuplicateAddress k) answer o p e x h (inl t) = absurd h
 storm_status n (ScopedAddress k) answer o p e x h (inl t) = absurd h
 storm_status n ReadFault answer o p e x h (inl t) = absurd h
 storm_status n (BadConfig c) answer o p e x h (inl t) = absurd h
+storm_status n (AuditRefused k why) answer o p e x h (inl t) = absurd h
 storm_status n ServeFault answer o p e x h (inl t) = absurd h
 storm_status n Usage answer o p e x h (inl t) = absurd h
 
@@ -564,6 +592,7 @@ storm_unparsed : (n : ℕ) (f : FarmFault) (before after : Moment) → IsUnparse
 storm_unparsed n Memory before after h = refl
 storm_unparsed n (BadConfig c) before after h = absurd h.0.0
 storm_unparsed n (BadLine k) before after h = absurd h.0
+storm_unparsed n (AuditRefused k why) before after h = absurd h.0
 storm_unparsed n (DuplicateAddress k) before after h = absurd h.0
 storm_unparsed n (ScopedAddress k) before after h = absurd h.0
 storm_unparsed n Usage before after h = absurd h.0
@@ -624,11 +653,13 @@ two_is (ScopedAddress n) e = absurd (omega (arith, e))
 two_is ReadFault e = absurd (omega (arith, e))
 two_is WriteFault e = absurd (omega (arith, e))
 two_is (BadConfig c) e = absurd (omega (arith, e))
+two_is (AuditRefused n why) e = absurd (omega (arith, e))
 two_is ServeFault e = absurd (omega (arith, e))
 two_is Memory e = absurd (omega (arith, e))
 
 no_usage_out : (command : Command) (before after : Moment) → IsCarriedOut command (Err Usage) before after → ⊥
 no_usage_out Farm before after h = h.0
+no_usage_out Audit before after h = h.0
 no_usage_out (Storm n) before after h = h.0
 no_usage_out (Auth auth) before after h = h.0
 no_usage_out (Scheduler config) before after h = h.0
@@ -673,6 +704,7 @@ clash (server path) told files command cause there bad good =
     good in
     let e = sym bad ∙ here in absurd cc
 clash (storm n) told files command cause there bad good = let e = bad in absurd cc
+clash audit told files command cause there bad good = let e = bad in absurd cc
 
 bad_status : (what : Invocation) (f : FarmFault) (answer : ℕ) (before after : Moment) (e x : Side)
     → IsUnparsed what (Err f) before after → IsTold program_name f answer e x
@@ -681,6 +713,7 @@ bad_status what f answer before after e x h (inr t) = inr (inr t.0)
 bad_status what (BadConfig c) answer before after e x h (inl t) = inl t.0
 bad_status what Memory answer before after e x h (inl t) = inr (inl t.0)
 bad_status what (BadLine n) answer before after e x h (inl t) = absurd h.0
+bad_status what (AuditRefused n why) answer before after e x h (inl t) = absurd h.0
 bad_status what (DuplicateAddress n) answer before after e x h (inl t) = absurd h.0
 bad_status what (ScopedAddress n) answer before after e x h (inl t) = absurd h.0
 bad_status what Usage answer before after e x h (inl t) = absurd h.0

@@ -4,7 +4,7 @@ use Rattle.std.specs.Prelude.{IfSome, ⊤}
 use Rattle.line_program.specs.declared.fault.FarmFault.{FarmFault}
 use Rattle.line_program.specs.declared.fault.FarmFault.TheVariants.{Usage, Memory}
 use Rattle.command_line.specs.declared.command.Command.{Command}
-use Rattle.command_line.specs.declared.command.Command.TheVariants.{Farm, Storm, Auth, Scheduler, Server}
+use Rattle.command_line.specs.declared.command.Command.TheVariants.{Farm, Storm, Auth, Scheduler, Server, Audit}
 use Rattle.command_line.specs.Asked.{Invocation}
 use Rattle.command_line.specs.Parsed.{IsParsed}
 use Rattle.farm.specs.Command.{Moment, fileless, IsCarriedOut, IsDoneBy}
@@ -16,6 +16,7 @@ pub carried_out_at : (command : Command) (result : Result ⊤ FarmFault) (before
     → IsCarriedOut command result before after
 carried_out_at Farm result before after h = h
 carried_out_at (Storm n) result before after h = h
+carried_out_at Audit result before after h = h
 carried_out_at (Auth auth) result before after h = h
 carried_out_at (Scheduler config) result before after h = h
 carried_out_at (Server config) result before after h = h

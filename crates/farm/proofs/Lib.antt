@@ -1,3 +1,5 @@
 pub mod ScriptRunLemmas
 pub mod DoneLemmas
+pub mod AuditLemmas
 pub mod AnswerLemmas
+pub mod AuditAnswerLemmas

@@ -8,7 +8,7 @@ use Rattle.dist_types.specs.Content.{Added, Began, TookAtMost, left_behind}
 use Rattle.line_program.specs.declared.fault.FarmFault.{FarmFault}
 use Rattle.line_program.specs.declared.fault.FarmFault.TheVariants.{Usage, BadLine, DuplicateAddress}
 use Rattle.line_program.specs.declared.fault.FarmFault.TheVariants.{ScopedAddress, ReadFault, WriteFault}
-use Rattle.line_program.specs.declared.fault.FarmFault.TheVariants.{BadConfig, ServeFault, Memory}
+use Rattle.line_program.specs.declared.fault.FarmFault.TheVariants.{BadConfig, ServeFault, Memory, AuditRefused}
 use Rattle.farm_script.specs.Script.{script}
 use Rattle.line_program.specs.Pieces.{pieces}
 use Rattle.farm_script.specs.declared.lines.Line.{Line}
@@ -35,6 +35,7 @@ faulty_names done said p ReadFault h = absurd h
 faulty_names done said p WriteFault h = absurd h
 faulty_names done said p (BadConfig c) h = absurd h
 faulty_names done said p ServeFault h = absurd h
+faulty_names done said p (AuditRefused n why) h = absurd h
 faulty_names done said p Memory h = absurd h
 
 first_names : (done : List (List ℕ)) (said : List Line) (ps : List (List ℕ)) (f : FarmFault)
@@ -86,7 +87,7 @@ moved : (v : List ℕ) (f : FarmFault) (o : Option (List ℕ)) → IfSome o (λ 
 moved v f o same first =
     IfSome_then o same (λ bytes e. (first_faulty bytes f).0 (sym e ∙ (first_faulty v f).1 first))
 
-took_limit : (limit : ℕ) (old : Option (List ℕ)) → TookAtMost limit old (left_behind limit old)
+pub took_limit : (limit : ℕ) (old : Option (List ℕ)) → TookAtMost limit old (left_behind limit old)
 took_limit limit None = ([], omega arith, refl)
 took_limit limit (Some bytes) = (
   take limit bytes,
@@ -123,3 +124,5 @@ no_run (BadConfig c) v input input_after out read same (inl e) = absurd cc
 no_run (BadConfig c) v input input_after out read same (inr h) = absurd h.0
 no_run ServeFault v input input_after out read same (inl e) = absurd cc
 no_run ServeFault v input input_after out read same (inr h) = absurd h.0
+no_run (AuditRefused n why) v input input_after out read same (inl e) = absurd cc
+no_run (AuditRefused n why) v input input_after out read same (inr h) = absurd h.0

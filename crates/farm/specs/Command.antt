@@ -25,6 +25,7 @@ use Rattle.command_line.specs.Parsed.{IsParsed}
 use Rattle.command_line.specs.Line.{auth_line, stream_left}
 use Rattle.farm_entries.specs.RunText.{IsRunText}
 use Rattle.farm_storm.specs.Summary.{IsStormText}
+use Rattle.farm.specs.Audited.{IsAuditRun}
 
 -- what stands in front of each fault
 abbrev pub program_name : List ℕ
@@ -145,6 +146,9 @@ IsStarted row (Err other) serve serve_after = ⊥
 abbrev pub IsCarriedOut : Command → Result ⊤ FarmFault → Moment → Moment → Type 0
 IsCarriedOut command.Farm result before after =
     IsFarmRun result before.input after.input before.out after.out × (after.random ≡ before.random)
+    × (after.serve ≡ before.serve)
+IsCarriedOut command.Audit result before after =
+    IsAuditRun result before.input after.input before.out after.out × (after.random ≡ before.random)
     × (after.serve ≡ before.serve)
 IsCarriedOut (command.Storm n) result before after =
     IsStormRun n result before.out after.out × (after.input ≡ before.input) × (after.random ≡ before.random)

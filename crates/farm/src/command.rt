@@ -11,15 +11,20 @@ ghost use Rattle.farm_script.specs.FirstFaulty.{IsFirstFaulty, IsFaultless};
 ghost use Rattle.line_program.specs.declared.fault.FarmFault.{FarmFault as Fault};
 ghost use Rattle.line_program.specs.declared.fault.FarmFault.TheVariants as fault;
 ghost use Rattle.line_program.specs.declared.fault.ConfigCause.{ConfigCause as Cause};
-ghost use Rattle.command_line.specs.Asked.{Invocation, asked_by, farm, storm};
+ghost use Rattle.command_line.specs.Asked.{Invocation, asked_by, audit, farm, storm};
 ghost use Rattle.command_line.specs.Parsed.{command_in};
 ghost use Rattle.line_program.specs.Report.{IsTold};
 ghost use Rattle.line_program.specs.Side.{side};
+ghost use Rattle.line_program.specs.declared.why.Why.{Why};
+ghost use Rattle.audit.specs.Held.{IsHeld};
+ghost use Rattle.farm.specs.Audited.{IsRefusedFor};
 ghost use Rattle.farm.specs.Command.{IsFarmRun, IsAuthRun, IsStarted, IsCarriedOut, IsDone};
 ghost use Rattle.farm.specs.Command.{IsAnswered, fileless, moment, program_name, serving};
 
+use crate::audit_run::run_audit;
 use crate::script_run::run_of;
 use crate::storm_run::run_storm;
+use audit::laws::{refusals_are_first_faults, what_holds_is_held};
 use command_line::command::{AuthSubcommand, Command};
 use command_line::files::Files;
 use command_line::line::auth_line;
@@ -119,6 +124,7 @@ fn carry_out<S: Source, K: Sink, R: Rng, N: Serve>(
 {
     match command {
         Command::Farm => run_farm(alloc, input, out),
+        Command::Audit => run_audit(alloc, input, out),
         Command::Storm(count) => run_storm(alloc, count, out),
         Command::Auth(auth) => run_auth(alloc, &auth, random, out),
         Command::Scheduler(config) => start_scheduler(config, serve),
@@ -155,7 +161,7 @@ fn run_words<S: Source, K: Sink, D: Files, R: Rng, N: Serve>(
 /// program's name. The words are judged first; then the configuration that they name is read, and the
 /// command is carried out. `farm` reads a script from input, to its end or to one byte past the limit of
 /// scripts, before any line is judged, and writes its printed run to out; nothing is written before every
-/// line was judged.
+/// line was judged. `audit` reads a printed run so, to its own limit, and writes that it holds, where it does.
 pub fn dist_main<S: Source, K: Sink, E: Sink, D: Files, R: Rng, N: Serve>(
     alloc: Global,
     words: &[String],
@@ -168,8 +174,9 @@ pub fn dist_main<S: Source, K: Sink, E: Sink, D: Files, R: Rng, N: Serve>(
 ) -> u8
     // 0: what the words ask for was done, and no fault is told. 1: the first faulty line is named. 2: the
     // words name no command. 3: memory ran out. 4: input failed. 5: out failed. 6: the configuration has a
-    // fault. 7: what serves failed. Each from 1 to 7 has its cause in this call, and errs has its text; or
-    // it is 5, errs failed and has a front of that text.
+    // fault. 7: what serves failed. 8: the printed run does not hold, and its first fault is named. Each from
+    // 1 to 8 has its cause in this call, and errs has its text; or it is 5, errs failed and has a front of
+    // that text.
     ensures answered { IsAnswered result (record {
       words = map string_bytes words.now;
       before = moment (side S.left S.faults input.old) (side K.held K.faults out.old) (D.files files.old)
@@ -178,7 +185,7 @@ pub fn dist_main<S: Source, K: Sink, E: Sink, D: Files, R: Rng, N: Serve>(
           (D.faults files.new) (R.stream random.new) (serving N.calls N.faults serve.new);
     }) (side E.held E.faults errs.old) (side E.held E.faults errs.new) }
     // There is no other status.
-    ensures statuses { result ≤ 7 }
+    ensures statuses { result ≤ 8 }
     // No file changes.
     ensures kept { D.files files.new ≡ D.files files.old }
     // Where a line is faulty it is 1, and where none is it is 0, without want of memory and faults.
@@ -190,6 +197,15 @@ pub fn dist_main<S: Source, K: Sink, E: Sink, D: Files, R: Rng, N: Serve>(
     // Where the lines were judged, input has left what stands behind one byte past the limit, and no more.
     ensures left { asked_by (map string_bytes words.now) ≡ Some farm → result ≤ 1
         → S.left input.new ≡ left_behind 67108865 (S.left input.old) }
+    // Where a printed run holds it is 0, and where it does not it is 8, without want of memory and faults.
+    ensures held { asked_by (map string_bytes words.now) ≡ Some audit → IfSome (S.left input.old) (λ bytes.
+        IsHeld bytes → (result ≡ 0) ⊎ (result ≡ 3) ⊎ (result ≡ 4) ⊎ (result ≡ 5)) }
+    ensures refused { asked_by (map string_bytes words.now) ≡ Some audit → IfSome (S.left input.old) (λ bytes.
+        (n : ℕ) (why : Why) → IsRefusedFor bytes n why
+        → (result ≡ 8) ⊎ (result ≡ 3) ⊎ (result ≡ 4) ⊎ (result ≡ 5)) }
+    // Where it was judged, input has left what stands behind one byte past the limit, and no more.
+    ensures behind { asked_by (map string_bytes words.now) ≡ Some audit → (result ≡ 0) ⊎ (result ≡ 8)
+        → S.left input.new ≡ left_behind 268435457 (S.left input.old) }
     // A storm is 0, without want of memory and faults of out and errs.
     ensures storms { (n : ℕ) → asked_by (map string_bytes words.now) ≡ Some (storm n)
         → (result ≡ 0) ⊎ (result ≡ 3) ⊎ (result ≡ 5) }
@@ -210,6 +226,8 @@ pub fn dist_main<S: Source, K: Sink, E: Sink, D: Files, R: Rng, N: Serve>(
     ensures served { result ≢ 7 → result ≢ 5 → N.faults serve.new ≡ N.faults serve.old }
 {
     let done = run_words(alloc, words, input, out, files, random, serve);
+    what_holds_is_held();
+    refusals_are_first_faults();
     report(alloc, PROGRAM, done, errs)
 }
 

@@ -1,7 +1,8 @@
 //! The command: what the words of a command line say is done, and each fault is told by its status.
 //!
 //! The contract: `dist_main` reads a script, runs it and writes the text of its run, or names the first
-//! faulty line, a fault that input or output counted, or want of memory, each only where it is so.
+//! faulty line; or it reads a printed run, and says that it holds, or names its first fault; or it names a
+//! fault that input or output counted, or want of memory, each only where it is so.
 //!
 //! The layer above is `main` alone, which uses `command::dist_main`. The names of scripts, farms and runs
 //! are exported again from the crates below.
@@ -13,6 +14,7 @@ pub use farm_run::{begin, builder, entry, print, run, site};
 pub use farm_script::{event, lines, script, setup};
 pub use line_program::{fault, pieces};
 
+mod audit_run;
 pub mod command;
 mod script_run;
 mod storm_run;

@@ -1,4 +1,5 @@
 pub mod Begins
+pub mod ByEntry
 pub mod Farm
 pub mod Stops
 pub use Rattle.farm_script.specs.FirstFaulty

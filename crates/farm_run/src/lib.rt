@@ -13,6 +13,7 @@ pub use farm_entries::{entry, site};
 pub use farm_laws::{build_laws, laws};
 pub use farm_stations::builder;
 
+pub mod answer_laws;
 mod arrivals;
 pub mod begin;
 mod desk;
@@ -26,4 +27,5 @@ mod serve;
 mod servers;
 mod settle;
 mod settlements;
+mod told;
 mod words;

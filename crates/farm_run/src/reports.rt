@@ -18,8 +18,8 @@ ghost use Rattle.line_program.specs.declared.fault.FarmFault.TheVariants as faul
 
 use crate::desk::Desk;
 use crate::pending::Made;
-use crate::serve::reply;
 use crate::servers::state_call;
+use crate::told::reply;
 use build_server::fault::{BuildCause, ServerFault};
 use build_server::run::RunDone;
 use dist_types::addr::Addr;

@@ -1,61 +1,51 @@
 //! What the scheduler does with what comes to it.
-ghost use Rattle.std.specs.Prelude.{◌≡◌, ◌≢◌, ◌<◌, ◌-◌, Bool, IsTrue, length, IfOk, IfErr, OnOk, slice_get};
-ghost use Rattle.std.specs.Prelude.{Some, None, Err};
-ghost use Rattle.core_rules.specs.Log.{logged};
-ghost use Rattle.core_rules.specs.Rule.{rule, says_new_entry, counts_of};
-ghost use Rattle.core_rules.specs.declared.call.Call.TheVariants as call;
-ghost use Rattle.core_rules.specs.Answers.{verdict};
-ghost use Rattle.core_rules.specs.declared.entry.CoreEntry.{CoreEntry as Core};
-ghost use Rattle.core_rules.specs.declared.entry.UpdateAnswer.{UpdateAnswer};
-ghost use Rattle.dist_types.specs.declared.results.AllocJobResult.TheVariants as alloc_result;
+ghost use Rattle.std.specs.Prelude.{◌≡◌, length, IfOk, IfErr, OnOk, Option, Some};
+ghost use Rattle.core_rules.specs.Log.{Core as Seen};
+ghost use Rattle.core_rules.specs.declared.entry.CoreEntry.{CoreEntry as Entry};
+ghost use Rattle.http_routes.specs.Admission.{equal_admission};
+ghost use Rattle.http_routes.specs.Asked.{IsAskedUnder};
+ghost use Rattle.http_routes.specs.Replies.{alloc_response};
+ghost use Rattle.http_routes.specs.declared.reply.Response.{Response};
 ghost use Rattle.http_routes.specs.declared.route.SchedRouted.TheVariants as asked;
 ghost use Rattle.std.specs.Result.{result_ok};
 ghost use Rattle.dist_token.specs.Verdict.{server_verdict};
-ghost use Rattle.http_routes.specs.Admission.{equal_admission};
-ghost use Rattle.http_routes.specs.Asked.{IsAskedUnder};
-ghost use Rattle.farm_entries.specs.Answers.{Asks, hears, heard_effect, update_by, assign_call, answer_to};
-ghost use Rattle.farm_entries.specs.Answers.{IsAnswered};
+ghost use Rattle.scheduler_replies.specs.Replies.{told_fault, Replies};
+ghost use Rattle.farm_entries.specs.Answers.{Asks, assign_call, answer_to, IsAnswered};
 ghost use Rattle.farm_entries.specs.Begun.{IsAssignment, IsBegunBy, Keeps};
 ghost use Rattle.farm_entries.specs.Effects.{reply_effect, call_effect, reply_to};
 ghost use Rattle.farm_entries.specs.Seen.{with_core};
 ghost use Rattle.farm_run.specs.Farm.{acted};
 ghost use Rattle.farm_entries.specs.Ways.{to_scheduler};
-ghost use Rattle.http_routes.specs.Replies as response;
-ghost use Rattle.http_routes.specs.Replies.{update_reply};
-ghost use Rattle.core_rules.specs.Texts.{no_room_text};
-ghost use Rattle.http_routes.specs.Fault as told;
-ghost use Rattle.http_routes.specs.declared.fault.RouteFault.TheVariants as route_fault;
 ghost use Rattle.line_program.specs.declared.fault.FarmFault.TheVariants as fault;
 
 use crate::desk::Desk;
 use crate::pending::Made;
-use core_rules::entry::CoreEntry;
-use core_rules::error::SchedError;
+use crate::told::{Turn, made_since, reply, told_since};
 use dist_token::checks::{EqCheck, JwtServerCheck};
 use dist_token::job_token::JWTJobAuthorizer;
 use dist_types::addr::Addr;
+use dist_types::fault::Memory;
 use dist_types::ids::{JobId, ServerId};
 use dist_types::results::{AllocJobResult, JobState};
 use dist_types::roles::JobAuthorizer;
-use dist_types::text::Bytes;
 use dist_types::toolchain::Toolchain;
 use dist_wire::heartbeat::HeartbeatServerHttpRequest;
-use farm_entries::entry::{Effect, OutCall, Reply};
+use farm_entries::entry::{Effect, OutCall};
 use farm_entries::pending::{Ask, Pending};
 use farm_entries::site::Site;
 use farm_script::setup::SetupAuth;
 use http_routes::asked::{asked, asked_under};
-use http_routes::fault::RouteFault;
-use http_routes::replies::{
-    no_room, to_allocation, to_fault, to_heartbeat, to_status, to_update, want_of_memory,
-};
-use http_routes::reply::Response;
+use http_routes::replies::want_of_memory;
 use http_routes::requests::assign_request;
 use http_routes::route::{Asked, SchedRouted};
 use line_program::fault::FarmFault;
 use sched_core::answers::Picked;
 use sched_core::reservation::Reservation;
 use sched_core::state::SchedState;
+use scheduler_replies::replies::{to_allocated, to_counted, to_heard, to_reported};
+use scheduler_steps::allocated::no_room;
+use scheduler_steps::fault::SchedFault;
+use scheduler_steps::step;
 use std::alloc::{AllocError, Global};
 
 /// The number of the entry that is made, and the moment of its event.
@@ -71,30 +61,6 @@ pub struct Arrival<'a> {
     pub stamp: Stamp,
     pub peer: Addr,
     pub bytes: &'a [u8],
-}
-
-/// The most processors that a heartbeat may tell.
-const MOST_CPUS: u64 = 4294967295;
-
-/// A copy of the last entry of a log.
-pub fn last_copy(alloc: Global, log: &[CoreEntry]) -> Result<CoreEntry, AllocError>
-    requires { 0 < length log.now }
-    ensures { IfOk result (λ e. slice_get log.now (length log.now - 1) ≡ Some e) }
-{
-    log[log.len() - 1].copy(alloc)
-}
-
-/// The reply of an entry.
-pub fn reply(alloc: Global, number: u64, response: &Response) -> Result<Reply, AllocError>
-    ensures ok { IfOk result (λ r. r ≡ reply_to number response.now) }
-{
-    match response.bytes(alloc) {
-        Ok(bytes) => Ok(Reply {
-            to: number,
-            bytes: Bytes::new(bytes),
-        }),
-        Err(error) => Err(want_of_memory(error)),
-    }
 }
 
 /// What bytes ask of the scheduler, where each build server has a token of its own under a key.
@@ -136,23 +102,17 @@ fn question(alloc: Global, setup: &Site, peer: Addr, bytes: &[u8]) -> Result<Ask
     }
 }
 
-/// Takes a heartbeat: the scheduler's entry, and the reply that says the same.
-fn take_beat(
+/// What a heartbeat does.
+fn hear(
     alloc: Global,
     state: &mut SchedState<JWTJobAuthorizer>,
-    now: u64,
-    json: bool,
+    turn: Turn,
     server: ServerId,
     beat: HeartbeatServerHttpRequest,
-) -> Result<(CoreEntry, Response), FarmFault>
-    requires { IsTrue (hears beat.num_cpus) }
-    ensures made { let made = rule state.old
-        (call.Beat now server beat.server_nonce beat.num_cpus beat.jwt_key) in
-        IfOk result (λ r. (r.0 ≡ made)
-        × (r.1 ≡ response.heard_response json (record { is_new = says_new_entry made }))) }
-    ensures logged { let made = rule state.old
-        (call.Beat now server beat.server_nonce beat.num_cpus beat.jwt_key) in
-        OnOk result (state.new ≡ logged state.old made) }
+) -> Result<Effect, FarmFault>
+    ensures made { IfOk result
+        (λ x. x ≡ answer_to state.old turn.root turn.at turn.json (asked.Beat server beat)) }
+    ensures core { IfOk result (λ x. state.new ≡ with_core state.old x.core) }
     ensures err { IfErr result (λ e. e ≡ fault.Memory) }
 {
     let HeartbeatServerHttpRequest {
@@ -160,200 +120,92 @@ fn take_beat(
         num_cpus,
         server_nonce,
     } = beat;
+    let before = state.history().len();
     let key = JWTJobAuthorizer::of_key(jwt_key.into_inner());
-    let answer = match state.beat(now, server, server_nonce, num_cpus, key) {
-        Ok(answer) => answer,
-        Err(SchedError::Memory) => return Err(FarmFault::Memory),
-        Err(SchedError::BadCpus(_)) => unreachable!(),
-        Err(SchedError::IdsSpent) => unreachable!(),
-        Err(SchedError::UnknownJob) => unreachable!(),
-        Err(SchedError::WrongServer) => unreachable!(),
-        Err(SchedError::BadTransition(_, _)) => unreachable!(),
+    let heard = step::hear(state, turn.at, server, server_nonce, num_cpus, key);
+    let response = match to_heard(alloc, turn.json, heard) {
+        Ok(response) => response,
+        Err(Memory) => return Err(FarmFault::Memory),
     };
-    let entry = last_copy(alloc, state.history())?;
-    let response = to_heartbeat(alloc, json, &answer)?;
-    Ok((entry, response))
+    let effect = told_since(alloc, state, before, turn.root, &response)?;
+    Ok(effect)
 }
 
-/// Whether a heartbeat with so many processors is taken.
-fn hears(cpus: u64) -> bool
-    ensures { result ≡ hears cpus }
-{
-    cpus >= 1 && cpus <= MOST_CPUS
-}
-
-/// What a heartbeat does.
-fn hear(
+/// What a server's report on a job does.
+fn report(
     alloc: Global,
     state: &mut SchedState<JWTJobAuthorizer>,
-    stamp: Stamp,
-    json: bool,
+    turn: Turn,
     server: ServerId,
-    beat: HeartbeatServerHttpRequest,
+    job: JobId,
+    to: JobState,
 ) -> Result<Effect, FarmFault>
-    ensures made { IfOk result (λ x. x ≡ heard_effect state.old stamp.number stamp.at json server beat) }
+    ensures made { IfOk result
+        (λ x. x ≡ answer_to state.old turn.root turn.at turn.json (asked.Update server job to)) }
     ensures core { IfOk result (λ x. state.new ≡ with_core state.old x.core) }
     ensures err { IfErr result (λ e. e ≡ fault.Memory) }
 {
-    if !hears(beat.num_cpus) {
-        let response = to_fault(alloc, &RouteFault::BadCpus(beat.num_cpus))?;
-        let reply = reply(alloc, stamp.number, &response)?;
-        return Ok(Effect::of_reply(None, reply));
-    }
-    let (core, response) = take_beat(alloc, state, stamp.at, json, server, beat)?;
-    let reply = reply(alloc, stamp.number, &response)?;
-    Ok(Effect::of_reply(Some(core), reply))
+    let before = state.history().len();
+    let reported = step::report(state, turn.at, server, job, to);
+    let response = match to_reported(alloc, turn.json, server, job, reported) {
+        Ok(response) => response,
+        Err(Memory) => return Err(FarmFault::Memory),
+    };
+    let effect = told_since(alloc, state, before, turn.root, &response)?;
+    Ok(effect)
 }
 
-/// Takes a status request: the scheduler's entry, and the reply that says the same.
+/// What a status request does.
 fn count(
     alloc: Global,
     state: &mut SchedState<JWTJobAuthorizer>,
-    now: u64,
-    json: bool,
-) -> Result<(CoreEntry, Response), FarmFault>
-    ensures made { let made = rule state.old (call.Status now) in
-        IfOk result (λ r. (r.0 ≡ made) × (r.1 ≡ response.status_response json (counts_of made))) }
-    ensures logged { OnOk result (state.new ≡ logged state.old (rule state.old (call.Status now))) }
+    turn: Turn,
+) -> Result<Effect, FarmFault>
+    ensures made { IfOk result (λ x. x ≡ answer_to state.old turn.root turn.at turn.json asked.Status) }
+    ensures core { IfOk result (λ x. state.new ≡ with_core state.old x.core) }
     ensures err { IfErr result (λ e. e ≡ fault.Memory) }
 {
-    let answer = match state.status(now) {
-        Ok(answer) => answer,
-        Err(SchedError::Memory) => return Err(FarmFault::Memory),
-        Err(SchedError::BadCpus(_)) => unreachable!(),
-        Err(SchedError::IdsSpent) => unreachable!(),
-        Err(SchedError::UnknownJob) => unreachable!(),
-        Err(SchedError::WrongServer) => unreachable!(),
-        Err(SchedError::BadTransition(_, _)) => unreachable!(),
+    let before = state.history().len();
+    let counted = step::count(state, turn.at);
+    let response = match to_counted(alloc, turn.json, counted) {
+        Ok(response) => response,
+        Err(Memory) => return Err(FarmFault::Memory),
     };
-    let entry = last_copy(alloc, state.history())?;
-    let response = to_status(alloc, json, &answer)?;
-    Ok((entry, response))
+    let effect = told_since(alloc, state, before, turn.root, &response)?;
+    Ok(effect)
 }
 
-/// The reply to a report that the scheduler does not take.
-fn refuse(
+/// The call that asks the reservation's server to take the job.
+fn assign_call(
     alloc: Global,
-    error: SchedError,
-    server: ServerId,
-    job: JobId,
-    to: JobState,
-) -> Result<Response, FarmFault>
-    requires { error ≢ SchedError.Memory → (answer : UpdateAnswer) × (verdict answer to ≡ Err error) }
-    ensures ok { IfOk result (λ r. (json : Bool) (answer : UpdateAnswer) → verdict answer to ≡ Err error
-        → r ≡ update_reply json answer server job to) }
-    ensures known { OnOk result (error ≢ SchedError.Memory) }
-    ensures err { IfErr result (λ e. e ≡ fault.Memory) }
-{
-    match error {
-        SchedError::UnknownJob => {
-            let response = to_fault(alloc, &RouteFault::UnknownJob)?;
-            Ok(response)
-        }
-        SchedError::WrongServer => {
-            let response = to_fault(alloc, &RouteFault::WrongServer(job, server))?;
-            Ok(response)
-        }
-        SchedError::BadTransition(from, _) => {
-            let response = to_fault(alloc, &RouteFault::BadTransition(from, to))?;
-            Ok(response)
-        }
-        SchedError::BadCpus(_) => unreachable!(),
-        SchedError::IdsSpent => unreachable!(),
-        SchedError::Memory => Err(FarmFault::Memory),
-    }
-}
-
-/// Takes a server's report: the scheduler's entry, and the reply that says the same.
-fn take_report(
-    alloc: Global,
-    state: &mut SchedState<JWTJobAuthorizer>,
-    now: u64,
-    json: bool,
-    server: ServerId,
-    job: JobId,
-    to: JobState,
-) -> Result<(CoreEntry, Response), FarmFault>
-    ensures made { let made = rule state.old (call.Update now server job to) in
-        IfOk result (λ r. (r.0 ≡ made) × (r.1 ≡ update_reply json (update_by made.kind) server job to)) }
-    ensures logged { OnOk result
-        (state.new ≡ logged state.old (rule state.old (call.Update now server job to))) }
-    ensures err { IfErr result (λ e. e ≡ fault.Memory) }
-{
-    match state.update(now, server, job, to) {
-        Ok(answer) => {
-            let entry = last_copy(alloc, state.history())?;
-            let response = to_update(alloc, json, &answer)?;
-            Ok((entry, response))
-        }
-        Err(error) => {
-            let response = refuse(alloc, error, server, job, to)?;
-            let entry = last_copy(alloc, state.history())?;
-            Ok((entry, response))
-        }
-    }
-}
-
-/// What an allocation does that no registration has room for.
-fn crowded(
-    alloc: Global,
-    state: &SchedState<JWTJobAuthorizer>,
-    number: u64,
-    json: bool,
-    standing: u64,
-) -> Result<Effect, FarmFault>
-    requires { 0 < length state.now.log }
-    ensures made { IfOk result
-        (λ x. (made : Core) × (slice_get state.now.log (length state.now.log - 1) ≡ Some made)
-        × (x ≡ reply_effect (Some made)
-        (reply_to number (response.alloc_response json (alloc_result.Fail (no_room_text standing)))))) }
-    ensures err { IfErr result (λ e. e ≡ fault.Memory) }
-{
-    let core = last_copy(alloc, state.history())?;
-    let msg = no_room(alloc, standing)?;
-    let response = to_allocation(alloc, json, AllocJobResult::Fail { msg })?;
-    let reply = reply(alloc, number, &response)?;
-    Ok(Effect::of_reply(Some(core), reply))
-}
-
-/// What an allocation does where the job ids are spent.
-fn ids_spent(
-    alloc: Global,
-    state: &SchedState<JWTJobAuthorizer>,
-    number: u64,
-) -> Result<Effect, FarmFault>
-    requires { 0 < length state.now.log }
-    ensures made { IfOk result
-        (λ x. (made : Core) × (slice_get state.now.log (length state.now.log - 1) ≡ Some made)
-        × (x ≡ reply_effect (Some made) (reply_to number (told.fault_response_of route_fault.IdsSpent)))) }
-    ensures err { IfErr result (λ e. e ≡ fault.Memory) }
-{
-    let core = last_copy(alloc, state.history())?;
-    let response = to_fault(alloc, &RouteFault::IdsSpent)?;
-    let reply = reply(alloc, number, &response)?;
-    Ok(Effect::of_reply(Some(core), reply))
-}
-
-/// The scheduler's last entry, and the call that asks the reservation's server to take the job.
-fn ask(
-    alloc: Global,
-    log: &[CoreEntry],
     reservation: &Reservation,
     tc: &Toolchain,
-) -> Result<(CoreEntry, OutCall), FarmFault>
-    requires { 0 < length log.now }
-    ensures core { IfOk result (λ r. slice_get log.now (length log.now - 1) ≡ Some r.0) }
-    ensures asks { IfOk result (λ r. r.1 ≡ assign_call tc.now reservation.now) }
-    ensures err { IfErr result (λ e. e ≡ fault.Memory) }
+) -> Result<OutCall, AllocError>
+    ensures { IfOk result (λ call. call ≡ assign_call tc.now reservation.now) }
 {
-    let core = last_copy(alloc, log)?;
     let server = reservation.server_id();
-    let job = reservation.job_id();
     let target = server.addr();
-    match assign_request(alloc, server, job, reservation.auth(), tc) {
-        Ok(bytes) => Ok((core, OutCall { target, bytes })),
-        Err(error) => Err(FarmFault::from(want_of_memory(error))),
+    match assign_request(alloc, server, reservation.job_id(), reservation.auth(), tc) {
+        Ok(bytes) => Ok(OutCall { target, bytes }),
+        Err(error) => Err(want_of_memory(error)),
     }
+}
+
+/// What was made since the log had so many entries, and that call.
+fn ask(
+    alloc: Global,
+    state: &SchedState<JWTJobAuthorizer>,
+    before: usize,
+    reservation: &Reservation,
+    tc: &Toolchain,
+) -> Result<Effect, AllocError>
+    ensures { IfOk result (λ x. (core : Seen) (made : Option Entry) → length core.log ≡ before
+        → state.now ≡ with_core core made
+        → x ≡ call_effect made (Some (assign_call tc.now reservation.now))) }
+{
+    let core = made_since(alloc, state, before)?;
+    let call = assign_call(alloc, reservation, tc)?;
+    Ok(Effect::of_call(core, call))
 }
 
 /// What is made of a reservation: the call that asks its server to take the job. Where memory runs out
@@ -361,66 +213,82 @@ fn ask(
 fn reserved(
     alloc: Global,
     state: &mut SchedState<JWTJobAuthorizer>,
-    stamp: Stamp,
-    json: bool,
+    before: usize,
+    turn: Turn,
     tc: &Toolchain,
     reservation: Reservation,
 ) -> Result<Made, FarmFault>
-    requires { 0 < length state.old.log }
-    ensures made { IfOk result
-        (λ m. (made : Core) × (slice_get state.old.log (length state.old.log - 1) ≡ Some made)
-        × (m.effect ≡ call_effect (Some made) (Some (assign_call tc.now reservation)))) }
-    ensures pending { IfOk result
-        (λ m. m.pending ≡ Some (record { root = stamp.number; json = json; ask = Ask.Assign reservation })) }
+    ensures made { IfOk result (λ m. (core : Seen) (made : Option Entry) → length core.log ≡ before
+        → state.old ≡ with_core core made
+        → m.effect ≡ call_effect made (Some (assign_call tc.now reservation))) }
+    ensures pending { IfOk result (λ m. m.pending
+        ≡ Some (record { root = turn.root; json = turn.json; ask = Ask.Assign reservation })) }
     ensures same { OnOk result (state.new ≡ state.old) }
     ensures err { IfErr result (λ e. e ≡ fault.Memory) }
 {
-    match ask(alloc, state.history(), &reservation, tc) {
-        Ok((core, call)) => Ok(Made {
-            effect: Effect::of_call(Some(core), call),
+    match ask(alloc, state, before, &reservation, tc) {
+        Ok(effect) => Ok(Made {
+            effect,
             pending: Some(Pending {
-                root: stamp.number,
-                json,
+                root: turn.root,
+                json: turn.json,
                 ask: Ask::Assign(reservation),
             }),
         }),
-        Err(fault) => {
-            state.undo(stamp.at, reservation);
-            Err(fault)
+        Err(_) => {
+            state.undo(turn.at, reservation);
+            Err(FarmFault::Memory)
         }
     }
+}
+
+/// What was made since the log had so many entries, and the reply to an allocation that made no reservation.
+fn unpicked(
+    alloc: Global,
+    state: &SchedState<JWTJobAuthorizer>,
+    before: usize,
+    turn: Turn,
+    answer: Result<AllocJobResult, SchedFault>,
+) -> Result<Effect, FarmFault>
+    ensures told { IfOk result (λ x. (response : Response)
+        × Replies (alloc_response turn.json) told_fault answer response
+        × ((core : Seen) (made : Option Entry) → length core.log ≡ before → state.now ≡ with_core core made
+        → x ≡ reply_effect made (reply_to turn.root response))) }
+    ensures err { IfErr result (λ e. e ≡ fault.Memory) }
+{
+    let response = match to_allocated(alloc, turn.json, answer) {
+        Ok(response) => response,
+        Err(Memory) => return Err(FarmFault::Memory),
+    };
+    let effect = told_since(alloc, state, before, turn.root, &response)?;
+    Ok(effect)
 }
 
 /// Allocates a job: the call that asks the picked server to take it, or the reply where none is picked.
 fn allocate(
     alloc: Global,
     state: &mut SchedState<JWTJobAuthorizer>,
-    stamp: Stamp,
-    json: bool,
+    turn: Turn,
     tc: &Toolchain,
 ) -> Result<Made, FarmFault>
-    ensures answer { IfOk result (λ m. m.effect ≡ answer_to state.old stamp.number stamp.at json
+    ensures answer { IfOk result (λ m. m.effect ≡ answer_to state.old turn.root turn.at turn.json
         (asked.Alloc tc.now)) }
     ensures kept { IfOk result
-        (λ m. Keeps (IsAssignment state.old.log stamp.number json m.effect.core) m.effect m.pending) }
+        (λ m. Keeps (IsAssignment state.old.log turn.root turn.json m.effect.core) m.effect m.pending) }
     ensures core { IfOk result (λ m. state.new ≡ with_core state.old m.effect.core) }
     ensures err { IfErr result (λ e. e ≡ fault.Memory) }
 {
-    match state.reserve(stamp.at) {
-        Ok(Picked::Reserved(reservation)) => reserved(alloc, state, stamp, json, tc, reservation),
+    let before = state.history().len();
+    match step::reserve(state, turn.at) {
+        Ok(Picked::Reserved(r)) => reserved(alloc, state, before, turn, tc, r),
         Ok(Picked::NoRoom(standing)) => {
-            let effect = crowded(alloc, state, stamp.number, json, standing)?;
+            let effect = unpicked(alloc, state, before, turn, no_room(alloc, standing))?;
             Ok(Made::whole(effect))
         }
-        Err(SchedError::IdsSpent) => {
-            let effect = ids_spent(alloc, state, stamp.number)?;
+        Err(refusal) => {
+            let effect = unpicked(alloc, state, before, turn, Err(refusal))?;
             Ok(Made::whole(effect))
         }
-        Err(SchedError::Memory) => Err(FarmFault::Memory),
-        Err(SchedError::BadCpus(_)) => unreachable!(),
-        Err(SchedError::UnknownJob) => unreachable!(),
-        Err(SchedError::WrongServer) => unreachable!(),
-        Err(SchedError::BadTransition(_, _)) => unreachable!(),
     }
 }
 
@@ -428,34 +296,32 @@ fn allocate(
 fn serve_asked(
     alloc: Global,
     state: &mut SchedState<JWTJobAuthorizer>,
-    stamp: Stamp,
-    json: bool,
+    turn: Turn,
     what: SchedRouted,
 ) -> Result<Made, FarmFault>
-    ensures answer { IfOk result (λ m. m.effect ≡ answer_to state.old stamp.number stamp.at json what) }
+    ensures answer { IfOk result
+        (λ m. m.effect ≡ answer_to state.old turn.root turn.at turn.json what) }
     ensures kept { IfOk result
-        (λ m. Keeps (IsAssignment state.old.log stamp.number json m.effect.core) m.effect m.pending) }
+        (λ m. Keeps (IsAssignment state.old.log turn.root turn.json m.effect.core) m.effect m.pending) }
     ensures core { IfOk result (λ m. state.new ≡ with_core state.old m.effect.core) }
     ensures err { IfErr result (λ e. e ≡ fault.Memory) }
 {
     match what {
-        SchedRouted::Alloc(tc) => allocate(alloc, state, stamp, json, &tc),
+        SchedRouted::Alloc(tc) => allocate(alloc, state, turn, &tc),
         SchedRouted::Beat(server, beat) => {
-            let effect = hear(alloc, state, stamp, json, server, beat)?;
+            let effect = hear(alloc, state, turn, server, beat)?;
             Ok(Made::whole(effect))
         }
         SchedRouted::Update(server, job, to) => {
-            let (core, response) = take_report(alloc, state, stamp.at, json, server, job, to)?;
-            let reply = reply(alloc, stamp.number, &response)?;
-            Ok(Made::whole(Effect::of_reply(Some(core), reply)))
+            let effect = report(alloc, state, turn, server, job, to)?;
+            Ok(Made::whole(effect))
         }
         SchedRouted::Status => {
-            let (core, response) = count(alloc, state, stamp.at, json)?;
-            let reply = reply(alloc, stamp.number, &response)?;
-            Ok(Made::whole(Effect::of_reply(Some(core), reply)))
+            let effect = count(alloc, state, turn)?;
+            Ok(Made::whole(effect))
         }
         SchedRouted::Done(response) => {
-            let reply = reply(alloc, stamp.number, &response)?;
+            let reply = reply(alloc, turn.root, &response)?;
             Ok(Made::whole(Effect::of_reply(None, reply)))
         }
     }
@@ -474,5 +340,6 @@ pub fn serve(desk: &mut Desk, arrival: &Arrival<'_>) -> Result<Made, FarmFault>
 {
     let question = question(desk.alloc, &desk.setup, arrival.peer, arrival.bytes)?;
     let Asked { what, json } = question;
-    serve_asked(desk.alloc, &mut desk.state, arrival.stamp, json, what)
+    let Stamp { number: root, at } = arrival.stamp;
+    serve_asked(desk.alloc, &mut desk.state, Turn { root, json, at }, what)
 }

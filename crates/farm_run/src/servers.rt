@@ -17,7 +17,8 @@ ghost use Rattle.line_program.specs.declared.fault.FarmFault.TheVariants as faul
 
 use crate::desk::Desk;
 use crate::pending::Made;
-use crate::serve::{Arrival, reply};
+use crate::serve::Arrival;
+use crate::told::reply;
 use build_server::fault::ServerFault;
 use dist_token::server_token::{create_jwt_server_token, create_server_token};
 use dist_types::addr::Addr;

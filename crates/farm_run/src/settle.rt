@@ -1,5 +1,5 @@
 //! What follows the settlement of a call.
-ghost use Rattle.std.specs.Prelude.{◌≡◌, IfOk, IfErr, true, Result, Ok, Err, option_copied};
+ghost use Rattle.std.specs.Prelude.{◌≡◌, IfOk, IfErr, true, Result, option_copied};
 ghost use Rattle.dist_types.specs.declared.outgoing.CallFault.{CallFault as Cause};
 ghost use Rattle.dist_types.specs.declared.results.AssignJobResult.{AssignJobResult as Answer};
 ghost use Rattle.core_rules.specs.Reservation.{unspent};
@@ -8,17 +8,20 @@ ghost use Rattle.farm_entries.specs.Seen.{with_core};
 ghost use Rattle.farm_entries.specs.Settled.{IsOutcome, assignment_end};
 ghost use Rattle.line_program.specs.declared.fault.FarmFault.TheVariants as fault;
 
-use crate::serve::{last_copy, reply};
+use crate::told::{Turn, told_since};
 use dist_token::job_token::JWTJobAuthorizer;
+use dist_types::fault::Memory;
 use dist_types::outgoing::CallFault;
 use dist_types::results::AssignJobResult;
 use farm_entries::entry::Effect;
 use http_routes::call_reply::assigned;
-use http_routes::fault::RouteFault;
-use http_routes::replies::{to_commit, to_fault, want_of_memory};
+use http_routes::replies::want_of_memory;
 use line_program::fault::FarmFault;
 use sched_core::reservation::Reservation;
 use sched_core::state::SchedState;
+use scheduler_replies::replies::to_allocated;
+use scheduler_steps::allocated::allocated;
+use scheduler_steps::step;
 use std::alloc::Global;
 
 /// A call that is settled at a moment.
@@ -28,15 +31,6 @@ pub struct Settlement<'a> {
     pub at: u64,
     /// The bytes that came back, or none where the call is lost.
     pub reply: Option<&'a [u8]>,
-}
-
-/// Where and when a call that is settled goes on.
-#[derive(Clone, Copy, Debug)]
-pub struct Turn {
-    /// The entry that is replied to.
-    pub root: u64,
-    pub json: bool,
-    pub at: u64,
 }
 
 /// What the reply of an assign call says.
@@ -58,47 +52,29 @@ fn outcome(
     }
 }
 
-/// Commits a reservation whose server took the job, and tells who asked for it.
-fn commit(
+/// Spends a reservation by what was heard of its server, and tells who asked for the job.
+fn settle(
     alloc: Global,
     state: &mut SchedState<JWTJobAuthorizer>,
     turn: Turn,
     reservation: Reservation,
-    assigned: AssignJobResult,
+    heard: Result<AssignJobResult, CallFault>,
 ) -> Result<Effect, FarmFault>
     requires own { is_among (unspent state.old.log) reservation.number reservation.job ≡ true }
-    requires begins { is_initial assigned.state ≡ true }
+    requires begins { IfOk heard (λ a. is_initial a.state ≡ true) }
     ensures made { IfOk result (λ x. x ≡ assignment_end state.old turn.root turn.json turn.at reservation
-        (Ok assigned)) }
+        heard) }
     ensures core { IfOk result (λ x. state.new ≡ with_core state.old x.core) }
     ensures err { IfErr result (λ e. e ≡ fault.Memory) }
 {
-    let committed = state.commit(turn.at, reservation, assigned.state);
-    let core = last_copy(alloc, state.history())?;
-    let response = to_commit(alloc, turn.json, assigned.need_toolchain, committed)?;
-    let reply = reply(alloc, turn.root, &response)?;
-    Ok(Effect::of_reply(Some(core), reply))
-}
-
-/// Undoes a reservation whose server did not take the job, and tells who asked for it.
-fn undo(
-    alloc: Global,
-    state: &mut SchedState<JWTJobAuthorizer>,
-    turn: Turn,
-    reservation: Reservation,
-    cause: CallFault,
-) -> Result<Effect, FarmFault>
-    requires own { is_among (unspent state.old.log) reservation.number reservation.job ≡ true }
-    ensures made { IfOk result (λ x. x ≡ assignment_end state.old turn.root turn.json turn.at reservation
-        (Err cause)) }
-    ensures core { IfOk result (λ x. state.new ≡ with_core state.old x.core) }
-    ensures err { IfErr result (λ e. e ≡ fault.Memory) }
-{
-    let undone = state.undo(turn.at, reservation);
-    let core = last_copy(alloc, state.history())?;
-    let response = to_fault(alloc, &RouteFault::AssignFailed(undone, cause))?;
-    let reply = reply(alloc, turn.root, &response)?;
-    Ok(Effect::of_reply(Some(core), reply))
+    let before = state.history().len();
+    let settled = step::settle(state, turn.at, reservation, heard);
+    let response = match to_allocated(alloc, turn.json, allocated(alloc, settled)) {
+        Ok(response) => response,
+        Err(Memory) => return Err(FarmFault::Memory),
+    };
+    let effect = told_since(alloc, state, before, turn.root, &response)?;
+    Ok(effect)
 }
 
 /// Goes on with an assign call by what its reply says.
@@ -115,21 +91,12 @@ pub fn end_assignment(
     ensures core { IfOk result (λ x. state.new ≡ with_core state.old x.core) }
     ensures err { IfErr result (λ e. e ≡ fault.Memory) }
 {
-    let outcome = match outcome(alloc, reply) {
-        Ok(outcome) => outcome,
+    let heard = match outcome(alloc, reply) {
+        Ok(heard) => heard,
         Err(fault) => {
             state.undo(turn.at, reservation);
             return Err(fault);
         }
     };
-    match outcome {
-        Ok(assigned) => {
-            let effect = commit(alloc, state, turn, reservation, assigned)?;
-            Ok(effect)
-        }
-        Err(cause) => {
-            let effect = undo(alloc, state, turn, reservation, cause)?;
-            Ok(effect)
-        }
-    }
+    settle(alloc, state, turn, reservation, heard)
 }

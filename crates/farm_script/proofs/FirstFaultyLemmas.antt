@@ -10,7 +10,7 @@ use Rattle.farm_script.specs.declared.setup.SetupScheduler.{SetupScheduler}
 use Rattle.line_program.specs.declared.fault.FarmFault.{FarmFault}
 use Rattle.line_program.specs.declared.fault.FarmFault.TheVariants.{Usage, BadLine, DuplicateAddress}
 use Rattle.line_program.specs.declared.fault.FarmFault.TheVariants.{ScopedAddress, ReadFault, WriteFault}
-use Rattle.line_program.specs.declared.fault.FarmFault.TheVariants.{BadConfig, ServeFault, Memory}
+use Rattle.line_program.specs.declared.fault.FarmFault.TheVariants.{BadConfig, ServeFault, Memory, AuditRefused}
 use Rattle.farm_script.specs.declared.lines.Scopes.TheVariants.{Refused, Taken}
 use Rattle.farm_script.specs.declared.lines.Line.{Line}
 use Rattle.line_program.specs.Pieces.{pieces, text_of}
@@ -263,6 +263,7 @@ caused done said p ReadFault is = absurd is
 caused done said p WriteFault is = absurd is
 caused done said p (BadConfig cause) is = absurd is
 caused done said p ServeFault is = absurd is
+caused done said p (AuditRefused n why) is = absurd is
 caused done said p Memory is = absurd is
 
 one_cause : (done : List (List ℕ)) (said : List Line) (p : List ℕ) (f g : FarmFault) → Caused done said p f

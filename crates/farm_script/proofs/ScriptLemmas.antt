@@ -6,7 +6,7 @@ use Rattle.farm_script.specs.declared.event.Event.{Event}
 use Rattle.line_program.specs.declared.fault.FarmFault.{FarmFault}
 use Rattle.line_program.specs.declared.fault.FarmFault.TheVariants.{Usage, BadLine, DuplicateAddress}
 use Rattle.line_program.specs.declared.fault.FarmFault.TheVariants.{ScopedAddress, ReadFault, WriteFault}
-use Rattle.line_program.specs.declared.fault.FarmFault.TheVariants.{BadConfig, ServeFault, Memory}
+use Rattle.line_program.specs.declared.fault.FarmFault.TheVariants.{BadConfig, ServeFault, Memory, AuditRefused}
 use Rattle.line_program.specs.Pieces.{pieces, piece_len}
 use Rattle.line_program.proofs.LinesLemmas as lines
 use Rattle.farm_script.specs.Script.{Read, judge, take_line, finished, script_from, IsScriptFault}
@@ -24,6 +24,7 @@ tells_then ReadFault a b h e = h e
 tells_then WriteFault a b h e = h e
 tells_then (BadConfig cause) a b h e = h e
 tells_then ServeFault a b h e = h e
+tells_then (AuditRefused n why) a b h e = h e
 tells_then Memory a b h e = tt
 
 -- a line that was refused, as a loop tells it
@@ -48,4 +49,5 @@ told ReadFault b e = inr e
 told WriteFault b e = inr e
 told (BadConfig cause) b e = inr e
 told ServeFault b e = inr e
+told (AuditRefused n why) b e = inr e
 told Memory b e = inl refl

@@ -8,9 +8,9 @@
 #![tactic(auto)]
 
 pub mod event;
-mod fields;
+pub mod fields;
 pub mod laws;
 pub mod lines;
 pub mod script;
 pub mod setup;
-mod words;
+pub mod words;

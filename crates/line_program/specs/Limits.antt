@@ -16,3 +16,11 @@ max_bytes = 67108864
 -- how many bytes are read at most: one past the limit tells that it was passed
 abbrev pub bytes_read : ℕ
 bytes_read = 67108865
+
+-- the most bytes of a printed run that is judged
+abbrev pub max_run_bytes : ℕ
+max_run_bytes = 268435456
+
+-- how many bytes of one are read at most
+abbrev pub run_bytes_read : ℕ
+run_bytes_read = 268435457

@@ -6,7 +6,7 @@ use Rattle.line_program.specs.declared.fault.ConfigCause.TheVariants.{Key}
 use Rattle.line_program.specs.declared.fault.FarmFault.{FarmFault}
 use Rattle.line_program.specs.declared.fault.FarmFault.TheVariants.{Usage, BadLine, DuplicateAddress}
 use Rattle.line_program.specs.declared.fault.FarmFault.TheVariants.{ScopedAddress, ReadFault, WriteFault}
-use Rattle.line_program.specs.declared.fault.FarmFault.TheVariants.{BadConfig, ServeFault, Memory}
+use Rattle.line_program.specs.declared.fault.FarmFault.TheVariants.{BadConfig, ServeFault, Memory, AuditRefused}
 use Rattle.line_program.specs.FaultText.{said_text}
 use Rattle.line_program.specs.Side.{Side}
 use Rattle.line_program.specs.Texts.{◌⧺◌}
@@ -30,8 +30,9 @@ fault_status ReadFault = 4
 fault_status WriteFault = 5
 fault_status (BadConfig cause) = 6
 fault_status ServeFault = 7
+fault_status (AuditRefused n why) = 8
 
--- a fault that names a line
+-- a fault that names a line of a script
 abbrev pub NamesLine : FarmFault → Type 0
 NamesLine (BadLine n) = Unit {0}
 NamesLine (DuplicateAddress n) = Unit {0}
@@ -55,6 +56,7 @@ IsLong (BadLine n) = Unit {0}
 IsLong (DuplicateAddress n) = Unit {0}
 IsLong (ScopedAddress n) = Unit {0}
 IsLong (BadConfig (Key key)) = Unit {0}
+IsLong (AuditRefused n why) = Unit {0}
 IsLong other = ⊥
 
 -- What is told of a fault: the fault, or want of memory, where memory ran out for its text.

@@ -3,6 +3,7 @@ ghost use Rattle.std.specs.Prelude.{◌≡◌};
 ghost use Rattle.line_program.specs.declared.fault.LineFault.TheVariants as line_faults;
 ghost use Rattle.line_program.specs.declared.fault.FarmFault.TheVariants as farm_faults;
 
+use crate::why::Why;
 use dist_types::text::Text;
 use std::alloc::{AllocError, AllocFailed};
 use std::error::Error;
@@ -61,6 +62,8 @@ pub enum FarmFault {
     ServeFault,
     /// Memory ran out.
     Memory,
+    /// The printed run does not hold: the line of this number is why, counted from 1.
+    AuditRefused(u64, Why),
 }
 
 impl fmt::Display for FarmFault {
@@ -80,6 +83,7 @@ impl fmt::Display for FarmFault {
             FarmFault::BadConfig(cause) => write!(f, "bad configuration: {cause}"),
             FarmFault::ServeFault => write!(f, "serve fault"),
             FarmFault::Memory => write!(f, "out of memory"),
+            FarmFault::AuditRefused(n, why) => write!(f, "audit refused line {n}: {why}"),
         }
     }
 }

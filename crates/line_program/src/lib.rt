@@ -1,11 +1,11 @@
 //! A program over lines: why it did not do its work, how that is told, and its input, line by line.
 //!
-//! The contract: `read_input` reads to the end, or to one byte past the limit, before a line is judged; `report`
+//! The contract: `read_input` reads to the end, or to one byte past a limit, before a line is judged; `report`
 //! answers the status of a fault and writes its text on errs, behind the program's name, or answers 5 where errs
 //! failed.
 //!
 //! The programs above use `fault::FarmFault`, `input::read_input`, `pieces` (which cuts an input into lines and
-//! holds them to the limits), `limits` and `report::report`.
+//! holds them to the limits), `limits`, `report::report` and `why::Why`.
 #![tactic(auto)]
 
 pub mod fault;
@@ -13,3 +13,4 @@ pub mod input;
 pub mod limits;
 pub mod pieces;
 pub mod report;
+pub mod why;

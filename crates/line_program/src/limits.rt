@@ -8,3 +8,6 @@ pub const MAX_LINE_BYTES: usize = 2_097_152;
 
 /// The most bytes of an input.
 pub const MAX_BYTES: usize = 67_108_864;
+
+/// The most bytes of a printed run that is judged.
+pub const MAX_RUN_BYTES: usize = 268_435_456;

@@ -55,6 +55,7 @@ fn status_of(fault: &FarmFault) -> u8
         FarmFault::WriteFault => 5,
         FarmFault::BadConfig(_) => 6,
         FarmFault::ServeFault => 7,
+        FarmFault::AuditRefused(_, _) => 8,
     }
 }
 
@@ -87,6 +88,7 @@ fn short_text(fault: &FarmFault) -> Option<&'static [u8]>
         FarmFault::WriteFault => Some(WRITE_FAULT),
         FarmFault::BadConfig(cause) => config_text(cause),
         FarmFault::ServeFault => Some(SERVE_FAULT),
+        FarmFault::AuditRefused(_, _) => None,
     }
 }
 

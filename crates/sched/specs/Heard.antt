@@ -1,73 +1,32 @@
--- What the calls promise that make one entry.
-use Rattle.std.specs.Prelude.{◌≡◌, ◌⊎◌, ◌<◌, ◌↔◌, ℕ, List, true, false, Bool, Result, Ok, Err, IfErr}
+-- What the calls of one turn promise.
+use Rattle.std.specs.Prelude.{ℕ, List, Result}
 use Rattle.dist_types.specs.declared.addr.Addr.{Addr}
 use Rattle.dist_types.specs.declared.ids.JobId.{JobId}
 use Rattle.dist_types.specs.declared.results.JobState.{JobState}
 use Rattle.dist_types.specs.declared.results.HeartbeatServerResult.{HeartbeatServerResult}
 use Rattle.dist_types.specs.declared.results.SchedulerStatusResult.{SchedulerStatusResult}
 use Rattle.dist_types.specs.declared.results.UpdateJobStateResult.{UpdateJobStateResult}
-use Rattle.dist_types.specs.declared.results.UpdateJobStateResult.TheVariants.{Success, Fail}
-use Rattle.core_rules.specs.Advance.{follows}
-use Rattle.core_rules.specs.declared.error.SchedError.{SchedError}
-use Rattle.core_rules.specs.declared.error.SchedError.TheVariants as error
-use Rattle.sched.specs.Desk.{entries_if, logs_error}
-use Rattle.sched.specs.Outside.{Moments, IsRead}
-use Rattle.sched.specs.Pass.{Told, Counted}
-use Rattle.sched.specs.declared.fault.SchedFault.{SchedFault}
-use Rattle.sched.specs.declared.fault.SchedFault.TheVariants.{Core, AssignFailed, Memory}
+use Rattle.core_rules.specs.declared.call.Call.TheVariants as call
+use Rattle.scheduler_steps.specs.Telling.{TellsHeard, RefusesHeard, TellsReported, TellsCounted, WantsMemory}
+use Rattle.scheduler_steps.specs.declared.fault.SchedFault.{SchedFault}
+use Rattle.sched.specs.Outside.{Moments}
+use Rattle.sched.specs.Pass.{Told}
+use Rattle.sched.specs.Turn.{IsTurn}
 
--- a refusal of the core as a fault: want of memory is told as such
-abbrev pub fault_of : SchedError → SchedFault
-fault_of error.Memory = Memory
-fault_of e = Core e
+-- a heartbeat
+abbrev pub IsHeard : Addr → ℕ → ℕ → List ℕ → Told → Told → Moments → Moments
+    → Result HeartbeatServerResult SchedFault → Type 0
+IsHeard server nonce cpus key old new clock ticked answer =
+    IsTurn (λ now. call.Beat now server nonce cpus key) (TellsHeard cpus) (RefusesHeard cpus) old new clock
+    ticked answer
 
--- how many entries a call makes that is refused so
-abbrev pub fault_entries : SchedFault → ℕ
-fault_entries (Core e) = entries_if (logs_error e)
-fault_entries other = 0
+-- a report on a job
+abbrev pub IsUpdated : JobId → Addr → JobState → Told → Told → Moments → Moments
+    → Result UpdateJobStateResult SchedFault → Type 0
+IsUpdated job server state old new clock ticked answer =
+    IsTurn (λ now. call.Update now server job state) TellsReported WantsMemory old new clock ticked answer
 
--- one entry, and none where the number of processors is bad or memory ran out
-abbrev pub one_entry : {X : Type 0} → Result X SchedFault → ℕ
-one_entry (Ok x) = 1
-one_entry (Err fault) = fault_entries fault
-
--- a heartbeat is refused for its number of processors, exactly where that is 0 or over 4294967295, or for
--- want of memory
-pub record IsHeard (server : Addr) (nonce cpus : ℕ) (key : List ℕ) (old new : Told) (clock ticked : Moments)
-    (answer : Result HeartbeatServerResult SchedFault) : Type 0 where
-  pub counted : Counted (one_entry answer) old new
-  pub read : IsRead clock ticked
-  pub bad_cpus : (answer ≡ Err (Core (error.BadCpus cpus))) ↔ ((cpus ≡ 0) ⊎ (4294967295 < cpus))
-  pub refused : IfErr answer (λ e. (e ≡ Core (error.BadCpus cpus)) ⊎ (e ≡ Memory))
-
--- how an update to a state may be refused: a bad transition is to the given state, which does not follow the
--- other
-abbrev pub RefusesUpdate : JobState → SchedFault → Type 0
-RefusesUpdate state (Core error.UnknownJob) = Unit {0}
-RefusesUpdate state (Core error.WrongServer) = Unit {0}
-RefusesUpdate state (Core (error.BadTransition from to)) = (to ≡ state) × (follows from to ≡ false)
-RefusesUpdate state Memory = Unit {0}
-RefusesUpdate state other = ⊥
-
--- what an update to a state may answer
-abbrev pub TellsUpdate : JobState → Result UpdateJobStateResult SchedFault → Type 0
-TellsUpdate state (Ok x) = x ≡ Success
-TellsUpdate state (Err fault) = RefusesUpdate state fault
-
--- the same of the core's own answer
-abbrev pub AnswersUpdate : JobState → Result UpdateJobStateResult SchedError → Type 0
-AnswersUpdate state (Ok x) = x ≡ Success
-AnswersUpdate state (Err e) = RefusesUpdate state (fault_of e)
-
-pub record IsUpdated (job : JobId) (server : Addr) (state : JobState) (old new : Told)
-    (clock ticked : Moments) (answer : Result UpdateJobStateResult SchedFault) : Type 0 where
-  pub counted : Counted (one_entry answer) old new
-  pub read : IsRead clock ticked
-  pub told : TellsUpdate state answer
-
--- a status is refused for want of memory alone
-pub record IsCounted (old new : Told) (clock ticked : Moments)
-    (answer : Result SchedulerStatusResult SchedFault) : Type 0 where
-  pub counted : Counted (one_entry answer) old new
-  pub read : IsRead clock ticked
-  pub refused : IfErr answer (λ e. e ≡ Memory)
+-- a status request
+abbrev pub IsCounted : Told → Told → Moments → Moments → Result SchedulerStatusResult SchedFault → Type 0
+IsCounted old new clock ticked answer =
+    IsTurn (λ now. call.Status now) TellsCounted WantsMemory old new clock ticked answer

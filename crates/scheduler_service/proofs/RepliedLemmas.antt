@@ -1,80 +1,56 @@
--- Which refusals are told, and what is done behind a route.
-use Rattle.std.proofs.Common.{◌≡◌, ◌⊎◌, ℕ, List, Bool, Option, Some, None, Result, Ok, Err, refl, sym, ◌∙◌, inl, inr}
-use Rattle.std.proofs.Common.{subst}
+-- What an allocation leaves of a pass, and what is done behind a route.
+use Rattle.std.proofs.Common.{◌≡◌, ℕ, List, Option, Some, None, Result, Ok, Err, refl, ap, ◌∙◌}
 use Rattle.std.specs.Prelude.{⊤}
+use Rattle.dist_types.specs.Outgoing.{Assigned}
 use Rattle.dist_types.specs.declared.addr.Addr.{Addr}
+use Rattle.dist_types.specs.declared.dialer.Asked.{Asked}
 use Rattle.dist_types.specs.declared.fault.Memory as want
-use Rattle.dist_types.specs.declared.outgoing.CallFault.{CallFault}
-use Rattle.dist_types.specs.declared.outgoing.CallFault.TheVariants as call
 use Rattle.dist_types.specs.declared.results.AllocJobResult.{AllocJobResult}
-use Rattle.dist_types.specs.declared.results.JobState.{JobState}
 use Rattle.dist_types.specs.declared.token_error.TokenError.{TokenError}
 use Rattle.http_head.specs.declared.request.Request.{Request}
-use Rattle.core_rules.specs.declared.answers.Undone.{Undone}
-use Rattle.core_rules.specs.declared.error.SchedError.TheVariants as error
-use Rattle.sched.specs.Course.{Course, FailsWith, IsCourseAnswer, fault_after}
-use Rattle.sched.specs.Course as course
-use Rattle.sched.specs.Heard.{RefusesUpdate}
-use Rattle.sched.specs.Outside.{Moments, IsRead}
-use Rattle.sched.specs.declared.fault.SchedFault.{SchedFault}
-use Rattle.sched.specs.declared.fault.SchedFault.TheVariants.{Core, AssignFailed, Memory}
+use Rattle.sched_core.specs.declared.answers.Picked.{Picked}
+use Rattle.sched_core.specs.declared.answers.Picked.TheVariants.{Reserved, NoRoom}
+use Rattle.scheduler_steps.specs.declared.fault.SchedFault.{SchedFault}
+use Rattle.sched.specs.Course.{GoesOn, IsAllocation}
+use Rattle.sched.specs.Outside.{Moments, Requests, IsRead}
+use Rattle.sched.specs.Pass.{Told, held_of}
 use Rattle.http_connections.specs.Form.{form_of}
 use Rattle.http_connections.specs.Served.{MadeReply}
 use Rattle.scheduler_service.specs.Connection.{Routing, Asks, Does, IsReplied}
-use Rattle.scheduler_service.specs.Replied.{Means, IsAllocated, IsTellable, IsReportable}
+use Rattle.scheduler_service.specs.Replied.{Means, IsAllocated, job_token}
+use Rattle.scheduler_service.specs.Requested.{IsAskedFor, lent_of}
 
-pub heard_tellable : (e : SchedFault) (cpus : ℕ) → (e ≡ Core (error.BadCpus cpus)) ⊎ (e ≡ Memory)
-    → IsTellable e
-heard_tellable e cpus (inl is) = subst IsTellable (sym is) (tt {0})
-heard_tellable e cpus (inr is) = subst IsTellable (sym is) (tt {0})
+-- a reservation that was asked about leaves what the pass holds, and so does the end at once
+follows_hold : (says : Assigned → Asked → Type 0) (tc : List ℕ) (picked : Result Picked SchedFault)
+    (between new : Told) (ticking ticked : Moments) (before after : Requests)
+    (answer : Result AllocJobResult SchedFault)
+    → GoesOn says tc picked between new ticking ticked before after answer → held_of new ≡ held_of between
+follows_hold says tc (Ok (Reserved r)) between new ticking ticked before after answer goes =
+    goes.turn.counted.held
+follows_hold says tc (Ok (NoRoom standing)) between new ticking ticked before after answer goes =
+    ap held_of goes.0.uncounted
+follows_hold says tc (Err fault) between new ticking ticked before after answer goes =
+    ap held_of goes.0.uncounted
 
-pub counted_tellable : (e : SchedFault) → e ≡ Memory → IsTellable e
-counted_tellable e is = subst IsTellable (sym is) (tt {0})
+pub allocation_holds : (key_of : List ℕ → List ℕ) (token_for : List ℕ → ℕ → List ℕ)
+    (says : Assigned → Asked → Type 0) (tc : List ℕ) (old new : Told) (clock ticked : Moments)
+    (before after : Requests) (answer : Result AllocJobResult SchedFault)
+    → IsAllocation key_of token_for says tc old new clock ticked before after answer
+    → held_of new ≡ held_of old
+allocation_holds key_of token_for says tc old new clock ticked before after answer a =
+    follows_hold says tc a.picked a.between new a.ticking ticked before after answer a.follows
+    ∙ a.turn.counted.held
 
-pub updated_reportable : (state : JobState) (e : SchedFault) → RefusesUpdate state e → IsReportable e
-updated_reportable state (Core e) refused = tt {0}
-updated_reportable state (AssignFailed undone cause) refused = refused
-updated_reportable state Memory refused = tt {0}
-
-same_fault : (e d : SchedFault) → ◌≡◌ {A = Result AllocJobResult SchedFault} (Err e) (Err d) → IsTellable d
-    → IsTellable e
-same_fault e d is told = let same : e ≡ d = cc in subst IsTellable (sym same) told
-
-no_fault : (answer : Result AllocJobResult SchedFault) (r : AllocJobResult) (e : SchedFault) → answer ≡ Err e
-    → answer ≡ Ok r → IsTellable e
-no_fault answer r e is ok = absurd (cc (is, ok))
-
-fails : (text : List ℕ) (answer : Result AllocJobResult SchedFault) (e : SchedFault) → answer ≡ Err e
-    → FailsWith text answer → IsTellable e
-fails text answer e is (inl ok) = no_fault answer _ e is ok
-fails text answer e is (inr err) = same_fault e Memory (sym is ∙ err) (tt {0})
-
-after : (undone : Undone) (cause : CallFault) → IsTellable (fault_after undone cause)
-after undone call.Lost = tt {0}
-after undone (call.Status code) = tt {0}
-after undone call.Unreadable = tt {0}
-after undone (call.BadState state) = tt {0}
-after undone call.Memory = tt {0}
-
-allocated_tellable : (c : Course) (answer : Result AllocJobResult SchedFault) (e : SchedFault)
-    → answer ≡ Err e → IsCourseAnswer c answer → IsTellable e
-allocated_tellable course.unmade answer e is told = same_fault e Memory (sym is ∙ told) (tt {0})
-allocated_tellable course.spent answer e is told = same_fault e (Core error.IdsSpent) (sym is ∙ told) (tt {0})
-allocated_tellable (course.full standing) answer e is told = fails _ answer e is told
-allocated_tellable (course.asked r (Ok x) course.kept) answer e is told = no_fault answer _ e is told.1
-allocated_tellable (course.asked r (Ok x) course.dropped) answer e is told = fails _ answer e is told.1
-allocated_tellable (course.asked r (Ok x) course.foreign) answer e is told = fails _ answer e is told.1
-allocated_tellable (course.asked r (Ok x) (course.undone u)) answer e is told =
-    same_fault e (AssignFailed u (call.BadState x.state)) (sym is ∙ told.1) (tt {0})
-allocated_tellable (course.asked r (Err f) course.kept) answer e is told = absurd told
-allocated_tellable (course.asked r (Err f) course.dropped) answer e is told = absurd told
-allocated_tellable (course.asked r (Err f) course.foreign) answer e is told = absurd told
-allocated_tellable (course.asked r (Err f) (course.undone u)) answer e is told =
-    same_fault e (fault_after u f) (sym is ∙ told) (after u f)
-
-pub allocation_tellable : (tc : List ℕ) (old new : Means) (e : SchedFault) → IsAllocated tc old new (Err e)
-    → IsTellable e
-allocation_tellable tc old new e a = allocated_tellable a.allocated.course (Err e) e refl a.allocated.told
+-- an allocation over a requester that was lent the dialer
+pub allocated_over : (name : ℕ) (tc : List ℕ) (old new : Means) (answer : Result AllocJobResult SchedFault)
+    (n : ℕ) (a b : Option (List Asked)) (f g : ℕ)
+    → IsAllocation (λ (key : List ℕ). key) job_token IsAskedFor tc old.pass new.pass old.clock new.clock
+    (record { rows = None; faults = f; lent = lent_of name a })
+    (record { rows = None; faults = g; lent = lent_of n b }) answer
+    → f ≡ old.faults → a ≡ old.asked → n ≡ name → g ≡ new.faults → b ≡ new.asked
+    → IsAllocated tc old new answer
+allocated_over name tc old new answer n a b f g is is_f is_a is_n is_g is_b =
+    record { name = name; allocated = rw (is_f, is_a, is_n, is_g, is_b) at is }
 
 -- what is asked at a moment, and done, is the reply to what was taken
 pub replied : {K : Type 0} (may_answer : K → ℕ → List ℕ → Result ⊤ TokenError → K → Type 0)

@@ -1,8 +1,8 @@
 //! Serving one connection of a scheduler: take, answer, send.
 ghost use Rattle.std.specs.Prelude.{◌≡◌};
-ghost use Rattle.sched.specs.Outside.{moments};
+ghost use Rattle.sched.specs.Outside.{moments, IsRead};
 ghost use Rattle.sched.specs.Pass.{held_of};
-ghost use Rattle.scheduler_service.specs.Connection.{IsReplied};
+ghost use Rattle.scheduler_service.specs.Connection.{Asks, IsReplied};
 ghost use Rattle.http_connections.specs.Served.{IsServedBy};
 
 use crate::answer::answer;
@@ -21,49 +21,28 @@ use http_connections::send::send;
 use http_connections::served::Served;
 use http_connections::take::take;
 use http_head::request::Request;
-use http_routes::reply::Response;
+use http_routes::route::SchedRouted;
 use sched::pass::Pass;
 use sched::scheduler::Scheduler;
 use std::alloc::Global;
 use std::sync::Wait;
 
-/// The reply to what was taken. Refused for want of memory alone: before what is asked was known, and then
-/// nothing is done, or behind what it did.
-fn reply_to<R: Wait, D: Dialer, C: Clock, K: ClientAuthCheck, V: ServerAuthCheck>(
-    rt: &R,
+/// What was taken asks at the moment that the clock gives. Refused for want of memory alone, and then nothing
+/// is done.
+fn routed<C: Clock, K: ClientAuthCheck, V: ServerAuthCheck>(
     alloc: Global,
-    scheduler: &Scheduler<JWTJobAuthorizer>,
-    pass: &mut Pass,
     peer: Addr,
-    dialer: &mut D,
     clock: &mut C,
     client: &mut K,
     server: &V,
     request: &Option<Request>,
-) -> Result<Response, Memory>
-    ensures replied { IsReplied K.may_answer K.shown (V.server_of server.now) peer request.now
-        (record {
-          means = record { pass = pass.old; clock = moments C.moments C.last clock.old; asked = D.asked dialer.old; faults = D.faults dialer.old };
-          client = client.old;
-        })
-        (record {
-          means = record { pass = pass.new; clock = moments C.moments C.last clock.new; asked = D.asked dialer.new; faults = D.faults dialer.new };
-          client = client.new;
-        }) result }
-    ensures holds { held_of pass.new ≡ held_of pass.old }
+) -> Result<SchedRouted, Memory>
+    ensures read { IsRead (moments C.moments C.last clock.old) (moments C.moments C.last clock.new) }
+    ensures asks { Asks K.may_answer K.shown (V.server_of server.now) peer request.now (C.last clock.new)
+        client.old result client.new }
 {
     let now = clock.now();
-    let routed = route(alloc, request, peer, now, client, server)?;
-    answer(
-        rt,
-        alloc,
-        scheduler,
-        pass,
-        dialer,
-        clock,
-        form_of(request),
-        routed,
-    )
+    route(alloc, request, peer, now, client, server)
 }
 
 /// Takes one request, answers it, and sends the reply. ReadFault and WriteFault come only where that half's
@@ -115,10 +94,12 @@ pub fn serve_scheduler_connection<
         Err(ReadError::Memory) => return Served::Memory,
         Err(ReadError::TooLong) => unreachable!(),
     };
-    let replied = reply_to(
-        rt, alloc, scheduler, pass, peer, dialer, clock, client, server, &request,
-    );
-    match replied {
+    let routing = match routed(alloc, peer, clock, client, server, &request) {
+        Ok(routing) => routing,
+        Err(Memory) => return Served::Memory,
+    };
+    let json = form_of(&request);
+    match answer(rt, alloc, scheduler, pass, dialer, clock, json, routing) {
         Ok(reply) => send(alloc, link, &reply),
         Err(Memory) => Served::Memory,
     }

@@ -19,6 +19,8 @@ const VALIDATED: &str =
 
 const USAGE: &str = "sccache-dist: these words name no command\n";
 
+const NO_RUN: &str = "sccache-dist: audit refused line 1: text\n";
+
 const BAD_KEY: &str = "sccache-dist: bad configuration: key secret_key\n";
 
 const BAD_CLIENT: &str = "sccache-dist: bad configuration: key client_auth\n";
@@ -146,6 +148,8 @@ const ROWS: &[(&str, &str, u8, &str, &str, usize)] = &[
         0,
     ),
     ("x|storm|100001", "", 2, "", USAGE, 0),
+    ("x|audit", "", 8, "", NO_RUN, 0),
+    ("x|audit|x", "", 2, "", USAGE, 0),
 ];
 
 fn holds(

@@ -1,8 +1,10 @@
-//! Runs of the command `farm` over calls that fail, lines that are faulty, and folders and builders that are
-//! handed in, one module a topic. Whole runs are in `test_rows`. The expected texts were written by hand or by
-//! other tools, none is our own output.
+//! Runs of the commands `farm` and `audit` over calls that fail, lines that are faulty, and folders and builders
+//! that are handed in, one module a topic. Whole runs are in `test_rows`. The expected texts were written by hand
+//! or by other tools, none is our own output.
 #![tactic(auto)]
 
+#[cfg(test)]
+mod audits;
 #[cfg(test)]
 mod first_run;
 #[cfg(test)]

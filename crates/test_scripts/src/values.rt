@@ -5,6 +5,7 @@ use farm_script::event::EventKind;
 use farm_script::script::read_script;
 use farm_script::setup::{BuilderLine, SetupAuth, SetupServer};
 use line_program::fault::{ConfigCause, FarmFault};
+use line_program::why::Why;
 use std::alloc::{AllocError, Global};
 use std::process::Abort;
 use std::test::Fail;
@@ -127,6 +128,20 @@ fn prints(rt: &impl Abort, alloc: Global, fault: FarmFault, text: &str) -> Resul
     let printed = format!(in alloc; "{fault}")?;
     assert_eq!(rt; printed.as_str(), text);
     Ok(())
+}
+
+#[test]
+fn prints_refused_runs(rt: HostRuntime) -> Result<(), Fail> {
+    let alloc = rt.alloc();
+    let text = FarmFault::AuditRefused(1, Why::Text);
+    let core = FarmFault::AuditRefused(7, Why::Core);
+    let build = FarmFault::AuditRefused(10, Why::Build);
+    let books = FarmFault::AuditRefused(u64::MAX, Why::Books);
+    prints(&rt, alloc, text, "audit refused line 1: text")?;
+    prints(&rt, alloc, core, "audit refused line 7: core")?;
+    prints(&rt, alloc, build, "audit refused line 10: build")?;
+    let last = "audit refused line 18446744073709551615: books";
+    prints(&rt, alloc, books, last)
 }
 
 #[test]

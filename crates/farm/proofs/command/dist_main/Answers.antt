@@ -1,5 +1,6 @@
 use Rattle.farm.proofs.AnswerLemmas.{answered, statuses_of, faulty_of, faultless_of, left_of, order_of}
 use Rattle.farm.proofs.AnswerLemmas.{counts_of, no_command_of, command_of, configured_of, served_of, storm_of}
+use Rattle.farm.proofs.AuditAnswerLemmas.{AuditLaws, held_of, refused_of, behind_of}
 use Rattle.farm.proofs.command.dist_main.Goals as goal
 
 -- what was done, reported
@@ -42,3 +43,22 @@ returns-clause-configured g c = configured_of c.report.result _ _ _ (told g c)
 
 pub returns-clause-served : goal.returns-clause-served
 returns-clause-served g c = served_of c.report.result _ _ _ (told g c)
+
+pub returns-clause-held : goal.returns-clause-held
+returns-clause-held g c = held_of (record {
+  holds = c.what_holds_is_held.ensures;
+  text = c.refusals_are_first_faults.ensures.text;
+  judged = c.refusals_are_first_faults.ensures.judged;
+  books = c.refusals_are_first_faults.ensures.books;
+}) c.report.result _ _ _ (told g c)
+
+pub returns-clause-refused : goal.returns-clause-refused
+returns-clause-refused g c = refused_of (record {
+  holds = c.what_holds_is_held.ensures;
+  text = c.refusals_are_first_faults.ensures.text;
+  judged = c.refusals_are_first_faults.ensures.judged;
+  books = c.refusals_are_first_faults.ensures.books;
+}) c.report.result _ _ _ (told g c)
+
+pub returns-clause-behind : goal.returns-clause-behind
+returns-clause-behind g c = behind_of c.report.result _ _ _ (told g c)

@@ -1,18 +1,23 @@
-use Rattle.std.proofs.Common.{ap, sym, ◌∙◌}
+use Rattle.std.proofs.Common.{Ok, Err, refl, ap, sym, ◌∙◌}
 use Rattle.http_connections.proofs.ConnectionLemmas.{sent_by, unsent}
+use Rattle.scheduler_service.proofs.RepliedLemmas.{replied, unrouted}
 use Rattle.scheduler_service.proofs.SettledLemmas.{replied_whole}
 use Rattle.scheduler_service.proofs.connection.serve_scheduler_connection.Goals as goal
 
-pub returns-in-Ok-replied-clause-served : goal.returns-in-Ok-replied-clause-served
-returns-in-Ok-replied-clause-served g c =
+pub returns-in-Ok-answer-clause-served : goal.returns-in-Ok-answer-clause-served
+returns-in-Ok-answer-clause-served g c =
     let refusals = (g.met.K.ClientAuthCheck g.world.𝓛 g.world.𝓜 g.world.𝓡
     ((λ s x. x), (λ x. x), (λ x. x), λ x. x)).refusals in
     let alone = g.met.L.Link.writes_alone in
     let same = ap (λ p. p.0)
     (sym (alone c.take.new.link) ∙ (sym c.send.ensures.apart ∙ alone c.send.new.link)) in
-    sent_by _ _ _ _ c.in-Ok.request c.in-Ok-replied.reply c.send.result _ _ _ _ _ _ _ _ _ _ _
+    sent_by _ _ _ _ c.in-Ok.request c.in-Ok-answer.reply c.send.result _ _ _ _ _ _ _ _ _ _ _
     c.in-Ok.ensures.cut same c.in-Ok.ensures.writes.0 c.in-Ok.ensures.writes.1
-    (replied_whole _ _ _ refusals _ _ _ _ _) c.in-Ok-replied.ensures.replied
+    (replied_whole _ _ _ refusals _ _ _ _ _)
+    (replied _ _ _ _ c.in-Ok.request _ _ _
+    (record { coming = g.C.Clock.moments c.routed.new.clock; last = g.C.Clock.last c.routed.new.clock })
+    (Ok c.in-Ok-routed.routing) _ (Ok c.in-Ok-answer.reply) c.in-Ok-routed.ensures.read
+    c.in-Ok-routed.ensures.asks (rw c.form_of-json.ensures at c.in-Ok-answer.ensures.told))
     (record {
       answered = c.send.ensures.answered;
       failed = c.send.ensures.failed;
@@ -20,9 +25,23 @@ returns-in-Ok-replied-clause-served g c =
       no_read = c.send.ensures.no_read;
     })
 
+pub returns-in-Err-clause-served : goal.returns-in-Err-clause-served
+returns-in-Err-clause-served g c =
+    let refusals = (g.met.K.ClientAuthCheck g.world.𝓛 g.world.𝓜 g.world.𝓡
+    ((λ s x. x), (λ x. x), (λ x. x), λ x. x)).refusals in
+    unsent _ _ _ _ c.in-Ok.request c.in-Err.field-0 _ _ _ _ _ _ _ _ c.in-Ok.ensures.cut
+    c.in-Ok.ensures.writes.0 (replied_whole _ _ _ refusals _ _ _ _ _)
+    (unrouted _ _ _ _ c.in-Ok.request _ _ _
+    (record { coming = g.C.Clock.moments c.routed.new.clock; last = g.C.Clock.last c.routed.new.clock })
+    c.in-Err.field-0 c.in-Err.field-0 (Err c.in-Err.field-0) c.in-Err.ensures.read c.in-Err.ensures.asks refl)
+
 pub returns-clause-served : goal.returns-clause-served
 returns-clause-served g c =
     let refusals = (g.met.K.ClientAuthCheck g.world.𝓛 g.world.𝓜 g.world.𝓡
     ((λ s x. x), (λ x. x), (λ x. x), λ x. x)).refusals in
-    unsent _ _ _ _ c.in-Ok.request c.in-Err.field-0 _ _ _ _ _ _ _ _ c.in-Ok.ensures.cut
-    c.in-Ok.ensures.writes.0 (replied_whole _ _ _ refusals _ _ _ _ _) c.in-Err.ensures.replied
+    unsent _ _ _ _ c.in-Ok.request c.in-Err-answer.field-0 _ _ _ _ _ _ _ _ c.in-Ok.ensures.cut
+    c.in-Ok.ensures.writes.0 (replied_whole _ _ _ refusals _ _ _ _ _)
+    (replied _ _ _ _ c.in-Ok.request _ _ _
+    (record { coming = g.C.Clock.moments c.routed.new.clock; last = g.C.Clock.last c.routed.new.clock })
+    (Ok c.in-Ok-routed.routing) _ (Err c.in-Err-answer.field-0) c.in-Ok-routed.ensures.read
+    c.in-Ok-routed.ensures.asks (rw c.form_of-json.ensures at c.in-Err-answer.ensures.told))

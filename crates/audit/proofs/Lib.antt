@@ -1,0 +1,12 @@
+pub mod BegunLemmas
+pub mod BookLemmas
+pub mod CauseLemmas
+pub mod FirstBadLemmas
+pub mod HeldLemmas
+pub mod KeptLemmas
+pub mod KeylessLemmas
+pub mod MarkLemmas
+pub mod PrintedLemmas
+pub mod ReadLemmas
+pub mod ReplayLemmas
+pub mod RuleLemmas

@@ -1,0 +1,9 @@
+pub mod Order
+pub mod Reading
+pub mod Keyless
+pub mod Replay
+pub mod Kept
+pub mod FirstBad
+pub mod Books
+pub mod Verdict
+pub mod Held

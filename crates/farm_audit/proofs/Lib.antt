@@ -1,0 +1,12 @@
+pub mod History
+pub mod RunTextLemmas
+pub mod HistoryLemmas
+pub mod OrderLemmas
+pub mod FarmHeldLemmas
+pub mod MomentLemmas
+pub mod FirstBuildLemmas
+pub mod EachLemmas
+pub mod FitLemmas
+pub mod ValueLemmas
+pub mod EventLemmas
+pub mod RunHoldsLemmas

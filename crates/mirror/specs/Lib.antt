@@ -1,0 +1,10 @@
+pub mod Caches
+pub mod Question
+pub mod Asking
+pub mod Getting
+pub mod Routing
+pub mod Prefetching
+pub mod Far
+pub mod Sides
+pub mod OneCache
+pub mod Rule

@@ -1,0 +1,4 @@
+pub mod StepLemmas
+pub mod ProgramLemmas
+pub mod SiteLemmas
+pub mod LinesAsOneLemmas

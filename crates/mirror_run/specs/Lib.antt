@@ -1,0 +1,4 @@
+pub mod Steps
+pub mod Sites
+pub mod LinesAsOne
+pub mod Program

@@ -1,0 +1,14 @@
+pub mod ListLemmas
+pub mod ClientLemmas
+pub mod AgreeLemmas
+pub mod HoldingLemmas
+pub mod RowLemmas
+pub mod AddLemmas
+pub mod LinkLemmas
+pub mod EndLemmas
+pub mod QuotaLemmas
+pub mod PickedLemmas
+pub mod GrowLemmas
+pub mod IsolationLemmas
+pub mod SinceLemmas
+pub mod ListedLemmas

@@ -1,0 +1,4 @@
+pub mod ClientLemmas
+pub mod LineLemmas
+pub mod FirstFaultyLemmas
+pub mod SpelledLemmas

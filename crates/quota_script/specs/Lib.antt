@@ -1,0 +1,6 @@
+pub mod Grammar
+pub mod Line
+pub mod Place
+pub mod Script
+pub mod FirstFaulty
+pub mod Spelled

@@ -1,0 +1,14 @@
+pub mod CoreChains
+pub mod CoreLemmas
+pub mod EventLemmas
+pub mod FieldLemmas
+pub mod IdLemmas
+pub mod ItemLemmas
+pub mod KindLemmas
+pub mod LineChains
+pub mod LineLemmas
+pub mod PartChains
+pub mod PartLemmas
+pub mod StepChains
+pub mod StepLemmas
+pub mod UnbrokenLemmas
