@@ -1,0 +1,6 @@
+pub mod NumberLemmas
+pub mod HandLemmas
+pub mod UnspentLemmas
+pub mod AllocLemmas
+pub mod CallLemmas
+pub mod RunLemmas
