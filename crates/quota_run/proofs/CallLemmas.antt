@@ -1,9 +1,8 @@
 -- What the other calls of the scheduler leave is what their outcomes say.
-use Rattle.std.proofs.Common.{◌≡◌, ℕ, zero, suc, ◌≤◌, ◌<◌, ◌⊎◌, inl, inr, List, ◌∷◌, ◌++◌, Bool, true, false, cond, length}
-use Rattle.std.proofs.Common.{Option, Some, None, Result, Ok, Err, refl, sym, ap, subst, ◌∙◌, ◌&&◌, arith, []}
+use Rattle.std.proofs.Common.{◌≡◌, ℕ, zero, suc, ◌<◌, ◌⊎◌, inl, inr, List, Bool, true, false, cond, length}
+use Rattle.std.proofs.Common.{Option, Some, None, Result, Ok, Err, refl, sym, ap, subst, ◌∙◌, ◌&&◌, arith}
 use Rattle.std.specs.Prelude.{nat_eq, nat_le, OnOk, OnErr, IfErr, if◌then◌else◌, ◌↔◌}
 use Rattle.std.proofs.lemmas.Bool.{leb-false, lt-leb}
-use Rattle.std.proofs.lemmas.Option.{same_Some}
 use Rattle.dist_types.specs.declared.addr.Addr.{Addr}
 use Rattle.dist_types.specs.declared.fault.Memory.{Memory}
 use Rattle.dist_types.specs.declared.ids.JobId.{JobId}
@@ -16,16 +15,15 @@ use Rattle.core_rules.specs.declared.entry.CoreEntry.{CoreEntry}
 use Rattle.core_rules.specs.declared.error.SchedError.{SchedError}
 use Rattle.core_rules.specs.declared.error.SchedError.TheVariants as error
 use Rattle.core_rules.specs.Calls.{number_of}
-use Rattle.core_rules.specs.Log.{Core, logged, same_job}
+use Rattle.core_rules.specs.Log.{logged}
 use Rattle.core_rules.specs.Reservation.{unspent, spends_by}
 use Rattle.core_rules.specs.Rule.{rule, is_among}
 use Rattle.core_rules.specs.Ticket.{Ticket}
 use Rattle.core_rules.proofs.StepLemmas.{booked}
-use Rattle.quota.specs.Calls.{Outcome, spent_by, state_if, outcome, made, unchanged}
+use Rattle.quota.specs.Calls.{Outcome, spent_by, state_if, made, unchanged}
 use Rattle.quota.specs.Quota.{Quota, over_core, LeavesOver}
 use Rattle.quota.specs.declared.call.QuotaAnswer.{QuotaAnswer}
 use Rattle.quota.specs.declared.call.QuotaAnswer.TheVariants as answer
-use Rattle.quota.specs.declared.call.QuotaCall.{QuotaCall}
 use Rattle.quota.specs.declared.call.QuotaCall.TheVariants as call
 use Rattle.quota_run.specs.Answers.{answered, heard_of, updated_of}
 use Rattle.quota_run.specs.Hand.{InHand, of_job, IsOf, AreUnspent}

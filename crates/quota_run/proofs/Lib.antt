@@ -4,3 +4,5 @@ pub mod UnspentLemmas
 pub mod AllocLemmas
 pub mod CallLemmas
 pub mod RunLemmas
+pub mod LineLemmas
+pub mod ProgramLemmas

@@ -1,5 +1,5 @@
 -- The number of a job's unspent reservation, behind one more entry.
-use Rattle.std.proofs.Common.{◌≡◌, ℕ, List, [], ◌∷◌, ◌++◌, Bool, true, false, cond, not, ◌&&◌, ◌||◌, filter, map}
+use Rattle.std.proofs.Common.{◌≡◌, ℕ, List, [], ◌∷◌, ◌++◌, Bool, true, false, cond, not, ◌&&◌, filter, map}
 use Rattle.std.proofs.Common.{Option, Some, None, refl, sym, ap, ◌∙◌, inl, inr}
 use Rattle.std.specs.Prelude.{option_to_list, find, ◌==◌}
 use Rattle.std.specs.Option.{option_map}
@@ -11,7 +11,7 @@ use Rattle.core_rules.specs.Calls.{number_of}
 use Rattle.core_rules.specs.Log.{same_job}
 use Rattle.core_rules.specs.Reservation.{Booking, unspent, spends_by}
 use Rattle.core_rules.specs.Rule.{is_among}
-use Rattle.core_rules.proofs.AllLemmas.{same_job-eq, or_true, true_false, same_job-refl}
+use Rattle.core_rules.proofs.AllLemmas.{same_job-eq, or_true}
 use Rattle.core_rules.proofs.StepLemmas.{bare, free, booked, free_stays, free-push}
 use Rattle.std.proofs.lemmas.Cmp.{nat_eq_equiv}
 

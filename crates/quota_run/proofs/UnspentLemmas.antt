@@ -1,6 +1,6 @@
 -- What is in hand are the unspent reservations of the log, behind one more entry.
-use Rattle.std.proofs.Common.{◌≡◌, ℕ, List, [], ◌∷◌, ◌++◌, Bool, true, false, cond, map, filter, Option, Some, None}
-use Rattle.std.proofs.Common.{refl, sym, ap, subst, ◌∙◌, inl, inr}
+use Rattle.std.proofs.Common.{◌≡◌, ℕ, List, [], ◌∷◌, ◌++◌, Bool, true, false, cond, map, filter, Some, None}
+use Rattle.std.proofs.Common.{refl, sym, ap, subst, ◌∙◌}
 use Rattle.std.specs.Prelude.{option_to_list, nat_eq}
 use Rattle.std.specs.List.{AllByRecursion}
 use Rattle.dist_types.specs.declared.ids.JobId.{JobId}

@@ -1,3 +1,5 @@
 pub mod Hand
 pub mod Answers
 pub mod Run
+pub mod Lines
+pub mod Program

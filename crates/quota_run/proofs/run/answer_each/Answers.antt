@@ -1,4 +1,4 @@
-use Rattle.std.proofs.Common.{◌≡◌, ◌+◌, [], ◌∷◌, ◌++◌, length, refl, sym, subst, arith}
+use Rattle.std.proofs.Common.{◌+◌, [], ◌∷◌, ◌++◌, refl, sym, subst, arith}
 use Rattle.quota_run.specs.Run.{AreBegun}
 use Rattle.quota_run.proofs.RunLemmas.{one_more, begun, on_err}
 use Rattle.quota_run.proofs.run.answer_each.Goals as goal
