@@ -9,7 +9,7 @@ ghost use Rattle.sched.specs.Outside.{moments};
 ghost use Rattle.scheduler_steps.specs.Settling.{is_own};
 
 use crate::full::full;
-use crate::steps::{count, hear, report, settle};
+use crate::step::{count, hear, report, settle};
 use dist_token::job_token::JWTJobAuthorizer;
 use dist_types::clock::Clock;
 use dist_types::dialer::Dialer;

@@ -1,6 +1,6 @@
 use Rattle.std.proofs.Common.{sym, ◌∙◌}
 use Rattle.quota_service.proofs.StepLemmas.{heard}
-use Rattle.quota_service.proofs.steps.hear.Goals as goal
+use Rattle.quota_service.proofs.step.hear.Goals as goal
 
 pub returns-in-Ok : goal.returns-in-Ok
 returns-in-Ok c = record {

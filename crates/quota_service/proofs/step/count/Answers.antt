@@ -1,5 +1,5 @@
 use Rattle.std.proofs.Common.{Some, Ok, refl, ap}
-use Rattle.quota_service.proofs.steps.count.Goals as goal
+use Rattle.quota_service.proofs.step.count.Goals as goal
 
 pub returns-in-Ok : goal.returns-in-Ok
 returns-in-Ok c = record {

@@ -1,6 +1,6 @@
 use Rattle.std.proofs.Common.{Ok, Err}
 use Rattle.quota_service.proofs.StepLemmas.{reported}
-use Rattle.quota_service.proofs.steps.report.Goals as goal
+use Rattle.quota_service.proofs.step.report.Goals as goal
 
 pub returns-in-Ok : goal.returns-in-Ok
 returns-in-Ok c = record {
