@@ -1,5 +1,5 @@
-"""What tests/under-load is made of: callers that are processes, schedulers and build servers that are started for a part,
-rates that are compared, answers that are watched, and a look at the machine itself.
+"""What tests/under-load is made of: callers that are processes, schedulers and build servers that are
+started for a part, rates that are compared, answers that are watched, and a look at the machine itself.
 
 Run as a program it is one caller of a crowd (`caller WORDS`), or watches one processor (`ticker NUMBER`).
 """
@@ -60,8 +60,8 @@ def in_time(holds, said):
 
 
 def be_ticker(processor):
-    """Sleeps again and again on one processor, until standard input ends, and says by how much the longest sleep was
-    too long."""
+    """Sleeps again and again on one processor, until standard input ends, and says by how much the longest
+    sleep was too long."""
     with contextlib.suppress(OSError):
         os.sched_setaffinity(0, {processor})
     longest, last = 0.0, time.monotonic()
@@ -175,7 +175,8 @@ def call(port, number, seconds, inputs, late):
 
 
 def be_caller(words):
-    """One caller of a crowd, in a process of its own: says that it is there, waits for a line, and tells what came."""
+    """One caller of a crowd, in a process of its own: says that it is there, waits for a line, and tells
+    what came."""
     asked = json.loads(words)
     print(flush=True)
     sys.stdin.readline()
@@ -184,8 +185,8 @@ def be_caller(words):
 
 
 class Crowd:
-    """So many callers which build one job after another, each for so many seconds. Each is a process, since callers
-    that are threads of one wait for one another, and what they measure is this then."""
+    """So many callers which build one job after another, each for so many seconds. Each is a process, since
+    callers that are threads of one wait for one another, and what they measure is this then."""
 
     def __init__(self, port, number, seconds, inputs=1, late=None):
         self.asked = [dict(port=port, number=n, seconds=seconds, inputs=inputs, late=late) for n in range(number)]
@@ -221,10 +222,10 @@ class Crowd:
 
 
 class Rounds:
-    """Rates of two ways to work, beside one another: a round is the first, the second and the first again. It counts
-    where the machine was steady in it, so that the first way had nearly the same rate twice; what else goes on at the
-    machine makes either way slow and none fast, so one round that counts and holds is enough. Where none counts,
-    nothing is told."""
+    """Rates of two ways to work, beside one another: a round is the first, the second and the first again.
+    It counts where the machine was steady in it, so that the first way had nearly the same rate twice; what
+    else goes on at the machine makes either way slow and none fast, so one round that counts and holds is
+    enough. Where none counts, nothing is told."""
 
     STEADY = 0.8
 

@@ -28,14 +28,14 @@ PIECE_BYTES = 1 << 16
 LOOK_SECONDS = 0.25
 MIB = 1 << 20
 PR_SET_CHILD_SUBREAPER = 36
-# The shell sets the limits before the command begins: no core, a file's blocks of 512 bytes, seconds of a processor,
-# memory in KiB. What it puts into the environment by itself goes.
+# The shell sets the limits before the command begins: no core, a file's blocks of 512 bytes, seconds of a
+# processor, memory in KiB. What it puts into the environment by itself goes.
 LAUNCH = 'ulimit -c 0; ulimit -f "$1"; ulimit -t "$2"; ulimit -v "$3"; shift 3; unset PWD OLDPWD SHLVL _; exec "$@"'
 
 
 def remove(path):
-    """Removes a folder, also one whose modes forbid it, or which is deeper than a path may be long: each folder in it is
-    moved up to stand beside it first."""
+    """Removes a folder, also one whose modes forbid it, or which is deeper than a path may be long: each
+    folder in it is moved up to stand beside it first."""
     left = [os.fspath(path)]
     beside = os.path.dirname(left[0])
     while left:
@@ -364,7 +364,8 @@ class Job:
                 looked = time.monotonic()
 
     def drain(self, selector, until):
-        """What was written before the end; a process that left the group has a second to close what it holds."""
+        """What was written before the end; a process that left the group has a second to close what it
+        holds."""
         until = min(until, time.monotonic() + 1)
         while any(key.data in ("out", "err") for key in selector.get_map().values()) and time.monotonic() < until:
             for key, _ in selector.select(0.05):
@@ -443,7 +444,8 @@ def readable(link, seconds):
 
 
 def spooled(link, front, size, path, move_seconds, limit):
-    """A body of so many bytes, which begins with a front, into a file; its SHA-256. Nobody trusts that it comes."""
+    """A body of so many bytes, which begins with a front, into a file; its SHA-256. Nobody trusts that it
+    comes."""
     digest = hashlib.sha256(front)
     with open(path, "xb") as out:
         out.write(front)

@@ -1,4 +1,5 @@
-"""Asks a running scheduler: one request a connection, and each fault in a line. Python's standard library alone."""
+"""Asks a running scheduler: one request a connection, and each fault in a line. Python's standard library
+alone."""
 import json
 import re
 import socket

@@ -1,4 +1,5 @@
-"""What became of each registration and of each job of a run that farm_run has read: who, when, and how it ended."""
+"""What became of each registration and of each job of a run that farm_run has read: who, when, and how it
+ended."""
 
 
 class Registration:

@@ -1,4 +1,5 @@
-"""Reads a printed run of `sccache-dist farm`: its entries and its books, field by field, as docs/SCRIPT.md has them.
+"""Reads a printed run of `sccache-dist farm`: its entries and its books, field by field, as docs/SCRIPT.md
+has them.
 
 It judges nothing: what it cannot read is kept beside, each with the number of its line.
 """
@@ -201,7 +202,8 @@ def job_of(said):
 
 
 class Run:
-    """A run as it is read: `entries`, `books`, and `unread`, the numbers of lines with what is wrong there."""
+    """A run as it is read: `entries`, `books`, and `unread`, the numbers of lines with what is wrong
+    there."""
 
     def __init__(self, lines):
         self.entries, self.books, self.unread = [], [], []

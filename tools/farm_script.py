@@ -1,4 +1,5 @@
-"""The lines of a script of `sccache-dist farm`, as docs/SCRIPT.md has them: what each value may be, and where a line may stand."""
+"""The lines of a script of `sccache-dist farm`, as docs/SCRIPT.md has them: what each value may be, and
+where a line may stand."""
 import ipaddress
 import re
 

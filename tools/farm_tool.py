@@ -1,4 +1,5 @@
-"""How a tool of this folder reads, writes and ends: whatever goes wrong is one line on standard error, and a status.
+"""How a tool of this folder reads, writes and ends: whatever goes wrong is one line on standard error, and
+a status.
 
     0  done                          4  a file or the input cannot be read
     1  what was read is faulty       5  the output cannot be written
@@ -101,7 +102,8 @@ def write(text):
 
 
 def tell_unread(printed):
-    """Tells the lines of a printed run that could not be read, the first of them one by one; the status says whether there are any."""
+    """Tells the lines of a printed run that could not be read, the first of them one by one; the status
+    says whether there are any."""
     for number, cause in printed.unread[:MOST_TOLD]:
         tell(f"line {number}: {cause}")
     if len(printed.unread) > MOST_TOLD:

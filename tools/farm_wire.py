@@ -1,4 +1,5 @@
-"""What tools/farm-write and tools/farm-read share: the messages in binary, heads, and tokens. Python's standard library alone.
+"""What tools/farm-write and tools/farm-read share: the messages in binary, heads, and tokens. Python's
+standard library alone.
 
 docs/PROTOCOL.md says the formats. Nothing here is part of the proved program.
 """

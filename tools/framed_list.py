@@ -1,6 +1,7 @@
 """Framed lists: read strictly, unpacked into a folder, and written. Python's standard library alone.
 
-docs/PROTOCOL.md says the format. A list says no modes: a file that begins as a program does (ELF, or `#!`) may be run.
+docs/PROTOCOL.md says the format. A list says no modes: a file that begins as a program does (ELF, or `#!`)
+may be run.
 """
 import os
 
@@ -60,7 +61,8 @@ class Records:
         return self.take(size)
 
     def __iter__(self):
-        """Letter, path, and the target of a link or the number of bytes of a file, which stand next in the stream."""
+        """Letter, path, and the target of a link or the number of bytes of a file, which stand next in the
+        stream."""
         before = None
         for _ in range(MOST_RECORDS + 1):
             letter = self.take(1)
@@ -104,7 +106,8 @@ def is_program(front):
 
 
 class Unpacking:
-    """A list that is unpacked into a folder, which no one else writes. Links come last, so nothing is written through one."""
+    """A list that is unpacked into a folder, which no one else writes. Links come last, so nothing is
+    written through one."""
 
     def __init__(self, folder, most):
         self.folder, self.most = os.fsencode(folder), most
@@ -167,7 +170,8 @@ class Unpacking:
 
 
 def unpack(stream, size, folder, most=MOST_RECORDS):
-    """Unpacks so many bytes of a stream into a folder that stands empty: at most so many files and folders."""
+    """Unpacks so many bytes of a stream into a folder that stands empty: at most so many files and
+    folders."""
     Unpacking(folder, most).unpack(stream, size)
 
 

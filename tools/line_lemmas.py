@@ -1,6 +1,6 @@
 #!/usr/bin/env python3
-"""Writes the lemmas on chains of fields of crates/run_lines/proofs: of each kind of line, that what its reader
-reads is the one text of a value that fits, and that this text is read.
+"""Writes the lemmas on chains of fields of crates/run_lines/proofs: of each kind of line, that what its
+reader reads is the one text of a value that fits, and that this text is read.
 
     tools/line_lemmas.py [CRATE]      CRATE: crates/run_lines
 """

@@ -3,8 +3,9 @@
 
     vectors/audit.py < TEXT        writes `holds`, or the line and the cause, as `10 books`
 
-It shares nothing with the proved program. A run is Text where a line is outside the grammar; else Core or Build, where a
-core entry is not the rule's or a build has no accepted start before it or is a second one; else Books.
+It shares nothing with the proved program. A run is Text where a line is outside the grammar; else Core or
+Build, where a core entry is not the rule's or a build has no accepted start before it or is a second one;
+else Books.
 """
 import ipaddress
 import os

@@ -1,7 +1,8 @@
-"""The scheduler's rules as questions to a list of entries, each asked anew of the whole list: slow, and plain.
+"""The scheduler's rules as questions to a list of entries, each asked anew of the whole list: slow, and
+plain.
 
-An entry is a dict: `now`, `kind`, and the fields of its kind. It is numbered by its place. Moments are milliseconds.
-The rules have two versions; where they differ, a question takes the version, 1 or 2.
+An entry is a dict: `now`, `kind`, and the fields of its kind. It is numbered by its place. Moments are
+milliseconds. The rules have two versions; where they differ, a question takes the version, 1 or 2.
 """
 LAST = 2**64 - 1
 PRUNE_MS, ERROR_MS, UNCLAIMED_MS, PENDING_MS = 90000, 300000, 60000, 300000
@@ -99,8 +100,8 @@ def state_of(log, job):
 
 
 def ready_since(log, number, version):
-    """Since when a ready job has been ready: in version 1 its reservation; in version 2 the accepted update to ready, or
-    the commit that said ready."""
+    """Since when a ready job has been ready: in version 1 its reservation; in version 2 the accepted update
+    to ready, or the commit that said ready."""
     if version == 1:
         return log[number]["now"]
     job = log[number]["job"]

@@ -1,10 +1,12 @@
 #!/usr/bin/env python3
-"""A plain model of sccache_mirror: what it writes, and its status, for the words behind its name and its input.
+"""A plain model of sccache_mirror: what it writes, and its status, for the words behind its name and its
+input.
 
     vectors/mirror.py < SCRIPT     writes what the program must write
 
-It shares nothing with the proved program. A cache is a list of archives, least recent first. `script` makes an input by a
-seed: steps over small archives, with lies, losses and caches too small; faulty lines; limits met and passed.
+It shares nothing with the proved program. A cache is a list of archives, least recent first. `script` makes
+an input by a seed: steps over small archives, with lies, losses and caches too small; faulty lines; limits
+met and passed.
 """
 import hashlib
 import random

@@ -1,10 +1,12 @@
 #!/usr/bin/env python3
-"""Writes the printed run of a generated history of a scheduler, under either version of the rules, by core.py alone.
+"""Writes the printed run of a generated history of a scheduler, under either version of the rules, by
+core.py alone.
 
     vectors/printed_runs.py SEED VERSION CALLS
 
-Each entry has the line of an event, mostly with the core entry of a call; a started job is built now and then, once. It
-shares nothing with the proved program, and no farm has such a history: its events do not ask for what stands below them.
+Each entry has the line of an event, mostly with the core entry of a call; a started job is built now and
+then, once. It shares nothing with the proved program, and no farm has such a history: its events do not ask
+for what stands below them.
 """
 import os
 import random

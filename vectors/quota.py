@@ -1,10 +1,12 @@
 #!/usr/bin/env python3
-"""A plain model of sccache_quota: what it writes, and its status, for the words behind its name and its input.
+"""A plain model of sccache_quota: what it writes, and its status, for the words behind its name and its
+input.
 
     vectors/quota.py < SCRIPT     writes what the program must write
 
-It shares nothing with the proved program; the scheduler's rules are those of core.py, asked anew of the whole list of entries.
-`script` makes an input by a seed: clients with small limits over small servers; faulty lines; limits met and passed.
+It shares nothing with the proved program; the scheduler's rules are those of core.py, asked anew of the
+whole list of entries. `script` makes an input by a seed: clients with small limits over small servers;
+faulty lines; limits met and passed.
 """
 import random
 import re

@@ -1,11 +1,12 @@
 #!/usr/bin/env python3
-"""Writes the table of lines of printed runs, and of forms near them, each with what the grammar of audit.py says of it.
+"""Writes the table of lines of printed runs, and of forms near them, each with what the grammar of audit.py
+says of it.
 
     vectors/run_lines.py > crates/test_run_lines/src/table.rt
 
-Each kind of line stands in each of its forms. A near form is one of these with one thing changed: a word left out, twice
-or in upper case, another blank, a number, a hex, an id or an address in another spelling or past its limit. It shares
-nothing with the proved program.
+Each kind of line stands in each of its forms. A near form is one of these with one thing changed: a word
+left out, twice or in upper case, another blank, a number, a hex, an id or an address in another spelling or
+past its limit. It shares nothing with the proved program.
 """
 import os
 import re
@@ -110,7 +111,8 @@ def near(line):
 
 
 def near_forms():
-    """Each change once a first word, but few of the long ones, with the first word of the line that was changed."""
+    """Each change once a first word, but few of the long ones, with the first word of the line that was
+    changed."""
     seen, done, long = set(LINES), set(), {}
     for line in LINES:
         first = line.split(" ")[0]

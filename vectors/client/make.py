@@ -6,9 +6,9 @@
     python3 vectors/client/make.py calls steps > crates/test_client/stdin
     python3 vectors/client/make.py calls told > crates/test_client/stdout
 
-What must come of a step about toolchains stands beside it. What must come of a call is told by a model of its own: a
-reply is read by the rules of docs/PROTOCOL.md (a head, a body that matches its length, the status 200, a message at the
-body's front), and a request is written by them.
+What must come of a step about toolchains stands beside it. What must come of a call is told by a model of
+its own: a reply is read by the rules of docs/PROTOCOL.md (a head, a body that matches its length, the
+status 200, a message at the body's front), and a request is written by them.
 """
 import hashlib
 import re

@@ -1,5 +1,5 @@
-"""Heads, tokens and replies, by the tables of what a scheduler and a server answer. Strict heads alone: one space between
-the words of the first line, and names of headers in the usual letters."""
+"""Heads, tokens and replies, by the tables of what a scheduler and a server answer. Strict heads alone: one
+space between the words of the first line, and names of headers in the usual letters."""
 import base64
 import binascii
 import hashlib
@@ -71,7 +71,8 @@ def head_of(raw, first_line):
 
 
 def stated_length(fields):
-    """What the headers say of the body's length: a number, None where they say nothing, -1 where they may not stand."""
+    """What the headers say of the body's length: a number, None where they say nothing, -1 where they may
+    not stand."""
     lengths = [value for name, value in fields if name == b"content-length"]
     if any(name == b"transfer-encoding" for name, _ in fields) or len(lengths) > 1:
         return -1
@@ -156,7 +157,8 @@ def no_float(text):
 
 
 def claims_of(key, token, name):
-    """The claims of a token with exactly the members `exp` and `name`; else the text of the first test that fails."""
+    """The claims of a token with exactly the members `exp` and `name`; else the text of the first test that
+    fails."""
     parts = token.split(".")
     if len(parts) != 3:
         return "InvalidToken"

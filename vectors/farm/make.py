@@ -3,9 +3,10 @@
 
     make.py SEED EVENTS [servers]
 
-Requests of servers and clients, in order and not, calls that are delivered, lost, repeated, returned and answered from
-outside in any order, and moments that jump both ways; with `servers`, three servers of the farm that beat, restart and
-build. The model runs beside, so that most numbers name a call that waits, a delivery with a reply, a job that goes on.
+Requests of servers and clients, in order and not, calls that are delivered, lost, repeated, returned and
+answered from outside in any order, and moments that jump both ways; with `servers`, three servers of the
+farm that beat, restart and build. The model runs beside, so that most numbers name a call that waits, a
+delivery with a reply, a job that goes on.
 """
 import hashlib
 import random

@@ -1,10 +1,11 @@
 #!/usr/bin/env python3
-"""A farm as a plain program: it runs a script and prints the run, by the rules alone. It shares nothing with the proved program.
+"""A farm as a plain program: it runs a script and prints the run, by the rules alone. It shares nothing
+with the proved program.
 
     model.py < SCRIPT > RUN
 
-The script must be faultless. docs/SCRIPT.md has its lines; `server` and `builder` lines, and what a farm's own servers do,
-are in the model before they are in the program.
+The script must be faultless. docs/SCRIPT.md has its lines; `server` and `builder` lines, and what a farm's
+own servers do, are in the model before they are in the program.
 """
 import hashlib
 import ipaddress
@@ -33,7 +34,8 @@ def addr_ip(addr):
 
 
 class Server:
-    """One server of the farm: what it holds, its archives, and its builder's answers that are still to come."""
+    """One server of the farm: what it holds, its archives, and its builder's answers that are still to
+    come."""
 
     def __init__(self, words):
         values = dict(zip(words[2::2], words[3::2]))

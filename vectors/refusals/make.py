@@ -1,12 +1,14 @@
 #!/usr/bin/env python3
-"""Requests to the scheduler in which one test fails, or two tests fail together, and what the program must print.
+"""Requests to the scheduler in which one test fails, or two tests fail together, and what the program must
+print.
 
     make.py script > examples/refusals.script
     make.py out > examples/refusals.out
 
-A model of its own: it shares nothing with the program. Each route's tests stand in their order; a request is told apart
-from one that is in order by one or two of its parts, and the first test that fails decides. Heartbeats that are taken
-make a core entry, as do reports on a job, which no open job has. What the model holds:
+A model of its own: it shares nothing with the program. Each route's tests stand in their order; a request
+is told apart from one that is in order by one or two of its parts, and the first test that fails decides.
+Heartbeats that are taken make a core entry, as do reports on a job, which no open job has. What the model
+holds:
 
     route             tests in their order                         word of a 401
     alloc_job         a Bearer token is shown                      no_bearer_auth
@@ -17,11 +19,11 @@ make a core entry, as do reports on a job, which no open job has. What the model
                       the token's IP is that one, else the peer's  invalid_bearer_token_mismatched_address
                       a message: a heartbeat; a state
 
-Authorization is cut at its first space: the first part is exactly `Bearer`, the rest is the token. So no_bearer_auth is
-the word of alloc_job alone: a server that shows no token shows none that is accepted. A message is due where
-Content-Type begins with `application/octet-stream` (else 400), and the body begins with it (else 400). A heartbeat of 0
-or of more than 4294967295 processors is a 500. A header whose value is not UTF-8 counts as absent. Bytes that are no
-request are a 400 (`bad request head`); all else is a 404.
+Authorization is cut at its first space: the first part is exactly `Bearer`, the rest is the token. So
+no_bearer_auth is the word of alloc_job alone: a server that shows no token shows none that is accepted. A
+message is due where Content-Type begins with `application/octet-stream` (else 400), and the body begins
+with it (else 400). A heartbeat of 0 or of more than 4294967295 processors is a 500. A header whose value is
+not UTF-8 counts as absent. Bytes that are no request are a 400 (`bad request head`); all else is a 404.
 """
 import itertools
 import sys
@@ -70,8 +72,8 @@ def beat(cpus):
     return le(3, 8) + b"\x01\x02\x02" + le(cpus, 8) + le(7, 8)
 
 
-# The parts of a request that may differ: a name, what it changes, and the test that then fails with its reply.
-# Tests of a route are numbered in their order.
+# The parts of a request that may differ: a name, what it changes, and the test that then fails with its
+# reply. Tests of a route are numbered in their order.
 TYPES = [("type", None, NO_BINARY), ("type", "text/plain", NO_BINARY), ("type", "Application/octet-stream", NO_BINARY)]
 UNSHOWN = [None, "Basic x", "Bearer"]
 CLIENT = [("auth", shown, word("no_bearer_auth")) for shown in UNSHOWN + ["bearer c1", "Bearer c1\xff"]]

@@ -1,10 +1,12 @@
 #!/usr/bin/env python3
-"""Requests to a build server in which one test fails, or two tests fail together, and the reply that each must get.
+"""Requests to a build server in which one test fails, or two tests fail together, and the reply that each
+must get.
 
     make.py > crates/test_http/src/server_refusals.rt
 
-A model of its own: it shares nothing with the program. Each route's tests stand in their order; a request is told apart
-from one that is in order by one or two of its parts, and the first test that fails decides. What the model holds:
+A model of its own: it shares nothing with the program. Each route's tests stand in their order; a request
+is told apart from one that is in order by one or two of its parts, and the first test that fails decides.
+What the model holds:
 
     route                 tests in their order
     assign_job/ID         the job's token; a message: Toolchain
@@ -12,10 +14,10 @@ from one that is in order by one or two of its parts, and the first test that fa
     run_job/ID            the job's token; the head of a run: a length of four bytes, high byte first, so many bytes, and
                           in them one run and nothing more
 
-The tokens are made here with Python's hmac and base64: three parts in base64url without padding. A token is refused, in
-this order, where it has not three parts, its third part is no base64url, its MAC is another, its header does not say
-HS256, its claims are not an object of `exp` and `job_id` alone; then where `exp` is not 0 or the job is another. The
-word of each 401 is invalid_jwt.
+The tokens are made here with Python's hmac and base64: three parts in base64url without padding. A token is
+refused, in this order, where it has not three parts, its third part is no base64url, its MAC is another,
+its header does not say HS256, its claims are not an object of `exp` and `job_id` alone; then where `exp` is
+not 0 or the job is another. The word of each 401 is invalid_jwt.
 """
 import base64
 import hashlib

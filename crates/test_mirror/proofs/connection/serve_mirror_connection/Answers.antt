@@ -1,0 +1,28 @@
+use Rattle.std.proofs.Common.{ap, sym, ◌∙◌}
+use Rattle.http_connections.proofs.ConnectionLemmas.{sent_by, unsent}
+use Rattle.test_mirror.proofs.WholeLemmas.{mirrored_whole}
+use Rattle.test_mirror.proofs.connection.serve_mirror_connection.Goals as goal
+
+pub returns-in-Ok-replied : goal.returns-in-Ok-replied
+returns-in-Ok-replied g c =
+    let alone = g.met.L.Link.writes_alone in
+    let same = ap (λ p. p.0)
+    (sym (alone c.take.new.link) ∙ (sym c.send.ensures.apart ∙ alone c.send.new.link)) in
+    record {
+      served = sent_by _ _ _ _ c.in-Ok.request c.in-Ok-replied.reply c.send.result _ _ _ _ _ _ _ _ _ _ _
+          c.in-Ok.ensures.cut same c.in-Ok.ensures.writes.0 c.in-Ok.ensures.writes.1
+          (mirrored_whole _ _ _)
+          c.in-Ok-replied.ensures.mirrored
+          (record {
+            answered = c.send.ensures.answered;
+            failed = c.send.ensures.failed;
+            memory = c.send.ensures.memory;
+            no_read = c.send.ensures.no_read;
+          });
+    }
+
+pub returns : goal.returns
+returns g c = record {
+  served = unsent _ _ _ _ c.in-Ok.request c.in-Err.field-0 _ _ _ _ _ _ _ _ c.in-Ok.ensures.cut
+      c.in-Ok.ensures.writes.0 (mirrored_whole _ _ _) c.in-Err.ensures.mirrored;
+}
