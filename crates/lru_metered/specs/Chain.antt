@@ -24,7 +24,7 @@ module _ {T : Type 0} where
   item_of node = node.item
 
   abbrev pub ends_of : Node T → Ends
-  ends_of node = (node.previous, node.next)
+  ends_of node = node.neighbours
 
   -- a slab of nodes as the slab of their items
   abbrev pub items_of : Slab (Node T) → Slab T

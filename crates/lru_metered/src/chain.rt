@@ -7,38 +7,18 @@ ghost use Rattle.slab.specs.Slab.{get, ContainsKey, HasRoomFor, Updates, slab_le
 ghost use Rattle.lru_metered.specs.Chain.{Changes, links, items_of, with_ends, with_previous, with_next};
 ghost use Rattle.lru_metered.specs.Chain.{without, Joins, first_or, last_or};
 
+use crate::neighbours::Neighbours;
 use slab::Slab;
 use std::alloc::{AllocError, AllocFailed, Allocator, Global};
 use std::marker::Model;
-use std::mem;
 use std::sync::ledger::Ledger;
 use steps::Steps;
 
-/// An item, and the keys of the nodes before it and after it.
+/// An item, and what its node is linked to.
 #[derive(Drop)]
 pub struct Node<T> {
     item: T,
-    previous: Option<usize>,
-    next: Option<usize>,
-}
-
-impl<T> Node<T> {
-    ghost use Rattle.lru_metered.specs.ChainLends.{lends_node};
-
-    // The node of a key. Each look is counted.
-    fn look<'a, A: Allocator, L: Ledger>(
-        nodes: &'a mut Slab<Node<T>, A>,
-        key: usize,
-        steps: &mut Steps<L>,
-    ) -> &'a mut Node<T>
-        requires { ContainsKey nodes.old key }
-        ensures* writes_back { sem 𝓛 (lends_node T.row A.row A.Allocator nodes.entry key result) }
-        ensures value { get nodes.old key ≡ Some result.now }
-        ensures counted { steps.new ≡ steps.old + 1 }
-    {
-        steps.tick();
-        &mut nodes[key]
-    }
+    neighbours: Neighbours,
 }
 
 // Gives a node new neighbours, and the old ones back.
@@ -54,10 +34,8 @@ fn relink<T, L: Ledger>(
     ensures was { links nodes.old key ≡ Some result }
     ensures counted { steps.new ≤ steps.old + 1 }
 {
-    let node = Node::look(nodes, key, steps);
-    let previous = mem::replace(&mut node.previous, ends.0);
-    let next = mem::replace(&mut node.next, ends.1);
-    (previous, next)
+    let node = &mut nodes[key];
+    node.neighbours.replace(ends, steps)
 }
 
 // Gives a node another one before it.
@@ -73,7 +51,8 @@ fn set_previous<T, L: Ledger>(
     ensures counted { steps.new ≤ steps.old + 1 }
 {
     if let Some(key) = key {
-        Node::look(nodes, key, steps).previous = previous;
+        let node = &mut nodes[key];
+        node.neighbours.set_previous(previous, steps);
     }
 }
 
@@ -90,7 +69,8 @@ fn set_next<T, L: Ledger>(
     ensures counted { steps.new ≤ steps.old + 1 }
 {
     if let Some(key) = key {
-        Node::look(nodes, key, steps).next = next;
+        let node = &mut nodes[key];
+        node.neighbours.set_next(next, steps);
     }
 }
 
@@ -164,8 +144,7 @@ impl<T> Chain<T> {
     {
         let node = Node {
             item,
-            previous: None,
-            next: None,
+            neighbours: Neighbours::none(),
         };
         match self.nodes.insert(node) {
             Ok(key) => Ok(key),
@@ -173,8 +152,7 @@ impl<T> Chain<T> {
                 let AllocFailed { value } = failed;
                 let Node {
                     item,
-                    previous: _previous,
-                    next: _next,
+                    neighbours: _neighbours,
                 } = value;
                 Err(item)
             }
@@ -237,31 +215,24 @@ impl<T> Chain<T> {
         self.last
     }
 
-    /// The key at a place of the list, where it has so many. It goes over those before it.
-    pub fn nth(&self, place: usize) -> Option<usize>
-        ensures { result ≡ slice_get self.now.order place }
+    /// The key after one of the list. It looks at one node.
+    pub(crate) fn next_of<L: Ledger>(&self, key: usize, steps: &mut Steps<L>) -> Option<usize>
+        requires { Contains self.now.order key }
+        ensures next { (front back : List ℕ) → self.now.order ≡ front ++ key ∷ back
+            → result ≡ first_or back None }
+        ensures looks { steps.new ≡ steps.old + 1 }
     {
-        let mut current = self.first();
-        for _ in 0..place {
-            current = self.after(current?);
-        }
-        current
+        self.nodes[key].neighbours.next(steps)
     }
 
-    /// The key after one of the list.
-    pub fn after(&self, key: usize) -> Option<usize>
+    /// The key before one of the list. It looks at one node.
+    pub(crate) fn previous_of<L: Ledger>(&self, key: usize, steps: &mut Steps<L>) -> Option<usize>
         requires { Contains self.now.order key }
-        ensures { (front back : List ℕ) → self.now.order ≡ front ++ key ∷ back → result ≡ first_or back None }
+        ensures previous { (front back : List ℕ) → self.now.order ≡ front ++ key ∷ back
+            → result ≡ last_or None front }
+        ensures looks { steps.new ≡ steps.old + 1 }
     {
-        self.nodes[key].next
-    }
-
-    /// The key before one of the list.
-    pub fn before(&self, key: usize) -> Option<usize>
-        requires { Contains self.now.order key }
-        ensures { (front back : List ℕ) → self.now.order ≡ front ++ key ∷ back → result ≡ last_or None front }
-    {
-        self.nodes[key].previous
+        self.nodes[key].neighbours.previous(steps)
     }
 
     /// The item of a key, to write.
@@ -298,8 +269,7 @@ impl<T> Chain<T> {
     {
         let Node {
             item,
-            previous: _previous,
-            next: _next,
+            neighbours: _neighbours,
         } = self.nodes.remove(key);
         item
     }

@@ -21,6 +21,7 @@ mod iter;
 pub mod laws;
 mod listing;
 mod meter;
+mod neighbours;
 mod table;
 mod uncounted;
 

@@ -1,4 +1,5 @@
 pub mod Append
+pub mod Called
 pub mod Fault
 pub mod Framed
 pub mod InMemory

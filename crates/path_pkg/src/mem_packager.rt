@@ -3,6 +3,7 @@ ghost use Rattle.std.specs.Prelude.{◌≡◌, ◌≤◌, [], Err, OnOk, OnErr, 
 ghost use Rattle.dist_types.specs.Cause.{Rose, counted};
 ghost use Rattle.dist_types.specs.InMemory.{is_listed};
 ghost use Rattle.path_pkg.specs.Append.{HasAppended, Appends};
+ghost use Rattle.path_pkg.specs.Called.{CalledOnce};
 
 use crate::fault::PackFault;
 use crate::listed_calls::begin_call;
@@ -82,6 +83,8 @@ impl ToolchainPackager for MemPackager {
 
     ghost packs = { λ p. Some (packager_bytes p) };
 
+    ghost times = { λ p. Some (packager_calls p) };
+
     /// Appends its bytes. Refused exactly where this call is listed, unless memory ran out.
     fn write_pkg(&mut self, out: &mut Vec<u8>) -> Result<(), PackFault>
         ensures packed { OnOk result (Appends (Some (packager_bytes self.old)) out.old.items out.new.items) }
@@ -92,6 +95,7 @@ impl ToolchainPackager for MemPackager {
             (packager_refusals self.new) }
         ensures no_memory { result ≡ Err PackFault.Memory → packager_refusals self.new ≡ packager_refusals
             self.old }
+        ensures called { CalledOnce (Some (packager_calls self.old)) (Some (packager_calls self.new)) }
 
         ensures listed { result ≡ Err PackFault.Refused → is_listed (packager_refuses self.old)
             (packager_calls self.old) ≡ true }
@@ -116,6 +120,8 @@ impl InputsPackager for MemPackager {
 
     ghost packs = { λ p. Some (packager_bytes p) };
 
+    ghost times = { λ p. Some (packager_calls p) };
+
     /// Appends its bytes, and gives a transformer that mapped nothing. Refused exactly where this call is
     /// listed, unless memory ran out.
     fn write_inputs(&mut self, out: &mut Vec<u8>) -> Result<PathTransformer, PackFault>
@@ -127,6 +133,7 @@ impl InputsPackager for MemPackager {
             (packager_refusals self.new) }
         ensures no_memory { result ≡ Err PackFault.Memory → packager_refusals self.new ≡ packager_refusals
             self.old }
+        ensures called { CalledOnce (Some (packager_calls self.old)) (Some (packager_calls self.new)) }
 
         ensures listed { result ≡ Err PackFault.Refused → is_listed (packager_refuses self.old)
             (packager_calls self.old) ≡ true }

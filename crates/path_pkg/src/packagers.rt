@@ -2,6 +2,7 @@
 ghost use Rattle.std.specs.Prelude.{◌≡◌, ◌≤◌, ℕ, List, Option, None, Err, OnOk};
 ghost use Rattle.dist_types.specs.Cause.{Rose};
 ghost use Rattle.path_pkg.specs.Append.{HasAppended, Appends};
+ghost use Rattle.path_pkg.specs.Called.{CalledOnce};
 
 use crate::fault::PackFault;
 use crate::unix::PathTransformer;
@@ -14,6 +15,9 @@ pub trait ToolchainPackager {
     /// The bytes that it appends, where it tells them.
     ghost packs: { Self → Option (List ℕ) } = { λ _. None };
 
+    /// How often it was called, where it tells that.
+    ghost times: { Self → Option ℕ } = { λ _. None };
+
     /// Appends the package.
     fn write_pkg(&mut self, out: &mut Vec<u8>) -> Result<(), PackFault>
         ensures packed { OnOk result (Appends (packs self.old) out.old.items out.new.items) }
@@ -21,7 +25,8 @@ pub trait ToolchainPackager {
         ensures steady { OnOk result (refusals self.new ≡ refusals self.old) }
         ensures later { refusals self.old ≤ refusals self.new }
         ensures cause { result ≡ Err PackFault.Refused → Rose (refusals self.old) (refusals self.new) }
-        ensures no_memory { result ≡ Err PackFault.Memory → refusals self.new ≡ refusals self.old };
+        ensures no_memory { result ≡ Err PackFault.Memory → refusals self.new ≡ refusals self.old }
+        ensures called { CalledOnce (times self.old) (times self.new) };
 }
 
 /// Packs the inputs of a compile command.
@@ -32,6 +37,9 @@ pub trait InputsPackager {
     /// The bytes that it appends, where it tells them.
     ghost packs: { Self → Option (List ℕ) } = { λ _. None };
 
+    /// How often it was called, where it tells that.
+    ghost times: { Self → Option ℕ } = { λ _. None };
+
     /// Appends the inputs, and gives what mapped their paths.
     fn write_inputs(&mut self, out: &mut Vec<u8>) -> Result<PathTransformer, PackFault>
         ensures packed { OnOk result (Appends (packs self.old) out.old.items out.new.items) }
@@ -39,7 +47,8 @@ pub trait InputsPackager {
         ensures steady { OnOk result (refusals self.new ≡ refusals self.old) }
         ensures later { refusals self.old ≤ refusals self.new }
         ensures cause { result ≡ Err PackFault.Refused → Rose (refusals self.old) (refusals self.new) }
-        ensures no_memory { result ≡ Err PackFault.Memory → refusals self.new ≡ refusals self.old };
+        ensures no_memory { result ≡ Err PackFault.Memory → refusals self.new ≡ refusals self.old }
+        ensures called { CalledOnce (times self.old) (times self.new) };
 }
 
 /// Packs the outputs of a compile command again.
@@ -50,6 +59,9 @@ pub trait OutputsRepackager {
     /// The bytes that it appends, where it tells them.
     ghost packs: { Self → Option (List ℕ) } = { λ _. None };
 
+    /// How often it was called, where it tells that.
+    ghost times: { Self → Option ℕ } = { λ _. None };
+
     /// Appends the outputs, and gives what mapped their paths.
     fn repackage_outputs(&mut self, out: &mut Vec<u8>) -> Result<PathTransformer, PackFault>
         ensures packed { OnOk result (Appends (packs self.old) out.old.items out.new.items) }
@@ -57,5 +69,6 @@ pub trait OutputsRepackager {
         ensures steady { OnOk result (refusals self.new ≡ refusals self.old) }
         ensures later { refusals self.old ≤ refusals self.new }
         ensures cause { result ≡ Err PackFault.Refused → Rose (refusals self.old) (refusals self.new) }
-        ensures no_memory { result ≡ Err PackFault.Memory → refusals self.new ≡ refusals self.old };
+        ensures no_memory { result ≡ Err PackFault.Memory → refusals self.new ≡ refusals self.old }
+        ensures called { CalledOnce (times self.old) (times self.new) };
 }

@@ -5,7 +5,6 @@ use Rattle.lru_metered.proofs.chain.relink.Goals as goal
 
 pub returns-clause-items : goal.returns-clause-items
 returns-clause-items g c =
-    let previous = c.replace-previous.new.dest in let next = c.replace-next.new.dest in
-    (written c.args.nodes.now c.args.key c.look-node.result.now
-    (record { item = c.look-node.result.now.item; previous = previous; next = next })
-    (with_ends previous next) c.look-node.ensures.value refl refl).1
+    let node = c.index_mut-node.result.now in
+    (written c.args.nodes.now c.args.key node (record { item = node.item; neighbours = c.replace.new.self })
+    (with_ends c.args.ends.0 c.args.ends.1) c.index_mut-node.ensures.value refl c.replace.ensures.now).1

@@ -5,6 +5,7 @@ use Rattle.lru_metered.proofs.chain.set_next.Goals as goal
 
 pub returns-in-Some-clause-items : goal.returns-in-Some-clause-items
 returns-in-Some-clause-items g c =
-    (written c.args.nodes.now c.in-Some.key c.look.result.now
-    (record { item = c.look.result.now.item; previous = c.look.result.now.previous; next = c.args.next })
-    (with_next c.args.next) c.look.ensures.value refl refl).1
+    let node = c.index_mut-node.result.now in
+    (written c.args.nodes.now c.in-Some.key node
+    (record { item = node.item; neighbours = c.set_next.new.self }) (with_next c.args.next)
+    c.index_mut-node.ensures.value refl c.set_next.ensures.now).1

@@ -11,8 +11,8 @@ invariant_of-self-lent g c = λ w.
     let s = c.self.inside.nodes in let first = c.self.inside.first in let last = c.self.inside.last in let n =
     c.index_mut-node.result.now in
     let order = walk (links s) (length s.slots) first in
-    settled (with_value s c.args.key (record { item = w; previous = n.previous; next = n.next })) first last
-    order (chain-item s c.args.key n (record { item = w; previous = n.previous; next = n.next }) first
+    settled (with_value s c.args.key (record { item = w; neighbours = n.neighbours })) first last
+    order (chain-item s c.args.key n (record { item = w; neighbours = n.neighbours }) first
     last order c.index_mut-node.ensures.value refl c.self.invariant)
 
 pub returns : goal.returns
@@ -21,11 +21,11 @@ returns g c =
     c.index_mut-node.result.now in let key = c.args.key in
     let order = walk (links s) (length s.slots) first in
     let kept = λ (w : g.row.T.Denot).
-    order-walked (with_value s key (record { item = w; previous = n.previous; next = n.next })) first last
-    order (chain-item s key n (record { item = w; previous = n.previous; next = n.next }) first last order
+    order-walked (with_value s key (record { item = w; neighbours = n.neighbours })) first last
+    order (chain-item s key n (record { item = w; neighbours = n.neighbours }) first last order
     c.index_mut-node.ensures.value refl c.self.invariant) in
     let items = λ (w : g.row.T.Denot). map-set (option_map item_of) s.slots key
-    (Some (record { item = w; previous = n.previous; next = n.next })) in
+    (Some (record { item = w; neighbours = n.neighbours })) in
     rw (← c.self.view_is) (
       (
         refl,

@@ -4,7 +4,7 @@ use Rattle.slab.specs.Slab.{get}
 use Rattle.lru_metered.specs.Chain.{Ends, links, walk, ends_of}
 use Rattle.lru_metered.proofs.ChainLemmas.{links-cut, links-some}
 use Rattle.lru_metered.proofs.SeenLemmas.{cut-seen}
-use Rattle.lru_metered.proofs.chain.Chain.before.Goals as goal
+use Rattle.lru_metered.proofs.chain.Chain.next_of.Goals as goal
 
 pub index-requires : goal.index-requires
 index-requires g c =
@@ -13,11 +13,11 @@ index-requires g c =
     (ap (λ v. v.order) c.self.view_is) c.requires in
     sym (links-some (get s c.args.key)) ∙ ap is_some cut.ends
 
-pub returns : goal.returns
-returns g c = λ front back is.
+pub returns-clause-next : goal.returns-clause-next
+returns-clause-next g c = λ front back is.
     let s = c.self.inside.nodes in let key = c.args.key in let node = c.index.result.now in
     let order = walk (links s) (length s.slots) c.self.inside.first in
     let there = links-cut (links s) c.self.inside.first c.self.inside.last order key front back
     c.self.invariant (ap (λ v. v.order) c.self.view_is ∙ is) in
-    ap (λ (e : Ends). e.0) (ap (λ o. unwrap_or o (ends_of node))
+    c.next.ensures.is ∙ ap (λ (e : Ends). e.1) (ap (λ o. unwrap_or o (ends_of node))
     (sym (ap (option_map ends_of) c.index.ensures) ∙ there))
