@@ -1,13 +1,16 @@
 -- Clients found by their names.
-use Rattle.std.proofs.Common.{◌≡◌, ℕ, List, [], ◌∷◌, ◌++◌, Bool, true, false, cond, ◌||◌, map, Option, Some, refl, ap, ◌∙◌, subst}
+use Rattle.std.proofs.Common.{◌≡◌, ◌≢◌, ℕ, List, [], ◌∷◌, ◌++◌, Bool, true, false, cond, ◌||◌, map, Option}
+use Rattle.std.proofs.Common.{Some, refl, ap, ◌∙◌, sym, subst}
 use Rattle.std.specs.Prelude.{IfOk, Result, Ok, Err}
 use Rattle.std.specs.Option.{is_some}
+use Rattle.std.specs.List.{AllByRecursion}
 use Rattle.std.specs.Str.{bytes_eq}
+use Rattle.std.specs.Cmp.Lexicographic.{bytes_decides}
 use Rattle.std.proofs.lemmas.Bool.{or_parts}
 use Rattle.std.specs.Map.{lookup}
 use Rattle.indexmap.specs.IndexMap.{insert_entry}
 use Rattle.farm_script.proofs.FieldLemmas.{cond_off}
-use Rattle.quota_script.specs.Place.{Client, is_listed, names_of}
+use Rattle.quota_script.specs.Place.{Client, is_listed, names_of, AreNamedOnce}
 
 -- the clients of a table
 abbrev pub clients_in : {K : Type 0} → (K → List ℕ) → List (K × ℕ) → List Client
@@ -51,3 +54,20 @@ listed_last eq text same k name limit es more is new e =
 pub where_ok : {A E : Type 0} (P Q : A → Type 0) (r : Result A E) → ((x : A) → P x → Q x) → IfOk r P → IfOk r Q
 where_ok P Q (Ok x) more is = more x is
 where_ok P Q (Err e) more is = tt
+
+-- ---- no name stands twice
+
+differ_more : (other name : List ℕ) (limit : ℕ) (cs : List Client)
+    → AllByRecursion (λ c. c.0 ≢ other) cs → name ≢ other → AllByRecursion (λ c. c.0 ≢ other) (cs ++ (name, limit) ∷ [])
+differ_more other name limit [] all new = (new, tt)
+differ_more other name limit (c ∷ cs) all new = (all.0, differ_more other name limit cs all.1 new)
+
+-- one more whose name is not listed
+pub once_more : (name : List ℕ) (limit : ℕ) (cs : List Client) → is_listed name (names_of cs) ≡ false
+    → AreNamedOnce cs → AreNamedOnce (cs ++ (name, limit) ∷ [])
+once_more name limit [] new once = (tt, tt)
+once_more name limit (c ∷ cs) new once =
+    let p = or_parts (bytes_eq name c.0) (is_listed name (names_of cs)) new in
+    let other : name ≢ c.0 = λ same. let clash : true ≡ false = sym ((bytes_decides name c.0).1 same) ∙ p.0
+    in absurd cc in
+    (differ_more c.0 name limit cs once.0 other, once_more name limit cs p.1 once.1)

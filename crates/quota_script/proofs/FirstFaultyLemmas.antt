@@ -1,10 +1,10 @@
 -- What reading a script answers is its first faulty line, with its cause.
-use Rattle.std.proofs.Common.{◌≡◌, ℕ, ◌+◌, ◌-◌, ◌≤◌, ◌⊎◌, ◌↔◌, Bool, true, false, not, ◌&&◌, cond, nat_le, List}
-use Rattle.std.proofs.Common.{[], ◌∷◌, ◌++◌, length, map, Option, Some, None, Result, Ok, Err, refl, sym, ap}
+use Rattle.std.proofs.Common.{◌≡◌, ℕ, ◌+◌, ◌-◌, ◌≤◌, ◌⊎◌, ◌↔◌, Bool, true, false, not, ◌&&◌, ◌||◌, cond}
+use Rattle.std.proofs.Common.{nat_le, List, [], ◌∷◌, ◌++◌, length, Option, Some, None, Result, Ok, Err, refl, sym, ap}
 use Rattle.std.proofs.Common.{subst, ◌∙◌, inl, inr, arith, append-nil}
 use Rattle.std.specs.Prelude.{option_to_list}
 use Rattle.std.specs.List.{filter_map, cons_option}
-use Rattle.std.proofs.lemmas.Bool.{leb-true, le-leb, and_parts, cases_Bool}
+use Rattle.std.proofs.lemmas.Bool.{leb-true, le-leb, and_parts, or_parts, cases_Bool}
 use Rattle.std.proofs.lemmas.List.{length-append}
 use Rattle.std.proofs.lemmas.List.Elements.{filter_map-append}
 use Rattle.line_program.specs.Lines.{fits, and_then, lines_from}
@@ -19,13 +19,15 @@ use Rattle.farm_script.specs.declared.lines.Scopes.TheVariants.{Refused, Taken}
 use Rattle.farm_script.proofs.FieldLemmas.{choice}
 use Rattle.quota_script.specs.Line.{line_at}
 use Rattle.quota_script.specs.Grammar.{Spells}
-use Rattle.quota_script.specs.Place.{Client, base_in, client_in, event_in, names_of, Before, before_of, misplaced}
+use Rattle.quota_script.specs.Place.{Client, base_in, client_in, event_in, is_listed, AreNamedOnce}
+use Rattle.quota_script.specs.Place.{Before, before_of, misplaced}
 use Rattle.quota_script.specs.Script.{Read, Said, before, with_line, onto, fault_of, judged, take_line}
 use Rattle.quota_script.specs.Script.{judge, finished, finished_with, script, nothing_read}
 use Rattle.quota_script.specs.FirstFaulty.{IsInPlace, IsFine, IsFaulty, FirstFaultyFrom, IsFirstFaulty}
 use Rattle.quota_script.specs.declared.event.Event.{Event}
 use Rattle.quota_script.specs.declared.line.Line.{Line}
 use Rattle.quota_script.specs.declared.line.Line.TheVariants as lines
+use Rattle.quota_script.proofs.ClientLemmas.{once_more}
 use Rattle.quota_script.proofs.LineLemmas.{line_sound, line_complete, spells_taken, one_value}
 
 -- the lines from this number on, with so much room left, behind what was read
@@ -36,12 +38,19 @@ size_push : (xs : List (List ℕ)) (p : List ℕ) → size (xs ++ p ∷ []) ≡ 
 size_push [] p = omega arith
 size_push (x ∷ xs) p = omega (arith, size_push xs p)
 
--- ---- what was read so far is what the lines so far say
+-- ---- what was read so far is what the lines so far say, and lists no client twice
 
 pub record Matches (r : Read) (said : List Line) : Type 0 where
   pub base : filter_map base_in said ≡ option_to_list r.base
   pub clients : filter_map client_in said ≡ r.clients
   pub events : filter_map event_in said ≡ r.events
+  pub once : AreNamedOnce r.clients
+
+-- the name in a line of a client that is in its place
+unlisted : (b : Before) (name : List ℕ) (limit : ℕ) → misplaced b (lines.Client name limit) ≡ false
+    → is_listed name b.names ≡ false
+unlisted b name limit place =
+    (or_parts (is_nil b.base || not (is_nil b.events)) (is_listed name b.names) place).1
 
 before_is : (r : Read) (said : List Line) → Matches r said → before_of said ≡ before r
 before_is r said m = rw (m.base, m.clients, m.events) refl
@@ -66,23 +75,27 @@ matches_next r said lines.Skip m place = record {
   base = push_none base_in said lines.Skip refl ∙ m.base;
   clients = push_none client_in said lines.Skip refl ∙ m.clients;
   events = push_none event_in said lines.Skip refl ∙ m.events;
+  once = m.once;
 }
 matches_next r said (lines.Ids n) m place = record {
   base = push_some base_in said (lines.Ids n) n refl ∙ ap (λ (xs : List ℕ). xs ++ n ∷ []) m.base
       ∙ pushed_first (option_to_list r.base) n place;
   clients = push_none client_in said (lines.Ids n) refl ∙ m.clients;
   events = push_none event_in said (lines.Ids n) refl ∙ m.events;
+  once = m.once;
 }
 matches_next r said (lines.Client name limit) m place = record {
   base = push_none base_in said (lines.Client name limit) refl ∙ m.base;
   clients = push_some client_in said (lines.Client name limit) (name, limit) refl
       ∙ ap (λ (xs : List Client). xs ++ (name, limit) ∷ []) m.clients;
   events = push_none event_in said (lines.Client name limit) refl ∙ m.events;
+  once = once_more name limit r.clients (unlisted (before r) name limit place) m.once;
 }
 matches_next r said (lines.Event e) m place = record {
   base = push_none base_in said (lines.Event e) refl ∙ m.base;
   clients = push_none client_in said (lines.Event e) refl ∙ m.clients;
   events = push_some event_in said (lines.Event e) e refl ∙ ap (λ (xs : List Event). xs ++ e ∷ []) m.events;
+  once = m.once;
 }
 
 -- ---- a line that was judged
@@ -395,7 +408,7 @@ first_complete done said (p ∷ ps) r number room f at is =
 
 pub at_start : IsAt [] [] 1 67108864 nothing_read
 at_start = record {
-  matches = record { base = refl; clients = refl; events = refl };
+  matches = record { base = refl; clients = refl; events = refl; once = tt };
   number_is = refl;
   room_is = refl;
 }

@@ -2,7 +2,6 @@
 use Rattle.std.proofs.Common.{◌≡◌, ℕ, ◌^◌, ◌<◌, ◌≤◌, ◌⊎◌, Bool, true, false, cond, List, [], ◌∷◌, ◌++◌, length}
 use Rattle.std.proofs.Common.{Option, Some, None, codes, refl, sym, ap, subst, ◌∙◌, inl, inr, arith, nat_eq}
 use Rattle.std.specs.Char.{is_ascii_digit}
-use Rattle.std.specs.List.{list_all}
 use Rattle.std.specs.Cmp.Lexicographic.{pointwise}
 use Rattle.std.specs.Str.{all_ascii_digits}
 use Rattle.std.specs.Fmt.{decimal}
@@ -18,21 +17,21 @@ use Rattle.dist_types.specs.declared.results.JobState.{JobState}
 use Rattle.dist_types.specs.declared.results.JobState.TheVariants.{Pending, Ready, Started, Complete}
 use Rattle.dist_types.proofs.AddrLemmas.{bind_some}
 use Rattle.line_program.specs.Texts.{◌⧺◌}
-use Rattle.farm_script.specs.Words.{first_word, strip, field, named, last, behind, is_visible}
+use Rattle.farm_script.specs.Words.{first_word, strip, field, named, last, behind}
 use Rattle.farm_script.specs.Fields.{host_at, number_at, token_at}
 use Rattle.farm_script.specs.Lines.{is_skipped}
 use Rattle.farm_script.specs.Grammar.{IsNumber, IsHost, IsToken}
 use Rattle.farm_script.specs.declared.lines.Scopes.{Scopes}
 use Rattle.farm_script.specs.declared.lines.Scopes.TheVariants.{Taken}
 use Rattle.farm_script.proofs.VisibleLemmas.{both}
-use Rattle.farm_script.proofs.WordLemmas.{IsReader, bind_is, visible_lacks, first_word_sound, first_word_complete}
+use Rattle.farm_script.proofs.WordLemmas.{bind_is, visible_lacks, first_word_sound, first_word_complete}
 use Rattle.farm_script.proofs.WordLemmas.{field_sound, field_complete, named_sound, named_complete}
 use Rattle.farm_script.proofs.WordLemmas.{last_sound, last_complete, follow, follow_number, behind_cases}
 use Rattle.farm_script.proofs.FieldLemmas.{number_law, host_law, token_law, host_lacks, host_taken, token_lacks}
 use Rattle.farm_script.proofs.FieldLemmas.{decimal_digits, decimal_lacks, choice}
 use Rattle.quota_script.specs.Line.{state_at, ready_at, commit_at, beat_at, update_at, kind_behind, kind_at}
 use Rattle.quota_script.specs.Line.{event_at, client_at, said_at, line_at}
-use Rattle.quota_script.specs.Grammar.{ready_text, IsAlloc, IsCommit, IsUndo, IsBeat, IsUpdate, IsKind}
+use Rattle.quota_script.specs.Grammar.{ready_text, IsCommit, IsBeat, IsUpdate, IsKind}
 use Rattle.quota_script.specs.Grammar.{IsEventLine, IsClientLine, Spells}
 use Rattle.quota_script.specs.declared.event.EventKind.{EventKind}
 use Rattle.quota_script.specs.declared.event.EventKind.TheVariants.{Alloc, Commit, Undo, Beat, Update, Status}

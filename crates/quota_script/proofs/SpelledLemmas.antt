@@ -11,7 +11,7 @@ use Rattle.line_program.specs.declared.fault.FarmFault.TheVariants as fault
 use Rattle.farm_script.specs.Script.{IsScriptFault, IsScriptAnswer}
 use Rattle.farm_script.specs.declared.lines.Scopes.TheVariants.{Refused}
 use Rattle.farm_script.proofs.ScriptLemmas.{told}
-use Rattle.quota_script.specs.Place.{Client, base_in, client_in, event_in}
+use Rattle.quota_script.specs.Place.{Client, base_in, client_in, event_in, AreNamedOnce}
 use Rattle.quota_script.specs.Script.{Read, Said, said_of, take_line, judge, finished, finished_with}
 use Rattle.quota_script.specs.Script.{nothing_read, script}
 use Rattle.quota_script.specs.FirstFaulty.{IsFirstFaulty, IsFaultless}
@@ -97,6 +97,13 @@ script_says bytes x e =
       events_are = rest.matches.events ∙ parts.events;
     }
 
+-- no client is read twice
+pub script_names_once : (bytes : List ℕ) (x : Said) → script bytes ≡ Ok x → AreNamedOnce x.clients
+script_names_once bytes x e =
+    let rest = rest_from [] [] 1 67108864 nothing_read (pieces bytes) x at_start e in
+    let parts = finished_parts rest.number rest.end rest.end.base x refl rest.finish in
+    subst AreNamedOnce parts.clients rest.matches.once
+
 -- lines spell one list of values
 one_each : (ps : List (List ℕ)) (ks ls : List Line) → EachLine ps ks → EachLine ps ls → ks ≡ ls
 one_each [] [] [] p q = refl
@@ -169,6 +176,11 @@ pub read_said : (r : Result Script FarmFault) (bytes : List ℕ)
     → IsScriptAnswer said_of r (script bytes) → IfOk r (λ s. SpellsScript bytes (said_of s))
 read_said (Ok x) bytes e = script_says bytes (said_of x) e
 read_said (Err f) bytes e = tt
+
+pub read_once : (r : Result Script FarmFault) (bytes : List ℕ)
+    → IsScriptAnswer said_of r (script bytes) → IfOk r (λ s. AreNamedOnce s.clients)
+read_once (Ok x) bytes e = script_names_once bytes (said_of x) e
+read_once (Err f) bytes e = tt
 
 pub told_faulty : (f : FarmFault) (bytes : List ℕ) → IsScriptFault f (script bytes) → (f ≡ fault.Memory)
     ⊎ IsFirstFaulty bytes f

@@ -1,6 +1,6 @@
 -- Where a line may stand, by what the lines before it say.
-use Rattle.std.specs.Prelude.{ℕ, ◌||◌, Bool, false, not, List, map, Option, Some, None}
-use Rattle.std.specs.List.{filter_map, list_any}
+use Rattle.std.specs.Prelude.{◌≢◌, ℕ, ◌||◌, Bool, false, not, List, [], ◌∷◌, map, Option, Some, None}
+use Rattle.std.specs.List.{filter_map, list_any, AllByRecursion}
 use Rattle.std.specs.Str.{bytes_eq}
 use Rattle.farm_script.specs.Place.{is_nil}
 use Rattle.quota_script.specs.declared.event.Event.{Event}
@@ -39,6 +39,11 @@ names_of clients = map (λ c. c.0) clients
 -- whether the name is among them
 abbrev pub is_listed : List ℕ → List (List ℕ) → Bool
 is_listed name names = list_any (λ n. bytes_eq name n) names
+
+-- no name stands twice
+abbrev pub AreNamedOnce : List Client → Type 0
+AreNamedOnce [] = Unit {0}
+AreNamedOnce (c ∷ clients) = AllByRecursion (λ d. d.0 ≢ c.0) clients × AreNamedOnce clients
 
 -- what decides where a line may stand: the number of the first job, the names of clients, and what happens
 pub record Before : Type 0 where

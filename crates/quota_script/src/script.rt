@@ -3,7 +3,7 @@ ghost use Rattle.std.specs.Prelude.{◌≡◌, ◌≤◌, ◌⊎◌, length, IfO
 ghost use Rattle.farm_script.specs.Script.{IsScriptAnswer};
 ghost use Rattle.farm_script.specs.declared.lines.Scopes.TheVariants.{Taken};
 ghost use Rattle.line_program.specs.declared.fault.FarmFault.TheVariants as fault;
-ghost use Rattle.quota_script.specs.Place.{misplaced};
+ghost use Rattle.quota_script.specs.Place.{misplaced, AreNamedOnce};
 ghost use Rattle.quota_script.specs.FirstFaulty.{IsFirstFaulty};
 ghost use Rattle.quota_script.specs.Spelled.{SpellsScript};
 ghost use Rattle.quota_script.specs.Line.{line_at};
@@ -172,6 +172,7 @@ pub fn read_script(alloc: Global, bytes: &[u8]) -> Result<Script, FarmFault>
     ensures exact { IsScriptAnswer said_of result (script bytes.now) }
     // What is read is what the lines say, of which none is faulty.
     ensures says { IfOk result (λ s. SpellsScript bytes.now (said_of s)) }
+    ensures named_once { IfOk result (λ s. AreNamedOnce s.clients) }
     // What is told is the first faulty line with its cause, unless memory ran out.
     ensures faulty { IfErr result (λ f. (f ≡ fault.Memory) ⊎ IsFirstFaulty bytes.now f) }
 {

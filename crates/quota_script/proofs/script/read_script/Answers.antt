@@ -4,7 +4,7 @@ use Rattle.line_program.specs.declared.fault.FarmFault.{FarmFault}
 use Rattle.line_program.proofs.LinesLemmas.{line_step, at_end}
 use Rattle.farm_script.specs.Script.{IsScriptFault, IsScriptAnswer}
 use Rattle.quota_script.specs.Script.{Said, said_of, read_of, judge, finished, script}
-use Rattle.quota_script.proofs.SpelledLemmas.{read_said, told_faulty, read_faulty, line_stop}
+use Rattle.quota_script.proofs.SpelledLemmas.{read_said, read_once, told_faulty, read_faulty, line_stop}
 use Rattle.quota_script.proofs.script.read_script.Goals as goal
 
 pub returns-in-Err : goal.returns-in-Err
@@ -16,7 +16,12 @@ returns-in-Err c =
     c.first_len.result (script c.args.bytes.now)
     some c.first_len.ensures.len c.split_at.ensures.front c.split_at.ensures.back c.in-Err.ensures.exact
     c.loop-rest.invariant.same in
-    record { exact = told; says = tt; faulty = told_faulty c.in-Err.fault c.args.bytes.now told }
+    record {
+      exact = told;
+      says = tt;
+      named_once = tt;
+      faulty = told_faulty c.in-Err.fault c.args.bytes.now told;
+    }
 
 -- what was read to the end
 gives : goal.returns-clause-exact
@@ -43,6 +48,9 @@ returns-clause-exact c = gives c
 
 pub returns-clause-says : goal.returns-clause-says
 returns-clause-says c = read_said c.finish.result c.args.bytes.now (gives c)
+
+pub returns-clause-named_once : goal.returns-clause-named_once
+returns-clause-named_once c = read_once c.finish.result c.args.bytes.now (gives c)
 
 pub returns-clause-faulty : goal.returns-clause-faulty
 returns-clause-faulty c = read_faulty c.finish.result c.args.bytes.now (gives c)
