@@ -6,3 +6,4 @@ pub mod RuleLemmas
 pub mod QuestionLemmas
 pub mod RoutedLemmas
 pub mod AsOneLemmas
+pub mod ByRouteLemmas

@@ -7,15 +7,13 @@ use Rattle.dist_types.specs.declared.dialer.AskFault.TheVariants.{Failed, Memory
 use Rattle.dist_types.specs.declared.fault.Memory as want
 use Rattle.folders.specs.Held.{Held}
 use Rattle.http_head.specs.Head.{IsRequest, IsNoRequest}
-use Rattle.http_head.specs.WrittenRequest.{request_text}
 use Rattle.http_head.specs.declared.request.Request.{Request}
 use Rattle.http_routes.specs.Reply.{reply_text}
 use Rattle.http_routes.specs.declared.reply.Response.{Response}
 use Rattle.http_routes.specs.declared.reply.Response.TheVariants.{Binary, NotFound}
 use Rattle.toolchain_cache.specs.Archives.{ArchiveStore}
+use Rattle.mirror.specs.Asking.{Ask}
 use Rattle.mirror.specs.Caches.{Cache, told_of}
-use Rattle.mirror.specs.Getting.{Parts, Answer, Gets}
-use Rattle.mirror.specs.Question.{mirror_question}
 use Rattle.mirror.specs.Routing.{Routes}
 use Rattle.mirror.specs.declared.far.Wait.{Wait}
 use Rattle.mirror.specs.declared.far.Wait.TheVariants.{Lose, Lie}
@@ -79,12 +77,6 @@ pub record AsksFar (request : List ℕ) (old new : Far) (heard : Result (List �
 abbrev pub AsksFarOrNot : List ℕ → Far → Far → Result (List ℕ) AskFault → Type 0
 AsksFarOrNot request old new heard = AsksFar request old new heard ⊎ ((heard ≡ Err OutOfMemory) × (new ≡ old))
 
--- an archive was got over such a dialer
-pub record GetsFar {F G : Type 0} (near_held : F → Held) (far_held : G → Held) (id : List ℕ) (answer : Answer)
-    (old new : Parts F (FarParts (ArchiveStore G))) : Type 0 where
-  pub gets : Gets (far_of far_held new.dialer ≡ far_of far_held old.dialer)
-      (AsksFarOrNot (request_text (mirror_question old.host old.port id)) (far_of far_held old.dialer)
-      (far_of far_held new.dialer))
-      id answer (told_of near_held old.near) (told_of near_held new.near)
-  pub host : new.host ≡ old.host
-  pub port : new.port ≡ old.port
+-- the same of a dialer over a folder, whatever the host and the port
+abbrev pub FarAsks : {G : Type 0} → (G → Held) → Ask (FarParts (ArchiveStore G))
+FarAsks held old host port request new heard = AsksFar request (far_of held old) (far_of held new) heard

@@ -9,7 +9,7 @@ use Rattle.lru_disk_cache.specs.declared.error.Error.{Error}
 use Rattle.lru_disk_cache.specs.declared.error.Error.TheVariants.{FileNotInCache, FileTooLarge, Io}
 use Rattle.lru_disk_cache.specs.declared.error.Error.TheVariants.{Memory as NoMemory}
 use Rattle.toolchain_cache.specs.Archives.{ArchiveStore, id_of}
-use Rattle.mirror.specs.Asking.{dialing_of, IsAsked, Tells}
+use Rattle.mirror.specs.Asking.{Ask, IsAskedFor, Tells}
 use Rattle.mirror.specs.Caches.{Cache, told_of, Looks, Stores}
 use Rattle.mirror.specs.declared.error.MirrorError.{MirrorError}
 use Rattle.mirror.specs.declared.error.MirrorError.TheVariants as mirror
@@ -112,11 +112,12 @@ pub record Gets (Unasked : Type 0) (Asks : Result (List ℕ) AskFault → Type 0
   pub looks : Looks id found old between
   pub follows : AfterNear Unasked Asks id (near_of found) answer between new
 
--- the same over a dialer, by what its trait says of it, and whom it asks stays
+-- the same over a far side, by what its trait says of it: it is as it was where it is not asked, and whom a mirror
+-- asks stays
 pub record GetsBy {F D : Type 0} (held : F → Held) (asked : D → Option (List Asked)) (faults : D → ℕ)
-    (id : List ℕ) (answer : Answer) (old new : Parts F D) : Type 0 where
-  pub gets : Gets (dialing_of asked faults new.dialer ≡ dialing_of asked faults old.dialer)
-      (IsAsked old.host old.port id (dialing_of asked faults old.dialer) (dialing_of asked faults new.dialer))
+    (asks : Ask D) (id : List ℕ) (answer : Answer) (old new : Parts F D) : Type 0 where
+  pub gets : Gets (new.dialer ≡ old.dialer)
+      (IsAskedFor asked faults asks old.host old.port id old.dialer new.dialer)
       id answer (told_of held old.near) (told_of held new.near)
   pub host : new.host ≡ old.host
   pub port : new.port ≡ old.port

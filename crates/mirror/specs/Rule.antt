@@ -1,13 +1,17 @@
 -- What a get answers over a far cache behind the route, where both folders tell their files and never fail.
-use Rattle.std.specs.Prelude.{◌≡◌, ◌≢◌, ℕ, true, List, [], Some, Err}
+use Rattle.std.specs.Prelude.{◌≡◌, ◌≢◌, ℕ, true, List, [], Option, Some, Result, Err}
 use Rattle.std.specs.List.{list_all}
 use Rattle.dist_types.specs.Cause.{Rose}
+use Rattle.dist_types.specs.declared.dialer.Asked.{Asked}
+use Rattle.dist_types.specs.declared.dialer.AskFault.{AskFault}
 use Rattle.folders.specs.Files.{Files}
-use Rattle.http_head.specs.WrittenRequest.{is_visible, IsWithinLimits}
+use Rattle.folders.specs.Held.{Held}
+use Rattle.http_head.specs.WrittenRequest.{is_visible, request_text, IsWithinLimits}
 use Rattle.build_server.specs.Books.{is_listed}
-use Rattle.mirror.specs.Caches.{Cache}
-use Rattle.mirror.specs.Far.{Far}
-use Rattle.mirror.specs.Getting.{Answer}
+use Rattle.mirror.specs.Asking.{Ask, IsAskedFor}
+use Rattle.mirror.specs.Caches.{Cache, told_of}
+use Rattle.mirror.specs.Far.{Far, AsksFarOrNot}
+use Rattle.mirror.specs.Getting.{Answer, Parts}
 use Rattle.mirror.specs.OneCache.{Deed, Capacities, after, no_sides, one_after, HasRoom, AsOne}
 use Rattle.mirror.specs.Question.{host_at, mirror_question}
 use Rattle.mirror.specs.Sides.{Sides, Gives, GoThrough, after_get}
@@ -54,3 +58,28 @@ AnswersAsOne host port id answer near later far behind =
     (c : Capacities) (deeds : List Deed) → sides_of near far ≡ after c no_sides deeds → HasRoom c deeds
     → IsSound host port id answer near later far behind
     → AsOne id (is_listed id (one_after c [] deeds)) answer
+
+-- ---- over any far side
+
+-- All that can have been heard of a far side is what the route answers over this far cache, which then became that;
+-- and where it was not asked, they are the same.
+pub record AnswersByRoute {F D : Type 0} (asked : D → Option (List Asked)) (faults : D → ℕ) (asks : Ask D)
+    (id : List ℕ) (old new : Parts F D) (far behind : Far) : Type 0 where
+  pub heard : (heard : Result (List ℕ) AskFault)
+      → IsAskedFor asked faults asks old.host old.port id old.dialer new.dialer heard
+      → AsksFarOrNot (request_text (mirror_question old.host old.port id)) far behind heard
+  pub unasked : new.dialer ≡ old.dialer → behind ≡ far
+
+-- where it is so, the rule is followed
+abbrev pub RulesBy : {F D : Type 0} → (F → Held) → (D → Option (List Asked)) → (D → ℕ) → Ask D → List ℕ
+    → Answer → Parts F D → Parts F D → Type 0
+RulesBy held asked faults asks id answer old new =
+    (far behind : Far) → AnswersByRoute asked faults asks id old new far behind
+    → Rules old.host old.port id answer (told_of held old.near) (told_of held new.near) far behind
+
+-- and where there is room for all, the answer is that of one cache
+abbrev pub AsOneBy : {F D : Type 0} → (F → Held) → (D → Option (List Asked)) → (D → ℕ) → Ask D → List ℕ
+    → Answer → Parts F D → Parts F D → Type 0
+AsOneBy held asked faults asks id answer old new =
+    (far behind : Far) → AnswersByRoute asked faults asks id old new far behind
+    → AnswersAsOne old.host old.port id answer (told_of held old.near) (told_of held new.near) far behind

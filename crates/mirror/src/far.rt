@@ -1,16 +1,16 @@
-//! A dialer in memory, behind which a far cache answers by the route of a mirror.
+//! A far side in memory: a far cache that answers by the route of a mirror.
 ghost use Rattle.std.specs.Prelude.{◌≡◌, ◌≢◌, ◌≤◌, ◌++◌, ◌∷◌, [], None, IfOk, OnOk, OnErr, Ok, Err};
 ghost use Rattle.dist_types.specs.Cause.{Rose};
-ghost use Rattle.dist_types.specs.Content.{Recorded, KeptOrRecorded};
-ghost use Rattle.dist_types.specs.Dialer.{asked_row};
 ghost use Rattle.http_routes.specs.Reply.{reply_text};
 ghost use Rattle.toolchain_cache.specs.Archives.{id_of};
 ghost use Rattle.mirror.specs.Caches.{told_of, Stores};
 ghost use Rattle.mirror.specs.Far.{far_of, Sends, SendsAnswer, ServesOrNot, Strikes, AsksFar};
 ghost use Rattle.mirror.specs.Routing.{Routes};
 
+use crate::far_side::FarSide;
+use crate::mirror::Mirror;
 use crate::route::mirror_route;
-use dist_types::dialer::{AskFault, Dialer};
+use dist_types::dialer::AskFault;
 use dist_types::fault::{Memory, raise};
 use dist_types::text::Bytes;
 use dist_types::toolchain::Toolchain;
@@ -169,36 +169,51 @@ impl<G: Folder> FarDialer<G> {
     }
 }
 
-impl<G: Folder> Dialer for FarDialer<G> {
-    ghost use Rattle.std.specs.Prelude.{None, MatchResult};
-    ghost use Rattle.mirror.specs.Far.{far_of, AsksFar};
+impl<G: Folder> FarSide for FarDialer<G> {
+    ghost use Rattle.std.specs.Prelude.{None};
+    ghost use Rattle.mirror.specs.Asking.{IsAsked};
+    ghost use Rattle.mirror.specs.Far.{far_of, AsksFar, FarAsks};
 
     ghost asked = { λ _. None };
 
     ghost faults = { λ d. d.faults };
 
-    /// The reply of the far cache, or what waits for this ask.
-    fn ask(&mut self, host: &str, port: u16, request: &[u8]) -> Result<Vec<u8>, AskFault>
-        ensures ok { IfOk result
-            (λ reply. Recorded (asked_row host.now port request.now (Ok reply.items)) None None) }
-        ensures failed { result ≡ Err AskFault.Failed
-            → Recorded (asked_row host.now port request.now (Err AskFault.Failed)) None None }
-        ensures memory { result ≡ Err AskFault.Memory
-            → KeptOrRecorded (asked_row host.now port request.now (Err AskFault.Memory)) None None }
-        ensures steady { OnOk result (self.new.faults ≡ self.old.faults) }
-        ensures uncounted { result ≡ Err AskFault.Memory → self.new.faults ≡ self.old.faults }
-        ensures later { self.old.faults ≤ self.new.faults }
-        ensures cause { result ≡ Err AskFault.Failed → Rose self.old.faults self.new.faults }
+    ghost asks = { FarAsks G.held };
 
-        ensures far { MatchResult result
-            (λ reply. AsksFar request.now (far_of G.held self.old) (far_of G.held self.new) (Ok reply.items))
-            (λ e. AsksFar request.now (far_of G.held self.old) (far_of G.held self.new) (Err e)) }
+    /// The reply of the far cache, or what waits for this ask.
+    fn ask_far(&mut self, host: &str, port: u16, request: &[u8]) -> Result<Bytes, AskFault>
+        ensures tells { IsAsked host.now port request.now (record { asked = None; faults = self.old.faults })
+            (record { asked = None; faults = self.new.faults }) result }
+        ensures knows { AsksFar request.now (far_of G.held self.old) (far_of G.held self.new) result }
     {
         let _host = host;
         let _port = port;
-        match self.reply(request) {
-            Ok(reply) => Ok(reply.into_inner()),
-            Err(fault) => Err(fault),
-        }
+        self.reply(request)
+    }
+}
+
+impl<F: Folder, G: Folder> Mirror<F, FarDialer<G>> {
+    /// Stores bytes far as the archive that they are, and gives its toolchain. Refused as
+    /// `TcCache::insert_package` is.
+    pub fn put_far(&mut self, bytes: &[u8]) -> Result<Toolchain, Error>
+        ensures id { IfOk result (λ tc. tc ≡ id_of bytes.now) }
+        ensures stores { Stores (id_of bytes.now) bytes.now result (told_of G.held self.old.dialer.cache)
+            (told_of G.held self.new.dialer.cache) }
+        ensures dialer { (self.new.dialer.waiting ≡ self.old.dialer.waiting)
+            × (self.new.dialer.faults ≡ self.old.dialer.faults) }
+        ensures rest { (self.new.near ≡ self.old.near) × (self.new.host ≡ self.old.host)
+            × (self.new.port ≡ self.old.port) }
+    {
+        self.dialer.put(bytes)
+    }
+
+    /// Something more waits for an ask, behind all that does. Refused for want of memory alone.
+    pub fn wait(&mut self, wait: Wait) -> Result<(), Memory>
+        ensures ok { OnOk result (self.new ≡ record self.old {
+          dialer = record self.old.dialer { waiting = self.old.dialer.waiting ++ wait ∷ [] };
+        }) }
+        ensures err { OnErr result (self.new ≡ self.old) }
+    {
+        self.dialer.wait(wait)
     }
 }

@@ -2,19 +2,21 @@
 ghost use Rattle.std.specs.Prelude.{◌≡◌, IfOk, IfErr, OnErr, string_bytes, Err};
 ghost use Rattle.dist_types.specs.Cause.{Rose};
 ghost use Rattle.folders.specs.Held.{Holds};
-ghost use Rattle.mirror.specs.Asking.{dialing_of, IsAsked};
+ghost use Rattle.mirror.specs.Asking.{IsAskedFor};
 ghost use Rattle.mirror.specs.Caches.{told_of, Stores, Stays, ListsNoMore};
 ghost use Rattle.mirror.specs.Getting.{GetsBy, GoesOn, FetchedHave, AllHave};
 ghost use Rattle.mirror.specs.Prefetching.{Brings, AfterGot, ReadyWhereTrue};
+ghost use Rattle.mirror.specs.Rule.{RulesBy, AsOneBy};
 ghost use Rattle.toolchain_cache.specs.Archives.{id_of};
 
 use crate::error::MirrorError;
+use crate::far_side::FarSide;
 use crate::got::Got;
 use crate::keep::conclude;
 use crate::look::{look, near_of};
 use crate::question::question;
 use build_server::state::ServerState;
-use dist_types::dialer::{AskFault, Dialer};
+use dist_types::dialer::AskFault;
 use dist_types::text::Bytes;
 use dist_types::toolchain::Toolchain;
 use folders::folder::Folder;
@@ -24,14 +26,14 @@ use toolchain_cache::TcCache;
 
 /// A near cache of archives, backed by a far one that is asked over a dialer. Contracts see it as its parts.
 #[derive(Drop)]
-pub struct Mirror<F: Folder, D: Dialer> {
+pub struct Mirror<F: Folder, D> {
     pub(crate) near: TcCache<F>,
     pub(crate) dialer: D,
     pub(crate) host: String,
     pub(crate) port: u16,
 }
 
-impl<F: Folder, D: Dialer> Model for Mirror<F, D> {
+impl<F: Folder, D> Model for Mirror<F, D> {
     ghost use Rattle.std.specs.Prelude.{string_bytes};
     ghost use Rattle.mirror.specs.Getting.{Parts};
 
@@ -45,21 +47,17 @@ impl<F: Folder, D: Dialer> Model for Mirror<F, D> {
     } };
 }
 
-/// Asks a dialer for the archive of a toolchain, at a host's port.
-fn ask<D: Dialer>(
+/// Asks a far side for the archive of a toolchain, at a host's port.
+fn ask<D: FarSide>(
     dialer: &mut D,
     host: &String,
     port: u16,
     tc: &Toolchain,
 ) -> Result<Bytes, AskFault>
-    ensures { IsAsked (string_bytes host.now) port tc.now (dialing_of D.asked D.faults dialer.old)
-        (dialing_of D.asked D.faults dialer.new) result }
+    ensures { IsAskedFor D.asked D.faults D.asks (string_bytes host.now) port tc.now dialer.old dialer.new result }
 {
     match question(*host.allocator(), host, port, tc) {
-        Ok(request) => match dialer.ask(host, port, request.get()) {
-            Ok(reply) => Ok(Bytes::new(reply)),
-            Err(fault) => Err(fault),
-        },
+        Ok(request) => dialer.ask_far(host, port, request.get()),
         Err(_) => Err(AskFault::Memory),
     }
 }
@@ -86,7 +84,7 @@ fn bring<F: Folder>(
     }
 }
 
-impl<F: Folder, D: Dialer> Mirror<F, D> {
+impl<F: Folder, D> Mirror<F, D> {
     /// A mirror over a near cache, whose far side is asked at that host's port. It takes no memory.
     pub fn new(near: TcCache<F>, dialer: D, host: String, port: u16) -> Mirror<F, D>
         ensures { result ≡ record {
@@ -104,11 +102,24 @@ impl<F: Folder, D: Dialer> Mirror<F, D> {
         }
     }
 
+    /// Stores bytes near as the archive that they are, and gives its toolchain. Refused as
+    /// `TcCache::insert_package` is.
+    pub fn put(&mut self, bytes: &[u8]) -> Result<Toolchain, Error>
+        ensures id { IfOk result (λ tc. tc ≡ id_of bytes.now) }
+        ensures stores { Stores (id_of bytes.now) bytes.now result (told_of F.held self.old.near)
+            (told_of F.held self.new.near) }
+        ensures rest { (self.new.dialer ≡ self.old.dialer) × (self.new.host ≡ self.old.host)
+            × (self.new.port ≡ self.old.port) }
+    {
+        self.near.insert_package(bytes)
+    }
+}
+
+impl<F: Folder, D: FarSide> Mirror<F, D> {
     // The far side is asked, where near has none.
     fn fetch(&mut self, tc: &Toolchain) -> Result<Got, MirrorError>
         ensures goes_on { GoesOn
-            (IsAsked self.old.host self.old.port tc.now (dialing_of D.asked D.faults self.old.dialer)
-            (dialing_of D.asked D.faults self.new.dialer))
+            (IsAskedFor D.asked D.faults D.asks self.old.host self.old.port tc.now self.old.dialer self.new.dialer)
             tc.now result (told_of F.held self.old.near) (told_of F.held self.new.near) }
         ensures host { self.new.host ≡ self.old.host }
         ensures port { self.new.port ≡ self.old.port }
@@ -119,7 +130,7 @@ impl<F: Folder, D: Dialer> Mirror<F, D> {
 
     // The archive of a toolchain, near or fetched.
     fn find(&mut self, tc: &Toolchain) -> Result<Got, MirrorError>
-        ensures gets { GetsBy F.held D.asked D.faults tc.now result self.old self.new }
+        ensures gets { GetsBy F.held D.asked D.faults D.asks tc.now result self.old self.new }
     {
         let found = look(&mut self.near, tc);
         match near_of(found) {
@@ -137,8 +148,12 @@ impl<F: Folder, D: Dialer> Mirror<F, D> {
     /// failed; BadReply exactly where what came is no reply, by 0, or has another status than 200 and 404;
     /// WrongDigest exactly where the SHA-256 of what came is not the id; Near exactly where the near folder
     /// failed; and for want of memory. Nothing is then listed near that was not before.
+    ///
+    /// Where all that can have been heard is what the route of a mirror answers over a far cache, and both folders
+    /// tell their files and do not fail, the answer, and what is listed behind it, follow from what was listed; and
+    /// where there was room for all that was put, the answer is that of one cache that took all of it.
     pub fn get(&mut self, tc: &Toolchain) -> Result<Got, MirrorError>
-        ensures gets { GetsBy F.held D.asked D.faults tc.now result self.old self.new }
+        ensures gets { GetsBy F.held D.asked D.faults D.asks tc.now result self.old self.new }
         ensures fetched { FetchedHave tc.now result }
         ensures all { Holds (F.held self.old.near.folder) (λ files. AllHave tc.now result) }
         ensures unlisted { OnErr result
@@ -148,21 +163,12 @@ impl<F: Folder, D: Dialer> Mirror<F, D> {
         ensures link_fails { result ≡ Err MirrorError.FetchFault
             → Rose (D.faults self.old.dialer) (D.faults self.new.dialer) }
         ensures stays { Stays (told_of F.held self.old.near) (told_of F.held self.new.near) }
+        ensures rules { RulesBy F.held D.asked D.faults D.asks tc.now result self.old self.new }
+        ensures as_one { AsOneBy F.held D.asked D.faults D.asks tc.now result self.old self.new }
     {
+        let _id = tc.archive_id();
         let answer = self.find(tc);
         answer
-    }
-
-    /// Stores bytes near as the archive that they are, and gives its toolchain. Refused as
-    /// `TcCache::insert_package` is.
-    pub fn put(&mut self, bytes: &[u8]) -> Result<Toolchain, Error>
-        ensures id { IfOk result (λ tc. tc ≡ id_of bytes.now) }
-        ensures stores { Stores (id_of bytes.now) bytes.now result (told_of F.held self.old.near)
-            (told_of F.held self.new.near) }
-        ensures rest { (self.new.dialer ≡ self.old.dialer) × (self.new.host ≡ self.old.host)
-            × (self.new.port ≡ self.old.port) }
-    {
-        self.near.insert_package(bytes)
     }
 
     /// Gets the archive of a toolchain, and stores it in a build server's cache. It says false exactly where
@@ -174,7 +180,7 @@ impl<F: Folder, D: Dialer> Mirror<F, D> {
         tc: &Toolchain,
         server: &mut ServerState<F>,
     ) -> Result<bool, MirrorError>
-        ensures brings { (got : _) × GetsBy F.held D.asked D.faults tc.now got self.old self.new
+        ensures brings { (got : _) × GetsBy F.held D.asked D.faults D.asks tc.now got self.old self.new
             × AfterGot tc.now got result server.old server.new }
         ensures ready { ReadyWhereTrue tc.now result server.old server.new }
     {

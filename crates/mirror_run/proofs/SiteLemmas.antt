@@ -8,6 +8,7 @@ use Rattle.std.specs.Str.{bytes_eq}
 use Rattle.std.proofs.lemmas.Fmt.{decimal_step, decimal_digit}
 use Rattle.std.proofs.lemmas.List.{length-append}
 use Rattle.dist_types.specs.Cause.{Rose}
+use Rattle.dist_types.specs.declared.dialer.Asked.{Asked}
 use Rattle.dist_types.specs.declared.dialer.AskFault.{AskFault}
 use Rattle.farm_script.proofs.FieldLemmas.{choice}
 use Rattle.folders.specs.InMemory.{reliable_held, reliable_files}
@@ -27,11 +28,11 @@ use Rattle.toolchain_cache.specs.Archives.{Archives, ArchiveStore, id_of}
 use Rattle.toolchain_cache.specs.Archiving.{archive_verdict, with_archive}
 use Rattle.toolchain_cache.proofs.Unkeyed.{keys_trimmed, keys_out, keys_promoted}
 use Rattle.mirror.specs.Caches.{Cache, told_of, Stores}
-use Rattle.mirror.specs.Far.{Far, FarParts, far_of, AsksFarOrNot, AsksFar, AfterWait, ServesOrNot, GetsFar}
-use Rattle.mirror.specs.Getting.{Answer, Parts, AfterNear, near_of}
+use Rattle.mirror.specs.Far.{Far, FarParts, far_of, AsksFarOrNot, AsksFar, AfterWait, ServesOrNot, FarAsks}
+use Rattle.mirror.specs.Getting.{Answer, Parts, GetsBy, AfterNear, near_of}
 use Rattle.mirror.specs.Question.{mirror_question, id_asked, host_at}
 use Rattle.mirror.specs.Routing.{AnswersFor}
-use Rattle.mirror.specs.Rule.{IsReliable, CanAsk, IsSound, Rules, sides_of}
+use Rattle.mirror.specs.Rule.{IsReliable, CanAsk, IsSound, AnswersByRoute, RulesBy, sides_of}
 use Rattle.mirror.specs.Sides.{Sides, put_in, put_bytes, after_get, after_near, after_ask, after_far, after_lie, Gives}
 use Rattle.mirror.specs.Sides.{GoThrough, IsShortLie}
 use Rattle.mirror_run.specs.Sites.{InMemory, IsAt, Does}
@@ -40,6 +41,7 @@ use Rattle.mirror.specs.declared.error.MirrorError.{MirrorError}
 use Rattle.mirror.specs.declared.error.MirrorError.TheVariants as mirror
 use Rattle.mirror.specs.declared.far.Wait.{Wait}
 use Rattle.mirror.specs.declared.far.Wait.TheVariants.{Lose, Lie}
+use Rattle.mirror.proofs.ByRouteLemmas.{far_routed}
 use Rattle.mirror.proofs.GetLemmas.{get_stays}
 
 -- ---- what goes through replies
@@ -331,23 +333,31 @@ far_stays request heard old new (inl h) = by h.due h.follows
     by (Some w) a = ap (λ (c : Cache). c.capacity) a.1
     by None a = served a.0
 
-far_got : (request id : List ℕ) (found : Result (Option (List ℕ)) MirrorError) (answer : Answer) (near later : Cache)
-    (old new : Far) → AfterNear (new ≡ old) (λ heard. AsksFarOrNot request old new heard) id found answer near later
-    → new.cache.capacity ≡ old.cache.capacity
-far_got request id (Ok (Some bytes)) answer near later old new h = ap (λ (f : Far). f.cache.capacity) h.2
-far_got request id (Ok None) answer near later old new h = far_stays request h.heard old new h.asks
-far_got request id (Err e) answer near later old new h = ap (λ (f : Far). f.cache.capacity) h.2
+far_got : (U : Type 0) (A : Result (List ℕ) AskFault → Type 0) (request id : List ℕ) (old new : Far)
+    → (U → new ≡ old) → ((heard : Result (List ℕ) AskFault) → A heard → AsksFarOrNot request old new heard)
+    → (found : Result (Option (List ℕ)) MirrorError) (answer : Answer) (near later : Cache)
+    → AfterNear U A id found answer near later → new.cache.capacity ≡ old.cache.capacity
+far_got U A request id old new same asked (Ok (Some bytes)) answer near later h =
+    ap (λ (f : Far). f.cache.capacity) (same h.2)
+far_got U A request id old new same asked (Ok None) answer near later h =
+    far_stays request h.heard old new (asked h.heard h.asks)
+far_got U A request id old new same asked (Err e) answer near later h =
+    ap (λ (f : Far). f.cache.capacity) (same h.2)
 
 -- a folder in memory tells its files, and never fails
 reliable : (a b : ArchiveStore ReliableFolder) → IsReliable (told_of reliable_held a) (told_of reliable_held b)
 reliable a b = record { files = reliable_files a.folder; told = refl; never = λ rose. omega (arith, rose) }
 
-pub got : (id : List ℕ) (answer : Answer) (l : Said) (m n : InMemory) → length id ≡ 64
-    → GetsFar reliable_held reliable_held id answer m n
-    → Rules m.host m.port id answer (told_of reliable_held m.near) (told_of reliable_held n.near)
-    (far_of reliable_held m.dialer) (far_of reliable_held n.dialer)
+-- the dialer of a mirror in memory
+abbrev FarIn : Type 0
+FarIn = FarParts (ArchiveStore ReliableFolder)
+
+pub got : (asked : FarIn → Option (List Asked)) (faults : FarIn → ℕ) (id : List ℕ) (answer : Answer) (l : Said)
+    (m n : InMemory) → length id ≡ 64
+    → GetsBy reliable_held asked faults (FarAsks reliable_held) id answer m n
+    → RulesBy reliable_held asked faults (FarAsks reliable_held) id answer m n
     → IsSaid answer l → Does (step.Get id) l m n
-got id answer l m n long gets rules is_said rooms s at =
+got asked faults id answer l m n long gets rules is_said rooms s at =
     let near : Cache = told_of reliable_held m.near in
     let later : Cache = told_of reliable_held n.near in
     let far : Far = far_of reliable_held m.dialer in
@@ -367,7 +377,9 @@ got id answer l m n long gets rules is_said rooms s at =
       can = can;
       some = some;
     } in
-    let f = rules sound in
+    let routed : AnswersByRoute asked faults (FarAsks reliable_held) id m n far behind =
+    far_routed reliable_held asked faults id m n in
+    let f = rules far behind routed sound in
     let gives : Gives rooms.near id s answer =
     subst (λ (x : Sides). Gives rooms.near id x answer) same
     (subst (λ (c : ℕ). Gives c id (sides_of near far) answer) at.near_room f.gives) in
@@ -375,7 +387,8 @@ got id answer l m n long gets rules is_said rooms s at =
     f.sides ∙ ap (λ (c : ℕ). after_get c id (sides_of near far)) at.near_room ∙ ap (after_get rooms.near id) same in
     let stays = get_stays _ _ id answer near later gets.gets in
     let far_room : behind.cache.capacity ≡ far.cache.capacity =
-    far_got _ id (near_of gets.gets.found) answer gets.gets.between later far behind gets.gets.follows in (
+    far_got _ _ (request_text (mirror_question m.host m.port id)) id far behind routed.unasked routed.heard
+    (near_of gets.gets.found) answer gets.gets.between later gets.gets.follows in (
       (answer, gives, is_said),
       record {
         near_room = stays.capacity ∙ at.near_room;
@@ -389,10 +402,11 @@ got id answer l m n long gets rules is_said rooms s at =
       },
     )
 
-pub got_ok : {E : Type 0} (r : Result Said E) (id : List ℕ) (answer : Answer) (m n : InMemory) → length id ≡ 64
-    → GetsFar reliable_held reliable_held id answer m n
-    → Rules m.host m.port id answer (told_of reliable_held m.near) (told_of reliable_held n.near)
-    (far_of reliable_held m.dialer) (far_of reliable_held n.dialer)
+pub got_ok : {E : Type 0} (r : Result Said E) (asked : FarIn → Option (List Asked)) (faults : FarIn → ℕ)
+    (id : List ℕ) (answer : Answer) (m n : InMemory) → length id ≡ 64
+    → GetsBy reliable_held asked faults (FarAsks reliable_held) id answer m n
+    → RulesBy reliable_held asked faults (FarAsks reliable_held) id answer m n
     → IfOk r (λ l. IsSaid answer l) → IfOk r (λ l. Does (step.Get id) l m n)
-got_ok (Ok l) id answer m n long gets rules is_said = got id answer l m n long gets rules is_said
-got_ok (Err e) id answer m n long gets rules is_said = tt
+got_ok (Ok l) asked faults id answer m n long gets rules is_said =
+    got asked faults id answer l m n long gets rules is_said
+got_ok (Err e) asked faults id answer m n long gets rules is_said = tt

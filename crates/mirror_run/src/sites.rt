@@ -111,7 +111,7 @@ fn get(sites: &mut Sites, tc: &Toolchain) -> Result<Said, Memory>
     ensures does { IfOk result (λ l. Does (step.Get tc.now) l sites.old sites.new) }
 {
     let _id = tc.archive_id();
-    let got = sites.get_routed(tc);
+    let got = sites.get(tc);
     got_said(got)
 }
 
