@@ -16,13 +16,13 @@ ghost use Rattle.quota.specs.Holdings.{IsGrown};
 ghost use Rattle.quota.specs.declared.rows.OwnedRow.{OwnedRow};
 ghost use Rattle.quota.specs.declared.rows.Share.{Share};
 
+use crate::places::SharePlaces;
 use crate::rows::{OwnedRow, Share, ShareKey};
 use core_rules::effects::{accepted, complete};
 use core_rules::entry::CoreKind;
 use dist_types::ids::JobId;
 use row_index::{Following, LookupTable};
 use std::alloc::{AllocError, Global};
-use std::collections::HashMap;
 use std::marker::Model;
 
 /// Whose the reservations are, and how many each client holds: a row for each reservation, found by its
@@ -32,7 +32,7 @@ use std::marker::Model;
 pub struct Holdings {
     rows: Following<OwnedRow>,
     shares: Vec<Share>,
-    places: HashMap<ShareKey, usize>,
+    places: SharePlaces,
     newest: LookupTable<u64, usize>,
     held: Vec<u64>,
 }
@@ -201,20 +201,31 @@ fn is_share_of(shares: &[Share], place: usize, key: ShareKey) -> bool
     }
 }
 
-/// The share of a client at a registration, if it has one.
-fn find_share(shares: &[Share], places: &HashMap<ShareKey, usize>, key: ShareKey) -> Option<usize>
+/// The place, if the client's share at the registration stands there.
+fn if_share_of(shares: &[Share], place: Option<usize>, key: ShareKey) -> Option<usize>
     ensures found { IfSome result (λ place. (s : Share) × (slice_get shares.now place ≡ Some s)
         × (is_of key.reg key.client s ≡ true)) }
 {
-    match places.get(&key) {
+    match place {
         Some(place) => {
-            if is_share_of(shares, *place, key) {
-                Some(*place)
+            if is_share_of(shares, place, key) {
+                Some(place)
             } else {
                 None
             }
         }
         None => None,
+    }
+}
+
+/// The share of a client at a registration, if it has one.
+fn find_share(shares: &[Share], places: &SharePlaces, key: ShareKey) -> Option<usize>
+    ensures found { IfSome result (λ place. (s : Share) × (slice_get shares.now place ≡ Some s)
+        × (is_of key.reg key.client s ≡ true)) }
+{
+    match if_share_of(shares, places.latest(key.client), key) {
+        Some(place) => Some(place),
+        None => if_share_of(shares, places.get(&key), key),
     }
 }
 
@@ -251,7 +262,7 @@ fn raise_share(shares: &mut Vec<Share>, held: &mut Vec<u64>, place: usize)
 /// Adds the first share of a client at a registration. It takes no memory but for finding it again.
 fn push_share(
     shares: &mut Vec<Share>,
-    places: &mut HashMap<ShareKey, usize>,
+    places: &mut SharePlaces,
     newest: &mut LookupTable<u64, usize>,
     key: ShareKey,
 ) -> usize
@@ -277,17 +288,14 @@ fn push_share(
         Err(_) => unreachable!(),
     }
     newest.put(key.reg, place);
-    match places.insert(key, place) {
-        Ok(_) => (),
-        Err(_) => (),
-    }
+    places.add(key, place);
     place
 }
 
 /// The share of a client at a registration, which is made where there is none.
 fn share_for(
     shares: &mut Vec<Share>,
-    places: &mut HashMap<ShareKey, usize>,
+    places: &mut SharePlaces,
     newest: &mut LookupTable<u64, usize>,
     key: ShareKey,
 ) -> usize
@@ -302,7 +310,10 @@ fn share_for(
         × (is_of key.reg key.client s ≡ true) }
 {
     match find_share(shares, places, key) {
-        Some(place) => place,
+        Some(place) => {
+            places.note(key.client, place);
+            place
+        }
         None => push_share(shares, places, newest, key),
     }
 }
@@ -321,6 +332,7 @@ fn none_held(alloc: Global, clients: usize) -> Result<Vec<u64>, AllocError>
 fn empty(
     alloc: Global,
     rows: Following<OwnedRow>,
+    places: SharePlaces,
     newest: LookupTable<u64, usize>,
     held: Vec<u64>,
 ) -> Holdings
@@ -334,7 +346,7 @@ fn empty(
     Holdings {
         rows,
         shares: Vec::new(alloc),
-        places: HashMap::new(alloc),
+        places,
         newest,
         held,
     }
@@ -348,8 +360,9 @@ impl Holdings {
         ensures clients { IfOk result (λ h. h.clients ≡ clients) }
     {
         let held = none_held(alloc, clients)?;
+        let places = SharePlaces::new(alloc, clients)?;
         let rows = Following::new(alloc, first);
-        Ok(empty(alloc, rows, LookupTable::new(alloc), held))
+        Ok(empty(alloc, rows, places, LookupTable::new(alloc), held))
     }
 
     /// How many reservations the client in that place holds.
@@ -369,7 +382,7 @@ impl Holdings {
     {
         self.rows.make_room()?;
         self.shares.reserve(1)?;
-        self.places.reserve(1)?;
+        self.places.make_room()?;
         self.newest.make_room(1)
     }
 

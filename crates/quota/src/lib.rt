@@ -8,5 +8,6 @@ pub mod fault;
 mod holdings;
 pub mod laws;
 pub mod picked;
+mod places;
 mod rows;
 pub mod state;
