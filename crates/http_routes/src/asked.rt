@@ -23,8 +23,8 @@ fn bad_question(alloc: Global) -> Result<Asked, HttpError>
 }
 
 /// What the bytes that a peer sent ask of the scheduler at that moment, under its checks of clients and of
-/// servers, and by its rules; bytes that are no request get their reply. The check of clients is asked once at
-/// most, about the token of a request for a job. Refused for want of memory alone.
+/// servers, and by its rules; bytes that are no request get their reply. The check of clients is asked once
+/// at most, about the token of a request for a job. Refused for want of memory alone.
 pub fn asked_of_checks<K: ClientAuthCheck, V: ServerAuthCheck>(
     alloc: Global,
     bytes: &[u8],
