@@ -108,9 +108,9 @@ fn drain_of<V: ServerAuthCheck>(
 ) -> Result<SchedRouted, Unrouted>
     ensures { Decides (drain_of (V.server_of check.now) request.now peer) result }
 {
-    let server = server_of(request, peer, check)?;
+    let sender = server_of(request, peer, check)?;
     let drain = message_in(alloc, request)?;
-    Ok(SchedRouted::Drain(ServerId::new(server), drain))
+    Ok(SchedRouted::Drain(ServerId::new(sender), drain))
 }
 
 /// A state of that job, and the server that tells it.
