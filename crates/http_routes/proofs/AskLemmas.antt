@@ -1,5 +1,5 @@
 -- What is asked of a scheduler whose check of clients knows one token.
-use Rattle.std.proofs.Common.{◌≡◌, inl, inr, ℕ, List, Option, Some, None, true, false, Result, Ok, Err, refl, sym}
+use Rattle.std.proofs.Common.{◌≡◌, inl, inr, ℕ, List, Option, Some, None, true, false, Result, Ok, refl, sym}
 use Rattle.std.proofs.Common.{ap, ◌∙◌}
 use Rattle.std.specs.Prelude.{codes, option_map, ⊤}
 use Rattle.dist_types.specs.declared.addr.Addr.{Addr}
@@ -9,15 +9,12 @@ use Rattle.dist_token.specs.Checks.{equal_verdict, fixed_shown}
 use Rattle.http_head.specs.declared.request.Request.{Request}
 use Rattle.http_head.proofs.HeadLemmas.{one_request}
 use Rattle.http_routes.specs.declared.admission.Admission.{Admission}
-use Rattle.http_routes.specs.declared.refusal.Refusal.{Refusal}
 use Rattle.http_routes.specs.declared.route.Asked.{Asked}
-use Rattle.http_routes.specs.declared.route.SchedRouted.{SchedRouted}
 use Rattle.http_routes.specs.declared.route.SchedRouted.TheVariants.{Status}
 use Rattle.http_routes.specs.Admission.{client_token, admission_by, Admits, MayBeAsked, equal_admission}
 use Rattle.http_routes.specs.Asked.{IsAskedOf, IsAskedUnder, MayBeAskedBy}
 use Rattle.http_routes.specs.Place.{is_at, at_drain}
 use Rattle.http_routes.specs.Route.{beat_of, drain_of, report_of, asked_of, answered, question_under}
-use Rattle.http_routes.specs.Route.{IsRouted}
 
 -- which answers the check of one token may give, and what it shows
 abbrev pub may_equal : List ℕ → ℕ → List ℕ → Result ⊤ TokenError → List ℕ → Type 0

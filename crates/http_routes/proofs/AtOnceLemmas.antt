@@ -1,7 +1,7 @@
 -- A reply of the scheduler is known at once exactly where a request is refused, or the bytes are no request.
 use Rattle.std.proofs.Common.{◌≡◌, ◌↔◌, ◌⊎◌, inl, inr, ℕ, Bool, true, false, cond, List, Option, Some, None}
 use Rattle.std.proofs.Common.{Result, Ok, Err, refl, sym, ap, ◌∙◌}
-use Rattle.std.specs.Prelude.{codes, option_map}
+use Rattle.std.specs.Prelude.{codes}
 use Rattle.dist_types.specs.declared.addr.Addr.{Addr}
 use Rattle.dist_types.specs.declared.ids.JobId.{JobId}
 use Rattle.dist_types.specs.declared.rules.Rules.{Rules}
@@ -10,8 +10,6 @@ use Rattle.dist_wire.specs.MessageLaws.{toolchain_codec, heartbeat_codec, state_
 use Rattle.dist_wire.specs.Reading.{toolchain_at, heartbeat_at, state_at, drain_at}
 use Rattle.dist_wire.specs.Spelling.{SpellsToolchain, SpellsHeartbeat, SpellsState, SpellsDrain}
 use Rattle.http_head.specs.declared.request.Request.{Request}
-use Rattle.http_head.specs.Bearer.{token_in}
-use Rattle.http_head.specs.Fields.{header}
 use Rattle.http_head.specs.Head.{IsRequest, IsNoRequest}
 use Rattle.http_routes.specs.declared.admission.Admission.{Admission}
 use Rattle.http_routes.specs.declared.refusal.Refusal.{Refusal}
@@ -19,14 +17,16 @@ use Rattle.http_routes.specs.declared.refusal.Refusal.TheVariants.{BadHead, NoRo
 use Rattle.http_routes.specs.declared.reply.Response.{Response}
 use Rattle.http_routes.specs.declared.route.Asked.{Asked}
 use Rattle.http_routes.specs.declared.route.SchedRouted.{SchedRouted}
-use Rattle.http_routes.specs.declared.route.SchedRouted.TheVariants.{Alloc, Beat, Update, Status, Drain, Done}
+use Rattle.http_routes.specs.declared.route.SchedRouted.TheVariants.{Alloc, Beat, Update, Status}
+use Rattle.http_routes.specs.declared.route.SchedRouted.TheVariants.{Drain, Done}
 use Rattle.http_routes.specs.Asked.{IsAskedUnder}
-use Rattle.http_routes.specs.InOrder.{IsAt, NamesJob, InForm, IsAtDrain}
+use Rattle.http_routes.specs.InOrder.{IsAt, InForm, IsAtDrain}
 use Rattle.http_routes.specs.Message.{message_in}
 use Rattle.http_routes.specs.Place.{is_at, at_drain, state_job, of_job}
 use Rattle.http_routes.specs.Refusal.{refusal_response}
 use Rattle.http_routes.specs.Refused.{AllocRefused, TellingRefused, NamesSome, IsRefused}
-use Rattle.http_routes.specs.Route.{alloc_of, beat_of, drain_of, update_of, report_of, asked_of, answered, said_by}
+use Rattle.http_routes.specs.Route.{alloc_of, beat_of, drain_of, update_of, report_of, asked_of, answered}
+use Rattle.http_routes.specs.Route.{said_by}
 use Rattle.http_routes.specs.Sender.{client_test, server_of}
 use Rattle.http_routes.specs.Steps.{◌>>=◌}
 use Rattle.http_routes.proofs.PlaceLemmas.{at_place, place_at, in_form, form_in, no_job_named}
@@ -122,7 +122,8 @@ there_no_drain rules r none = by_test (at_drain rules r) refl
 
 module _ (rules : Rules) (lets : List ℕ → Admission) (serves : List ℕ → Option Addr) (r : Request)
     (peer : Addr) (e : Refusal) where
-  pub is_refused : asked_of rules serves r peer (said_by lets r) ≡ Err e → IsRefused rules r peer lets serves e
+  pub is_refused : asked_of rules serves r peer (said_by lets r) ≡ Err e
+      → IsRefused rules r peer lets serves e
   unfolding asked_of report_of beat_of update_of drain_of
   is_refused h = by_tests (post_alloc r) (post_beat r) (get_status r) (at_drain rules r) (state_job r)
       refl refl refl refl refl h

@@ -1,5 +1,5 @@
 -- What a request asks of the scheduler, in the words of its parts.
-use Rattle.std.proofs.Common.{◌≡◌, ◌↔◌, inl, inr, ℕ, ◌+◌, ◌<◌, get_or, Bool, true, false, cond, List, ◌++◌}
+use Rattle.std.proofs.Common.{◌≡◌, ◌↔◌, inl, inr, ℕ, ◌+◌, ◌<◌, get_or, Bool, true, false, cond, List}
 use Rattle.std.proofs.Common.{length, Option, Some, None, Result, Ok, Err, refl, sym, ap, subst, ◌∙◌}
 use Rattle.std.specs.Prelude.{codes, option_map}
 use Rattle.std.proofs.lemmas.List.{get_or-append-add}
@@ -25,18 +25,18 @@ use Rattle.http_routes.specs.declared.refusal.Refusal.TheVariants.{BadHead, NoRo
 use Rattle.http_routes.specs.declared.reply.Response.{Response}
 use Rattle.http_routes.specs.declared.route.Asked.{Asked}
 use Rattle.http_routes.specs.declared.route.SchedRouted.{SchedRouted}
-use Rattle.http_routes.specs.declared.route.SchedRouted.TheVariants.{Alloc, Beat, Update, Status, Drain, Done}
+use Rattle.http_routes.specs.declared.route.SchedRouted.TheVariants.{Alloc, Beat, Update, Status}
+use Rattle.http_routes.specs.declared.route.SchedRouted.TheVariants.{Drain, Done}
 use Rattle.http_routes.specs.Admission.{client_token}
 use Rattle.http_routes.specs.Asked.{IsAskedUnder}
 use Rattle.http_routes.specs.InOrder.{IsAt, NamesJob, InForm, IsAllocation, IsHeartbeat, IsUpdate, IsStatus}
 use Rattle.http_routes.specs.InOrder.{IsAtDrain, IsDrain}
 use Rattle.http_routes.specs.Message.{message_in}
-use Rattle.http_routes.specs.Place.{is_at, at_drain, job_of, state_job, of_job}
+use Rattle.http_routes.specs.Place.{is_at, at_drain, state_job, of_job}
 use Rattle.http_routes.specs.Refusal.{refusal_response}
-use Rattle.http_routes.specs.Route.{alloc_of, beat_of, drain_of, update_of, report_of, asked_of, answered, said_by}
-use Rattle.http_routes.specs.Route.{IsNoDrain}
-use Rattle.http_routes.specs.Sender.{client_test, server_of, IsAdmitted}
-use Rattle.http_routes.specs.Steps.{◌>>=◌}
+use Rattle.http_routes.specs.Route.{alloc_of, beat_of, drain_of, update_of, report_of, asked_of, answered}
+use Rattle.http_routes.specs.Route.{said_by}
+use Rattle.http_routes.specs.Sender.{client_test, server_of}
 use Rattle.http_routes.proofs.MessageLemmas.{message_held, held_message}
 use Rattle.http_routes.proofs.PlaceLemmas.{at_place, place_at, in_form, form_in, job_named, named_job}
 use Rattle.http_routes.proofs.SenderLemmas.{client_admitted, admitted_client, sender_shown, shown_sender}
@@ -101,7 +101,8 @@ drain_there Two r e = record {
 
 pub there_drain : (rules : Rules) (r : Request) → IsAtDrain rules r → at_drain rules r ≡ true
 unfolding at_drain
-there_drain rules r d = rw d.version (place_at r (codes "POST") (codes "/api/v1/scheduler/drain_server") d.at)
+there_drain rules r d =
+    rw d.version (place_at r (codes "POST") (codes "/api/v1/scheduler/drain_server") d.at)
 
 pub state_named : (r : Request) (job : JobId) → state_job r ≡ Some job
     → NamesJob r (codes "/api/v1/scheduler/job_state/") job
@@ -216,8 +217,8 @@ route rules lets serves r peer w e = by_tests (post_alloc r) (post_beat r) (get_
 
 module _ (rules : Rules) (lets : List ℕ → Admission) (serves : List ℕ → Option Addr) (r : Request)
     (peer : Addr) where
-  is_allocation : (tc : List ℕ) → IsBytes r.body → asked_of rules serves r peer (said_by lets r) ≡ Ok (Alloc tc)
-      → IsAllocation r lets tc
+  is_allocation : (tc : List ℕ) → IsBytes r.body
+      → asked_of rules serves r peer (said_by lets r) ≡ Ok (Alloc tc) → IsAllocation r lets tc
   is_allocation tc fits e = by_route (route rules lets serves r peer (Alloc tc) e)
     where
       by_route : Route rules lets serves r peer (Alloc tc) → IsAllocation r lets tc
@@ -234,8 +235,8 @@ module _ (rules : Rules) (lets : List ℕ → Admission) (serves : List ℕ → 
       by_route (by_status at is) = absurd cc
       by_route (by_drain s m at sender message is) = absurd cc
 
-  pub allocation_is : (tc : List ℕ) → IsAllocation r lets tc → asked_of rules serves r peer (said_by lets r) ≡ Ok
-      (Alloc tc)
+  pub allocation_is : (tc : List ℕ) → IsAllocation r lets tc
+      → asked_of rules serves r peer (said_by lets r) ≡ Ok (Alloc tc)
   unfolding asked_of alloc_of
   allocation_is tc a =
       let at = place_at r (codes "POST") (codes "/api/v1/scheduler/alloc_job") a.at in
@@ -247,7 +248,8 @@ module _ (rules : Rules) (lets : List ℕ → Admission) (serves : List ℕ → 
       ) refl
 
   is_heartbeat : (server : Addr) (m : HeartbeatServerHttpRequest) → IsBytes r.body
-      → asked_of rules serves r peer (said_by lets r) ≡ Ok (Beat server m) → IsHeartbeat r peer serves server m
+      → asked_of rules serves r peer (said_by lets r) ≡ Ok (Beat server m)
+      → IsHeartbeat r peer serves server m
   is_heartbeat server m fits e = by_route (route rules lets serves r peer (Beat server m) e)
     where
       by_route : Route rules lets serves r peer (Beat server m) → IsHeartbeat r peer serves server m
@@ -281,7 +283,8 @@ module _ (rules : Rules) (lets : List ℕ → Admission) (serves : List ℕ → 
       → IsUpdate r peer serves server job state
   is_update server job state fits e = by_route (route rules lets serves r peer (Update server job state) e)
     where
-      by_route : Route rules lets serves r peer (Update server job state) → IsUpdate r peer serves server job state
+      by_route : Route rules lets serves r peer (Update server job state)
+          → IsUpdate r peer serves server job state
       by_route (by_alloc t at test message is) = absurd cc
       by_route (by_beat s b at sender message is) = absurd cc
       by_route (by_update s j m named sender message is) =
@@ -381,9 +384,10 @@ body_fits bytes r fits (h, x) i =
 module _ (rules : Rules) (lets : List ℕ → Admission) (serves : List ℕ → Option Addr) (bytes : List ℕ)
     (peer : Addr) (json : Bool) where
   -- what is asked and is no reply known at once was asked by a request
-  asks : (w : SchedRouted) → ((reply : Response) → w ≡ Done reply → ⊥) → IsAskedUnder rules lets serves bytes peer
-      (record { what = w; json = json })
-      → (r : Request) × IsRequest bytes r × (asked_of rules serves r peer (said_by lets r) ≡ Ok w) × InForm r json
+  asks : (w : SchedRouted) → ((reply : Response) → w ≡ Done reply → ⊥)
+      → IsAskedUnder rules lets serves bytes peer (record { what = w; json = json })
+      → (r : Request) × IsRequest bytes r × (asked_of rules serves r peer (said_by lets r) ≡ Ok w)
+      × InForm r json
   asks w other (inr (none, e)) = absurd (other (refusal_response BadHead) (ap (λ (a : Asked). a.what) e))
   asks w other (inl (r, x, e)) = (
     r,

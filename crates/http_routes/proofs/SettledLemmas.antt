@@ -1,5 +1,6 @@
 -- What the head settles the body does not change.
-use Rattle.std.proofs.Common.{◌≡◌, ◌≢◌, ℕ, Bool, true, false, cond, List, Option, Some, None, Result, Ok, Err, refl, ap, sym, ◌∙◌}
+use Rattle.std.proofs.Common.{◌≡◌, ◌≢◌, ℕ, Bool, true, false, cond, List, Option, Some, None, Result, Ok}
+use Rattle.std.proofs.Common.{Err, refl, sym, ◌∙◌}
 use Rattle.std.specs.Prelude.{⊤, codes, is_err}
 use Rattle.dist_types.specs.declared.addr.Addr.{Addr}
 use Rattle.dist_types.specs.declared.ids.JobId.{JobId}
@@ -48,7 +49,8 @@ same_state : (r : Request) (body : List ℕ) → state_job (with_body r body) �
 unfolding state_job job_of
 same_state r body = refl
 
-same_drain : (rules : Rules) (r : Request) (body : List ℕ) → at_drain rules (with_body r body) ≡ at_drain rules r
+same_drain : (rules : Rules) (r : Request) (body : List ℕ)
+    → at_drain rules (with_body r body) ≡ at_drain rules r
 unfolding at_drain is_at
 same_drain One r body = refl
 same_drain Two r body = refl

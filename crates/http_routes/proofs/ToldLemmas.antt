@@ -1,7 +1,7 @@
 -- What is written for a call is read as it was meant.
-use Rattle.std.proofs.Common.{◌≡◌, inl, ℕ, ◌+◌, ◌-◌, ◌<◌, ◌≤◌, ◌^◌, ◌==◌, not, true, false, List, [], ◌++◌}
-use Rattle.std.proofs.Common.{length, drop, codes, decimal, Option, Some, None, Result, Ok, refl, sym, ap}
-use Rattle.std.proofs.Common.{◌∙◌, arith, append-nil, append_assoc, length-append}
+use Rattle.std.proofs.Common.{◌≡◌, ℕ, ◌+◌, ◌<◌, ◌^◌, ◌==◌, not, true, false, List, [], ◌++◌}
+use Rattle.std.proofs.Common.{length, drop, codes, decimal, Option, Some, Result, Ok, refl, sym, ap}
+use Rattle.std.proofs.Common.{◌∙◌, arith, append-nil, length-append}
 use Rattle.std.specs.Prelude.{IsUtf8, ⊤}
 use Rattle.std.specs.List.{list_all}
 use Rattle.std.specs.Char.{is_ascii_digit, is_ascii_graphic}
@@ -18,9 +18,6 @@ use Rattle.dist_types.specs.declared.results.JobState.TheVariants as State
 use Rattle.dist_types.specs.declared.rules.Rules.{Rules}
 use Rattle.dist_types.specs.declared.rules.Rules.TheVariants.{Two}
 use Rattle.dist_types.specs.declared.token_error.TokenError.{TokenError}
-use Rattle.dist_wire.specs.Codec.{IsCodec}
-use Rattle.dist_wire.specs.MessageLaws.{toolchain_codec, heartbeat_codec, state_codec}
-use Rattle.dist_wire.specs.Reading.{toolchain_at, heartbeat_at, state_at}
 use Rattle.dist_wire.specs.Spelling.{SpellsToolchain, SpellsHeartbeat, SpellsState, SpellsDrain, SpellsRun}
 use Rattle.dist_wire.specs.Written.{bytes_text, heartbeat_text, state_bytes, drain_text, run_text}
 use Rattle.dist_wire.specs.declared.drain.DrainServerHttpRequest.{DrainServerHttpRequest}
@@ -28,11 +25,9 @@ use Rattle.dist_wire.specs.declared.heartbeat.HeartbeatServerHttpRequest.{Heartb
 use Rattle.dist_wire.specs.declared.run.RunJobHttpRequest.{RunJobHttpRequest}
 use Rattle.httparse.specs.Grammar.{print_request}
 use Rattle.http_head.specs.declared.request.Request.{Request}
-use Rattle.http_head.specs.declared.written_request.WrittenRequest.{WrittenRequest}
-use Rattle.http_head.specs.Bearer.{token_in}
 use Rattle.http_head.specs.Fields.{header, path_of}
 use Rattle.http_head.specs.Head.{IsRequest}
-use Rattle.http_head.specs.WrittenRequest.{is_visible, request_text, IsToken, IsWithinLimits, IsSendable}
+use Rattle.http_head.specs.WrittenRequest.{is_visible, request_text, IsWithinLimits}
 use Rattle.http_head.specs.WrittenRequest.{Carries}
 use Rattle.http_head.proofs.BearerLemmas.{token_shown}
 use Rattle.http_head.proofs.FieldLemmas.{digits}
@@ -45,14 +40,14 @@ use Rattle.http_routes.specs.declared.server_route.ServerRouted.TheVariants.{Ass
 use Rattle.http_routes.specs.Asked.{IsAskedUnder}
 use Rattle.http_routes.specs.InOrder.{NamesJob, InForm}
 use Rattle.http_routes.specs.Message.{HasMessage}
-use Rattle.http_routes.specs.Place.{job_of}
 use Rattle.http_routes.specs.RunHead.{run_body}
-use Rattle.http_routes.specs.Sender.{IsAdmitted, IsFrom, ShowsJob, Shows}
+use Rattle.http_routes.specs.Sender.{IsFrom, Shows}
 use Rattle.http_routes.specs.ServerRoute.{body_at, AsksAssign, AsksSubmit, AsksRun}
 use Rattle.http_routes.specs.Requests.{post_with, alloc_with, status_with, heartbeat_with, state_with}
 use Rattle.http_routes.specs.Requests.{drain_with, assign_with, submit_with, run_with, CanGo}
 use Rattle.http_routes.proofs.PlaceLemmas.{no_query, written_job, job_named}
-use Rattle.http_routes.proofs.RouteLemmas.{asked_by, allocation_is, heartbeat_is, update_is, status_is, drain_is}
+use Rattle.http_routes.proofs.RouteLemmas.{asked_by, allocation_is, heartbeat_is, update_is, status_is}
+use Rattle.http_routes.proofs.RouteLemmas.{drain_is}
 use Rattle.http_routes.proofs.RunHeadLemmas.{body_read_back, inputs_behind}
 use Rattle.http_routes.proofs.ServerLemmas as at_server
 
@@ -230,7 +225,8 @@ module _ (rules : Rules) (lets : List ℕ → Admission) (serves : List ℕ → 
       let path = codes "/api/v1/scheduler/heartbeat_server" in
       let body = heartbeat_text beat in
       let (r, x, c) = posted path host token body beat_path g in
-      asked_by rules lets serves (request_text (post_with path host token body)) peer false (Beat server beat) r x
+      asked_by rules lets serves (request_text (post_with path host token body)) peer false
+      (Beat server beat) r x
       (heartbeat_is rules lets serves r peer server beat record {
         at = record { sent_by = c.method; sent_to = at_path path host token body beat_path r c };
         sender = sender path host token body beat_path r c serves peer server own ip;
@@ -298,8 +294,8 @@ module _ (lets : List ℕ → Admission) (serves : List ℕ → Option Addr) (pe
       let path = codes "/api/v1/scheduler/drain_server" in
       let body = drain_text drain in
       let (r, x, c) = posted path host token body drain_path g in
-      asked_by Two lets serves (request_text (post_with path host token body)) peer false (Drain server drain) r
-      x
+      asked_by Two lets serves (request_text (post_with path host token body)) peer false
+      (Drain server drain) r x
       (drain_is Two lets serves r peer server drain record {
         at = record {
           version = refl;

@@ -1,6 +1,6 @@
 -- In version 1 nothing asks for a drain.
-use Rattle.std.proofs.Common.{◌≡◌, ◌≢◌, inl, inr, ℕ, Bool, true, false, cond, List, Option, Some, None, Result}
-use Rattle.std.proofs.Common.{Ok, Err, refl, sym, ap, subst, ◌∙◌}
+use Rattle.std.proofs.Common.{◌≡◌, inl, inr, ℕ, Bool, true, false, cond, List, Option, Some, None, Result}
+use Rattle.std.proofs.Common.{Ok, Err, refl, sym, ap, subst}
 use Rattle.std.specs.Prelude.{codes}
 use Rattle.dist_types.specs.declared.addr.Addr.{Addr}
 use Rattle.dist_types.specs.declared.ids.JobId.{JobId}
@@ -12,7 +12,7 @@ use Rattle.http_routes.specs.declared.refusal.Refusal.{Refusal}
 use Rattle.http_routes.specs.declared.refusal.Refusal.TheVariants.{NoRoute}
 use Rattle.http_routes.specs.declared.route.Asked.{Asked}
 use Rattle.http_routes.specs.declared.route.SchedRouted.{SchedRouted}
-use Rattle.http_routes.specs.declared.route.SchedRouted.TheVariants.{Alloc, Beat, Update, Status, Drain}
+use Rattle.http_routes.specs.declared.route.SchedRouted.TheVariants.{Alloc, Beat, Update, Status}
 use Rattle.http_routes.specs.Asked.{IsAskedUnder}
 use Rattle.http_routes.specs.InOrder.{IsAt, IsAtDrain}
 use Rattle.http_routes.specs.Message.{message_in}
@@ -68,8 +68,8 @@ no_request_drains serves r peer said =
     by_tests false false true = λ server drain is. absurd cc
     by_tests false false false = no_report serves r peer
 
-pub no_bytes_drain : (lets : List ℕ → Admission) (serves : List ℕ → Option Addr) (bytes : List ℕ) (peer : Addr)
-    (a : Asked) → IsAskedUnder One lets serves bytes peer a → IsNoDrain a.what
+pub no_bytes_drain : (lets : List ℕ → Admission) (serves : List ℕ → Option Addr) (bytes : List ℕ)
+    (peer : Addr) (a : Asked) → IsAskedUnder One lets serves bytes peer a → IsNoDrain a.what
 no_bytes_drain lets serves bytes peer a (inl (r, x, e)) =
     subst IsNoDrain (sym (ap (λ (q : Asked). q.what) e)) (no_request_drains serves r peer (said_by lets r))
 no_bytes_drain lets serves bytes peer a (inr (none, e)) =

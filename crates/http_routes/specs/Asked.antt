@@ -18,8 +18,8 @@ use Rattle.http_routes.specs.Route.{wants_json, question_under, IsRouted}
 abbrev pub bad_question : Asked
 bad_question = record { what = Done (refusal_response BadHead); json = false }
 
--- What the bytes ask, as a request of that peer or as a bad head, of a scheduler that goes by those rules, lets
--- clients in by their tokens, and accepts servers by theirs.
+-- What the bytes ask, as a request of that peer or as a bad head, of a scheduler that goes by those rules,
+-- lets clients in by their tokens, and accepts servers by theirs.
 abbrev pub IsAskedUnder : Rules → (List ℕ → Admission) → (List ℕ → Option Addr) → List ℕ → Addr → Asked
     → Type 0
 IsAskedUnder rules lets serves bytes peer asked =

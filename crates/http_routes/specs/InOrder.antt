@@ -66,8 +66,8 @@ pub record IsAtDrain (rules : Rules) (r : Request) : Type 0 where
   pub at : IsAt r (codes "POST") (codes "/api/v1/scheduler/drain_server")
 
 -- the request is that wish of that server, to drain or to drain no more
-pub record IsDrain (rules : Rules) (r : Request) (peer : Addr) (serves : List ℕ → Option Addr) (server : Addr)
-    (drain : DrainServerHttpRequest) : Type 0 where
+pub record IsDrain (rules : Rules) (r : Request) (peer : Addr) (serves : List ℕ → Option Addr)
+    (server : Addr) (drain : DrainServerHttpRequest) : Type 0 where
   pub at : IsAtDrain rules r
   pub sender : IsFrom r peer serves server
   pub message : HasMessage SpellsDrain r drain

@@ -1,6 +1,6 @@
 -- The place of a request: its method, its path, and the job that the path names.
-use Rattle.std.specs.Prelude.{ℕ, Bool, false, ◌&&◌, List, length, drop, nat_eq, nat_lt, if◌then◌else◌, Option, Some}
-use Rattle.std.specs.Prelude.{None, codes, bytes_eq}
+use Rattle.std.specs.Prelude.{ℕ, Bool, false, ◌&&◌, List, length, drop, nat_eq, nat_lt, if◌then◌else◌}
+use Rattle.std.specs.Prelude.{Option, Some, None, codes, bytes_eq}
 use Rattle.std.specs.List.{starts_with}
 use Rattle.std.specs.Str.Parse.{without_leading_plus, digits_value}
 use Rattle.dist_types.specs.declared.ids.JobId.{JobId}

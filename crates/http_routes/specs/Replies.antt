@@ -1,5 +1,5 @@
 -- The replies to what the scheduler and a build server answer: in JSON where that is wanted, else in binary.
-use Rattle.std.specs.Prelude.{ℕ, Bool, Option, Some, None}
+use Rattle.std.specs.Prelude.{Bool, Option, Some, None}
 use Rattle.dist_types.specs.declared.addr.Addr.{Addr}
 use Rattle.dist_types.specs.declared.ids.JobId.{JobId}
 use Rattle.dist_types.specs.declared.results.AllocJobResult.{AllocJobResult}
@@ -12,8 +12,8 @@ use Rattle.dist_types.specs.declared.results.SchedulerStatusResult.{SchedulerSta
 use Rattle.dist_types.specs.declared.results.SubmitToolchainResult.{SubmitToolchainResult}
 use Rattle.dist_types.specs.declared.results.UpdateJobStateResult.{UpdateJobStateResult}
 use Rattle.dist_types.specs.declared.results.UpdateJobStateResult.TheVariants.{Success}
-use Rattle.dist_wire.specs.Json.{heard_json, status_json, drained_json, response_json, update_json, assign_json}
-use Rattle.dist_wire.specs.Json.{submit_json, ran_json}
+use Rattle.dist_wire.specs.Json.{heard_json, status_json, drained_json, response_json, update_json}
+use Rattle.dist_wire.specs.Json.{assign_json, submit_json, ran_json}
 use Rattle.dist_wire.specs.Response as sent
 use Rattle.dist_wire.specs.Written.{heard_text, status_text, drained_text, response_text, update_text}
 use Rattle.dist_wire.specs.Written.{assign_text, submit_text, ran_text}

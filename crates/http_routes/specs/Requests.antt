@@ -48,7 +48,8 @@ heartbeat_with host token beat = post_with (codes "/api/v1/scheduler/heartbeat_s
 
 -- the wish of a server that it drain, or drain no more
 unfoldable pub drain_with : List ℕ → List ℕ → DrainServerHttpRequest → WrittenRequest
-drain_with host token drain = post_with (codes "/api/v1/scheduler/drain_server") host token (drain_text drain)
+drain_with host token drain = post_with (codes "/api/v1/scheduler/drain_server") host token
+    (drain_text drain)
 
 -- the report of a job's state
 unfoldable pub state_with : List ℕ → List ℕ → JobId → JobState → WrittenRequest

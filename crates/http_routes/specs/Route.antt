@@ -15,7 +15,8 @@ use Rattle.http_routes.specs.declared.refusal.Refusal.{Refusal}
 use Rattle.http_routes.specs.declared.refusal.Refusal.TheVariants.{NoRoute}
 use Rattle.http_routes.specs.declared.route.Asked.{Asked}
 use Rattle.http_routes.specs.declared.route.SchedRouted.{SchedRouted}
-use Rattle.http_routes.specs.declared.route.SchedRouted.TheVariants.{Alloc, Beat, Update, Status, Drain, Done}
+use Rattle.http_routes.specs.declared.route.SchedRouted.TheVariants.{Alloc, Beat, Update, Status}
+use Rattle.http_routes.specs.declared.route.SchedRouted.TheVariants.{Drain, Done}
 use Rattle.http_routes.specs.Admission.{client_token, Admits, equal_admission}
 use Rattle.http_routes.specs.Message.{message_in}
 use Rattle.http_routes.specs.Place.{is_at, at_drain, state_job, of_job}

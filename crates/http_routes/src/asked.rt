@@ -23,8 +23,8 @@ fn bad_question(alloc: Global) -> Result<Asked, HttpError>
 }
 
 /// What the bytes that a peer sent ask of the scheduler at that moment, under its checks of clients and of
-/// servers, and by its rules; bytes that are no request get their reply. The check of clients is asked once at
-/// most, about the token of a request for a job. Refused for want of memory alone.
+/// servers, and by its rules; bytes that are no request get their reply. The check of clients is asked once
+/// at most, about the token of a request for a job. Refused for want of memory alone.
 pub fn asked_of_checks<K: ClientAuthCheck, V: ServerAuthCheck>(
     alloc: Global,
     bytes: &[u8],
@@ -41,15 +41,8 @@ pub fn asked_of_checks<K: ClientAuthCheck, V: ServerAuthCheck>(
     match read_head(alloc, bytes) {
         Ok(request) => {
             let json = wants_json(&request);
-            let what = scheduler_route(
-                alloc,
-                &request,
-                terms.peer,
-                now,
-                client,
-                server,
-                terms.rules,
-            )?;
+            let Terms { peer, rules } = terms;
+            let what = scheduler_route(alloc, &request, peer, now, client, server, rules)?;
             Ok(Asked { what, json })
         }
         Err(HttpError::BadHead) => bad_question(alloc),

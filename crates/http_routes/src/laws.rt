@@ -47,8 +47,8 @@ ghost use Rattle.http_routes.specs.Reply.{body_of, reply_text};
 ghost use Rattle.http_routes.specs.Route.{asked_of, answered, IsNoDrain};
 ghost use Rattle.http_routes.specs.ServerRoute.{body_at, IsServerAsked, AsksAssign, AsksSubmit, AsksRun};
 ghost use Rattle.http_routes.specs.Settled.{server_settled, scheduler_settled, IsSettledFor, IsSettledAt};
-ghost use Rattle.http_routes.specs.Requests.{alloc_with, status_with, heartbeat_with, state_with, drain_with};
-ghost use Rattle.http_routes.specs.Requests.{assign_with, submit_with, run_with, CanGo};
+ghost use Rattle.http_routes.specs.Requests.{alloc_with, status_with, heartbeat_with, state_with};
+ghost use Rattle.http_routes.specs.Requests.{drain_with, assign_with, submit_with, run_with, CanGo};
 
 use dist_wire::message::Message;
 
@@ -98,8 +98,8 @@ pub fn statuses_asked()
         ↔ ((r : Request) × IsRequest bytes r × IsStatus r × InForm r json) }
 {}
 
-/// Bytes ask that a registration drain, or drain no more, exactly where the rules are version 2 and they are a
-/// request that is that wish of that server.
+/// Bytes ask that a registration drain, or drain no more, exactly where the rules are version 2 and they are
+/// a request that is that wish of that server.
 pub fn drains_asked()
     ensures { (rules : Rules) (lets : List ℕ → Admission) (serves : List ℕ → Option Addr) (bytes : List ℕ)
         (peer server : Addr) (m : DrainServerHttpRequest) (json : Bool) → IsBytes bytes
@@ -107,13 +107,13 @@ pub fn drains_asked()
         ↔ ((r : Request) × IsRequest bytes r × IsDrain rules r peer serves server m × InForm r json) }
 {}
 
-/// In version 1 no request and no bytes ask for a drain, and a POST to where version 2 has its route is at no
-/// route.
+/// In version 1 no request and no bytes ask for a drain, and a POST to where version 2 has its route is at
+/// no route.
 pub fn no_drain_in_version_1()
     ensures requests { (serves : List ℕ → Option Addr) (r : Request) (peer : Addr) (said : Option Admission)
         → IsNoDrain (answered (asked_of One serves r peer said)) }
-    ensures bytes { (lets : List ℕ → Admission) (serves : List ℕ → Option Addr) (bytes : List ℕ) (peer : Addr)
-        (a : Asked) → IsAskedUnder One lets serves bytes peer a → IsNoDrain a.what }
+    ensures bytes { (lets : List ℕ → Admission) (serves : List ℕ → Option Addr) (bytes : List ℕ)
+        (peer : Addr) (a : Asked) → IsAskedUnder One lets serves bytes peer a → IsNoDrain a.what }
     ensures refused { (serves : List ℕ → Option Addr) (r : Request) (peer : Addr) (said : Option Admission)
         → IsAt r (codes "POST") (codes "/api/v1/scheduler/drain_server")
         → asked_of One serves r peer said ≡ Err NoRoute }
@@ -234,8 +234,8 @@ pub fn statuses_read_back()
 /// A heartbeat, written under a token that is accepted for a server and sent from its IP, is read as that
 /// server's.
 pub fn heartbeats_read_back()
-    ensures { (rules : Rules) (host token : List ℕ) (beat : HeartbeatServerHttpRequest) (lets : List ℕ → Admission)
-        (serves : List ℕ → Option Addr) (peer server : Addr)
+    ensures { (rules : Rules) (host token : List ℕ) (beat : HeartbeatServerHttpRequest)
+        (lets : List ℕ → Admission) (serves : List ℕ → Option Addr) (peer server : Addr)
         → CanGo host token (heartbeat_with host token beat) → SpellsHeartbeat beat (heartbeat_text beat)
         → serves token ≡ Some server → ip_of peer ≡ ip_of server
         → IsAskedUnder rules lets serves (request_text (heartbeat_with host token beat)) peer
@@ -245,16 +245,16 @@ pub fn heartbeats_read_back()
 /// A report of a job's state, written under a token that is accepted for a server and sent from its IP, is
 /// read as that server's update of that job to that state.
 pub fn states_read_back()
-    ensures { (rules : Rules) (host token : List ℕ) (job : JobId) (state : JobState) (lets : List ℕ → Admission)
-        (serves : List ℕ → Option Addr) (peer server : Addr)
+    ensures { (rules : Rules) (host token : List ℕ) (job : JobId) (state : JobState)
+        (lets : List ℕ → Admission) (serves : List ℕ → Option Addr) (peer server : Addr)
         → CanGo host token (state_with host token job state) → job.0 < 2 ^ 64
         → serves token ≡ Some server → ip_of peer ≡ ip_of server
         → IsAskedUnder rules lets serves (request_text (state_with host token job state)) peer
         (record { what = Update server job state; json = false }) }
 {}
 
-/// A wish to drain, written under a token that is accepted for a server and sent from its IP, is read in version
-/// 2 as that server's.
+/// A wish to drain, written under a token that is accepted for a server and sent from its IP, is read in
+/// version 2 as that server's.
 pub fn drains_read_back()
     ensures { (host token : List ℕ) (drain : DrainServerHttpRequest) (lets : List ℕ → Admission)
         (serves : List ℕ → Option Addr) (peer server : Addr)
@@ -309,7 +309,7 @@ pub fn waiting_kinds()
 pub fn heads_settle()
     ensures servers { (verdict : ℕ → List ℕ → Result ⊤ TokenError) (r : Request)
         → server_settled verdict r ≡ true → IsSettledFor verdict r }
-    ensures schedulers { (rules : Rules) (refuses : List ℕ → Bool) (serves : List ℕ → Option Addr) (r : Request)
-        (peer : Addr)
+    ensures schedulers { (rules : Rules) (refuses : List ℕ → Bool) (serves : List ℕ → Option Addr)
+        (r : Request) (peer : Addr)
         → scheduler_settled rules refuses serves r peer ≡ true → IsSettledAt rules refuses serves r peer }
 {}

@@ -108,9 +108,9 @@ fn drain_of<V: ServerAuthCheck>(
 ) -> Result<SchedRouted, Unrouted>
     ensures { Decides (drain_of (V.server_of check.now) request.now peer) result }
 {
-    let server = server_of(request, peer, check)?;
+    let sender = server_of(request, peer, check)?;
     let drain = message_in(alloc, request)?;
-    Ok(SchedRouted::Drain(ServerId::new(server), drain))
+    Ok(SchedRouted::Drain(ServerId::new(sender), drain))
 }
 
 /// A state of that job, and the server that tells it.
@@ -194,8 +194,8 @@ fn routed<V: ServerAuthCheck>(
 }
 
 /// What a request of that peer asks of the scheduler at that moment, under its checks of clients and of
-/// servers, and by its rules; a request that is refused gets its reply. The check of clients is asked once, where a request for
-/// a job shows a token, and else stays as it was. Refused for want of memory alone.
+/// servers, and by its rules; a request that is refused gets its reply. The check of clients is asked once,
+/// where a request for a job shows a token, and else stays as it was. Refused for want of memory alone.
 pub fn scheduler_route<K: ClientAuthCheck, V: ServerAuthCheck>(
     alloc: Global,
     request: &Request,
