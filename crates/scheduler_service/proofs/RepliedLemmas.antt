@@ -1,5 +1,5 @@
 -- What an allocation leaves of a pass, and what is done behind a route.
-use Rattle.std.proofs.Common.{◌≡◌, ℕ, List, Option, Some, None, Result, Ok, Err, refl, ap, ◌∙◌}
+use Rattle.std.proofs.Common.{◌≡◌, ℕ, List, Option, Some, None, Result, Err, refl}
 use Rattle.std.specs.Prelude.{⊤}
 use Rattle.dist_types.specs.Outgoing.{Assigned}
 use Rattle.dist_types.specs.declared.addr.Addr.{Addr}
@@ -8,38 +8,23 @@ use Rattle.dist_types.specs.declared.fault.Memory as want
 use Rattle.dist_types.specs.declared.results.AllocJobResult.{AllocJobResult}
 use Rattle.dist_types.specs.declared.token_error.TokenError.{TokenError}
 use Rattle.http_head.specs.declared.request.Request.{Request}
-use Rattle.sched_core.specs.declared.answers.Picked.{Picked}
-use Rattle.sched_core.specs.declared.answers.Picked.TheVariants.{Reserved, NoRoom}
 use Rattle.scheduler_steps.specs.declared.fault.SchedFault.{SchedFault}
-use Rattle.sched.specs.Course.{GoesOn, IsAllocation}
+use Rattle.sched.specs.Course.{IsAllocation}
 use Rattle.sched.specs.Outside.{Moments, Requests, IsRead}
-use Rattle.sched.specs.Pass.{Told, held_of}
+use Rattle.sched.specs.Pass.{Told, Stays}
 use Rattle.http_connections.specs.Form.{form_of}
 use Rattle.http_connections.specs.Served.{MadeReply}
 use Rattle.scheduler_service.specs.Connection.{Routing, Asks, Does, IsReplied}
 use Rattle.scheduler_service.specs.Replied.{Means, IsAllocated, job_token}
 use Rattle.scheduler_service.specs.Requested.{IsAskedFor, lent_of}
 
--- a reservation that was asked about leaves what the pass holds, and so does the end at once
-follows_hold : (says : Assigned → Asked → Type 0) (tc : List ℕ) (picked : Result Picked SchedFault)
-    (between new : Told) (ticking ticked : Moments) (before after : Requests)
-    (answer : Result AllocJobResult SchedFault)
-    → GoesOn says tc picked between new ticking ticked before after answer → held_of new ≡ held_of between
-follows_hold says tc (Ok (Reserved r)) between new ticking ticked before after answer goes =
-    goes.turn.counted.held
-follows_hold says tc (Ok (NoRoom standing)) between new ticking ticked before after answer goes =
-    ap held_of goes.0.uncounted
-follows_hold says tc (Err fault) between new ticking ticked before after answer goes =
-    ap held_of goes.0.uncounted
-
-pub allocation_holds : (key_of : List ℕ → List ℕ) (token_for : List ℕ → ℕ → List ℕ)
+pub allocation_stays : (key_of : List ℕ → List ℕ) (token_for : List ℕ → ℕ → List ℕ)
     (says : Assigned → Asked → Type 0) (tc : List ℕ) (old new : Told) (clock ticked : Moments)
     (before after : Requests) (answer : Result AllocJobResult SchedFault)
-    → IsAllocation key_of token_for says tc old new clock ticked before after answer
-    → held_of new ≡ held_of old
-allocation_holds key_of token_for says tc old new clock ticked before after answer a =
-    follows_hold says tc a.picked a.between new a.ticking ticked before after answer a.follows
-    ∙ a.turn.counted.held
+    → IsAllocation key_of token_for says tc old new clock ticked before after answer → Stays old new
+allocation_stays key_of token_for says tc old new clock ticked before after answer a =
+    let counted = a.added.counted in
+    record { of = counted.of; start = counted.start; held = counted.held }
 
 -- an allocation over a requester that was lent the dialer
 pub allocated_over : (name : ℕ) (tc : List ℕ) (old new : Means) (answer : Result AllocJobResult SchedFault)

@@ -13,7 +13,8 @@ use Rattle.http_routes.specs.declared.route.SchedRouted.TheVariants.{Done}
 use Rattle.sched.specs.Outside.{Moments, IsRead}
 use Rattle.http_connections.specs.Form.{form_of}
 use Rattle.http_connections.specs.Served.{MadeReply}
-use Rattle.scheduler_service.specs.Replied.{Means, IsDone}
+use Rattle.scheduler_service.specs.ByEntries.{IsDoneAt}
+use Rattle.scheduler_service.specs.Replied.{Means}
 
 -- what the caller lends beside the link: the means of the handlers, and the check of clients' tokens
 pub record Around (K : Type 0) : Type 0 where
@@ -25,7 +26,8 @@ abbrev pub Routing : Type 0
 Routing = Result SchedRouted want.Memory
 
 -- What was taken asks that at a moment: a request by its route, and what is no request gets the reply to a
--- bad head. Where memory ran out, the check of clients stays, or was asked once about the token that is shown.
+-- bad head. Where memory ran out, the check of clients stays, or was asked once about the token that is
+-- shown.
 abbrev pub Asks : {K : Type 0} → (K → ℕ → List ℕ → Result ⊤ TokenError → K → Type 0)
     → (K → TokenError → List ℕ) → (List ℕ → Option Addr) → Addr → Option Request → ℕ → K → Routing → K
     → Type 0
@@ -37,9 +39,10 @@ Asks may_answer shown serves peer (Some request) now old (Ok routed) new =
 Asks may_answer shown serves peer (Some request) now old (Err e) new =
     MayBeAsked may_answer (client_token request) now old new
 
--- What is asked is done; where memory ran out before it was known, there is no reply, and nothing changes.
+-- What is asked is done, and replied to by the entries that it made; where memory ran out before it was
+-- known, there is no reply, and nothing changes.
 abbrev pub Does : Bool → Routing → Means → Means → MadeReply → Type 0
-Does json (Ok routed) old new made = IsDone json routed old new made
+Does json (Ok routed) old new made = IsDoneAt json routed old new made
 Does json (Err e) old new made = (made ≡ Err e) × (new ≡ old)
 
 -- The reply to what was taken, or that memory ran out before it was made: the clock is read once for its

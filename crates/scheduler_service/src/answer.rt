@@ -1,7 +1,6 @@
 //! Doing what is asked of the scheduler, and the reply that tells its answer.
-ghost use Rattle.std.specs.Prelude.{◌≡◌};
 ghost use Rattle.sched.specs.Outside.{moments};
-ghost use Rattle.sched.specs.Pass.{held_of};
+ghost use Rattle.sched.specs.Pass.{IsPassOf, Stays};
 ghost use Rattle.scheduler_service.specs.Replied.{IsAllocated, IsDone};
 
 use crate::asking::Asking;
@@ -23,7 +22,7 @@ use std::alloc::Global;
 use std::sync::Wait;
 
 /// Allocates a job, and asks its server through the dialer.
-#[tactic(auto, using(crate::proofs::RepliedLemmas::allocation_holds))]
+#[tactic(auto, using(crate::proofs::RepliedLemmas::allocation_stays))]
 fn allocated<R: Wait, D: Dialer, C: Clock>(
     rt: &R,
     alloc: Global,
@@ -33,11 +32,12 @@ fn allocated<R: Wait, D: Dialer, C: Clock>(
     clock: &mut C,
     tc: &Toolchain,
 ) -> Result<AllocJobResult, SchedFault>
+    requires pass { IsPassOf scheduler.now pass.old }
     ensures allocated { IsAllocated tc.now
         (record { pass = pass.old; clock = moments C.moments C.last clock.old; asked = D.asked dialer.old; faults = D.faults dialer.old })
         (record { pass = pass.new; clock = moments C.moments C.last clock.new; asked = D.asked dialer.new; faults = D.faults dialer.new })
         result }
-    ensures holds { held_of pass.new ≡ held_of pass.old }
+    ensures stays { Stays pass.old pass.new }
 {
     let mut asking = Asking::new(alloc, dialer);
     scheduler.handle_alloc_job(rt, pass, clock, &mut asking, tc)
@@ -55,10 +55,11 @@ pub fn answer<R: Wait, D: Dialer, C: Clock>(
     json: bool,
     asked: SchedRouted,
 ) -> Result<Response, Memory>
+    requires pass { IsPassOf scheduler.now pass.old }
     ensures told { IsDone json asked
         (record { pass = pass.old; clock = moments C.moments C.last clock.old; asked = D.asked dialer.old; faults = D.faults dialer.old })
         (record { pass = pass.new; clock = moments C.moments C.last clock.new; asked = D.asked dialer.new; faults = D.faults dialer.new }) result }
-    ensures holds { held_of pass.new ≡ held_of pass.old }
+    ensures stays { Stays pass.old pass.new }
 {
     match asked {
         SchedRouted::Alloc(tc) => {

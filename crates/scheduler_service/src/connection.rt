@@ -1,7 +1,6 @@
 //! Serving one connection of a scheduler: take, answer, send.
-ghost use Rattle.std.specs.Prelude.{◌≡◌};
 ghost use Rattle.sched.specs.Outside.{moments, IsRead};
-ghost use Rattle.sched.specs.Pass.{held_of};
+ghost use Rattle.sched.specs.Pass.{IsPassOf, Stays};
 ghost use Rattle.scheduler_service.specs.Connection.{Asks, IsReplied};
 ghost use Rattle.http_connections.specs.Served.{IsServedBy};
 
@@ -69,6 +68,7 @@ pub fn serve_scheduler_connection<
     client: &mut K,
     server: &V,
 ) -> Served
+    requires pass { IsPassOf scheduler.now pass.old }
     ensures served { IsServedBy (IsReplied K.may_answer K.shown (V.server_of server.now) peer)
         (record { left = L.left link.old; held = L.held link.old; reads = L.Source.faults link.old; writes = L.Sink.faults link.old })
         (record { left = L.left link.new; held = L.held link.new; reads = L.Source.faults link.new; writes = L.Sink.faults link.new })
@@ -81,7 +81,7 @@ pub fn serve_scheduler_connection<
           client = client.new;
         })
         result }
-    ensures holds { held_of pass.new ≡ held_of pass.old }
+    ensures stays { Stays pass.old pass.new }
 {
     let heads = PeerHeads {
         peer,

@@ -1,5 +1,7 @@
 use Rattle.std.proofs.Common.{Ok, Err, refl, ap, sym, ◌∙◌}
+use Rattle.http_connections.specs.Form.{form_of}
 use Rattle.http_connections.proofs.ConnectionLemmas.{sent_by, unsent}
+use Rattle.scheduler_service.proofs.EntryLemmas.{done_at}
 use Rattle.scheduler_service.proofs.RepliedLemmas.{replied, unrouted}
 use Rattle.scheduler_service.proofs.SettledLemmas.{replied_whole}
 use Rattle.scheduler_service.proofs.connection.serve_scheduler_connection.Goals as goal
@@ -17,7 +19,28 @@ returns-in-Ok-answer-clause-served g c =
     (replied _ _ _ _ c.in-Ok.request _ _ _
     (record { coming = g.C.Clock.moments c.routed.new.clock; last = g.C.Clock.last c.routed.new.clock })
     (Ok c.in-Ok-routed.routing) _ (Ok c.in-Ok-answer.reply) c.in-Ok-routed.ensures.read
-    c.in-Ok-routed.ensures.asks (rw c.form_of-json.ensures at c.in-Ok-answer.ensures.told))
+    c.in-Ok-routed.ensures.asks
+    (done_at (form_of c.in-Ok.request) c.in-Ok-routed.routing (record {
+      pass = c.args.pass.now;
+      clock = record {
+        coming = g.C.Clock.moments c.routed.new.clock;
+        last = g.C.Clock.last
+            c.routed.new.clock;
+      };
+      asked = g.D.Dialer.asked c.args.dialer.now;
+      faults = g.D.Dialer.faults c.args.dialer.now;
+    })
+    (record {
+      pass = c.answer.new.pass;
+      clock = record {
+        coming = g.C.Clock.moments c.answer.new.clock;
+        last = g.C.Clock.last
+            c.answer.new.clock;
+      };
+      asked = g.D.Dialer.asked c.answer.new.dialer;
+      faults = g.D.Dialer.faults c.answer.new.dialer;
+    })
+    (Ok c.in-Ok-answer.reply) (rw c.form_of-json.ensures at c.in-Ok-answer.ensures.told)))
     (record {
       answered = c.send.ensures.answered;
       failed = c.send.ensures.failed;
@@ -44,4 +67,25 @@ returns-clause-served g c =
     (replied _ _ _ _ c.in-Ok.request _ _ _
     (record { coming = g.C.Clock.moments c.routed.new.clock; last = g.C.Clock.last c.routed.new.clock })
     (Ok c.in-Ok-routed.routing) _ (Err c.in-Err-answer.field-0) c.in-Ok-routed.ensures.read
-    c.in-Ok-routed.ensures.asks (rw c.form_of-json.ensures at c.in-Err-answer.ensures.told))
+    c.in-Ok-routed.ensures.asks
+    (done_at (form_of c.in-Ok.request) c.in-Ok-routed.routing (record {
+      pass = c.args.pass.now;
+      clock = record {
+        coming = g.C.Clock.moments c.routed.new.clock;
+        last = g.C.Clock.last
+            c.routed.new.clock;
+      };
+      asked = g.D.Dialer.asked c.args.dialer.now;
+      faults = g.D.Dialer.faults c.args.dialer.now;
+    })
+    (record {
+      pass = c.answer.new.pass;
+      clock = record {
+        coming = g.C.Clock.moments c.answer.new.clock;
+        last = g.C.Clock.last
+            c.answer.new.clock;
+      };
+      asked = g.D.Dialer.asked c.answer.new.dialer;
+      faults = g.D.Dialer.faults c.answer.new.dialer;
+    })
+    (Err c.in-Err-answer.field-0) (rw c.form_of-json.ensures at c.in-Err-answer.ensures.told)))
