@@ -101,7 +101,8 @@ pub trait SchedulerIncoming<A: JobAuthorizer> {
             (moments C.moments C.last clock.old) (moments C.moments C.last clock.new) result };
 }
 
-/// Each is the scheduler's own.
+/// Each is the scheduler's own. Over every authorizer the toolchain refuses these calls: what they send to a
+/// thread would rest on a bound of the impl.
 impl SchedulerIncoming<JWTJobAuthorizer> for Scheduler<JWTJobAuthorizer> {
     ghost whose = { λ s. s };
 
