@@ -3,6 +3,7 @@ use Rattle.std.specs.Prelude.{◌≡◌, ℕ, List, Bool, ◌&&◌, nat_le, if�
 use Rattle.std.specs.Option.{option_map}
 use Rattle.dist_types.specs.declared.addr.Addr.{Addr}
 use Rattle.dist_types.specs.declared.results.AllocJobResult.TheVariants as alloc
+use Rattle.dist_types.specs.declared.rules.Rules.TheVariants.{One}
 use Rattle.dist_wire.specs.declared.heartbeat.HeartbeatServerHttpRequest.{HeartbeatServerHttpRequest}
 use Rattle.http_routes.specs.Admission.{equal_admission}
 use Rattle.http_routes.specs.Asked.{IsAskedUnder}
@@ -14,7 +15,7 @@ use Rattle.http_routes.specs.declared.route.Asked.{Asked}
 use Rattle.http_routes.specs.declared.route.SchedRouted.{SchedRouted}
 use Rattle.http_routes.specs.declared.route.SchedRouted.TheVariants as asked
 use Rattle.core_rules.specs.Log.{Core}
-use Rattle.core_rules.specs.Rule.{rule, says_new_entry, counts_of}
+use Rattle.core_rules.specs.Rule.{rule, says_new_entry, counts_of, knows_of}
 use Rattle.core_rules.specs.Ticket.{Ticket}
 use Rattle.core_rules.specs.declared.call.Call.TheVariants as call
 use Rattle.core_rules.specs.declared.entry.CoreEntry.{CoreEntry}
@@ -27,7 +28,8 @@ use Rattle.farm_entries.specs.declared.site.Site.{Site as Setup}
 use Rattle.farm_entries.specs.declared.entry.Effect.{Effect}
 use Rattle.farm_entries.specs.declared.entry.OutCall.{OutCall}
 use Rattle.farm_entries.specs.Effects.{reply_effect, call_effect, reply_to}
-use Rattle.http_routes.specs.Replies.{heard_response, status_response, alloc_response, update_reply}
+use Rattle.http_routes.specs.Replies.{heard_response, status_response, drained_response, alloc_response}
+use Rattle.http_routes.specs.Replies.{update_reply}
 use Rattle.farm_entries.specs.Seen.{serves}
 use Rattle.farm_entries.specs.Tickets.{ticket_by}
 
@@ -74,11 +76,14 @@ answer_to core number at json (asked.Update server job state) =
 answer_to core number at json asked.Status =
     let made = rule core (call.Status at) in
     reply_effect (Some made) (reply_to number (status_response json (counts_of made)))
+answer_to core number at json (asked.Drain server drain) =
+    let made = rule core (call.Drain at server drain.server_nonce drain.draining) in
+    reply_effect (Some made) (reply_to number (drained_response json (knows_of made)))
 answer_to core number at json (asked.Done response) = reply_effect None (reply_to number response)
 
--- the bytes ask that of the scheduler
+-- the bytes ask that of the scheduler, which goes by version 1
 abbrev pub Asks : Setup → Addr → List ℕ → Asked → Type 0
-Asks setup peer bytes a = IsAskedUnder (equal_admission setup.scheduler.client)
+Asks setup peer bytes a = IsAskedUnder One (equal_admission setup.scheduler.client)
     (serves setup.scheduler.auth) bytes peer a
 
 -- the scheduler does what a peer's bytes ask

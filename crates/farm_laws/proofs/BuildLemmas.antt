@@ -36,7 +36,6 @@ use Rattle.core_rules.proofs.AddressLemmas.{same_is, same_self}
 use Rattle.core_rules.proofs.AllLemmas.{or_true, same_job-refl}
 use Rattle.http_head.specs.Head.{IsRequest}
 use Rattle.http_head.specs.declared.request.Request.{Request}
-use Rattle.http_routes.specs.Admission.{equal_admission}
 use Rattle.http_routes.specs.CallReply.{IsAnswer}
 use Rattle.http_routes.specs.InOrder.{NamesJob}
 use Rattle.http_routes.specs.Message.{message_in}
@@ -55,7 +54,6 @@ use Rattle.http_routes.specs.declared.route.SchedRouted.TheVariants as asked
 use Rattle.http_routes.specs.declared.server_route.ServerAsked.{ServerAsked}
 use Rattle.http_routes.specs.declared.server_route.ServerRouted.{ServerRouted}
 use Rattle.http_routes.specs.declared.server_route.ServerRouted.TheVariants as server_asked
-use Rattle.http_routes.proofs.AskLemmas.{one_question}
 use Rattle.http_routes.proofs.PlaceLemmas.{job_named}
 use Rattle.http_routes.proofs.SenderLemmas.{job_shown}
 use Rattle.http_routes.proofs.ServerLemmas.{one_question as one_server_question}
@@ -92,7 +90,7 @@ use Rattle.farm_entries.specs.Builds.{IsTaken, IsStarted, AreStarted, AreBuilds,
 use Rattle.farm_entries.specs.Calls.{call_at, delivered_by, delivery_at, settles_by, is_void, waiting_at}
 use Rattle.farm_entries.specs.Effects.{word_effect, effect_of, entry_of}
 use Rattle.farm_entries.specs.Next.{GoesOn, IsSettled, IsMade, IsNext, EachNext, IsRun}
-use Rattle.farm_entries.specs.Seen.{ids_start, core_log, core_of, serves}
+use Rattle.farm_entries.specs.Seen.{ids_start, core_log, core_of}
 use Rattle.farm_entries.specs.Served.{assigned, served, told_of, books_of, state_call}
 use Rattle.farm_entries.specs.Weather.{free, IsFree, opened_effect}
 use Rattle.toolchain_cache.specs.Archives.{Archives}
@@ -105,6 +103,7 @@ use Rattle.farm_entries.specs.Ways.{return_way}
 use Rattle.farm_entries.specs.Ways.{is_inside, beat_way, restart_way, way_of, brought_at, to_nothing}
 use Rattle.farm_entries.specs.Ways.{to_nobody}
 use Rattle.farm_entries.specs.Ways.{to_scheduler, to_server, to_call, to_beat, to_restart}
+use Rattle.farm_laws.proofs.OneLemmas.{one_asked}
 use Rattle.farm_laws.proofs.NextLemmas.{settles_it, way_settles, runs_lawful}
 use Rattle.farm_laws.proofs.ReportLemmas.{state_asked, told_accepted}
 use Rattle.farm_entries.proofs.StepLemmas.{server_setup}
@@ -275,6 +274,7 @@ answer_quiet s number at json (asked.Alloc tc) = allocated_quiet s number json t
 answer_quiet s number at json (asked.Beat server beat) = either_quiet (hears beat.num_cpus) _ _ refl refl
 answer_quiet s number at json (asked.Update server job state) = refl
 answer_quiet s number at json asked.Status = refl
+answer_quiet s number at json (asked.Drain server drain) = refl
 answer_quiet s number at json (asked.Done response) = refl
 
 assigned_quiet : (addr : Addr) (number : ℕ) (json : Bool) (job : JobId) (tc : List ℕ)
@@ -678,8 +678,7 @@ module _ (setup : Setup) (words : HasWords setup) (entries : List Entry) (n : �
       let (a, shown, x_is) = subst (λ (w : Way). IsMade free setup (take d entries) e.event.at w x)
       (arrives lt) made in
       let wanted : Asked = record { what = asked.Update server job Started; json = false } in
-      let one : a ≡ wanted = one_question (equal_admission setup.scheduler.client)
-      (serves setup.scheduler.auth) sent.bytes server a wanted shown
+      let one : a ≡ wanted = one_asked setup server sent.bytes a wanted shown
       (state_asked setup server job Started words is_addr fits) in
       let answer = advance (open_rows s.log) server job Started in
       let same : x ≡ answer_to s (length (take d entries)) e.event.at false

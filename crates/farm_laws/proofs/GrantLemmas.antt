@@ -18,7 +18,6 @@ use Rattle.core_rules.specs.Rows.{open_rows}
 use Rattle.core_rules.proofs.AddressLemmas.{same_self}
 use Rattle.http_head.specs.Head.{IsReply}
 use Rattle.http_head.specs.declared.reply.Reply.{Reply as HttpReply}
-use Rattle.http_routes.specs.Admission.{equal_admission}
 use Rattle.http_routes.specs.CallReply.{IsAnswer}
 use Rattle.http_routes.specs.Replies.{update_reply}
 use Rattle.http_routes.specs.Reply.{reply_text}
@@ -26,7 +25,6 @@ use Rattle.http_routes.specs.declared.route.Asked.{Asked}
 use Rattle.http_routes.specs.declared.route.SchedRouted.TheVariants as asked
 use Rattle.http_routes.specs.declared.server_route.ServerAsked.{ServerAsked}
 use Rattle.http_routes.specs.declared.server_route.ServerRouted.TheVariants as server_asked
-use Rattle.http_routes.proofs.AskLemmas.{one_question}
 use Rattle.http_routes.proofs.ServerLemmas.{submissions_asked}
 use Rattle.farm_script.specs.declared.event.Event.{Event}
 use Rattle.farm_script.specs.declared.event.EventKind.{EventKind}
@@ -45,7 +43,7 @@ use Rattle.farm_entries.specs.Calls.{call_at, delivery_at, settles_by}
 use Rattle.farm_entries.specs.Effects.{word_effect, entry_of}
 use Rattle.farm_entries.specs.Next.{IsMade, IsNext, EachNext}
 use Rattle.farm_entries.specs.Reliable.{AsksAt, IsReturned, IsGranted, ReturnsGrant}
-use Rattle.farm_entries.specs.Seen.{core_of, serves}
+use Rattle.farm_entries.specs.Seen.{core_of}
 use Rattle.farm_entries.specs.Served.{served, state_call}
 use Rattle.farm_entries.specs.Servers.{ServerNow, server_now}
 use Rattle.farm_entries.specs.Ways.{Way, server_way, stepper, caller_by, caller_of, delivery_way, way_of}
@@ -53,7 +51,7 @@ use Rattle.farm_entries.specs.Ways.{to_nothing, to_scheduler}
 use Rattle.farm_entries.specs.Weather.{Weather}
 use Rattle.farm_laws.proofs.BuildLemmas.{mapped, get_past, found_now, found_addr, caller_is, delivered}
 use Rattle.farm_laws.proofs.BuildLemmas.{run_asked}
-use Rattle.farm_laws.proofs.OneLemmas.{one_server_asked}
+use Rattle.farm_laws.proofs.OneLemmas.{one_asked, one_server_asked}
 use Rattle.farm_laws.proofs.ReliableLemmas.{run_by}
 use Rattle.farm_laws.proofs.ReportLemmas.{state_asked, ok_answers}
 use Rattle.farm_laws.proofs.SettleLemmas.{get_front, get_take, next_at}
@@ -134,8 +132,7 @@ module _ (w : Weather) (setup : Setup) (words : HasWords setup) (events : List E
           let (a, shown, x_is) = subst (λ (v : Way). IsMade w setup (take d entries) e.event.at v x)
           (arrives lt) made in
           let wanted : Asked = record { what = asked.Update server job state; json = false } in
-          let one : a ≡ wanted = one_question (equal_admission setup.scheduler.client)
-          (serves setup.scheduler.auth) sent.bytes server a wanted shown
+          let one : a ≡ wanted = one_asked setup server sent.bytes a wanted shown
           (state_asked setup server job state words is_addr fits) in
           let answer = advance (open_rows s.log) server job state in
           let same : x ≡ answer_to s (length (take d entries)) e.event.at false

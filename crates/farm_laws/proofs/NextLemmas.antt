@@ -36,6 +36,9 @@ use Rattle.core_rules.proofs.OnceLemmas.{legal_all}
 use Rattle.http_routes.specs.declared.route.SchedRouted.{SchedRouted}
 use Rattle.http_routes.specs.declared.route.SchedRouted.TheVariants as asked
 use Rattle.http_routes.proofs.CallLemmas.{begins_assigned}
+use Rattle.http_routes.proofs.VersionLemmas.{no_bytes_drain}
+use Rattle.http_routes.specs.Admission.{equal_admission}
+use Rattle.http_routes.specs.Route.{IsNoDrain}
 use Rattle.farm_entries.specs.declared.site.Site.{Site as Setup}
 use Rattle.farm_script.specs.declared.event.Event.{Event}
 use Rattle.farm_script.specs.declared.event.EventKind.{EventKind}
@@ -69,7 +72,7 @@ use Rattle.farm_entries.specs.Calls.{call_at, delivery_at, settles_by, is_void, 
 use Rattle.farm_entries.specs.Effects.{entry_of, effect_of, word_effect}
 use Rattle.farm_entries.specs.Lawful.{IsSound, IsLawful, AreLawful}
 use Rattle.farm_entries.specs.Next.{GoesOn, IsSettled, IsMade, IsNext, EachNext, IsRun}
-use Rattle.farm_entries.specs.Seen.{ids_start, core_log, core_of}
+use Rattle.farm_entries.specs.Seen.{ids_start, core_log, core_of, serves}
 use Rattle.farm_entries.specs.Settled.{IsOutcome, assignment_end, ReadyEnds, StartedEnds, complete_end}
 use Rattle.farm_entries.specs.Settled.{Reports}
 use Rattle.farm_entries.specs.Settled.{ReportsIn, Lives}
@@ -109,9 +112,9 @@ hears_both cpus on =
     (leb-true 1 cpus p.0, leb-true cpus 4294967295 p.1)
 
 answer_adds : (setup : Setup) (log : List Entry) (event : Event) (number at : ℕ) (json : Bool)
-    (what : SchedRouted)
+    (what : SchedRouted) → IsNoDrain what
     → Adds setup log (entry_of event (answer_to (core_of setup log) number at json what))
-answer_adds setup log event number at json (asked.Alloc tc) =
+answer_adds setup log event number at json (asked.Alloc tc) none =
     let s = core_of setup log in
     let made = rule s (call.Reserve at) in
     inr (inl (record {
@@ -121,7 +124,7 @@ answer_adds setup log event number at json (asked.Alloc tc) =
       spends = reserve_spends (pick (servers_of s.log)) (servers_of s.log) at s.start.base
           (s.start.count + length (bookings s.log));
     }))
-answer_adds setup log event number at json (asked.Beat server beat) =
+answer_adds setup log event number at json (asked.Beat server beat) none =
     elim (cases_Bool (hears beat.num_cpus)) [
       | inl on ↦ inr (inl (record {
         made = rule (core_of setup log) (call.Beat at server beat.server_nonce beat.num_cpus beat.jwt_key);
@@ -135,19 +138,20 @@ answer_adds setup log event number at json (asked.Beat server beat) =
       }))
       | inr off ↦ inl (record { core = rw off refl })
     ]
-answer_adds setup log event number at json (asked.Update server job state) = inr (inl (record {
+answer_adds setup log event number at json (asked.Update server job state) none = inr (inl (record {
   made = rule (core_of setup log) (call.Update at server job state);
   core = refl;
   rule = (call.Update at server job state, tt, refl);
   spends = λ j. refl;
 }))
-answer_adds setup log event number at json asked.Status = inr (inl (record {
+answer_adds setup log event number at json asked.Status none = inr (inl (record {
   made = rule (core_of setup log) (call.Status at);
   core = refl;
   rule = (call.Status at, tt, refl);
   spends = λ j. refl;
 }))
-answer_adds setup log event number at json (asked.Done response) = inl (record { core = refl })
+answer_adds setup log event number at json (asked.Drain server drain) none = absurd (none server drain refl)
+answer_adds setup log event number at json (asked.Done response) none = inl (record { core = refl })
 
 -- a word alone adds nothing
 word_adds : (setup : Setup) (log : List Entry) (event : Event) (word : EntryWord) (x : Effect)
@@ -424,7 +428,9 @@ made_adds : (setup : Setup) (log : List Entry) (event : Event) (way : Way) (x : 
     → Adds setup log (entry_of event x)
 made_adds setup log event (to_scheduler peer bytes) x same sound is =
     subst (λ (y : Effect). Adds setup log (entry_of event y)) (sym is.2)
-    (answer_adds setup log event (length log) event.at is.0.json is.0.what)
+    (answer_adds setup log event (length log) event.at is.0.json is.0.what
+    (no_bytes_drain (equal_admission setup.scheduler.client) (serves setup.scheduler.auth) bytes peer is.0
+    is.1))
 made_adds setup log event (to_call n reply) x same sound is =
     settled_adds setup log event event.at n reply (waiting_at log n) x sound refl
     (way_settles setup log event.kind n reply same) is

@@ -14,7 +14,7 @@ use Rattle.dist_types.proofs.AddrLemmas.{bind_some}
 use Rattle.dist_wire.specs.declared.run.RunJobHttpRequest.{RunJobHttpRequest}
 use Rattle.core_rules.specs.Answers.{committed_by, undone_by}
 use Rattle.core_rules.specs.Log.{Core}
-use Rattle.core_rules.specs.Rule.{rule, says_new_entry, counts_of}
+use Rattle.core_rules.specs.Rule.{rule, says_new_entry, counts_of, knows_of}
 use Rattle.core_rules.specs.Texts.{no_room_text}
 use Rattle.core_rules.specs.Ticket.{Ticket}
 use Rattle.core_rules.specs.declared.call.Call.TheVariants as call
@@ -25,7 +25,7 @@ use Rattle.core_rules.specs.declared.entry.Reserved.TheVariants.{Job, NoRoom, Sp
 use Rattle.dist_types.specs.declared.results.AllocJobResult.TheVariants as alloc
 use Rattle.http_routes.specs.Fault.{fault_response_of}
 use Rattle.http_routes.specs.Replies.{heard_response, status_response, alloc_response, commit_response}
-use Rattle.http_routes.specs.Replies.{update_reply, assign_response, submit_response}
+use Rattle.http_routes.specs.Replies.{drained_response, update_reply, assign_response, submit_response}
 use Rattle.http_routes.specs.declared.fault.RouteFault.TheVariants as fault
 use Rattle.http_routes.specs.declared.reply.Response.{Response}
 use Rattle.http_routes.specs.declared.route.SchedRouted.{SchedRouted}
@@ -133,6 +133,9 @@ answer_says s number at json (asked.Update server job state) =
 answer_says s number at json asked.Status =
     let made = rule s (call.Status at) in
     says_reply number (Some made) (status_response json (counts_of made))
+answer_says s number at json (asked.Drain server drain) =
+    let made = rule s (call.Drain at server drain.server_nonce drain.draining) in
+    says_reply number (Some made) (drained_response json (knows_of made))
 answer_says s number at json (asked.Done response) = says_reply number None response
 
 assigned_says : (addr : Addr) (number : ℕ) (json : Bool) (job : JobId) (tc : List ℕ)

@@ -12,6 +12,7 @@ use Rattle.dist_types.specs.declared.results.JobState.{JobState}
 use Rattle.dist_types.specs.declared.results.JobState.TheVariants.{Pending, Ready, Started, Complete}
 use Rattle.dist_types.specs.declared.results.UpdateJobStateResult.{UpdateJobStateResult}
 use Rattle.dist_types.specs.declared.results.UpdateJobStateResult.TheVariants.{Success}
+use Rattle.dist_types.specs.declared.rules.Rules.TheVariants.{One}
 use Rattle.core_rules.specs.declared.entry.UpdateAnswer.{UpdateAnswer}
 use Rattle.core_rules.specs.declared.entry.UpdateAnswer.TheVariants.{Accepted, Unknown, Wrong, Transition}
 use Rattle.http_head.specs.declared.error.HttpError.TheVariants.{ParseError, Status as StatusFault}
@@ -89,11 +90,11 @@ can_go setup server job state words is fits =
 -- the scheduler reads it as that server's update of that job
 pub state_asked : (setup : Setup) (server : Addr) (job : JobId) (state : JobState) → HasWords setup
     → IsAddr server → job.0 < 2 ^ 64
-    → IsAskedUnder (equal_admission setup.scheduler.client) (serves setup.scheduler.auth)
+    → IsAskedUnder One (equal_admission setup.scheduler.client) (serves setup.scheduler.auth)
     (state_request_text setup.scheduler.addr (server_token setup server) job state) server
     (record { what = Update server job state; json = false })
 state_asked setup server job state words is fits =
-    states_read_back (equal_admission setup.scheduler.client) (serves setup.scheduler.auth) server
+    states_read_back One (equal_admission setup.scheduler.client) (serves setup.scheduler.auth) server
     (addr_text setup.scheduler.addr) (server_token setup server) job state server
     (can_go setup server job state words is fits) fits
     (shows setup.scheduler.auth server words.token is).accepted refl

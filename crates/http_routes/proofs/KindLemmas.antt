@@ -1,5 +1,5 @@
 -- The requests that may wait for a peer are told by their method and their target.
-use Rattle.std.proofs.Common.{◌≡◌, ℕ, ◌==◌, Bool, true, false, cond, List, [], ◌++◌, length, take, drop, refl}
+use Rattle.std.proofs.Common.{◌≡◌, ℕ, ◌==◌, Bool, true, false, cond, List, [], ◌++◌, drop, refl}
 use Rattle.std.proofs.Common.{sym, ap, subst, ◌∙◌}
 use Rattle.std.specs.Prelude.{◌||◌, Result, ⊤, codes, bytes_eq}
 use Rattle.std.specs.List.{starts_with, position_or_len}

@@ -1,7 +1,7 @@
 -- A sender is found in a request, or refused, exactly where the request says so.
-use Rattle.std.proofs.Common.{◌≡◌, ◌≢◌, ◌⊎◌, inl, inr, ℕ, Bool, true, false, List, ◌++◌, Option, Some, None}
+use Rattle.std.proofs.Common.{◌≡◌, ◌≢◌, ◌⊎◌, inl, inr, ℕ, Bool, true, false, List, Option, Some, None}
 use Rattle.std.proofs.Common.{Result, Ok, Err, refl, sym, ap, subst, ◌∙◌}
-use Rattle.std.specs.Prelude.{codes, bytes_eq, option_map, ⊤}
+use Rattle.std.specs.Prelude.{codes, option_map, ⊤}
 use Rattle.dist_types.specs.declared.addr.Addr.{Addr}
 use Rattle.dist_types.specs.declared.addr.Ip.{Ip}
 use Rattle.dist_types.specs.declared.addr.Ip.TheVariants.{V4, V6}
@@ -16,10 +16,9 @@ use Rattle.http_head.proofs.BearerLemmas.{equal_texts, same_text, token_shown, s
 use Rattle.http_routes.specs.declared.admission.Admission.{Admission}
 use Rattle.http_routes.specs.declared.admission.Admission.TheVariants.{Admitted, Refused}
 use Rattle.http_routes.specs.declared.refusal.Refusal.{Refusal}
-use Rattle.http_routes.specs.declared.refusal.Refusal.TheVariants.{BadRealIp, NoClientToken, ClientRefused}
+use Rattle.http_routes.specs.declared.refusal.Refusal.TheVariants.{BadRealIp}
 use Rattle.http_routes.specs.declared.refusal.Refusal.TheVariants.{NoServer, OtherAddress, NoJobToken}
-use Rattle.http_routes.specs.declared.refusal.Refusal.TheVariants.{JobRefused}
-use Rattle.http_routes.specs.Refused.{ShowsNone, IsShutOut, ShowsServer, HasNoIp, IsFromAfar, IsFromNone}
+use Rattle.http_routes.specs.Refused.{ShowsNone, IsShutOut, ShowsServer, HasNoIp, IsFromNone}
 use Rattle.http_routes.specs.Refused.{IsNotJobs}
 use Rattle.http_routes.specs.Sender.{token_of, client_test, same_ip, origin, server_of, accepted, job_test}
 use Rattle.http_routes.specs.Sender.{Shows, IsAdmitted, CameFrom, IsFrom, ShowsJob}

@@ -1,5 +1,5 @@
 -- What a request asks of a build server, or why it is refused, in the words of its parts.
-use Rattle.std.proofs.Common.{◌≡◌, ◌↔◌, ◌⊎◌, inl, inr, ℕ, ◌-◌, Bool, true, false, List, ◌++◌, length, drop}
+use Rattle.std.proofs.Common.{◌≡◌, ◌↔◌, ◌⊎◌, inl, inr, ℕ, Bool, false, List, length, drop}
 use Rattle.std.proofs.Common.{Option, Some, None, Result, Ok, Err, refl, sym, ap, subst, ◌∙◌}
 use Rattle.std.specs.Prelude.{codes, ⊤}
 use Rattle.dist_types.specs.declared.ids.JobId.{JobId}
@@ -27,7 +27,6 @@ use Rattle.http_routes.specs.RunHead.{run_in}
 use Rattle.http_routes.specs.Sender.{job_test, ShowsJob}
 use Rattle.http_routes.specs.ServerRoute.{assign_of, submit_of, run_of, server_asked_of, server_answered}
 use Rattle.http_routes.specs.ServerRoute.{body_at, server_question, IsServerAsked}
-use Rattle.http_routes.specs.Steps.{◌>>=◌}
 use Rattle.http_routes.proofs.MessageLemmas.{message_held, held_message}
 use Rattle.http_routes.proofs.PlaceLemmas.{in_form, form_in, job_named, named_job, no_job_named}
 use Rattle.http_routes.proofs.RefusedLemmas.{message_refused, refused_message}

@@ -1,8 +1,11 @@
 -- What the head settles the body does not change.
-use Rattle.std.proofs.Common.{◌≡◌, ◌≢◌, ℕ, Bool, true, false, cond, List, Option, Some, None, Result, Ok, Err, refl, ap, sym, ◌∙◌}
+use Rattle.std.proofs.Common.{◌≡◌, ◌≢◌, ℕ, Bool, true, false, cond, List, Option, Some, None, Result, Ok}
+use Rattle.std.proofs.Common.{Err, refl, sym, ◌∙◌}
 use Rattle.std.specs.Prelude.{⊤, codes, is_err}
 use Rattle.dist_types.specs.declared.addr.Addr.{Addr}
 use Rattle.dist_types.specs.declared.ids.JobId.{JobId}
+use Rattle.dist_types.specs.declared.rules.Rules.{Rules}
+use Rattle.dist_types.specs.declared.rules.Rules.TheVariants.{One, Two}
 use Rattle.dist_types.specs.declared.token_error.TokenError.{TokenError}
 use Rattle.http_head.specs.declared.request.Request.{Request}
 use Rattle.http_routes.specs.declared.admission.Admission.{Admission}
@@ -11,8 +14,9 @@ use Rattle.http_routes.specs.declared.refusal.Refusal.{Refusal}
 use Rattle.http_routes.specs.declared.refusal.Refusal.TheVariants.{NoRoute}
 use Rattle.http_routes.specs.declared.route.SchedRouted.TheVariants.{Status}
 use Rattle.http_routes.specs.Admission.{client_token}
-use Rattle.http_routes.specs.Place.{is_at, job_of, assign_job, submit_job, run_job, state_job, of_job}
-use Rattle.http_routes.specs.Route.{alloc_of, beat_of, update_of, report_of, asked_of}
+use Rattle.http_routes.specs.Place.{is_at, at_drain, job_of, assign_job, submit_job, run_job, state_job}
+use Rattle.http_routes.specs.Place.{of_job}
+use Rattle.http_routes.specs.Route.{alloc_of, beat_of, drain_of, update_of, report_of, asked_of}
 use Rattle.http_routes.specs.Sender.{job_test, client_test, server_of}
 use Rattle.http_routes.specs.ServerRoute.{assign_of, submit_of, run_of, server_asked_of}
 use Rattle.http_routes.specs.Settled.{with_body, job_refused, server_settled, sender_refused, scheduler_settled}
@@ -44,6 +48,12 @@ same_run r body = refl
 same_state : (r : Request) (body : List ℕ) → state_job (with_body r body) ≡ state_job r
 unfolding state_job job_of
 same_state r body = refl
+
+same_drain : (rules : Rules) (r : Request) (body : List ℕ)
+    → at_drain rules (with_body r body) ≡ at_drain rules r
+unfolding at_drain is_at
+same_drain One r body = refl
+same_drain Two r body = refl
 
 same_test : (verdict : ℕ → List ℕ → Result ⊤ TokenError) (r : Request) (job : JobId) (body : List ℕ)
     → job_test verdict (with_body r body) job ≡ job_test verdict r job
@@ -141,6 +151,11 @@ beat_refused : (serves : List ℕ → Option Addr) (r : Request) (peer : Addr) (
 unfolding beat_of
 beat_refused serves r peer e h = rw h refl
 
+drain_refused : (serves : List ℕ → Option Addr) (r : Request) (peer : Addr) (e : Refusal)
+    → server_of serves r peer ≡ Err e → drain_of serves r peer ≡ Err e
+unfolding drain_of
+drain_refused serves r peer e h = rw h refl
+
 update_refused : (serves : List ℕ → Option Addr) (r : Request) (peer : Addr) (job : JobId) (e : Refusal)
     → server_of serves r peer ≡ Err e → update_of serves r peer job ≡ Err e
 unfolding update_of
@@ -168,19 +183,21 @@ same_report serves r peer body (Some job) is h =
 same_report serves r peer body None is h =
     unreported serves (with_body r body) peer (same_state r body ∙ is) ∙ sym (unreported serves r peer is)
 
-by_tests : {X : Type 0} (a b c t u v : Bool) (p q s w p' q' w' : X)
-    → cond a t (cond b u (cond c true v)) ≡ true
-    → (t ≡ true → p' ≡ p) → (u ≡ true → q' ≡ q) → (v ≡ true → w' ≡ w)
-    → cond a p' (cond b q' (cond c s w')) ≡ cond a p (cond b q (cond c s w))
-by_tests true b c t u v p q s w p' q' w' h first second third = first h
-by_tests false true c t u v p q s w p' q' w' h first second third = second h
-by_tests false false true t u v p q s w p' q' w' h first second third = refl
-by_tests false false false t u v p q s w p' q' w' h first second third = third h
+by_tests : {X : Type 0} (a b c d t u v w : Bool) (p q s x y p' q' x' y' : X)
+    → cond a t (cond b u (cond c true (cond d v w))) ≡ true
+    → (t ≡ true → p' ≡ p) → (u ≡ true → q' ≡ q) → (v ≡ true → x' ≡ x) → (w ≡ true → y' ≡ y)
+    → cond a p' (cond b q' (cond c s (cond d x' y'))) ≡ cond a p (cond b q (cond c s (cond d x y)))
+by_tests true b c d t u v w p q s x y p' q' x' y' h first second third fourth = first h
+by_tests false true c d t u v w p q s x y p' q' x' y' h first second third fourth = second h
+by_tests false false true d t u v w p q s x y p' q' x' y' h first second third fourth = refl
+by_tests false false false true t u v w p q s x y p' q' x' y' h first second third fourth = third h
+by_tests false false false false t u v w p q s x y p' q' x' y' h first second third fourth = fourth h
 
-pub settled_at : (refuses : List ℕ → Bool) (serves : List ℕ → Option Addr) (r : Request) (peer : Addr)
-    → scheduler_settled refuses serves r peer ≡ true → IsSettledAt refuses serves r peer
+pub settled_at : (rules : Rules) (refuses : List ℕ → Bool) (serves : List ℕ → Option Addr) (r : Request)
+    (peer : Addr) → scheduler_settled rules refuses serves r peer ≡ true
+    → IsSettledAt rules refuses serves r peer
 unfolding scheduler_settled asked_of
-settled_at refuses serves r peer h = λ body said may.
+settled_at rules refuses serves r peer h = λ body said may.
     let post = codes "POST" in
     let alloc = codes "/api/v1/scheduler/alloc_job" in
     let beat = codes "/api/v1/scheduler/heartbeat_server" in
@@ -188,16 +205,21 @@ settled_at refuses serves r peer h = λ body said may.
       same_place r body post alloc,
       same_place r body post beat,
       same_place r body (codes "GET") (codes "/api/v1/scheduler/status"),
+      same_drain rules r body,
     )
     (by_tests (is_at post alloc r) (is_at post beat r) (is_at (codes "GET") (codes "/api/v1/scheduler/status") r)
-    (client_refused refuses (client_token r)) (sender_refused serves r peer)
+    (at_drain rules r)
+    (client_refused refuses (client_token r)) (sender_refused serves r peer) (sender_refused serves r peer)
     (of_job (λ j. sender_refused serves r peer) true (state_job r))
-    (alloc_of r said) (beat_of serves r peer) (Ok Status) (report_of serves r peer)
+    (alloc_of r said) (beat_of serves r peer) (Ok Status) (drain_of serves r peer) (report_of serves r peer)
     (alloc_of (with_body r body) said) (beat_of serves (with_body r body) peer)
-    (report_of serves (with_body r body) peer) h
+    (drain_of serves (with_body r body) peer) (report_of serves (with_body r body) peer) h
     (λ t. let x = test_refused said (not_admitted refuses (client_token r) said may t) in
     shut_out (with_body r body) said x.0 x.1 ∙ sym (shut_out r said x.0 x.1))
     (λ t. let x = refused_step (server_of serves r peer) t in
     beat_refused serves (with_body r body) peer x.0 (same_sender serves r peer body ∙ x.1)
     ∙ sym (beat_refused serves r peer x.0 x.1))
+    (λ t. let x = refused_step (server_of serves r peer) t in
+    drain_refused serves (with_body r body) peer x.0 (same_sender serves r peer body ∙ x.1)
+    ∙ sym (drain_refused serves r peer x.0 x.1))
     (λ t. same_report serves r peer body (state_job r) refl t))

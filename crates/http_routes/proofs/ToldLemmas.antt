@@ -1,7 +1,7 @@
 -- What is written for a call is read as it was meant.
-use Rattle.std.proofs.Common.{◌≡◌, inl, ℕ, ◌+◌, ◌-◌, ◌<◌, ◌≤◌, ◌^◌, ◌==◌, not, true, false, List, [], ◌++◌}
-use Rattle.std.proofs.Common.{length, drop, codes, decimal, Option, Some, None, Result, Ok, refl, sym, ap}
-use Rattle.std.proofs.Common.{◌∙◌, arith, append-nil, append_assoc, length-append}
+use Rattle.std.proofs.Common.{◌≡◌, ℕ, ◌+◌, ◌<◌, ◌^◌, ◌==◌, not, true, false, List, [], ◌++◌}
+use Rattle.std.proofs.Common.{length, drop, codes, decimal, Option, Some, Result, Ok, refl, sym, ap}
+use Rattle.std.proofs.Common.{◌∙◌, arith, append-nil, length-append}
 use Rattle.std.specs.Prelude.{IsUtf8, ⊤}
 use Rattle.std.specs.List.{list_all}
 use Rattle.std.specs.Char.{is_ascii_digit, is_ascii_graphic}
@@ -15,21 +15,19 @@ use Rattle.dist_types.specs.declared.addr.Addr.{Addr}
 use Rattle.dist_types.specs.declared.ids.JobId.{JobId}
 use Rattle.dist_types.specs.declared.results.JobState.{JobState}
 use Rattle.dist_types.specs.declared.results.JobState.TheVariants as State
+use Rattle.dist_types.specs.declared.rules.Rules.{Rules}
+use Rattle.dist_types.specs.declared.rules.Rules.TheVariants.{Two}
 use Rattle.dist_types.specs.declared.token_error.TokenError.{TokenError}
-use Rattle.dist_wire.specs.Codec.{IsCodec}
-use Rattle.dist_wire.specs.MessageLaws.{toolchain_codec, heartbeat_codec, state_codec}
-use Rattle.dist_wire.specs.Reading.{toolchain_at, heartbeat_at, state_at}
-use Rattle.dist_wire.specs.Spelling.{SpellsToolchain, SpellsHeartbeat, SpellsState, SpellsRun}
-use Rattle.dist_wire.specs.Written.{bytes_text, heartbeat_text, state_bytes, run_text}
+use Rattle.dist_wire.specs.Spelling.{SpellsToolchain, SpellsHeartbeat, SpellsState, SpellsDrain, SpellsRun}
+use Rattle.dist_wire.specs.Written.{bytes_text, heartbeat_text, state_bytes, drain_text, run_text}
+use Rattle.dist_wire.specs.declared.drain.DrainServerHttpRequest.{DrainServerHttpRequest}
 use Rattle.dist_wire.specs.declared.heartbeat.HeartbeatServerHttpRequest.{HeartbeatServerHttpRequest}
 use Rattle.dist_wire.specs.declared.run.RunJobHttpRequest.{RunJobHttpRequest}
 use Rattle.httparse.specs.Grammar.{print_request}
 use Rattle.http_head.specs.declared.request.Request.{Request}
-use Rattle.http_head.specs.declared.written_request.WrittenRequest.{WrittenRequest}
-use Rattle.http_head.specs.Bearer.{token_in}
 use Rattle.http_head.specs.Fields.{header, path_of}
 use Rattle.http_head.specs.Head.{IsRequest}
-use Rattle.http_head.specs.WrittenRequest.{is_visible, request_text, IsToken, IsWithinLimits, IsSendable}
+use Rattle.http_head.specs.WrittenRequest.{is_visible, request_text, IsWithinLimits}
 use Rattle.http_head.specs.WrittenRequest.{Carries}
 use Rattle.http_head.proofs.BearerLemmas.{token_shown}
 use Rattle.http_head.proofs.FieldLemmas.{digits}
@@ -37,19 +35,19 @@ use Rattle.http_head.proofs.LineLemmas.{weaker}
 use Rattle.http_head.proofs.WrittenRequestLemmas.{ascii_text, requests_read_back}
 use Rattle.http_routes.specs.declared.admission.Admission.{Admission}
 use Rattle.http_routes.specs.declared.admission.Admission.TheVariants.{Admitted}
-use Rattle.http_routes.specs.declared.route.SchedRouted.TheVariants.{Alloc, Beat, Update, Status}
+use Rattle.http_routes.specs.declared.route.SchedRouted.TheVariants.{Alloc, Beat, Update, Status, Drain}
 use Rattle.http_routes.specs.declared.server_route.ServerRouted.TheVariants.{Assign, Submit, Run}
 use Rattle.http_routes.specs.Asked.{IsAskedUnder}
 use Rattle.http_routes.specs.InOrder.{NamesJob, InForm}
 use Rattle.http_routes.specs.Message.{HasMessage}
-use Rattle.http_routes.specs.Place.{job_of}
 use Rattle.http_routes.specs.RunHead.{run_body}
-use Rattle.http_routes.specs.Sender.{IsAdmitted, IsFrom, ShowsJob, Shows}
+use Rattle.http_routes.specs.Sender.{IsFrom, Shows}
 use Rattle.http_routes.specs.ServerRoute.{body_at, AsksAssign, AsksSubmit, AsksRun}
 use Rattle.http_routes.specs.Requests.{post_with, alloc_with, status_with, heartbeat_with, state_with}
-use Rattle.http_routes.specs.Requests.{assign_with, submit_with, run_with, CanGo}
+use Rattle.http_routes.specs.Requests.{drain_with, assign_with, submit_with, run_with, CanGo}
 use Rattle.http_routes.proofs.PlaceLemmas.{no_query, written_job, job_named}
 use Rattle.http_routes.proofs.RouteLemmas.{asked_by, allocation_is, heartbeat_is, update_is, status_is}
+use Rattle.http_routes.proofs.RouteLemmas.{drain_is}
 use Rattle.http_routes.proofs.RunHeadLemmas.{body_read_back, inputs_behind}
 use Rattle.http_routes.proofs.ServerLemmas as at_server
 
@@ -116,6 +114,14 @@ beat_path = record {
   visible = refl;
   no_question = refl;
   text = ascii_text (codes "/api/v1/scheduler/heartbeat_server") refl;
+  some = omega arith;
+}
+
+drain_path : IsPath (codes "/api/v1/scheduler/drain_server")
+drain_path = record {
+  visible = refl;
+  no_question = refl;
+  text = ascii_text (codes "/api/v1/scheduler/drain_server") refl;
   some = omega arith;
 }
 
@@ -191,18 +197,18 @@ module _ (path host token body : List ℕ) (p : IsPath path) (r : Request)
 
 -- ---- to the scheduler
 
-module _ (lets : List ℕ → Admission) (serves : List ℕ → Option Addr) (peer : Addr) where
+module _ (rules : Rules) (lets : List ℕ → Admission) (serves : List ℕ → Option Addr) (peer : Addr) where
   pub allocations_read_back : (host token tc : List ℕ) → CanGo host token (alloc_with host token tc)
       → SpellsToolchain tc (bytes_text tc) → lets token ≡ Admitted
-      → IsAskedUnder lets serves (request_text (alloc_with host token tc)) peer
+      → IsAskedUnder rules lets serves (request_text (alloc_with host token tc)) peer
       (record { what = Alloc tc; json = false })
   unfolding alloc_with
   allocations_read_back host token tc g spelled admitted =
       let path = codes "/api/v1/scheduler/alloc_job" in
       let body = bytes_text tc in
       let (r, x, c) = posted path host token body alloc_path g in
-      asked_by lets serves (request_text (post_with path host token body)) peer false (Alloc tc) r x
-      (allocation_is lets serves r peer tc record {
+      asked_by rules lets serves (request_text (post_with path host token body)) peer false (Alloc tc) r x
+      (allocation_is rules lets serves r peer tc record {
         at = record { sent_by = c.method; sent_to = at_path path host token body alloc_path r c };
         admitted = (token, shows path host token body alloc_path r c, admitted);
         message = holds path host token body alloc_path r c SpellsToolchain tc spelled;
@@ -212,15 +218,16 @@ module _ (lets : List ℕ → Admission) (serves : List ℕ → Option Addr) (pe
   pub heartbeats_read_back : (host token : List ℕ) (beat : HeartbeatServerHttpRequest) (server : Addr)
       → CanGo host token (heartbeat_with host token beat)
       → SpellsHeartbeat beat (heartbeat_text beat) → serves token ≡ Some server → ip_of peer ≡ ip_of server
-      → IsAskedUnder lets serves (request_text (heartbeat_with host token beat)) peer
+      → IsAskedUnder rules lets serves (request_text (heartbeat_with host token beat)) peer
       (record { what = Beat server beat; json = false })
   unfolding heartbeat_with
   heartbeats_read_back host token beat server g spelled own ip =
       let path = codes "/api/v1/scheduler/heartbeat_server" in
       let body = heartbeat_text beat in
       let (r, x, c) = posted path host token body beat_path g in
-      asked_by lets serves (request_text (post_with path host token body)) peer false (Beat server beat) r x
-      (heartbeat_is lets serves r peer server beat record {
+      asked_by rules lets serves (request_text (post_with path host token body)) peer false
+      (Beat server beat) r x
+      (heartbeat_is rules lets serves r peer server beat record {
         at = record { sent_by = c.method; sent_to = at_path path host token body beat_path r c };
         sender = sender path host token body beat_path r c serves peer server own ip;
         message = holds path host token body beat_path r c SpellsHeartbeat beat spelled;
@@ -236,7 +243,7 @@ module _ (lets : List ℕ → Admission) (serves : List ℕ → Option Addr) (pe
   pub states_read_back : (host token : List ℕ) (job : JobId) (state : JobState) (server : Addr)
       → CanGo host token (state_with host token job state)
       → job.0 < 2 ^ 64 → serves token ≡ Some server → ip_of peer ≡ ip_of server
-      → IsAskedUnder lets serves (request_text (state_with host token job state)) peer
+      → IsAskedUnder rules lets serves (request_text (state_with host token job state)) peer
       (record { what = Update server job state; json = false })
   unfolding state_with
   states_read_back host token job state server g fits own ip =
@@ -244,9 +251,9 @@ module _ (lets : List ℕ → Admission) (serves : List ℕ → Option Addr) (pe
       let body = state_bytes state in
       let p = state_path job fits in
       let (r, x, c) = posted path host token body p g in
-      asked_by lets serves (request_text (post_with path host token body)) peer false
+      asked_by rules lets serves (request_text (post_with path host token body)) peer false
       (Update server job state) r x
-      (update_is lets serves r peer server job state record {
+      (update_is rules lets serves r peer server job state record {
         names = names path host token body p r c (codes "/api/v1/scheduler/job_state/") job fits refl;
         sender = sender path host token body p r c serves peer server own ip;
         message = holds path host token body p r c SpellsState state (spells_state state);
@@ -255,7 +262,7 @@ module _ (lets : List ℕ → Admission) (serves : List ℕ → Option Addr) (pe
 
   pub statuses_read_back : (host : List ℕ) → list_all is_visible host ≡ true
       → IsWithinLimits (status_with host)
-      → IsAskedUnder lets serves (request_text (status_with host)) peer
+      → IsAskedUnder rules lets serves (request_text (status_with host)) peer
       (record { what = Status; json = false })
   unfolding status_with
   statuses_read_back host visible limits =
@@ -268,13 +275,36 @@ module _ (lets : List ℕ → Admission) (serves : List ℕ → Option Addr) (pe
         plain = refl;
         limits = limits;
       } in
-      asked_by lets serves (request_text (status_with host)) peer false Status r x
-      (status_is lets serves r peer record {
+      asked_by rules lets serves (request_text (status_with host)) peer false Status r x
+      (status_is rules lets serves r peer record {
         sent_by = c.method;
         sent_to = ap path_of c.target
             ∙ no_query (codes "/api/v1/scheduler/status") status_path.no_question;
       })
       (λ e. absurd (let both = sym c.no_accept ∙ e in cc))
+
+module _ (lets : List ℕ → Admission) (serves : List ℕ → Option Addr) (peer : Addr) where
+  pub drains_read_back : (host token : List ℕ) (drain : DrainServerHttpRequest) (server : Addr)
+      → CanGo host token (drain_with host token drain)
+      → SpellsDrain drain (drain_text drain) → serves token ≡ Some server → ip_of peer ≡ ip_of server
+      → IsAskedUnder Two lets serves (request_text (drain_with host token drain)) peer
+      (record { what = Drain server drain; json = false })
+  unfolding drain_with
+  drains_read_back host token drain server g spelled own ip =
+      let path = codes "/api/v1/scheduler/drain_server" in
+      let body = drain_text drain in
+      let (r, x, c) = posted path host token body drain_path g in
+      asked_by Two lets serves (request_text (post_with path host token body)) peer false
+      (Drain server drain) r x
+      (drain_is Two lets serves r peer server drain record {
+        at = record {
+          version = refl;
+          at = record { sent_by = c.method; sent_to = at_path path host token body drain_path r c };
+        };
+        sender = sender path host token body drain_path r c serves peer server own ip;
+        message = holds path host token body drain_path r c SpellsDrain drain spelled;
+      })
+      (in_binary path host token body drain_path r c)
 
 -- ---- to a server
 

@@ -1,6 +1,7 @@
 -- What the bytes that a peer sent ask of the scheduler.
 use Rattle.std.specs.Prelude.{◌≡◌, ◌⊎◌, ℕ, List, false, Option, Result, ⊤}
 use Rattle.dist_types.specs.declared.addr.Addr.{Addr}
+use Rattle.dist_types.specs.declared.rules.Rules.{Rules}
 use Rattle.dist_types.specs.declared.token_error.TokenError.{TokenError}
 use Rattle.dist_token.specs.Verdict.{plain_server}
 use Rattle.http_head.specs.declared.request.Request.{Request}
@@ -17,19 +18,20 @@ use Rattle.http_routes.specs.Route.{wants_json, question_under, IsRouted}
 abbrev pub bad_question : Asked
 bad_question = record { what = Done (refusal_response BadHead); json = false }
 
--- What the bytes ask, as a request of that peer or as a bad head, of a scheduler that lets clients in by
--- their tokens, and accepts servers by theirs.
-abbrev pub IsAskedUnder : (List ℕ → Admission) → (List ℕ → Option Addr) → List ℕ → Addr → Asked → Type 0
-IsAskedUnder lets serves bytes peer asked =
-    ((r : Request) × IsRequest bytes r × (asked ≡ question_under lets serves r peer))
+-- What the bytes ask, as a request of that peer or as a bad head, of a scheduler that goes by those rules,
+-- lets clients in by their tokens, and accepts servers by theirs.
+abbrev pub IsAskedUnder : Rules → (List ℕ → Admission) → (List ℕ → Option Addr) → List ℕ → Addr → Asked
+    → Type 0
+IsAskedUnder rules lets serves bytes peer asked =
+    ((r : Request) × IsRequest bytes r × (asked ≡ question_under rules lets serves r peer))
     ⊎ (IsNoRequest bytes × (asked ≡ bad_question))
 
 -- The same where a check of clients is asked, which may give those answers and shows those texts, and becomes
 -- `new`.
-abbrev pub IsAskedOf : {K : Type 0} → (K → ℕ → List ℕ → Result ⊤ TokenError → K → Type 0)
+abbrev pub IsAskedOf : {K : Type 0} → Rules → (K → ℕ → List ℕ → Result ⊤ TokenError → K → Type 0)
     → (K → TokenError → List ℕ) → (List ℕ → Option Addr) → List ℕ → Addr → ℕ → K → Asked → K → Type 0
-IsAskedOf may_answer shown serves bytes peer now old asked new =
-    ((r : Request) × IsRequest bytes r × IsRouted may_answer shown serves r peer now old asked.what new
+IsAskedOf rules may_answer shown serves bytes peer now old asked new =
+    ((r : Request) × IsRequest bytes r × IsRouted rules may_answer shown serves r peer now old asked.what new
     × (asked.json ≡ wants_json r))
     ⊎ (IsNoRequest bytes × (asked ≡ bad_question) × (new ≡ old))
 
@@ -41,6 +43,6 @@ MayBeAskedBy may_answer bytes now old new = (new ≡ old)
     ⊎ ((r : Request) × IsRequest bytes r × MayBeAsked may_answer (client_token r) now old new)
 
 -- what the bytes ask, under one token of all clients and one of all servers
-abbrev pub IsAsked : List ℕ → Addr → List ℕ → List ℕ → Asked → Type 0
-IsAsked bytes peer client expected asked = IsAskedUnder (equal_admission client)
+abbrev pub IsAsked : Rules → List ℕ → Addr → List ℕ → List ℕ → Asked → Type 0
+IsAsked rules bytes peer client expected asked = IsAskedUnder rules (equal_admission client)
     (plain_server expected) bytes peer asked

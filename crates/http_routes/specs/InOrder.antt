@@ -3,9 +3,12 @@ use Rattle.std.specs.Prelude.{◌≡◌, ◌≢◌, ℕ, Bool, true, false, List
 use Rattle.dist_types.specs.declared.addr.Addr.{Addr}
 use Rattle.dist_types.specs.declared.ids.JobId.{JobId}
 use Rattle.dist_types.specs.declared.results.JobState.{JobState}
+use Rattle.dist_types.specs.declared.rules.Rules.{Rules}
+use Rattle.dist_types.specs.declared.rules.Rules.TheVariants.{Two}
 use Rattle.dist_types.specs.declared.token_error.TokenError.{TokenError}
 use Rattle.dist_types.specs.Ids.{SaysJob}
-use Rattle.dist_wire.specs.Spelling.{SpellsToolchain, SpellsHeartbeat, SpellsState}
+use Rattle.dist_wire.specs.Spelling.{SpellsToolchain, SpellsHeartbeat, SpellsState, SpellsDrain}
+use Rattle.dist_wire.specs.declared.drain.DrainServerHttpRequest.{DrainServerHttpRequest}
 use Rattle.dist_wire.specs.declared.heartbeat.HeartbeatServerHttpRequest.{HeartbeatServerHttpRequest}
 use Rattle.dist_wire.specs.declared.run.RunJobHttpRequest.{RunJobHttpRequest}
 use Rattle.http_head.specs.declared.request.Request.{Request}
@@ -56,6 +59,18 @@ pub record IsUpdate (r : Request) (peer : Addr) (serves : List ℕ → Option Ad
 -- the request asks for the status
 abbrev pub IsStatus : Request → Type 0
 IsStatus r = IsAt r (codes "GET") (codes "/api/v1/scheduler/status")
+
+-- the request is at the route of servers that drain, which stands in version 2 alone
+pub record IsAtDrain (rules : Rules) (r : Request) : Type 0 where
+  pub version : rules ≡ Two
+  pub at : IsAt r (codes "POST") (codes "/api/v1/scheduler/drain_server")
+
+-- the request is that wish of that server, to drain or to drain no more
+pub record IsDrain (rules : Rules) (r : Request) (peer : Addr) (serves : List ℕ → Option Addr)
+    (server : Addr) (drain : DrainServerHttpRequest) : Type 0 where
+  pub at : IsAtDrain rules r
+  pub sender : IsFrom r peer serves server
+  pub message : HasMessage SpellsDrain r drain
 
 -- ---- of a server; the verdict says whether a text is accepted as a job's token
 

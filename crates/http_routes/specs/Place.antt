@@ -1,9 +1,11 @@
 -- The place of a request: its method, its path, and the job that the path names.
-use Rattle.std.specs.Prelude.{ℕ, Bool, ◌&&◌, List, length, drop, nat_eq, nat_lt, if◌then◌else◌, Option, Some}
-use Rattle.std.specs.Prelude.{None, codes, bytes_eq}
+use Rattle.std.specs.Prelude.{ℕ, Bool, false, ◌&&◌, List, length, drop, nat_eq, nat_lt, if◌then◌else◌}
+use Rattle.std.specs.Prelude.{Option, Some, None, codes, bytes_eq}
 use Rattle.std.specs.List.{starts_with}
 use Rattle.std.specs.Str.Parse.{without_leading_plus, digits_value}
 use Rattle.dist_types.specs.declared.ids.JobId.{JobId}
+use Rattle.dist_types.specs.declared.rules.Rules.{Rules}
+use Rattle.dist_types.specs.declared.rules.Rules.TheVariants.{One, Two}
 use Rattle.dist_types.specs.Addr.{is_digits}
 use Rattle.http_head.specs.declared.request.Request.{Request}
 use Rattle.http_head.specs.Fields.{path_of}
@@ -11,6 +13,11 @@ use Rattle.http_head.specs.Fields.{path_of}
 -- whether the request has that method and that path
 unfoldable pub is_at : List ℕ → List ℕ → Request → Bool
 is_at method path r = bytes_eq r.method method && bytes_eq (path_of r.target) path
+
+-- whether the request is at the route of servers that drain, which stands in version 2 alone
+unfoldable pub at_drain : Rules → Request → Bool
+at_drain One r = false
+at_drain Two r = is_at (codes "POST") (codes "/api/v1/scheduler/drain_server") r
 
 -- what follows the front, where the text begins with it
 abbrev pub stripped : List ℕ → List ℕ → Option (List ℕ)

@@ -5,9 +5,10 @@ use Rattle.std.specs.Int.{w32, from_be_bytes}
 use Rattle.dist_types.specs.declared.addr.Addr.{Addr}
 use Rattle.dist_types.specs.declared.addr.Ip.{Ip}
 use Rattle.dist_types.specs.declared.ids.JobId.{JobId}
+use Rattle.dist_types.specs.declared.rules.Rules.{Rules}
 use Rattle.dist_types.specs.declared.token_error.TokenError.{TokenError}
 use Rattle.dist_types.specs.Addr.{ip_of, IsIpText}
-use Rattle.dist_wire.specs.Spelling.{SpellsToolchain, SpellsHeartbeat, SpellsState, SpellsRun}
+use Rattle.dist_wire.specs.Spelling.{SpellsToolchain, SpellsHeartbeat, SpellsState, SpellsDrain, SpellsRun}
 use Rattle.dist_wire.specs.declared.run.RunJobHttpRequest.{RunJobHttpRequest}
 use Rattle.http_head.specs.declared.request.Request.{Request}
 use Rattle.http_head.specs.declared.word.Word.{Word}
@@ -19,7 +20,7 @@ use Rattle.http_routes.specs.declared.refusal.Refusal.TheVariants.{WrongContentT
 use Rattle.http_routes.specs.declared.refusal.Refusal.TheVariants.{NoRoute, NoClientToken, ClientRefused}
 use Rattle.http_routes.specs.declared.refusal.Refusal.TheVariants.{NoServer, OtherAddress, NoJobToken}
 use Rattle.http_routes.specs.declared.refusal.Refusal.TheVariants.{JobRefused, BadRunHead}
-use Rattle.http_routes.specs.InOrder.{IsAt, NamesJob, IsStatus}
+use Rattle.http_routes.specs.InOrder.{IsAt, NamesJob, IsStatus, IsAtDrain}
 use Rattle.http_routes.specs.Message.{BeginsWith}
 use Rattle.http_routes.specs.Sender.{Shows, CameFrom, IsAdmitted, IsFrom, ShowsJob}
 
@@ -107,20 +108,23 @@ abbrev pub NamesSome : Request → List ℕ → Type 0
 NamesSome r front = (job : JobId) × NamesJob r front job
 
 -- the request is at no route of the scheduler
-pub record IsElsewhere (r : Request) : Type 0 where
+pub record IsElsewhere (rules : Rules) (r : Request) : Type 0 where
   pub no_job : ¬ (IsAt r (codes "POST") (codes "/api/v1/scheduler/alloc_job"))
   pub no_beat : ¬ (IsAt r (codes "POST") (codes "/api/v1/scheduler/heartbeat_server"))
   pub no_status : ¬ (IsStatus r)
   pub no_state : ¬ (NamesSome r (codes "/api/v1/scheduler/job_state/"))
+  pub no_drain : ¬ (IsAtDrain rules r)
 
 -- why the scheduler refuses the request
-abbrev pub IsRefused : Request → Addr → (List ℕ → Admission) → (List ℕ → Option Addr) → Refusal → Type 0
-IsRefused r peer lets serves e =
+abbrev pub IsRefused : Rules → Request → Addr → (List ℕ → Admission) → (List ℕ → Option Addr) → Refusal
+    → Type 0
+IsRefused rules r peer lets serves e =
     (IsAt r (codes "POST") (codes "/api/v1/scheduler/alloc_job") × AllocRefused r lets e)
     ⊎ (IsAt r (codes "POST") (codes "/api/v1/scheduler/heartbeat_server")
     × TellingRefused SpellsHeartbeat r peer serves e)
     ⊎ (NamesSome r (codes "/api/v1/scheduler/job_state/") × TellingRefused SpellsState r peer serves e)
-    ⊎ (IsElsewhere r × (e ≡ NoRoute))
+    ⊎ (IsAtDrain rules r × TellingRefused SpellsDrain r peer serves e)
+    ⊎ (IsElsewhere rules r × (e ≡ NoRoute))
 
 -- ---- the routes of a server
 

@@ -1,5 +1,5 @@
 -- The replies to what the scheduler and a build server answer: in JSON where that is wanted, else in binary.
-use Rattle.std.specs.Prelude.{ℕ, Bool, Option, Some, None}
+use Rattle.std.specs.Prelude.{Bool, Option, Some, None}
 use Rattle.dist_types.specs.declared.addr.Addr.{Addr}
 use Rattle.dist_types.specs.declared.ids.JobId.{JobId}
 use Rattle.dist_types.specs.declared.results.AllocJobResult.{AllocJobResult}
@@ -12,11 +12,11 @@ use Rattle.dist_types.specs.declared.results.SchedulerStatusResult.{SchedulerSta
 use Rattle.dist_types.specs.declared.results.SubmitToolchainResult.{SubmitToolchainResult}
 use Rattle.dist_types.specs.declared.results.UpdateJobStateResult.{UpdateJobStateResult}
 use Rattle.dist_types.specs.declared.results.UpdateJobStateResult.TheVariants.{Success}
-use Rattle.dist_wire.specs.Json.{heard_json, status_json, response_json, update_json, assign_json}
-use Rattle.dist_wire.specs.Json.{submit_json, ran_json}
+use Rattle.dist_wire.specs.Json.{heard_json, status_json, drained_json, response_json, update_json}
+use Rattle.dist_wire.specs.Json.{assign_json, submit_json, ran_json}
 use Rattle.dist_wire.specs.Response as sent
-use Rattle.dist_wire.specs.Written.{heard_text, status_text, response_text, update_text, assign_text}
-use Rattle.dist_wire.specs.Written.{submit_text, ran_text}
+use Rattle.dist_wire.specs.Written.{heard_text, status_text, drained_text, response_text, update_text}
+use Rattle.dist_wire.specs.Written.{assign_text, submit_text, ran_text}
 use Rattle.core_rules.specs.Texts.{dropped_text}
 use Rattle.core_rules.specs.declared.answers.Committed.{Committed}
 use Rattle.core_rules.specs.declared.answers.Committed.TheVariants as committed
@@ -40,6 +40,10 @@ heard_response json answer = response_of heard_text heard_json json answer
 -- to a status request
 unfoldable pub status_response : Bool → SchedulerStatusResult → Response
 status_response json answer = response_of status_text status_json json answer
+
+-- to a wish to drain, by whether it names a registration
+unfoldable pub drained_response : Bool → Bool → Response
+drained_response json known = response_of drained_text drained_json json (record { known = known })
 
 -- to an allocation
 unfoldable pub alloc_response : Bool → AllocJobResult → Response

@@ -6,7 +6,8 @@ use Rattle.dist_types.specs.Addr.{addr_text}
 use Rattle.dist_types.specs.declared.addr.Addr.{Addr}
 use Rattle.dist_types.specs.declared.ids.JobId.{JobId}
 use Rattle.dist_types.specs.declared.results.JobState.{JobState}
-use Rattle.dist_wire.specs.Written.{bytes_text, state_bytes, heartbeat_text}
+use Rattle.dist_wire.specs.Written.{bytes_text, state_bytes, heartbeat_text, drain_text}
+use Rattle.dist_wire.specs.declared.drain.DrainServerHttpRequest.{DrainServerHttpRequest}
 use Rattle.dist_wire.specs.declared.heartbeat.HeartbeatServerHttpRequest.{HeartbeatServerHttpRequest}
 use Rattle.dist_wire.specs.declared.run.RunJobHttpRequest.{RunJobHttpRequest}
 use Rattle.http_head.specs.declared.written_request.Method.TheVariants.{Get, Post}
@@ -45,6 +46,11 @@ unfoldable pub heartbeat_with : List ℕ → List ℕ → HeartbeatServerHttpReq
 heartbeat_with host token beat = post_with (codes "/api/v1/scheduler/heartbeat_server") host token
     (heartbeat_text beat)
 
+-- the wish of a server that it drain, or drain no more
+unfoldable pub drain_with : List ℕ → List ℕ → DrainServerHttpRequest → WrittenRequest
+drain_with host token drain = post_with (codes "/api/v1/scheduler/drain_server") host token
+    (drain_text drain)
+
 -- the report of a job's state
 unfoldable pub state_with : List ℕ → List ℕ → JobId → JobState → WrittenRequest
 state_with host token job state = post_with (codes "/api/v1/scheduler/job_state/" ++ decimal job.0) host token
@@ -80,6 +86,10 @@ state_request_text scheduler token job state = request_text (state_with (addr_te
 -- the bytes of a heartbeat to the scheduler at that address, under a server's token
 abbrev pub heartbeat_request_text : Addr → List ℕ → HeartbeatServerHttpRequest → List ℕ
 heartbeat_request_text scheduler token beat = request_text (heartbeat_with (addr_text scheduler) token beat)
+
+-- the bytes of a wish to drain to the scheduler at that address, under a server's token
+abbrev pub drain_request_text : Addr → List ℕ → DrainServerHttpRequest → List ℕ
+drain_request_text scheduler token drain = request_text (drain_with (addr_text scheduler) token drain)
 
 -- ---- what can be sent
 

@@ -1,5 +1,5 @@
 -- What a request asks of a build server, with the refusals in order.
-use Rattle.std.specs.Prelude.{◌≡◌, ◌⊎◌, ℕ, ◌+◌, ◌-◌, false, List, length, drop, Option, Some, None, Result}
+use Rattle.std.specs.Prelude.{◌≡◌, ◌⊎◌, ℕ, ◌+◌, ◌-◌, false, List, length, drop, Result}
 use Rattle.std.specs.Prelude.{Ok, Err, ⊤}
 use Rattle.dist_types.specs.declared.ids.JobId.{JobId}
 use Rattle.dist_types.specs.declared.token_error.TokenError.{TokenError}

@@ -3,13 +3,14 @@ use Rattle.std.specs.Prelude.{◌≡◌, ◌≢◌, ℕ, Bool, true, List, is_er
 use Rattle.std.specs.Prelude.{Result, Err, ⊤, codes}
 use Rattle.dist_types.specs.declared.addr.Addr.{Addr}
 use Rattle.dist_types.specs.declared.ids.JobId.{JobId}
+use Rattle.dist_types.specs.declared.rules.Rules.{Rules}
 use Rattle.dist_types.specs.declared.token_error.TokenError.{TokenError}
 use Rattle.http_head.specs.declared.request.Request.{Request}
 use Rattle.http_routes.specs.declared.admission.Admission.{Admission}
 use Rattle.http_routes.specs.declared.admission.Admission.TheVariants.{Admitted}
 use Rattle.http_routes.specs.declared.refusal.Refusal.{Refusal}
 use Rattle.http_routes.specs.Admission.{client_token}
-use Rattle.http_routes.specs.Place.{is_at, assign_job, submit_job, run_job, state_job, of_job}
+use Rattle.http_routes.specs.Place.{is_at, at_drain, assign_job, submit_job, run_job, state_job, of_job}
 use Rattle.http_routes.specs.Route.{asked_of}
 use Rattle.http_routes.specs.Sender.{job_test, server_of}
 use Rattle.http_routes.specs.ServerRoute.{server_asked_of}
@@ -41,12 +42,13 @@ client_refused refuses (Some token) = refuses token
 
 -- whether the head alone settles what a request asks of the scheduler: the status, nothing, a job with no
 -- token or one that the check of clients refuses so, or what a server may tell and is from none
-unfoldable pub scheduler_settled : (List ℕ → Bool) → (List ℕ → Option Addr) → Request → Addr → Bool
-scheduler_settled refuses serves r peer =
+unfoldable pub scheduler_settled : Rules → (List ℕ → Bool) → (List ℕ → Option Addr) → Request → Addr → Bool
+scheduler_settled rules refuses serves r peer =
     if is_at (codes "POST") (codes "/api/v1/scheduler/alloc_job") r then client_refused refuses (client_token r)
     else if is_at (codes "POST") (codes "/api/v1/scheduler/heartbeat_server") r
     then sender_refused serves r peer
     else if is_at (codes "GET") (codes "/api/v1/scheduler/status") r then true
+    else if at_drain rules r then sender_refused serves r peer
     else of_job (λ job. sender_refused serves r peer) true (state_job r)
 
 -- the request is refused by a server, and so it is with any other body
@@ -61,7 +63,7 @@ MaySay refuses (Some token) said = refuses token ≡ true → said ≢ Some Admi
 
 -- the request asks one thing of the scheduler, and the same with any other body, whatever such a check may say of
 -- the token that it shows
-abbrev pub IsSettledAt : (List ℕ → Bool) → (List ℕ → Option Addr) → Request → Addr → Type 0
-IsSettledAt refuses serves r peer = (body : List ℕ) (said : Option Admission)
+abbrev pub IsSettledAt : Rules → (List ℕ → Bool) → (List ℕ → Option Addr) → Request → Addr → Type 0
+IsSettledAt rules refuses serves r peer = (body : List ℕ) (said : Option Admission)
     → MaySay refuses (client_token r) said
-    → asked_of serves (with_body r body) peer said ≡ asked_of serves r peer said
+    → asked_of rules serves (with_body r body) peer said ≡ asked_of rules serves r peer said

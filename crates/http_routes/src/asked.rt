@@ -6,9 +6,8 @@ ghost use Rattle.http_routes.specs.Asked.{bad_question, IsAskedOf, IsAskedUnder,
 use crate::error::HttpError;
 use crate::head::read_head;
 use crate::refusal::{Refusal, refusal_response};
-use crate::route::{Asked, SchedRouted, scheduler_route, wants_json};
+use crate::route::{Asked, SchedRouted, Terms, scheduler_route, wants_json};
 use dist_token::checks::{ClientAuthCheck, EqCheck, PlainServerCheck, ServerAuthCheck};
-use dist_types::addr::Addr;
 use std::alloc::Global;
 
 /// What is asked by bytes that are no request.
@@ -24,25 +23,33 @@ fn bad_question(alloc: Global) -> Result<Asked, HttpError>
 }
 
 /// What the bytes that a peer sent ask of the scheduler at that moment, under its checks of clients and of
-/// servers; bytes that are no request get their reply. The check of clients is asked once at most, about the
-/// token of a request for a job. Refused for want of memory alone.
+/// servers, and by its rules; bytes that are no request get their reply. The check of clients is asked once
+/// at most, about the token of a request for a job. Refused for want of memory alone.
 pub fn asked_of_checks<K: ClientAuthCheck, V: ServerAuthCheck>(
     alloc: Global,
     bytes: &[u8],
-    peer: Addr,
+    terms: Terms,
     now: u64,
     client: &mut K,
     server: &V,
 ) -> Result<Asked, HttpError>
-    ensures ok { IfOk result (λ asked. IsAskedOf K.may_answer K.shown (V.server_of server.now)
-        bytes.now peer now client.old asked client.new) }
+    ensures ok { IfOk result (λ asked. IsAskedOf terms.rules K.may_answer K.shown
+        (V.server_of server.now) bytes.now terms.peer now client.old asked client.new) }
     ensures err { IfErr result (λ e. e ≡ HttpError.Memory) }
     ensures left { OnErr result (MayBeAskedBy K.may_answer bytes.now now client.old client.new) }
 {
     match read_head(alloc, bytes) {
         Ok(request) => {
             let json = wants_json(&request);
-            let what = scheduler_route(alloc, &request, peer, now, client, server)?;
+            let what = scheduler_route(
+                alloc,
+                &request,
+                terms.peer,
+                now,
+                client,
+                server,
+                terms.rules,
+            )?;
             Ok(Asked { what, json })
         }
         Err(HttpError::BadHead) => bad_question(alloc),
@@ -62,16 +69,17 @@ pub fn asked_of_checks<K: ClientAuthCheck, V: ServerAuthCheck>(
 pub fn asked_under<V: ServerAuthCheck>(
     alloc: Global,
     bytes: &[u8],
-    peer: Addr,
+    terms: Terms,
     client: &mut EqCheck,
     server: &V,
 ) -> Result<Asked, HttpError>
     ensures ok { IfOk result
-        (IsAskedUnder (equal_admission client.old) (V.server_of server.now) bytes.now peer) }
+        (IsAskedUnder terms.rules (equal_admission client.old) (V.server_of server.now) bytes.now
+        terms.peer) }
     ensures same { client.new ≡ client.old }
     ensures err { IfErr result (λ e. e ≡ HttpError.Memory) }
 {
-    let asked = asked_of_checks(alloc, bytes, peer, 0, client, server)?;
+    let asked = asked_of_checks(alloc, bytes, terms, 0, client, server)?;
     Ok(asked)
 }
 
@@ -80,15 +88,16 @@ pub fn asked_under<V: ServerAuthCheck>(
 pub fn asked(
     alloc: Global,
     bytes: &[u8],
-    peer: Addr,
+    terms: Terms,
     client_token: &str,
     server_token: &str,
 ) -> Result<Asked, HttpError>
-    ensures ok { IfOk result (IsAsked bytes.now peer client_token.now server_token.now) }
+    ensures ok { IfOk result (IsAsked terms.rules bytes.now terms.peer client_token.now
+        server_token.now) }
     ensures err { IfErr result (λ e. e ≡ HttpError.Memory) }
 {
     let mut client = EqCheck::new(String::from_str(alloc, client_token)?);
     let server = PlainServerCheck::new(String::from_str(alloc, server_token)?);
-    let asked = asked_under(alloc, bytes, peer, &mut client, &server)?;
+    let asked = asked_under(alloc, bytes, terms, &mut client, &server)?;
     Ok(asked)
 }

@@ -1,16 +1,19 @@
 //! Laws over all bytes: each is a function with no body, whose contract is the law.
 ghost use Rattle.std.specs.Prelude.{◌≡◌, ◌↔◌, ◌⊎◌, ◌≤◌, ◌<◌, ◌^◌, ℕ, Bool, List, length, Option, Some};
-ghost use Rattle.std.specs.Prelude.{Result, Ok, ⊤, true, false};
+ghost use Rattle.std.specs.Prelude.{Result, Ok, Err, ⊤, true, false, codes};
 ghost use Rattle.dist_types.specs.Addr.{addr_text, ip_of, IsAddr};
 ghost use Rattle.dist_types.specs.declared.addr.Addr.{Addr};
 ghost use Rattle.dist_types.specs.declared.ids.JobId.{JobId};
 ghost use Rattle.dist_types.specs.declared.outgoing.CallFault.{CallFault};
 ghost use Rattle.dist_types.specs.declared.results.AssignJobResult.{AssignJobResult};
 ghost use Rattle.dist_types.specs.declared.results.JobState.{JobState};
+ghost use Rattle.dist_types.specs.declared.rules.Rules.{Rules};
+ghost use Rattle.dist_types.specs.declared.rules.Rules.TheVariants.{One, Two};
 ghost use Rattle.dist_types.specs.declared.token_error.TokenError.{TokenError};
 ghost use Rattle.dist_wire.specs.Codec.{IsBytes};
-ghost use Rattle.dist_wire.specs.Spelling.{SpellsToolchain, SpellsHeartbeat, SpellsRun};
-ghost use Rattle.dist_wire.specs.Written.{bytes_text, heartbeat_text, run_text};
+ghost use Rattle.dist_wire.specs.Spelling.{SpellsToolchain, SpellsHeartbeat, SpellsDrain, SpellsRun};
+ghost use Rattle.dist_wire.specs.Written.{bytes_text, heartbeat_text, drain_text, run_text};
+ghost use Rattle.dist_wire.specs.declared.drain.DrainServerHttpRequest.{DrainServerHttpRequest};
 ghost use Rattle.dist_wire.specs.declared.heartbeat.HeartbeatServerHttpRequest.{HeartbeatServerHttpRequest};
 ghost use Rattle.dist_wire.specs.declared.run.RunJobHttpRequest.{RunJobHttpRequest};
 ghost use Rattle.core_rules.specs.Rule.{is_initial};
@@ -24,26 +27,28 @@ ghost use Rattle.http_routes.specs.declared.admission.Admission.TheVariants.{Adm
 ghost use Rattle.http_routes.specs.declared.kind.Kind.TheVariants.{Waits};
 ghost use Rattle.http_routes.specs.declared.kind.Role.TheVariants as role;
 ghost use Rattle.http_routes.specs.declared.refusal.Refusal.{Refusal};
-ghost use Rattle.http_routes.specs.declared.refusal.Refusal.TheVariants.{BadHead};
+ghost use Rattle.http_routes.specs.declared.refusal.Refusal.TheVariants.{BadHead, NoRoute};
 ghost use Rattle.http_routes.specs.declared.reply.Response.{Response};
 ghost use Rattle.http_routes.specs.declared.route.Asked.{Asked};
-ghost use Rattle.http_routes.specs.declared.route.SchedRouted.TheVariants.{Alloc, Beat, Update, Status, Done};
+ghost use Rattle.http_routes.specs.declared.route.SchedRouted.TheVariants.{Alloc, Beat, Update, Status};
+ghost use Rattle.http_routes.specs.declared.route.SchedRouted.TheVariants.{Drain, Done};
 ghost use Rattle.http_routes.specs.declared.server_route.ServerAsked.{ServerAsked};
 ghost use Rattle.http_routes.specs.declared.server_route.ServerRouted.TheVariants as server;
 ghost use Rattle.http_routes.specs.Asked.{IsAskedUnder};
 ghost use Rattle.http_routes.specs.CallReply.{IsToldBy, IsAnswer, IsAssigned};
-ghost use Rattle.http_routes.specs.InOrder.{InForm, IsAllocation, IsHeartbeat, IsUpdate, IsStatus};
-ghost use Rattle.http_routes.specs.InOrder.{IsAssignment, IsSubmission, IsRun};
+ghost use Rattle.http_routes.specs.InOrder.{IsAt, InForm, IsAllocation, IsHeartbeat, IsUpdate, IsStatus};
+ghost use Rattle.http_routes.specs.InOrder.{IsDrain, IsAssignment, IsSubmission, IsRun};
 ghost use Rattle.http_routes.specs.Kind.{kind_of};
 ghost use Rattle.http_routes.specs.Message.{BeginsWith};
 ghost use Rattle.http_routes.specs.ReadBack.{seen};
 ghost use Rattle.http_routes.specs.Refusal.{refusal_response};
 ghost use Rattle.http_routes.specs.Refused.{IsRefused, IsServerRefused};
 ghost use Rattle.http_routes.specs.Reply.{body_of, reply_text};
+ghost use Rattle.http_routes.specs.Route.{asked_of, answered, IsNoDrain};
 ghost use Rattle.http_routes.specs.ServerRoute.{body_at, IsServerAsked, AsksAssign, AsksSubmit, AsksRun};
 ghost use Rattle.http_routes.specs.Settled.{server_settled, scheduler_settled, IsSettledFor, IsSettledAt};
-ghost use Rattle.http_routes.specs.Requests.{alloc_with, status_with, heartbeat_with, state_with, assign_with};
-ghost use Rattle.http_routes.specs.Requests.{submit_with, run_with, CanGo};
+ghost use Rattle.http_routes.specs.Requests.{alloc_with, status_with, heartbeat_with, state_with};
+ghost use Rattle.http_routes.specs.Requests.{drain_with, assign_with, submit_with, run_with, CanGo};
 
 use dist_wire::message::Message;
 
@@ -54,56 +59,75 @@ pub fn replies_read_back()
 
 /// Bytes that a peer sent ask one thing of the scheduler at most, in one form.
 pub fn one_question()
-    ensures { (lets : List ℕ → Admission) (serves : List ℕ → Option Addr) (bytes : List ℕ) (peer : Addr)
-        (a b : Asked)
-        → IsAskedUnder lets serves bytes peer a → IsAskedUnder lets serves bytes peer b → a ≡ b }
+    ensures { (rules : Rules) (lets : List ℕ → Admission) (serves : List ℕ → Option Addr) (bytes : List ℕ)
+        (peer : Addr) (a b : Asked)
+        → IsAskedUnder rules lets serves bytes peer a → IsAskedUnder rules lets serves bytes peer b → a ≡ b }
 {}
 
 /// Bytes ask for a job exactly where they are a request that does, with that toolchain, and shows a token
 /// that lets its client in.
 pub fn allocations_asked()
-    ensures { (lets : List ℕ → Admission) (serves : List ℕ → Option Addr) (bytes : List ℕ) (peer : Addr)
-        (tc : List ℕ) (json : Bool) → IsBytes bytes
-        → IsAskedUnder lets serves bytes peer (record { what = Alloc tc; json = json })
+    ensures { (rules : Rules) (lets : List ℕ → Admission) (serves : List ℕ → Option Addr) (bytes : List ℕ)
+        (peer : Addr) (tc : List ℕ) (json : Bool) → IsBytes bytes
+        → IsAskedUnder rules lets serves bytes peer (record { what = Alloc tc; json = json })
         ↔ ((r : Request) × IsRequest bytes r × IsAllocation r lets tc × InForm r json) }
 {}
 
 /// Bytes ask for a heartbeat to be noted exactly where they are a request that is that heartbeat of
 /// that server.
 pub fn heartbeats_asked()
-    ensures { (lets : List ℕ → Admission) (serves : List ℕ → Option Addr) (bytes : List ℕ)
-        (peer server : Addr)
-        (m : HeartbeatServerHttpRequest) (json : Bool) → IsBytes bytes
-        → IsAskedUnder lets serves bytes peer (record { what = Beat server m; json = json })
+    ensures { (rules : Rules) (lets : List ℕ → Admission) (serves : List ℕ → Option Addr) (bytes : List ℕ)
+        (peer server : Addr) (m : HeartbeatServerHttpRequest) (json : Bool) → IsBytes bytes
+        → IsAskedUnder rules lets serves bytes peer (record { what = Beat server m; json = json })
         ↔ ((r : Request) × IsRequest bytes r × IsHeartbeat r peer serves server m × InForm r json) }
 {}
 
 /// Bytes ask for a state of a job to be taken exactly where they are a request that tells it, of that server.
 pub fn updates_asked()
-    ensures { (lets : List ℕ → Admission) (serves : List ℕ → Option Addr) (bytes : List ℕ)
-        (peer server : Addr)
-        (job : JobId) (state : JobState) (json : Bool) → IsBytes bytes
-        → IsAskedUnder lets serves bytes peer (record { what = Update server job state; json = json })
+    ensures { (rules : Rules) (lets : List ℕ → Admission) (serves : List ℕ → Option Addr) (bytes : List ℕ)
+        (peer server : Addr) (job : JobId) (state : JobState) (json : Bool) → IsBytes bytes
+        → IsAskedUnder rules lets serves bytes peer (record { what = Update server job state; json = json })
         ↔ ((r : Request) × IsRequest bytes r × IsUpdate r peer serves server job state × InForm r json) }
 {}
 
 /// Bytes ask for the status exactly where they are a request for it.
 pub fn statuses_asked()
-    ensures { (lets : List ℕ → Admission) (serves : List ℕ → Option Addr) (bytes : List ℕ) (peer : Addr)
-        (json : Bool)
-        → IsAskedUnder lets serves bytes peer (record { what = Status; json = json })
+    ensures { (rules : Rules) (lets : List ℕ → Admission) (serves : List ℕ → Option Addr) (bytes : List ℕ)
+        (peer : Addr) (json : Bool)
+        → IsAskedUnder rules lets serves bytes peer (record { what = Status; json = json })
         ↔ ((r : Request) × IsRequest bytes r × IsStatus r × InForm r json) }
+{}
+
+/// Bytes ask that a registration drain, or drain no more, exactly where the rules are version 2 and they are
+/// a request that is that wish of that server.
+pub fn drains_asked()
+    ensures { (rules : Rules) (lets : List ℕ → Admission) (serves : List ℕ → Option Addr) (bytes : List ℕ)
+        (peer server : Addr) (m : DrainServerHttpRequest) (json : Bool) → IsBytes bytes
+        → IsAskedUnder rules lets serves bytes peer (record { what = Drain server m; json = json })
+        ↔ ((r : Request) × IsRequest bytes r × IsDrain rules r peer serves server m × InForm r json) }
+{}
+
+/// In version 1 no request and no bytes ask for a drain, and a POST to where version 2 has its route is at
+/// no route.
+pub fn no_drain_in_version_1()
+    ensures requests { (serves : List ℕ → Option Addr) (r : Request) (peer : Addr) (said : Option Admission)
+        → IsNoDrain (answered (asked_of One serves r peer said)) }
+    ensures bytes { (lets : List ℕ → Admission) (serves : List ℕ → Option Addr) (bytes : List ℕ)
+        (peer : Addr) (a : Asked) → IsAskedUnder One lets serves bytes peer a → IsNoDrain a.what }
+    ensures refused { (serves : List ℕ → Option Addr) (r : Request) (peer : Addr) (said : Option Admission)
+        → IsAt r (codes "POST") (codes "/api/v1/scheduler/drain_server")
+        → asked_of One serves r peer said ≡ Err NoRoute }
 {}
 
 /// A reply of the scheduler is known at once exactly where the bytes are a request that one test of its route
 /// refuses, in the tests' order, and it is the reply to that refusal; or they are no request, and it is the
 /// reply to a bad head.
 pub fn replies_at_once()
-    ensures { (lets : List ℕ → Admission) (serves : List ℕ → Option Addr) (bytes : List ℕ) (peer : Addr)
-        (reply : Response) (json : Bool) → IsBytes bytes
-        → IsAskedUnder lets serves bytes peer (record { what = Done reply; json = json })
+    ensures { (rules : Rules) (lets : List ℕ → Admission) (serves : List ℕ → Option Addr) (bytes : List ℕ)
+        (peer : Addr) (reply : Response) (json : Bool) → IsBytes bytes
+        → IsAskedUnder rules lets serves bytes peer (record { what = Done reply; json = json })
         ↔ (((r : Request) × (refusal : Refusal) × IsRequest bytes r
-        × IsRefused r peer lets serves refusal × (reply ≡ refusal_response refusal) × InForm r json)
+        × IsRefused rules r peer lets serves refusal × (reply ≡ refusal_response refusal) × InForm r json)
         ⊎ (IsNoRequest bytes × (reply ≡ refusal_response BadHead) × (json ≡ false))) }
 {}
 
@@ -190,42 +214,54 @@ pub fn addresses_are_visible()
 
 /// A request for a job, where its token lets a client in, is read as one for that toolchain.
 pub fn allocations_read_back()
-    ensures { (host token tc : List ℕ) (lets : List ℕ → Admission) (serves : List ℕ → Option Addr)
-        (peer : Addr)
+    ensures { (rules : Rules) (host token tc : List ℕ) (lets : List ℕ → Admission)
+        (serves : List ℕ → Option Addr) (peer : Addr)
         → CanGo host token (alloc_with host token tc) → SpellsToolchain tc (bytes_text tc)
         → lets token ≡ Admitted
-        → IsAskedUnder lets serves (request_text (alloc_with host token tc)) peer
+        → IsAskedUnder rules lets serves (request_text (alloc_with host token tc)) peer
         (record { what = Alloc tc; json = false }) }
 {}
 
 /// A request for the status is read as one.
 pub fn statuses_read_back()
-    ensures { (host : List ℕ) (lets : List ℕ → Admission) (serves : List ℕ → Option Addr) (peer : Addr)
+    ensures { (rules : Rules) (host : List ℕ) (lets : List ℕ → Admission) (serves : List ℕ → Option Addr)
+        (peer : Addr)
         → list_all is_visible host ≡ true → IsWithinLimits (status_with host)
-        → IsAskedUnder lets serves (request_text (status_with host)) peer
+        → IsAskedUnder rules lets serves (request_text (status_with host)) peer
         (record { what = Status; json = false }) }
 {}
 
 /// A heartbeat, written under a token that is accepted for a server and sent from its IP, is read as that
 /// server's.
 pub fn heartbeats_read_back()
-    ensures { (host token : List ℕ) (beat : HeartbeatServerHttpRequest) (lets : List ℕ → Admission)
-        (serves : List ℕ → Option Addr) (peer server : Addr)
+    ensures { (rules : Rules) (host token : List ℕ) (beat : HeartbeatServerHttpRequest)
+        (lets : List ℕ → Admission) (serves : List ℕ → Option Addr) (peer server : Addr)
         → CanGo host token (heartbeat_with host token beat) → SpellsHeartbeat beat (heartbeat_text beat)
         → serves token ≡ Some server → ip_of peer ≡ ip_of server
-        → IsAskedUnder lets serves (request_text (heartbeat_with host token beat)) peer
+        → IsAskedUnder rules lets serves (request_text (heartbeat_with host token beat)) peer
         (record { what = Beat server beat; json = false }) }
 {}
 
 /// A report of a job's state, written under a token that is accepted for a server and sent from its IP, is
 /// read as that server's update of that job to that state.
 pub fn states_read_back()
-    ensures { (host token : List ℕ) (job : JobId) (state : JobState) (lets : List ℕ → Admission)
-        (serves : List ℕ → Option Addr) (peer server : Addr)
+    ensures { (rules : Rules) (host token : List ℕ) (job : JobId) (state : JobState)
+        (lets : List ℕ → Admission) (serves : List ℕ → Option Addr) (peer server : Addr)
         → CanGo host token (state_with host token job state) → job.0 < 2 ^ 64
         → serves token ≡ Some server → ip_of peer ≡ ip_of server
-        → IsAskedUnder lets serves (request_text (state_with host token job state)) peer
+        → IsAskedUnder rules lets serves (request_text (state_with host token job state)) peer
         (record { what = Update server job state; json = false }) }
+{}
+
+/// A wish to drain, written under a token that is accepted for a server and sent from its IP, is read in
+/// version 2 as that server's.
+pub fn drains_read_back()
+    ensures { (host token : List ℕ) (drain : DrainServerHttpRequest) (lets : List ℕ → Admission)
+        (serves : List ℕ → Option Addr) (peer server : Addr)
+        → CanGo host token (drain_with host token drain) → SpellsDrain drain (drain_text drain)
+        → serves token ≡ Some server → ip_of peer ≡ ip_of server
+        → IsAskedUnder Two lets serves (request_text (drain_with host token drain)) peer
+        (record { what = Drain server drain; json = false }) }
 {}
 
 /// A request to take a job, written under a token that is accepted for the job, is read as one, with that
@@ -273,6 +309,7 @@ pub fn waiting_kinds()
 pub fn heads_settle()
     ensures servers { (verdict : ℕ → List ℕ → Result ⊤ TokenError) (r : Request)
         → server_settled verdict r ≡ true → IsSettledFor verdict r }
-    ensures schedulers { (refuses : List ℕ → Bool) (serves : List ℕ → Option Addr) (r : Request) (peer : Addr)
-        → scheduler_settled refuses serves r peer ≡ true → IsSettledAt refuses serves r peer }
+    ensures schedulers { (rules : Rules) (refuses : List ℕ → Bool) (serves : List ℕ → Option Addr)
+        (r : Request) (peer : Addr)
+        → scheduler_settled rules refuses serves r peer ≡ true → IsSettledAt rules refuses serves r peer }
 {}

@@ -1,7 +1,7 @@
 //! The routes of the scheduler and of the build servers over HTTP/1.1 (RFC 9112): what requests ask, what
 //! they are replied, and the calls between the two.
 //!
-//! The contract: bytes ask one thing at most of the scheduler (`asked_under`) and of a server
+//! The contract: bytes ask one thing at most of the scheduler by its rules (`asked_under`) and of a server
 //! (`server_asked`), and each refusal comes exactly where its test says, in the tests' order; the bytes of a
 //! reply are its text, and its reader sees the code, the fields and the body that were meant; a reply to a
 //! call says one thing; what is written for a call is what its route reads. Want of memory is the one other

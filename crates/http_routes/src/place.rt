@@ -1,10 +1,11 @@
 //! The place of a request: its method, its path, and the job that the path names.
 ghost use Rattle.std.specs.Prelude.{◌≡◌, option_copied};
 ghost use Rattle.http_routes.specs.Place.{is_at, stripped, job_in, job_of, state_job, assign_job, submit_job};
-ghost use Rattle.http_routes.specs.Place.{run_job};
+ghost use Rattle.http_routes.specs.Place.{run_job, at_drain};
 
 use crate::request::Request;
 use dist_types::ids::JobId;
+use dist_types::rules::Rules;
 
 /// Whether the request has that method and that path.
 #[tactic(auto, unfolding(crate::specs::Place::is_at))]
@@ -52,6 +53,17 @@ pub(crate) fn state_job(request: &Request) -> Option<JobId>
     ensures { result ≡ state_job request.now }
 {
     job_of("/api/v1/scheduler/job_state/", request)
+}
+
+/// Whether the request is at the route of servers that drain, which stands in version 2 alone.
+#[tactic(auto, unfolding(crate::specs::Place::at_drain))]
+pub(crate) fn at_drain(rules: Rules, request: &Request) -> bool
+    ensures { result ≡ at_drain rules request.now }
+{
+    match rules {
+        Rules::One => false,
+        Rules::Two => is_at(request, "POST", "/api/v1/scheduler/drain_server"),
+    }
 }
 
 /// The job that a request asks a server to take.

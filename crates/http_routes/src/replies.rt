@@ -2,9 +2,9 @@
 //! Each is refused for want of memory alone.
 ghost use Rattle.std.specs.Prelude.{◌≡◌, IfOk, Some};
 ghost use Rattle.http_routes.specs.Fault.{fault_response_of};
-ghost use Rattle.http_routes.specs.Replies.{heard_response, status_response, alloc_response, update_response};
-ghost use Rattle.http_routes.specs.Replies.{commit_response, core_fault, assign_response};
-ghost use Rattle.http_routes.specs.Replies.{submit_response, run_response};
+ghost use Rattle.http_routes.specs.Replies.{heard_response, status_response, drained_response};
+ghost use Rattle.http_routes.specs.Replies.{alloc_response, update_response, commit_response, core_fault};
+ghost use Rattle.http_routes.specs.Replies.{assign_response, submit_response, run_response};
 ghost use Rattle.core_rules.specs.Texts.{no_room_text, dropped_text};
 
 use crate::error::HttpError;
@@ -21,6 +21,7 @@ use dist_types::results::{
 };
 use dist_types::text::Text;
 use dist_wire::alloc::AllocJobHttpResponse;
+use dist_wire::drain::DrainServerResult;
 use std::alloc::{AllocError, Global};
 
 /// Want of memory, where it is the one cause of a refusal.
@@ -64,6 +65,17 @@ pub fn to_status(
     ensures { IfOk result (λ r. r ≡ status_response json answer.now) }
 {
     match respond(alloc, json, answer) {
+        Ok(response) => Ok(response),
+        Err(error) => Err(want_of_memory(error)),
+    }
+}
+
+/// The reply to a wish to drain, by whether it names a registration.
+#[tactic(auto, unfolding(crate::specs::Replies::drained_response))]
+pub fn to_drain(alloc: Global, json: bool, known: bool) -> Result<Response, AllocError>
+    ensures { IfOk result (λ r. r ≡ drained_response json known) }
+{
+    match respond(alloc, json, &DrainServerResult { known }) {
         Ok(response) => Ok(response),
         Err(error) => Err(want_of_memory(error)),
     }

@@ -2,7 +2,7 @@
 ghost use Rattle.std.specs.Prelude.{◌≡◌, IfOk, IfErr, string_bytes};
 ghost use Rattle.http_head.specs.WrittenRequest.{request_text};
 ghost use Rattle.http_routes.specs.Requests.{post_with, assign_request_text, state_request_text};
-ghost use Rattle.http_routes.specs.Requests.{heartbeat_request_text};
+ghost use Rattle.http_routes.specs.Requests.{heartbeat_request_text, drain_request_text};
 
 use crate::builder::{RequestBuilder, ReqwestRequestBuilderExt};
 use crate::error::HttpError;
@@ -11,6 +11,7 @@ use dist_types::ids::{JobId, ServerId};
 use dist_types::results::JobState;
 use dist_types::text::Bytes;
 use dist_types::toolchain::Toolchain;
+use dist_wire::drain::DrainServerHttpRequest;
 use dist_wire::heartbeat::HeartbeatServerHttpRequest;
 use dist_wire::message::Message;
 use std::alloc::Global;
@@ -85,5 +86,23 @@ pub fn heartbeat_request(
     let target = String::from_str(alloc, "/api/v1/scheduler/heartbeat_server")?;
     let host = format!(in alloc; "{scheduler}")?;
     let bytes = posted(target, host, token, beat)?;
+    Ok(bytes)
+}
+
+/// The wish of a server that it drain, or drain no more, to the scheduler at that address, under a server's
+/// token. Refused for want of memory alone.
+#[tactic(auto, unfolding(crate::specs::Requests::drain_with))]
+pub fn drain_request(
+    alloc: Global,
+    scheduler: Addr,
+    token: &str,
+    drain: &DrainServerHttpRequest,
+) -> Result<Bytes, HttpError>
+    ensures ok { IfOk result (λ bytes. bytes ≡ drain_request_text scheduler token.now drain.now) }
+    ensures err { IfErr result (λ e. e ≡ HttpError.Memory) }
+{
+    let target = String::from_str(alloc, "/api/v1/scheduler/drain_server")?;
+    let host = format!(in alloc; "{scheduler}")?;
+    let bytes = posted(target, host, token, drain)?;
     Ok(bytes)
 }

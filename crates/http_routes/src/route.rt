@@ -1,14 +1,14 @@
 //! The routes of the scheduler: what a request asks of it.
 ghost use Rattle.std.specs.Prelude.{◌≡◌, IfOk, IfErr};
 ghost use Rattle.http_routes.specs.Admission.{client_token, MayBeAsked};
-ghost use Rattle.http_routes.specs.Route.{wants_json, alloc_of, beat_of, update_of, report_of, asked_of};
-ghost use Rattle.http_routes.specs.Route.{answered, IsRouted};
+ghost use Rattle.http_routes.specs.Route.{wants_json, alloc_of, beat_of, drain_of, update_of, report_of};
+ghost use Rattle.http_routes.specs.Route.{asked_of, answered, IsRouted};
 ghost use Rattle.http_routes.specs.Steps.{Decides};
 
 use crate::admission::{Admission, said_of};
 use crate::error::HttpError;
 use crate::message::message_in;
-use crate::place::{is_at, state_job};
+use crate::place::{at_drain, is_at, state_job};
 use crate::refusal::{Refusal, Unrouted, refusal_response};
 use crate::reply::Response;
 use crate::request::Request;
@@ -17,7 +17,9 @@ use dist_token::checks::{ClientAuthCheck, ServerAuthCheck};
 use dist_types::addr::Addr;
 use dist_types::ids::{JobId, ServerId};
 use dist_types::results::JobState;
+use dist_types::rules::Rules;
 use dist_types::toolchain::Toolchain;
+use dist_wire::drain::DrainServerHttpRequest;
 use dist_wire::heartbeat::HeartbeatServerHttpRequest;
 use std::alloc::Global;
 
@@ -32,6 +34,8 @@ pub enum SchedRouted {
     Update(ServerId, JobId, JobState),
     /// How many servers, processors and jobs there are.
     Status,
+    /// That a registration of that server is to drain, or to drain no more. Asked in version 2 alone.
+    Drain(ServerId, DrainServerHttpRequest),
     /// Nothing more: the reply is known.
     Done(Response),
 }
@@ -43,6 +47,15 @@ pub struct Asked {
     pub what: SchedRouted,
     /// Whether the reply is to be in JSON.
     pub json: bool,
+}
+
+/// Where a request came from, and the rules that its scheduler goes by.
+#[derive(Clone, Copy, Debug, PartialEq, Eq)]
+pub struct Terms {
+    /// The peer that sent it.
+    pub peer: Addr,
+    /// The rules.
+    pub rules: Rules,
 }
 
 /// Whether a request asks for a reply in JSON: its Accept is exactly `application/json`.
@@ -85,6 +98,21 @@ fn beat_of<V: ServerAuthCheck>(
     Ok(SchedRouted::Beat(ServerId::new(server), beat))
 }
 
+/// A wish of a server that it drain, or drain no more.
+#[tactic(auto, unfolding(crate::specs::Route::drain_of))]
+fn drain_of<V: ServerAuthCheck>(
+    alloc: Global,
+    request: &Request,
+    peer: Addr,
+    check: &V,
+) -> Result<SchedRouted, Unrouted>
+    ensures { Decides (drain_of (V.server_of check.now) request.now peer) result }
+{
+    let sender = server_of(request, peer, check)?;
+    let drain = message_in(alloc, request)?;
+    Ok(SchedRouted::Drain(ServerId::new(sender), drain))
+}
+
 /// A state of that job, and the server that tells it.
 #[tactic(auto, unfolding(crate::specs::Route::update_of))]
 fn update_of<V: ServerAuthCheck>(
@@ -122,37 +150,40 @@ fn report_of<V: ServerAuthCheck>(
 fn asked_of<V: ServerAuthCheck>(
     alloc: Global,
     request: &Request,
-    peer: Addr,
+    terms: Terms,
     said: Option<Admission>,
     check: &V,
 ) -> Result<SchedRouted, Unrouted>
-    ensures { Decides (asked_of (V.server_of check.now) request.now peer said) result }
+    ensures { Decides (asked_of terms.rules (V.server_of check.now) request.now terms.peer said) result }
 {
     if is_at(request, "POST", "/api/v1/scheduler/alloc_job") {
         return alloc_of(alloc, request, said);
     }
     if is_at(request, "POST", "/api/v1/scheduler/heartbeat_server") {
-        return beat_of(alloc, request, peer, check);
+        return beat_of(alloc, request, terms.peer, check);
     }
     if is_at(request, "GET", "/api/v1/scheduler/status") {
         return Ok(SchedRouted::Status);
     }
-    report_of(alloc, request, peer, check)
+    if at_drain(terms.rules, request) {
+        return drain_of(alloc, request, terms.peer, check);
+    }
+    report_of(alloc, request, terms.peer, check)
 }
 
 /// What a request asks, or the reply to its refusal.
 fn routed<V: ServerAuthCheck>(
     alloc: Global,
     request: &Request,
-    peer: Addr,
+    terms: Terms,
     said: Option<Admission>,
     check: &V,
 ) -> Result<SchedRouted, HttpError>
     ensures ok { IfOk result (λ routed. routed
-        ≡ answered (asked_of (V.server_of check.now) request.now peer said)) }
+        ≡ answered (asked_of terms.rules (V.server_of check.now) request.now terms.peer said)) }
     ensures err { IfErr result (λ e. e ≡ HttpError.Memory) }
 {
-    match asked_of(alloc, request, peer, said, check) {
+    match asked_of(alloc, request, terms, said, check) {
         Ok(routed) => Ok(routed),
         Err(Unrouted::Refused(refusal)) => {
             let reply = refusal_response(alloc, refusal)?;
@@ -163,8 +194,8 @@ fn routed<V: ServerAuthCheck>(
 }
 
 /// What a request of that peer asks of the scheduler at that moment, under its checks of clients and of
-/// servers; a request that is refused gets its reply. The check of clients is asked once, where a request for
-/// a job shows a token, and else stays as it was. Refused for want of memory alone.
+/// servers, and by its rules; a request that is refused gets its reply. The check of clients is asked once,
+/// where a request for a job shows a token, and else stays as it was. Refused for want of memory alone.
 pub fn scheduler_route<K: ClientAuthCheck, V: ServerAuthCheck>(
     alloc: Global,
     request: &Request,
@@ -172,13 +203,15 @@ pub fn scheduler_route<K: ClientAuthCheck, V: ServerAuthCheck>(
     now: u64,
     client: &mut K,
     server: &V,
+    rules: Rules,
 ) -> Result<SchedRouted, HttpError>
-    ensures ok { IfOk result (λ routed. IsRouted K.may_answer K.shown (V.server_of server.now)
+    ensures ok { IfOk result (λ routed. IsRouted rules K.may_answer K.shown (V.server_of server.now)
         request.now peer now client.old routed client.new) }
     ensures err { IfErr result (λ e. e ≡ HttpError.Memory) }
     ensures left { MayBeAsked K.may_answer (client_token request.now) now client.old client.new }
 {
     let said = said_of(alloc, request, now, client)?;
-    let routed = routed(alloc, request, peer, said, server)?;
+    let terms = Terms { peer, rules };
+    let routed = routed(alloc, request, terms, said, server)?;
     Ok(routed)
 }

@@ -5,7 +5,7 @@ ghost use Rattle.http_routes.specs.Settled.{server_settled, scheduler_settled, j
 ghost use Rattle.http_routes.specs.Settled.{client_refused};
 
 use crate::admission::client_token;
-use crate::place::{assign_job, is_at, run_job, state_job, submit_job};
+use crate::place::{assign_job, at_drain, is_at, run_job, state_job, submit_job};
 use crate::refusal::Unrouted;
 use crate::request::Request;
 use crate::sender::{job_test, server_of};
@@ -14,6 +14,7 @@ use dist_types::addr::Addr;
 use dist_types::fault::Memory;
 use dist_types::ids::JobId;
 use dist_types::roles::JobAuthorizer;
+use dist_types::rules::Rules;
 
 /// Whether the request shows no token that is accepted for the job.
 fn job_refused<A: JobAuthorizer>(
@@ -84,9 +85,10 @@ pub fn scheduler_settled<K: TokenRefusal, V: ServerAuthCheck>(
     peer: Addr,
     client: &K,
     server: &V,
+    rules: Rules,
 ) -> Result<bool, Memory>
     ensures settled { IfOk result (λ settled. settled
-        ≡ scheduler_settled (K.refuses client.now) (V.server_of server.now) request.now peer) }
+        ≡ scheduler_settled rules (K.refuses client.now) (V.server_of server.now) request.now peer) }
 {
     if is_at(request, "POST", "/api/v1/scheduler/alloc_job") {
         return Ok(client_refused(request, client));
@@ -96,6 +98,9 @@ pub fn scheduler_settled<K: TokenRefusal, V: ServerAuthCheck>(
     }
     if is_at(request, "GET", "/api/v1/scheduler/status") {
         return Ok(true);
+    }
+    if at_drain(rules, request) {
+        return sender_refused(request, peer, server);
     }
     match state_job(request) {
         Some(_) => sender_refused(request, peer, server),

@@ -5,6 +5,7 @@ use dist_types::results::{
 };
 use dist_types::toolchain::Toolchain;
 use dist_wire::alloc::AllocJobHttpResponse;
+use dist_wire::drain::{DrainServerHttpRequest, DrainServerResult};
 use dist_wire::error::WireError;
 use dist_wire::heartbeat::HeartbeatServerHttpRequest;
 use dist_wire::message::Message;
@@ -72,6 +73,8 @@ pub fn spelled(alloc: Global, name: &str, bytes: &[u8], json: &str) -> Result<bo
         "RunJobResult" => is_spelled::<RunJobResult>(alloc, bytes, json),
         "SubmitToolchainResult" => is_spelled::<SubmitToolchainResult>(alloc, bytes, json),
         "SchedulerStatusResult" => is_spelled::<SchedulerStatusResult>(alloc, bytes, json),
+        "DrainServerHttpRequest" => is_spelled::<DrainServerHttpRequest>(alloc, bytes, json),
+        "DrainServerResult" => is_spelled::<DrainServerResult>(alloc, bytes, json),
         "JobAlloc" => is_spelled::<JobAlloc>(alloc, bytes, json),
         _ => Ok(false),
     }
@@ -92,6 +95,8 @@ pub fn whole(alloc: Global, name: &str, bytes: &[u8]) -> bool {
         "RunJobResult" => is_whole::<RunJobResult>(alloc, bytes),
         "SubmitToolchainResult" => is_whole::<SubmitToolchainResult>(alloc, bytes),
         "SchedulerStatusResult" => is_whole::<SchedulerStatusResult>(alloc, bytes),
+        "DrainServerHttpRequest" => is_whole::<DrainServerHttpRequest>(alloc, bytes),
+        "DrainServerResult" => is_whole::<DrainServerResult>(alloc, bytes),
         "JobAlloc" => is_whole::<JobAlloc>(alloc, bytes),
         _ => false,
     }
@@ -112,6 +117,8 @@ pub fn length(alloc: Global, name: &str, bytes: &[u8]) -> Option<usize> {
         "RunJobResult" => read_length::<RunJobResult>(alloc, bytes),
         "SubmitToolchainResult" => read_length::<SubmitToolchainResult>(alloc, bytes),
         "SchedulerStatusResult" => read_length::<SchedulerStatusResult>(alloc, bytes),
+        "DrainServerHttpRequest" => read_length::<DrainServerHttpRequest>(alloc, bytes),
+        "DrainServerResult" => read_length::<DrainServerResult>(alloc, bytes),
         "JobAlloc" => read_length::<JobAlloc>(alloc, bytes),
         _ => None,
     }

@@ -2,4 +2,5 @@ use Rattle.http_routes.proofs.RouteLemmas.{heartbeats_asked}
 use Rattle.http_routes.proofs.laws.heartbeats_asked.Goals as goal
 
 pub returns : goal.returns
-returns c = λ lets serves bytes peer server m json. heartbeats_asked lets serves bytes peer json server m
+returns c = λ rules lets serves bytes peer server m json. heartbeats_asked rules lets serves bytes peer json
+    server m

@@ -2,5 +2,5 @@ use Rattle.http_routes.proofs.RouteLemmas.{updates_asked}
 use Rattle.http_routes.proofs.laws.updates_asked.Goals as goal
 
 pub returns : goal.returns
-returns c = λ lets serves bytes peer server job state json. updates_asked lets serves bytes peer json server
-    job state
+returns c = λ rules lets serves bytes peer server job state json. updates_asked rules lets serves bytes peer
+    json server job state
