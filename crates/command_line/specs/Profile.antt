@@ -21,7 +21,7 @@ use Rattle.line_program.specs.declared.fault.ConfigCause.TheVariants.{NotToml, K
 use Rattle.command_line.specs.Told.{◌>>=◌, needed}
 use Rattle.command_line.specs.Unknown.{least_unknown}
 use Rattle.command_line.specs.Values.{has_only, text_at, address_at, http_url_at, optional_number_at}
-use Rattle.command_line.specs.Values.{is_secret}
+use Rattle.command_line.specs.Values.{rules_at, is_secret}
 
 -- each key is known, or the least that is not, in byte order, is the bad one
 abbrev pub known_or : Option (List ℕ) → Result ⊤ ConfigCause
@@ -106,7 +106,7 @@ address_or other (Some value) key table = address_at key table
 -- ---- the two files
 
 abbrev pub scheduler_keys : List (List ℕ)
-scheduler_keys = codes "public_addr" ∷ codes "client_auth" ∷ codes "server_auth" ∷ []
+scheduler_keys = codes "public_addr" ∷ codes "client_auth" ∷ codes "server_auth" ∷ codes "rules" ∷ []
 
 unfoldable pub scheduler_in : Members → Result SchedulerConfig ConfigCause
 scheduler_in table = do
@@ -114,7 +114,13 @@ scheduler_in table = do
   public_addr ← needed (codes "public_addr") (address_at (codes "public_addr") table)
   client_auth ← needed (codes "client_auth") (typed_at client_auth_of (codes "client_auth") table)
   server_auth ← needed (codes "server_auth") (typed_at server_auth_of (codes "server_auth") table)
-  Ok (record { public_addr = public_addr; client_auth = client_auth; server_auth = server_auth })
+  rules ← needed (codes "rules") (rules_at (codes "rules") table)
+  Ok (record {
+    public_addr = public_addr;
+    client_auth = client_auth;
+    server_auth = server_auth;
+    rules = rules;
+  })
 
 abbrev pub server_keys : List (List ℕ)
 server_keys = codes "builder" ∷ codes "cache_dir" ∷ codes "public_addr" ∷ codes "bind_address" ∷ codes

@@ -8,6 +8,8 @@ use Rattle.url.specs.Parser.{parse_url}
 use Rattle.url.specs.Parts.{Parts}
 use Rattle.dist_types.specs.Addr.{addr_in}
 use Rattle.dist_types.specs.declared.addr.Addr.{Addr}
+use Rattle.dist_types.specs.declared.rules.Rules.{Rules}
+use Rattle.dist_types.specs.declared.rules.Rules.TheVariants.{One, Two}
 use Rattle.dist_token.specs.Verdict.{bytes_of}
 use Rattle.command_line.specs.Unknown.{least_unknown}
 
@@ -41,6 +43,14 @@ optional_number (Some other) = None
 
 abbrev pub optional_number_at : List ℕ → Members → Option (Option ℕ)
 optional_number_at key table = optional_number (get_member key table)
+
+-- the version of the rules that a number names, and the first where there is none
+abbrev pub rules_in : Option ℕ → Option Rules
+rules_in None = Some One
+rules_in (Some n) = if n == 1 then Some One else if n == 2 then Some Two else None
+
+abbrev pub rules_at : List ℕ → Members → Option Rules
+rules_at key table = option_and_then rules_in (optional_number_at key table)
 
 -- whether a text is base64url of 32 bytes
 abbrev pub is_key_of_32 : Option (List ℕ) → Bool

@@ -6,10 +6,11 @@ ghost use Rattle.toml.specs.Data.{get_member, as_table};
 ghost use Rattle.toml.specs.View.{view, table_view};
 ghost use Rattle.command_line.specs.Unknown.{lesser, least_with, least_unknown, IsLeast};
 ghost use Rattle.command_line.specs.Values.{has_only, text_at, address_at, http_url_at, http_url_in};
-ghost use Rattle.command_line.specs.Values.{optional_number, optional_number_at};
+ghost use Rattle.command_line.specs.Values.{optional_number, optional_number_at, rules_in, rules_at};
 
 use dist_types::addr::{Addr, read_addr};
 use dist_types::fault::Memory;
+use dist_types::rules::Rules;
 use std::alloc::Global;
 use toml::{Table, Value};
 use url::{ParseError, Url};
@@ -124,6 +125,28 @@ pub fn optional_number_at(table: &Table, key: &str) -> Option<Option<u64>>
     ensures { result ≡ optional_number_at key.now (table_view table.now) }
 {
     optional_number(value_at(table, key))
+}
+
+/// The version of the rules that a number names, and the first where there is none.
+fn rules_in(number: Option<u64>) -> Option<Rules>
+    ensures { result ≡ rules_in number }
+{
+    match number {
+        None => Some(Rules::One),
+        Some(1) => Some(Rules::One),
+        Some(2) => Some(Rules::Two),
+        Some(_) => None,
+    }
+}
+
+/// The version of the rules at a key, where its value is 1 or 2; the first where there is no value.
+pub fn rules_at(table: &Table, key: &str) -> Option<Rules>
+    ensures { result ≡ rules_at key.now (table_view table.now) }
+{
+    match optional_number_at(table, key) {
+        Some(number) => rules_in(number),
+        None => None,
+    }
 }
 
 /// The URL that a text says, whose scheme is `http`.

@@ -46,6 +46,7 @@ fn signed(alloc: Global, address: Addr, config: SchedulerConfig) -> Result<Comma
         public_addr: _,
         client_auth: _,
         server_auth,
+        rules: _,
     } = config;
     match server_auth {
         ServerAuth::JwtHS256 { secret_key } => Ok(Command::Auth(

@@ -11,7 +11,7 @@ use crate::auth::{builder_at, client_auth_at, scheduler_auth_at, server_auth_at}
 use crate::cause::ConfigFault;
 use crate::files::{FileFault, Files};
 use crate::look_up::{
-    address_at, http_url_at, least_unknown, optional_number_at, text_at, value_at,
+    address_at, http_url_at, least_unknown, optional_number_at, rules_at, text_at, value_at,
 };
 use dist_config::config::{SchedulerConfig, ServerConfig};
 use dist_types::addr::Addr;
@@ -61,20 +61,24 @@ fn address_or(other: Addr, table: &Table, key: &str) -> Option<Addr>
     }
 }
 
+const SCHEDULER_KEYS: [&str; 4] = ["public_addr", "client_auth", "server_auth", "rules"];
+
 #[tactic(auto, unfolding(crate::specs::Profile::scheduler_in))]
 fn scheduler_in(alloc: Global, table: &Table) -> Result<SchedulerConfig, ConfigFault>
     ensures { IsConfigAnswer (λ x. x) (scheduler_in (table_view table.now)) result }
 {
-    known(alloc, &["public_addr", "client_auth", "server_auth"], table)?;
+    known(alloc, &SCHEDULER_KEYS, table)?;
     let public_addr = needed(alloc, "public_addr", address_at(table, "public_addr"))?;
     let client_auth = client_auth_at(alloc, table, "client_auth")?;
     let client_auth = needed(alloc, "client_auth", client_auth)?;
     let server_auth = server_auth_at(alloc, table, "server_auth")?;
     let server_auth = needed(alloc, "server_auth", server_auth)?;
+    let rules = needed(alloc, "rules", rules_at(table, "rules"))?;
     Ok(SchedulerConfig {
         public_addr,
         client_auth,
         server_auth,
+        rules,
     })
 }
 

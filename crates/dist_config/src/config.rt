@@ -3,6 +3,7 @@ ghost use Rattle.std.specs.Prelude.{◌≡◌, IfOk};
 
 use dist_types::addr::Addr;
 use dist_types::fault::Memory;
+use dist_types::rules::Rules;
 use dist_types::text::Text;
 use dist_types::try_clone::TryClone;
 use url::Url;
@@ -52,6 +53,8 @@ pub struct SchedulerConfig {
     pub client_auth: ClientAuth,
     /// How it tells build servers.
     pub server_auth: ServerAuth,
+    /// The version of the rules that it goes by.
+    pub rules: Rules,
 }
 
 /// What a build server is started with.
@@ -124,6 +127,7 @@ impl TryClone for SchedulerConfig {
             public_addr: self.public_addr,
             client_auth,
             server_auth,
+            rules: self.rules,
         })
     }
 }

@@ -7,6 +7,7 @@
 
 use dist_config::config::{ClientAuth, SchedulerConfig, ServerAuth};
 use dist_types::addr::Addr;
+use dist_types::rules::Rules;
 use http_connections::start::Start;
 use scheduler_service::run_scheduler::serve_scheduler;
 use std::process::ExitCode;
@@ -45,6 +46,7 @@ fn main(rt: HostRuntime) -> io::Result<ExitCode> {
         public_addr: Addr::V4([127, 0, 0, 1], port.unwrap_or(0)),
         client_auth: ClientAuth::Insecure,
         server_auth: ServerAuth::Insecure,
+        rules: Rules::One,
     };
     match serve_scheduler(&rt, alloc, &config, start) {
         Ok(()) => Ok(ExitCode::from(0)),

@@ -9,6 +9,7 @@ use dist_types::addr::Addr;
 use dist_types::dialer::Dialer;
 use dist_types::fault::Failed;
 use dist_types::results::SchedulerStatusResult;
+use dist_types::rules::Rules;
 use dist_types::tcp::TcpDialer;
 use http_connections::asking::{LimitedNet, Limits};
 use http_routes::call_reply::answer;
@@ -69,6 +70,7 @@ pub fn config(port: u16) -> SchedulerConfig {
         public_addr: Addr::V4([127, 0, 0, 1], port),
         client_auth: ClientAuth::Insecure,
         server_auth: ServerAuth::Insecure,
+        rules: Rules::One,
     }
 }
 
