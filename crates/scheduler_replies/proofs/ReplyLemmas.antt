@@ -15,7 +15,7 @@ use Rattle.dist_types.specs.declared.results.UpdateJobStateResult.{UpdateJobStat
 use Rattle.core_rules.specs.Answers.{committed_by, undone_by, verdict}
 use Rattle.sched_core.specs.Picked.{IsPicked}
 use Rattle.core_rules.specs.Log.{Core}
-use Rattle.core_rules.specs.Rule.{rule, says_new_entry, counts_of}
+use Rattle.core_rules.specs.Rule.{rule, says_new_entry, counts_of, knows_of}
 use Rattle.core_rules.specs.Texts.{no_room_text}
 use Rattle.core_rules.specs.Ticket.{Ticket}
 use Rattle.core_rules.specs.declared.answers.Committed.{Committed}
@@ -35,19 +35,20 @@ use Rattle.scheduler_steps.specs.Faults.{faulted, fault_after}
 use Rattle.scheduler_steps.specs.Settling.{spend_call, settled_by, TellsSettle, RefusesSettle, FailsWith, Answers}
 use Rattle.scheduler_steps.specs.Step.{Gives}
 use Rattle.scheduler_steps.specs.Telling.{hears, reported_by, TellsReserve, TellsHeard, RefusesHeard}
-use Rattle.scheduler_steps.specs.Telling.{TellsReported, TellsCounted, WantsMemory}
+use Rattle.scheduler_steps.specs.Telling.{TellsReported, TellsCounted, TellsDrained, WantsMemory}
 use Rattle.scheduler_steps.specs.declared.fault.SchedFault.{SchedFault}
 use Rattle.scheduler_steps.specs.declared.fault.SchedFault.TheVariants as sched
 use Rattle.scheduler_steps.specs.declared.settled.Settled.{Settled}
 use Rattle.scheduler_steps.specs.declared.settled.Settled.TheVariants.{Taken}
 use Rattle.http_routes.specs.Fault.{fault_response_of}
 use Rattle.http_routes.specs.Replies.{heard_response, status_response, alloc_response, update_response}
-use Rattle.http_routes.specs.Replies.{update_reply, commit_response}
+use Rattle.http_routes.specs.Replies.{update_reply, commit_response, drained_response}
 use Rattle.scheduler_replies.specs.ByEntry.{update_by, settled_reply, RepliesAt}
 use Rattle.scheduler_replies.specs.Replies.{told_fault, report_fault, IsTold, Replies}
 use Rattle.http_routes.specs.declared.reply.Response.{Response}
 use Rattle.http_routes.specs.declared.fault.RouteFault.{RouteFault}
 use Rattle.http_routes.specs.declared.fault.RouteFault.TheVariants as fault
+use Rattle.dist_wire.specs.declared.drain.DrainServerHttpRequest.{DrainServerHttpRequest}
 use Rattle.dist_wire.specs.declared.heartbeat.HeartbeatServerHttpRequest.{HeartbeatServerHttpRequest}
 use Rattle.http_routes.specs.declared.route.SchedRouted.TheVariants as asked
 
@@ -150,6 +151,23 @@ counted_at json now s (Some e) answer response gives told =
     (call.Status now, refl, gives.0, ap (λ (r : Response). Some r) (sym is))
 counted_at json now s None answer response gives told =
     absurd (told_err (status_response json) told_fault answer sched.Memory response gives told)
+
+-- ---- drains
+
+pub drained_at : (json : Bool) (server : Addr) (drain : DrainServerHttpRequest) (now : ℕ) (s : Core)
+    (made : Option CoreEntry) (answer : Result Bool SchedFault) (response : Response)
+    → Gives (call.Drain now server drain.server_nonce drain.draining) TellsDrained WantsMemory s made answer
+    → Replies (drained_response json) told_fault answer response
+    → RepliesAt json (asked.Drain server drain) now s made response
+drained_at json server drain now s (Some e) answer response gives told =
+    let is = told_ok (drained_response json) told_fault answer (knows_of e) response gives.1 told in (
+      call.Drain now server drain.server_nonce drain.draining,
+      refl,
+      gives.0,
+      ap (λ (r : Response). Some r) (sym is),
+    )
+drained_at json server drain now s None answer response gives told =
+    absurd (told_err (drained_response json) told_fault answer sched.Memory response gives told)
 
 -- ---- allocations
 

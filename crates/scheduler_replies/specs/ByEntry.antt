@@ -6,7 +6,7 @@ use Rattle.dist_types.specs.declared.results.AllocJobResult.TheVariants as alloc
 use Rattle.dist_types.specs.declared.results.AssignJobResult.{AssignJobResult}
 use Rattle.core_rules.specs.Answers.{committed_by, undone_by}
 use Rattle.core_rules.specs.Log.{Core}
-use Rattle.core_rules.specs.Rule.{rule, says_new_by, counts_by}
+use Rattle.core_rules.specs.Rule.{rule, says_new_by, counts_by, knows_by}
 use Rattle.core_rules.specs.Texts.{no_room_text}
 use Rattle.core_rules.specs.Ticket.{Ticket}
 use Rattle.core_rules.specs.declared.call.Call.{Call}
@@ -19,7 +19,7 @@ use Rattle.core_rules.specs.declared.entry.UpdateAnswer.{UpdateAnswer}
 use Rattle.core_rules.specs.declared.entry.UpdateAnswer.TheVariants.{Unknown}
 use Rattle.http_routes.specs.Fault.{fault_response_of}
 use Rattle.http_routes.specs.Replies.{heard_response, status_response, alloc_response, update_reply}
-use Rattle.http_routes.specs.Replies.{commit_response}
+use Rattle.http_routes.specs.Replies.{commit_response, drained_response}
 use Rattle.http_routes.specs.declared.fault.RouteFault.TheVariants as fault
 use Rattle.http_routes.specs.declared.reply.Response.{Response}
 use Rattle.http_routes.specs.declared.route.SchedRouted.{SchedRouted}
@@ -34,6 +34,7 @@ call_of now (asked.Beat server beat) = if hears beat.num_cpus
     then Some (call.Beat now server beat.server_nonce beat.num_cpus beat.jwt_key) else None
 call_of now (asked.Update server job state) = Some (call.Update now server job state)
 call_of now asked.Status = Some (call.Status now)
+call_of now (asked.Drain server drain) = Some (call.Drain now server drain.server_nonce drain.draining)
 call_of now (asked.Done response) = None
 
 -- the answer of an update's entry
@@ -55,6 +56,7 @@ reply_by json (asked.Beat server beat) kind = Some (heard_response json (record 
 reply_by json (asked.Update server job state) kind =
     Some (update_reply json (update_by kind) server job state)
 reply_by json asked.Status kind = Some (status_response json (counts_by kind))
+reply_by json (asked.Drain server drain) kind = Some (drained_response json (knows_by kind))
 reply_by json (asked.Done response) kind = Some response
 
 -- the reply where no call is made: to a heartbeat's number of processors, and the one that is known

@@ -6,7 +6,7 @@
 //! reply its entry gives; what a step and `replies` make together is that (`proofs/ReplyLemmas.antt`), so a
 //! farm's next entry and a place of the running log are read alike.
 //!
-//! The layers above use the four functions of `replies`, and in their clauses `Replies` and `RepliesAt`.
+//! The layers above use the five functions of `replies`, and in their clauses `Replies` and `RepliesAt`.
 #![tactic(auto)]
 
 pub mod laws;

@@ -3,6 +3,7 @@
 ghost use Rattle.std.specs.Prelude.{◌≡◌, IfOk};
 ghost use Rattle.http_routes.specs.Fault.{fault_response_of};
 ghost use Rattle.http_routes.specs.Replies.{heard_response, status_response, alloc_response, update_response};
+ghost use Rattle.http_routes.specs.Replies.{drained_response};
 ghost use Rattle.http_routes.specs.Reply.{response_of};
 ghost use Rattle.scheduler_replies.specs.Replies.{told_fault, report_fault, IsTold, Replies};
 
@@ -13,6 +14,7 @@ use dist_types::results::{
     AllocJobResult, HeartbeatServerResult, SchedulerStatusResult, UpdateJobStateResult,
 };
 use dist_wire::alloc::AllocJobHttpResponse;
+use dist_wire::drain::DrainServerResult;
 use dist_wire::message::Message;
 use http_routes::fault::{RouteFault, fault_response};
 use http_routes::reply::{Response, respond};
@@ -105,6 +107,21 @@ pub fn to_counted(
 {
     match answer {
         Ok(answer) => to_message(alloc, json, &answer),
+        Err(fault) => to_fault(alloc, told_fault(fault)),
+    }
+}
+
+/// The reply to a wish to drain, by whether it names a registration.
+#[tactic(auto, unfolding(http_routes::specs::Replies::drained_response))]
+pub fn to_drained(
+    alloc: Global,
+    json: bool,
+    answer: Result<bool, SchedFault>,
+) -> Result<Response, Memory>
+    ensures { IfOk result (Replies (drained_response json) told_fault answer) }
+{
+    match answer {
+        Ok(known) => to_message(alloc, json, &DrainServerResult { known }),
         Err(fault) => to_fault(alloc, told_fault(fault)),
     }
 }
