@@ -12,6 +12,7 @@ use Rattle.dist_types.specs.declared.results.HeartbeatServerResult.{HeartbeatSer
 use Rattle.dist_types.specs.declared.results.JobState.{JobState}
 use Rattle.dist_types.specs.declared.results.SchedulerStatusResult.{SchedulerStatusResult}
 use Rattle.dist_types.specs.declared.results.UpdateJobStateResult.{UpdateJobStateResult}
+use Rattle.dist_wire.specs.declared.drain.DrainServerHttpRequest.{DrainServerHttpRequest}
 use Rattle.dist_wire.specs.declared.heartbeat.HeartbeatServerHttpRequest.{HeartbeatServerHttpRequest}
 use Rattle.core_rules.specs.Answers.{undone_by}
 use Rattle.core_rules.specs.Log.{Core}
@@ -29,15 +30,15 @@ use Rattle.sched_core.specs.declared.answers.Picked.TheVariants as picked
 use Rattle.scheduler_steps.specs.Settling.{judged, settled_by, Answers}
 use Rattle.scheduler_steps.specs.Step.{Gives}
 use Rattle.scheduler_steps.specs.Telling.{hears, TellsReserve, TellsHeard, RefusesHeard, TellsReported}
-use Rattle.scheduler_steps.specs.Telling.{TellsCounted, WantsMemory}
+use Rattle.scheduler_steps.specs.Telling.{TellsCounted, TellsDrained, WantsMemory}
 use Rattle.scheduler_steps.specs.declared.fault.SchedFault.{SchedFault}
 use Rattle.scheduler_steps.specs.declared.fault.SchedFault.TheVariants as sched
 use Rattle.scheduler_steps.specs.declared.settled.Settled.{Settled}
 use Rattle.scheduler_steps.specs.declared.settled.Settled.TheVariants.{Failed}
 use Rattle.scheduler_replies.specs.ByEntry.{reserve_reply, RepliesAt}
 use Rattle.scheduler_replies.specs.Replies.{told_fault, Replies}
-use Rattle.scheduler_replies.proofs.ReplyLemmas.{heard_at, reported_at, counted_at, full_at, spent_at}
-use Rattle.scheduler_replies.proofs.ReplyLemmas.{settled_at, told_err}
+use Rattle.scheduler_replies.proofs.ReplyLemmas.{heard_at, reported_at, counted_at, drained_at, full_at}
+use Rattle.scheduler_replies.proofs.ReplyLemmas.{spent_at, settled_at, told_err}
 use Rattle.http_routes.specs.Replies.{alloc_response}
 use Rattle.http_routes.specs.declared.reply.Response.{Response}
 use Rattle.http_routes.specs.declared.route.SchedRouted.{SchedRouted}
@@ -101,6 +102,18 @@ ruled_status json now s (Some e) answer gives = record {
   replies = some_is_not_none _;
 }
 ruled_status json now s None answer gives = tt
+
+ruled_drain : (json : Bool) (server : Addr) (drain : DrainServerHttpRequest) (now : ℕ) (s : Core)
+    (made : Option CoreEntry) (answer : Result Bool SchedFault)
+    → Gives (call.Drain now server drain.server_nonce drain.draining) TellsDrained WantsMemory s made answer
+    → IfSome made (IsRuled json (asked.Drain server drain) now s)
+ruled_drain json server drain now s (Some e) answer gives = record {
+  asked = call.Drain now server drain.server_nonce drain.draining;
+  asked_is = refl;
+  is = gives.0;
+  replies = some_is_not_none _;
+}
+ruled_drain json server drain now s None answer gives = tt
 
 -- a reserve's entry that says that none has room
 full_replies : {A : Type 0} (key_of : A → List ℕ) (token_for : A → ℕ → List ℕ) (json : Bool)
@@ -314,4 +327,11 @@ done_at json asked.Status old new made done =
     turned json asked.Status old new made _ _ _ done.0 t
     (ruled_status json t.step.now core t.made done.0 t.step.gives) done.3
     (if_made made _ _ (λ r told. counted_at json t.step.now core t.made done.0 r t.step.gives told) done.2)
+done_at json (asked.Drain server drain) old new made done =
+    let t = done.1 in
+    let core = core_before new.pass t.place in
+    turned json (asked.Drain server drain) old new made _ _ _ done.0 t
+    (ruled_drain json server drain t.step.now core t.made done.0 t.step.gives) done.3
+    (if_made made _ _
+    (λ r told. drained_at json server drain t.step.now core t.made done.0 r t.step.gives told) done.2)
 done_at json (asked.Done response) old new made done = done

@@ -11,6 +11,7 @@ use Rattle.dist_types.specs.declared.dialer.Asked.{Asked}
 use Rattle.dist_types.specs.declared.ids.JobId.{JobId}
 use Rattle.dist_types.specs.declared.outgoing.CallFault.{CallFault}
 use Rattle.dist_types.specs.declared.outgoing.CallFault.TheVariants.{Memory}
+use Rattle.dist_types.specs.declared.rules.Rules.{Rules}
 use Rattle.dist_types.specs.declared.results.AssignJobResult.{AssignJobResult}
 use Rattle.dist_types.specs.declared.token_error.TokenError.{TokenError}
 use Rattle.dist_wire.specs.Reading.{assign_at}
@@ -165,20 +166,20 @@ same_admits may_answer shown (Some token) now old before new after said told is 
     sym b.told)) in
     (x_is ∙ (ap (λ (v : Admission). Some v) says ∙ sym y_is), both.1)
 
-same_routing : {K : Type 0} (may_answer : K → ℕ → List ℕ → Result ⊤ TokenError → K → Type 0)
+same_routing : {K : Type 0} (rules : Rules) (may_answer : K → ℕ → List ℕ → Result ⊤ TokenError → K → Type 0)
     (shown : K → TokenError → List ℕ) (serves : List ℕ → Option Addr) (peer : Addr) (request : Option Request)
     (now : ℕ) (old before new after : K) (routed other : SchedRouted) → before ≡ old → AnswersOnce
     may_answer old
-    → Asks may_answer shown serves peer request now old (Ok routed) new
-    → Asks may_answer shown serves peer request now before (Ok other) after
+    → Asks rules may_answer shown serves peer request now old (Ok routed) new
+    → Asks rules may_answer shown serves peer request now before (Ok other) after
     → (routed ≡ other) × (new ≡ after)
-same_routing may_answer shown serves peer None now old before new after routed other is once a b =
+same_routing rules may_answer shown serves peer None now old before new after routed other is once a b =
     (a.0 ∙ sym b.0, a.1 ∙ (sym is ∙ sym b.1))
-same_routing may_answer shown serves peer (Some request) now old before new after routed other is once a b =
+same_routing rules may_answer shown serves peer (Some request) now old before new after routed other is once a b =
     let both = same_admits may_answer shown (client_token request) now old before new after a.said b.said is
     once
     a.admits b.admits in
-    (a.routes ∙ (ap (λ s. answered (asked_of serves request peer s)) both.0 ∙ sym b.routes), both.1)
+    (a.routes ∙ (ap (λ s. answered (asked_of rules serves request peer s)) both.0 ∙ sym b.routes), both.1)
 
 -- ---- what is done
 
@@ -397,6 +398,8 @@ same_done json (asked.Update server job state) old new before after r s coming t
     same_answer json (asked.Update server job state) old new before after r s coming told clock found a b
 same_done json asked.Status old new before after r s coming told clock found alike a b =
     same_answer json asked.Status old new before after r s coming told clock found a b
+same_done json (asked.Drain server drain) old new before after r s coming told clock found alike a b =
+    same_answer json (asked.Drain server drain) old new before after r s coming told clock found a b
 same_done json (asked.Done response) old new before after r s coming told clock found alike a b = (
   ok_same r s (a.0 ∙ sym b.0),
   ap (λ (m : Means). m.clock) a.1 ∙ (sym clock ∙ sym (ap (λ (m : Means). m.clock) b.1)),
@@ -411,8 +414,10 @@ same_replied : {K : Type 0} (may_answer : K → ℕ → List ℕ → Result ⊤ 
     (shown : K → TokenError → List ℕ) (serves : List ℕ → Option Addr) (peer : Addr) (request : Option Request)
     (old new before after : Around K) (r s : Response) (between other : Moments) (routing asked_too : Routing)
     → IsRead old.means.clock between → IsRead before.means.clock other
-    → Asks may_answer shown serves peer request between.last old.client routing new.client
-    → Asks may_answer shown serves peer request other.last before.client asked_too after.client
+    → Asks old.means.pass.start.rules may_answer shown serves peer request between.last old.client routing
+    new.client
+    → Asks before.means.pass.start.rules may_answer shown serves peer request other.last before.client asked_too
+    after.client
     → Does (form_of request) routing (record old.means { clock = between }) new.means (Ok r)
     → Does (form_of request) asked_too (record before.means { clock = other }) after.means (Ok s)
     → MeetAlike may_answer old new before after
@@ -430,12 +435,14 @@ same_replied may_answer shown serves peer request old new before after r s betwe
     let same = same_read old.means.clock between before.means.clock other meet.coming meet.told meet.clock
     read
     read_too in
-    let routes = same_routing may_answer shown serves peer request between.last old.client before.client
+    let routes = same_routing old.means.pass.start.rules may_answer shown serves peer request between.last old.client before.client
     new.client
     after.client routed what meet.client meet.once asks
-    (subst (λ (m : Moments). Asks may_answer shown serves peer request m.last before.client (Ok what)
-    after.client)
-    (sym same) asks_too) in
+    (subst (λ v. Asks v may_answer shown serves peer request between.last before.client (Ok what) after.client)
+    meet.rules
+    (subst (λ (m : Moments). Asks before.means.pass.start.rules may_answer shown serves peer request m.last
+    before.client (Ok what) after.client)
+    (sym same) asks_too)) in
     let end = same_done (form_of request) routed (record old.means { clock = between }) new.means
     (record before.means { clock = other }) after.means r s (drop 1 meet.coming)
     (left_told old.means.clock between meet.coming meet.told read.left) (sym same) meet.found meet.heard done

@@ -18,7 +18,7 @@ use Rattle.sched.specs.Outside.{Moments, IsReadAt, IsCalled}
 use Rattle.sched.specs.Pass.{Adds}
 use Rattle.sched.specs.Turn.{IsCallAt, core_before, count_made, place_made}
 use Rattle.http_routes.specs.declared.route.SchedRouted.{SchedRouted}
-use Rattle.http_routes.specs.declared.route.SchedRouted.TheVariants.{Alloc, Beat, Update, Status, Done}
+use Rattle.http_routes.specs.declared.route.SchedRouted.TheVariants.{Alloc, Beat, Update, Status, Drain, Done}
 use Rattle.http_connections.specs.Served.{MadeReply}
 use Rattle.scheduler_service.specs.Replied.{Means, AsksNobody, requests_over, job_token}
 use Rattle.scheduler_service.specs.Requested.{IsAskedFor}
@@ -84,4 +84,5 @@ IsDoneAt json (Alloc tc) old new made = IsAnswered json (Alloc tc) old new made 
 IsDoneAt json (Beat server beat) old new made = IsAnswered json (Beat server beat) old new made
 IsDoneAt json (Update server job state) old new made = IsAnswered json (Update server job state) old new made
 IsDoneAt json Status old new made = IsAnswered json Status old new made
+IsDoneAt json (Drain server drain) old new made = IsAnswered json (Drain server drain) old new made
 IsDoneAt json (Done response) old new made = (made ≡ Ok response) × (new ≡ old)

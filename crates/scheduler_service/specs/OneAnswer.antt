@@ -42,11 +42,12 @@ abbrev pub AnswersOnce : {K : Type 0} → (K → ℕ → List ℕ → Result ⊤
 AnswersOnce {K} may_answer check = (now : ℕ) (token : List ℕ) (a b : Result ⊤ TokenError) (new other : K)
     → may_answer check now token a new → may_answer check now token b other → (a ≡ b) × (new ≡ other)
 
--- Two connections meet the same: their check of clients, which answers one thing, and the moments that
--- their clock will give; each call that makes an entry finds the same log; and the same is answered to what
+-- Two connections meet the same: the rules, their check of clients, which answers one thing, and the moments
+-- that their clock will give; each call that makes an entry finds the same log; and the same is answered to what
 -- is asked.
 pub record MeetAlike {K : Type 0} (may_answer : K → ℕ → List ℕ → Result ⊤ TokenError → K → Type 0)
     (old new before after : Around K) : Type 0 where
+  pub rules : before.means.pass.start.rules ≡ old.means.pass.start.rules
   pub client : before.client ≡ old.client
   pub once : AnswersOnce may_answer old.client
   pub coming : List ℕ
