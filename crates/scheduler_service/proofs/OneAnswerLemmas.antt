@@ -435,8 +435,8 @@ same_replied may_answer shown serves peer request old new before after r s betwe
     let same = same_read old.means.clock between before.means.clock other meet.coming meet.told meet.clock
     read
     read_too in
-    let routes = same_routing old.means.pass.start.rules may_answer shown serves peer request between.last old.client before.client
-    new.client
+    let routes = same_routing old.means.pass.start.rules may_answer shown serves peer request between.last
+    old.client before.client new.client
     after.client routed what meet.client meet.once asks
     (subst (λ v. Asks v may_answer shown serves peer request between.last before.client (Ok what) after.client)
     meet.rules

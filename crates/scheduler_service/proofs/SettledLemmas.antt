@@ -68,8 +68,8 @@ pub replied_whole : {K : Type 0} (rules : Rules) (may_answer : K → ℕ → Lis
     (shown : K → TokenError → List ℕ) (refuses : K → List ℕ → Bool) (law : Refusals may_answer refuses)
     (serves : List ℕ → Option Addr) (peer : Addr) (old new : Around K)
     (made : MadeReply) → rules ≡ old.means.pass.start.rules
-    → AsWhole (λ r. IsSettledAt rules (refuses old.client) serves r peer) (IsReplied may_answer shown serves peer) old new
-    made
+    → AsWhole (λ r. IsSettledAt rules (refuses old.client) serves r peer) (IsReplied may_answer shown serves peer)
+    old new made
 replied_whole rules may_answer shown refuses law serves peer old new made same whole taken (inl is) did =
     subst (λ r. IsReplied may_answer shown serves peer (Some r) old new made) is did
 replied_whole rules may_answer shown refuses law serves peer old new made same whole taken (inr (settled, is)) did =

@@ -49,8 +49,8 @@ fn allocated<R: Wait, D: Dialer, C: Clock>(
     scheduler.handle_alloc_job(rt, pass, clock, &mut asking, tc)
 }
 
-/// Does what is asked of the scheduler; a drain is asked by version 2 of the rules alone. Refused for want of memory alone: where the call that does it was, or
-/// where there is none for the reply to what it answered.
+/// Does what is asked of the scheduler; a drain is asked by version 2 of the rules alone. Refused for want of
+/// memory alone: where the call that does it was, or where there is none for the reply to what it answered.
 pub fn answer<R: Wait, D: Dialer, C: Clock>(
     rt: &R,
     alloc: Global,

@@ -27,8 +27,8 @@ use sched::scheduler::Scheduler;
 use std::alloc::Global;
 use std::sync::Wait;
 
-/// What was taken asks at the moment that the clock gives, by those rules. Refused for want of memory alone, and then nothing
-/// is done.
+/// What was taken asks at the moment that the clock gives, by those rules. Refused for want of memory alone,
+/// and then nothing is done.
 fn routed<C: Clock, K: ClientAuthCheck, V: ServerAuthCheck>(
     alloc: Global,
     peer: Addr,

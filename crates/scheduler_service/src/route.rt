@@ -10,8 +10,8 @@ use http_routes::refusal::{Refusal, refusal_response};
 use http_routes::route::{SchedRouted, scheduler_route};
 use std::alloc::Global;
 
-/// What is asked at a moment, by those rules, or the reply where there is nothing more to do. Refused for want of memory
-/// alone, and then the check of clients was asked once at most.
+/// What is asked at a moment, by those rules, or the reply where there is nothing more to do. Refused for want
+/// of memory alone, and then the check of clients was asked once at most.
 pub fn route<K: ClientAuthCheck, V: ServerAuthCheck>(
     alloc: Global,
     request: &Option<Request>,

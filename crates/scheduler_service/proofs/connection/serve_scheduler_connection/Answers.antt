@@ -9,7 +9,7 @@ use Rattle.scheduler_service.proofs.connection.serve_scheduler_connection.Goals 
 
 pub returns-in-Ok-answer-clause-served : goal.returns-in-Ok-answer-clause-served
 returns-in-Ok-answer-clause-served g c =
-    let same_rules = c.rules-rules.ensures ∙ ap (λ (s : Start). s.rules) (sym c.requires.start) in
+    let same_rules = c.rules-rules.ensures.rules ∙ ap (λ (s : Start). s.rules) (sym c.requires.pass.start) in
     let refusals = (g.met.K.ClientAuthCheck g.world.𝓛 g.world.𝓜 g.world.𝓡
     ((λ s x. x), (λ x. x), (λ x. x), λ x. x)).refusals in
     let alone = g.met.L.Link.writes_alone in
@@ -52,18 +52,19 @@ returns-in-Ok-answer-clause-served g c =
 
 pub returns-in-Err-clause-served : goal.returns-in-Err-clause-served
 returns-in-Err-clause-served g c =
-    let same_rules = c.rules-rules.ensures ∙ ap (λ (s : Start). s.rules) (sym c.requires.start) in
+    let same_rules = c.rules-rules.ensures.rules ∙ ap (λ (s : Start). s.rules) (sym c.requires.pass.start) in
     let refusals = (g.met.K.ClientAuthCheck g.world.𝓛 g.world.𝓜 g.world.𝓡
     ((λ s x. x), (λ x. x), (λ x. x), λ x. x)).refusals in
     unsent _ _ _ _ c.in-Ok.request c.in-Err.field-0 _ _ _ _ _ _ _ _ c.in-Ok.ensures.cut
     c.in-Ok.ensures.writes.0 (replied_whole c.rules-rules.result _ _ _ refusals _ _ _ _ _ same_rules)
     (unrouted c.rules-rules.result _ _ _ _ c.in-Ok.request _ _ _
     (record { coming = g.C.Clock.moments c.routed.new.clock; last = g.C.Clock.last c.routed.new.clock })
-    c.in-Err.field-0 c.in-Err.field-0 (Err c.in-Err.field-0) same_rules c.in-Err.ensures.read c.in-Err.ensures.asks refl)
+    c.in-Err.field-0 c.in-Err.field-0 (Err c.in-Err.field-0) same_rules c.in-Err.ensures.read
+    c.in-Err.ensures.asks refl)
 
 pub returns-clause-served : goal.returns-clause-served
 returns-clause-served g c =
-    let same_rules = c.rules-rules.ensures ∙ ap (λ (s : Start). s.rules) (sym c.requires.start) in
+    let same_rules = c.rules-rules.ensures.rules ∙ ap (λ (s : Start). s.rules) (sym c.requires.pass.start) in
     let refusals = (g.met.K.ClientAuthCheck g.world.𝓛 g.world.𝓜 g.world.𝓡
     ((λ s x. x), (λ x. x), (λ x. x), λ x. x)).refusals in
     unsent _ _ _ _ c.in-Ok.request c.in-Err-answer.field-0 _ _ _ _ _ _ _ _ c.in-Ok.ensures.cut
@@ -96,6 +97,6 @@ returns-clause-served g c =
 
 pub answer-requires-clause-version : goal.answer-requires-clause-version
 answer-requires-clause-version g c = λ server drain is.
-    sym c.rules-rules.ensures
+    sym c.rules-rules.ensures.rules
     ∙ drains_by_two c.rules-rules.result _ _ _ _ c.in-Ok.request _ _ _ c.in-Ok-routed.routing server drain
     c.in-Ok-routed.ensures.asks is
