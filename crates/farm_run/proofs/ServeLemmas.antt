@@ -104,6 +104,7 @@ answered_by s number at json (asked.Beat server beat) =
     (call.Beat at server beat.server_nonce beat.num_cpus beat.jwt_key) _ _ refl refl
 answered_by s number at json (asked.Update server job state) = refl
 answered_by s number at json asked.Status = refl
+answered_by s number at json (asked.Drain server drain) = refl
 answered_by s number at json (asked.Done response) = refl
 
 -- the reply of the entry that was made is the answer

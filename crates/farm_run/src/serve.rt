@@ -1,10 +1,12 @@
 //! What the scheduler does with what comes to it.
 ghost use Rattle.std.specs.Prelude.{◌≡◌, length, IfOk, IfErr, OnOk, Option, Some};
 ghost use Rattle.core_rules.specs.Log.{Core as Seen};
+ghost use Rattle.dist_types.specs.declared.rules.Rules.TheVariants.{One};
 ghost use Rattle.core_rules.specs.declared.entry.CoreEntry.{CoreEntry as Entry};
 ghost use Rattle.http_routes.specs.Admission.{equal_admission};
 ghost use Rattle.http_routes.specs.Asked.{IsAskedUnder};
 ghost use Rattle.http_routes.specs.Replies.{alloc_response};
+ghost use Rattle.http_routes.specs.Route.{IsNoDrain};
 ghost use Rattle.http_routes.specs.declared.reply.Response.{Response};
 ghost use Rattle.http_routes.specs.declared.route.SchedRouted.TheVariants as asked;
 ghost use Rattle.std.specs.Result.{result_ok};
@@ -28,6 +30,7 @@ use dist_types::fault::Memory;
 use dist_types::ids::{JobId, ServerId};
 use dist_types::results::{AllocJobResult, JobState};
 use dist_types::roles::JobAuthorizer;
+use dist_types::rules::Rules;
 use dist_types::toolchain::Toolchain;
 use dist_wire::heartbeat::HeartbeatServerHttpRequest;
 use farm_entries::entry::{Effect, OutCall};
@@ -37,7 +40,7 @@ use farm_script::setup::SetupAuth;
 use http_routes::asked::{asked, asked_under};
 use http_routes::replies::want_of_memory;
 use http_routes::requests::assign_request;
-use http_routes::route::{Asked, SchedRouted};
+use http_routes::route::{Asked, SchedRouted, Terms};
 use line_program::fault::FarmFault;
 use sched_core::answers::Picked;
 use sched_core::reservation::Reservation;
@@ -72,13 +75,17 @@ fn asked_by_key(
     key: &[u8],
 ) -> Result<Asked, FarmFault>
     ensures ok { IfOk result
-        (IsAskedUnder (equal_admission client.now) (λ shown. result_ok (server_verdict key.now shown))
+        (IsAskedUnder One (equal_admission client.now) (λ shown. result_ok (server_verdict key.now shown))
         bytes.now peer) }
     ensures err { IfErr result (λ e. e ≡ fault.Memory) }
 {
     let mut client = EqCheck::new(String::from_str(alloc, client)?);
     let server = JwtServerCheck::new(Vec::from_slice(alloc, key)?);
-    match asked_under(alloc, bytes, peer, &mut client, &server) {
+    let terms = Terms {
+        peer,
+        rules: Rules::One,
+    };
+    match asked_under(alloc, bytes, terms, &mut client, &server) {
         Ok(question) => Ok(question),
         Err(error) => Err(FarmFault::from(want_of_memory(error))),
     }
@@ -90,8 +97,12 @@ fn question(alloc: Global, setup: &Site, peer: Addr, bytes: &[u8]) -> Result<Ask
     ensures err { IfErr result (λ e. e ≡ fault.Memory) }
 {
     let client = setup.scheduler.client.get();
+    let terms = Terms {
+        peer,
+        rules: Rules::One,
+    };
     match &setup.scheduler.auth {
-        SetupAuth::Plain(token) => match asked(alloc, bytes, peer, client, token.get()) {
+        SetupAuth::Plain(token) => match asked(alloc, bytes, terms, client, token.get()) {
             Ok(question) => Ok(question),
             Err(error) => Err(FarmFault::from(want_of_memory(error))),
         },
@@ -299,6 +310,7 @@ fn serve_asked(
     turn: Turn,
     what: SchedRouted,
 ) -> Result<Made, FarmFault>
+    requires { IsNoDrain what }
     ensures answer { IfOk result
         (λ m. m.effect ≡ answer_to state.old turn.root turn.at turn.json what) }
     ensures kept { IfOk result
@@ -320,6 +332,7 @@ fn serve_asked(
             let effect = count(alloc, state, turn)?;
             Ok(Made::whole(effect))
         }
+        SchedRouted::Drain(_, _) => unreachable!(),
         SchedRouted::Done(response) => {
             let reply = reply(alloc, turn.root, &response)?;
             Ok(Made::whole(Effect::of_reply(None, reply)))

@@ -8,6 +8,7 @@ use Rattle.std.proofs.lemmas.Fmt.{digits_decimal, decimal_nonempty}
 use Rattle.dist_types.specs.declared.addr.Addr.{Addr}
 use Rattle.dist_types.specs.declared.ids.JobId.{JobId}
 use Rattle.dist_types.specs.declared.results.JobState.{JobState}
+use Rattle.dist_types.specs.declared.rules.Rules.{Rules}
 use Rattle.dist_types.specs.declared.token_error.TokenError.{TokenError}
 use Rattle.dist_types.specs.Addr.{ip_of, addr_text, IsAddr}
 use Rattle.dist_wire.specs.Spelling.{SpellsToolchain, SpellsHeartbeat, SpellsRun}
@@ -51,6 +52,16 @@ heartbeat_path = record {
   others = codes "v1" ∷ codes "scheduler" ∷ codes "heartbeat_server" ∷ [];
   some = lit< tt;
   each = plain_segments (codes "api" ∷ codes "v1" ∷ codes "scheduler" ∷ codes "heartbeat_server" ∷ [])
+      ((lit< tt, refl), ((lit< tt, refl), ((lit< tt, refl), ((lit< tt, refl), record {}))));
+  joined = refl;
+}
+
+pub drain_path : IsAbsolutePath (codes "/api/v1/scheduler/drain_server")
+drain_path = record {
+  first = codes "api";
+  others = codes "v1" ∷ codes "scheduler" ∷ codes "drain_server" ∷ [];
+  some = lit< tt;
+  each = plain_segments (codes "api" ∷ codes "v1" ∷ codes "scheduler" ∷ codes "drain_server" ∷ [])
       ((lit< tt, refl), ((lit< tt, refl), ((lit< tt, refl), ((lit< tt, refl), record {}))));
   joined = refl;
 }
@@ -131,11 +142,12 @@ run_path n fits = record {
 module _ (base : Parts) (valid : IsValid base) (http : IsHttp base) where
   pub alloc_asks : (token tc : List ℕ) → SpellsToolchain tc (bytes_text tc) → IsToken token
       → IsWithinLimits (alloc_request base token tc)
-      → (lets : List ℕ → Admission) (serves : List ℕ → Option Addr) (peer : Addr) → lets token ≡ Admitted
-      → IsAskedUnder lets serves (request_text (alloc_request base token tc)) peer
+      → (rules : Rules) (lets : List ℕ → Admission) (serves : List ℕ → Option Addr) (peer : Addr)
+      → lets token ≡ Admitted
+      → IsAskedUnder rules lets serves (request_text (alloc_request base token tc)) peer
       (record { what = Alloc tc; json = false })
-  alloc_asks token tc spelled carried limits lets serves peer admitted =
-      allocations_read_back lets serves peer (host_of base) token tc record {
+  alloc_asks token tc spelled carried limits rules lets serves peer admitted =
+      allocations_read_back rules lets serves peer (host_of base) token tc record {
         visible =
             (clean base valid http).host;
         carried = carried;
@@ -143,20 +155,20 @@ module _ (base : Parts) (valid : IsValid base) (http : IsHttp base) where
       } spelled admitted
 
   pub status_asks : IsWithinLimits (status_request base)
-      → (lets : List ℕ → Admission) (serves : List ℕ → Option Addr) (peer : Addr)
-      → IsAskedUnder lets serves (request_text (status_request base)) peer
+      → (rules : Rules) (lets : List ℕ → Admission) (serves : List ℕ → Option Addr) (peer : Addr)
+      → IsAskedUnder rules lets serves (request_text (status_request base)) peer
       (record { what = Status; json = false })
-  status_asks limits lets serves peer =
-      statuses_read_back lets serves peer (host_of base) (clean base valid http).host limits
+  status_asks limits rules lets serves peer =
+      statuses_read_back rules lets serves peer (host_of base) (clean base valid http).host limits
 
   pub state_asks : (token : List ℕ) (job : JobId) (state : JobState) → job.0 < 2 ^ 64 → IsToken token
       → IsWithinLimits (state_request base token job state)
-      → (lets : List ℕ → Admission) (serves : List ℕ → Option Addr) (peer server : Addr)
+      → (rules : Rules) (lets : List ℕ → Admission) (serves : List ℕ → Option Addr) (peer server : Addr)
       → serves token ≡ Some server → ip_of peer ≡ ip_of server
-      → IsAskedUnder lets serves (request_text (state_request base token job state)) peer
+      → IsAskedUnder rules lets serves (request_text (state_request base token job state)) peer
       (record { what = Update server job state; json = false })
-  state_asks token job state fits carried limits lets serves peer server own ip =
-      states_read_back lets serves peer (host_of base) token job state server record {
+  state_asks token job state fits carried limits rules lets serves peer server own ip =
+      states_read_back rules lets serves peer (host_of base) token job state server record {
         visible =
             (clean base valid http).host;
         carried = carried;
@@ -166,12 +178,12 @@ module _ (base : Parts) (valid : IsValid base) (http : IsHttp base) where
   pub heartbeat_asks : (token : List ℕ) (beat : HeartbeatServerHttpRequest)
       → SpellsHeartbeat beat (heartbeat_text beat) → IsToken token
       → IsWithinLimits (heartbeat_request base token beat)
-      → (lets : List ℕ → Admission) (serves : List ℕ → Option Addr) (peer server : Addr)
+      → (rules : Rules) (lets : List ℕ → Admission) (serves : List ℕ → Option Addr) (peer server : Addr)
       → serves token ≡ Some server → ip_of peer ≡ ip_of server
-      → IsAskedUnder lets serves (request_text (heartbeat_request base token beat)) peer
+      → IsAskedUnder rules lets serves (request_text (heartbeat_request base token beat)) peer
       (record { what = Beat server beat; json = false })
-  heartbeat_asks token beat spelled carried limits lets serves peer server own ip =
-      heartbeats_read_back lets serves peer (host_of base) token beat server record {
+  heartbeat_asks token beat spelled carried limits rules lets serves peer server own ip =
+      heartbeats_read_back rules lets serves peer (host_of base) token beat server record {
         visible =
             (clean base valid http).host;
         carried = carried;

@@ -1,6 +1,7 @@
 //! The call that asks the scheduler for a job.
 ghost use Rattle.std.specs.Prelude.{◌≡◌, ◌↔◌, Err, IsErr, false, List, ℕ, Option, OnOk, IfOk, IfErr};
 ghost use Rattle.dist_types.specs.declared.addr.Addr.{Addr};
+ghost use Rattle.dist_types.specs.declared.rules.Rules.{Rules};
 ghost use Rattle.dist_wire.specs.Reading as wire;
 ghost use Rattle.http_head.specs.WrittenRequest.{request_text, IsToken, IsWithinLimits};
 ghost use Rattle.http_routes.specs.declared.admission.Admission.{Admission};
@@ -51,9 +52,9 @@ impl AllocCall {
         ensures text { IfOk result (λ call. call ≡ request_text (alloc_request base.now token.now tc.now)) }
         ensures asks { IfOk result (λ call. IsToken token.now
             → IsWithinLimits (alloc_request base.now token.now tc.now)
-            → (lets : List ℕ → Admission) (serves : List ℕ → Option Addr) (peer : Addr)
-            → lets token.now ≡ Admitted
-            → IsAskedUnder lets serves call peer (record { what = Alloc tc.now; json = false })) }
+            → (rules : Rules) (lets : List ℕ → Admission) (serves : List ℕ → Option Addr)
+            (peer : Addr) → lets token.now ≡ Admitted
+            → IsAskedUnder rules lets serves call peer (record { what = Alloc tc.now; json = false })) }
         ensures http { OnOk result (IsHttp base.now) }
         ensures err { IfErr result (RefusesBase base.now) }
     {

@@ -2,6 +2,7 @@
 ghost use Rattle.std.specs.Prelude.{◌≡◌, ℕ, List, Option, Some, IfOk, IfErr, false};
 ghost use Rattle.dist_types.specs.Addr.{ip_of};
 ghost use Rattle.dist_types.specs.declared.addr.Addr.{Addr};
+ghost use Rattle.dist_types.specs.declared.rules.Rules.{Rules};
 ghost use Rattle.http_head.specs.WrittenRequest.{request_text, IsToken, IsWithinLimits};
 ghost use Rattle.http_routes.specs.declared.admission.Admission.{Admission};
 ghost use Rattle.http_routes.specs.declared.route.SchedRouted.TheVariants.{Update, Beat};
@@ -31,9 +32,11 @@ pub fn state_report(
     ensures text { IfOk result (λ bytes. bytes ≡ request_text (state_request base.now token.now job state)) }
     ensures asks { IfOk result (λ bytes. IsToken token.now
         → IsWithinLimits (state_request base.now token.now job state)
-        → (lets : List ℕ → Admission) (serves : List ℕ → Option Addr) (peer server : Addr)
+        → (rules : Rules) (lets : List ℕ → Admission) (serves : List ℕ → Option Addr)
+        (peer server : Addr)
         → serves token.now ≡ Some server → ip_of peer ≡ ip_of server
-        → IsAskedUnder lets serves bytes peer (record { what = Update server job state; json = false })) }
+        → IsAskedUnder rules lets serves bytes peer
+        (record { what = Update server job state; json = false })) }
     ensures err { IfErr result (RefusesBase base.now) }
 {
     let bytes = state_text(alloc, base, token, job, state)?;
@@ -54,9 +57,11 @@ pub fn heartbeat(
         (λ bytes. bytes ≡ request_text (heartbeat_request base.now token.now beat.now)) }
     ensures asks { IfOk result (λ bytes. IsToken token.now
         → IsWithinLimits (heartbeat_request base.now token.now beat.now)
-        → (lets : List ℕ → Admission) (serves : List ℕ → Option Addr) (peer server : Addr)
+        → (rules : Rules) (lets : List ℕ → Admission) (serves : List ℕ → Option Addr)
+        (peer server : Addr)
         → serves token.now ≡ Some server → ip_of peer ≡ ip_of server
-        → IsAskedUnder lets serves bytes peer (record { what = Beat server beat.now; json = false })) }
+        → IsAskedUnder rules lets serves bytes peer
+        (record { what = Beat server beat.now; json = false })) }
     ensures err { IfErr result (RefusesBase base.now) }
 {
     let bytes = heartbeat_text(alloc, base, token, beat)?;

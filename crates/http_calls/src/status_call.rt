@@ -1,6 +1,7 @@
 //! The call that asks the scheduler for its status.
 ghost use Rattle.std.specs.Prelude.{◌≡◌, ◌↔◌, Err, IsErr, false, List, ℕ, Option, OnOk, IfOk, IfErr};
 ghost use Rattle.dist_types.specs.declared.addr.Addr.{Addr};
+ghost use Rattle.dist_types.specs.declared.rules.Rules.{Rules};
 ghost use Rattle.dist_wire.specs.Reading as wire;
 ghost use Rattle.http_head.specs.WrittenRequest.{request_text, IsWithinLimits};
 ghost use Rattle.http_routes.specs.declared.admission.Admission.{Admission};
@@ -42,8 +43,9 @@ impl StatusCall {
     pub fn start(alloc: Global, base: &Url) -> Result<StatusCall, CallError>
         ensures text { IfOk result (λ call. call ≡ request_text (status_request base.now)) }
         ensures asks { IfOk result (λ call. IsWithinLimits (status_request base.now)
-            → (lets : List ℕ → Admission) (serves : List ℕ → Option Addr) (peer : Addr)
-            → IsAskedUnder lets serves call peer (record { what = Status; json = false })) }
+            → (rules : Rules) (lets : List ℕ → Admission) (serves : List ℕ → Option Addr)
+            (peer : Addr)
+            → IsAskedUnder rules lets serves call peer (record { what = Status; json = false })) }
         ensures http { OnOk result (IsHttp base.now) }
         ensures err { IfErr result (RefusesBase base.now) }
     {

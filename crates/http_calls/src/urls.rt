@@ -68,6 +68,20 @@ pub fn scheduler_heartbeat_server(base: &Url) -> Result<Url, CallError>
     Ok(url)
 }
 
+/// Where it is told that a server is to drain: BadBase exactly where the base's scheme is not `http`; else
+/// refused for want of memory alone.
+#[tactic(auto, using(crate::proofs::CallLemmas::drain_path))]
+pub fn scheduler_drain_server(base: &Url) -> Result<Url, CallError>
+    ensures http { OnOk result (IsHttp base.now) }
+    ensures ok { IfOk result (λ url. url ≡ at_path base.now (codes "/api/v1/scheduler/drain_server")) }
+    ensures valid { IsValid base.now }
+    ensures err { IfErr result (RefusesBase base.now) }
+{
+    tested(base)?;
+    let url = joined(base, "/api/v1/scheduler/drain_server")?;
+    Ok(url)
+}
+
 /// Where the status is asked for: BadBase exactly where the base's scheme is not `http`; else refused for
 /// want of memory alone.
 #[tactic(auto, using(crate::proofs::CallLemmas::status_path))]

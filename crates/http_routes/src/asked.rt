@@ -41,15 +41,8 @@ pub fn asked_of_checks<K: ClientAuthCheck, V: ServerAuthCheck>(
     match read_head(alloc, bytes) {
         Ok(request) => {
             let json = wants_json(&request);
-            let what = scheduler_route(
-                alloc,
-                &request,
-                terms.peer,
-                now,
-                client,
-                server,
-                terms.rules,
-            )?;
+            let Terms { peer, rules } = terms;
+            let what = scheduler_route(alloc, &request, peer, now, client, server, rules)?;
             Ok(Asked { what, json })
         }
         Err(HttpError::BadHead) => bad_question(alloc),

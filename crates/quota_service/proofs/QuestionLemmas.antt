@@ -1,10 +1,11 @@
 -- What a request asks under the check of listed names; and who asks for a job is listed.
 use Rattle.std.proofs.Common.{◌≡◌, ◌≢◌, ℕ, Bool, true, false, cond, List, Option, Some, None, Result, Ok, Err}
-use Rattle.std.proofs.Common.{refl, sym, ap, ◌∙◌}
+use Rattle.std.proofs.Common.{refl, sym, ap, subst, ◌∙◌}
 use Rattle.std.specs.Prelude.{⊤, codes, is_some, option_map}
 use Rattle.dist_types.specs.declared.addr.Addr.{Addr}
 use Rattle.dist_types.specs.declared.ids.JobId.{JobId}
 use Rattle.dist_types.specs.declared.results.JobState.{JobState}
+use Rattle.dist_types.specs.declared.rules.Rules.TheVariants.{One}
 use Rattle.dist_types.specs.declared.token_error.TokenError.{TokenError}
 use Rattle.dist_token.specs.Checks.{fixed_shown}
 use Rattle.dist_wire.specs.Reading.{toolchain_at, heartbeat_at, state_at}
@@ -14,8 +15,9 @@ use Rattle.http_head.specs.Bearer.{token_in}
 use Rattle.http_head.specs.Fields.{header}
 use Rattle.http_routes.specs.Admission.{client_token, admission_by, Admits}
 use Rattle.http_routes.specs.Message.{message_in}
-use Rattle.http_routes.specs.Place.{is_at, state_job, of_job}
-use Rattle.http_routes.specs.Route.{alloc_of, beat_of, update_of, report_of, asked_of, answered, said_by, IsRouted}
+use Rattle.http_routes.specs.Place.{is_at, at_drain, state_job, of_job}
+use Rattle.http_routes.specs.Route.{alloc_of, beat_of, update_of, report_of, asked_of, answered, said_by}
+use Rattle.http_routes.specs.Route.{IsRouted, IsNoDrain}
 use Rattle.http_routes.specs.Sender.{client_test, server_of}
 use Rattle.http_routes.specs.declared.admission.Admission.{Admission}
 use Rattle.http_routes.specs.declared.admission.Admission.TheVariants as says
@@ -25,6 +27,7 @@ use Rattle.http_routes.specs.declared.route.SchedRouted.{SchedRouted}
 use Rattle.http_routes.specs.declared.route.SchedRouted.TheVariants.{Alloc, Beat, Update, Status}
 use Rattle.http_routes.proofs.RouteLemmas.{post_alloc, post_beat, get_status, said_there}
 use Rattle.http_routes.proofs.StepLemmas.{two_ok}
+use Rattle.http_routes.proofs.VersionLemmas.{no_request_drains}
 use Rattle.quota.specs.Clients.{Client, place_of}
 use Rattle.quota_service.specs.Listed.{listed_verdict, verdict_at}
 use Rattle.quota_service.specs.Question.{listed_admission, what_of, asker_of, is_listed}
@@ -46,10 +49,10 @@ listed_admits (Some token) now old new said (says, is, a) =
 
 pub routed_listed : (serves : List ℕ → Option Addr) (r : Request) (peer : Addr) (now : ℕ)
     (old new : List Client) (routed : SchedRouted)
-    → IsRouted may_listed shows_fixed serves r peer now old routed new
+    → IsRouted One may_listed shows_fixed serves r peer now old routed new
     → routed ≡ what_of old serves peer (Some r)
 routed_listed serves r peer now old new routed is =
-    is.routes ∙ ap (λ (s : Option Admission). answered (asked_of serves r peer s))
+    is.routes ∙ ap (λ (s : Option Admission). answered (asked_of One serves r peer s))
     (listed_admits (client_token r) now old new is.said is.admits)
 
 -- ---- who asks for a job
@@ -83,9 +86,9 @@ update_no_alloc serves r peer job tc = λ is.
 
 -- a request for a job is at its place, and the check lets its client in
 asks_admitted : (serves : List ℕ → Option Addr) (r : Request) (peer : Addr) (said : Option Admission)
-    (tc : List ℕ) → asked_of serves r peer said ≡ Ok (Alloc tc)
+    (tc : List ℕ) → asked_of One serves r peer said ≡ Ok (Alloc tc)
     → (post_alloc r ≡ true) × (said ≡ Some says.Admitted)
-unfolding asked_of report_of
+unfolding asked_of report_of at_drain
 asks_admitted serves r peer said tc is = by_tests (post_alloc r) (post_beat r) (get_status r) (state_job r) refl is
   where
     by_tests : (a b s : Bool) (j : Option JobId) → post_alloc r ≡ a
@@ -126,6 +129,14 @@ asks_listed clients serves peer None what asks tc is = absurd (let both = sym as
 asks_listed clients serves peer (Some r) what asks tc is =
     let lets = listed_admission clients in
     let a = asks_admitted serves r peer (said_by lets r) tc
-    (asked_at_all (asked_of serves r peer (said_by lets r)) tc (sym asks ∙ is)) in
+    (asked_at_all (asked_of One serves r peer (said_by lets r)) tc (sym asks ∙ is)) in
     admitted_listed clients (token_in (header (codes "authorization") r.headers))
     (sym (said_there lets r a.0) ∙ a.1)
+
+-- and nobody asks for a drain
+pub asks_no_drain : (clients : List Client) (serves : List ℕ → Option Addr) (peer : Addr)
+    (request : Option Request) (what : SchedRouted) → what ≡ what_of clients serves peer request
+    → IsNoDrain what
+asks_no_drain clients serves peer None what asks = subst IsNoDrain (sym asks) (λ server drain is. absurd cc)
+asks_no_drain clients serves peer (Some r) what asks = subst IsNoDrain (sym asks)
+    (no_request_drains serves r peer (said_by (listed_admission clients) r))

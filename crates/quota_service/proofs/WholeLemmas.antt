@@ -4,6 +4,7 @@ use Rattle.std.proofs.Common.{◌∙◌, subst, inl, inr}
 use Rattle.std.specs.Prelude.{⊤, is_err, option_map}
 use Rattle.dist_types.specs.declared.addr.Addr.{Addr}
 use Rattle.dist_types.specs.declared.fault.Memory as want
+use Rattle.dist_types.specs.declared.rules.Rules.TheVariants.{One}
 use Rattle.dist_types.specs.declared.token_error.TokenError.{TokenError}
 use Rattle.dist_token.specs.Checks.{fixed_shown}
 use Rattle.http_head.specs.declared.request.Request.{Request}
@@ -42,16 +43,17 @@ may_say clients (Some token) = λ refused is.
 
 -- a request whose head settles what it asks, asks the same with any body
 same_what : (clients : List Client) (serves : List ℕ → Option Addr) (peer : Addr) (r : Request) (body : List ℕ)
-    → IsSettledAt (listed_refuses clients) serves r peer
+    → IsSettledAt One (listed_refuses clients) serves r peer
     → what_of clients serves peer (Some (with_body r body)) ≡ what_of clients serves peer (Some r)
 same_what clients serves peer r body settled =
-    ap (λ t. answered (asked_of serves (with_body r body) peer (option_map (listed_admission clients) t)))
+    ap
+    (λ t. answered (asked_of One serves (with_body r body) peer (option_map (listed_admission clients) t)))
     (same_client r body)
     ∙ ap answered (settled body (option_map (listed_admission clients) (client_token r))
     (may_say clients (client_token r)))
 
 answered_alike : (serves : List ℕ → Option Addr) (peer : Addr) (r : Request) (body : List ℕ) (now : ℕ)
-    (old new : Means) (made : MadeReply) → IsSettledAt (listed_refuses old.quota.clients) serves r peer
+    (old new : Means) (made : MadeReply) → IsSettledAt One (listed_refuses old.quota.clients) serves r peer
     → IsAnswered serves peer (Some r) now old new made
     → IsAnswered serves peer (Some (with_body r body)) now old new made
 answered_alike serves peer r body now old new made settled (inl none) = inl none
@@ -63,8 +65,8 @@ answered_alike serves peer r body now old new made settled (inr done) =
 
 -- a request that asks the same with any body is replied to as it would be with its own
 pub replied_whole : (serves : List ℕ → Option Addr) (peer : Addr) (old new : Means) (made : MadeReply)
-    → AsWhole (λ r. IsSettledAt (listed_refuses old.quota.clients) serves r peer) (IsReplied serves peer) old new
-    made
+    → AsWhole (λ r. IsSettledAt One (listed_refuses old.quota.clients) serves r peer) (IsReplied serves peer)
+    old new made
 replied_whole serves peer old new made whole taken (inl is) did =
     subst (λ r. IsReplied serves peer (Some r) old new made) is did
 replied_whole serves peer old new made whole taken (inr (settled, is)) did =

@@ -1,6 +1,7 @@
 -- What a connection asks of a scheduler with quotas.
 use Rattle.std.specs.Prelude.{ℕ, List, Bool, false, is_some, codes, Option, Some, None}
 use Rattle.dist_types.specs.declared.addr.Addr.{Addr}
+use Rattle.dist_types.specs.declared.rules.Rules.TheVariants.{One}
 use Rattle.dist_token.specs.Checks.{fixed_shown}
 use Rattle.http_head.specs.declared.request.Request.{Request}
 use Rattle.http_head.specs.Bearer.{token_in}
@@ -20,11 +21,11 @@ use Rattle.quota_service.specs.Listed.{listed_verdict}
 abbrev pub listed_admission : List Client → List ℕ → Admission
 listed_admission clients token = admission_by (λ e. fixed_shown) (listed_verdict clients token)
 
--- what was taken asks, where servers are accepted by their tokens: a request by its route, and what is no
--- request gets the reply to a bad head
+-- what was taken asks in version 1, where servers are accepted by their tokens: a request by its route, and
+-- what is no request gets the reply to a bad head
 abbrev pub what_of : List Client → (List ℕ → Option Addr) → Addr → Option Request → SchedRouted
 what_of clients serves peer None = Done (refusal_response BadHead)
-what_of clients serves peer (Some r) = (question_under (listed_admission clients) serves r peer).what
+what_of clients serves peer (Some r) = (question_under One (listed_admission clients) serves r peer).what
 
 -- the token that a request shows, which is the name of its client
 abbrev pub asker_of : Option Request → Option (List ℕ)

@@ -25,7 +25,8 @@ use Rattle.scheduler_service.specs.Requested.{IsAskedFor, lent_of}
 use Rattle.sched.specs.Outside.{Moments, Requests, IsRead, IsCalled}
 use Rattle.http_routes.specs.Replies.{heard_response, status_response, alloc_response, update_response}
 use Rattle.http_routes.specs.declared.route.SchedRouted.{SchedRouted}
-use Rattle.http_routes.specs.declared.route.SchedRouted.TheVariants.{Alloc, Beat, Update, Status, Done}
+use Rattle.http_routes.specs.declared.route.SchedRouted.TheVariants.{Alloc, Beat, Update, Status}
+use Rattle.http_routes.specs.declared.route.SchedRouted.TheVariants.{Drain, Done}
 use Rattle.http_connections.specs.Served.{MadeReply}
 use Rattle.quota.specs.Asked.{IsReserveFor}
 use Rattle.quota.specs.Quota.{Quota, over_core}
@@ -110,7 +111,8 @@ IsAllocatedTo (Some name) json tc now old new made =
 -- ---- all calls
 
 -- What is asked of the scheduler at a moment, under that token, is done by one call, and the reply, where it is
--- made, tells its answer; what its route answered is the reply, and changes nothing.
+-- made, tells its answer; what its route answered is the reply, and changes nothing. In version 1 no drain
+-- is asked.
 abbrev pub IsDone : SchedRouted → Bool → Option (List ℕ) → ℕ → Means → Means → MadeReply → Type 0
 IsDone (Alloc tc) json token now old new made = IsAllocatedTo token json tc now old new made
 IsDone (Beat server beat) json token now old new made =
@@ -126,4 +128,5 @@ IsDone Status json token now old new made =
     (answer : Result SchedulerStatusResult SchedFault)
     × IsStepOver (call.Status now) TellsCounted WantsMemory old.quota new.quota answer
     × IfOk made (Replies (status_response json) told_fault answer) × IsQuiet old new
+IsDone (Drain server drain) json token now old new made = ⊥
 IsDone (Done response) json token now old new made = (made ≡ Ok response) × (new ≡ old)

@@ -1,6 +1,7 @@
 //! Doing what is asked of a scheduler with quotas, and the reply that tells its answer.
 ghost use Rattle.std.specs.Prelude.{◌≡◌, ℕ, List, option_copied, is_some, true};
 ghost use Rattle.http_connections.specs.Form.{form_of};
+ghost use Rattle.http_routes.specs.Route.{IsNoDrain};
 ghost use Rattle.http_routes.specs.declared.route.SchedRouted.TheVariants.{Alloc};
 ghost use Rattle.quota.specs.Clients.{place_of};
 ghost use Rattle.quota_service.specs.Question.{asker_of, is_listed};
@@ -114,6 +115,7 @@ pub(crate) fn answer<D: Dialer, C: Clock>(
 ) -> Result<Response, Memory>
     requires listed { (tc : List ℕ) → what ≡ Alloc tc
         → is_listed quota.old.clients (asker_of request.now) ≡ true }
+    requires no_drain { IsNoDrain what }
     ensures done { IsDone what (form_of request.now) (asker_of request.now) now
         (record { quota = quota.old; clock = moments C.moments C.last clock.old; asked = D.asked dialer.old; faults = D.faults dialer.old })
         (record { quota = quota.new; clock = moments C.moments C.last clock.new; asked = D.asked dialer.new; faults = D.faults dialer.new })
@@ -134,6 +136,7 @@ pub(crate) fn answer<D: Dialer, C: Clock>(
             to_reported(alloc, json, server, job, answer)
         }
         SchedRouted::Status => to_counted(alloc, json, count(quota, now)),
+        SchedRouted::Drain(_, _) => unreachable!(),
         SchedRouted::Done(response) => Ok(response),
     }
 }

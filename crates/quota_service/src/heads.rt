@@ -2,6 +2,7 @@
 use dist_token::checks::{ServerAuthCheck, TokenRefusal};
 use dist_types::addr::Addr;
 use dist_types::fault::Memory;
+use dist_types::rules::Rules;
 use http_connections::take::HeadTest;
 use http_head::request::Request;
 use http_routes::settled::scheduler_settled;
@@ -19,14 +20,15 @@ pub(crate) struct PeerHeads<'c, 's, K, V> {
 }
 
 impl<K: TokenRefusal, V: ServerAuthCheck> HeadTest for PeerHeads<'_, '_, K, V> {
+    ghost use Rattle.dist_types.specs.declared.rules.Rules.TheVariants.{One};
     ghost use Rattle.http_routes.specs.Settled.{IsSettledAt};
 
-    ghost settled = { λ heads r. IsSettledAt (K.refuses heads.client.now) (V.server_of heads.server.now) r
-        heads.peer };
+    ghost settled = { λ heads r. IsSettledAt One (K.refuses heads.client.now)
+        (V.server_of heads.server.now) r heads.peer };
 
     #[tactic(auto, using(http_routes::proofs::SettledLemmas::settled_at))]
     fn is_settled(&self, request: &Request) -> bool {
-        match scheduler_settled(request, self.peer, self.client, self.server) {
+        match scheduler_settled(request, self.peer, self.client, self.server, Rules::One) {
             Ok(settled) => settled,
             Err(Memory) => false,
         }

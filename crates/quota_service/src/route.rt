@@ -6,13 +6,14 @@ use crate::listed::ListedCheck;
 use dist_token::checks::ServerAuthCheck;
 use dist_types::addr::Addr;
 use dist_types::fault::Memory;
+use dist_types::rules::Rules;
 use http_head::request::Request;
 use http_routes::refusal::{Refusal, refusal_response};
 use http_routes::route::{SchedRouted, scheduler_route};
 use std::alloc::Global;
 
-/// What is asked at a moment, or the reply where there is nothing more to do. Refused for want of memory
-/// alone.
+/// What is asked at a moment in version 1, or the reply where there is nothing more to do. Refused for want
+/// of memory alone.
 pub(crate) fn route<V: ServerAuthCheck>(
     alloc: Global,
     request: &Option<Request>,
@@ -28,9 +29,11 @@ pub(crate) fn route<V: ServerAuthCheck>(
             Ok(reply) => Ok(SchedRouted::Done(reply)),
             Err(_) => Err(Memory),
         },
-        Some(request) => match scheduler_route(alloc, request, peer, now, client, server) {
-            Ok(routed) => Ok(routed),
-            Err(_) => Err(Memory),
-        },
+        Some(request) => {
+            match scheduler_route(alloc, request, peer, now, client, server, Rules::One) {
+                Ok(routed) => Ok(routed),
+                Err(_) => Err(Memory),
+            }
+        }
     }
 }

@@ -7,6 +7,8 @@ mod calls;
 #[cfg(test)]
 mod client_calls;
 #[cfg(test)]
+mod drains;
+#[cfg(test)]
 mod heads;
 #[cfg(test)]
 mod refusals;

@@ -1,7 +1,8 @@
-//! What each refusal of a request is told, one at a time.
+//! What each refusal of a request is told, one at a time, in each version.
 use dist_types::addr::Addr;
+use dist_types::rules::Rules;
 use http_routes::asked::asked;
-use http_routes::route::SchedRouted;
+use http_routes::route::{SchedRouted, Terms};
 use std::alloc::{AllocError, Global};
 use std::process::Abort;
 
@@ -28,29 +29,30 @@ const NO_BEARER: &[u8] =
 const FAILED: &[u8] =
     b"HTTP/1.1 401 Unauthorized\r\nWWW-Authenticate: Bearer error=\"bearer_auth_failed\"\r\nContent-Length: 20\r\nConnection: close\r\n\r\nFixed token mismatch";
 
-const INVALID: &[u8] =
+pub(crate) const INVALID: &[u8] =
     b"HTTP/1.1 401 Unauthorized\r\nWWW-Authenticate: Bearer error=\"invalid_bearer_token\"\r\nContent-Length: 0\r\nConnection: close\r\n\r\n";
 
-const MISMATCHED: &[u8] =
+pub(crate) const MISMATCHED: &[u8] =
     b"HTTP/1.1 401 Unauthorized\r\nWWW-Authenticate: Bearer error=\"invalid_bearer_token_mismatched_address\"\r\nContent-Length: 0\r\nConnection: close\r\n\r\n";
 
-const BAD_IP: &[u8] = b"HTTP/1.1 400 Bad Request\r\nContent-Length: 0\r\nConnection: close\r\n\r\n";
+pub(crate) const BAD_IP: &[u8] =
+    b"HTTP/1.1 400 Bad Request\r\nContent-Length: 0\r\nConnection: close\r\n\r\n";
 
-const CONTENT_TYPE: &[u8] =
+pub(crate) const CONTENT_TYPE: &[u8] =
     b"HTTP/1.1 400 Bad Request\r\nContent-Type: application/json\r\nContent-Length: 76\r\nConnection: close\r\n\r\n{\"cause\":null,\"description\":\"the request didn't have a binary content type\"}";
 
-const PARSE: &[u8] =
+pub(crate) const PARSE: &[u8] =
     b"HTTP/1.1 400 Bad Request\r\nContent-Type: application/json\r\nContent-Length: 120\r\nConnection: close\r\n\r\n{\"cause\":{\"cause\":null,\"description\":\"no message begins the body\"},\"description\":\"error while parsing the bincode body\"}";
 
 const BAD_HEAD: &[u8] =
     b"HTTP/1.1 400 Bad Request\r\nContent-Type: application/json\r\nContent-Length: 47\r\nConnection: close\r\n\r\n{\"cause\":null,\"description\":\"bad request head\"}";
 
-const NOT_FOUND: &[u8] =
+pub(crate) const NOT_FOUND: &[u8] =
     b"HTTP/1.1 404 Not Found\r\nContent-Length: 0\r\nConnection: close\r\n\r\n";
 
 /// What a row shows, the method and the target, the fields but for the length, the body, and the reply that
 /// is known at once, if one is.
-type Row = (
+pub(crate) type Row = (
     &'static str,
     &'static str,
     &'static [u8],
@@ -612,18 +614,26 @@ fn is_done(alloc: Global, what: &SchedRouted, want: Option<&[u8]>) -> bool {
     }
 }
 
-/// Whether a request from this peer has that reply at once, or none.
-fn is_replied(alloc: Global, bytes: &[u8], peer: Addr, want: Option<&[u8]>) -> bool {
-    match asked(alloc, bytes, peer, "c1", "s1") {
+/// Whether a request on these terms has that reply at once, or none.
+fn is_replied(alloc: Global, bytes: &[u8], terms: Terms, want: Option<&[u8]>) -> bool {
+    match asked(alloc, bytes, terms, "c1", "s1") {
         Ok(asked) => is_done(alloc, &asked.what, want),
         Err(_) => false,
     }
 }
 
-fn check(rt: &impl Abort, alloc: Global, row: &Row) {
+/// Checks a row by these rules.
+pub(crate) fn check_by(rt: &impl Abort, alloc: Global, rules: Rules, row: &Row) {
     let (name, line, fields, body, want) = row;
     let bytes = request(rt, alloc, line, fields, body);
-    assert!(rt; is_replied(alloc, &bytes, LOCAL, *want), "{name}");
+    let terms = Terms { peer: LOCAL, rules };
+    assert!(rt; is_replied(alloc, &bytes, terms, *want), "{name}");
+}
+
+/// Checks a row in each version.
+fn check(rt: &impl Abort, alloc: Global, row: &Row) {
+    check_by(rt, alloc, Rules::One, row);
+    check_by(rt, alloc, Rules::Two, row);
 }
 
 #[test]
@@ -658,7 +668,11 @@ const NO_REQUESTS: &[&[u8]] = &[
 #[test]
 fn bad_heads_are_told_as_such(rt: HostRuntime) {
     for bytes in NO_REQUESTS {
-        assert!(&rt; is_replied(rt.alloc(), bytes, LOCAL, Some(BAD_HEAD)));
+        let terms = Terms {
+            peer: LOCAL,
+            rules: Rules::One,
+        };
+        assert!(&rt; is_replied(rt.alloc(), bytes, terms, Some(BAD_HEAD)));
     }
 }
 
@@ -678,6 +692,10 @@ fn a_heartbeat_comes_from_its_own_ip(rt: HostRuntime) {
         b"Authorization: Bearer 127.0.0.1:10501 s1\r\nContent-Type: application/octet-stream\r\n".as_slice();
     let bytes = request(&rt, rt.alloc(), BEAT, fields, HEARTBEAT);
     for (peer, want) in PEERS {
-        assert!(&rt; is_replied(rt.alloc(), &bytes, *peer, *want), "from {peer}");
+        let terms = Terms {
+            peer: *peer,
+            rules: Rules::One,
+        };
+        assert!(&rt; is_replied(rt.alloc(), &bytes, terms, *want), "from {peer}");
     }
 }

@@ -1,8 +1,9 @@
 //! What requests in order ask.
 use dist_types::addr::Addr;
 use dist_types::results::JobState;
+use dist_types::rules::Rules;
 use http_routes::asked::asked;
-use http_routes::route::{Asked, SchedRouted};
+use http_routes::route::{Asked, SchedRouted, Terms};
 use std::alloc::{AllocError, Global};
 use std::process::Abort;
 
@@ -11,7 +12,11 @@ const LOCAL: Addr = Addr::V4([127, 0, 0, 1], 40000);
 const SERVER: Addr = Addr::V4([127, 0, 0, 1], 10501);
 
 fn ask(rt: &impl Abort, alloc: Global, bytes: &[u8]) -> Asked {
-    asked(alloc, bytes, LOCAL, "c1", "s1").expect(rt, "a request")
+    let terms = Terms {
+        peer: LOCAL,
+        rules: Rules::One,
+    };
+    asked(alloc, bytes, terms, "c1", "s1").expect(rt, "a request")
 }
 
 /// Whether a job is asked for with that toolchain, and not in JSON.

@@ -7,12 +7,13 @@ use dist_types::addr::Addr;
 use dist_types::ids::{JobId, ServerId, ServerNonce};
 use dist_types::results::JobState;
 use dist_types::roles::JobAuthorizer;
+use dist_types::rules::Rules;
 use dist_types::text::Bytes;
 use dist_types::toolchain::Toolchain;
 use dist_wire::heartbeat::HeartbeatServerHttpRequest;
 use http_routes::asked::{asked_of_checks, asked_under};
 use http_routes::requests::{assign_request, heartbeat_request, state_request};
-use http_routes::route::Asked;
+use http_routes::route::{Asked, Terms};
 use http_routes::server_route::{ServerAsked, ServerRouted, server_asked};
 use std::alloc::Global;
 use std::process::Abort;
@@ -20,6 +21,12 @@ use std::process::Abort;
 const SERVER: Addr = Addr::V4([127, 0, 0, 1], 10501);
 
 const SCHEDULER: Addr = Addr::V4([127, 0, 0, 1], 10600);
+
+/// The server as the peer of a scheduler in version 1.
+const TERMS: Terms = Terms {
+    peer: SERVER,
+    rules: Rules::One,
+};
 
 /// A request to run job 55 whose head has 50 bytes, with two bytes of inputs.
 const RUN: &[u8] =
@@ -119,7 +126,7 @@ fn report(rt: &impl Abort, alloc: Global) -> Bytes {
 fn ask_of_checks(rt: &impl Abort, alloc: Global, bytes: &[u8]) -> Asked {
     let mut client = client(rt, alloc);
     let server = server(rt, alloc);
-    let asked = asked_of_checks(alloc, bytes, SERVER, 5, &mut client, &server);
+    let asked = asked_of_checks(alloc, bytes, TERMS, 5, &mut client, &server);
     asked.expect(rt, "a request")
 }
 
@@ -148,7 +155,7 @@ fn heartbeat(rt: &impl Abort, alloc: Global) -> Bytes {
 fn ask_under(rt: &impl Abort, alloc: Global, bytes: &[u8]) -> Asked {
     let mut client = client(rt, alloc);
     let server = server(rt, alloc);
-    asked_under(alloc, bytes, SERVER, &mut client, &server).expect(rt, "a request")
+    asked_under(alloc, bytes, TERMS, &mut client, &server).expect(rt, "a request")
 }
 
 #[test]

@@ -2,7 +2,9 @@
 use dist_types::addr::Addr;
 use dist_types::ids::{JobId, ServerId};
 use http_calls::error::CallError;
-use http_calls::urls::{scheduler_alloc_job, scheduler_job_state, server_run_job};
+use http_calls::urls::{
+    scheduler_alloc_job, scheduler_drain_server, scheduler_job_state, server_run_job,
+};
 use std::alloc::Global;
 use url::Url;
 
@@ -108,6 +110,45 @@ fn other_bases_are_refused(rt: HostRuntime) {
     for base in OTHERS {
         assert!(&rt; is_refused(rt.alloc(), base));
     }
+}
+
+fn is_drain_refused(alloc: Global, base: &str) -> bool {
+    let Ok(base) = Url::parse(alloc, base) else {
+        return false;
+    };
+    match scheduler_drain_server(&base) {
+        Err(CallError::BadBase) => true,
+        Err(_) => false,
+        Ok(_) => false,
+    }
+}
+
+#[test]
+fn other_bases_are_refused_for_a_drain(rt: HostRuntime) {
+    for base in OTHERS {
+        assert!(&rt; is_drain_refused(rt.alloc(), base));
+    }
+}
+
+fn is_drain_url(alloc: Global, base: &str, joined: &str) -> bool {
+    let Ok(base) = Url::parse(alloc, base) else {
+        return false;
+    };
+    match scheduler_drain_server(&base) {
+        Ok(url) => url.as_str() == joined,
+        Err(_) => false,
+    }
+}
+
+#[test]
+fn a_drain_is_told_at_its_path(rt: HostRuntime) {
+    assert!(&rt;
+        is_drain_url(
+            rt.alloc(),
+            "http://h:8080/x/y?q=1#f",
+            "http://h:8080/api/v1/scheduler/drain_server"
+        )
+    );
 }
 
 /// A server, and the URL at which it is asked to run job 7.

@@ -38,6 +38,7 @@ use dist_types::token_error::{Part, TokenError};
 use dist_types::toolchain::Toolchain;
 use dist_types::type_error::TypeError;
 use dist_wire::alloc::AllocJobHttpResponse;
+use dist_wire::drain::{DrainServerHttpRequest, DrainServerResult};
 use dist_wire::error::WireError;
 use dist_wire::heartbeat::HeartbeatServerHttpRequest;
 use dist_wire::message::Message;

@@ -2,8 +2,8 @@
 
 use dist_http::calls::Client;
 use dist_http::urls::{
-    scheduler_alloc_job, scheduler_heartbeat_server, scheduler_job_state, scheduler_status,
-    server_assign_job, server_run_job, server_submit_toolchain,
+    scheduler_alloc_job, scheduler_drain_server, scheduler_heartbeat_server, scheduler_job_state,
+    scheduler_status, server_assign_job, server_run_job, server_submit_toolchain,
 };
 use dist_http::{
     AllocCall, BuildKit, ErrJson, HEARTBEAT_TIMEOUT, HttpError, Kit, Request, RequestBuilder,

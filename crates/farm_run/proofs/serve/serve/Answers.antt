@@ -1,5 +1,9 @@
 use Rattle.farm_run.proofs.ServeLemmas.{begun_served}
+use Rattle.http_routes.proofs.VersionLemmas.{no_bytes_drain}
 use Rattle.farm_run.proofs.serve.serve.Goals as goal
+
+pub serve_asked-requires : goal.serve_asked-requires
+serve_asked-requires c = no_bytes_drain _ _ _ _ c.in_ok-question.question c.in_ok-question.ensures.ok
 
 pub returns-clause-kept : goal.returns-clause-kept
 returns-clause-kept c =

@@ -1,6 +1,6 @@
 use Rattle.std.proofs.Common.{Ok, Err, ap, sym, ◌∙◌}
 use Rattle.http_connections.proofs.ConnectionLemmas.{sent_by, unsent}
-use Rattle.quota_service.proofs.QuestionLemmas.{asks_listed}
+use Rattle.quota_service.proofs.QuestionLemmas.{asks_listed, asks_no_drain}
 use Rattle.quota_service.proofs.WholeLemmas.{replied_whole, replied, unrouted}
 use Rattle.quota_service.proofs.connection.serve_quota_connection.Goals as goal
 
@@ -8,6 +8,8 @@ pub answer-requires : goal.answer-requires
 answer-requires g c = record {
   listed = asks_listed c.args.quota.now.clients (g.V.ServerAuthCheck.server_of c.args.server.now) c.args.peer
       c.in-Ok.request c.in-Ok-route.what (rw c.new-client.ensures at c.in-Ok-route.ensures);
+  no_drain = asks_no_drain c.args.quota.now.clients (g.V.ServerAuthCheck.server_of c.args.server.now)
+      c.args.peer c.in-Ok.request c.in-Ok-route.what (rw c.new-client.ensures at c.in-Ok-route.ensures);
 }
 
 pub returns-in-Ok-answer : goal.returns-in-Ok-answer
