@@ -12,6 +12,7 @@ use crate::view::View;
 use atomic_table::Badge;
 use dist_types::roles::JobAuthorizer;
 use std::sync::Wait;
+use std::sync::atomic::Ordering;
 
 pub(crate) type Seat<A> = atomic_table::Seat<Option<Desk<A>>, View>;
 
@@ -48,9 +49,19 @@ impl<A: JobAuthorizer> Scheduler<A> {
             if found == 0 {
                 return shared.exchange(seat, 0, None).unwrap();
             }
+            self.waiting.fetch_add(1, Ordering::SeqCst);
             shared.park(rt, TURN, 1);
+            self.waiting.fetch_sub(1, Ordering::SeqCst);
         }
         unreachable!()
+    }
+
+    /// Wakes one of those who wait for the turn, if anybody does. Who waits is counted before it looks whether
+    /// the turn is still taken, so that it is seen here or sees that the turn was given back.
+    fn wake(&self) {
+        if self.waiting.load(Ordering::SeqCst) > 0 {
+            self.table.shared.wake_one(TURN);
+        }
     }
 
     /// Takes the turn for the pass of a badge.
@@ -95,7 +106,7 @@ impl<A: JobAuthorizer> Scheduler<A> {
         drop(self.table.shared.exchange(&mut seat, 0, Some(desk)));
         self.record(&mut seat, len, found);
         self.table.shared.store::<Release>(&mut seat, TURN, 0);
-        self.table.shared.wake_one(TURN);
+        self.wake();
         *entries = entries.saturating_add(len - found);
         seat.into_badge()
     }
@@ -112,7 +123,7 @@ impl<A: JobAuthorizer> Scheduler<A> {
         drop(self.table.shared.exchange(&mut seat, 0, Some(desk)));
         self.table.shared.store::<Enter>(&mut seat, MADE, made);
         self.table.shared.store::<Release>(&mut seat, TURN, 0);
-        self.table.shared.wake_one(TURN);
+        self.wake();
         seat.into_badge()
     }
 
