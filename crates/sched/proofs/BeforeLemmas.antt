@@ -1,5 +1,6 @@
 -- The promises of before, from a turn.
-use Rattle.std.proofs.Common.{◌≡◌, ◌⊎◌, ◌<◌, ◌≤◌, ℕ, List, Bool, true, false, ◌&&◌, Option, Some, None, Result, Ok, Err, refl, sym, ap, subst, ◌∙◌, inl, inr, arith}
+use Rattle.std.proofs.Common.{◌≡◌, ◌⊎◌, ◌<◌, ◌≤◌, ℕ, List, length, Bool, true, false, ◌&&◌, Option, Some}
+use Rattle.std.proofs.Common.{None, Result, Ok, Err, refl, sym, ap, subst, ◌∙◌, inl, inr, arith}
 use Rattle.std.specs.Prelude.{◌↔◌, IfErr, IfSome, if◌then◌else◌}
 use Rattle.std.proofs.lemmas.Bool.Decides.{leb_tells}
 use Rattle.dist_types.specs.Clock.{next_moment}
@@ -21,14 +22,15 @@ use Rattle.core_rules.specs.declared.rows.OpenRow.{OpenRow}
 use Rattle.scheduler_steps.specs.Faults.{faulted}
 use Rattle.scheduler_steps.specs.Step.{Gives}
 use Rattle.scheduler_steps.specs.Telling.{hears, reported_by, TellsHeard, RefusesHeard, TellsReported}
-use Rattle.scheduler_steps.specs.Telling.{TellsCounted, WantsMemory}
+use Rattle.scheduler_steps.specs.Telling.{TellsCounted, TellsDrained, WantsMemory}
 use Rattle.scheduler_steps.specs.declared.fault.SchedFault.{SchedFault}
 use Rattle.scheduler_steps.specs.declared.fault.SchedFault.TheVariants as fault
-use Rattle.sched.specs.Before.{fault_entries, one_entry, WasHeard, WasUpdated, WasCounted, TellsUpdate}
-use Rattle.sched.specs.Heard.{IsHeard, IsUpdated, IsCounted}
+use Rattle.sched.specs.Before.{fault_entries, one_entry, WasHeard, WasUpdated, WasCounted, WasDrained}
+use Rattle.sched.specs.Before.{TellsUpdate}
+use Rattle.sched.specs.Heard.{IsHeard, IsUpdated, IsCounted, IsDrained}
 use Rattle.sched.specs.Outside.{Moments, IsRead, IsReadAt}
-use Rattle.sched.specs.Pass.{Told}
-use Rattle.sched.specs.Turn.{count_made}
+use Rattle.sched.specs.Pass.{Told, Counted}
+use Rattle.sched.specs.Turn.{count_made, place_made, core_before}
 
 -- ---- the clock
 
@@ -40,6 +42,19 @@ last_of (Some ms) last new now given is = is ∙ given
 was_read : (now : ℕ) (old new : Moments) → IsReadAt now old new → IsRead old new
 was_read now old new read =
     record { left = read.left; last = last_of old.coming old.last new.last now read.given read.last }
+
+-- ---- what is counted
+
+long_made : (place : ℕ) (made : Option CoreEntry) → length (place_made place made) ≡ count_made made
+long_made place None = refl
+long_made place (Some e) = refl
+
+counts_as : {X : Type 0} (answer : Result X SchedFault) (place : ℕ) (made : Option CoreEntry)
+    (old new : Told)
+    → count_made made ≡ one_entry answer → Counted (length (place_made place made)) old new
+    → Counted (one_entry answer) old new
+counts_as answer place made old new is counted =
+    subst (λ k. Counted k old new) (long_made place made ∙ is) counted
 
 -- ---- answers
 
@@ -105,7 +120,8 @@ not_heard false cpus answer taken is = (
       (fault.Core (error.BadCpus cpus)) is (inl refl),
 )
 
-heard_made : (server : Addr) (nonce cpus : ℕ) (key : List ℕ) (now : ℕ) (core : Core) (made : Option CoreEntry)
+heard_made : (server : Addr) (nonce cpus : ℕ) (key : List ℕ) (now : ℕ) (core : Core)
+    (made : Option CoreEntry)
     (answer : Result HeartbeatServerResult SchedFault)
     → Gives (call.Beat now server nonce cpus key) (TellsHeard cpus) (RefusesHeard cpus) core made answer
     → (count_made made ≡ one_entry answer)
@@ -122,10 +138,11 @@ pub was_heard : (server : Addr) (nonce cpus : ℕ) (key : List ℕ) (old new : T
     (answer : Result HeartbeatServerResult SchedFault)
     → IsHeard server nonce cpus key old new clock ticked answer → WasHeard cpus old new clock ticked answer
 was_heard server nonce cpus key old new clock ticked answer t =
-    let is = heard_made server nonce cpus key t.now t.core t.made answer t.gives in
+    let is = heard_made server nonce cpus key t.step.now (core_before new t.place) t.made answer t.step.gives
+    in
     record {
-      counted = rw is.0 at t.counted;
-      read = was_read t.now clock ticked t.read;
+      counted = counts_as answer t.place t.made old new is.0 t.added.counted;
+      read = was_read t.step.now clock ticked t.step.read;
       bad_cpus = is.1;
       refused = is.2;
     }
@@ -137,7 +154,8 @@ one_verdict : (a : UpdateAnswer) (state : JobState) (answer : Result UpdateJobSt
 one_verdict Accepted state answer is = one_ok answer _ is
 one_verdict Unknown state answer is = one_err answer (fault.Core error.UnknownJob) is
 one_verdict Wrong state answer is = one_err answer (fault.Core error.WrongServer) is
-one_verdict (Transition from) state answer is = one_err answer (fault.Core (error.BadTransition from state)) is
+one_verdict (Transition from) state answer is =
+    one_err answer (fault.Core (error.BadTransition from state)) is
 
 by_tests : (here follow : Bool) (from state : JobState) → follows from state ≡ follow
     → TellsUpdate state
@@ -166,8 +184,14 @@ pub was_updated : (job : JobId) (server : Addr) (state : JobState) (old new : To
     (answer : Result UpdateJobStateResult SchedFault)
     → IsUpdated job server state old new clock ticked answer → WasUpdated state old new clock ticked answer
 was_updated job server state old new clock ticked answer t =
-    let is = reported_made job server state t.now t.core t.made answer t.gives in
-    record { counted = rw is.0 at t.counted; read = was_read t.now clock ticked t.read; told = is.1 }
+    let is = reported_made job server state t.step.now (core_before new t.place) t.made answer t.step.gives
+    in
+    record {
+      counted = counts_as answer t.place t.made old new is.0 t.added.counted;
+      read =
+          was_read t.step.now clock ticked t.step.read;
+      told = is.1;
+    }
 
 -- ---- status requests
 
@@ -180,8 +204,36 @@ counted_made now core (Some e) answer gives =
 counted_made now core None answer gives =
     (one_err answer fault.Memory gives, if_err (λ e. e ≡ fault.Memory) answer fault.Memory gives refl)
 
-pub was_counted : (old new : Told) (clock ticked : Moments) (answer : Result SchedulerStatusResult SchedFault)
+pub was_counted : (old new : Told) (clock ticked : Moments)
+    (answer : Result SchedulerStatusResult SchedFault)
     → IsCounted old new clock ticked answer → WasCounted old new clock ticked answer
 was_counted old new clock ticked answer t =
-    let is = counted_made t.now t.core t.made answer t.gives in
-    record { counted = rw is.0 at t.counted; read = was_read t.now clock ticked t.read; refused = is.1 }
+    let is = counted_made t.step.now (core_before new t.place) t.made answer t.step.gives in
+    record {
+      counted = counts_as answer t.place t.made old new is.0 t.added.counted;
+      read =
+          was_read t.step.now clock ticked t.step.read;
+      refused = is.1;
+    }
+
+-- ---- drains
+
+drained_made : (server : Addr) (nonce : ℕ) (on : Bool) (now : ℕ) (core : Core) (made : Option CoreEntry)
+    (answer : Result Bool SchedFault)
+    → Gives (call.Drain now server nonce on) TellsDrained WantsMemory core made answer
+    → (count_made made ≡ one_entry answer) × IfErr answer (λ e. e ≡ fault.Memory)
+drained_made server nonce on now core (Some e) answer gives =
+    (one_ok answer _ gives.1, if_ok (λ e. e ≡ fault.Memory) answer _ gives.1)
+drained_made server nonce on now core None answer gives =
+    (one_err answer fault.Memory gives, if_err (λ e. e ≡ fault.Memory) answer fault.Memory gives refl)
+
+pub was_drained : (server : Addr) (nonce : ℕ) (on : Bool) (old new : Told) (clock ticked : Moments)
+    (answer : Result Bool SchedFault) → IsDrained server nonce on old new clock ticked answer
+    → WasDrained old new clock ticked answer
+was_drained server nonce on old new clock ticked answer t =
+    let is = drained_made server nonce on t.step.now (core_before new t.place) t.made answer t.step.gives in
+    record {
+      counted = counts_as answer t.place t.made old new is.0 t.added.counted;
+      read = was_read t.step.now clock ticked t.step.read;
+      refused = is.1;
+    }

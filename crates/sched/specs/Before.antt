@@ -1,5 +1,5 @@
--- What the calls of one turn promised before a turn was one record: all of it follows.
-use Rattle.std.specs.Prelude.{◌≡◌, ◌⊎◌, ◌<◌, ◌↔◌, ℕ, false, Result, Ok, Err, IfErr}
+-- What the calls of one turn promise in the words of their refusals: all of it follows from a turn.
+use Rattle.std.specs.Prelude.{◌≡◌, ◌⊎◌, ◌<◌, ◌↔◌, ℕ, Bool, false, Result, Ok, Err, IfErr}
 use Rattle.dist_types.specs.declared.results.JobState.{JobState}
 use Rattle.dist_types.specs.declared.results.HeartbeatServerResult.{HeartbeatServerResult}
 use Rattle.dist_types.specs.declared.results.SchedulerStatusResult.{SchedulerStatusResult}
@@ -57,6 +57,13 @@ pub record WasUpdated (state : JobState) (old new : Told) (clock ticked : Moment
 -- a status is refused for want of memory alone
 pub record WasCounted (old new : Told) (clock ticked : Moments)
     (answer : Result SchedulerStatusResult SchedFault) : Type 0 where
+  pub counted : Counted (one_entry answer) old new
+  pub read : IsRead clock ticked
+  pub refused : IfErr answer (λ e. e ≡ Memory)
+
+-- so is a drain
+pub record WasDrained (old new : Told) (clock ticked : Moments)
+    (answer : Result Bool SchedFault) : Type 0 where
   pub counted : Counted (one_entry answer) old new
   pub read : IsRead clock ticked
   pub refused : IfErr answer (λ e. e ≡ Memory)

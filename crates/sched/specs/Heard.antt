@@ -1,5 +1,5 @@
 -- What the calls of one turn promise.
-use Rattle.std.specs.Prelude.{ℕ, List, Result}
+use Rattle.std.specs.Prelude.{ℕ, List, Bool, Result}
 use Rattle.dist_types.specs.declared.addr.Addr.{Addr}
 use Rattle.dist_types.specs.declared.ids.JobId.{JobId}
 use Rattle.dist_types.specs.declared.results.JobState.{JobState}
@@ -7,7 +7,9 @@ use Rattle.dist_types.specs.declared.results.HeartbeatServerResult.{HeartbeatSer
 use Rattle.dist_types.specs.declared.results.SchedulerStatusResult.{SchedulerStatusResult}
 use Rattle.dist_types.specs.declared.results.UpdateJobStateResult.{UpdateJobStateResult}
 use Rattle.core_rules.specs.declared.call.Call.TheVariants as call
-use Rattle.scheduler_steps.specs.Telling.{TellsHeard, RefusesHeard, TellsReported, TellsCounted, WantsMemory}
+use Rattle.scheduler_steps.specs.Telling.{TellsHeard, RefusesHeard, TellsReported, TellsCounted}
+use Rattle.scheduler_steps.specs.Telling.{TellsDrained}
+use Rattle.scheduler_steps.specs.Telling.{WantsMemory}
 use Rattle.scheduler_steps.specs.declared.fault.SchedFault.{SchedFault}
 use Rattle.sched.specs.Outside.{Moments}
 use Rattle.sched.specs.Pass.{Told}
@@ -30,3 +32,8 @@ IsUpdated job server state old new clock ticked answer =
 abbrev pub IsCounted : Told → Told → Moments → Moments → Result SchedulerStatusResult SchedFault → Type 0
 IsCounted old new clock ticked answer =
     IsTurn (λ now. call.Status now) TellsCounted WantsMemory old new clock ticked answer
+
+-- a drain
+abbrev pub IsDrained : Addr → ℕ → Bool → Told → Told → Moments → Moments → Result Bool SchedFault → Type 0
+IsDrained server nonce on old new clock ticked answer =
+    IsTurn (λ now. call.Drain now server nonce on) TellsDrained WantsMemory old new clock ticked answer

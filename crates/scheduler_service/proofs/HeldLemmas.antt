@@ -1,13 +1,109 @@
--- What the passes of workers count and hold, added up.
-use Rattle.std.proofs.Common.{◌≡◌, ℕ, suc, ◌+◌, ◌<◌, List, [], ◌∷◌, ◌++◌, length, map, refl, arith}
-use Rattle.std.specs.Prelude.{slice_index_or}
+-- What becomes of passes that are used, split off and joined.
+use Rattle.std.proofs.Common.{◌≡◌, ℕ, suc, ◌+◌, ◌<◌, List, [], ◌∷◌, ◌++◌, length, map, true, false, refl, sym}
+use Rattle.std.proofs.Common.{ap, ◌∙◌, subst, cond, append_assoc, arith}
+use Rattle.std.specs.Prelude.{All, nat_le, slice_index_or, Result, Ok, Err, OnErr}
 use Rattle.std.specs.List.{sum_by}
-use Rattle.std.proofs.lemmas.List.Sums.{sum_by-append, sum_by-cons}
+use Rattle.std.proofs.lemmas.List.{append-nil}
+use Rattle.std.proofs.lemmas.List.Elements.{All-nil, All-push, All-weaker}
+use Rattle.std.proofs.lemmas.List.Sums.{sum_by-cons, sum_by_push}
+use mathlib.Core.List.{IsPrefix}
+use Rattle.core_rules.specs.declared.entry.CoreEntry.{CoreEntry}
+use Rattle.sched.specs.Lists.{longer, shorter, merged}
+use Rattle.sched.specs.Pass.{Told, Whose, IsPassOf, IsSplit, IsJoined, Stays, count_of, held_of}
+use Rattle.scheduler_service.specs.Workers.{longest, all_places, AreJoined, AreTakenBack}
 
-pub one_more : {W : Type 0} (f : W → ℕ) (ws : List W) (w : W) → sum_by f (ws ++ w ∷ []) ≡ sum_by f ws + f w
-one_more f ws w =
-    let none : sum_by f [] ≡ 0 = refl in
-    omega (arith, sum_by-append f ws (w ∷ []), sum_by-cons f w [], none)
+-- ---- lists that begin others
+
+prefix_self : {A : Type 0} (xs : List A) → IsPrefix xs xs
+prefix_self xs = ([], append-nil xs)
+
+prefix_trans : {A : Type 0} (xs ys zs : List A) → IsPrefix xs ys → IsPrefix ys zs → IsPrefix xs zs
+prefix_trans xs ys zs p q =
+    (p.0 ++ q.0, sym (append_assoc xs p.0 q.0) ∙ (ap (λ w. w ++ q.0) p.1 ∙ q.1))
+
+-- ---- one pass
+
+pub stays_on : (a b c : Told) → Stays a b → Stays b c → Stays a c
+stays_on a b c first next = record {
+  of = next.of ∙ first.of;
+  start = next.start ∙ first.start;
+  held = next.held ∙ first.held;
+}
+
+pub still_of : (scheduler : Whose) (a b : Told) → IsPassOf scheduler a → Stays a b → IsPassOf scheduler b
+still_of scheduler a b is stays = record { of = stays.of ∙ is.of; start = stays.start ∙ is.start }
+
+pub split_of : (scheduler : Whose) (a b : Told) → IsPassOf scheduler a → IsSplit a b → IsPassOf scheduler b
+split_of scheduler a b is split = record { of = split.of ∙ is.of; start = split.start ∙ is.start }
+
+-- ---- passes that are joined, one after another
+
+longest_push : (front : List CoreEntry) (passes : List Told) (p : Told)
+    → longest front (passes ++ p ∷ []) ≡ longer (longest front passes) p.front
+longest_push front [] p = refl
+longest_push front (q ∷ passes) p = longest_push (longer front q.front) passes p
+
+places_push : (own : List ℕ) (passes : List Told) (p : Told)
+    → all_places own (passes ++ p ∷ []) ≡ merged (all_places own passes) p.own
+places_push own [] p = refl
+places_push own (q ∷ passes) p = places_push (merged own q.own) passes p
+
+-- of two fronts of which the shorter begins the longer, each begins it
+both_begin : (xs ys : List CoreEntry) → IsPrefix (shorter xs ys) (longer xs ys)
+    → IsPrefix xs (longer xs ys) × IsPrefix ys (longer xs ys)
+both_begin xs ys begins =
+    elim (nat_le (length xs) (length ys)) as (λ b. IsPrefix (cond b xs ys) (cond b ys xs)
+    → IsPrefix xs (cond b ys xs) × IsPrefix ys (cond b ys xs)) [
+      | true ↦ λ is. (is, prefix_self ys)
+      | false ↦ λ is. (prefix_self xs, is)
+    ] begins
+
+pub none_joined : (a : Told) → AreJoined [] a a
+none_joined a = record {
+  of = refl;
+  start = refl;
+  front = refl;
+  begins = prefix_self a.front;
+  begin = All-nil (λ p. IsPrefix p.front a.front);
+  own = refl;
+  count = omega arith;
+  held = omega arith;
+}
+
+pub one_joined : (passes : List Told) (p a b c : Told) → AreJoined passes a b → IsJoined b p c
+    → AreJoined (passes ++ p ∷ []) a c
+one_joined passes p a b c before one =
+    let both : IsPrefix b.front c.front × IsPrefix p.front c.front =
+    subst (λ f. IsPrefix b.front f × IsPrefix p.front f) (sym one.front)
+    (both_begin b.front p.front (subst (IsPrefix (shorter b.front p.front)) one.front one.begins)) in
+    record {
+      of = one.of ∙ before.of;
+      start = one.start ∙ before.start;
+      front = one.front
+          ∙ (ap (λ f. longer f p.front) before.front ∙ sym (longest_push a.front passes p));
+      begins = prefix_trans a.front b.front c.front before.begins both.0;
+      begin = All-push (λ q. IsPrefix q.front c.front) passes p
+          (All-weaker (λ q. IsPrefix q.front b.front) (λ q. IsPrefix q.front c.front)
+          (λ q is. prefix_trans q.front b.front c.front is both.0) passes before.begin) both.1;
+      own = one.own ∙ (ap (λ o. merged o p.own) before.own ∙ sym (places_push a.own passes p));
+      count = omega (arith, one.count, before.count, sum_by_push count_of passes p);
+      held = omega (arith, one.held, before.held, sum_by_push held_of passes p);
+    }
+
+-- where no pass was split off, the pass stays
+pub none_taken : (most : ℕ) (a : Told) → AreTakenBack most a a
+none_taken most a = record {
+  passes = [];
+  within = omega arith;
+  split = All-nil (IsSplit a);
+  joined = none_joined a;
+}
+
+pub on_err : {X E : Type 0} (r : Result X E) (P : Type 0) → P → OnErr r P
+on_err (Ok x) P p = tt
+on_err (Err e) P p = p
+
+-- ---- sums
 
 -- workers that hold what they held, one by one, hold as much in all
 pub sum_same : {W : Type 0} (f : W → ℕ) (xs ys : List W) → length ys ≡ length xs

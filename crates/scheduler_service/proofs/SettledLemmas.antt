@@ -3,6 +3,7 @@ use Rattle.std.proofs.Common.{◌≡◌, ◌≢◌, ◌⊎◌, ℕ, Bool, true, 
 use Rattle.std.proofs.Common.{◌∙◌, sym, ap, subst, inl, inr}
 use Rattle.std.specs.Prelude.{⊤, is_err}
 use Rattle.dist_types.specs.declared.addr.Addr.{Addr}
+use Rattle.dist_types.specs.declared.rules.Rules.{Rules}
 use Rattle.dist_types.specs.declared.token_error.TokenError.{TokenError}
 use Rattle.http_head.specs.declared.request.Request.{Request}
 use Rattle.http_routes.specs.Admission.{client_token, admission_by, Admits, MayBeAsked}
@@ -45,40 +46,41 @@ may_say may_answer shown refuses law (Some token) now old new said (says, is_sai
     lets_none_in (shown new) x.answer (law old now token x.answer new x.answers refused)
     (sym x.told ∙ some_same says Admitted (sym is_said ∙ is))
 
-asks_alike : {K : Type 0} (may_answer : K → ℕ → List ℕ → Result ⊤ TokenError → K → Type 0)
+asks_alike : {K : Type 0} (rules : Rules) (may_answer : K → ℕ → List ℕ → Result ⊤ TokenError → K → Type 0)
     (shown : K → TokenError → List ℕ) (refuses : K → List ℕ → Bool) (law : Refusals may_answer refuses)
     (serves : List ℕ → Option Addr) (peer : Addr) (r : Request)
     (body : List ℕ) (now : ℕ) (old new : K) (routing : Routing)
-    → IsSettledAt (refuses old) serves r peer
-    → Asks may_answer shown serves peer (Some r) now old routing new
-    → Asks may_answer shown serves peer (Some (with_body r body)) now old routing new
-asks_alike may_answer shown refuses law serves peer r body now old new (Ok routed) settled asks =
+    → IsSettledAt rules (refuses old) serves r peer
+    → Asks rules may_answer shown serves peer (Some r) now old routing new
+    → Asks rules may_answer shown serves peer (Some (with_body r body)) now old routing new
+asks_alike rules may_answer shown refuses law serves peer r body now old new (Ok routed) settled asks =
     let may = may_say may_answer shown refuses law (client_token r) now old new asks.said asks.admits in
     record {
       said = asks.said;
       admits = subst (λ t. Admits may_answer shown t now old asks.said new) (sym (same_client r body)) asks.admits;
       routes = asks.routes ∙ ap answered (sym (settled body asks.said may));
     }
-asks_alike may_answer shown refuses law serves peer r body now old new (Err e) settled asks =
+asks_alike rules may_answer shown refuses law serves peer r body now old new (Err e) settled asks =
     subst (λ t. MayBeAsked may_answer t now old new) (sym (same_client r body)) asks
 
 -- a request that asks the same with any body is replied to as it would be with its own
-pub replied_whole : {K : Type 0} (may_answer : K → ℕ → List ℕ → Result ⊤ TokenError → K → Type 0)
+pub replied_whole : {K : Type 0} (rules : Rules) (may_answer : K → ℕ → List ℕ → Result ⊤ TokenError → K → Type 0)
     (shown : K → TokenError → List ℕ) (refuses : K → List ℕ → Bool) (law : Refusals may_answer refuses)
     (serves : List ℕ → Option Addr) (peer : Addr) (old new : Around K)
-    (made : MadeReply)
-    → AsWhole (λ r. IsSettledAt (refuses old.client) serves r peer) (IsReplied may_answer shown serves peer) old new
-    made
-replied_whole may_answer shown refuses law serves peer old new made whole taken (inl is) did =
+    (made : MadeReply) → rules ≡ old.means.pass.start.rules
+    → AsWhole (λ r. IsSettledAt rules (refuses old.client) serves r peer) (IsReplied may_answer shown serves peer)
+    old new made
+replied_whole rules may_answer shown refuses law serves peer old new made same whole taken (inl is) did =
     subst (λ r. IsReplied may_answer shown serves peer (Some r) old new made) is did
-replied_whole may_answer shown refuses law serves peer old new made whole taken (inr (settled, is)) did =
+replied_whole rules may_answer shown refuses law serves peer old new made same whole taken (inr (settled, is)) did =
     let with : with_body taken whole.body ≡ whole = ap (λ r. with_body r whole.body) is in
     subst (λ r. IsReplied may_answer shown serves peer (Some r) old new made) with (record {
       between = did.between;
       read = did.read;
       routing = did.routing;
-      asks = asks_alike may_answer shown refuses law serves peer taken whole.body did.between.last old.client
-          new.client did.routing settled did.asks;
+      asks = asks_alike old.means.pass.start.rules may_answer shown refuses law serves peer taken whole.body
+          did.between.last old.client new.client did.routing
+          (subst (λ v. IsSettledAt v (refuses old.client) serves taken peer) same settled) did.asks;
       done = subst (λ json. Does json did.routing (record old.means { clock = did.between }) new.means made)
           (sym (same_form taken whole.body)) did.done;
     })

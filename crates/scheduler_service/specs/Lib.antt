@@ -1,7 +1,9 @@
+pub mod ByEntries
 pub mod CheckLaws
 pub mod Checks
 pub mod Chosen
 pub mod Connection
+pub mod OneAnswer
 pub mod Replied
 pub mod Requested
 pub mod Workers

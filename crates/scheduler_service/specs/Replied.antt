@@ -9,12 +9,13 @@ use Rattle.dist_token.specs.Token.{token_text, job_claims_text}
 use Rattle.scheduler_steps.specs.declared.fault.SchedFault.{SchedFault}
 use Rattle.scheduler_replies.specs.Replies.{told_fault, report_fault, Replies}
 use Rattle.sched.specs.Course.{IsAllocation}
-use Rattle.sched.specs.Heard.{IsHeard, IsUpdated, IsCounted}
+use Rattle.sched.specs.Heard.{IsHeard, IsUpdated, IsCounted, IsDrained}
 use Rattle.sched.specs.Outside.{Moments, Requests}
 use Rattle.sched.specs.Pass.{Told}
 use Rattle.http_routes.specs.Replies.{heard_response, status_response, alloc_response, update_response}
+use Rattle.http_routes.specs.Replies.{drained_response}
 use Rattle.http_routes.specs.declared.route.SchedRouted.{SchedRouted}
-use Rattle.http_routes.specs.declared.route.SchedRouted.TheVariants.{Alloc, Beat, Update, Status, Done}
+use Rattle.http_routes.specs.declared.route.SchedRouted.TheVariants.{Alloc, Beat, Update, Status, Drain, Done}
 use Rattle.http_connections.specs.Served.{MadeReply}
 use Rattle.scheduler_service.specs.Requested.{IsAskedFor, lent_of}
 
@@ -36,7 +37,7 @@ pub record AsksNobody (old new : Means) : Type 0 where
 abbrev pub requests_over : ℕ → Means → Requests
 requests_over name m = record { rows = None; faults = m.faults; lent = lent_of name m.asked }
 
--- ---- the four calls, each with the answer that its reply tells, where there is memory for one
+-- ---- the five calls, each with the answer that its reply tells, where there is memory for one
 
 -- an authorizer of job tokens is its key, and the token for a job is the written one under that key
 abbrev pub job_token : List ℕ → ℕ → List ℕ
@@ -67,4 +68,8 @@ IsDone json Status old new made =
     (answer : Result SchedulerStatusResult SchedFault)
     × IsCounted old.pass new.pass old.clock new.clock answer
     × IfOk made (Replies (status_response json) told_fault answer) × AsksNobody old new
+IsDone json (Drain server drain) old new made =
+    (answer : Result Bool SchedFault)
+    × IsDrained server drain.server_nonce drain.draining old.pass new.pass old.clock new.clock answer
+    × IfOk made (Replies (drained_response json) told_fault answer) × AsksNobody old new
 IsDone json (Done response) old new made = (made ≡ Ok response) × (new ≡ old)

@@ -1,9 +1,12 @@
 -- What a worker lends its connections, and what becomes of the workers' passes.
-use Rattle.std.specs.Prelude.{◌≡◌, ◌≤◌, ◌+◌, ℕ, List, Option}
+use Rattle.std.specs.Prelude.{◌≡◌, ◌≤◌, ℕ, List, [], ◌∷◌, length, All, Option}
 use Rattle.std.specs.List.{sum_by}
+use mathlib.Core.List.{IsPrefix}
 use Rattle.dist_types.specs.declared.dialer.Asked.{Asked}
+use Rattle.core_rules.specs.declared.entry.CoreEntry.{CoreEntry}
+use Rattle.sched.specs.Lists.{longer, merged}
 use Rattle.sched.specs.Outside.{Moments}
-use Rattle.sched.specs.Pass.{Told, Rises, count_of, held_of}
+use Rattle.sched.specs.Pass.{Told, IsSplit, Rises, count_of, held_of}
 use Rattle.scheduler_service.specs.Connection.{Around}
 use Rattle.scheduler_service.specs.declared.workers.Kit.{Kit}
 
@@ -20,14 +23,31 @@ around ticks asked faults pass kit = record {
   client = kit.client;
 }
 
--- the pass counts what these counted and holds what they hold besides, each number up to 2^64 - 1
+-- the longest of this front and those of the passes
+abbrev pub longest : List CoreEntry → List Told → List CoreEntry
+longest front [] = front
+longest front (pass ∷ passes) = longest (longer front pass.front) passes
+
+-- these own places and those of the passes, as one rising list
+abbrev pub all_places : List ℕ → List Told → List ℕ
+all_places own [] = own
+all_places own (pass ∷ passes) = all_places (merged own pass.own) passes
+
+-- These passes were joined: the pass has the places of all, and the longest of all fronts, which begins
+-- with each of them. What they count and what they hold is added.
 pub record AreJoined (passes : List Told) (old new : Told) : Type 0 where
+  pub of : new.of ≡ old.of
+  pub start : new.start ≡ old.start
+  pub front : new.front ≡ longest old.front passes
+  pub begins : IsPrefix old.front new.front
+  pub begin : All (λ pass. IsPrefix pass.front new.front) passes
+  pub own : new.own ≡ all_places old.own passes
   pub count : Rises (sum_by count_of passes) (count_of old) (count_of new)
   pub held : Rises (sum_by held_of passes) (held_of old) (held_of new)
 
--- Passes that were split off were joined again before they counted anything: the pass counts what it counted,
--- and holds one more for each of them, who are at most so many.
+-- Passes that were split off, at most so many, were joined again before they were used.
 pub record AreTakenBack (most : ℕ) (old new : Told) : Type 0 where
-  pub count : count_of new ≡ count_of old
-  pub least : held_of old ≤ held_of new
-  pub held : held_of new ≤ held_of old + most
+  pub passes : List Told
+  pub within : length passes ≤ most
+  pub split : All (IsSplit old) passes
+  pub joined : AreJoined passes old new

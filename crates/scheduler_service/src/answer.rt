@@ -1,7 +1,10 @@
 //! Doing what is asked of the scheduler, and the reply that tells its answer.
 ghost use Rattle.std.specs.Prelude.{◌≡◌};
+ghost use Rattle.dist_types.specs.declared.addr.Addr.{Addr};
+ghost use Rattle.dist_wire.specs.declared.drain.DrainServerHttpRequest.{DrainServerHttpRequest as Wish};
+ghost use Rattle.http_routes.specs.declared.route.SchedRouted.TheVariants.{Drain};
 ghost use Rattle.sched.specs.Outside.{moments};
-ghost use Rattle.sched.specs.Pass.{held_of};
+ghost use Rattle.sched.specs.Pass.{IsPassOf, Stays};
 ghost use Rattle.scheduler_service.specs.Replied.{IsAllocated, IsDone};
 
 use crate::asking::Asking;
@@ -11,19 +14,21 @@ use dist_types::dialer::Dialer;
 use dist_types::fault::Memory;
 use dist_types::results::AllocJobResult;
 use dist_types::roles::JobAuthorizer;
+use dist_types::rules::Rules;
 use dist_types::toolchain::Toolchain;
+use dist_wire::drain::DrainServerHttpRequest;
 use dist_wire::heartbeat::HeartbeatServerHttpRequest;
 use http_routes::reply::Response;
 use http_routes::route::SchedRouted;
 use sched::fault::SchedFault;
 use sched::pass::Pass;
 use sched::scheduler::Scheduler;
-use scheduler_replies::replies::{to_allocated, to_counted, to_heard, to_reported};
+use scheduler_replies::replies::{to_allocated, to_counted, to_drained, to_heard, to_reported};
 use std::alloc::Global;
 use std::sync::Wait;
 
 /// Allocates a job, and asks its server through the dialer.
-#[tactic(auto, using(crate::proofs::RepliedLemmas::allocation_holds))]
+#[tactic(auto, using(crate::proofs::RepliedLemmas::allocation_stays))]
 fn allocated<R: Wait, D: Dialer, C: Clock>(
     rt: &R,
     alloc: Global,
@@ -33,18 +38,19 @@ fn allocated<R: Wait, D: Dialer, C: Clock>(
     clock: &mut C,
     tc: &Toolchain,
 ) -> Result<AllocJobResult, SchedFault>
+    requires pass { IsPassOf scheduler.now pass.old }
     ensures allocated { IsAllocated tc.now
         (record { pass = pass.old; clock = moments C.moments C.last clock.old; asked = D.asked dialer.old; faults = D.faults dialer.old })
         (record { pass = pass.new; clock = moments C.moments C.last clock.new; asked = D.asked dialer.new; faults = D.faults dialer.new })
         result }
-    ensures holds { held_of pass.new ≡ held_of pass.old }
+    ensures stays { Stays pass.old pass.new }
 {
     let mut asking = Asking::new(alloc, dialer);
     scheduler.handle_alloc_job(rt, pass, clock, &mut asking, tc)
 }
 
-/// Does what is asked of the scheduler. Refused for want of memory alone: where the call that does it was, or
-/// where there is none for the reply to what it answered.
+/// Does what is asked of the scheduler; a drain is asked by version 2 of the rules alone. Refused for want of
+/// memory alone: where the call that does it was, or where there is none for the reply to what it answered.
 pub fn answer<R: Wait, D: Dialer, C: Clock>(
     rt: &R,
     alloc: Global,
@@ -55,10 +61,13 @@ pub fn answer<R: Wait, D: Dialer, C: Clock>(
     json: bool,
     asked: SchedRouted,
 ) -> Result<Response, Memory>
+    requires pass { IsPassOf scheduler.now pass.old }
+    requires version { (server : Addr) (drain : Wish) → asked ≡ Drain server drain
+        → scheduler.now.start.rules ≡ Rules.Two }
     ensures told { IsDone json asked
         (record { pass = pass.old; clock = moments C.moments C.last clock.old; asked = D.asked dialer.old; faults = D.faults dialer.old })
         (record { pass = pass.new; clock = moments C.moments C.last clock.new; asked = D.asked dialer.new; faults = D.faults dialer.new }) result }
-    ensures holds { held_of pass.new ≡ held_of pass.old }
+    ensures stays { Stays pass.old pass.new }
 {
     match asked {
         SchedRouted::Alloc(tc) => {
@@ -90,6 +99,21 @@ pub fn answer<R: Wait, D: Dialer, C: Clock>(
         SchedRouted::Status => {
             let answer = scheduler.handle_status(rt, pass, clock);
             to_counted(alloc, json, answer)
+        }
+        SchedRouted::Drain(server, drain) => {
+            let DrainServerHttpRequest {
+                server_nonce,
+                draining,
+            } = drain;
+            let answer = scheduler.handle_drain_server(
+                rt,
+                pass,
+                clock,
+                server,
+                server_nonce,
+                draining,
+            );
+            to_drained(alloc, json, answer)
         }
         SchedRouted::Done(response) => Ok(response),
     }

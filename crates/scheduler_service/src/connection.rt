@@ -1,7 +1,6 @@
 //! Serving one connection of a scheduler: take, answer, send.
-ghost use Rattle.std.specs.Prelude.{◌≡◌};
 ghost use Rattle.sched.specs.Outside.{moments, IsRead};
-ghost use Rattle.sched.specs.Pass.{held_of};
+ghost use Rattle.sched.specs.Pass.{IsPassOf, Stays};
 ghost use Rattle.scheduler_service.specs.Connection.{Asks, IsReplied};
 ghost use Rattle.http_connections.specs.Served.{IsServedBy};
 
@@ -15,6 +14,7 @@ use dist_types::clock::Clock;
 use dist_types::dialer::Dialer;
 use dist_types::fault::Memory;
 use dist_types::link::Link;
+use dist_types::rules::Rules;
 use dist_types::source::ReadError;
 use http_connections::form::form_of;
 use http_connections::send::send;
@@ -27,22 +27,23 @@ use sched::scheduler::Scheduler;
 use std::alloc::Global;
 use std::sync::Wait;
 
-/// What was taken asks at the moment that the clock gives. Refused for want of memory alone, and then nothing
-/// is done.
+/// What was taken asks at the moment that the clock gives, by those rules. Refused for want of memory alone,
+/// and then nothing is done.
 fn routed<C: Clock, K: ClientAuthCheck, V: ServerAuthCheck>(
     alloc: Global,
     peer: Addr,
     clock: &mut C,
     client: &mut K,
     server: &V,
+    rules: Rules,
     request: &Option<Request>,
 ) -> Result<SchedRouted, Memory>
     ensures read { IsRead (moments C.moments C.last clock.old) (moments C.moments C.last clock.new) }
-    ensures asks { Asks K.may_answer K.shown (V.server_of server.now) peer request.now (C.last clock.new)
+    ensures asks { Asks rules K.may_answer K.shown (V.server_of server.now) peer request.now (C.last clock.new)
         client.old result client.new }
 {
     let now = clock.now();
-    route(alloc, request, peer, now, client, server)
+    route(alloc, request, peer, now, client, server, rules)
 }
 
 /// Takes one request, answers it, and sends the reply. ReadFault and WriteFault come only where that half's
@@ -69,6 +70,7 @@ pub fn serve_scheduler_connection<
     client: &mut K,
     server: &V,
 ) -> Served
+    requires pass { IsPassOf scheduler.now pass.old }
     ensures served { IsServedBy (IsReplied K.may_answer K.shown (V.server_of server.now) peer)
         (record { left = L.left link.old; held = L.held link.old; reads = L.Source.faults link.old; writes = L.Sink.faults link.old })
         (record { left = L.left link.new; held = L.held link.new; reads = L.Source.faults link.new; writes = L.Sink.faults link.new })
@@ -81,12 +83,14 @@ pub fn serve_scheduler_connection<
           client = client.new;
         })
         result }
-    ensures holds { held_of pass.new ≡ held_of pass.old }
+    ensures stays { Stays pass.old pass.new }
 {
+    let rules = scheduler.rules();
     let heads = PeerHeads {
         peer,
         client: &*client,
         server,
+        rules,
     };
     let request = match take(alloc, link, &heads) {
         Ok(request) => request,
@@ -94,7 +98,7 @@ pub fn serve_scheduler_connection<
         Err(ReadError::Memory) => return Served::Memory,
         Err(ReadError::TooLong) => unreachable!(),
     };
-    let routing = match routed(alloc, peer, clock, client, server, &request) {
+    let routing = match routed(alloc, peer, clock, client, server, rules, &request) {
         Ok(routing) => routing,
         Err(Memory) => return Served::Memory,
     };

@@ -6,8 +6,10 @@
 //! `workers` runs one worker for each kit in a thread of its own. `checks` and `run_scheduler` are the
 //! system's side.
 //!
-//! The layers above use `serve_scheduler_connection`, `serve_scheduler_kits`, `serve_scheduler_workers`, `Kit`
-//! and `serve_scheduler`, and of the definitions `IsReplied` and `IsDone`.
+//! The layers above use `serve_scheduler_connection`, `serve_scheduler_kits`, `serve_scheduler_workers`,
+//! `Kit` and `serve_scheduler`, and of the definitions `IsReplied` and `IsDoneAt`, by which a reply is read
+//! off the entries at the pass's own places; `laws` says that two connections that meet the same have one
+//! answer.
 #![tactic(auto)]
 
 pub mod answer;
@@ -16,6 +18,7 @@ pub mod checks;
 pub mod connection;
 mod heads;
 mod host;
+pub mod laws;
 pub mod route;
 pub mod run_scheduler;
 pub mod workers;

@@ -143,7 +143,11 @@ pub fn serve_scheduler<
         + Net<Listener = TcpListener, Stream = TcpStream>,
 >(rt: &R, alloc: Global, config: &SchedulerConfig, start: Start) -> Result<(), StartFault> {
     let listener = TcpListener::bind(rt, socket_addr(config.public_addr))?;
-    let (scheduler, mut pass) = Scheduler::<JWTJobAuthorizer>::new(alloc, start.word)?;
+    let (scheduler, mut pass) = Scheduler::<JWTJobAuthorizer>::with_rules(
+        alloc,
+        start.word,
+        config.rules,
+    )?;
     let server = server_check(alloc, &config.server_auth)?;
     has_thread(rt)?;
     let reception = Reception::new(rt, alloc, Role::Scheduler, listener, start)?;

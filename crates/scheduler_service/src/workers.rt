@@ -3,7 +3,7 @@ ghost use Rattle.std.specs.Prelude.{◌≡◌, ◌+◌, ◌<◌, ◌≤◌, [], 
 ghost use Rattle.std.specs.Prelude.{All, slice_index_or, vec_len, vec_capacity};
 ghost use Rattle.std.specs.List.{sum_by};
 ghost use Rattle.sched.specs.Outside.{moments};
-ghost use Rattle.sched.specs.Pass.{Told, fresh, count_of, held_of, Rises};
+ghost use Rattle.sched.specs.Pass.{Told, IsPassOf, IsSplit, Stays, Rises, held_of};
 ghost use Rattle.http_connections.specs.Tally.{Worked};
 ghost use Rattle.scheduler_service.specs.Connection.{IsReplied};
 ghost use Rattle.scheduler_service.specs.Workers.{AreJoined, AreTakenBack, around};
@@ -57,6 +57,7 @@ fn work<
     server: &V,
     worker: &mut Worker<T, D, C, K>,
 )
+    requires pass { IsPassOf scheduler.now worker.old.pass }
     ensures worked { Worked (IsReplied K.may_answer K.shown (V.server_of server.now))
         (λ l. record {
           left = T.L.left l;
@@ -67,7 +68,7 @@ fn work<
         (T.told worker.old.kit.tasks) (T.told worker.new.kit.tasks)
         (around (moments C.moments C.last) D.asked D.faults worker.old.pass worker.old.kit)
         (around (moments C.moments C.last) D.asked D.faults worker.new.pass worker.new.kit) }
-    ensures holds { held_of worker.new.pass ≡ held_of worker.old.pass }
+    ensures stays { Stays worker.old.pass worker.new.pass }
 {
     for _ in rt.forever() {
         let Some((mut link, peer)) = worker.kit.tasks.take() else {
@@ -105,6 +106,7 @@ fn work_all<
     server: &V,
     workers: &mut [Worker<T, D, C, K>],
 )
+    requires passes { All (λ w. IsPassOf scheduler.now w.pass) workers.old }
     ensures worked { (i : ℕ) (d : _) → i < length workers.old
         → Worked (IsReplied K.may_answer K.shown (V.server_of server.now))
         (λ l. record {
@@ -116,8 +118,8 @@ fn work_all<
         (T.told (slice_index_or workers.old i d).kit.tasks) (T.told (slice_index_or workers.new i d).kit.tasks)
         (around (moments C.moments C.last) D.asked D.faults (slice_index_or workers.old i d).pass (slice_index_or workers.old i d).kit)
         (around (moments C.moments C.last) D.asked D.faults (slice_index_or workers.new i d).pass (slice_index_or workers.new i d).kit) }
-    ensures holds { (i : ℕ) (d : _) → i < length workers.old
-        → held_of (slice_index_or workers.new i d).pass ≡ held_of (slice_index_or workers.old i d).pass }
+    ensures stay { (i : ℕ) (d : _) → i < length workers.old
+        → Stays (slice_index_or workers.old i d).pass (slice_index_or workers.new i d).pass }
 {
     let threads = workers.len();
     if threads == 0 {
@@ -128,6 +130,7 @@ fn work_all<
         workers,
         threads,
         &|_, w: &mut Worker<T, D, C, K>| -> ()
+            requires pass { IsPassOf scheduler.now w.now.pass }
             ensures worked { Worked (IsReplied K.may_answer K.shown (V.server_of server.entry.now))
                 (λ l. record {
                   left = T.L.left l;
@@ -138,7 +141,7 @@ fn work_all<
                 (T.told w.entry.now.kit.tasks) (T.told w.exit.now.kit.tasks)
                 (around (moments C.moments C.last) D.asked D.faults w.entry.now.pass w.entry.now.kit)
                 (around (moments C.moments C.last) D.asked D.faults w.exit.now.pass w.exit.now.kit) }
-            ensures holds { held_of w.exit.now.pass ≡ held_of w.entry.now.pass }
+            ensures stays { Stays w.entry.now.pass w.exit.now.pass }
         {
             work(rt, alloc, scheduler, server, w);
         },
@@ -147,17 +150,17 @@ fn work_all<
 
 /// Takes the passes in.
 fn join_all(scheduler: &Scheduler<JWTJobAuthorizer>, pass: &mut Pass, passes: Vec<Pass>)
-    ensures joined { Rises (sum_by held_of passes.items) (held_of pass.old) (held_of pass.new) }
-    ensures counted { Rises (sum_by count_of passes.items) (count_of pass.old) (count_of pass.new) }
+    requires pass { IsPassOf scheduler.now pass.old }
+    requires passes { All (λ p. IsPassOf scheduler.now p) passes.items }
+    ensures joined { AreJoined passes.items pass.old pass.new }
 {
-    let _held = pass.held();
-    let _count = pass.count();
     for theirs in passes {
         scheduler.join(pass, theirs);
     }
 }
 
-/// So many fresh passes, for which there is room. Where memory ran out, those that were made are joined.
+/// So many passes that are split off, for which there is room. Where memory ran out, those that were made are
+/// joined again.
 fn split_all<R: Wait>(
     rt: &R,
     scheduler: &Scheduler<JWTJobAuthorizer>,
@@ -165,15 +168,14 @@ fn split_all<R: Wait>(
     number: usize,
     mut passes: Vec<Pass>,
 ) -> Result<Vec<Pass>, Memory>
+    requires pass { IsPassOf scheduler.now pass.old }
     requires room { vec_len passes + number ≤ vec_capacity passes }
     requires none { passes.items ≡ [] }
     ensures len { IfOk result (λ made. vec_len made ≡ number) }
-    ensures fresh { IfOk result (λ made. All (λ p. p ≡ fresh) made.items) }
+    ensures split { IfOk result (λ made. All (λ p. IsSplit pass.old p) made.items) }
     ensures same { OnOk result (pass.new ≡ pass.old) }
     ensures left { OnErr result (AreTakenBack number pass.old pass.new) }
 {
-    let _held = pass.held();
-    let _count = pass.count();
     for _ in 0..number {
         match scheduler.split(rt, pass) {
             Ok(made) => passes.push_reserved(made),
@@ -186,8 +188,10 @@ fn split_all<R: Wait>(
     Ok(passes)
 }
 
-/// A worker for each kit, each with one of the fresh passes, of which there are as many.
+/// A worker for each kit, each with one of the passes that were split off the given one, of which there are
+/// as many.
 fn hire<T: Tasks, D: Dialer + Drop, C: Clock + Drop, K: ClientAuthCheck + Drop>(
+    pass: &Pass,
     kits: Vec<Kit<T, D, C, K>>,
     mut passes: Vec<Pass>,
     mut workers: Vec<Worker<T, D, C, K>>,
@@ -195,9 +199,9 @@ fn hire<T: Tasks, D: Dialer + Drop, C: Clock + Drop, K: ClientAuthCheck + Drop>(
     requires room { vec_len workers + vec_len kits ≤ vec_capacity workers }
     requires none { workers.items ≡ [] }
     requires enough { vec_len passes ≡ vec_len kits }
-    requires fresh { All (λ p. p ≡ fresh) passes.items }
+    requires split { All (λ p. IsSplit pass.now p) passes.items }
     ensures kits { map (λ w. w.kit) result.items ≡ kits.items }
-    ensures began { map (λ w. w.pass) result.items ≡ map (λ _. fresh) kits.items }
+    ensures split { All (λ w. IsSplit pass.now w.pass) result.items }
     ensures hold { sum_by (λ w. held_of w.pass) result.items ≡ length kits.items }
 {
     for kit in kits {
@@ -216,16 +220,13 @@ fn gather<T: Tasks, D: Dialer + Drop, C: Clock + Drop, K: ClientAuthCheck + Drop
     workers: Vec<Worker<T, D, C, K>>,
     kits: &mut Vec<Kit<T, D, C, K>>,
 )
+    requires pass { IsPassOf scheduler.now pass.old }
+    requires passes { All (λ w. IsPassOf scheduler.now w.pass) workers.items }
     requires room { vec_len kits.now + vec_len workers ≤ vec_capacity kits.now }
     requires none { kits.now.items ≡ [] }
     ensures kits { kits.new.items ≡ map (λ w. w.kit) workers.items }
-    ensures joined { Rises (sum_by (λ w. held_of w.pass) workers.items) (held_of pass.old)
-        (held_of pass.new) }
-    ensures counted { Rises (sum_by (λ w. count_of w.pass) workers.items) (count_of pass.old)
-        (count_of pass.new) }
+    ensures joined { AreJoined (map (λ w. w.pass) workers.items) pass.old pass.new }
 {
-    let _held = pass.held();
-    let _count = pass.count();
     for worker in workers {
         let Worker { kit, pass: theirs } = worker;
         scheduler.join(pass, theirs);
@@ -233,12 +234,12 @@ fn gather<T: Tasks, D: Dialer + Drop, C: Clock + Drop, K: ClientAuthCheck + Drop
     }
 }
 
-/// Runs a worker for each kit, and returns once all their connections were served. Each link that a kit gave
-/// came back once, in order, with what serving it did to the kit and to a pass of the worker's own, which
-/// counted nothing before the first; and none is left. These passes are joined: the pass then counts what
-/// they counted, and holds one more for each kit. A worker that gets no thread is run by the caller. Refused
-/// for want of memory alone, before any link was taken: the kits are as they were, and the passes that were
-/// made are joined.
+/// Runs a worker for each kit, and returns once all their connections were served. Each link that a kit
+/// gave came back once, in order, with what serving it did to the kit and to a pass of the worker's own,
+/// which was split off the given one; and none is left. These passes are joined: the pass then has the
+/// places of all of them, and holds one more for each kit. A worker that gets no thread is run by the
+/// caller. Refused for want of memory alone, before any link was taken: the kits are as they were, and the
+/// passes that were split off are joined again.
 pub fn serve_scheduler_kits<
     R: Threads + Wait + Sync,
     T: Tasks,
@@ -254,9 +255,12 @@ pub fn serve_scheduler_kits<
     kits: &mut Vec<Kit<T, D, C, K>>,
     server: &V,
 ) -> Result<(), Memory>
+    requires pass { IsPassOf scheduler.now pass.old }
+    ensures of { IsPassOf scheduler.now pass.new }
     ensures len { length kits.new.items ≡ length kits.old.items }
-    ensures worked { OnOk result ((passes : List Told) × (length passes ≡ length kits.old.items)
-        × AreJoined passes pass.old pass.new
+    ensures worked { OnOk result ((began : List Told) × (ended : List Told)
+        × (length began ≡ length kits.old.items) × (length ended ≡ length kits.old.items)
+        × All (λ p. IsSplit pass.old p) began × AreJoined ended pass.old pass.new
         × ((i : ℕ) (d : _) (p : Told) → i < length kits.old.items
         → Worked (IsReplied K.may_answer K.shown (V.server_of server.now))
         (λ l. record {
@@ -266,8 +270,8 @@ pub fn serve_scheduler_kits<
           writes = T.L.Sink.faults l;
         })
         (T.told (slice_index_or kits.old.items i d).tasks) (T.told (slice_index_or kits.new.items i d).tasks)
-        (around (moments C.moments C.last) D.asked D.faults fresh (slice_index_or kits.old.items i d))
-        (around (moments C.moments C.last) D.asked D.faults (slice_index_or passes i p) (slice_index_or kits.new.items i d)))) }
+        (around (moments C.moments C.last) D.asked D.faults (slice_index_or began i p) (slice_index_or kits.old.items i d))
+        (around (moments C.moments C.last) D.asked D.faults (slice_index_or ended i p) (slice_index_or kits.new.items i d)))) }
     ensures holds { OnOk result (Rises (length kits.old.items) (held_of pass.old) (held_of pass.new)) }
     ensures untaken { OnErr result (kits.new ≡ kits.old) }
     ensures left { OnErr result (AreTakenBack (length kits.old.items) pass.old pass.new) }
@@ -278,7 +282,7 @@ pub fn serve_scheduler_kits<
     let passes = Vec::with_capacity(alloc, number)?;
     let passes = split_all(rt, scheduler, pass, number, passes)?;
     let given = mem::replace(kits, back);
-    let mut workers = hire(given, passes, workers);
+    let mut workers = hire(&*pass, given, passes, workers);
     work_all(rt, alloc, scheduler, server, &mut workers);
     gather(scheduler, pass, workers, kits);
     Ok(())
@@ -301,9 +305,12 @@ pub fn serve_scheduler_workers<
     mut kits: Vec<Kit<T, D, C, K>>,
     server: &V,
 ) -> Result<Vec<Kit<T, D, C, K>>, Memory>
+    requires pass { IsPassOf scheduler.now pass.old }
+    ensures of { IsPassOf scheduler.now pass.new }
     ensures len { IfOk result (λ back. length back.items ≡ length kits.items) }
-    ensures worked { IfOk result (λ back. (passes : List Told) × (length passes ≡ length kits.items)
-        × AreJoined passes pass.old pass.new
+    ensures worked { IfOk result (λ back. (began : List Told) × (ended : List Told)
+        × (length began ≡ length kits.items) × (length ended ≡ length kits.items)
+        × All (λ p. IsSplit pass.old p) began × AreJoined ended pass.old pass.new
         × ((i : ℕ) (d : _) (p : Told) → i < length kits.items
         → Worked (IsReplied K.may_answer K.shown (V.server_of server.now))
         (λ l. record {
@@ -313,8 +320,8 @@ pub fn serve_scheduler_workers<
           writes = T.L.Sink.faults l;
         })
         (T.told (slice_index_or kits.items i d).tasks) (T.told (slice_index_or back.items i d).tasks)
-        (around (moments C.moments C.last) D.asked D.faults fresh (slice_index_or kits.items i d))
-        (around (moments C.moments C.last) D.asked D.faults (slice_index_or passes i p) (slice_index_or back.items i d)))) }
+        (around (moments C.moments C.last) D.asked D.faults (slice_index_or began i p) (slice_index_or kits.items i d))
+        (around (moments C.moments C.last) D.asked D.faults (slice_index_or ended i p) (slice_index_or back.items i d)))) }
     ensures holds { OnOk result (Rises (length kits.items) (held_of pass.old) (held_of pass.new)) }
     ensures left { OnErr result (AreTakenBack (length kits.items) pass.old pass.new) }
 {

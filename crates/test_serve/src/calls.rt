@@ -1,4 +1,6 @@
 //! Connections in memory, and what the scheduler answers over them.
+ghost use Rattle.sched.specs.Pass.{IsPassOf};
+
 use dist_http::{Served, serve_scheduler_connection};
 use dist_token::checks::{EqCheck, PlainServerCheck};
 use dist_token::job_token::JWTJobAuthorizer;
@@ -27,6 +29,7 @@ pub struct Desk {
     scheduler: TestScheduler,
     pass: Pass,
     dialer: MemDialer,
+    ghost pass_of: { IsPassOf scheduler pass },
 }
 
 impl Desk {

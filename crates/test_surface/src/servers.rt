@@ -9,6 +9,7 @@ use build_server::server::{Server, ServerIncoming, Shared};
 use build_server::state::ServerState;
 use build_server::submit::{Dropped, Submit, Submitted};
 use sched::fault::SchedFault;
+use sched::incoming::SchedulerIncoming;
 use sched::pass::Pass;
 use sched::scheduler::{PassesOut, Scheduler};
 use sched_core::answers::{Committed, Picked, Undone};

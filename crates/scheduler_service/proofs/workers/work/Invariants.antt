@@ -1,6 +1,5 @@
-use Rattle.std.proofs.Common.{◌≡◌}
 use Rattle.sched.specs.Outside.{moments}
-use Rattle.sched.specs.Pass.{held_of}
+use Rattle.sched.specs.Pass.{Stays}
 use Rattle.http_connections.proofs.TallyLemmas.{SoFar}
 use Rattle.scheduler_service.specs.Connection.{IsReplied}
 use Rattle.scheduler_service.specs.Workers.{around}
@@ -21,5 +20,5 @@ invariant-loop g l = record {
       l.initial.worker.pass l.initial.worker.kit)
       (around (moments g.C.Clock.moments g.C.Clock.last) g.D.Dialer.asked g.D.Dialer.faults l.worker.pass
       l.worker.kit);
-  holds : held_of l.worker.pass ≡ held_of l.initial.worker.pass;
+  stays : Stays l.initial.worker.pass l.worker.pass;
 }

@@ -1,0 +1,48 @@
+use Rattle.std.proofs.Common.{ap, refl, vec_len, ◌∙◌}
+use Rattle.core_rules.specs.Rule.{rule}
+use Rattle.core_rules.specs.declared.call.Call.TheVariants as call
+use Rattle.sched.proofs.PassLemmas.{ends_step, pass_step, turn_step, spends_nothing, rules_at}
+use Rattle.sched.proofs.scheduler.Scheduler.handle_drain_server.Goals as goal
+
+pub end-requires-clause-may : goal.end-requires-clause-may
+end-requires-clause-may g c κs lives =
+    let p = c.pass.invariant in
+    let b = c.begin-turn.ensures.begins p.view (ap (λ x. x.views) c.replace.ensures.value ∙ p.is) in
+    ends_step (call.Drain c.now.result c.args.server_id c.args.nonce c.args.on) _ _ _ p.view _
+    c.desk.inside.state c.drain-answer.new.state
+    (vec_len c.desk.inside.passes) c.begin-turn.result.1 c.desk.view_is b p.holds c.drain-answer.ensures.step
+    (λ log begins. spends_nothing log p.view.own
+    (rule (record { start = p.view.start; log = log })
+    (call.Drain c.now.result c.args.server_id c.args.nonce c.args.on)) (λ job. refl))
+
+pub invariant_of-pass : goal.invariant_of-pass
+invariant_of-pass g c =
+    let p = c.pass.invariant in
+    let b = c.begin-turn.ensures.begins p.view (ap (λ x. x.views) c.replace.ensures.value ∙ p.is) in
+    pass_step (call.Drain c.now.result c.args.server_id c.args.nonce c.args.on) _ _ _ _ _ _ _ _ _
+    c.desk.inside.state c.drain-answer.new.state
+    (vec_len c.desk.inside.passes) c.begin-turn.result.1 p c.desk.view_is b c.drain-answer.ensures.step
+    c.end.ensures.views c.end.ensures.few c.end.ensures.counted
+
+pub returns : goal.returns
+returns g c =
+    let p = c.pass.invariant in
+    let b = c.begin-turn.ensures.begins p.view (ap (λ x. x.views) c.replace.ensures.value ∙ p.is) in
+    record {
+      drained = turn_step (λ now. call.Drain now c.args.server_id c.args.nonce c.args.on) _ _ _ _ _
+          c.now.result _ _ _ _ _ _ _ c.desk.inside.state c.drain-answer.new.state
+          (vec_len c.desk.inside.passes) c.begin-turn.result.1 _ p c.desk.view_is b
+          c.drain-answer.ensures.step
+          c.end.ensures.views
+          (c.end.ensures.of ∙ (c.begin-turn.ensures.of ∙ ap (λ x. x.table_id) c.replace.ensures.value))
+          c.pass.view_is
+          (record { given = c.now.ensures.given; left = c.now.ensures.left; last = c.now.ensures.last });
+    }
+
+pub drain-answer-requires-clause-version : goal.drain-answer-requires-clause-version
+drain-answer-requires-clause-version g c κs lives =
+    let p = c.pass.invariant in
+    let b = c.begin-turn.ensures.begins p.view (ap (λ x. x.views) c.replace.ensures.value ∙ p.is) in
+    rules_at _ _ _ _ _ c.desk.inside.state (vec_len c.desk.inside.passes) _ _ _ _ p c.desk.view_is b
+    c.pass.view_is
+    c.requires.pass c.requires.version
