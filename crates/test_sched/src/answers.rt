@@ -1,4 +1,6 @@
 //! A requester whose answers are given, and what the tests hand to the scheduler.
+ghost use Rattle.sched.specs.Pass.{IsPassOf, Stays};
+
 use dist_token::job_token::JWTJobAuthorizer;
 use dist_types::addr::Addr;
 use dist_types::clock::MemClock;
@@ -68,7 +70,9 @@ pub fn abc(rt: &impl Abort) -> Toolchain {
 }
 
 /// A scheduler whose first job is 4096, and its first pass.
-pub fn scheduler(rt: &impl Abort, alloc: Global) -> (TestScheduler, Pass) {
+pub fn scheduler(rt: &impl Abort, alloc: Global) -> (TestScheduler, Pass)
+    ensures of { IsPassOf result.0 result.1 }
+{
     TestScheduler::with_job_id_base(alloc, 4096).expect(rt, "memory")
 }
 
@@ -78,7 +82,10 @@ pub fn beat<R: Abort + Wait>(
     alloc: Global,
     scheduler: &TestScheduler,
     pass: &mut Pass,
-) -> bool {
+) -> bool
+    requires pass { IsPassOf scheduler.now pass.old }
+    ensures stays { Stays pass.old pass.new }
+{
     let key = JWTJobAuthorizer::of_key([1u8, 2, 2].to_vec(alloc).expect(rt, "memory"));
     let nonce = ServerNonce::new(7);
     let mut clock = still(alloc);

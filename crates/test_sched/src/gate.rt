@@ -1,4 +1,6 @@
-//! No lock is held while a server is asked.
+//! No turn is held while a server is asked.
+ghost use Rattle.sched.specs.Pass.{IsPassOf};
+
 use crate::answers::{TestScheduler, abc, beat, still};
 use dist_types::ids::{JobId, ServerId};
 use dist_types::outgoing::{CallFault, SchedulerOutgoing};
@@ -65,43 +67,56 @@ impl SchedulerOutgoing for Held<'_> {
     }
 }
 
-/// Allocates a job, whose assignment is held. Whether the job was given.
+/// Allocates a job, whose assignment is held. Whether the job was given, and the pass.
 fn first<R: Abort + Wait>(
     rt: &R,
     alloc: Global,
     scheduler: &TestScheduler,
-    pass: &mut Pass,
+    mut pass: Pass,
     gate: &Gate,
-) -> bool {
+) -> (bool, Pass)
+    requires pass { IsPassOf scheduler.now pass }
+    ensures pass { IsPassOf scheduler.now result.1 }
+{
     let tc = abc(rt);
     let mut held = Held(gate);
-    let answer = scheduler.handle_alloc_job(rt, pass, &mut still(alloc), &mut held, &tc);
-    matches!(&answer, Ok(AllocJobResult::Success { .. }))
+    let answer = scheduler.handle_alloc_job(rt, &mut pass, &mut still(alloc), &mut held, &tc);
+    (matches!(&answer, Ok(AllocJobResult::Success { .. })), pass)
 }
 
-/// Waits until the first call has begun, makes a heartbeat, and says so.
+/// Waits until the first call has begun, makes a heartbeat, and says so. Whether that was waited for, and the
+/// pass.
 fn second<R: Abort + Wait>(
     rt: &R,
     alloc: Global,
     scheduler: &TestScheduler,
-    pass: &mut Pass,
+    mut pass: Pass,
     gate: &Gate,
-) -> bool {
+) -> (bool, Pass)
+    requires pass { IsPassOf scheduler.now pass }
+    ensures pass { IsPassOf scheduler.now result.1 }
+{
     let waited = is_set(&gate.begun);
-    beat(rt, alloc, scheduler, pass);
+    beat(rt, alloc, scheduler, &mut pass);
     gate.answered.store(true, Ordering::SeqCst);
-    waited
+    (waited, pass)
 }
 
 /// Whether the assignment was let go and the heartbeat answered behind it, and how many entries both made.
 fn both<R: Abort + Threads + Wait + Sync>(rt: &R, alloc: Global, gate: &Gate) -> (bool, u64) {
     let (scheduler, mut pass) = TestScheduler::new(alloc, 4096).expect(rt, "memory");
     beat(rt, alloc, &scheduler, &mut pass);
-    let mut other = scheduler.split(rt, &mut pass).expect(rt, "memory");
-    let (let_go, heard) = thread::join(
+    let other = scheduler.split(rt, &mut pass).expect(rt, "memory");
+    let ((let_go, mut pass), (heard, other)) = thread::join(
         rt,
-        || first(rt, alloc, &scheduler, &mut pass, gate),
-        || second(rt, alloc, &scheduler, &mut other, gate),
+        || -> (bool, Pass)
+            requires { IsPassOf scheduler pass }
+            ensures { IsPassOf scheduler result.1 }
+        { first(rt, alloc, &scheduler, pass, gate) },
+        || -> (bool, Pass)
+            requires { IsPassOf scheduler other }
+            ensures { IsPassOf scheduler result.1 }
+        { second(rt, alloc, &scheduler, other, gate) },
     );
     scheduler.join(&mut pass, other);
     (let_go && heard, pass.count())

@@ -1,4 +1,4 @@
-//! The running scheduler at work: what its calls answer, what its passes count, and that no lock is held
+//! The running scheduler at work: what its calls answer, what its passes count, and that no turn is held
 //! while a server is asked. Tests alone; nothing above uses this crate.
 #![tactic(auto)]
 
@@ -8,3 +8,5 @@ mod answers;
 mod gate;
 #[cfg(test)]
 mod running;
+#[cfg(test)]
+mod threads;

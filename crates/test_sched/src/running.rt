@@ -1,10 +1,14 @@
 //! What the calls answer, and what the passes count.
+ghost use Rattle.std.specs.Prelude.{◌≡◌};
+ghost use Rattle.sched.specs.Pass.{IsPassOf, Stays};
+
 use crate::answers::{Answers, TestScheduler, abc, beat, scheduler, server, still};
 use core_rules::answers::Undone;
 use core_rules::error::SchedError;
-use dist_types::ids::{JobId, ServerId};
+use dist_types::ids::{JobId, ServerId, ServerNonce};
 use dist_types::outgoing::CallFault;
 use dist_types::results::{AllocJobResult, JobState, UpdateJobStateResult};
+use dist_types::rules::Rules;
 use sched::fault::SchedFault;
 use sched::pass::Pass;
 use std::alloc::Global;
@@ -17,7 +21,10 @@ fn status<R: Abort + Wait>(
     alloc: Global,
     scheduler: &TestScheduler,
     pass: &mut Pass,
-) -> (u64, u64, u64) {
+) -> (u64, u64, u64)
+    requires pass { IsPassOf scheduler.now pass.old }
+    ensures stays { Stays pass.old pass.new }
+{
     let answer = scheduler.handle_status(rt, pass, &mut still(alloc));
     let counts = answer.expect(rt, "a status");
     (counts.num_servers, counts.num_cpus, counts.in_progress)
@@ -29,7 +36,11 @@ fn make_two<R: Abort + Wait>(
     alloc: Global,
     scheduler: &TestScheduler,
     pass: &mut Pass,
-) -> Pass {
+) -> Pass
+    requires pass { IsPassOf scheduler.now pass.old }
+    ensures stays { Stays pass.old pass.new }
+    ensures of { IsPassOf scheduler.now result }
+{
     assert!(rt; beat(rt, alloc, scheduler, pass));
     let mut second = scheduler.split(rt, pass).expect(rt, "memory");
     assert_eq!(rt; status(rt, alloc, scheduler, &mut second).0, 1);
@@ -43,7 +54,11 @@ fn refuse_close<R: Abort + Wait>(
     rt: &R,
     scheduler: TestScheduler,
     pass: Pass,
-) -> (TestScheduler, Pass) {
+) -> (TestScheduler, Pass)
+    requires pass { IsPassOf scheduler pass }
+    ensures same { result.0 ≡ scheduler }
+    ensures pass { IsPassOf scheduler result.1 }
+{
     match scheduler.close(rt, pass) {
         Ok(_) => panic!(rt; "closed with a pass out"),
         Err(out) => {
@@ -54,7 +69,9 @@ fn refuse_close<R: Abort + Wait>(
 }
 
 /// How many entries the log of a scheduler has that is closed.
-fn close<R: Abort + Wait>(rt: &R, scheduler: TestScheduler, pass: Pass) -> usize {
+fn close<R: Abort + Wait>(rt: &R, scheduler: TestScheduler, pass: Pass) -> usize
+    requires pass { IsPassOf scheduler pass }
+{
     match scheduler.close(rt, pass) {
         Ok(state) => state.history().len(),
         Err(_) => panic!(rt; "not closed with all passes in"),
@@ -84,7 +101,10 @@ fn allocate<R: Abort + Wait>(
     scheduler: &TestScheduler,
     pass: &mut Pass,
     mut answers: Answers,
-) -> Result<Place, SchedFault> {
+) -> Result<Place, SchedFault>
+    requires pass { IsPassOf scheduler.now pass.old }
+    ensures stays { Stays pass.old pass.new }
+{
     let tc = abc(rt);
     let answer = scheduler.handle_alloc_job(rt, pass, &mut still(alloc), &mut answers, &tc);
     match &answer {
@@ -122,7 +142,10 @@ fn report<R: Wait>(
     scheduler: &TestScheduler,
     pass: &mut Pass,
     port: u16,
-) -> Result<bool, SchedFault> {
+) -> Result<bool, SchedFault>
+    requires pass { IsPassOf scheduler.now pass.old }
+    ensures stays { Stays pass.old pass.new }
+{
     let ready = JobState::Ready;
     let mut clock = still(alloc);
     let answer = scheduler.handle_update_job_state(
@@ -141,7 +164,10 @@ fn report<R: Wait>(
 }
 
 /// Job 4096 is reported ready, once and by its own server.
-fn reports<R: Abort + Wait>(rt: &R, alloc: Global, scheduler: &TestScheduler, pass: &mut Pass) {
+fn reports<R: Abort + Wait>(rt: &R, alloc: Global, scheduler: &TestScheduler, pass: &mut Pass)
+    requires pass { IsPassOf scheduler.now pass.old }
+    ensures stays { Stays pass.old pass.new }
+{
     let ready = JobState::Ready;
     let again = SchedFault::Core(SchedError::BadTransition(ready, ready));
     let elsewhere = SchedFault::Core(SchedError::WrongServer);
@@ -165,4 +191,70 @@ fn one_job(rt: HostRuntime) {
     reports(&rt, alloc, &scheduler, &mut pass);
     assert_eq!(&rt; status(&rt, alloc, &scheduler, &mut pass), (1, 1, 1));
     assert_eq!(&rt; pass.count(), 7);
+}
+
+/// Whether the server of the heartbeat drains from now on, or no more, under this nonce.
+fn drain<R: Abort + Wait>(
+    rt: &R,
+    alloc: Global,
+    scheduler: &TestScheduler,
+    pass: &mut Pass,
+    nonce: u64,
+    on: bool,
+) -> bool
+    requires pass { IsPassOf scheduler.now pass.old }
+    requires version { scheduler.now.start.rules ≡ Rules.Two }
+    ensures stays { Stays pass.old pass.new }
+{
+    let nonce = ServerNonce::new(nonce);
+    let mut clock = still(alloc);
+    let answer = scheduler.handle_drain_server(rt, pass, &mut clock, server(10501), nonce, on);
+    answer.expect(rt, "a drain")
+}
+
+/// What an allocation gives where each server takes the job; none where no server has room.
+fn given<R: Abort + Wait>(
+    rt: &R,
+    alloc: Global,
+    scheduler: &TestScheduler,
+    pass: &mut Pass,
+) -> Option<JobId>
+    requires pass { IsPassOf scheduler.now pass.old }
+    ensures stays { Stays pass.old pass.new }
+{
+    let mut takes = Answers {
+        state: JobState::Ready,
+        status: None,
+    };
+    let tc = abc(rt);
+    let answer = scheduler.handle_alloc_job(rt, pass, &mut still(alloc), &mut takes, &tc);
+    match &answer {
+        Ok(
+            AllocJobResult::Success {
+                job_alloc,
+                need_toolchain: _,
+            },
+        ) => Some(job_alloc.job_id),
+        Ok(AllocJobResult::Fail { msg: _ }) => None,
+        Err(_) => panic!(rt; "a fault"),
+    }
+}
+
+/// In version 2 of the rules a server that drains gets no job, until it drains no more; a drain under another
+/// nonce names nobody. Each drain makes its entry.
+#[test]
+fn a_server_that_drains_gets_no_job(rt: HostRuntime) {
+    let alloc = rt.alloc();
+    let (scheduler, mut pass) = TestScheduler::with_rules(alloc, 4096, Rules::Two).expect(
+        &rt, "memory",
+    );
+    assert!(&rt; scheduler.rules() == Rules::Two);
+    beat(&rt, alloc, &scheduler, &mut pass);
+    assert!(&rt; drain(&rt, alloc, &scheduler, &mut pass, 7, true));
+    assert!(&rt; given(&rt, alloc, &scheduler, &mut pass).is_none());
+    assert!(&rt; drain(&rt, alloc, &scheduler, &mut pass, 7, false));
+    assert!(&rt; given(&rt, alloc, &scheduler, &mut pass) == Some(JobId(4096)));
+    assert!(&rt; !drain(&rt, alloc, &scheduler, &mut pass, 8, true));
+    assert_eq!(&rt; pass.count(), 7);
+    assert_eq!(&rt; close(&rt, scheduler, pass), 7);
 }
