@@ -1,0 +1,10 @@
+use Rattle.std.proofs.Common.{◌≡◌}
+use Rattle.std.specs.Prelude.{All}
+use Rattle.sched.specs.Pass.{IsPassOf}
+use Rattle.test_turn.proofs.crew.hire.Given as goal
+
+abbrev pub invariant-loop-number : goal.invariant-loop-number
+invariant-loop-number g l = record {
+  passes : All (λ w. IsPassOf l.scheduler w.pass) l.workers.items;
+  same : l.pass ≡ l.initial.pass;
+}
