@@ -3,7 +3,6 @@
 //!     bench lru CAPACITY CALL COUNT     a call of a metered cache
 //!     bench cache CALL DIR COUNT        a call of a cache of archives in a directory
 //!     bench core SERVERS EACH JOBS      jobs on a scheduler's books
-//!     bench quotas CLIENTS CALL COUNT   a call of a scheduler with quotas
 //!     bench storm COUNT                 the storm of so many events
 //!     bench all                         a short run of each; of the storm its 100,000 events
 //!
@@ -13,7 +12,6 @@
 mod cache;
 mod desk;
 mod lru;
-mod quotas;
 mod scheduler;
 mod short_tokens;
 mod storm;
@@ -27,7 +25,6 @@ const ALL: &[&str] = &[
     "bench lru 3 evict 4",
     "bench cache hash . 1",
     "bench core 8 4 4",
-    "bench quotas 2 job 4",
     "bench storm 100000",
 ];
 
@@ -49,10 +46,9 @@ fn timed(rt: &HostRuntime, words: &[String]) -> io::Result<ExitCode> {
         "lru" => lru::timed(rt, words),
         "cache" => cache::timed(rt, words),
         "core" => scheduler::timed(rt, words),
-        "quotas" => quotas::timed(rt, words),
         "storm" => storm::timed(rt, words),
         _ => {
-            eprintln!(rt; "bench: lru|cache|core|quotas|storm|all ..")?;
+            eprintln!(rt; "bench: lru|cache|core|storm|all ..")?;
             Ok(ExitCode::from(2))
         }
     }
