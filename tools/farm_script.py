@@ -142,7 +142,7 @@ class Script:
 
     def __init__(self):
         self.lines, self.size, self.events = [], 0, 0
-        self.scheduler, self.servers = None, []
+        self.version, self.scheduler, self.servers = 1, None, []
 
     def add(self, line):
         if len(self.lines) >= MOST_LINES:
@@ -159,7 +159,9 @@ class Script:
     def judge(self, words):
         if "" in words:
             raise Faulty("words are parted by exactly one space, and none stands at an end")
-        if words[0] in ("scheduler", "server", "builder"):
+        if words[0] == "version":
+            self.judge_version(words[1:])
+        elif words[0] in ("scheduler", "server", "builder"):
             self.judge_setup(words[0], words[1:])
         elif re.match("[0-9]", words[0]):
             moment(words[0])
@@ -169,6 +171,13 @@ class Script:
             self.events += 1
         else:
             raise Faulty(f"no line begins with '{words[0]}'")
+
+    def judge_version(self, words):
+        if words != ["2"]:
+            raise Faulty("a line of 'version' is: version 2")
+        if self.events or self.version == 2 or self.scheduler is not None:
+            raise Faulty("version 2 stands before all other lines, once")
+        self.version = 2
 
     def judge_setup(self, first, words):
         if self.events:

@@ -52,6 +52,10 @@ def heartbeat(key, cpus, nonce):
     return data(key) + u64(cpus) + u64(nonce)
 
 
+def drain(nonce, on):
+    return u64(nonce) + bytes([1 if on else 0])
+
+
 def run_head(executable, arguments, env_vars, cwd, outputs):
     pairs = items(env_vars, lambda pair: text(pair[0]) + text(pair[1]))
     return text(executable) + items(arguments) + pairs + text(cwd) + items(outputs)
@@ -170,6 +174,10 @@ def read_heartbeat(r):
     return {"jwt_key": r.data().hex(), "num_cpus": r.number(8), "server_nonce": r.number(8)}
 
 
+def read_drain(r):
+    return {"server_nonce": r.number(8), "draining": r.flag()}
+
+
 def read_toolchain(r):
     return {"archive_id": r.text()}
 
@@ -193,6 +201,10 @@ def read_update(r):
 
 def read_heard(r):
     return {"is_new": r.flag()}
+
+
+def read_drained(r):
+    return {"known": r.flag()}
 
 
 def read_status(r):
@@ -227,6 +239,7 @@ def read_run(r):
 ROUTES = [
     ("/api/v1/scheduler/alloc_job", read_toolchain, read_alloc),
     ("/api/v1/scheduler/heartbeat_server", read_heartbeat, read_heard),
+    ("/api/v1/scheduler/drain_server", read_drain, read_drained),
     ("/api/v1/scheduler/job_state/", read_state, read_update),
     ("/api/v1/scheduler/status", None, read_status),
     ("/api/v1/distserver/assign_job/", read_toolchain, read_assign),

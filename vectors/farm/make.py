@@ -1,12 +1,12 @@
 #!/usr/bin/env python3
 """Writes a generated script, always the same for the same words.
 
-    make.py SEED EVENTS [servers]
+    make.py SEED EVENTS [VERSION [servers]]
 
 Requests of servers and clients, in order and not, calls that are delivered, lost, repeated, returned and
-answered from outside in any order, and moments that jump both ways; with `servers`, three servers of the
-farm that beat, restart and build. The model runs beside, so that most numbers name a call that waits, a
-delivery with a reply, a job that goes on.
+answered from outside in any order, and moments that jump both ways; in version 2 drains too; with `servers`,
+three servers of the farm that beat, restart and build. The model runs beside, so that most numbers name a
+call that waits, a delivery with a reply, a job that goes on.
 """
 import hashlib
 import random
@@ -29,8 +29,9 @@ def digest(archive):
 
 
 class Maker:
-    def __init__(self, seed, servers):
-        self.random = random.Random(seed)
+    def __init__(self, seed, version, servers):
+        self.random = random.Random(seed if version == 1 else f"{seed} {version}")
+        self.version = version
         self.inside = INSIDE if servers else []
         self.key = {addr: bytes([1, 2, n]) for n, addr in enumerate(INSIDE + OUTSIDE)}
         self.base = self.random.choice([4096, 4096, 2**64 - 3])
@@ -40,6 +41,8 @@ class Maker:
         count = self.random.choice([0, 0, 0, 0, 0, 7, 7, 2**64 - 4])
         auth = f"jwt {b'generated key'.hex()}" if self.inside and self.random.random() < 0.5 else "plain s1"
         self.auth, self.count = auth, count
+        if self.version == 2:
+            yield "version 2"
         yield f"scheduler {SCHED} base {self.base} count {count} client c1 {auth}"
         for addr in self.inside:
             cpus, capacity = self.random.choice([1, 2, 8]), self.random.choice([3, 500, 1000])
@@ -95,6 +98,11 @@ class Maker:
         job = self.job([before])
         addr = self.server_of(job, OUTSIDE + self.inside)
         return self.request(SCHED, f"/api/v1/scheduler/job_state/{job}", wire.state(state), self.bearer(addr), addr)
+
+    def drain(self):
+        addr = self.random.choice((self.inside or OUTSIDE) * 4 + OUTSIDE)
+        body = wire.drain(self.random.choice([7, 7, 7, 7, 8]), self.random.random() < 0.6)
+        return self.request(SCHED, "/api/v1/scheduler/drain_server", body, self.bearer(addr), addr)
 
     def status(self):
         return self.request(SCHED, "/api/v1/scheduler/status", None, None, PEER, "GET")
@@ -154,7 +162,8 @@ class Maker:
         states = {(core.state_of(self.farm.log, e["job"]) or ("",))[0] for _, e in core.unended(self.farm.log)}
         inside = [(w if m not in (self.submit, self.run) or {self.submit: "pending", self.run: "ready"}[m] in states else w / 20, m)
                   for w, m in inside]
-        weights, makers = zip(*(inside + [(w / 12, m) for w, m in outside] if self.inside else outside))
+        drains = [(4, self.drain)] if self.version == 2 else []
+        weights, makers = zip(*(inside + [(w / 12, m) for w, m in outside] if self.inside else outside), *drains)
         line = self.random.choices(makers, weights)[0]()
         if self.number < 6 and self.inside:
             line = f"beat {self.inside[self.number // 2]}" if self.number % 2 == 0 else f"deliver {self.number - 1}"
@@ -167,12 +176,13 @@ class Maker:
         return f"{self.now} {line}"
 
 
-def script(seed, events, servers):
-    maker = Maker(seed, servers)
+def script(seed, events, version, servers):
+    maker = Maker(seed, version, servers)
     lines = list(maker.setup())
     maker.farm = model.set_up([line.split(" ") for line in lines])
     return "\n".join(lines + [maker.event() for _ in range(events)]) + "\n"
 
 
 if __name__ == "__main__":
-    sys.stdout.write(script(int(sys.argv[1]), int(sys.argv[2]), sys.argv[3:] == ["servers"]))
+    seed_and_size = int(sys.argv[1]), int(sys.argv[2])
+    sys.stdout.write(script(*seed_and_size, int((sys.argv[3:] or ["1"])[0]), sys.argv[4:] == ["servers"]))

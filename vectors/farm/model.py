@@ -95,7 +95,8 @@ def update_fault(settled):
 
 
 class Farm:
-    def __init__(self, words):
+    def __init__(self, version, words):
+        self.version = version
         self.addr, self.base, self.count, self.client = words[1], int(words[3]), int(words[5]), words[7]
         self.plain = words[9] if words[8] == "plain" else None
         self.jwt = bytes.fromhex(words[9]) if words[8] == "jwt" else None
@@ -187,6 +188,8 @@ class Farm:
             self.allocate(request)
         elif (request.method, request.path) == (b"POST", api + "heartbeat_server"):
             self.hear(request, self.sender(request, peer))
+        elif self.version == 2 and (request.method, request.path) == (b"POST", api + "drain_server"):
+            self.drain(request, self.sender(request, peer))
         elif (request.method, request.path) == (b"GET", api + "status"):
             e = self.core(core.status(self.log, self.now))
             told = {"in_progress": e["jobs"], "num_cpus": e["cpus"], "num_servers": e["servers"]}
@@ -202,8 +205,15 @@ class Farm:
         cpus = beat["num_cpus"]
         if not 1 <= cpus <= 4294967295:
             raise heads.Refused(heads.server_error(f"Invalid number of CPUs ({cpus}) specified in heartbeat"))
-        e = self.core(core.beat(self.log, self.now, server, beat["server_nonce"], cpus, bytes.fromhex(beat["jwt_key"])))
+        key = bytes.fromhex(beat["jwt_key"])
+        e = self.core(core.beat(self.log, self.now, server, beat["server_nonce"], cpus, key, self.version))
         self.reply(self.number, heads.answer(bytes([e["new"]]), {"is_new": e["new"]}, request.wants_json()))
+
+    def drain(self, request, server):
+        asked = request.message(wire.read_drain)
+        e = self.core(core.drain(self.log, self.now, server, asked["server_nonce"], asked["draining"]))
+        known = e["reg"] is not None
+        self.reply(self.number, heads.answer(bytes([known]), {"known": known}, request.wants_json()))
 
     def report(self, request, server, job):
         state = request.message(wire.read_state).lower()
@@ -447,8 +457,9 @@ def canonical(words):
 
 
 def set_up(lines):
-    farm = Farm(lines[0])
-    for words in lines[1:]:
+    version = 2 if lines[0] == ["version", "2"] else 1
+    farm = Farm(version, lines[version - 1])
+    for words in lines[version:]:
         if words[0] == "server":
             farm.servers.append(Server(words))
         elif words[0] == "builder":
@@ -459,8 +470,8 @@ def set_up(lines):
 def run(script):
     lines = [line.split(" ") for line in script.split("\n") if line and not line.startswith("#")]
     farm = set_up(lines)
-    events = [words for words in lines[1:] if words[0] not in ("server", "builder")]
-    text = [f"run 1 entries {len(events)}"]
+    events = [words for words in lines[farm.version:] if words[0] not in ("server", "builder")]
+    text = [f"run {farm.version} entries {len(events)}"]
     for number, words in enumerate(events):
         text.append(f"entry {number} {' '.join(canonical(words))}")
         text += farm.event(number, words)

@@ -19,7 +19,7 @@ use Rattle.core_rules.proofs.LegalLemmas.{core_of, legal_has}
 use Rattle.core_rules.proofs.StepLemmas.{bare_commit, begun}
 use Rattle.core_rules.proofs.FactLemmas.{Facts, facts}
 use Rattle.core_rules.proofs.HeldLemmas.{IsKnown, IsPast, Sound, known-on, sound-step, no_sound}
-use Rattle.core_rules.proofs.OnceLemmas.{accepted_job}
+use Rattle.core_rules.proofs.MovedLemmas.{accepted_job}
 use Rattle.run_lines.specs.Fields.{job_of}
 use Rattle.std.proofs.lemmas.Bool.{eqb-true, and_parts}
 use Rattle.audit.specs.Replay.{is_begun}

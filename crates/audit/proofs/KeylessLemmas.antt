@@ -29,7 +29,7 @@ use Rattle.core_rules.specs.Reservation.{Booking, booked_by, booked_at, bookings
 use Rattle.core_rules.specs.Reservation.{is_complete, claims_by, is_claimed, load_of, spends_by, is_unspent, unspent}
 use Rattle.core_rules.specs.Fault.{Noted, noted_by, noted_at, forgives_by, is_remembered, error_of}
 use Rattle.core_rules.specs.Job.{Committed, places_by, place_of, committed_by, committed_at, moves_by, moves_of}
-use Rattle.core_rules.specs.Job.{state_now, state_of, closes_by, is_open, open_jobs, readied_by, readies_by, ready_at}
+use Rattle.core_rules.specs.Job.{state_now, state_of, drops_by, is_open, open_jobs, readied_by, readies_by, ready_at}
 use Rattle.core_rules.specs.Rows.{row_of, servers_of, held_of, held_rows, open_of, open_rows, placed, sorted_into}
 use Rattle.core_rules.specs.Rows.{unended_by_id}
 use Rattle.core_rules.specs.Rule.{rule, is_among, place_at, noted_over, reserve_over, commit_by, undo_by, beat_over}
@@ -172,15 +172,15 @@ forgives_same (Update server job state answer) r = refl
 forgives_same (Status pruned servers cpus jobs) r = refl
 forgives_same (Drain place code flag named) r = refl
 
-closes_same : (k : CoreKind) (j : JobId) (o : Option ℕ) → closes_by (keyless k) j o ≡ closes_by k j o
-closes_same (Beat server nonce cpus key pruned reaped replaced is_new) j None = refl
-closes_same (Beat server nonce cpus key pruned reaped replaced is_new) j (Some r) = refl
-closes_same (Reserve x) j o = refl
-closes_same (Commit job state kept) j o = refl
-closes_same (Undo job noted was) j o = refl
-closes_same (Update server job state answer) j o = refl
-closes_same (Status pruned servers cpus jobs) j o = refl
-closes_same (Drain place code flag named) j o = refl
+drops_same : (k : CoreKind) (j : JobId) (o : Option ℕ) → drops_by (keyless k) j o ≡ drops_by k j o
+drops_same (Beat server nonce cpus key pruned reaped replaced is_new) j None = refl
+drops_same (Beat server nonce cpus key pruned reaped replaced is_new) j (Some r) = refl
+drops_same (Reserve x) j o = refl
+drops_same (Commit job state kept) j o = refl
+drops_same (Undo job noted was) j o = refl
+drops_same (Update server job state answer) j o = refl
+drops_same (Status pruned servers cpus jobs) j o = refl
+drops_same (Drain place code flag named) j o = refl
 
 serves_same : (log : List CoreEntry) (k : CoreKind) (reg : ℕ) → serves (map without_key log) (keyless k) reg
     ≡ serves log k reg
@@ -453,8 +453,10 @@ opens log (c ∷ cs) = ap (λ o. o ∷ map (λ x. open_of (map without_key log) 
 open_rows_same : (log : List CoreEntry) → open_rows (map without_key log) ≡ open_rows log
 open_rows_same log =
     ap (map (open_of (map without_key log))) (commits_bare is_open
-    (λ c. ap (λ b. not (is_complete c.state) && not b) (any_same (λ e. closes_by e.kind c.job c.reg) (λ e. closes_same e.kind c.job c.reg)
-    c.later)) log)
+    (λ c. ap (λ s. not (is_complete s) && not (list_any (λ e. drops_by e.kind c.job c.reg) (map without_key c.later)))
+    (state_now_same c)
+    ∙ ap (λ b. not (is_complete (state_now c)) && not b)
+    (any_same (λ e. drops_by e.kind c.job c.reg) (λ e. drops_same e.kind c.job c.reg) c.later)) log)
     ∙ map-map (open_of (map without_key log)) bare_commit (open_jobs log)
     ∙ opens log (open_jobs log)
 

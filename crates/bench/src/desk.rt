@@ -1,5 +1,5 @@
 //! A scheduler's state, the moment of its last call, and the jobs that go through it.
-use crate::short_tokens::ShortTokens;
+use crate::short_tokens::CoreTokens;
 use core_rules::answers::Committed;
 use dist_types::addr::Addr;
 use dist_types::ids::{JobId, ServerId, ServerNonce};
@@ -12,7 +12,7 @@ use std::alloc::Global;
 /// A scheduler's state, and the moment of the last call in milliseconds.
 #[derive(Drop)]
 pub struct Desk {
-    state: SchedState<ShortTokens>,
+    state: SchedState<CoreTokens>,
     now: u64,
 }
 
@@ -70,7 +70,7 @@ impl Desk {
     fn register(&mut self, alloc: Global, number: u64, cpus: u64) -> Option<()> {
         let [a, b, c, d] = ((number % 4294967296) as u32).to_be_bytes();
         let server = ServerId::new(Addr::V4([a, b, c, d], 10501));
-        let key = ShortTokens::of_key(Vec::new(alloc));
+        let key = CoreTokens::of_key(Vec::new(alloc));
         let now = self.next();
         self.state
             .beat(now, server, ServerNonce::new(7), cpus, key)

@@ -6,13 +6,23 @@ use dist_types::ids::JobId;
 use dist_types::roles::JobAuthorizer;
 use dist_types::token_error::TokenError;
 
-/// Gives each job the token `t`, and accepts each token.
+/// The tokens of `core`.
+pub type CoreTokens = ShortTokens<0>;
+
+/// The tokens of `quotas`.
+pub type QuotaTokens = ShortTokens<1>;
+
+/// The tokens of `turns`.
+pub type TurnTokens = ShortTokens<2>;
+
+/// Gives each job the token `t`, and accepts each token. Each word of the program has a number of its own, so
+/// that it shares no compiled code with another, which would change its figures.
 #[derive(Drop)]
-pub struct ShortTokens {
+pub struct ShortTokens<const WORD: u8> {
     key: Vec<u8>,
 }
 
-impl JobAuthorizer for ShortTokens {
+impl<const WORD: u8> JobAuthorizer for ShortTokens<WORD> {
     ghost key_of = { λ a. a.key.items };
 
     ghost token_for = { λ a job. codes "t" };

@@ -14,7 +14,7 @@ use Rattle.dist_types.specs.declared.results.JobComplete.{JobComplete}
 use Rattle.dist_types.specs.declared.results.RunJobResult.{RunJobResult}
 use Rattle.dist_types.specs.declared.results.RunJobResult.TheVariants as answer
 use Rattle.build_server.specs.Rules.{Update, fault_of}
-use Rattle.build_server.specs.declared.fault.BuildCause.TheVariants as cause
+use Rattle.dist_types.specs.declared.builder.BuildCause.TheVariants as cause
 use Rattle.build_server.specs.declared.fault.ServerFault.{ServerFault}
 use Rattle.build_server.specs.declared.fault.ServerFault.TheVariants as fault
 use Rattle.build_server.specs.declared.run.Taken.{Taken}

@@ -21,7 +21,7 @@ use Rattle.build_server.specs.Builds.{Order, Builder, complete_of}
 use Rattle.dist_types.specs.declared.results.SubmitToolchainResult.TheVariants.{CannotCache}
 use Rattle.build_server.specs.Rows.{Reports, Reading, Ends, IsSubmitOn, IsRunOn}
 use Rattle.build_server.specs.Rules.{Update}
-use Rattle.build_server.specs.declared.fault.BuildCause.TheVariants as cause
+use Rattle.dist_types.specs.declared.builder.BuildCause.TheVariants as cause
 use Rattle.build_server.specs.declared.fault.ServerFault.{ServerFault}
 use Rattle.build_server.specs.declared.fault.ServerFault.TheVariants as fault
 

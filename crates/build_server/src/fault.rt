@@ -2,6 +2,7 @@
 ghost use Rattle.std.specs.Prelude.{◌≡◌};
 ghost use Rattle.build_server.specs.Rules.{fault_of};
 
+pub use dist_types::builder::BuildCause;
 use dist_types::ids::JobId;
 use dist_types::outgoing::CallFault;
 use dist_types::results::UpdateJobStateResult;
@@ -9,20 +10,6 @@ use thiserror::Error;
 
 /// What the scheduler answered to an update. Either `Ok` counts as accepted.
 pub type Update = Result<UpdateJobStateResult, CallFault>;
-
-/// Why a run gave no build.
-#[derive(Clone, Copy, Debug, PartialEq, Eq, Error)]
-pub enum BuildCause {
-    /// The toolchain's archive is not listed.
-    #[error("toolchain not in cache")]
-    Unlisted,
-    /// The archive could not be read, since the folder failed.
-    #[error("toolchain unreadable")]
-    Folder,
-    /// The builder refused.
-    #[error("builder refused")]
-    Refused,
-}
 
 /// Why a call of a build server gives no answer.
 #[derive(Clone, Copy, Debug, PartialEq, Eq, Error)]

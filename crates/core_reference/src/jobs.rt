@@ -5,13 +5,13 @@ ghost use Rattle.core_rules.specs.Cuts.{lasting};
 ghost use Rattle.core_rules.specs.Log.{latest, same_job};
 ghost use Rattle.core_rules.specs.Standing.{address_of};
 ghost use Rattle.core_rules.specs.Reservation.{booked_at, booked_by, spends_by, frees_by, claims_by};
-ghost use Rattle.core_rules.specs.Job.{committed_by, closes_by, is_open, ends_place_by, moves_by, place_of};
+ghost use Rattle.core_rules.specs.Job.{committed_by, drops_by, is_open, ends_place_by, moves_by, place_of};
 ghost use Rattle.core_rules.specs.Next.{held_by};
 ghost use Rattle.core_rules.specs.Rows.{held_of, open_of, open_rows};
 ghost use Rattle.core_reference.specs.Plain.{seen, lasts_as};
 
 use crate::entries::{address_in, place_in, push_if, ready_in, state_in};
-use core_rules::effects::{claims, complete, completes, ends, frees, moves, reaps, spends};
+use core_rules::effects::{claims, complete, ends, frees, moves, reaps, spends};
 use core_rules::entry::{CoreEntry, CoreKind, Reserved};
 use core_rules::rows::{HeldRow, OpenRow};
 use dist_types::ids::{JobId, ServerId};
@@ -128,13 +128,13 @@ fn ends_place(kind: &CoreKind, reg: Option<u64>) -> bool
     }
 }
 
-/// Whether one of the entries ends the job.
-fn is_closed(entries: &[CoreEntry], job: JobId, reg: Option<u64>) -> bool
-    ensures { result ≡ list_any (λ e. closes_by e.kind job reg) entries.now }
+/// Whether one of the entries reaps the job or ends its registration.
+fn is_dropped(entries: &[CoreEntry], job: JobId, reg: Option<u64>) -> bool
+    ensures { result ≡ list_any (λ e. drops_by e.kind job reg) entries.now }
 {
-    entries.iter().any(|e| completes(&e.kind, job)
-        || reaps(&e.kind, job)
-        || ends_place(&e.kind, reg))
+    entries
+        .iter()
+        .any(|e| reaps(&e.kind, job) || ends_place(&e.kind, reg))
 }
 
 /// The state of a job that was committed in that one.
@@ -174,17 +174,18 @@ fn open_row(
     }) }
 {
     let reg = place_in(before, job);
+    let state = state_from(later, job, state);
     if complete(state) {
         return None;
     }
-    if is_closed(later, job, reg) {
+    if is_dropped(later, job, reg) {
         return None;
     }
     Some(OpenRow {
         job,
         reg,
         server: address_if(log, reg),
-        state: state_from(later, job, state),
+        state,
     })
 }
 

@@ -1,21 +1,19 @@
 -- Version 1 has no drain, and without drains nothing is draining.
-use Rattle.std.proofs.Common.{◌≡◌, ℕ, List, [], ◌∷◌, ◌++◌, Bool, true, false, Option, Some, None, refl, ap}
-use Rattle.std.proofs.Common.{◌∙◌, sym, filter}
+use Rattle.std.proofs.Common.{◌≡◌, ℕ, List, [], ◌∷◌, ◌++◌, true, false, None, refl, ap}
+use Rattle.std.proofs.Common.{◌∙◌, sym}
 use Rattle.std.specs.List.{AllByRecursion, filter_map, cons_option}
-use Rattle.dist_types.specs.declared.rules.Rules.{Rules}
 use Rattle.dist_types.specs.declared.rules.Rules.TheVariants.{One, Two}
 use Rattle.core_rules.specs.declared.start.Start.{Start}
 use Rattle.core_rules.specs.declared.entry.CoreEntry.{CoreEntry}
 use Rattle.core_rules.specs.declared.entry.CoreKind.{CoreKind}
 use Rattle.core_rules.specs.declared.entry.CoreKind.TheVariants.{Beat, Reserve, Commit, Undo, Update, Status}
 use Rattle.core_rules.specs.declared.entry.CoreKind.TheVariants.{Drain}
-use Rattle.core_rules.specs.declared.entry.Reserved.TheVariants.{Job, NoRoom, Spent}
-use Rattle.core_rules.specs.Cuts.{cuts_behind, cuts}
+use Rattle.core_rules.specs.Cuts.{cuts_behind}
 use Rattle.core_rules.specs.Log.{latest}
 use Rattle.core_rules.specs.Standing.{Registered, registered_by, registered_at, registrations, standing, stands}
 use Rattle.core_rules.specs.Standing.{drains_by, drained_in, is_draining}
 use Rattle.core_rules.specs.Rows.{row_of}
-use Rattle.core_rules.specs.Laws.{IsLegal, IsRule, HasNoDrain, NothingDrains, is_drain}
+use Rattle.core_rules.specs.Laws.{IsLegal, HasNoDrain, NothingDrains, is_drain}
 use Rattle.core_rules.proofs.AllLemmas.{all-append, all-filter, all-map}
 use Rattle.core_rules.proofs.LegalLemmas.{core_of, legal_has}
 use Rattle.core_rules.proofs.FactLemmas.{Facts, facts}

@@ -1,10 +1,12 @@
 -- In each legal log an open job is held at one registration, which stands.
 use Rattle.std.proofs.Common.{◌≡◌, ℕ, ◌^◌, ◌<◌, List, [], ◌∷◌, ◌++◌, Bool, true, false, cond, not, ◌&&◌, ◌||◌}
-use Rattle.std.proofs.Common.{filter, length, Option, Some, None, refl, ap, ◌∙◌, sym, subst, eq-eqb, eqb-true}
+use Rattle.std.proofs.Common.{filter, length, map, Option, Some, None, refl, ap, ◌∙◌, sym, subst, eq-eqb}
+use Rattle.std.proofs.Common.{eqb-true, append-nil}
 use Rattle.std.specs.Prelude.{◌==◌, option_to_list}
 use Rattle.std.specs.List.{AllByRecursion, list_any}
 use Rattle.std.specs.Option.{option_map}
 use Rattle.std.proofs.lemmas.Bool.{false≢true}
+use Rattle.std.proofs.lemmas.List.{map-append}
 use Rattle.dist_types.specs.declared.ids.JobId.{JobId}
 use Rattle.core_rules.specs.declared.start.Start.{Start}
 use Rattle.core_rules.proofs.Lists.{end_cut}
@@ -19,23 +21,25 @@ use Rattle.core_rules.specs.Reservation.{Booking, booked_by, bookings, unspent, 
 use Rattle.core_rules.specs.Reservation.{frees_by}
 use Rattle.core_rules.specs.Reservation.{ends_job_by, undoes_by, reaps_by, completes_by, is_complete}
 use Rattle.core_rules.specs.Job.{Committed, committed_by, places_by, place_of, closes_by, ends_place_by}
-use Rattle.core_rules.specs.Job.{open_jobs}
+use Rattle.core_rules.specs.Job.{commits, open_jobs}
 use Rattle.core_rules.specs.Rows.{row_of, servers_of}
-use Rattle.core_rules.specs.Laws.{IsRule, IsLegal, IsHeldOnce, HasStanding}
+use Rattle.core_rules.specs.Laws.{IsRule, IsLegal, IsHeldOnce, HasStanding, AreDistinct}
 use Rattle.core_rules.proofs.LegalLemmas.{core_of, legal_has}
-use Rattle.core_rules.proofs.Lists.{list_any-map}
+use Rattle.core_rules.proofs.Lists.{list_any-map, map-map}
 use Rattle.core_rules.proofs.AllLemmas.{and_left, and_right, both, or_left, or_right, neither, not_true}
 use Rattle.core_rules.proofs.AllLemmas.{not_false, true_false, is_false, same_job-refl, same_job-sym}
 use Rattle.core_rules.proofs.AllLemmas.{same_job-trans, same_job-eq, other_job-sym, all-weaker, all-both}
 use Rattle.core_rules.proofs.AllLemmas.{all-append, all-filter, all-unmap, all-step, any-append, any-weaker}
 use Rattle.core_rules.proofs.AllLemmas.{any-kept, any-end, none-kept, none-left, none-append, found}
-use Rattle.core_rules.proofs.AllLemmas.{distinct-filter, only, names-filter}
+use Rattle.core_rules.proofs.AllLemmas.{distinct-filter, distinct-push, only, names-filter, all-map}
 use Rattle.core_rules.proofs.StepLemmas.{bare, bare_commit, held, free, kept, begun, regs, booked}
 use Rattle.core_rules.proofs.StepLemmas.{committed}
 use Rattle.core_rules.proofs.StepLemmas.{held_stays, free_stays, begun_stays, held-push, free-push}
 use Rattle.core_rules.proofs.StepLemmas.{kept-push}
-use Rattle.core_rules.proofs.StepLemmas.{begun-push, place_of-push, regs-push}
+use Rattle.core_rules.proofs.StepLemmas.{MovesEachOn, begun-push, place_of-push, regs-push}
+use Rattle.core_rules.proofs.StepLemmas.{grown_commit, commits-push}
 use Rattle.core_rules.proofs.FactLemmas.{Facts, SpendFacts, facts, pick_there}
+use Rattle.core_rules.proofs.MovedLemmas.{moved_on}
 use Rattle.core_rules.proofs.SoundLemmas.{HasIds, jobs, jobs-push, ids-step, fresh_job, no_ids}
 
 -- the job was reserved
@@ -57,6 +61,7 @@ pub record Sound (start : Start) (log : List CoreEntry) : Type 0 where
   pub held_placed : AllByRecursion (λ b. place_of b.job log ≡ Some b.reg) (held log)
   pub held_stands : AllByRecursion (λ b. names (regs log) b.reg ≡ true) (held log)
   pub kept_past : AllByRecursion (λ c. IsPast log c.job) (kept log)
+  pub committed : AreDistinct (map (λ c. c.job) (commits log))
   pub begun_past : AllByRecursion (λ c. IsPast log c.job) (begun log)
   pub begun_held : AllByRecursion (IsHeldAt log) (begun log)
 
@@ -303,11 +308,76 @@ held-on start log e is c past here stays =
     all_known [] = tt
     all_known (b ∷ bs) = (tt, all_known bs)
 
+-- no job is committed twice
+commit_made : (log : List CoreEntry) (k : CoreKind) (before : List CoreEntry)
+    → AreDistinct (map (λ c. c.job) (commits log))
+    → AllByRecursion (λ c. AllByRecursion (λ d. same_job d.job c.job ≡ false) (commits log))
+    (option_to_list (committed_by k before []))
+    → AreDistinct (map (λ c. c.job) (commits log) ++ map (λ c. c.job)
+    (option_to_list (committed_by k before [])))
+commit_made log (Commit job state true) before distinct other =
+    distinct-push (map (λ c. c.job) (commits log)) job distinct
+    (all-map (λ k. same_job k job ≡ false) (λ c. c.job) (commits log) other.0)
+commit_made log (Commit job state false) before distinct other =
+    subst AreDistinct (sym (append-nil (map (λ c. c.job) (commits log)))) distinct
+commit_made log (Reserve r) before distinct other =
+    subst AreDistinct (sym (append-nil (map (λ c. c.job) (commits log)))) distinct
+commit_made log (Undo job noted was_ended) before distinct other =
+    subst AreDistinct (sym (append-nil (map (λ c. c.job) (commits log)))) distinct
+commit_made log (Beat server nonce cpus key pruned reaped replaced is_new) before distinct other =
+    subst AreDistinct (sym (append-nil (map (λ c. c.job) (commits log)))) distinct
+commit_made log (Update server job state answer) before distinct other =
+    subst AreDistinct (sym (append-nil (map (λ c. c.job) (commits log)))) distinct
+commit_made log (Status pruned servers cpus n) before distinct other =
+    subst AreDistinct (sym (append-nil (map (λ c. c.job) (commits log)))) distinct
+commit_made log (Drain addr nonce on named) before distinct other =
+    subst AreDistinct (sym (append-nil (map (λ c. c.job) (commits log)))) distinct
+
+new_commit : (start : Start) (log : List CoreEntry) (k : CoreKind) (before : List CoreEntry)
+    → Sound start log → Facts (core_of start log) k
+    → AllByRecursion (λ c. AllByRecursion (λ d. same_job d.job c.job ≡ false) (commits log))
+    (option_to_list (committed_by k before []))
+new_commit start log (Commit job state true) before sound is =
+    let there : (b : Booking) × Unit {0} × (same_job b.job job ≡ true) = found (λ b. Unit {0})
+    (λ b. same_job b.job job) (free log) (all_unit (free log))
+    (spent_free (core_of start log) job true is.0) in (
+      all-weaker (λ c. IsPast log c.job) (λ d. same_job d.job job ≡ false)
+          (λ d past. is_false (same_job d.job job)
+          (λ t. true_false (list_any (λ b. same_job b.job d.job) (free log))
+          (any-weaker (λ b. same_job b.job job) (λ b. same_job b.job d.job)
+          (λ b h. same_job-trans b.job job d.job h (same_job-sym d.job job t)) (free log)
+          (spent_free (core_of start log) job true is.0)) past.1)) (commits log)
+          (all-unmap (λ c. IsPast log c.job) bare_commit (commits log) sound.kept_past),
+      tt,
+    )
+  where
+    all_unit : (bs : List Booking) → AllByRecursion (λ b. Unit {0}) bs
+    all_unit [] = tt
+    all_unit (b ∷ bs) = (tt, all_unit bs)
+new_commit start log (Commit job state false) before sound is = tt
+new_commit start log (Reserve r) before sound is = tt
+new_commit start log (Undo job noted was_ended) before sound is = tt
+new_commit start log (Beat server nonce cpus key pruned reaped replaced is_new) before sound is = tt
+new_commit start log (Update server job state answer) before sound is = tt
+new_commit start log (Status pruned servers cpus n) before sound is = tt
+new_commit start log (Drain addr nonce on named) before sound is = tt
+
+commit-step : (start : Start) (log : List CoreEntry) (e : CoreEntry) → Sound start log
+    → Facts (core_of start log) e.kind → AreDistinct (map (λ c. c.job) (commits log))
+    → AreDistinct (map (λ c. c.job) (commits (log ++ e ∷ [])))
+commit-step start log e sound is distinct =
+    subst AreDistinct (sym (ap (map (λ c. c.job)) (commits-push log e) ∙ map-append (λ c. c.job)
+    (map (grown_commit e) (commits log)) (option_to_list (committed log e))
+    ∙ ap (λ js. js ++ map (λ c. c.job) (option_to_list (committed log e)))
+    (map-map (λ c. c.job) (grown_commit e) (commits log))))
+    (commit_made log e.kind log distinct (new_commit start log e.kind log sound is))
+
 pub sound-step : (start : Start) (log : List CoreEntry) (e : CoreEntry) → Sound start log
     → IsRule (core_of start log) e → Sound start (log ++ e ∷ [])
 sound-step start log e sound rule_is =
     let next : List CoreEntry = log ++ e ∷ [] in
     let is : Facts (core_of start log) e.kind = facts (core_of start log) e rule_is in
+    let on : MovesEachOn log e.kind = moved_on start log e.kind sound.committed is in
     record {
       ids = ids-step start log e sound.ids rule_is;
       held_known = subst (AllByRecursion (λ b. IsKnown next b.job)) (sym (held-push log e))
@@ -342,7 +412,8 @@ sound-step start log e sound rule_is =
           (all-weaker (λ c. IsPast log c.job) (λ c. IsPast next c.job)
           (λ c h. past-on start log e sound.ids is c.job h) (kept log) sound.kept_past)
           (new_past start log e.now e.kind is sound.free_known));
-      begun_past = subst (AllByRecursion (λ c. IsPast next c.job)) (sym (begun-push log e))
+      committed = commit-step start log e sound is sound.committed;
+      begun_past = subst (AllByRecursion (λ c. IsPast next c.job)) (sym (begun-push log e on))
           (all-append (λ c. IsPast next c.job) (filter (begun_stays e) (begun log))
           (filter (λ c. not (is_complete c.state)) (option_to_list (committed log e)))
           (all-filter (λ c. IsPast log c.job) (λ c. IsPast next c.job) (begun_stays e)
@@ -350,7 +421,7 @@ sound-step start log e sound rule_is =
           (all-filter (λ c. IsPast next c.job) (λ c. IsPast next c.job) (λ c. not (is_complete c.state))
           (λ c h t. h) (option_to_list (committed log e))
           (new_past start log e.now e.kind is sound.free_known)));
-      begun_held = subst (AllByRecursion (IsHeldAt next)) (sym (begun-push log e))
+      begun_held = subst (AllByRecursion (IsHeldAt next)) (sym (begun-push log e on))
           (all-append (IsHeldAt next) (filter (begun_stays e) (begun log))
           (filter (λ c. not (is_complete c.state)) (option_to_list (committed log e)))
           (all-filter (λ c. IsPast log c.job × IsHeldAt log c) (IsHeldAt next) (begun_stays e)
@@ -370,6 +441,7 @@ no_sound start fits = record {
   held_placed = tt;
   held_stands = tt;
   kept_past = tt;
+  committed = tt;
   begun_past = tt;
   begun_held = tt;
 }

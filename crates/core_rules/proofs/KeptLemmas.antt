@@ -22,12 +22,12 @@ use Rattle.core_rules.specs.declared.entry.Reserved.TheVariants.{Job, NoRoom, Sp
 use Rattle.core_rules.specs.declared.rows.ServerRow.{ServerRow}
 use Rattle.core_rules.specs.declared.rows.JobRow.{JobRow}
 use Rattle.core_rules.specs.Next.{UnspentRow}
-use Rattle.core_rules.specs.Log.{Core, same_job, is_this, names, newer, newest, latest}
+use Rattle.core_rules.specs.Log.{Core, same_job, is_this, names, newer, newest}
 use Rattle.core_rules.specs.Standing.{standing, address_of, key_at}
 use Rattle.core_rules.specs.Reservation.{Booking, booked_by as reserved_by, booked_at, is_unended, unended}
 use Rattle.core_rules.specs.Reservation.{unspent}
 use Rattle.core_rules.specs.Reservation.{claims_by, is_claimed, spends_by, frees_by}
-use Rattle.core_rules.specs.Job.{Committed, committed_by, committed_at, commits, moves_by, moves_of}
+use Rattle.core_rules.specs.Job.{Committed, committed_by, committed_at, commits, moves_by}
 use Rattle.core_rules.specs.Job.{state_now, state_of, is_open, open_jobs, place_of, readies_by, ready_at}
 use Rattle.core_rules.specs.Rows.{row_of, servers_of, held_of, held_rows}
 use Rattle.core_rules.specs.Rows.{open_of, open_rows}
@@ -39,24 +39,17 @@ use Rattle.core_rules.specs.Next.{job_over, job_by, open_stays, open_after, open
 use Rattle.core_rules.specs.Next.{open_by, unspent_stays, unspent_by, place_of_unspent, place_of_booking}
 use Rattle.core_rules.specs.Next.{IsAtRow}
 use Rattle.core_rules.proofs.StandingLemmas.{none-push}
-use Rattle.core_rules.proofs.Lists.{list_any-map, latest-push, newest-push}
+use Rattle.core_rules.proofs.Lists.{list_any-map, newest-push}
 use Rattle.core_rules.proofs.AllLemmas.{same_job-eq, all-weaker, all-both, all-map}
 use Rattle.core_rules.proofs.AllLemmas.{all-unmap, and_right, any-weaker, found}
 use Rattle.core_rules.proofs.StepLemmas as step
 use Rattle.core_rules.proofs.FactLemmas.{Facts, pick_there}
+use Rattle.core_rules.proofs.MovedLemmas.{moved_on}
 use Rattle.core_rules.proofs.HeldLemmas.{Sound, IsHeldAt, is_this-eq}
 use Rattle.core_rules.proofs.LegalLemmas.{core_of}
 use Rattle.core_rules.proofs.GrowLemmas.{newest-grown, and_true, map-agree, map-all_agree}
 use Rattle.core_rules.proofs.SortLemmas.{found_first}
 use Rattle.core_rules.proofs.PlaceLemmas.{address-stays, cards_are}
-
--- the state of a commit, with one more entry
-state_now-grown : (e : CoreEntry) (c : Committed) → state_now (step.grown_commit e c) ≡ unwrap_or
-    (moves_by e.kind c.job) (state_now c)
-state_now-grown e c =
-    ap (latest c.state) (filter_map-append (λ d. moves_by d.kind c.job) c.later (e ∷ [])
-    ∙ ap (λ ss. moves_of c ++ ss) (cons_nil (moves_by e.kind c.job)))
-    ∙ latest-push c.state (moves_of c) (moves_by e.kind c.job)
 
 begun_by : (k : CoreKind) (job : JobId) (later : List CoreEntry)
     → option_and_then (seen (λ c. same_job c.job job) state_now) (committed_by k later []) ≡ begins_by k job
@@ -76,7 +69,7 @@ state_of-push job later e =
     newest-grown committed_at step.grown_commit (λ c. same_job c.job job) state_now true
     (λ s. unwrap_or (moves_by e.kind job) s) later e
     (λ c. step.committed-grown c.at.kind c.before c.after e) (λ c. and_true (same_job c.job job))
-    (λ c h. state_now-grown e c ∙ ap (λ j. unwrap_or (moves_by e.kind j) (state_now c))
+    (λ c h. step.state_now-grown e c ∙ ap (λ j. unwrap_or (moves_by e.kind j) (state_now c))
     (same_job-eq c.job job h))
     ∙ ap (λ o. newer o (option_map (λ s. unwrap_or (moves_by e.kind job) s) (state_of job later)))
     (begun_by e.kind job later)
@@ -286,10 +279,10 @@ open_view-push : {B : Type 0} (view : Committed → B) (after : CoreEntry → B 
     (stays : CoreEntry → B → Bool) →
     ((e : CoreEntry) (c : Committed) → view (step.grown_commit e c) ≡ after e (view c))
     → ((e : CoreEntry) (c : Committed) → step.begun_stays e (step.bare_commit c) ≡ stays e (view c))
-    → (log : List CoreEntry) (e : CoreEntry) →
+    → (log : List CoreEntry) (e : CoreEntry) → step.MovesEachOn log e.kind →
     map view (open_jobs (log ++ e ∷ [])) ≡ map (after e) (filter (stays e) (map view (open_jobs log)))
     ++ map view (filter is_open (option_to_list (step.committed log e)))
-open_view-push {B} view after stays changed same log e =
+open_view-push {B} view after stays changed same log e on =
     ap (λ cs. map view (filter is_open cs)) (step.commits-push log e)
     ∙ ap (map view) (filter-append is_open (map (step.grown_commit e) (commits log))
     (option_to_list (step.committed log e)))
@@ -304,8 +297,9 @@ open_view-push {B} view after stays changed same log e =
         ∙ map-agree (λ c. view (step.grown_commit e c)) (λ c. after e (view c)) (changed e)
         (filter (λ c. is_open (step.grown_commit e c)) (commits log))
         ∙ ap (map (λ c. after e (view c)))
-        (filter_agree (λ c. is_open (step.grown_commit e c)) (λ c. is_open c && stays e (view c))
-        (λ c. step.open-grown e c ∙ ap (λ b. is_open c && b) (same e c)) (commits log)
+        (step.open_agree e (commits log) on
+        ∙ filter_agree (λ c. is_open c && step.begun_stays e (step.bare_commit c))
+        (λ c. is_open c && stays e (view c)) (λ c. ap (λ b. is_open c && b) (same e c)) (commits log)
         ∙ filter-filter (λ c. stays e (view c)) is_open (commits log))
         ∙ sym (map-map (after e) view (filter (λ c. stays e (view c)) (open_jobs log)))
         ∙ ap (map (after e)) (sym (filter-map (stays e) view (open_jobs log)))
@@ -318,7 +312,7 @@ open_of-grown whole e c =
       reg = c.reg;
       server = option_and_then (address_of whole) c.reg;
       state = s;
-    }) (state_now-grown e c)
+    }) (step.state_now-grown e c)
 
 -- an open job is at a registration that has an address
 pub record IsOpenAt (log : List CoreEntry) (c : Committed) : Type 0 where
@@ -466,7 +460,7 @@ open-absorb start jobs log e sound is same placed_are =
     (IsJobPlaced log) (λ j p q. (p, q)) jobs (jobs_at_place start log jobs sound same) placed_are)
     (kept_job start log e.kind jobs same is)))
     ∙ sym (open_view-push (open_of next) (λ d o. open_after d.kind o) (λ d o. open_stays d.kind o)
-    (open_of-grown next) (λ d c. refl) log e)
+    (open_of-grown next) (λ d c. refl) log e (moved_on start log e.kind sound.committed is))
   where
     next : List CoreEntry
     next = log ++ e ∷ []

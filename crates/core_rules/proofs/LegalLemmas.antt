@@ -1,10 +1,8 @@
 -- What each legal entry keeps, each legal log has.
-use Rattle.std.proofs.Common.{◌≡◌, List, [], ◌∷◌, ◌++◌, sym, subst, append-nil, append_assoc}
+use Rattle.std.proofs.Common.{List, [], ◌∷◌, ◌++◌, sym, subst, append-nil, append_assoc}
 use Rattle.core_rules.specs.declared.start.Start.{Start}
 use Rattle.core_rules.specs.declared.entry.CoreEntry.{CoreEntry}
-use Rattle.core_rules.specs.declared.call.Call.{Call}
 use Rattle.core_rules.specs.Log.{Core}
-use Rattle.core_rules.specs.Rule.{rule, IsCall}
 use Rattle.core_rules.specs.Laws.{IsRule, IsLegal, IsLegalBehind}
 
 -- the scheduler with this log

@@ -12,6 +12,7 @@ pub mod KeptLemmas
 pub mod LawfulLemmas
 pub mod LegalLemmas
 pub mod Lists
+pub mod MovedLemmas
 pub mod OnceLemmas
 pub mod OwnLemmas
 pub mod PickLemmas

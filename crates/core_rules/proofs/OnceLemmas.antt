@@ -1,52 +1,49 @@
 -- In each legal log a reservation is spent at most once and ends at most once, and a job's states leave none
 -- out.
-use Rattle.std.proofs.Common.{◌≡◌, ℕ, ◌+◌, ◌^◌, ◌<◌, ◌≤◌, List, [], ◌∷◌, ◌++◌, Bool, true, false, cond, ◌&&◌}
-use Rattle.std.proofs.Common.{◌||◌, map, filter, length, Option, Some, None, refl, ap, ◌∙◌, sym, subst, arith}
+use Rattle.std.proofs.Common.{◌≡◌, ℕ, ◌+◌, ◌^◌, ◌<◌, ◌≤◌, List, [], ◌∷◌, ◌++◌, Bool, true, false, cond, not}
+use Rattle.std.proofs.Common.{◌&&◌, ◌||◌, map, filter, length, Option, Some, None, refl, ap, ◌∙◌, sym, subst, arith}
 use Rattle.std.proofs.Common.{append-nil}
-use Rattle.std.specs.Prelude.{◌==◌, option_to_list, count_by, if◌then◌else◌}
-use Rattle.std.specs.List.{AllByRecursion, list_any, find}
+use Rattle.std.specs.Prelude.{◌==◌, option_to_list, count_by, if◌then◌else◌, unwrap_or}
+use Rattle.std.specs.List.{AllByRecursion, list_any, filter_map, cons_option}
 use Rattle.std.proofs.lemmas.Bool.{false≢true}
-use Rattle.std.proofs.lemmas.List.{map-append}
 use Rattle.std.proofs.lemmas.List.Sums.{sum_by-cons, sum_by_push}
 use Rattle.std.proofs.lemmas.List.Elements.{filter_map-append}
 use Rattle.core_rules.specs.declared.start.Start.{Start}
 use Rattle.core_rules.specs.Cuts.{Cut, cuts}
-use Rattle.dist_types.specs.declared.addr.Addr.{Addr}
 use Rattle.dist_types.specs.declared.ids.JobId.{JobId}
 use Rattle.dist_types.specs.declared.results.JobState.{JobState}
-use Rattle.core_rules.proofs.Lists.{map-map, followed, cuts_behind-push, end_cut, cons_nil}
+use Rattle.core_rules.proofs.Lists.{followed, cuts_behind-push, end_cut, cons_nil}
 use Rattle.core_rules.specs.declared.entry.CoreEntry.{CoreEntry}
 use Rattle.core_rules.specs.declared.entry.CoreKind.{CoreKind}
 use Rattle.core_rules.specs.declared.entry.CoreKind.TheVariants.{Beat, Reserve, Commit, Undo, Update}
 use Rattle.core_rules.specs.declared.entry.CoreKind.TheVariants.{Status, Drain}
 use Rattle.core_rules.specs.declared.entry.Reserved.TheVariants.{Job, NoRoom, Spent}
-use Rattle.core_rules.specs.declared.entry.UpdateAnswer.TheVariants.{Accepted, Wrong, Transition}
 use Rattle.core_rules.specs.declared.rows.ServerRow.{ServerRow}
-use Rattle.core_rules.specs.declared.rows.OpenRow.{OpenRow}
 use Rattle.dist_types.specs.declared.rules.Rules.{Rules}
 use Rattle.core_rules.specs.Log.{same_job, names_job, is_this, latest}
 use Rattle.core_rules.specs.Reservation.{Booking, booked_by, bookings, unspent, unended, is_unended}
 use Rattle.core_rules.specs.Reservation.{is_unspent, spends_by, frees_by, ends_job_by, is_complete}
-use Rattle.core_rules.specs.Reservation.{is_accepted}
+use Rattle.core_rules.specs.Reservation.{is_accepted, completes_by, reaps_by}
 use Rattle.core_rules.specs.Job.{Committed, committed_by, commits, moves_by, moves_of, state_now, is_open}
-use Rattle.core_rules.specs.Job.{open_jobs}
-use Rattle.core_rules.specs.Rows.{held_of, held_rows, open_of, open_rows}
+use Rattle.core_rules.specs.Job.{open_jobs, is_unclosed, closes_by, drops_by, ends_place_by}
+use Rattle.core_rules.specs.Rows.{held_of, held_rows}
 use Rattle.core_rules.specs.Reap.{reap, is_reaped}
-use Rattle.core_rules.specs.Advance.{follows, is_at, advance_by, advance}
+use Rattle.core_rules.specs.Advance.{follows}
 use Rattle.core_rules.specs.Rule.{reaped_by}
 use Rattle.core_rules.specs.Laws.{IsRule, IsLegal, AreDistinct, IsSpentOnce, IsEndedOnce, IsChain, HasOrder}
 use Rattle.core_rules.proofs.LegalLemmas.{core_of, legal_has}
 use Rattle.core_rules.proofs.Lists.{list_any-map}
-use Rattle.core_rules.proofs.AllLemmas.{and_left, and_right, both, or_left, or_right, not_true, true_false}
-use Rattle.core_rules.proofs.AllLemmas.{is_false, same_job-sym, same_job-trans, all-weaker, all-both}
-use Rattle.core_rules.proofs.AllLemmas.{all-append, all-map, all-unmap, any-weaker, any-all, any-kept}
+use Rattle.core_rules.proofs.AllLemmas.{and_left, and_right, or_left, or_right, not_true, true_false}
+use Rattle.core_rules.proofs.AllLemmas.{is_false, same_job-trans, all-weaker, all-both}
+use Rattle.core_rules.proofs.AllLemmas.{all-append, all-map, any-weaker, any-all}
 use Rattle.core_rules.proofs.AllLemmas.{found}
-use Rattle.core_rules.proofs.AllLemmas.{distinct-push, each_same, each_own}
-use Rattle.core_rules.proofs.StepLemmas.{bare, bare_commit, held, free, begun, booked, committed, grown}
-use Rattle.core_rules.proofs.StepLemmas.{grown_commit, bookings-push, commits-push}
+use Rattle.core_rules.proofs.AllLemmas.{each_own}
+use Rattle.core_rules.proofs.StepLemmas.{bare, bare_commit, held, begun, booked, committed, grown}
+use Rattle.core_rules.proofs.StepLemmas.{grown_commit, bookings-push, commits-push, complete-on, or_none}
 use Rattle.core_rules.proofs.FactLemmas.{Facts, facts}
 use Rattle.core_rules.proofs.SoundLemmas.{jobs}
-use Rattle.core_rules.proofs.HeldLemmas.{Sound, IsPast, IsHeldAt, sound-step, no_sound, spent_free}
+use Rattle.core_rules.proofs.MovedLemmas.{accepted_job, moved_on}
+use Rattle.core_rules.proofs.HeldLemmas.{Sound, IsHeldAt, sound-step, no_sound}
 
 -- spent at most once
 
@@ -113,42 +110,6 @@ spent-step start log e distinct is old =
     (new_spent e.kind (length log) e.now))
 
 -- ended at most once
-
--- an update is accepted of an open job alone, whose state it follows
-accepted_open : (p : OpenRow → Bool) (rows : List OpenRow) (server : Addr) (state : JobState)
-    → is_accepted (advance_by (find p rows) server state) ≡ true
-    → list_any (λ o. p o && follows o.state state) rows ≡ true
-accepted_open p [] server state t = absurd (false≢true t)
-accepted_open p (o ∷ rows) server state t = split (p o) refl (accepted_open p rows server state) t
-  where
-    by_state : (b : Bool) → is_accepted
-        (if is_at o.server server then (if b then Accepted else Transition o.state) else Wrong) ≡ true
-        → b ≡ true
-    by_state true h = refl
-    by_state false h = absurd
-        (false≢true (elim (is_at o.server server) as
-        (λ c. is_accepted (if c then Transition o.state else Wrong) ≡ true → false ≡ true) [
-          | true ↦ λ x.
-              x
-          | false ↦ λ x. x
-        ] h))
-
-    split : (b : Bool) → p o ≡ b → (is_accepted (advance_by (find p rows) server state) ≡ true
-        → list_any (λ o. p o && follows o.state state) rows ≡ true)
-        → is_accepted (advance_by (cond b (Some o) (find p rows)) server state) ≡ true
-        → ((p o && follows o.state state) || list_any (λ o. p o && follows o.state state) rows) ≡ true
-    split true is rest h = ap (λ c. c || list_any (λ o. p o && follows o.state state) rows)
-        (both (p o) (follows o.state state) is (by_state (follows o.state state) h))
-    split false is rest h = ap
-        (λ c. (c && follows o.state state) || list_any (λ o. p o && follows o.state state) rows) is ∙ rest h
-
--- so an open job of that id is in a state that it follows
-pub accepted_job : (log : List CoreEntry) (server : Addr) (job : JobId) (state : JobState)
-    → is_accepted (advance (open_rows log) server job state) ≡ true
-    → list_any (λ c. same_job c.job job && follows (state_now c) state) (open_jobs log) ≡ true
-accepted_job log server job state t =
-    sym (list_any-map (λ o. same_job o.job job && follows o.state state) (open_of log) (open_jobs log))
-    ∙ accepted_open (λ o. same_job o.job job) (open_rows log) server state t
 
 or_false : (b : Bool) → (b || false) ≡ true → b ≡ true
 or_false true e = refl
@@ -268,87 +229,6 @@ order-grown e c order step = (
       (chain-option c.state (moves_of c) (moves_by e.kind c.job) order.1 step),
 )
 
--- what an entry moves is in a state that it follows
-moved_follows : (start : Start) (log : List CoreEntry) (k : CoreKind)
-    → AreDistinct (map (λ c. c.job) (commits log)) → Facts (core_of start log) k
-    → AllByRecursion (λ c. (to : JobState) → moves_by k c.job ≡ Some to → follows (state_now c) to ≡ true)
-    (commits log)
-moved_follows start log (Update server job state answer) distinct is =
-    let q : Committed → Bool = λ c. follows (state_now c) state in
-    let by : is_accepted answer ≡ true → AllByRecursion (λ c. same_job c.job job ≡ true → q c ≡ true)
-    (commits log) =
-    λ accepted. each_same (λ c. c.job) q job (commits log) distinct
-    (any-kept (λ c. Unit {0}) (λ c. same_job c.job job && q c) (λ c. same_job c.job job) q
-    (λ c u h. (and_left (same_job c.job job) (q c) h, and_right (same_job c.job job) (q c) h))
-    (commits log) (all_unit (commits log))
-    (any-all (λ c. same_job c.job job && q c) is_open (commits log)
-    (accepted_job log server job state (ap is_accepted (sym is) ∙ accepted)))) in
-    split (is_accepted answer) refl by
-  where
-    all_unit : (cs : List Committed) → AllByRecursion (λ c. Unit {0}) cs
-    all_unit [] = tt
-    all_unit (c ∷ cs) = (tt, all_unit cs)
-
-    one : (c : Committed) → (same_job c.job job ≡ true → follows (state_now c) state ≡ true) → (to : JobState)
-        → (b : Bool) → same_job job c.job ≡ b → cond b (Some state) None ≡ Some to
-        → follows (state_now c) to ≡ true
-    one c h to true same e = let st : state ≡ to = cc in subst (λ t. follows (state_now c) t ≡ true) st
-        (h (same_job-sym job c.job same))
-    one c h to false same e = cc
-
-    split : (b : Bool) → is_accepted answer ≡ b
-        → (is_accepted answer ≡ true
-        → AllByRecursion (λ c. same_job c.job job ≡ true → follows (state_now c) state ≡ true) (commits log))
-        → AllByRecursion (λ c. (to : JobState) → cond (is_accepted answer && same_job job c.job)
-        (Some state) None ≡ Some to → follows (state_now c) to ≡ true) (commits log)
-    split true acc by = all-weaker (λ c. same_job c.job job ≡ true → follows (state_now c) state ≡ true)
-        (λ c. (to : JobState) → cond (is_accepted answer && same_job job c.job) (Some state) None ≡ Some to
-        → follows (state_now c) to ≡ true)
-        (λ c h to e. one c h to (same_job job c.job) refl
-        (ap (λ b. cond (b && same_job job c.job) (Some state) None) (sym acc) ∙ e)) (commits log) (by acc)
-    split false acc by = all-weaker (λ c. Unit {0})
-        (λ c. (to : JobState) → cond (is_accepted answer && same_job job c.job) (Some state) None ≡ Some to
-        → follows (state_now c) to ≡ true)
-        (λ c h to e. let none : None ≡ Some to = ap (λ b. cond (b && same_job job c.job) (Some state) None)
-        (sym acc) ∙ e in cc) (commits log) (all_unit (commits log))
-moved_follows start log (Reserve r) distinct is = unmoved (commits log)
-  where
-    unmoved : (cs : List Committed)
-        → AllByRecursion (λ c. (to : JobState) → None ≡ Some to → follows (state_now c) to ≡ true) cs
-    unmoved [] = tt
-    unmoved (c ∷ cs) = ((λ to e. cc), unmoved cs)
-moved_follows start log (Commit job state is_kept) distinct is = unmoved (commits log)
-  where
-    unmoved : (cs : List Committed)
-        → AllByRecursion (λ c. (to : JobState) → None ≡ Some to → follows (state_now c) to ≡ true) cs
-    unmoved [] = tt
-    unmoved (c ∷ cs) = ((λ to e. cc), unmoved cs)
-moved_follows start log (Undo job noted was_ended) distinct is = unmoved (commits log)
-  where
-    unmoved : (cs : List Committed)
-        → AllByRecursion (λ c. (to : JobState) → None ≡ Some to → follows (state_now c) to ≡ true) cs
-    unmoved [] = tt
-    unmoved (c ∷ cs) = ((λ to e. cc), unmoved cs)
-moved_follows start log (Beat server nonce cpus key pruned reaped replaced is_new) distinct is =
-    unmoved (commits log)
-  where
-    unmoved : (cs : List Committed)
-        → AllByRecursion (λ c. (to : JobState) → None ≡ Some to → follows (state_now c) to ≡ true) cs
-    unmoved [] = tt
-    unmoved (c ∷ cs) = ((λ to e. cc), unmoved cs)
-moved_follows start log (Status pruned servers cpus n) distinct is = unmoved (commits log)
-  where
-    unmoved : (cs : List Committed)
-        → AllByRecursion (λ c. (to : JobState) → None ≡ Some to → follows (state_now c) to ≡ true) cs
-    unmoved [] = tt
-    unmoved (c ∷ cs) = ((λ to e. cc), unmoved cs)
-moved_follows start log (Drain addr nonce on named) distinct is = unmoved (commits log)
-  where
-    unmoved : (cs : List Committed)
-        → AllByRecursion (λ c. (to : JobState) → None ≡ Some to → follows (state_now c) to ≡ true) cs
-    unmoved [] = tt
-    unmoved (c ∷ cs) = ((λ to e. cc), unmoved cs)
-
 new_order : (start : Start) (log : List CoreEntry) (k : CoreKind) (before : List CoreEntry)
     → Facts (core_of start log) k → AllByRecursion HasOrder (option_to_list (committed_by k before []))
 new_order start log (Commit job state true) before is = ((is.1, tt), tt)
@@ -369,79 +249,85 @@ order-step start log e distinct is old =
     (all-map HasOrder (grown_commit e) (commits log)
     (all-both HasOrder (λ c. (to : JobState) → moves_by e.kind c.job ≡ Some to
     → follows (state_now c) to ≡ true) (λ c. HasOrder (grown_commit e c)) (order-grown e)
-    (commits log) old (moved_follows start log e.kind distinct is)))
+    (commits log) old (moved_on start log e.kind distinct is)))
     (new_order start log e.kind log is))
 
--- no job is committed twice
-commit_made : (log : List CoreEntry) (k : CoreKind) (before : List CoreEntry)
-    → AreDistinct (map (λ c. c.job) (commits log))
-    → AllByRecursion (λ c. AllByRecursion (λ d. same_job d.job c.job ≡ false) (commits log))
-    (option_to_list (committed_by k before []))
-    → AreDistinct (map (λ c. c.job) (commits log) ++ map (λ c. c.job)
-    (option_to_list (committed_by k before [])))
-commit_made log (Commit job state true) before distinct other =
-    distinct-push (map (λ c. c.job) (commits log)) job distinct
-    (all-map (λ k. same_job k job ≡ false) (λ c. c.job) (commits log) other.0)
-commit_made log (Commit job state false) before distinct other =
-    subst AreDistinct (sym (append-nil (map (λ c. c.job) (commits log)))) distinct
-commit_made log (Reserve r) before distinct other =
-    subst AreDistinct (sym (append-nil (map (λ c. c.job) (commits log)))) distinct
-commit_made log (Undo job noted was_ended) before distinct other =
-    subst AreDistinct (sym (append-nil (map (λ c. c.job) (commits log)))) distinct
-commit_made log (Beat server nonce cpus key pruned reaped replaced is_new) before distinct other =
-    subst AreDistinct (sym (append-nil (map (λ c. c.job) (commits log)))) distinct
-commit_made log (Update server job state answer) before distinct other =
-    subst AreDistinct (sym (append-nil (map (λ c. c.job) (commits log)))) distinct
-commit_made log (Status pruned servers cpus n) before distinct other =
-    subst AreDistinct (sym (append-nil (map (λ c. c.job) (commits log)))) distinct
-commit_made log (Drain addr nonce on named) before distinct other =
-    subst AreDistinct (sym (append-nil (map (λ c. c.job) (commits log)))) distinct
+-- a job whose states follow one another is complete where it was committed so, or an entry says so
 
-new_commit : (start : Start) (log : List CoreEntry) (k : CoreKind) (before : List CoreEntry)
-    → Sound start log → Facts (core_of start log) k
-    → AllByRecursion (λ c. AllByRecursion (λ d. same_job d.job c.job ≡ false) (commits log))
-    (option_to_list (committed_by k before []))
-new_commit start log (Commit job state true) before sound is =
-    let there : (b : Booking) × Unit {0} × (same_job b.job job ≡ true) = found (λ b. Unit {0})
-    (λ b. same_job b.job job) (free log) (all_unit (free log))
-    (spent_free (core_of start log) job true is.0) in (
-      all-weaker (λ c. IsPast log c.job) (λ d. same_job d.job job ≡ false)
-          (λ d past. is_false (same_job d.job job)
-          (λ t. true_false (list_any (λ b. same_job b.job d.job) (free log))
-          (any-weaker (λ b. same_job b.job job) (λ b. same_job b.job d.job)
-          (λ b h. same_job-trans b.job job d.job h (same_job-sym d.job job t)) (free log)
-          (spent_free (core_of start log) job true is.0)) past.1)) (commits log)
-          (all-unmap (λ c. IsPast log c.job) bare_commit (commits log) sound.kept_past),
-      tt,
-    )
+first_on : (from : JobState) (o : Option JobState) (states : List JobState)
+    → IsChain from (cons_option o states) → (to : JobState) → o ≡ Some to → follows from to ≡ true
+first_on from None states chain to e = cc
+first_on from (Some state) states chain to e = let same : state ≡ to = cc in subst
+    (λ t. follows from t ≡ true) same chain.0
+
+or_assoc : (a b c : Bool) → ((a || b) || c) ≡ (a || (b || c))
+or_assoc true b c = refl
+or_assoc false b c = refl
+
+chain_complete : (job : JobId) (from : JobState) (later : List CoreEntry)
+    → IsChain from (filter_map (λ e. moves_by e.kind job) later)
+    → is_complete (latest from (filter_map (λ e. moves_by e.kind job) later))
+    ≡ (is_complete from || list_any (λ e. completes_by e.kind job) later)
+chain_complete job from [] chain = or_none (is_complete from)
+chain_complete job from (e ∷ es) chain = by (moves_by e.kind job) refl chain (λ s on. chain_complete job s es on)
   where
-    all_unit : (bs : List Booking) → AllByRecursion (λ b. Unit {0}) bs
-    all_unit [] = tt
-    all_unit (b ∷ bs) = (tt, all_unit bs)
-new_commit start log (Commit job state false) before sound is = tt
-new_commit start log (Reserve r) before sound is = tt
-new_commit start log (Undo job noted was_ended) before sound is = tt
-new_commit start log (Beat server nonce cpus key pruned reaped replaced is_new) before sound is = tt
-new_commit start log (Update server job state answer) before sound is = tt
-new_commit start log (Status pruned servers cpus n) before sound is = tt
-new_commit start log (Drain addr nonce on named) before sound is = tt
+    states : List JobState
+    states = filter_map (λ d. moves_by d.kind job) es
 
-commit-step : (start : Start) (log : List CoreEntry) (e : CoreEntry) → Sound start log
-    → Facts (core_of start log) e.kind → AreDistinct (map (λ c. c.job) (commits log))
-    → AreDistinct (map (λ c. c.job) (commits (log ++ e ∷ [])))
-commit-step start log e sound is distinct =
-    subst AreDistinct (sym (ap (map (λ c. c.job)) (commits-push log e) ∙ map-append (λ c. c.job)
-    (map (grown_commit e) (commits log)) (option_to_list (committed log e))
-    ∙ ap (λ js. js ++ map (λ c. c.job) (option_to_list (committed log e)))
-    (map-map (λ c. c.job) (grown_commit e) (commits log))))
-    (commit_made log e.kind log distinct (new_commit start log e.kind log sound is))
+    rest : Bool
+    rest = list_any (λ d. completes_by d.kind job) es
+
+    moved : (o : Option JobState) → moves_by e.kind job ≡ o → IsChain from (cons_option o states)
+        → is_complete (unwrap_or o from) ≡ (is_complete from || completes_by e.kind job)
+    moved o is chain = ap (λ x. is_complete (unwrap_or x from)) (sym is) ∙ complete-on e.kind job from
+        (λ to h. first_on from o states chain to (sym is ∙ h))
+
+    by : (o : Option JobState) → moves_by e.kind job ≡ o → IsChain from (cons_option o states)
+        → ((s : JobState) → IsChain s states → is_complete (latest s states) ≡ (is_complete s || rest))
+        → is_complete (latest from (cons_option o states))
+        ≡ (is_complete from || (completes_by e.kind job || rest))
+    by None is chain later_is = later_is from chain ∙ ap (λ b. b || rest) (moved None is chain)
+        ∙ or_assoc (is_complete from) (completes_by e.kind job) rest
+    by (Some to) is chain later_is = later_is to chain.1 ∙ ap (λ b. b || rest) (moved (Some to) is chain)
+        ∙ or_assoc (is_complete from) (completes_by e.kind job) rest
+
+mixed : (completes reaps ends any_completes any_drops : Bool)
+    → (((completes || reaps) || ends) || (any_completes || any_drops))
+    ≡ ((completes || any_completes) || ((reaps || ends) || any_drops))
+mixed true reaps ends any_completes any_drops = refl
+mixed false true ends true any_drops = refl
+mixed false true ends false any_drops = refl
+mixed false false true true any_drops = refl
+mixed false false true false any_drops = refl
+mixed false false false any_completes any_drops = refl
+
+any_closes : (job : JobId) (reg : Option ℕ) (es : List CoreEntry)
+    → list_any (λ e. closes_by e.kind job reg) es
+    ≡ (list_any (λ e. completes_by e.kind job) es || list_any (λ e. drops_by e.kind job reg) es)
+any_closes job reg [] = refl
+any_closes job reg (e ∷ es) = ap (λ b. closes_by e.kind job reg || b) (any_closes job reg es)
+    ∙ mixed (completes_by e.kind job) (reaps_by e.kind job) (ends_place_by e.kind reg)
+    (list_any (λ d. completes_by d.kind job) es) (list_any (λ d. drops_by d.kind job reg) es)
+
+neither_over : (was completes drops : Bool)
+    → (not (was || completes) && not drops) ≡ (not was && not (completes || drops))
+neither_over true completes drops = refl
+neither_over false true drops = refl
+neither_over false false drops = refl
+
+unclosed_is : (c : Committed) → HasOrder c → is_open c ≡ is_unclosed c
+unclosed_is c order =
+    ap (λ b. not b && not (list_any (λ e. drops_by e.kind c.job c.reg) c.later))
+    (chain_complete c.job c.state c.later order.1)
+    ∙ neither_over (is_complete c.state) (list_any (λ e. completes_by e.kind c.job) c.later)
+    (list_any (λ e. drops_by e.kind c.job c.reg) c.later)
+    ∙ ap (λ b. not (is_complete c.state) && not b) (sym (any_closes c.job c.reg c.later))
 
 -- all of it, by induction over legal logs
 pub record Once (start : Start) (log : List CoreEntry) : Type 0 where
   pub sound : Sound start log
   pub spent : AllByRecursion IsSpentOnce (bookings log)
   pub ended : AllByRecursion IsEndedOnce (bookings log)
-  pub committed : AreDistinct (map (λ c. c.job) (commits log))
   pub order : AllByRecursion HasOrder (commits log)
 
 once-step : (start : Start) (log : List CoreEntry) (e : CoreEntry) → Once start log
@@ -452,12 +338,16 @@ once-step start log e once rule_is =
       sound = sound-step start log e once.sound rule_is;
       spent = spent-step start log e once.sound.ids.distinct is once.spent;
       ended = ended-step start log e once.sound is once.ended;
-      committed = commit-step start log e once.sound is once.committed;
-      order = order-step start log e once.committed is once.order;
+      order = order-step start log e once.sound.committed is once.order;
     }
 
 pub legal_all : (start : Start) (log : List CoreEntry) → start.count < 2 ^ 64 → IsLegal start log
     → Once start log
 legal_all start log fits legal = legal_has start (Once start)
-    (record { sound = no_sound start fits; spent = tt; ended = tt; committed = tt; order = tt })
+    (record { sound = no_sound start fits; spent = tt; ended = tt; order = tt })
     (once-step start) log legal
+
+pub legal_unclosed : (start : Start) (log : List CoreEntry) → start.count < 2 ^ 64 → IsLegal start log
+    → AllByRecursion (λ c. is_open c ≡ is_unclosed c) (commits log)
+legal_unclosed start log fits legal = all-weaker HasOrder (λ c. is_open c ≡ is_unclosed c) unclosed_is
+    (commits log) (legal_all start log fits legal).order

@@ -1,5 +1,5 @@
 -- A job that is ready became so at some moment.
-use Rattle.std.proofs.Common.{◌≡◌, ℕ, List, [], ◌∷◌, ◌++◌, Bool, true, false, cond, ◌&&◌, Option, Some, None}
+use Rattle.std.proofs.Common.{◌≡◌, ℕ, List, Bool, true, false, cond, ◌&&◌, Option, Some, None}
 use Rattle.std.proofs.Common.{refl, ap, ◌∙◌, sym, unwrap_or}
 use Rattle.std.specs.Prelude.{is_some}
 use Rattle.std.specs.Option.{option_map}
@@ -12,8 +12,8 @@ use Rattle.core_rules.specs.declared.entry.CoreKind.TheVariants.{Beat, Reserve, 
 use Rattle.core_rules.specs.declared.entry.CoreKind.TheVariants.{Drain}
 use Rattle.core_rules.specs.Log.{newer, same_job}
 use Rattle.core_rules.specs.Reservation.{is_accepted}
-use Rattle.core_rules.specs.Job.{is_ready, readied_by, readies_by, ready_at, moves_by, state_of}
-use Rattle.core_rules.specs.Next.{begins_by, state_after, ready_after}
+use Rattle.core_rules.specs.Job.{is_ready, readied_by, ready_at, state_of}
+use Rattle.core_rules.specs.Next.{state_after}
 use Rattle.core_rules.proofs.GrowLemmas.{grow_has}
 use Rattle.core_rules.proofs.KeptLemmas.{state_of-push, ready_at-push}
 

@@ -5,7 +5,7 @@ use Rattle.std.specs.Prelude.{nat_lt}
 use Rattle.std.specs.List.{AllByRecursion, list_any, find}
 use Rattle.std.proofs.lemmas.Bool.{false≢true}
 use Rattle.core_rules.specs.Rows.{placed, sorted_into}
-use Rattle.core_rules.proofs.AllLemmas.{or_true, all-weaker, all-filter}
+use Rattle.core_rules.proofs.AllLemmas.{all-weaker, all-filter}
 use Rattle.core_rules.proofs.RoomLemmas.{lt_true, lt_false, lt_is}
 
 pub sorted-push : {X : Type 0} (number : X → ℕ) (done xs : List X) (x : X)

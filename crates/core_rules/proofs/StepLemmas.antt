@@ -1,29 +1,34 @@
 -- What one more entry does to the lists of reservations, commits and open jobs.
-use Rattle.std.proofs.Common.{◌≡◌, ℕ, ◌+◌, List, [], ◌∷◌, ◌++◌, Bool, true, false, cond, not, ◌&&◌, map}
-use Rattle.std.proofs.Common.{filter, length, Option, None, refl, ap, ◌∙◌, sym, arith}
-use Rattle.std.specs.Prelude.{option_to_list, count_by}
-use Rattle.std.specs.List.{list_any, filter_map, cons_option}
+use Rattle.std.proofs.Common.{◌≡◌, ℕ, ◌+◌, List, [], ◌∷◌, ◌++◌, Bool, true, false, cond, not, ◌&&◌, ◌||◌, map}
+use Rattle.std.proofs.Common.{filter, length, Option, Some, None, refl, ap, ◌∙◌, sym, arith}
+use Rattle.std.specs.Prelude.{option_to_list, count_by, unwrap_or}
+use Rattle.std.specs.List.{AllByRecursion, list_any, filter_map, cons_option}
 use Rattle.std.specs.Option.{option_map}
+use Rattle.std.proofs.lemmas.Bool.{false≢true}
 use Rattle.std.proofs.lemmas.List.{map-append}
 use Rattle.std.proofs.lemmas.List.Sums.{sum_by-cons}
-use Rattle.std.proofs.lemmas.List.Elements.{filter-append, filter_map-append, filter_agree}
+use Rattle.std.proofs.lemmas.List.Elements.{filter-append, filter_map-append}
 use Rattle.core_rules.specs.Cuts.{cuts, cuts_behind}
 use Rattle.dist_types.specs.declared.ids.JobId.{JobId}
+use Rattle.dist_types.specs.declared.results.JobState.{JobState}
 use Rattle.dist_types.specs.declared.results.JobState.TheVariants.{Pending, Ready, Started, Complete}
 use Rattle.core_rules.proofs.Lists.{newest-push, map-map, filter-map, filter-filter, map-same, followed}
 use Rattle.core_rules.proofs.Lists.{cuts_behind-push, filter_map-map, cons_nil, map-option, end_cut, Grows}
-use Rattle.core_rules.proofs.Lists.{lasting-push}
+use Rattle.core_rules.proofs.Lists.{lasting-push, latest-push}
 use Rattle.core_rules.specs.declared.entry.CoreEntry.{CoreEntry}
 use Rattle.core_rules.specs.declared.entry.CoreKind.{CoreKind}
 use Rattle.core_rules.specs.declared.entry.CoreKind.TheVariants.{Beat, Reserve, Commit, Undo, Update}
 use Rattle.core_rules.specs.declared.entry.CoreKind.TheVariants.{Status, Drain}
 use Rattle.core_rules.specs.declared.entry.Reserved.TheVariants.{Job, NoRoom, Spent}
-use Rattle.core_rules.specs.Log.{newest, newer}
+use Rattle.core_rules.specs.Advance.{follows}
+use Rattle.core_rules.specs.Log.{same_job, newest, newer, latest}
 use Rattle.core_rules.specs.Standing.{registered_at, ends_by, standing}
 use Rattle.core_rules.specs.Reservation.{is_booked, Booking, booked_by, booked_at, bookings, is_unspent}
 use Rattle.core_rules.specs.Reservation.{is_unended, unspent, unended, spends_by, frees_by, is_complete}
+use Rattle.core_rules.specs.Reservation.{is_accepted, completes_by, reaps_by}
 use Rattle.core_rules.specs.Job.{Committed, committed_by, committed_at, commits, is_open, open_jobs}
-use Rattle.core_rules.specs.Job.{closes_by, places_by, place_of}
+use Rattle.core_rules.specs.Job.{closes_by, drops_by, ends_place_by, places_by, place_of}
+use Rattle.core_rules.specs.Job.{moves_by, moves_of, state_now}
 use Rattle.core_rules.proofs.StandingLemmas.{none-push, standing-push}
 
 -- without the entries after it
@@ -235,10 +240,6 @@ regs-push log e =
     ∙ ap (λ rs. rs ++ option_to_list (option_map (λ g. g.reg) (registered_at (end_cut log e))))
     (map-same (λ r. r) (λ r. refl) (filter (λ r. not (ends_by e.kind r)) (regs log)))
 
-and_assoc : (a b c : Bool) → (a && (b && c)) ≡ ((a && b) && c)
-and_assoc true b c = refl
-and_assoc false b c = refl
-
 -- the open jobs, with one more entry
 fresh_begun : (k : CoreKind) (before : List CoreEntry)
     → map bare_commit (filter is_open (option_to_list (committed_by k before []))) ≡ filter
@@ -255,15 +256,119 @@ fresh_begun (Update server job state answer) before = refl
 fresh_begun (Status pruned servers cpus jobs) before = refl
 fresh_begun (Drain addr nonce on named) before = refl
 
-pub open-grown : (e : CoreEntry) (c : Committed)
-    → is_open (grown_commit e c) ≡ (is_open c && begun_stays e (bare_commit c))
-open-grown e c = ap (λ b. not (is_complete c.state) && b)
-    (none-push (λ d. closes_by d.kind c.job c.reg) c.later e) ∙ and_assoc (not (is_complete c.state))
-    (not (list_any (λ d. closes_by d.kind c.job c.reg) c.later)) (begun_stays e (bare_commit c))
+-- the state of a commit, with one more entry
+pub state_now-grown : (e : CoreEntry) (c : Committed) → state_now (grown_commit e c) ≡ unwrap_or
+    (moves_by e.kind c.job) (state_now c)
+state_now-grown e c =
+    ap (latest c.state) (filter_map-append (λ d. moves_by d.kind c.job) c.later (e ∷ [])
+    ∙ ap (λ ss. moves_of c ++ ss) (cons_nil (moves_by e.kind c.job)))
+    ∙ latest-push c.state (moves_of c) (moves_by e.kind c.job)
 
-pub begun-push : (log : List CoreEntry) (e : CoreEntry) → begun (log ++ e ∷ []) ≡ filter (begun_stays e)
-    (begun log) ++ filter (λ c. not (is_complete c.state)) (option_to_list (committed log e))
-begun-push log e =
+-- an entry moves the job to a state that follows this one, if it moves it
+abbrev pub MovesOn : CoreKind → JobId → JobState → Type 0
+MovesOn k job from = (to : JobState) → moves_by k job ≡ Some to → follows from to ≡ true
+
+pub or_none : (b : Bool) → b ≡ (b || false)
+or_none true = refl
+or_none false = refl
+
+-- so a complete job stays complete, and another is complete where the entry says so
+pub complete-on : (k : CoreKind) (job : JobId) (from : JobState) → MovesOn k job from
+    → is_complete (unwrap_or (moves_by k job) from) ≡ (is_complete from || completes_by k job)
+complete-on (Update server j state answer) job from on = split (is_accepted answer) (same_job j job) on
+  where
+    moved : (from to : JobState) → follows from to ≡ true
+        → is_complete to ≡ (is_complete from || ((is_complete to && true) && true))
+    moved from Pending step = by from step
+      where
+        by : (from : JobState) → follows from Pending ≡ true → false ≡ (is_complete from || false)
+        by Pending h = refl
+        by Ready h = refl
+        by Started h = refl
+        by Complete h = absurd (false≢true h)
+    moved from Ready step = by from step
+      where
+        by : (from : JobState) → follows from Ready ≡ true → false ≡ (is_complete from || false)
+        by Pending h = refl
+        by Ready h = refl
+        by Started h = refl
+        by Complete h = absurd (false≢true h)
+    moved from Started step = by from step
+      where
+        by : (from : JobState) → follows from Started ≡ true → false ≡ (is_complete from || false)
+        by Pending h = refl
+        by Ready h = refl
+        by Started h = refl
+        by Complete h = absurd (false≢true h)
+    moved from Complete step = by from
+      where
+        by : (from : JobState) → true ≡ (is_complete from || true)
+        by Pending = refl
+        by Ready = refl
+        by Started = refl
+        by Complete = refl
+
+    unmoved : (b c : Bool) → b ≡ (b || ((c && false) && true))
+    unmoved true c = refl
+    unmoved false true = refl
+    unmoved false false = refl
+
+    other : (b c : Bool) → b ≡ (b || (c && false))
+    other true c = refl
+    other false true = refl
+    other false false = refl
+
+    split : (accepted same : Bool)
+        → ((to : JobState) → cond (accepted && same) (Some state) None ≡ Some to → follows from to ≡ true)
+        → is_complete (unwrap_or (cond (accepted && same) (Some state) None) from)
+        ≡ (is_complete from || ((is_complete state && accepted) && same))
+    split true true on = moved from state (on state refl)
+    split true false on = other (is_complete from) (is_complete state && true)
+    split false true on = unmoved (is_complete from) (is_complete state)
+    split false false on = other (is_complete from) (is_complete state && false)
+complete-on (Beat server nonce cpus key pruned reaped replaced is_new) job from on = or_none (is_complete from)
+complete-on (Reserve r) job from on = or_none (is_complete from)
+complete-on (Commit j state kept) job from on = or_none (is_complete from)
+complete-on (Undo j noted was_ended) job from on = or_none (is_complete from)
+complete-on (Status pruned servers cpus jobs) job from on = or_none (is_complete from)
+complete-on (Drain addr nonce on_it named) job from on = or_none (is_complete from)
+
+-- of a job that is complete or not, and is completed, dropped, reaped or loses its place
+closed_by : (is_over completes dropped reaps ends : Bool)
+    → (not (is_over || completes) && (not dropped && not (reaps || ends)))
+    ≡ ((not is_over && not dropped) && not (completes || reaps || ends))
+closed_by true completes dropped reaps ends = refl
+closed_by false true true reaps ends = refl
+closed_by false true false reaps ends = refl
+closed_by false false true reaps ends = refl
+closed_by false false false reaps ends = refl
+
+pub open-grown : (e : CoreEntry) (c : Committed) → MovesOn e.kind c.job (state_now c)
+    → is_open (grown_commit e c) ≡ (is_open c && begun_stays e (bare_commit c))
+open-grown e c on =
+    ap (λ s. not (is_complete s) && not (list_any drops (c.later ++ e ∷ []))) (state_now-grown e c)
+    ∙ ap (λ b. not b && not (list_any drops (c.later ++ e ∷ []))) (complete-on e.kind c.job (state_now c) on)
+    ∙ ap (λ b. not (is_complete (state_now c) || completes_by e.kind c.job) && b) (none-push drops c.later e)
+    ∙ closed_by (is_complete (state_now c)) (completes_by e.kind c.job) (list_any drops c.later)
+    (reaps_by e.kind c.job) (ends_place_by e.kind c.reg)
+  where
+    drops : CoreEntry → Bool
+    drops d = drops_by d.kind c.job c.reg
+
+-- an entry moves each job that was committed on from its state, if it moves it
+abbrev pub MovesEachOn : List CoreEntry → CoreKind → Type 0
+MovesEachOn log k = AllByRecursion (λ c. MovesOn k c.job (state_now c)) (commits log)
+
+pub open_agree : (e : CoreEntry) (cs : List Committed)
+    → AllByRecursion (λ c. MovesOn e.kind c.job (state_now c)) cs
+    → filter (λ c. is_open (grown_commit e c)) cs ≡ filter (λ c. is_open c && begun_stays e (bare_commit c)) cs
+open_agree e [] on = refl
+open_agree e (c ∷ cs) on = rw (open-grown e c on.0, open_agree e cs on.1) refl
+
+pub begun-push : (log : List CoreEntry) (e : CoreEntry) → MovesEachOn log e.kind
+    → begun (log ++ e ∷ []) ≡ filter (begun_stays e) (begun log)
+    ++ filter (λ c. not (is_complete c.state)) (option_to_list (committed log e))
+begun-push log e on =
     ap (λ cs. map bare_commit (filter is_open cs)) (commits-push log e)
     ∙ ap (map bare_commit) (filter-append is_open (map (grown_commit e) (commits log))
     (option_to_list (committed log e)))
@@ -274,9 +379,7 @@ begun-push log e =
     ∙ ap (λ cs. map bare_commit cs ++ new) (filter-map is_open (grown_commit e) (commits log))
     ∙ ap (λ cs. cs ++ new) (map-map bare_commit (grown_commit e)
     (filter (λ c. is_open (grown_commit e c)) (commits log)))
-    ∙ ap (λ cs. map bare_commit cs ++ new)
-    (filter_agree (λ c. is_open (grown_commit e c)) (λ c. is_open c && begun_stays e (bare_commit c))
-    (open-grown e) (commits log))
+    ∙ ap (λ cs. map bare_commit cs ++ new) (open_agree e (commits log) on)
     ∙ ap (λ cs. map bare_commit cs ++ new) (filter-filter (λ c. begun_stays e (bare_commit c)) is_open
     (commits log))
     ∙ ap (λ cs. cs ++ new) (sym (filter-map (begun_stays e) bare_commit (open_jobs log)))

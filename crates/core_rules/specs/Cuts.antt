@@ -1,6 +1,5 @@
 -- A list cut at each of its elements: what each makes, seen with those before and after it.
-use Rattle.std.specs.Prelude.{List, [], ◌∷◌, ◌++◌, filter, Bool, Option, Some, None, option_and_then}
-use Rattle.std.specs.Prelude.{if◌then◌else◌}
+use Rattle.std.specs.Prelude.{List, [], ◌∷◌, ◌++◌, filter, Bool, Option}
 use Rattle.std.specs.List.{filter_map}
 
 -- a list cut at one of its elements

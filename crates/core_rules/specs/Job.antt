@@ -92,9 +92,17 @@ ends_place_by kind (Some reg) = ends_by kind reg
 abbrev pub closes_by : CoreKind → JobId → Option ℕ → Bool
 closes_by kind job reg = completes_by kind job || reaps_by kind job || ends_place_by kind reg
 
+-- whether an entry reaps the job, or ends its registration
+abbrev pub drops_by : CoreKind → JobId → Option ℕ → Bool
+drops_by kind job reg = reaps_by kind job || ends_place_by kind reg
+
 -- it is open while its state is not complete, and no entry after the commit reaps it or ends its registration
 abbrev pub is_open : Committed → Bool
-is_open c = not (is_complete c.state) && not (list_any (λ e. closes_by e.kind c.job c.reg) c.later)
+is_open c = not (is_complete (state_now c)) && not (list_any (λ e. drops_by e.kind c.job c.reg) c.later)
+
+-- it was not complete when it was committed, and no entry after the commit ended it
+abbrev pub is_unclosed : Committed → Bool
+is_unclosed c = not (is_complete c.state) && not (list_any (λ e. closes_by e.kind c.job c.reg) c.later)
 
 -- every open job, in the order of the commits
 abbrev pub open_jobs : List CoreEntry → List Committed

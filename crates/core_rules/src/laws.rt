@@ -13,7 +13,7 @@ ghost use Rattle.core_rules.specs.Reservation.{bookings, spends_by, unended, uns
 ghost use Rattle.core_rules.specs.Rule.{rule, IsCall, is_among};
 ghost use Rattle.core_rules.specs.Calls.{call_of};
 ghost use Rattle.core_rules.specs.Same.{same_but_key};
-ghost use Rattle.core_rules.specs.Job.{commits, open_jobs, state_of, ready_at};
+ghost use Rattle.core_rules.specs.Job.{commits, is_open, is_unclosed, open_jobs, state_of, ready_at};
 ghost use Rattle.core_rules.specs.Laws.{HasNoDrain, NothingDrains};
 ghost use Rattle.core_rules.specs.Prune.{age};
 ghost use Rattle.core_rules.specs.Reap.{ready_age};
@@ -36,6 +36,12 @@ pub fn ids_differ()
 /// Each open job has exactly one unended reservation, and its registration stands.
 pub fn open_jobs_are_held()
     ensures { InEachLegalLog (λ log. AllByRecursion (λ c. IsHeldOnce log c.job) (open_jobs log)) }
+{}
+
+/// A job is open exactly where it was not complete when it was committed, and no later entry accepts that it
+/// is complete, reaps it or ends its registration.
+pub fn open_jobs_are_unclosed()
+    ensures { InEachLegalLog (λ log. AllByRecursion (λ c. is_open c ≡ is_unclosed c) (commits log)) }
 {}
 
 /// A reservation is spent at most once: of the entries after it, at most one is a commit or an undo of

@@ -1,6 +1,7 @@
 -- JSON in bytes, and objects of texts.
 use Rattle.std.proofs.Common.{◌≡◌, ◌≤◌, ℕ, List, [], ◌∷◌, Bool, true, false, cond, Some, None, Option}
-use Rattle.std.proofs.Common.{is_some, unwrap_or, is_eq, BTreeMap, String, Global, Ordering, Less}
+use Rattle.std.proofs.Common.{length, codes, is_some}
+use Rattle.std.proofs.Common.{unwrap_or, is_eq, BTreeMap, String, Global, Ordering, Less}
 use Rattle.std.proofs.Common.{Equal, Greater, refl, sym, ap, ◌∙◌, true≢false, arith}
 use Rattle.std.specs.Option.{option_and_then}
 use Rattle.std.specs.Cmp.Lexicographic.{slice_cmp}
@@ -14,6 +15,7 @@ use Rattle.serde_json.specs.Data.{member, put, depth, members_depth}
 use Rattle.serde_json.specs.Find.{get, get_member, as_str}
 use Rattle.serde_json.specs.Read.{read, max_depth}
 use Rattle.serde_json.specs.View.{view, members_view}
+use Rattle.serde_json.specs.Written.{has_float, compact_text}
 use Rattle.serde_json.specs.declared.value.Value.{Value, Object}
 use Rattle.serde_json.proofs.Views.{view-Object}
 use Rattle.disk_cache.specs.WeakMaps.{Weak, json_of, texts_in, object_texts, with_text, recorded}
@@ -181,6 +183,35 @@ pub written_reads : (bytes : List ℕ) (value : Data) (texts : Weak) → IsUtf8 
 unfolding weak_map_in
 written_reads bytes value texts text is has = ap (option_and_then object_texts) (json_of-utf8 bytes text ∙ is)
     ∙ has
+
+-- ---- an object without members
+
+no_members_in : (ms : Members) → texts_in ms ≡ Some [] → ms ≡ no_members
+no_members_in no_members h = refl
+no_members_in (member l value rest) h = absurd (by (as_str value) (texts_in rest) h)
+  where
+    by : (s : Option (List ℕ)) (r : Option Weak) → with_text l s r ≡ Some [] → ⊥
+    by None r h = true≢false (sym (ap is_some h))
+    by (Some text) None h = true≢false (sym (ap is_some h))
+    by (Some text) (Some more) h =
+        let none : (l, text) ∷ more ≡ [] = some_is _ _ h in
+        let long = ap length none in
+        omega (arith, long)
+
+no_members_of : (value : Data) → object_texts value ≡ Some [] → value ≡ object no_members
+no_members_of null h = absurd (true≢false (sym (ap is_some h)))
+no_members_of (boolean b) h = absurd (true≢false (sym (ap is_some h)))
+no_members_of (number n) h = absurd (true≢false (sym (ap is_some h)))
+no_members_of (string s) h = absurd (true≢false (sym (ap is_some h)))
+no_members_of (array items) h = absurd (true≢false (sym (ap is_some h)))
+no_members_of (object ms) h = ap object (no_members_in ms h)
+
+-- the text of an object of texts in which there are none
+pub empty_written : (value : Data) (bytes : List ℕ) → object_texts value ≡ Some []
+    → (has_float value ≡ false → bytes ≡ compact_text value) → bytes ≡ codes "{}"
+empty_written value bytes none written =
+    let is = no_members_of value none in
+    written (ap has_float is) ∙ ap compact_text is
 
 -- a copy of an object of texts, with a text put into it
 pub recorded_value : (value copy : Value) (members made : BTreeMap (String Global) Value)

@@ -1,5 +1,5 @@
 -- What a refused opening leaves of the files, step by step.
-use Rattle.std.proofs.Common.{◌≡◌, ℕ, false, List, [], codes, Option, Some, None, inl, inr, refl, sym, ap}
+use Rattle.std.proofs.Common.{◌≡◌, ℕ, false, List, codes, Option, Some, None, inl, inr, refl, sym, ap}
 use Rattle.std.proofs.Common.{subst, ◌∙◌}
 use Rattle.std.specs.Str.{bytes_eq}
 use Rattle.folders.specs.Files.{Files, file_at, front}
@@ -65,7 +65,7 @@ cache_left n path one two named is h =
           (weak_outside n path (weak_path n.dir) named is (sym named.weak_is)));
     }) h
 
-both : (A B : Files → Files → Type 0) (o n : Option Files) → Became A o n → Became B o n
+pub both : (A B : Files → Files → Type 0) (o n : Option Files) → Became A o n → Became B o n
     → Became (λ f g. A f g × B f g) o n
 both A B None n a b = a
 both A B (Some f) n a b =

@@ -1,6 +1,6 @@
-pub mod ConfigLemmas
 pub mod EmptyLemmas
 pub mod JsonLemmas
+pub mod KeptLemmas
 pub mod LeftLemmas
 pub mod NameLemmas
 pub mod OpenLemmas

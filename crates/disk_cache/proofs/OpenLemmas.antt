@@ -71,6 +71,22 @@ module _ (n : Names) (path : List ℕ) (old mid opened : Held) (named : AreNames
       let w = became_to SameWeak old.files opened.files files weak_kept told in
       subst P w.2 (found w.0 w.1)
 
+  abbrev SameFile : Files → Files → Type 0
+  SameFile f g = file_at g (weak_path n.dir) ≡ file_at f (weak_path n.dir)
+
+  file_kept : Became SameFile old.files opened.files
+  file_kept =
+      became_then (ButUnder (front (temp_dir n.dir))) (ButUnder (front path)) SameFile old.files mid.files
+      opened.files
+      (λ f g h a b. b (weak_path n.dir) (weak_outside n path (weak_path n.dir) named is (sym named.weak_is))
+      ∙ a (weak_path n.dir) (temp_beside_weak n.dir)) emptied cached
+
+  -- a weak map that was missing is missing yet
+  pub open_lacking : Holds old (Lacks (weak_path n.dir)) → Holds opened (Lacks (weak_path n.dir))
+  open_lacking lacks = λ files told.
+      let w = became_from SameFile old.files opened.files files file_kept told in
+      w.2 ∙ lacks w.0 w.1
+
   outside : (q : List ℕ) → IsBeside (cache_path n.dir) q → IsBeside path q
   outside q away = subst (λ (p : List ℕ). IsBeside p q) (sym (is ∙ named.cache_is)) away
 
@@ -137,7 +153,7 @@ pub load_fails : (e : ToolchainError) (dir : List ℕ) (configs : List DistToolc
 load_fails (Cache (Io fault)) dir configs old mid opened new one two none weak h =
     cause_before fault old mid opened new one two none h.0
 load_fails BadWeakMap dir configs old mid opened new one two none weak h = weak h.0
-load_fails Memory dir configs old mid opened new one two none weak h = tt
+load_fails Memory dir configs old mid opened new one two none weak h = h ∙ (two ∙ one)
 load_fails other dir configs old mid opened new one two none weak h = absurd h
 
 err_is : (x y : ToolchainError) → (let a : Result (Unit {0}) ToolchainError = Err x in a ≡ Err y) → x ≡ y

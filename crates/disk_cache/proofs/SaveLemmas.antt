@@ -133,9 +133,7 @@ module _ (temp weak text : List ℕ) (apart : bytes_eq temp weak ≡ false) wher
   saved_fails done Failed old mid new w r =
       let same : mid.faults ≡ old.faults = ap (λ k. k.faults) w.0 in
       (subst (λ n. Rose n new.faults) same r.1, subst (λ n. n ≤ new.faults) same r.2)
-  saved_fails done Memory old mid new w r =
-      let same : mid.faults ≡ old.faults = ap (λ k. k.faults) w.0 in
-      omega (arith, same, r.1)
+  saved_fails done Memory old mid new w r = r.1 ∙ ap (λ k. k.faults) w.0
 
 -- ---- the same at equal paths
 

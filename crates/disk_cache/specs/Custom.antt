@@ -64,12 +64,14 @@ IsCustom (Some c) None = ⊥
 IsCustom (Some c) (Some (Ok copy)) = copy ≡ c
 IsCustom (Some c) (Some (Err e)) = Unit {0}
 
--- why a configured archive was not read; nothing but the folder's state changes
+-- why a configured archive was not read; nothing but the folder's state changes, and want of memory leaves
+-- the count of faults as it was
 abbrev pub Unread : List ℕ → ToolchainError → Toolchains → Toolchains → Type 0
 Unread archive (Cache (Io OutOfMemory)) old new = ⊥
 Unread archive (Cache (Io fault)) old new = ReadFails archive fault old.held new.held
     × (new ≡ with_held old new.held)
 Unread archive Memory old new = Became Same old.held.files new.held.files × (new ≡ with_held old new.held)
+    × (new.held.faults ≡ old.held.faults)
 Unread archive other old new = ⊥
 
 -- A configured archive was read, and its SHA-256 taken.

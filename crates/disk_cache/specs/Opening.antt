@@ -48,11 +48,12 @@ abbrev pub RefusesConfigs : ToolchainError → List ℕ → List DistToolchainCo
 RefusesConfigs e dir configs old =
     (config_verdict configs ≡ Err e) × Holds old (λ files. IsSome (weak_map_at dir files))
 
--- Why an opening failed. A fault of the folder and want of memory hide what comes behind them.
+-- Why an opening failed. A fault of the folder and want of memory hide what comes behind them; want of memory
+-- leaves the count of faults as it was.
 abbrev pub OpeningFails : ToolchainError → List ℕ → List DistToolchainConfig → Held → Held → Type 0
 OpeningFails (Cache (Io fault)) dir configs old new = IoCause fault old new
 OpeningFails BadWeakMap dir configs old new = Holds old (λ files. weak_map_at dir files ≡ None)
 OpeningFails DuplicateConfig dir configs old new = RefusesConfigs DuplicateConfig dir configs old
 OpeningFails ConflictConfig dir configs old new = RefusesConfigs ConflictConfig dir configs old
-OpeningFails Memory dir configs old new = Unit {0}
+OpeningFails Memory dir configs old new = new.faults ≡ old.faults
 OpeningFails other dir configs old new = ⊥

@@ -11,7 +11,7 @@ use Rattle.folders.specs.Held.{Holds, Became}
 use Rattle.toolchain_cache.specs.Archives.{id_of, archive_path}
 use Rattle.toolchain_cache.specs.Archiving.{with_archive, StoreFails}
 use Rattle.lru_disk_cache.specs.Entries.{promoted_key}
-use Rattle.lru_disk_cache.specs.Store.{IoCause}
+use Rattle.lru_disk_cache.specs.Store.{IoCause, Uncounted}
 use Rattle.lru_disk_cache.specs.declared.error.Error.{Error}
 use Rattle.lru_disk_cache.specs.declared.error.Error.TheVariants.{Io, FileNotInCache}
 use Rattle.folders.specs.declared.fault.FolderFault.TheVariants.{Missing}
@@ -68,12 +68,15 @@ KeptOrFound id old new =
     (new ≡ with_held old new.held)
     ⊎ (new ≡ with_state old (promoted_key id old.archives) old.weak old.taken new.held)
 
--- Why a listed archive was not read: it became the most recent all the same.
+-- Why a listed archive was not read: it became the most recent all the same, or memory ran out, which is told
+-- of no archive that is not listed.
 abbrev pub Unfound : List ℕ → ToolchainError → Toolchains → Toolchains → Type 0
 Unfound id (Cache (Io fault)) old new =
     IoCause fault old.held new.held
     × (new ≡ with_state old (promoted_key id old.archives) old.weak old.taken new.held)
-Unfound id Memory old new = KeptOrFound id old new
+Unfound id Memory old new =
+    KeptOrFound id old new × IsSome (lookup (bytes_eq id) old.archives)
+    × (new.held.faults ≡ old.held.faults)
 Unfound id other old new = ⊥
 
 -- the archive of an id in the cache: none exactly where it is not listed
@@ -150,7 +153,8 @@ pub record IsRecorded (key id : List ℕ) (old new : Toolchains) : Type 0 where
 abbrev pub Unrecorded : List ℕ → List ℕ → ToolchainError → Toolchains → Toolchains → Type 0
 Unrecorded key id (Cache (Io fault)) old new =
     IoCause fault old.held new.held × KeptOrRecorded key id old new × (new ≡ with_held old new.held)
-Unrecorded key id Memory old new = KeptOrRecorded key id old new × (new ≡ with_held old new.held)
+Unrecorded key id Memory old new =
+    KeptOrRecorded key id old new × (new ≡ with_held old new.held) × (new.held.faults ≡ old.held.faults)
 Unrecorded key id other old new = ⊥
 
 abbrev pub Records : List ℕ → List ℕ → Result (Unit {0}) ToolchainError → Toolchains → Toolchains → Type 0
@@ -165,21 +169,23 @@ pub record IsStored (bytes : List ℕ) (old new : Toolchains) : Type 0 where
       (λ files. file_at files (archive_path (cache_path old.dir) (id_of bytes)) ≡ Some bytes)
   pub steady : new.held.faults ≡ old.held.faults
 
--- they were not, for this refusal of the cache
+-- they were not, for this refusal of the cache; want of memory leaves the count of faults as it was
 pub record IsUnstored (bytes : List ℕ) (e : Error) (old new : Toolchains) : Type 0 where
   pub fails : StoreFails old.capacity (id_of bytes) bytes e old.archives new.archives old.held new.held
   pub changes : new ≡ with_state old new.archives old.weak old.taken new.held
+  pub uncounted : Uncounted e old.held new.held
 
 abbrev pub Stores : List ℕ → Result (List ℕ) Error → Toolchains → Toolchains → Type 0
 Stores bytes (Ok id) old new = (id ≡ id_of bytes) × IsStored bytes old new
 Stores bytes (Err e) old new = IsUnstored bytes e old new
 
--- what a packager packed: its bytes; PackagerFailed only where its count of refusals rose
-abbrev pub Packs : Option (List ℕ) → ℕ → ℕ → Result (List ℕ) ToolchainError → Type 0
-Packs told before after (Ok bytes) = Appends told [] bytes
-Packs told before after (Err PackagerFailed) = Rose before after
-Packs told before after (Err Memory) = Unit {0}
-Packs told before after (Err other) = ⊥
+-- What a packager packed, which was called once, as `Called` says: its bytes; PackagerFailed only where its
+-- count of refusals rose, which else is as it was.
+abbrev pub Packs : Type 0 → Option (List ℕ) → ℕ → ℕ → Result (List ℕ) ToolchainError → Type 0
+Packs Called told before after (Ok bytes) = Appends told [] bytes × (after ≡ before) × Called
+Packs Called told before after (Err PackagerFailed) = Rose before after × Called
+Packs Called told before after (Err Memory) = (after ≡ before) × Called
+Packs Called told before after (Err other) = ⊥
 
 -- the id, where it was recorded
 abbrev pub id_if : List ℕ → Result (Unit {0}) ToolchainError → Result (List ℕ) ToolchainError
@@ -213,10 +219,10 @@ AfterPack key (Ok bytes) answer old new = IsStocked key bytes answer old new
 AfterPack key (Err e) answer old new = (answer ≡ Err e) × (new ≡ old)
 
 -- The fourth case: the packager packs, and what it packed is stored and recorded.
-pub record Packages (told : Option (List ℕ)) (before after : ℕ) (key : List ℕ)
+pub record Packages (Called : Type 0) (told : Option (List ℕ)) (before after : ℕ) (key : List ℕ)
     (answer : Result (List ℕ) ToolchainError) (old new : Toolchains) : Type 0 where
   pub packed : Result (List ℕ) ToolchainError
-  pub packs : Packs told before after packed
+  pub packs : Packs Called told before after packed
   pub follows : AfterPack key packed answer old new
 
 abbrev pub placed_alone : Result (List ℕ) ToolchainError → Result Placed ToolchainError
@@ -235,43 +241,44 @@ pub record PutsCustom (path : List ℕ) (c : CustomToolchain) (answer : Result P
   pub gives : answer ≡ placed_custom custom
 
 -- the fourth case, behind a look for what is recorded
-pub record PutsPackage (told : Option (List ℕ)) (before after : ℕ) (key : List ℕ)
+pub record PutsPackage (Called : Type 0) (told : Option (List ℕ)) (before after : ℕ) (key : List ℕ)
     (answer : Result Placed ToolchainError) (old new : Toolchains) : Type 0 where
   pub packaged : Result (List ℕ) ToolchainError
-  pub packages : Packages told before after key packaged old new
+  pub packages : Packages Called told before after key packaged old new
   pub gives : answer ≡ placed_alone packaged
 
 -- what follows the look for what is recorded; the packager is called where nothing is
-abbrev pub AfterLook : Type 0 → Option (List ℕ) → ℕ → ℕ → List ℕ → Result (Option (List ℕ)) ToolchainError
-    → Result Placed ToolchainError
-    → Toolchains → Toolchains → Type 0
-AfterLook Uncalled told before after key (Ok None) answer old new =
-    PutsPackage told before after key answer old new
-AfterLook Uncalled told before after key (Ok (Some id)) answer old new = (answer ≡ Ok (Alone id))
+abbrev pub AfterLook : Type 0 → Type 0 → Option (List ℕ) → ℕ → ℕ → List ℕ
+    → Result (Option (List ℕ)) ToolchainError → Result Placed ToolchainError → Toolchains → Toolchains
+    → Type 0
+AfterLook Uncalled Called told before after key (Ok None) answer old new =
+    PutsPackage Called told before after key answer old new
+AfterLook Uncalled Called told before after key (Ok (Some id)) answer old new = (answer ≡ Ok (Alone id))
     × (new ≡ old) × Uncalled
-AfterLook Uncalled told before after key (Err e) answer old new = (answer ≡ Err e) × (new ≡ old) × Uncalled
+AfterLook Uncalled Called told before after key (Err e) answer old new = (answer ≡ Err e) × (new ≡ old)
+    × Uncalled
 
 -- the third and the fourth case
-pub record LooksThenPackages (Uncalled : Type 0) (told : Option (List ℕ)) (before after : ℕ) (key : List ℕ)
-    (answer : Result Placed ToolchainError) (old new : Toolchains) : Type 0 where
+pub record LooksThenPackages (Uncalled Called : Type 0) (told : Option (List ℕ)) (before after : ℕ)
+    (key : List ℕ) (answer : Result Placed ToolchainError) (old new : Toolchains) : Type 0 where
   pub looked : Result (Option (List ℕ)) ToolchainError
   pub between : Toolchains
   pub looks : LooksUp (recorded_id key old.weak) looked old between
-  pub follows : AfterLook Uncalled told before after key looked answer between new
+  pub follows : AfterLook Uncalled Called told before after key looked answer between new
 
 -- The four cases, in their order, by what is configured for the compiler: that no archive is wanted is
 -- Disabled; a configured archive is told; else what is recorded under the weak key, and else what is
--- packaged. `Uncalled` says that the packager was not called.
-abbrev pub PutsBy : Type 0 → Option (List ℕ) → ℕ → ℕ → Option DistToolchainConfig → List ℕ → List ℕ
-    → Result Placed ToolchainError → Toolchains → Toolchains → Type 0
-PutsBy Uncalled told before after (Some (NoDist c)) path key answer old new = (answer ≡ Err Disabled)
+-- packaged. `Uncalled` says that the packager was not called, `Called` that it was called once.
+abbrev pub PutsBy : Type 0 → Type 0 → Option (List ℕ) → ℕ → ℕ → Option DistToolchainConfig → List ℕ
+    → List ℕ → Result Placed ToolchainError → Toolchains → Toolchains → Type 0
+PutsBy Uncalled Called told before after (Some (NoDist c)) path key answer old new = (answer ≡ Err Disabled)
     × (new ≡ old) × Uncalled
-PutsBy Uncalled told before after (Some (PathOverride c archive inside)) path key answer old new =
+PutsBy Uncalled Called told before after (Some (PathOverride c archive inside)) path key answer old new =
     PutsCustom path (record { archive = archive; compiler_executable = inside }) answer old new × Uncalled
-PutsBy Uncalled told before after None path key answer old new =
-    LooksThenPackages Uncalled told before after key answer old new
+PutsBy Uncalled Called told before after None path key answer old new =
+    LooksThenPackages Uncalled Called told before after key answer old new
 
-abbrev pub Puts : Type 0 → Option (List ℕ) → ℕ → ℕ → List ℕ → List ℕ → Result Placed ToolchainError
-    → Toolchains → Toolchains → Type 0
-Puts Uncalled told before after path key answer old new =
-    PutsBy Uncalled told before after (config_of path old.configs) path key answer old new
+abbrev pub Puts : Type 0 → Type 0 → Option (List ℕ) → ℕ → ℕ → List ℕ → List ℕ
+    → Result Placed ToolchainError → Toolchains → Toolchains → Type 0
+Puts Uncalled Called told before after path key answer old new =
+    PutsBy Uncalled Called told before after (config_of path old.configs) path key answer old new

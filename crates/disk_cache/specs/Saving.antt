@@ -30,16 +30,16 @@ OldOrBegun dir old new = (file_at new (weak_path dir) ≡ file_at old (weak_path
     ⊎ ((file_at old (weak_path dir) ≡ None) × (weak_map_at dir new ≡ Some []))
 
 -- why a file was not saved: Failed only where the count rose, Missing only where files are not told; the
--- count never falls
+-- count never falls, and want of memory leaves it
 abbrev pub SaveFails : FolderFault → Held → Held → Type 0
 SaveFails Missing old new = (old.files ≡ None) × (old.faults ≤ new.faults)
 SaveFails Failed old new = Rose old.faults new.faults × (old.faults ≤ new.faults)
-SaveFails OutOfMemory old new = old.faults ≤ new.faults
+SaveFails OutOfMemory old new = new.faults ≡ old.faults
 
 -- why a weak map was not begun
 abbrev pub BeginFails : ToolchainError → Held → Held → Type 0
 BeginFails (Cache (Io fault)) old new = IoCause fault old new × (old.faults ≤ new.faults)
-BeginFails Memory old new = old.faults ≤ new.faults
+BeginFails Memory old new = new.faults ≡ old.faults
 BeginFails other old new = ⊥
 
 -- why a weak map was not loaded
@@ -47,5 +47,5 @@ abbrev pub LoadFails : List ℕ → ToolchainError → Held → Held → Type 0
 LoadFails dir (Cache (Io fault)) old new = IoCause fault old new × (old.faults ≤ new.faults)
 LoadFails dir BadWeakMap old new = Holds old (λ files. weak_map_at dir files ≡ None)
     × (old.faults ≤ new.faults)
-LoadFails dir Memory old new = old.faults ≤ new.faults
+LoadFails dir Memory old new = new.faults ≡ old.faults
 LoadFails dir other old new = ⊥

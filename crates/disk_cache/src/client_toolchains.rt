@@ -1,14 +1,19 @@
 //! `ClientToolchains`: the archives that a client sends, packaged or configured.
-ghost use Rattle.std.specs.Prelude.{◌≡◌, ◌≤◌, ◌++◌, ◌∷◌, [], Some, None, Ok, OnOk, IfOk, IfErr};
+ghost use Rattle.std.specs.Prelude.{◌≡◌, ◌≤◌, ◌++◌, ◌∷◌, [], Some, None, Ok, Err, IsSome, OnOk, IfOk, IfErr};
+ghost use Rattle.std.specs.Prelude.{OnErr, codes};
+ghost use Rattle.std.specs.Map.{lookup};
+ghost use Rattle.std.specs.Str.{bytes_eq};
 ghost use Rattle.std.specs.Option.{option_map};
 ghost use Rattle.folders.specs.Files.{file_at};
-ghost use Rattle.folders.specs.Held.{Holds, Became};
-ghost use Rattle.toolchain_cache.specs.Archives.{id_of, opened_archives};
-ghost use Rattle.toolchain_cache.specs.Archiving.{FindFails};
+ghost use Rattle.folders.specs.Held.{Holds, Became, Lacks};
+ghost use Rattle.toolchain_cache.specs.Archives.{id_of, opened_archives, IsInStep};
+ghost use Rattle.lru_disk_cache.specs.Store.{Uncounted};
+ghost use Rattle.toolchain_cache.specs.Archiving.{FindFails, Relists};
+ghost use Rattle.toolchain_cache.specs.Stored.{KeepsListed};
 ghost use Rattle.disk_cache.specs.Configs.{config_of, config_verdict, custom_of, IsChoice};
 ghost use Rattle.disk_cache.specs.Custom.{TellsCustom, Takes, Unread, IsCustom, taken_of, last_taken, taking};
 ghost use Rattle.disk_cache.specs.Custom.{custom_as, custom_told, customs_seen};
-ghost use Rattle.disk_cache.specs.Names.{cache_path, temp_dir};
+ghost use Rattle.disk_cache.specs.Names.{cache_path, temp_dir, weak_path};
 ghost use Rattle.disk_cache.specs.Opening.{IsEmpty, ButOwn, LeftOpen, OpeningFails};
 ghost use Rattle.disk_cache.specs.Others.{KeepsBeside, KeepsOthers};
 ghost use Rattle.disk_cache.specs.Putting.{Gets, IsFound, ReadsCustom, FindsArchive, LooksUp, found_of};
@@ -18,6 +23,7 @@ ghost use Rattle.disk_cache.specs.Putting.{PutsCustom, PutsPackage, LooksThenPac
 ghost use Rattle.disk_cache.specs.Putting.{archives_seen, bytes_seen, placed_as, placed_seen};
 ghost use Rattle.disk_cache.specs.Toolchains.{IsClient, IsWritten, with_state};
 ghost use Rattle.disk_cache.specs.WeakMaps.{weak_map_at, recorded_id};
+ghost use Rattle.path_pkg.specs.Called.{CalledOnce};
 
 use crate::config::{Choice, CustomToolchain, DistToolchainConfig, choice_of, copy_all, judge};
 use crate::custom::{Custom, Placed, Taken, custom_as, last_taken, taken_of};
@@ -76,7 +82,7 @@ impl<F: Folder> Model for ClientToolchains<F> {
 impl<F: Folder> ClientToolchains<F> {
     /// Opens the toolchains of a client below a path of the folder, which is empty or a key: the directory of
     /// what was still being written, `toolchain_tmp`, is emptied; the cache of archives, `tc`, is opened; and
-    /// the weak map is read from `weak_map.json`, which is made where it is missing.
+    /// the weak map is read from `weak_map.json`, which is made as `{}` where it is missing.
     ///
     /// Refused as `ToolchainError::Cache` of `Error::Io`, where the folder fails; as `BadWeakMap`, where the
     /// file is no object of texts; as `DuplicateConfig` or `ConflictConfig`, by the first that configures a
@@ -94,9 +100,16 @@ impl<F: Folder> ClientToolchains<F> {
             configs.now) × (t.taken ≡ [])) }
         ensures archives { IfOk result (λ t. Holds (F.held folder) (λ files. t.archives ≡ opened_archives
             (cache_path cache_dir.now) cache_size files)) }
+        ensures relists { IfOk result (λ t. Holds (F.held folder) (λ files. Relists
+            (cache_path cache_dir.now) cache_size files t.archives)) }
+        ensures in_step { IfOk result (λ t. IsInStep (cache_path cache_dir.now) t.held t.archives) }
+        ensures kept { IfOk result (λ t. Became (KeepsListed (cache_path cache_dir.now) cache_size)
+            (F.held folder).files t.held.files) }
         ensures weak { IfOk result (λ t. Holds (F.held folder) (λ files. weak_map_at cache_dir.now files ≡
             Some t.weak)) }
         ensures written { IfOk result IsWritten }
+        ensures begun { Holds (F.held folder) (Lacks (weak_path cache_dir.now)) → IfOk result (λ t. Holds
+            t.held (λ files. file_at files (weak_path cache_dir.now) ≡ Some (codes "{}"))) }
         ensures emptied { IfOk result (λ t. Holds t.held (IsEmpty (temp_dir cache_dir.now))) }
         ensures others { IfOk result (λ t. Became (ButOwn cache_dir.now) (F.held folder).files t.held.files) }
         ensures judged { OnOk result (config_verdict configs.now ≡ Ok tt) }
@@ -112,7 +125,8 @@ impl<F: Folder> ClientToolchains<F> {
     }
 
     /// The same, but that the folder is handed back where it is refused: no more than the client's own files
-    /// are removed, and the weak map reads as it did.
+    /// are removed, none of an archive that the same opening without a fault would list, and the weak map
+    /// reads as it did.
     pub fn open(
         alloc: Global,
         mut folder: F,
@@ -124,9 +138,16 @@ impl<F: Folder> ClientToolchains<F> {
             configs.now) × (t.taken ≡ [])) }
         ensures archives { IfOk result (λ t. Holds (F.held folder) (λ files. t.archives ≡ opened_archives
             (cache_path cache_dir.now) cache_size files)) }
+        ensures relists { IfOk result (λ t. Holds (F.held folder) (λ files. Relists
+            (cache_path cache_dir.now) cache_size files t.archives)) }
+        ensures in_step { IfOk result (λ t. IsInStep (cache_path cache_dir.now) t.held t.archives) }
+        ensures kept { IfOk result (λ t. Became (KeepsListed (cache_path cache_dir.now) cache_size)
+            (F.held folder).files t.held.files) }
         ensures weak { IfOk result (λ t. Holds (F.held folder) (λ files. weak_map_at cache_dir.now files ≡
             Some t.weak)) }
         ensures written { IfOk result IsWritten }
+        ensures begun { Holds (F.held folder) (Lacks (weak_path cache_dir.now)) → IfOk result (λ t. Holds
+            t.held (λ files. file_at files (weak_path cache_dir.now) ≡ Some (codes "{}"))) }
         ensures emptied { IfOk result (λ t. Holds t.held (IsEmpty (temp_dir cache_dir.now))) }
         ensures others { IfOk result (λ t. Became (ButOwn cache_dir.now) (F.held folder).files t.held.files) }
         ensures judged { OnOk result (config_verdict configs.now ≡ Ok tt) }
@@ -136,6 +157,8 @@ impl<F: Folder> ClientToolchains<F> {
             (F.held e.1)) }
         ensures left { IfErr result (λ e. Became (LeftOpen cache_dir.now) (F.held folder).files
             (F.held e.1).files) }
+        ensures spared { IfErr result (λ e. Became (KeepsListed (cache_path cache_dir.now) cache_size)
+            (F.held folder).files (F.held e.1).files) }
         ensures later { IfErr result (λ e. (F.held folder).faults ≤ (F.held e.1).faults) }
     {
         let Ok(names) = names_of(alloc, cache_dir) else {
@@ -223,8 +246,10 @@ impl<F: Folder> ClientToolchains<F> {
         weak_key: &str,
         packager: &mut dyn ToolchainPackager,
     ) -> Result<(Toolchain, Option<(String, String)>), ToolchainError>
-        ensures puts { Puts (packager.new ≡ packager.old) (packs packager.old) (refusals packager.old)
-            (refusals packager.new) compiler_path.now weak_key.now (placed_seen result) self.old self.new }
+        ensures puts { Puts (packager.new ≡ packager.old)
+            (CalledOnce (times packager.old) (times packager.new)) (packs packager.old)
+            (refusals packager.old) (refusals packager.new) compiler_path.now weak_key.now
+            (placed_seen result) self.old self.new }
         ensures others { KeepsOthers weak_key.now self.old self.new }
         ensures later { self.old.held.faults ≤ self.new.held.faults }
         ensures stands { IsClient self.new }
@@ -257,7 +282,7 @@ impl<F: Folder> ClientToolchains<F> {
     }
 
     // The archive of a toolchain.
-    #[tactic(auto, using(crate::proofs::OthersLemmas::beside_same))]
+    #[tactic(auto, using(crate::proofs::OthersLemmas::beside_same, crate::proofs::PutLemmas::gets_starved))]
     fn archive_of(&mut self, tc: &Toolchain) -> Result<Option<Vec<u8>>, ToolchainError>
         ensures gets { Gets tc.now (archives_seen result) self.old self.new }
         ensures beside { KeepsBeside self.old self.new }
@@ -299,8 +324,10 @@ impl<F: Folder> ClientToolchains<F> {
         key: &str,
         packager: &mut dyn ToolchainPackager,
     ) -> Result<(Toolchain, Option<(String, String)>), ToolchainError>
-        ensures puts { Puts (packager.new ≡ packager.old) (packs packager.old) (refusals packager.old)
-            (refusals packager.new) path.now key.now (placed_seen result) self.old self.new }
+        ensures puts { Puts (packager.new ≡ packager.old)
+            (CalledOnce (times packager.old) (times packager.new)) (packs packager.old)
+            (refusals packager.old) (refusals packager.new) path.now key.now (placed_seen result)
+            self.old self.new }
         ensures others { KeepsOthers key.now self.old self.new }
         ensures later { self.old.held.faults ≤ self.new.held.faults }
     {
@@ -317,7 +344,8 @@ impl<F: Folder> ClientToolchains<F> {
 
     // The name of the configured archive of an id that was taken last.
     fn taken_archive(&self, tc: &Toolchain) -> Result<Option<Text>, Memory>
-        ensures { IfOk result (λ o. o ≡ option_map (λ t. t.archive) (last_taken tc.now self.now.taken)) }
+        ensures ok { IfOk result (λ o. o ≡ option_map (λ t. t.archive) (last_taken tc.now self.now.taken)) }
+        ensures err { OnErr result (IsSome (last_taken tc.now self.now.taken)) }
     {
         match last_taken(tc, &self.taken) {
             Some(taken) => {
@@ -390,6 +418,8 @@ impl<F: Folder> ClientToolchains<F> {
             self.new.held }
         ensures fails { IfErr result (λ e. FindFails tc.now e self.old.archives self.new.archives
             self.old.held self.new.held) }
+        ensures memory { result ≡ Err Error.Memory → IsSome (lookup (bytes_eq tc.now) self.old.archives) }
+        ensures uncounted { IfErr result (λ e. Uncounted e self.old.held self.new.held) }
         ensures beside { KeepsBeside self.old self.new }
         ensures later { self.old.held.faults ≤ self.new.held.faults }
     {
@@ -562,7 +592,8 @@ impl<F: Folder> ClientToolchains<F> {
         key: &str,
         packager: &mut dyn ToolchainPackager,
     ) -> Result<Toolchain, ToolchainError>
-        ensures packages { Packages (packs packager.old) (refusals packager.old) (refusals packager.new)
+        ensures packages { Packages (CalledOnce (times packager.old) (times packager.new))
+            (packs packager.old) (refusals packager.old) (refusals packager.new)
             key.now result self.old self.new }
         ensures others { KeepsOthers key.now self.old self.new }
         ensures later { self.old.held.faults ≤ self.new.held.faults }
@@ -579,7 +610,8 @@ impl<F: Folder> ClientToolchains<F> {
         key: &str,
         packager: &mut dyn ToolchainPackager,
     ) -> Result<Placed, ToolchainError>
-        ensures puts { PutsPackage (packs packager.old) (refusals packager.old) (refusals packager.new)
+        ensures puts { PutsPackage (CalledOnce (times packager.old) (times packager.new))
+            (packs packager.old) (refusals packager.old) (refusals packager.new)
             key.now result self.old self.new }
         ensures others { KeepsOthers key.now self.old self.new }
         ensures later { self.old.held.faults ≤ self.new.held.faults }
@@ -597,8 +629,9 @@ impl<F: Folder> ClientToolchains<F> {
         key: &str,
         packager: &mut dyn ToolchainPackager,
     ) -> Result<Placed, ToolchainError>
-        ensures puts { LooksThenPackages (packager.new ≡ packager.old) (packs packager.old) (refusals
-            packager.old) (refusals packager.new) key.now result self.old self.new }
+        ensures puts { LooksThenPackages (packager.new ≡ packager.old)
+            (CalledOnce (times packager.old) (times packager.new)) (packs packager.old)
+            (refusals packager.old) (refusals packager.new) key.now result self.old self.new }
         ensures others { KeepsOthers key.now self.old self.new }
         ensures later { self.old.held.faults ≤ self.new.held.faults }
     {
@@ -631,8 +664,9 @@ impl<F: Folder> ClientToolchains<F> {
         key: &str,
         packager: &mut dyn ToolchainPackager,
     ) -> Result<Placed, ToolchainError>
-        ensures puts { Puts (packager.new ≡ packager.old) (packs packager.old) (refusals packager.old)
-            (refusals packager.new) path.now key.now result self.old self.new }
+        ensures puts { Puts (packager.new ≡ packager.old)
+            (CalledOnce (times packager.old) (times packager.new)) (packs packager.old)
+            (refusals packager.old) (refusals packager.new) path.now key.now result self.old self.new }
         ensures others { KeepsOthers key.now self.old self.new }
         ensures later { self.old.held.faults ≤ self.new.held.faults }
     {
@@ -649,7 +683,8 @@ impl<F: Folder> ClientToolchains<F> {
 
 // What a packager packs.
 fn packed(alloc: Global, packager: &mut dyn ToolchainPackager) -> Result<Vec<u8>, ToolchainError>
-    ensures { Packs (packs packager.old) (refusals packager.old) (refusals packager.new) (bytes_seen result) }
+    ensures { Packs (CalledOnce (times packager.old) (times packager.new)) (packs packager.old)
+        (refusals packager.old) (refusals packager.new) (bytes_seen result) }
 {
     let mut bytes = Vec::new(alloc);
     match packager.write_pkg(&mut bytes) {

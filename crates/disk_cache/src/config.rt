@@ -101,16 +101,12 @@ pub(crate) fn config_of<'a>(
 ) -> Option<&'a DistToolchainConfig>
     ensures { option_map (λ c. c.now) result ≡ config_of path.now configs.now }
 {
-    match configs {
-        [] => None,
-        [config, rest @ ..] => {
-            if path == compiler_of(config) {
-                Some(config)
-            } else {
-                config_of(path, rest)
-            }
+    for config in configs {
+        if path == compiler_of(config) {
+            return Some(config);
         }
     }
+    None
 }
 
 /// Whether it says that no archive is wanted.

@@ -42,35 +42,25 @@ pub enum Placed {
 pub(crate) fn taken_of<'a>(path: &str, taken: &'a [Taken]) -> Option<&'a Taken>
     ensures { option_map (λ t. t.now) result ≡ taken_of path.now taken.now }
 {
-    match taken {
-        [] => None,
-        [first, rest @ ..] => {
-            if path == first.compiler.get() {
-                Some(first)
-            } else {
-                taken_of(path, rest)
-            }
+    for first in taken {
+        if path == first.compiler.get() {
+            return Some(first);
         }
     }
+    None
 }
 
 /// The last of this id that was taken.
 pub(crate) fn last_taken<'a>(id: &Toolchain, taken: &'a [Taken]) -> Option<&'a Taken>
     ensures { option_map (λ t. t.now) result ≡ last_taken id.now taken.now }
 {
-    match taken {
-        [] => None,
-        [first, rest @ ..] => match last_taken(id, rest) {
-            Some(later) => Some(later),
-            None => {
-                if id.archive_id() == first.id.archive_id() {
-                    Some(first)
-                } else {
-                    None
-                }
-            }
-        },
+    let mut last = None;
+    for later in taken {
+        if id.archive_id() == later.id.archive_id() {
+            last = Some(later);
+        }
     }
+    last
 }
 
 /// What is told of a configured archive with that SHA-256. It takes no memory.

@@ -1,8 +1,8 @@
 //! The file of the weak map.
-ghost use Rattle.std.specs.Prelude.{◌≡◌, ◌⊎◌, [], Some, None, IfOk, IfErr, OnOk};
+ghost use Rattle.std.specs.Prelude.{◌≡◌, ◌⊎◌, [], Some, None, IfOk, IfErr, OnOk, codes};
 ghost use Rattle.folders.specs.Files.{file_at};
 ghost use Rattle.folders.specs.Held.{Holds, Became, Lacks};
-ghost use Rattle.toolchain_cache.specs.Archives.{IsArchiveStore};
+ghost use Rattle.toolchain_cache.specs.Archives.{IsArchiveStore, IsInStep};
 ghost use Rattle.disk_cache.specs.Names.{AreNames, weak_path, temp_path};
 ghost use Rattle.folders.specs.Whole.{OldOr};
 ghost use Rattle.disk_cache.specs.Saving.{ButTwo, OldOrEmpty, OldOrBegun, SaveFails, BeginFails, LoadFails};
@@ -29,6 +29,8 @@ pub(crate) fn save<F: Folder>(
         (cache.new.archives ≡ cache.old.archives) }
     ensures stands { IsArchiveStore cache.new.path cache.new.capacity cache.new.archives (F.held
         cache.new.folder) }
+    ensures in_step { IsInStep cache.old.path (F.held cache.old.folder) cache.old.archives → IsInStep
+        cache.new.path (F.held cache.new.folder) cache.new.archives }
     ensures written { OnOk result (Holds (F.held cache.new.folder) (λ files. file_at files (weak_path
         names.now.dir) ≡ Some text.now)) }
     ensures gone { OnOk result (Holds (F.held cache.new.folder) (Lacks (temp_path names.now.dir))) }
@@ -49,7 +51,7 @@ pub(crate) fn save<F: Folder>(
     }
 }
 
-/// Begins a weak map in which nothing is recorded.
+/// Begins a weak map in which nothing is recorded: its text is `{}`.
 fn begin<F: Folder>(
     alloc: Global,
     cache: &mut TcCache<F>,
@@ -63,10 +65,14 @@ fn begin<F: Folder>(
         (cache.new.archives ≡ cache.old.archives) }
     ensures stands { IsArchiveStore cache.new.path cache.new.capacity cache.new.archives (F.held
         cache.new.folder) }
+    ensures in_step { IsInStep cache.old.path (F.held cache.old.folder) cache.old.archives → IsInStep
+        cache.new.path (F.held cache.new.folder) cache.new.archives }
     ensures none { IfOk result (λ map. map ≡ []) }
     ensures written { IfOk result (λ map. Holds (F.held cache.new.folder) (λ files. weak_map_at
         names.now.dir files ≡ Some map)) }
     ensures gone { OnOk result (Holds (F.held cache.new.folder) (Lacks (temp_path names.now.dir))) }
+    ensures begun { OnOk result (Holds (F.held cache.new.folder) (λ files. file_at files (weak_path
+        names.now.dir) ≡ Some (codes "{}"))) }
     ensures weak { Became (OldOrEmpty names.now.dir) (F.held cache.old.folder).files
         (F.held cache.new.folder).files }
     ensures others { Became (ButTwo (temp_path names.now.dir) (weak_path names.now.dir)) (F.held
@@ -99,8 +105,8 @@ fn map_of(alloc: Global, bytes: &[u8]) -> Result<WeakMap, ToolchainError>
     }
 }
 
-/// The weak map of the file, which is made where it is missing: BadWeakMap exactly where it is no object of
-/// texts.
+/// The weak map of the file, which is made as `{}` where it is missing: BadWeakMap exactly where it is no
+/// object of texts.
 pub(crate) fn load<F: Folder>(
     alloc: Global,
     cache: &mut TcCache<F>,
@@ -112,12 +118,16 @@ pub(crate) fn load<F: Folder>(
         (cache.new.archives ≡ cache.old.archives) }
     ensures stands { IsArchiveStore cache.new.path cache.new.capacity cache.new.archives (F.held
         cache.new.folder) }
+    ensures in_step { IsInStep cache.old.path (F.held cache.old.folder) cache.old.archives → IsInStep
+        cache.new.path (F.held cache.new.folder) cache.new.archives }
     ensures found { IfOk result (λ map. Holds (F.held cache.old.folder) (λ files. weak_map_at names.now.dir
         files ≡ Some map)) }
     ensures written { IfOk result (λ map. Holds (F.held cache.new.folder) (λ files. weak_map_at
         names.now.dir files ≡ Some map)) }
     ensures clean { Holds (F.held cache.old.folder) (Lacks (temp_path names.now.dir)) → OnOk result (Holds
         (F.held cache.new.folder) (Lacks (temp_path names.now.dir))) }
+    ensures begun { Holds (F.held cache.old.folder) (Lacks (weak_path names.now.dir)) → OnOk result (Holds
+        (F.held cache.new.folder) (λ files. file_at files (weak_path names.now.dir) ≡ Some (codes "{}"))) }
     ensures weak { Became (OldOrBegun names.now.dir) (F.held cache.old.folder).files
         (F.held cache.new.folder).files }
     ensures others { Became (ButTwo (temp_path names.now.dir) (weak_path names.now.dir)) (F.held

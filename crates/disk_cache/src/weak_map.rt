@@ -1,5 +1,5 @@
 //! Weak maps: the weak keys of compilers, each with the id of the archive that was packaged for it.
-ghost use Rattle.std.specs.Prelude.{◌≡◌, [], IfOk, Some, is_some, option_map, option_and_then};
+ghost use Rattle.std.specs.Prelude.{◌≡◌, [], IfOk, Some, is_some, option_map, option_and_then, codes};
 ghost use Rattle.serde_json.specs.Data.{string, put};
 ghost use Rattle.serde_json.specs.Find.{as_str, get};
 ghost use Rattle.serde_json.specs.View.{view, members_view};
@@ -129,9 +129,10 @@ impl WeakMap {
         })
     }
 
-    /// Its text in JSON. Refused for want of memory alone.
+    /// Its text in JSON, `{}` where nothing is recorded. Refused for want of memory alone.
     pub(crate) fn text(&self, alloc: Global) -> Result<Vec<u8>, AllocError>
-        ensures { IfOk result (λ text. weak_map_in text.items ≡ Some self.now) }
+        ensures reads { IfOk result (λ text. weak_map_in text.items ≡ Some self.now) }
+        ensures empty { IfOk result (λ text. self.now ≡ [] → text.items ≡ codes "{}") }
     {
         let text = self.value.to_vec(alloc)?;
         Ok(text)

@@ -24,6 +24,20 @@ pub enum BuildFault {
     Memory,
 }
 
+/// Why a run at a build server gave no build.
+#[derive(Clone, Copy, Debug, PartialEq, Eq, Error)]
+pub enum BuildCause {
+    /// The toolchain's archive is not listed.
+    #[error("toolchain not in cache")]
+    Unlisted,
+    /// The archive could not be read, since the folder failed.
+    #[error("toolchain unreadable")]
+    Folder,
+    /// The builder refused.
+    #[error("builder refused")]
+    Refused,
+}
+
 impl From<AllocError> for BuildFault {
     ghost use Rattle.dist_types.specs.declared.builder.BuildFault.TheVariants.{Memory as OutOfMemory};
 

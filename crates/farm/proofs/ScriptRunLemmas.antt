@@ -65,7 +65,9 @@ same_text v bytes text e r =
       each = r.each;
       lawful = r.lawful;
       builds = r.builds;
+      ran = r.ran;
       reliable = r.reliable;
+      grants = r.grants;
       is = r.is;
     }
 

@@ -18,7 +18,7 @@ use Rattle.audit.specs.declared.mark.Book.{Book}
 use Rattle.audit.specs.declared.mark.Book.TheVariants as book
 use Rattle.audit.specs.declared.mark.Mark.{Mark}
 use Rattle.dist_types.specs.declared.rules.Rules.{Rules}
-use Rattle.dist_types.specs.declared.rules.Rules.TheVariants.{One}
+use Rattle.dist_types.specs.declared.rules.Rules.TheVariants.{One, Two}
 use Rattle.audit.specs.Reading.{Read, makes}
 use Rattle.audit.specs.FirstBad.{AllFit}
 use Rattle.audit.specs.Replay.{Judged}
@@ -27,7 +27,7 @@ use Rattle.audit.specs.Verdict.{rules_of, start_of}
 use Rattle.audit.specs.Held.{AllGood, IsHeld}
 use Rattle.farm_entries.specs.declared.site.Site.{Site}
 use Rattle.farm_entries.specs.declared.entry.Entry.{Entry}
-use Rattle.farm_entries.specs.Printed.{run_text}
+use Rattle.farm_entries.specs.Printed.{version_of, run_text}
 use Rattle.farm_entries.specs.Seen.{core_log, ids_start}
 use Rattle.farm_audit.specs.RunLines.{run_lines}
 use Rattle.farm_audit.proofs.History.{IsHistory}
@@ -97,13 +97,18 @@ books_keyless log =
 
 -- ---- the whole
 
-start_is : (start : Start) (r : Read) (n : ℕ) → start.rules ≡ One → r.version ≡ 1 → r.base ≡ start.base
+-- a version says its rules
+rules_are : (rules : Rules) → rules_of (version_of rules) ≡ rules
+rules_are One = refl
+rules_are Two = refl
+
+start_is : (start : Start) (r : Read) (n : ℕ) → r.version ≡ version_of start.rules → r.base ≡ start.base
     → r.count ≡ start.count + n → r.made ≡ n → start_of r ≡ behind start [] []
-start_is start r n rules version base count made =
+start_is start r n version base count made =
     ap (λ b. made_of b (r.count - r.made) (rules_of r.version)) base
     ∙ ap (λ k. made_of start.base k (rules_of r.version)) left
     ∙ ap (λ v. made_of start.base start.count (rules_of v)) version
-    ∙ ap (λ v. made_of start.base start.count v) (sym rules)
+    ∙ ap (λ v. made_of start.base start.count v) (rules_are start.rules)
   where
     made_of : ℕ → ℕ → Rules → Judged
     made_of b k v = record { core = record { start = record { base = b; count = k; rules = v }; log = [] }; built = [] }
@@ -119,7 +124,7 @@ run_held setup es fit short history =
     let n = length (bookings (core_log es)) in
     let made : o.end.made ≡ n = o.made_is ∙ made_is es ∙ sym (bookings_made [] (core_log es)) in
     let begins : start_of o.end ≡ behind start [] [] =
-    start_is start o.end n refl o.version_is o.base_is o.count_is made in
+    start_is start o.end n o.version_is o.base_is o.count_is made in
     let end : Judged = behind start (core_log es) (built_by [] es) in
     let good : AllGood (behind start [] []) (marks_of 2 0 es) end =
     history_good start es history.legal history.moments history.builds in

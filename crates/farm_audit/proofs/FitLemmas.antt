@@ -1,6 +1,6 @@
 -- The lines of a run fit where its entries and its setup do.
 use Rattle.std.proofs.Common.{ℕ, suc, ◌+◌, ◌==◌, ◌<◌, ◌≤◌, ◌^◌, Bool, true, false, cond, nat_lt, List, []}
-use Rattle.std.proofs.Common.{◌∷◌, ◌++◌, length, map, Option, Some, None, codes, refl, inl}
+use Rattle.std.proofs.Common.{◌∷◌, ◌++◌, length, map, Option, Some, None, codes, refl, inl, inr, ◌≡◌, ◌⊎◌}
 use Rattle.std.proofs.Common.{arith}
 use Rattle.std.specs.List.{filter_map, cons_option, flat_map}
 use Rattle.std.specs.Fmt.{decimal}
@@ -9,6 +9,8 @@ use Rattle.std.proofs.lemmas.List.{length-append, length-map}
 use Rattle.std.proofs.lemmas.List.Sums.{count_by-le-length, length-filter}
 use Rattle.dist_types.specs.Addr.{same_addr}
 use Rattle.dist_types.specs.declared.ids.JobId.{JobId}
+use Rattle.dist_types.specs.declared.rules.Rules.{Rules}
+use Rattle.dist_types.specs.declared.rules.Rules.TheVariants.{One, Two}
 use Rattle.core_rules.specs.Cuts.{Cut, cuts, cuts_behind}
 use Rattle.core_rules.specs.Fault.{Noted, noted_at, notes_by, is_remembered, error_of}
 use Rattle.core_rules.specs.Laws.{IsLegal}
@@ -36,7 +38,7 @@ use Rattle.farm_entries.specs.declared.entry.OutCall.{OutCall}
 use Rattle.farm_entries.specs.declared.entry.Reply.{Reply}
 use Rattle.farm_entries.specs.declared.entry.StepKind.{StepKind}
 use Rattle.farm_entries.specs.declared.entry.StepKind.TheVariants as step
-use Rattle.farm_entries.specs.Printed.{core_count, entry_text, entries_text, run_text, books_text}
+use Rattle.farm_entries.specs.Printed.{core_count, version_of, entry_text, entries_text, run_text, books_text}
 use Rattle.farm_entries.specs.Seen.{core_log, ids_start}
 use Rattle.farm_entries.specs.Servers.{ServerNow, archives_after_run, kind_after, stepped, restarted, restart_by}
 use Rattle.farm_entries.specs.Servers.{server_after, server_begun, server_of}
@@ -382,18 +384,23 @@ servers_fit (s ∷ ss) es fits all =
 
 -- ---- the whole
 
+version_fits : (rules : Rules) → (version_of rules ≡ 1) ⊎ (version_of rules ≡ 2)
+version_fits One = inl refl
+version_fits Two = inr refl
+
 pub lines_fit : (setup : Site) (es : List Entry) → setup.scheduler.count < 2 ^ 64 → SiteFits setup
     → Each EntryFits es → IsLegal (ids_start setup) (core_log es) → length (run_text setup es) ≤ 268435456
     → AllFit (run_lines setup es)
 lines_fit setup es count fits all legal short =
     let log = core_log es in
+    let first : List ℕ = codes "run " ++ (decimal (version_of setup.rules) ++ (codes " entries "
+    ++ (decimal (length es) ++ codes "\n"))) in
     let few : length es ≤ 268435456 = omega (
       arith,
       short,
       entries_few 0 0 es,
-      length-append ((codes "run 1 entries " ++ (decimal (length es) ++ codes "\n")) ++ entries_text 0 0 es)
-          (books_text setup es),
-      length-append (codes "run 1 entries " ++ (decimal (length es) ++ codes "\n")) (entries_text 0 0 es),
+      length-append (first ++ entries_text 0 0 es) (books_text setup es),
+      length-append first (entries_text 0 0 es),
     ) in
     let core_few : length log ≤ 268435456 = omega (arith, few, cores_few es) in
     let cores = cores_fit es all in
@@ -401,7 +408,7 @@ lines_fit setup es count fits all legal short =
     let rows = map row_line (map (row_of log) (standing log)) in
     let booked = map booking_line (unended_by_id log) in
     let kept = flat_map (λ s. server_lines (server_of s es)) setup.servers in (
-      (inl refl, omega (arith, few)),
+      (version_fits setup.rules, omega (arith, few)),
       fit_both (entries_lines 0 0 es) (books_lines setup es)
           (entries_fit 0 0 es (omega (arith, few)) (omega (arith, few)) all) (
             tt,

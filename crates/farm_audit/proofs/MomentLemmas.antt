@@ -84,7 +84,7 @@ answer_moment s number at json (asked.Beat server beat) =
     ]
 answer_moment s number at json (asked.Update server job state) = refl
 answer_moment s number at json asked.Status = refl
-answer_moment s number at json (asked.Drain server drain) = refl
+answer_moment s number at json (asked.Drain server wish) = refl
 answer_moment s number at json (asked.Done response) = tt
 
 answered_moment : (setup : Site) (s : Core) (number at : ℕ) (peer : Addr) (bytes : List ℕ) (x : Effect)

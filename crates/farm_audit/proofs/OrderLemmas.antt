@@ -12,7 +12,7 @@ use Rattle.core_rules.specs.Reservation.{Booking}
 use Rattle.core_rules.specs.Rows.{servers_of, unended_by_id}
 use Rattle.farm_entries.specs.declared.site.Site.{Site}
 use Rattle.farm_entries.specs.declared.site.SiteServer.{SiteServer}
-use Rattle.farm_entries.specs.Printed.{core_count, ids_given}
+use Rattle.farm_entries.specs.Printed.{core_count, ids_given, version_of}
 use Rattle.farm_entries.specs.Seen.{core_log}
 use Rattle.farm_entries.specs.Servers.{server_of}
 use Rattle.farm_entries.specs.declared.entry.Entry.{Entry}
@@ -640,7 +640,7 @@ pub record IsInOrder (setup : Site) (es : List Entry) : Type 0 where
   pub says : Says 1 nothing_read (run_lines setup es) end
   pub over : end.place ≡ Over
   pub all : end.seen ≡ end.entries
-  pub version_is : end.version ≡ 1
+  pub version_is : end.version ≡ version_of setup.rules
   pub marks_is : end.marks ≡ marks_of 2 0 es
   pub made_is : end.made ≡ made_by es
   pub base_is : end.base ≡ setup.scheduler.base
@@ -649,7 +649,7 @@ pub record IsInOrder (setup : Site) (es : List Entry) : Type 0 where
 
 pub run_in_order : (setup : Site) (es : List Entry) → IsInOrder setup es
 run_in_order setup es =
-    let r : Read = record (with_line 1 (line.Run 1 (length es)) nothing_read) { place = Entries 6 } in
+    let r : Read = record (with_line 1 (line.Run (version_of setup.rules) (length es)) nothing_read) { place = Entries 6 } in
     let a = entries_go 2 r 0 0 es 6 refl refl in
     let b = books_close (2 + length (entries_lines 0 0 es)) a.end setup es a.part a.place in
     record {

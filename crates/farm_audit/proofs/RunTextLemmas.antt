@@ -13,8 +13,6 @@ use Rattle.core_rules.specs.declared.rows.ServerRow.{ServerRow}
 use Rattle.core_rules.specs.declared.entry.CoreEntry.{CoreEntry}
 use Rattle.core_rules.specs.declared.entry.CoreKind.{CoreKind}
 use Rattle.core_rules.specs.declared.entry.CoreKind.TheVariants as core
-use Rattle.farm_script.specs.Fields.{digits_on, number_at}
-use Rattle.farm_script.proofs.FieldLemmas.{number_law}
 use Rattle.farm_script.specs.declared.event.Event.{Event}
 use Rattle.farm_entries.specs.declared.site.Site.{Site}
 use Rattle.farm_entries.specs.declared.site.SiteServer.{SiteServer}
@@ -22,7 +20,7 @@ use Rattle.farm_entries.specs.Printed.{kind_text, core_text, step_text, stage_te
 use Rattle.farm_entries.specs.Printed.{core_line, step_line, call_line, reply_line, word_line, entry_text}
 use Rattle.farm_entries.specs.Printed.{core_count, entries_text, row_text, job_text, held_text}
 use Rattle.farm_entries.specs.Printed.{kept_archive_text, server_text, standing_text, ids_given, books_text}
-use Rattle.farm_entries.specs.Printed.{run_text}
+use Rattle.farm_entries.specs.Printed.{version_of, run_text}
 use Rattle.farm_entries.specs.Seen.{core_log}
 use Rattle.farm_entries.specs.Servers.{ServerNow, server_of}
 use Rattle.farm_entries.specs.declared.entry.Entry.{Entry}
@@ -269,26 +267,21 @@ books_are setup entries =
 
 -- ---- the whole run
 
-reads_one : number_at (codes "1") ≡ Some 1
-unfolding digits_on
-reads_one = refl
-
-one : codes "1" ≡ decimal 1
-one = (number_law.sound (codes "1") 1 reads_one).0
-
 pub run_is : (setup : Site) (entries : List Entry) → texts (run_lines setup entries) ≡ run_text setup entries
 run_is setup entries =
-    let first : ended_text (line.Run 1 (length entries)) ≡ codes "run 1 entries " ++ (decimal (length entries)
-    ++ codes "\n") = first_is (length entries) in
-    ap (λ (x : List ℕ). ended_text (line.Run 1 (length entries)) ++ x)
+    let v = version_of setup.rules in
+    let n = length entries in
+    ap (λ (x : List ℕ). ended_text (line.Run v n) ++ x)
     (texts_both (entries_lines 0 0 entries) (books_lines setup entries)
     ∙ ap (λ (x : List ℕ). x ++ texts (books_lines setup entries)) (entries_are 0 0 entries)
     ∙ ap (λ (x : List ℕ). entries_text 0 0 entries ++ x) (books_are setup entries))
-    ∙ ap (λ (x : List ℕ). x ++ (entries_text 0 0 entries ++ books_text setup entries)) first
-    ∙ sym (append_assoc (codes "run 1 entries " ++ (decimal (length entries) ++ codes "\n"))
-    (entries_text 0 0 entries) (books_text setup entries))
+    ∙ ap (λ (x : List ℕ). x ++ (entries_text 0 0 entries ++ books_text setup entries)) (first_is v n)
+    ∙ sym (append_assoc (first_line v n) (entries_text 0 0 entries) (books_text setup entries))
   where
-    first_is : (n : ℕ) → ended_text (line.Run 1 n) ≡ codes "run 1 entries " ++ (decimal n ++ codes "\n")
-    first_is n =
-        ap (λ (x : List ℕ). (codes "run " ++ (x ++ (codes " entries " ++ decimal n))) ++ 10 ∷ []) (sym one)
-        ∙ nest (codes "run 1 entries ") (decimal n) (decimal n ++ codes "\n") (10 ∷ []) refl
+    first_line : ℕ → ℕ → List ℕ
+    first_line v n = codes "run " ++ (decimal v ++ (codes " entries " ++ (decimal n ++ codes "\n")))
+
+    first_is : (v n : ℕ) → ended_text (line.Run v n) ≡ first_line v n
+    first_is v n =
+        nest (codes "run ") _ _ (10 ∷ []) (nest (decimal v) _ _ (10 ∷ [])
+        (nest (codes " entries ") (decimal n) (decimal n ++ codes "\n") (10 ∷ []) refl))

@@ -9,7 +9,7 @@ use Rattle.core_rules.specs.Rows.{servers_of, unended_by_id}
 use Rattle.core_rules.specs.declared.rows.ServerRow.{ServerRow}
 use Rattle.core_rules.specs.declared.entry.CoreEntry.{CoreEntry}
 use Rattle.farm_entries.specs.declared.site.Site.{Site}
-use Rattle.farm_entries.specs.Printed.{core_count, ids_given}
+use Rattle.farm_entries.specs.Printed.{core_count, ids_given, version_of}
 use Rattle.farm_entries.specs.Seen.{core_log}
 use Rattle.farm_entries.specs.Servers.{ServerNow, server_of}
 use Rattle.farm_entries.specs.declared.entry.Entry.{Entry}
@@ -99,4 +99,5 @@ books_lines setup entries =
 -- ---- the whole run
 
 abbrev pub run_lines : Site → List Entry → List RunLine
-run_lines setup entries = line.Run 1 (length entries) ∷ entries_lines 0 0 entries ++ books_lines setup entries
+run_lines setup entries =
+    line.Run (version_of setup.rules) (length entries) ∷ entries_lines 0 0 entries ++ books_lines setup entries

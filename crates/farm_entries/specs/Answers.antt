@@ -3,7 +3,6 @@ use Rattle.std.specs.Prelude.{◌≡◌, ℕ, List, Bool, ◌&&◌, nat_le, if�
 use Rattle.std.specs.Option.{option_map}
 use Rattle.dist_types.specs.declared.addr.Addr.{Addr}
 use Rattle.dist_types.specs.declared.results.AllocJobResult.TheVariants as alloc
-use Rattle.dist_types.specs.declared.rules.Rules.TheVariants.{One}
 use Rattle.dist_wire.specs.declared.heartbeat.HeartbeatServerHttpRequest.{HeartbeatServerHttpRequest}
 use Rattle.http_routes.specs.Admission.{equal_admission}
 use Rattle.http_routes.specs.Asked.{IsAskedUnder}
@@ -81,9 +80,9 @@ answer_to core number at json (asked.Drain server drain) =
     reply_effect (Some made) (reply_to number (drained_response json (knows_of made)))
 answer_to core number at json (asked.Done response) = reply_effect None (reply_to number response)
 
--- the bytes ask that of the scheduler, which goes by version 1
+-- the bytes ask that of the scheduler, by the rules of the farm
 abbrev pub Asks : Setup → Addr → List ℕ → Asked → Type 0
-Asks setup peer bytes a = IsAskedUnder One (equal_admission setup.scheduler.client)
+Asks setup peer bytes a = IsAskedUnder setup.rules (equal_admission setup.scheduler.client)
     (serves setup.scheduler.auth) bytes peer a
 
 -- the scheduler does what a peer's bytes ask

@@ -63,6 +63,33 @@ AreBuiltOnce log =
     (j k : ℕ) (d e : Entry) (s t : Addr) (job : JobId) → slice_get log j ≡ Some d → slice_get log k ≡ Some e
     → IsBuild d s job → IsBuild e t job → j ≡ k
 
+-- ---- runs behind an accepted start
+
+-- the job that a step of that kind ran, whatever it says of the run
+abbrev pub ran_by : StepKind → Option JobId
+ran_by (step.Ran job ran result) = Some job
+ran_by other = None
+
+-- Entry k runs the job behind an accepted start: it has a ran step of the job, whatever that says, and brings
+-- back the reply of a delivery, whose core entry accepted that the job is started.
+pub record RunsStarted (log : List Entry) (k : ℕ) (job : JobId) : Type 0 where
+  pub entry : Entry
+  pub there : slice_get log k ≡ Some entry
+  pub step : Step
+  pub steps : entry.step ≡ Some step
+  pub runs : ran_by step.kind ≡ Some job
+  pub delivery : ℕ
+  pub returns : entry.event.kind ≡ Return delivery
+  pub start : Entry
+  pub delivered : slice_get log delivery ≡ Some start
+  pub server : Addr
+  pub at : ℕ
+  pub accepts : start.core ≡ Some (record { now = at; kind = core.Update server job state.Started Accepted })
+
+-- No id is run twice behind an accepted start: two entries that run it so, at whichever servers, are one.
+abbrev pub AreRanOnce : List Entry → Type 0
+AreRanOnce log = (j k : ℕ) (job : JobId) → RunsStarted log j job → RunsStarted log k job → j ≡ k
+
 -- ---- what a build goes on from
 
 -- Entry n is a run request of the job at the server in that life: its bytes come to the server, are a request

@@ -9,6 +9,8 @@ use Rattle.dist_types.specs.declared.addr.Addr.{Addr}
 use Rattle.dist_types.specs.Ids.{state_text}
 use Rattle.dist_types.specs.declared.ids.JobId.{JobId}
 use Rattle.dist_types.specs.declared.results.JobState.{JobState}
+use Rattle.dist_types.specs.declared.rules.Rules.{Rules}
+use Rattle.dist_types.specs.declared.rules.Rules.TheVariants.{One, Two}
 use Rattle.core_rules.specs.Reservation.{Booking, bookings, is_claimed}
 use Rattle.core_rules.specs.Job.{state_of}
 use Rattle.core_rules.specs.Rows.{servers_of, unended_by_id}
@@ -301,8 +303,13 @@ books_text setup entries =
     (ids_given setup.scheduler (core_log entries)) ⧺ codes "\n")
     ++ standing_text setup entries
 
--- the whole text
+-- the number of a version of the rules
+abbrev pub version_of : Rules → ℕ
+version_of One = 1
+version_of Two = 2
+
+-- the whole text, which begins with the farm's version
 abbrev pub run_text : Setup → List Entry → List ℕ
 run_text setup entries =
-    (codes "run 1 entries " ⧺ decimal (length entries) ⧺ codes "\n") ++ entries_text 0 0 entries ++ books_text
-    setup entries
+    (codes "run " ⧺ decimal (version_of setup.rules) ⧺ codes " entries " ⧺ decimal (length entries) ⧺ codes "\n")
+    ++ entries_text 0 0 entries ++ books_text setup entries

@@ -19,7 +19,7 @@ use Rattle.http_routes.specs.declared.route.SchedRouted.TheVariants as asked
 use Rattle.http_routes.specs.declared.server_route.ServerAsked.{ServerAsked}
 use Rattle.http_routes.specs.declared.server_route.ServerRouted.TheVariants as server_asked
 use Rattle.core_rules.specs.Answers.{committed_by}
-use Rattle.core_rules.specs.Rule.{rule}
+use Rattle.core_rules.specs.Rule.{rule, is_initial}
 use Rattle.core_rules.specs.Ticket.{Ticket}
 use Rattle.core_rules.specs.declared.call.Call.TheVariants as call
 use Rattle.core_rules.specs.declared.entry.CoreEntry.{CoreEntry}
@@ -118,6 +118,15 @@ pub record IsReturned (setup : Setup) (log : List Entry) (n k : ℕ) (server : A
   pub ok : reply.code ≡ 200
   pub at : server_now setup (take k log) server ≡ Some now
   pub lives : now.life ≡ life
+
+-- The call of entry n comes back by entry k, which returns a delivery of it that got a 200, with those bytes.
+pub record ReturnsOk (log : List Entry) (n k : ℕ) (bytes : List ℕ) : Type 0 where
+  pub back : BringsBack log n k bytes
+  pub delivery : ℕ
+  pub returns : back.settles.entry.event.kind ≡ Return delivery
+  pub reply : HttpReply
+  pub is : IsReply bytes reply
+  pub ok : reply.code ≡ 200
 
 -- ---- what they get
 
@@ -222,9 +231,15 @@ pub record IsReliable (w : Weather) (setup : Setup) (log : List Entry) : Type 0 
 
 -- ---- what a 200 of the scheduler grants
 
--- Where the farm's words can be read, the return of a delivery that got a 200 grants a server's report: that
--- of a submission, that a run starts, and that it is complete.
+-- Where the farm's words can be read, the return of a delivery that got a 200 grants what was asked. The reply
+-- to a call that asks a server to take a job is an assignment, pending or ready, and the request for the job
+-- gets the 200 of its commit. A server's report is granted: that of a submission, that a run starts, and that
+-- it is complete.
 pub record ReturnsGrant (setup : Setup) (log : List Entry) : Type 0 where
+  pub allocations : (n k : ℕ) (json : Bool) (t : Ticket) (bytes : List ℕ)
+      → IsReserved setup log n json t → ReturnsOk log n k bytes
+      → (a : AssignJobResult) × IsAssigned bytes (Ok a) × (is_initial a.state ≡ true)
+      × IsCommitted setup log n k json t a
   pub submissions : (n k : ℕ) (server : Addr) (life : ℕ) (job : JobId) (json : Bool) (body : ℕ)
       (bytes : List ℕ) (now : ServerNow)
       → AsksAt setup log n server life bytes

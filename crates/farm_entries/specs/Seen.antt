@@ -7,7 +7,6 @@ use Rattle.dist_types.specs.declared.addr.Addr.{Addr}
 use Rattle.dist_token.specs.Token.{plain_text, token_text, server_claims_text}
 use Rattle.dist_token.specs.Verdict.{plain_server, server_verdict}
 use Rattle.core_rules.specs.declared.start.Start.{Start}
-use Rattle.dist_types.specs.declared.rules.Rules.TheVariants.{One}
 use Rattle.core_rules.specs.Log.{Core, logged}
 use Rattle.core_rules.specs.declared.entry.CoreEntry.{CoreEntry}
 use Rattle.farm_entries.specs.declared.site.Site.{Site as Setup}
@@ -19,9 +18,10 @@ use Rattle.farm_entries.specs.declared.entry.Entry.{Entry}
 abbrev pub core_log : List Entry → List CoreEntry
 core_log log = filter_map (λ e. e.core) log
 
--- where the ids of the scheduler begin; it goes by version 1 of the rules
+-- where the ids of the scheduler begin, and the rules that it goes by
 abbrev pub ids_start : Setup → Start
-ids_start setup = record { base = setup.scheduler.base; count = setup.scheduler.count; rules = One }
+ids_start setup =
+    record { base = setup.scheduler.base; count = setup.scheduler.count; rules = setup.rules }
 
 -- what the scheduler has seen, where the entries are these
 abbrev pub core_of : Setup → List Entry → Core

@@ -16,8 +16,6 @@ use Rattle.http_routes.specs.CallReply.{IsAssigned, IsAnswer}
 use Rattle.http_routes.specs.Fault.{fault_response_of}
 use Rattle.http_routes.specs.Replies.{commit_response, submit_response, run_response}
 use Rattle.http_routes.specs.declared.fault.RouteFault.TheVariants as fault
-use Rattle.http_routes.specs.declared.fault.BuildFailure.{BuildFailure}
-use Rattle.http_routes.specs.declared.fault.BuildFailure.TheVariants as failure
 use Rattle.http_routes.specs.declared.reply.Response.{Response}
 use Rattle.core_rules.specs.Answers.{committed_by, undone_by}
 use Rattle.core_rules.specs.Log.{Core}
@@ -31,8 +29,6 @@ use Rattle.build_server.specs.Builds.{ran_of, built_of, run_answer}
 use Rattle.build_server.specs.Rules.{submit_result}
 use Rattle.build_server.specs.declared.fault.ServerFault.{ServerFault}
 use Rattle.build_server.specs.declared.fault.ServerFault.TheVariants as refusal
-use Rattle.build_server.specs.declared.fault.BuildCause.{BuildCause}
-use Rattle.build_server.specs.declared.fault.BuildCause.TheVariants as cause
 use Rattle.build_server.specs.declared.run.Outcome.{Outcome}
 use Rattle.build_server.specs.declared.submit.Submitted.{Submitted}
 use Rattle.farm_entries.specs.declared.site.Site.{Site as Setup}
@@ -110,16 +106,10 @@ StartedEnds w setup s root job run inputs (Ok u) x =
     (o : Outcome) × Works w s (held_for job s.held) run inputs o × (x ≡ running setup s.setup.addr job o)
 StartedEnds w setup s root job run inputs (Err f) x = x ≡ unreported s.setup.addr root job f
 
--- why a build gave nothing, as a reply tells it
-abbrev pub failure_of : BuildCause → BuildFailure
-failure_of cause.Unlisted = failure.NotCached
-failure_of cause.Folder = failure.Unreadable
-failure_of cause.Refused = failure.Refused
-
 -- the reply to a run that ended
 abbrev pub ended_response : Bool → Result RunJobResult ServerFault → Response
 ended_response json (Ok answer) = run_response json answer
-ended_response json (Err (refusal.BuildFailed why)) = fault_response_of (fault.BuildFailed (failure_of why))
+ended_response json (Err (refusal.BuildFailed why)) = fault_response_of (fault.BuildFailed why)
 ended_response json (Err (refusal.AlreadyAssigned job)) = fault_response_of (fault.AlreadyAssigned job)
 ended_response json (Err (refusal.UpdateFailed f)) = fault_response_of (fault.UpdateFailed f)
 ended_response json (Err refusal.Memory) = fault_response_of (fault.UpdateFailed Lost)

@@ -19,4 +19,8 @@ site_server found s = record {
 }
 
 abbrev pub site_of : Setup → Site
-site_of setup = record { scheduler = setup.scheduler; servers = map (site_server (Some [])) setup.servers }
+site_of setup = record {
+  rules = setup.rules;
+  scheduler = setup.scheduler;
+  servers = map (site_server (Some [])) setup.servers;
+}

@@ -1,6 +1,7 @@
 //! How a farm was set up, with what the openings of its servers' caches listed.
 use dist_types::addr::Addr;
 use dist_types::ids::ServerNonce;
+use dist_types::rules::Rules;
 use dist_types::text::{Bytes, Items};
 use dist_types::toolchain::Toolchain;
 use farm_script::setup::{BuilderLine, SetupScheduler};
@@ -23,6 +24,8 @@ pub struct SiteServer {
 /// A farm as it was set up.
 #[derive(Debug, Drop)]
 pub struct Site {
+    /// The version of the scheduler's rules.
+    pub rules: Rules,
     pub scheduler: SetupScheduler,
     /// In the order of the setup.
     pub servers: Items<SiteServer>,

@@ -140,7 +140,7 @@ get_past (x ∷ xs) zero (suc m) h = absurd (omega arith)
 get_past (x ∷ xs) (suc n) (suc m) h = get_past xs n m (omega arith)
 
 -- an entry's core entry is among those of a later front
-core_among : (p : CoreEntry → Bool) (log : List Entry) (n m : ℕ) (e : Entry) (c : CoreEntry) → n < m
+pub core_among : (p : CoreEntry → Bool) (log : List Entry) (n m : ℕ) (e : Entry) (c : CoreEntry) → n < m
     → slice_get log n ≡ Some e → e.core ≡ Some c → p c ≡ true → list_any p (core_log (take m log)) ≡ true
 core_among p [] n m e c lt at is on = absurd cc
 core_among p (x ∷ xs) n zero e c lt at is on = absurd (omega arith)

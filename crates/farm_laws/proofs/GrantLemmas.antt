@@ -1,4 +1,4 @@
--- The return of a delivery that got a 200 grants a server's report.
+-- The return of a delivery that got a 200 grants what was asked: an assignment, or a server's report.
 use Rattle.std.proofs.Common.{◌≡◌, inl, inr, ℕ, ◌<◌, ◌≤◌, ◌^◌, Bool, false, cond, List, [], length, take}
 use Rattle.std.proofs.Common.{Option, Some, None, Ok, refl, ap, ◌∙◌, sym, subst, arith}
 use Rattle.std.specs.Prelude.{slice_get}
@@ -25,6 +25,7 @@ use Rattle.http_routes.specs.declared.route.Asked.{Asked}
 use Rattle.http_routes.specs.declared.route.SchedRouted.TheVariants as asked
 use Rattle.http_routes.specs.declared.server_route.ServerAsked.{ServerAsked}
 use Rattle.http_routes.specs.declared.server_route.ServerRouted.TheVariants as server_asked
+use Rattle.http_routes.proofs.CallLemmas.{begins_assigned}
 use Rattle.http_routes.proofs.ServerLemmas.{submissions_asked}
 use Rattle.farm_script.specs.declared.event.Event.{Event}
 use Rattle.farm_script.specs.declared.event.EventKind.{EventKind}
@@ -39,7 +40,7 @@ use Rattle.farm_entries.specs.declared.entry.Reply.{Reply}
 use Rattle.farm_entries.specs.declared.entry.Step.{Step}
 use Rattle.farm_entries.specs.Answers.{answer_to}
 use Rattle.farm_entries.specs.Builds.{HasWords}
-use Rattle.farm_entries.specs.Calls.{call_at, delivery_at, settles_by}
+use Rattle.farm_entries.specs.Calls.{call_at, settles_by}
 use Rattle.farm_entries.specs.Effects.{word_effect, entry_of}
 use Rattle.farm_entries.specs.Next.{IsMade, IsNext, EachNext}
 use Rattle.farm_entries.specs.Reliable.{AsksAt, IsReturned, IsGranted, ReturnsGrant}
@@ -49,25 +50,13 @@ use Rattle.farm_entries.specs.Servers.{ServerNow, server_now}
 use Rattle.farm_entries.specs.Ways.{Way, server_way, stepper, caller_by, caller_of, delivery_way, way_of}
 use Rattle.farm_entries.specs.Ways.{to_nothing, to_scheduler}
 use Rattle.farm_entries.specs.Weather.{Weather}
-use Rattle.farm_laws.proofs.BuildLemmas.{mapped, get_past, found_now, found_addr, caller_is, delivered}
+use Rattle.farm_laws.proofs.AllocLemmas.{returned, brings}
+use Rattle.farm_laws.proofs.BuildLemmas.{get_past, found_now, found_addr, caller_is, delivered}
 use Rattle.farm_laws.proofs.BuildLemmas.{run_asked}
 use Rattle.farm_laws.proofs.OneLemmas.{one_asked, one_server_asked}
-use Rattle.farm_laws.proofs.ReliableLemmas.{run_by}
+use Rattle.farm_laws.proofs.ReliableLemmas.{allocations_end, run_by}
 use Rattle.farm_laws.proofs.ReportLemmas.{state_asked, ok_answers}
 use Rattle.farm_laws.proofs.SettleLemmas.{get_front, get_take, next_at}
-
--- what a return settles, it does by the reply of the delivery
-returned : (log : List Entry) (k : EventKind) (d n : ℕ) (bytes : List ℕ) → k ≡ Return d
-    → ◌≡◌ {A = Option (ℕ × Option (List ℕ))} (settles_by log k) (Some (n, Some bytes))
-    → ◌≡◌ {A = Option (ℕ × List ℕ)} (delivery_at log d) (Some (n, bytes))
-returned log k d n bytes is e =
-    let own : ◌≡◌ {A = Option (ℕ × Option (List ℕ))} (settles_by log (Return d)) (Some (n, Some bytes)) =
-    ap (settles_by log) (sym is) ∙ e in
-    let m = mapped (λ (p : ℕ × List ℕ). let q : ℕ × Option (List ℕ) = (p.0, Some p.1) in q)
-    (delivery_at log d) (n, Some bytes) own in
-    let number : m.0.0 ≡ n = ap (λ (p : ℕ × Option (List ℕ)). p.0) m.2 in
-    let reply : m.0.1 ≡ bytes = same_Some m.0.1 bytes (ap (λ (p : ℕ × Option (List ℕ)). p.1) m.2) in
-    m.1 ∙ (λ i. let p : ℕ × List ℕ = (number i, reply i) in Some p)
 
 -- who makes the call of an entry that settles one is the server whose step it tells
 settling_caller : (setup : Setup) (log later : List Entry) (step : Option Step) (k : EventKind) (n : ℕ)
@@ -205,6 +194,13 @@ module _ (w : Weather) (setup : Setup) (words : HasWords setup) (events : List E
 
   pub returns_grant : ReturnsGrant setup entries
   returns_grant = record {
+    allocations = λ n k json t bytes q back.
+        let (a, is) = brings w setup words events entries each n json t q k bytes back in (
+          a,
+          is,
+          begins_assigned bytes a is,
+          allocations_end w setup events entries each n k json t bytes a q back.back is,
+        );
     submissions = λ n k server life job json body bytes now q back.
         let a : ServerAsked = record { what = server_asked.Submit job; json = json; body = body } in
         let (r, x, s, form, place) = (submissions_asked (job_verdict q.now.key) bytes json body job).0 q.asks

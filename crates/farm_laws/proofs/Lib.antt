@@ -1,3 +1,5 @@
+pub mod AllocLemmas
+pub mod AssignLemmas
 pub mod BuildLemmas
 pub mod CallLemmas
 pub mod DecideLemmas
@@ -7,6 +9,7 @@ pub mod LoudLemmas
 pub mod NextLemmas
 pub mod NumberLemmas
 pub mod OneLemmas
+pub mod RanLemmas
 pub mod ReliableLemmas
 pub mod RepliedLemmas
 pub mod ReportLemmas

@@ -13,6 +13,8 @@ use Rattle.dist_types.specs.declared.addr.Addr.{Addr}
 use Rattle.dist_types.specs.declared.ids.JobId.{JobId}
 use Rattle.dist_types.specs.declared.outgoing.CallFault.{CallFault}
 use Rattle.dist_types.specs.declared.results.AssignJobResult.{AssignJobResult}
+use Rattle.dist_types.specs.declared.rules.Rules.{Rules}
+use Rattle.dist_types.specs.declared.rules.Rules.TheVariants.{One, Two}
 use Rattle.dist_types.proofs.AddrLemmas.{bind_some}
 use Rattle.core_rules.specs.declared.start.Start.{Start}
 use Rattle.core_rules.proofs.Lists.{end_cut}
@@ -33,12 +35,15 @@ use Rattle.core_rules.proofs.HeldLemmas.{legal_once}
 use Rattle.core_rules.proofs.RoomLemmas.{legal_bounded}
 use Rattle.core_rules.proofs.SoundLemmas.{legal_distinct}
 use Rattle.core_rules.proofs.OnceLemmas.{legal_all}
+use Rattle.dist_wire.specs.declared.drain.DrainServerHttpRequest.{DrainServerHttpRequest}
+use Rattle.http_routes.specs.Admission.{equal_admission}
+use Rattle.http_routes.specs.Asked.{IsAskedUnder}
+use Rattle.http_routes.specs.Route.{IsNoDrain}
+use Rattle.http_routes.specs.declared.route.Asked.{Asked}
 use Rattle.http_routes.specs.declared.route.SchedRouted.{SchedRouted}
 use Rattle.http_routes.specs.declared.route.SchedRouted.TheVariants as asked
 use Rattle.http_routes.proofs.CallLemmas.{begins_assigned}
 use Rattle.http_routes.proofs.VersionLemmas.{no_bytes_drain}
-use Rattle.http_routes.specs.Admission.{equal_admission}
-use Rattle.http_routes.specs.Route.{IsNoDrain}
 use Rattle.farm_entries.specs.declared.site.Site.{Site as Setup}
 use Rattle.farm_script.specs.declared.event.Event.{Event}
 use Rattle.farm_script.specs.declared.event.EventKind.{EventKind}
@@ -66,7 +71,7 @@ use Rattle.http_routes.specs.declared.server_route.ServerRouted.TheVariants as s
 use Rattle.farm_entries.specs.Servers.{ServerNow, server_now, is_over}
 use Rattle.farm_entries.specs.Served.{assigned, served, books_of}
 use Rattle.farm_entries.specs.declared.pending.Pending.{Pending}
-use Rattle.farm_entries.specs.Answers.{hears, alloc_effect, answer_to}
+use Rattle.farm_entries.specs.Answers.{hears, alloc_effect, answer_to, Asks}
 use Rattle.farm_entries.specs.Begun.{IsMadeBy, IsCallOf, completion_by, completion_of}
 use Rattle.farm_entries.specs.Calls.{call_at, delivery_at, settles_by, is_void, settled_at, waiting_at}
 use Rattle.farm_entries.specs.Effects.{entry_of, effect_of, word_effect}
@@ -94,7 +99,7 @@ reserve_spends None rows now base given j = refl
 reserve_spends (Some row) rows now base given j = refl
 
 -- a reserve has its core entry
-allocated_core : (s : Core) (number : ℕ) (json : Bool) (tc : List ℕ) (made : CoreEntry) (k : CoreKind)
+pub allocated_core : (s : Core) (number : ℕ) (json : Bool) (tc : List ℕ) (made : CoreEntry) (k : CoreKind)
     → (alloc_effect s number json tc made k).core ≡ Some made
 allocated_core s number json tc made (core.Reserve (Job job reg forgiven)) = refl
 allocated_core s number json tc made (core.Reserve (NoRoom standing)) = refl
@@ -111,10 +116,28 @@ hears_both cpus on =
     let p = and_parts (nat_le 1 cpus) (nat_le cpus 4294967295) on in
     (leb-true 1 cpus p.0, leb-true cpus 4294967295 p.1)
 
+-- what may be asked by those rules: in version 1 no drain
+abbrev IsAskable : Rules → SchedRouted → Type 0
+IsAskable One what = IsNoDrain what
+IsAskable Two what = Unit {0}
+
+asks_askable : (rules : Rules) (setup : Setup) (peer : Addr) (bytes : List ℕ) (a : Asked)
+    → setup.rules ≡ rules → Asks setup peer bytes a → IsAskable rules a.what
+asks_askable One setup peer bytes a one is =
+    no_bytes_drain (equal_admission setup.scheduler.client) (serves setup.scheduler.auth) bytes peer a
+    (subst (λ (v : Rules). IsAskedUnder v (equal_admission setup.scheduler.client)
+    (serves setup.scheduler.auth) bytes peer a) one is)
+asks_askable Two setup peer bytes a two is = tt
+
+drains_by_two : (rules : Rules) (server : Addr) (drain : DrainServerHttpRequest)
+    → IsAskable rules (asked.Drain server drain) → rules ≡ Two
+drains_by_two One server drain none = absurd (none server drain refl)
+drains_by_two Two server drain any = refl
+
 answer_adds : (setup : Setup) (log : List Entry) (event : Event) (number at : ℕ) (json : Bool)
-    (what : SchedRouted) → IsNoDrain what
+    (what : SchedRouted) → IsAskable setup.rules what
     → Adds setup log (entry_of event (answer_to (core_of setup log) number at json what))
-answer_adds setup log event number at json (asked.Alloc tc) none =
+answer_adds setup log event number at json (asked.Alloc tc) may =
     let s = core_of setup log in
     let made = rule s (call.Reserve at) in
     inr (inl (record {
@@ -124,7 +147,7 @@ answer_adds setup log event number at json (asked.Alloc tc) none =
       spends = reserve_spends (pick (servers_of s.log)) (servers_of s.log) at s.start.base
           (s.start.count + length (bookings s.log));
     }))
-answer_adds setup log event number at json (asked.Beat server beat) none =
+answer_adds setup log event number at json (asked.Beat server beat) may =
     elim (cases_Bool (hears beat.num_cpus)) [
       | inl on ↦ inr (inl (record {
         made = rule (core_of setup log) (call.Beat at server beat.server_nonce beat.num_cpus beat.jwt_key);
@@ -138,20 +161,29 @@ answer_adds setup log event number at json (asked.Beat server beat) none =
       }))
       | inr off ↦ inl (record { core = rw off refl })
     ]
-answer_adds setup log event number at json (asked.Update server job state) none = inr (inl (record {
+answer_adds setup log event number at json (asked.Update server job state) may = inr (inl (record {
   made = rule (core_of setup log) (call.Update at server job state);
   core = refl;
   rule = (call.Update at server job state, tt, refl);
   spends = λ j. refl;
 }))
-answer_adds setup log event number at json asked.Status none = inr (inl (record {
+answer_adds setup log event number at json asked.Status may = inr (inl (record {
   made = rule (core_of setup log) (call.Status at);
   core = refl;
   rule = (call.Status at, tt, refl);
   spends = λ j. refl;
 }))
-answer_adds setup log event number at json (asked.Drain server drain) none = absurd (none server drain refl)
-answer_adds setup log event number at json (asked.Done response) none = inl (record { core = refl })
+answer_adds setup log event number at json (asked.Drain server drain) may = inr (inl (record {
+  made = rule (core_of setup log) (call.Drain at server drain.server_nonce drain.draining);
+  core = refl;
+  rule = (
+    call.Drain at server drain.server_nonce drain.draining,
+    drains_by_two setup.rules server drain may,
+    refl,
+  );
+  spends = λ j. refl;
+}))
+answer_adds setup log event number at json (asked.Done response) may = inl (record { core = refl })
 
 -- a word alone adds nothing
 word_adds : (setup : Setup) (log : List Entry) (event : Event) (word : EntryWord) (x : Effect)
@@ -429,8 +461,7 @@ made_adds : (setup : Setup) (log : List Entry) (event : Event) (way : Way) (x : 
 made_adds setup log event (to_scheduler peer bytes) x same sound is =
     subst (λ (y : Effect). Adds setup log (entry_of event y)) (sym is.2)
     (answer_adds setup log event (length log) event.at is.0.json is.0.what
-    (no_bytes_drain (equal_admission setup.scheduler.client) (serves setup.scheduler.auth) bytes peer is.0
-    is.1))
+    (asks_askable setup.rules setup peer bytes is.0 refl is.1))
 made_adds setup log event (to_call n reply) x same sound is =
     settled_adds setup log event event.at n reply (waiting_at log n) x sound refl
     (way_settles setup log event.kind n reply same) is

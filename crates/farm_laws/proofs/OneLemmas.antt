@@ -24,7 +24,6 @@ use Rattle.farm_entries.specs.declared.pending.Told.TheVariants as told
 use Rattle.farm_entries.specs.declared.entry.StepKind.TheVariants as kinds
 use Rattle.dist_types.specs.declared.results.UpdateJobStateResult.{UpdateJobStateResult}
 use Rattle.dist_types.specs.declared.results.HeartbeatServerResult.{HeartbeatServerResult}
-use Rattle.dist_types.specs.declared.rules.Rules.TheVariants.{One}
 use Rattle.dist_token.specs.Verdict.{job_verdict}
 use Rattle.dist_wire.specs.Reading.{update_at, heard_at}
 use Rattle.http_routes.specs.declared.server_route.ServerAsked.{ServerAsked}
@@ -54,7 +53,7 @@ use Rattle.farm_entries.specs.Ways.{to_call, to_beat, to_restart}
 
 pub one_asked : (setup : Setup) (peer : Addr) (bytes : List ℕ) (a b : Asked) → Asks setup peer bytes a
     → Asks setup peer bytes b → a ≡ b
-one_asked setup peer bytes a b p q = one_question One (equal_admission setup.scheduler.client)
+one_asked setup peer bytes a b p q = one_question setup.rules (equal_admission setup.scheduler.client)
     (serves setup.scheduler.auth) bytes peer a b p q
 
 one_answer : (setup : Setup) (core : Core) (number at : ℕ) (peer : Addr) (bytes : List ℕ) (x y : Effect)

@@ -275,7 +275,7 @@ module _ (w : Weather) (setup : Setup) (events : List Event) (entries : List Ent
         ask = Assign (one i);
       })
 
-  allocations_end : AllocationsEnd setup entries
+  pub allocations_end : AllocationsEnd setup entries
   allocations_end = λ n k json t bytes a q back is_assigned.
       let e : Entry = back.settles.entry in
       let c = continued n k back.settles (Some bytes) back.names in

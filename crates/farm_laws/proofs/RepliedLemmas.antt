@@ -330,7 +330,7 @@ module _ (setup : Setup) (events : List Event) (entries : List Entry)
   Goes n c = (n ≡ c) ⊎ SettlesCall entries n c
 
   -- an entry that makes something of a call is a settlement of it
-  settles : (n k : ℕ) (e : Entry) (there : slice_get entries k ≡ Some e) (x : Effect)
+  pub settles : (n k : ℕ) (e : Entry) (there : slice_get entries k ≡ Some e) (x : Effect)
       (is : e ≡ entry_of e.event x) (reply : Option (List ℕ)) (p : Pending)
       → way_of setup (take k entries) e.event.kind ≡ to_call n reply → IsCallOf setup (take k entries) n p
       → GoesOn free setup (take k entries) e.event.at p.root p.json reply p.ask x → SettlesCall entries n k

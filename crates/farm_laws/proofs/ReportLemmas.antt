@@ -12,7 +12,6 @@ use Rattle.dist_types.specs.declared.results.JobState.{JobState}
 use Rattle.dist_types.specs.declared.results.JobState.TheVariants.{Pending, Ready, Started, Complete}
 use Rattle.dist_types.specs.declared.results.UpdateJobStateResult.{UpdateJobStateResult}
 use Rattle.dist_types.specs.declared.results.UpdateJobStateResult.TheVariants.{Success}
-use Rattle.dist_types.specs.declared.rules.Rules.TheVariants.{One}
 use Rattle.core_rules.specs.declared.entry.UpdateAnswer.{UpdateAnswer}
 use Rattle.core_rules.specs.declared.entry.UpdateAnswer.TheVariants.{Accepted, Unknown, Wrong, Transition}
 use Rattle.http_head.specs.declared.error.HttpError.TheVariants.{ParseError, Status as StatusFault}
@@ -54,7 +53,7 @@ state_small Ready = omega (arith, wide32.len 1)
 state_small Started = omega (arith, wide32.len 2)
 state_small Complete = omega (arith, wide32.len 3)
 
-posted_limits : (target host token body : List ℕ) → length target ≤ 100 → length host ≤ 400
+pub posted_limits : (target host token body : List ℕ) → length target ≤ 100 → length host ≤ 400
     → length token ≤ 2000 → length body ≤ 1000 → IsWithinLimits (post_with target host token body)
 posted_limits target host token body short_target short_host short_token short_body =
     let len : length (decimal (length body)) ≤ 20 = length-decimal-le 20 (length body) (omega arith)
@@ -90,18 +89,18 @@ can_go setup server job state words is fits =
 -- the scheduler reads it as that server's update of that job
 pub state_asked : (setup : Setup) (server : Addr) (job : JobId) (state : JobState) → HasWords setup
     → IsAddr server → job.0 < 2 ^ 64
-    → IsAskedUnder One (equal_admission setup.scheduler.client) (serves setup.scheduler.auth)
+    → IsAskedUnder setup.rules (equal_admission setup.scheduler.client) (serves setup.scheduler.auth)
     (state_request_text setup.scheduler.addr (server_token setup server) job state) server
     (record { what = Update server job state; json = false })
 state_asked setup server job state words is fits =
-    states_read_back One (equal_admission setup.scheduler.client) (serves setup.scheduler.auth) server
+    states_read_back setup.rules (equal_admission setup.scheduler.client) (serves setup.scheduler.auth) server
     (addr_text setup.scheduler.addr) (server_token setup server) job state server
     (can_go setup server job state words is fits) fits
     (shows setup.scheduler.auth server words.token is).accepted refl
 
 -- ---- its reply
 
-one_text_short : (t : List ℕ) → length t ≤ 4000 → length (err_text (t ∷ [])) ≤ 1073741824
+pub one_text_short : (t : List ℕ) → length t ≤ 4000 → length (err_text (t ∷ [])) ≤ 1073741824
 unfolding err_text
 one_text_short t short =
     let q = escape_short t in

@@ -215,3 +215,9 @@ module _ (w : Weather) (setup : Setup) (events : List Event) (entries : List Ent
       | inr least ↦ omega (arith, at_most, least)
     ]
   ]
+
+-- at every prefix of a run a call is settled at most once
+pub settled_throughout : (w : Weather) (setup : Setup) (events : List Event) (entries : List Entry)
+    → EachNext w setup [] events entries → (n : ℕ) → AreSettledOnce (take n entries)
+settled_throughout w setup events entries each n =
+    settled_once w setup (take n events) (take n entries) (each_front w setup [] events entries n each)

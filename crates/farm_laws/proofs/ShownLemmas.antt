@@ -37,7 +37,7 @@ use Rattle.farm_laws.proofs.TextLemmas.{addr_short}
 
 -- ---- one token for all
 
-all_append : (p : ℕ → Bool) (xs ys : List ℕ) → list_all p xs ≡ true → list_all p ys ≡ true
+pub all_append : (p : ℕ → Bool) (xs ys : List ℕ) → list_all p xs ≡ true → list_all p ys ≡ true
     → list_all p (xs ++ ys) ≡ true
 all_append p [] ys h k = k
 all_append p (x ∷ xs) ys h k = both (p x) (list_all p (xs ++ ys)) (and_left (p x) (list_all p xs) h)
@@ -103,7 +103,7 @@ ends : (p : ℕ → Bool) (front : List ℕ) (y : ℕ) → list_all p (front ++ 
 ends p [] y h = and_left (p y) true h
 ends p (x ∷ xs) y h = ends p xs y (and_right (p x) (list_all p (xs ++ y ∷ [])) h)
 
-graphic_token : (t : List ℕ) → 1 ≤ length t → list_all is_ascii_graphic t ≡ true → IsToken t
+pub graphic_token : (t : List ℕ) → 1 ≤ length t → list_all is_ascii_graphic t ≡ true → IsToken t
 graphic_token t some h = record {
   some = omega (arith, some);
   text = ascii_text t (weaker is_ascii_graphic (λ b. nat_lt b 128) graphic_small t h);
@@ -164,7 +164,7 @@ mac_long key text = length-sha256 _
 low : (b : ℕ) → nat_lt b 128 ≡ true → b < 256
 low b h = grind (arith, nat_tests)
 
-low_bytes : (xs : List ℕ) → list_all (λ b. nat_lt b 128) xs ≡ true → IsBytes xs
+pub low_bytes : (xs : List ℕ) → list_all (λ b. nat_lt b 128) xs ≡ true → IsBytes xs
 low_bytes [] h i = lit< tt
 low_bytes (x ∷ xs) h zero = low x (and_left (nat_lt x 128) (list_all (λ b. nat_lt b 128) xs) h)
 low_bytes (x ∷ xs) h (suc i) = low_bytes xs (and_right (nat_lt x 128) (list_all (λ b. nat_lt b 128) xs) h) i
@@ -192,29 +192,25 @@ joined_short : (h c m : List ℕ) → length h ≤ 40 → length c ≤ 600 → l
     → length (signed_text h c ++ 46 ∷ m) ≤ 2000
 joined_short h c m x y z = simp length-append (omega (arith, x, y, z))
 
-signed_graphic : (key address : List ℕ) → list_all is_ascii_graphic address ≡ true
-    → list_all is_ascii_graphic (token_text key (server_claims_text address)) ≡ true
-signed_graphic key address graphic =
-    let mac = hmac_of key (signed_text (encoded header_text) (encoded (server_claims_text address))) in
-    joined_graphic (encoded header_text) (encoded (server_claims_text address)) (encoded mac)
-    (encoded_graphic header_text (low_bytes header_text refl))
-    (encoded_graphic (server_claims_text address) (claims_bytes address graphic))
+pub token_graphic : (key claims : List ℕ) → IsBytes claims
+    → list_all is_ascii_graphic (token_text key claims) ≡ true
+token_graphic key claims bytes =
+    let mac = hmac_of key (signed_text (encoded header_text) (encoded claims)) in
+    joined_graphic (encoded header_text) (encoded claims) (encoded mac)
+    (encoded_graphic header_text (low_bytes header_text refl)) (encoded_graphic claims bytes)
     (encoded_graphic mac (hmac_bytes key _))
 
-signed_some : (key claims : List ℕ) → 1 ≤ length (token_text key claims)
+pub signed_some : (key claims : List ℕ) → 1 ≤ length (token_text key claims)
 signed_some key claims = joined_some (encoded header_text) (encoded claims)
     (encoded (hmac_of key (signed_text (encoded header_text) (encoded claims))))
 
-signed_short : (key address : List ℕ) → length address ≤ 400
-    → length (token_text key (server_claims_text address)) ≤ 2000
-signed_short key address short =
-    let mac = hmac_of key (signed_text (encoded header_text) (encoded (server_claims_text address))) in
+pub token_short : (key claims : List ℕ) → length claims ≤ 430 → length (token_text key claims) ≤ 2000
+token_short key claims short =
+    let mac = hmac_of key (signed_text (encoded header_text) (encoded claims)) in
     let long : length (encoded mac) ≡ (4 * length mac + 2) / 3 = encoded_long mac in
     let mac_is : length mac ≡ 32 = mac_long key _ in
-    joined_short (encoded header_text) (encoded (server_claims_text address)) (encoded mac)
-    (omega (arith, encoded_long header_text))
-    (omega (arith, encoded_long (server_claims_text address), claims_short address short))
-    (omega (arith, long, mac_is))
+    joined_short (encoded header_text) (encoded claims) (encoded mac) (omega (arith, encoded_long header_text))
+    (omega (arith, encoded_long claims, short)) (omega (arith, long, mac_is))
 
 -- ---- the token of a server
 
@@ -236,8 +232,10 @@ shows (Plain token) server has is =
 shows (Jwt key) server has is = record {
   carried = graphic_token (token_text key (server_claims_text (addr_text server)))
       (signed_some key (server_claims_text (addr_text server)))
-      (signed_graphic key (addr_text server) (printed_graphic server is));
-  short = signed_short key (addr_text server) (addr_short server is);
+      (token_graphic key (server_claims_text (addr_text server))
+      (claims_bytes (addr_text server) (printed_graphic server is)));
+  short = token_short key (server_claims_text (addr_text server))
+      (claims_short (addr_text server) (addr_short server is));
   accepted = ap result_ok (server_accepted key server is);
 }
 

@@ -27,7 +27,8 @@ use Rattle.core_rules.proofs.AllLemmas.{each_same}
 use Rattle.core_rules.proofs.AllLemmas.{only}
 use Rattle.core_rules.proofs.StepLemmas.{committed, grown_commit, commits-push}
 use Rattle.core_rules.proofs.FactLemmas.{Facts, facts}
-use Rattle.core_rules.proofs.OnceLemmas.{accepted_job, legal_all}
+use Rattle.core_rules.proofs.MovedLemmas.{accepted_job}
+use Rattle.core_rules.proofs.OnceLemmas.{legal_all}
 
 -- whether an entry accepts that the job is started
 abbrev pub starts_by : CoreKind → JobId → Bool
@@ -204,7 +205,7 @@ module _ (start : Start) (log : List CoreEntry) (e : CoreEntry) (j : JobId) (fit
   each : AllByRecursion (λ c. same_job c.job j ≡ true → follows (state_now c) Started ≡ true) (commits log)
   each =
       each_same (λ c. c.job) (λ c. follows (state_now c) Started) j (commits log)
-      (legal_all start log fits legal).committed
+      (legal_all start log fits legal).sound.committed
       (any-kept (λ c. Unit {0}) (startable j) (λ c. same_job c.job j) (λ c. follows (state_now c) Started)
       (λ c u h. (
         and_left (same_job c.job j) (follows (state_now c) Started) h,
@@ -229,7 +230,7 @@ module _ (start : Start) (log : List CoreEntry) (e : CoreEntry) (j : JobId) (fit
   -- it was ready
   pub was_ready : state_of j log ≡ Some Ready
   was_ready =
-      let one = only (λ c. c.job) j (commits log) (legal_all start log fits legal).committed
+      let one = only (λ c. c.job) j (commits log) (legal_all start log fits legal).sound.committed
       (any-weaker (startable j) (λ c. same_job c.job j)
       (λ c h. and_left (same_job c.job j) (follows (state_now c) Started) h) (commits log) there) in
       let all : AllByRecursion (λ c. follows (state_now c) Started ≡ true) (one.0 ∷ []) =

@@ -10,7 +10,6 @@ use Rattle.http_routes.specs.declared.route.Asked.{Asked}
 use Rattle.dist_token.specs.Verdict.{job_verdict}
 use Rattle.dist_types.specs.declared.results.UpdateJobStateResult.{UpdateJobStateResult}
 use Rattle.dist_types.specs.declared.results.HeartbeatServerResult.{HeartbeatServerResult}
-use Rattle.dist_types.specs.declared.rules.Rules.TheVariants.{One}
 use Rattle.dist_wire.specs.Reading.{assign_at, update_at, heard_at}
 use Rattle.http_routes.specs.Admission.{equal_admission}
 use Rattle.http_routes.specs.Asked.{bad_question}
@@ -60,7 +59,8 @@ question_there setup peer bytes = by_request (request_in bytes)
   where
     by_request : RequestIn bytes → (a : Asked) × Asks setup peer bytes a
     by_request (inl (r, is)) = (
-      question_under One (equal_admission setup.scheduler.client) (serves setup.scheduler.auth) r peer,
+      question_under setup.rules (equal_admission setup.scheduler.client) (serves setup.scheduler.auth) r
+          peer,
       inl (r, is, refl),
     )
     by_request (inr none) = (bad_question, inr (none, refl))

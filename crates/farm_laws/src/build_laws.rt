@@ -1,7 +1,7 @@
 //! Laws of runs on calls and builds, each a clause that quantifies over every input, and over what may come
 //! to build servers from outside: their folders and their builders.
-ghost use Rattle.std.specs.Prelude.{◌≡◌, ◌<◌, ◌^◌, List, [], ℕ};
-ghost use Rattle.farm_entries.specs.Builds.{AreSettledOnce, AreBuiltOnce, AreBuilds, HasWords};
+ghost use Rattle.std.specs.Prelude.{◌≡◌, ◌<◌, ◌^◌, List, [], take, ℕ};
+ghost use Rattle.farm_entries.specs.Builds.{AreSettledOnce, AreBuiltOnce, AreRanOnce, AreBuilds, HasWords};
 ghost use Rattle.farm_entries.specs.Next.{EachNext};
 ghost use Rattle.farm_entries.specs.Weather.{Weather};
 ghost use Rattle.farm_entries.specs.Reliable.{IsReliable, ReturnsGrant};
@@ -9,10 +9,10 @@ ghost use Rattle.farm_entries.specs.declared.site.Site.{Site};
 ghost use Rattle.farm_script.specs.declared.event.Event.{Event};
 ghost use Rattle.farm_entries.specs.declared.entry.Entry.{Entry};
 
-/// A call is settled at most once.
+/// At every prefix of a run a call is settled at most once, whatever the words of the farm are.
 pub fn calls_are_settled_once()
     ensures { (w : Weather) (setup : Site) (events : List Event) (entries : List Entry)
-        → EachNext w setup [] events entries → AreSettledOnce entries }
+        → EachNext w setup [] events entries → (n : ℕ) → AreSettledOnce (take n entries) }
 {}
 
 /// At every prefix of a run each build goes on from an accepted start of a run request, and no id is built
@@ -30,6 +30,14 @@ pub fn no_id_is_built_twice()
         → HasWords setup → EachNext w setup [] events entries → AreBuiltOnce entries }
 {}
 
+/// At every prefix of a run no id has two ran steps behind an accepted start, whatever they say, and whatever
+/// the words of the farm are.
+pub fn no_id_is_run_twice()
+    ensures { (w : Weather) (setup : Site) (events : List Event) (entries : List Entry)
+        → setup.scheduler.count < 2 ^ 64
+        → EachNext w setup [] events entries → (n : ℕ) → AreRanOnce (take n entries) }
+{}
+
 /// An entry is replied to at most once; a request whose calls come back granted gets the reply that its row
 /// names; a restart keeps the archives.
 pub fn runs_are_reliable()
@@ -37,8 +45,9 @@ pub fn runs_are_reliable()
         → EachNext w setup [] events entries → IsReliable w setup entries }
 {}
 
-/// Where the farm's words can be read, the return of a delivery that got a 200 grants a server's report: that
-/// of a submission, that a run starts, and that it is complete.
+/// Where the farm's words can be read, the return of a delivery that got a 200 grants what was asked: the
+/// assignment of a job, whose request then gets the 200 of its commit, and a server's report: that of a
+/// submission, that a run starts, and that it is complete.
 pub fn returned_reports_are_granted()
     ensures { (w : Weather) (setup : Site) (events : List Event) (entries : List Entry) → HasWords setup
         → EachNext w setup [] events entries → ReturnsGrant setup entries }

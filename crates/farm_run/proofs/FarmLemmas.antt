@@ -1,6 +1,6 @@
 -- One more event of a farm, and what a farm that ran has.
-use Rattle.std.proofs.Common.{◌≡◌, ℕ, ◌<◌, ◌^◌, List, [], ◌∷◌, ◌++◌, Result, Ok, Err, ap, ◌∙◌, sym, subst}
-use Rattle.std.proofs.Common.{append_assoc}
+use Rattle.std.proofs.Common.{◌≡◌, ℕ, ◌<◌, ◌^◌, List, [], ◌∷◌, ◌++◌, map, Result, Ok, Err, ap, ◌∙◌, sym}
+use Rattle.std.proofs.Common.{subst, append_assoc}
 use Rattle.std.specs.Prelude.{IfOk}
 use Rattle.build_server.specs.Builds.{Builder}
 use Rattle.folders.specs.Held.{Held}
@@ -13,7 +13,8 @@ use Rattle.farm_script.specs.Setups.{IsSetup}
 use Rattle.farm_entries.specs.declared.entry.Entry.{Entry}
 use Rattle.farm_entries.specs.declared.site.Site.{Site}
 use Rattle.farm_entries.specs.Builds.{AreBuilds, HasToken, HasWords}
-use Rattle.farm_run.specs.Farm.{Farmed, with_entries, Runs}
+use Rattle.farm_entries.specs.Reliable.{ReturnsGrant}
+use Rattle.farm_run.specs.Farm.{Farmed, with_entries, Runs, AreOnce}
 use Rattle.farm_run.specs.Stops.{AreHandedBack}
 use Rattle.farm_entries.specs.Lawful.{AreLawful}
 use Rattle.farm_entries.specs.Next.{IsNext, EachNext, IsRun}
@@ -23,8 +24,11 @@ use Rattle.farm_entries.specs.RunText.{IsReadText}
 use Rattle.farm_entries.specs.Sites.{site_of}
 use Rattle.farm_entries.specs.Weather.{Weather, calm, free}
 use Rattle.farm_laws.proofs.BuildLemmas.{run_builds}
+use Rattle.farm_laws.proofs.GrantLemmas.{returns_grant}
+use Rattle.farm_laws.proofs.RanLemmas.{never_ran_twice}
 use Rattle.farm_run.proofs.PassageLemmas.{passage_calm, passage-push}
 use Rattle.farm_laws.proofs.ReliableLemmas.{is_reliable}
+use Rattle.farm_laws.proofs.SettleLemmas.{settled_throughout}
 use Rattle.farm_laws.proofs.ShownLemmas.{has_token}
 
 -- a run goes on by one event
@@ -109,19 +113,45 @@ pub Runs-stopped : (old : Farmed) (events : List Event) (mid : Farmed) (entries 
 Runs-stopped old events mid entries fits words run same is token = run_builds old.setup entries fits words
     (Runs-is old events mid entries run same is) token
 
+-- a run settles each call once, and runs no id twice
+pub run_once : (setup : Site) (entries : List Entry) → setup.scheduler.count < 2 ^ 64
+    → IsRun free setup entries → AreOnce entries
+run_once setup entries fits run =
+    let events = map (λ (e : Entry). e.event) entries in
+    record {
+      settled = settled_throughout free setup events entries run;
+      ran = never_ran_twice free setup events entries fits run;
+    }
+
+-- a 200 to what its words ask grants it
+pub run_grants : (setup : Site) (entries : List Entry) → (HasToken setup.scheduler.auth → HasWords setup)
+    → IsRun free setup entries → HasToken setup.scheduler.auth → ReturnsGrant setup entries
+run_grants setup entries words run token =
+    returns_grant free setup (words token) (map (λ (e : Entry). e.event) entries) entries run
+
+pub Runs-grants : (old : Farmed) (events : List Event) (new : Farmed)
+    → (HasToken old.setup.scheduler.auth → HasWords old.setup) → Runs old events new
+    → IsRun free new.setup new.entries → HasToken old.setup.scheduler.auth
+    → ReturnsGrant new.setup new.entries
+Runs-grants old events new words run is token =
+    let same : new.setup ≡ old.setup = ap (λ (f : Farmed). f.setup) run.2 in
+    let own : IsRun free old.setup new.entries = subst (λ (s : Site). IsRun free s new.entries) same is in
+    subst (λ (s : Site). ReturnsGrant s new.entries) (sym same)
+    (run_grants old.setup new.entries words own token)
+
 -- the text of a farm that ran a script's events is that of the script's run
 pub run_text_is : {X : Type 0} (view : X → List ℕ) (r : Result X FarmFault) (bytes : List ℕ) (setup : Script)
     (events run_events : List Event) (start farm : Farmed)
     → script bytes ≡ Ok (setup, events) → IsSetup setup → start.setup ≡ site_of setup → start.entries ≡ []
     → AreOwn start.outside
     → run_events ≡ events → Runs start run_events farm → AreLawful farm.setup farm.entries
-    → (HasToken start.setup.scheduler.auth → AreBuilds farm.setup farm.entries)
+    → (HasToken start.setup.scheduler.auth → AreBuilds farm.setup farm.entries) → AreOnce farm.entries
+    → (HasToken start.setup.scheduler.auth → ReturnsGrant farm.setup farm.entries)
     → IfOk r (λ t. view t ≡ run_text farm.setup farm.entries) → IfOk r (λ t. IsReadText bytes (view t))
 run_text_is view (Err f) bytes setup events run_events start farm read set setup_is none own events_is run
-    laws
-    builds h = tt
+    laws builds once grants h = tt
 run_text_is view (Ok t) bytes setup events run_events start farm read set setup_is none own events_is
-    (entries, passage, farm_is) laws builds h =
+    (entries, passage, farm_is) laws builds once grants h =
     let site = site_of setup in
     let token : HasToken start.setup.scheduler.auth = subst (λ (s : Site). HasToken s.scheduler.auth)
     (sym setup_is) (has_token setup.scheduler.auth set.auth) in
@@ -146,6 +176,9 @@ run_text_is view (Ok t) bytes setup events run_events start farm read set setup_
           (subst (AreLawful farm.setup) entries_end laws);
       builds = subst (λ (s : Site). AreBuilds s entries) setup_end
           (subst (AreBuilds farm.setup) entries_end (builds token));
+      ran = (subst AreOnce entries_end once).ran;
       reliable = is_reliable calm site events entries each;
+      grants = subst (λ (s : Site). ReturnsGrant s entries) setup_end
+          (subst (ReturnsGrant farm.setup) entries_end (grants token));
       is = h ∙ ap (λ (s : Site). run_text s farm.entries) setup_end ∙ ap (run_text site) entries_end;
     }

@@ -340,7 +340,7 @@ does_step s number at json (asked.Alloc tc) = let made = rule s (call.Reserve at
 does_step s number at json (asked.Beat server beat) = cond_step (hears beat.num_cpus) _ _ refl refl
 does_step s number at json (asked.Update server job state) = refl
 does_step s number at json asked.Status = refl
-does_step s number at json (asked.Drain server drain) = refl
+does_step s number at json (asked.Drain server wish) = refl
 does_step s number at json (asked.Done response) = refl
 
 pub scheduler_step : (setup : Setup) (s : Core) (number at : ℕ) (peer : Addr) (bytes : List ℕ) (x : Effect)

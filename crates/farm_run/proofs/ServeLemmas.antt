@@ -1,5 +1,5 @@
 -- What the scheduler answers, over the entry that its step made.
-use Rattle.std.proofs.Common.{◌≡◌, ℕ, Bool, true, false, List, Option, Some, None, Result, Ok, Err, refl, sym, ap, ◌∙◌}
+use Rattle.std.proofs.Common.{◌≡◌, ℕ, Bool, true, false, List, Option, Some, None, Result, Ok, Err, refl, sym, ap, subst, ◌∙◌}
 use Rattle.std.specs.Prelude.{length, IfOk, if◌then◌else◌}
 use Rattle.std.specs.Option.{option_map}
 use Rattle.dist_types.specs.declared.addr.Addr.{Addr}
@@ -11,12 +11,19 @@ use Rattle.dist_types.specs.declared.results.HeartbeatServerResult.{HeartbeatSer
 use Rattle.dist_types.specs.declared.results.JobState.{JobState}
 use Rattle.dist_types.specs.declared.results.SchedulerStatusResult.{SchedulerStatusResult}
 use Rattle.dist_types.specs.declared.results.UpdateJobStateResult.{UpdateJobStateResult}
+use Rattle.dist_types.specs.declared.rules.Rules.{Rules}
+use Rattle.dist_types.specs.declared.rules.Rules.TheVariants.{One, Two}
+use Rattle.dist_wire.specs.declared.drain.DrainServerHttpRequest.{DrainServerHttpRequest}
 use Rattle.dist_wire.specs.declared.heartbeat.HeartbeatServerHttpRequest.{HeartbeatServerHttpRequest}
-use Rattle.http_routes.specs.Replies.{heard_response, status_response, alloc_response, update_response}
+use Rattle.http_routes.specs.Admission.{equal_admission}
+use Rattle.http_routes.specs.Asked.{IsAskedUnder}
+use Rattle.http_routes.specs.Replies.{heard_response, status_response, drained_response, alloc_response}
+use Rattle.http_routes.specs.Replies.{update_response}
 use Rattle.http_routes.specs.declared.reply.Response.{Response}
 use Rattle.http_routes.specs.declared.route.Asked.{Asked}
 use Rattle.http_routes.specs.declared.route.SchedRouted.{SchedRouted}
 use Rattle.http_routes.specs.declared.route.SchedRouted.TheVariants as asked
+use Rattle.http_routes.proofs.VersionLemmas.{no_bytes_drain}
 use Rattle.core_rules.specs.Log.{Core}
 use Rattle.core_rules.specs.Rule.{rule, is_initial}
 use Rattle.core_rules.specs.Texts.{no_room_text}
@@ -33,12 +40,13 @@ use Rattle.scheduler_steps.specs.Settling.{FailsWith, Answers}
 use Rattle.scheduler_steps.specs.Step.{Gives, IsStep}
 use Rattle.scheduler_steps.specs.Step as step
 use Rattle.scheduler_steps.specs.Telling.{hears, TellsReserve, TellsHeard, RefusesHeard, TellsReported}
-use Rattle.scheduler_steps.specs.Telling.{TellsCounted, WantsMemory}
+use Rattle.scheduler_steps.specs.Telling.{TellsCounted, TellsDrained, WantsMemory}
 use Rattle.scheduler_steps.specs.declared.fault.SchedFault.{SchedFault}
 use Rattle.scheduler_steps.specs.declared.settled.Settled.{Settled}
 use Rattle.scheduler_replies.specs.ByEntry.{call_of, reply_by, reserve_reply, settled_reply, RepliesAt}
 use Rattle.scheduler_replies.specs.Replies.{told_fault, report_fault, Replies}
-use Rattle.scheduler_replies.proofs.ReplyLemmas.{heard_at, reported_at, counted_at, full_at, spent_at, settled_at}
+use Rattle.scheduler_replies.proofs.ReplyLemmas.{heard_at, reported_at, counted_at, drained_at, full_at}
+use Rattle.scheduler_replies.proofs.ReplyLemmas.{spent_at, settled_at}
 use Rattle.line_program.specs.declared.fault.FarmFault.{FarmFault}
 use Rattle.farm_entries.specs.declared.site.Site.{Site as Setup}
 use Rattle.farm_entries.specs.declared.entry.Effect.{Effect}
@@ -47,7 +55,7 @@ use Rattle.farm_entries.specs.declared.pending.Pending.{Pending}
 use Rattle.farm_entries.specs.Answers.{Asks, alloc_effect, answer_to}
 use Rattle.farm_entries.specs.Begun.{IsAssignment, IsBegunBy, Keeps}
 use Rattle.farm_entries.specs.Effects.{reply_effect, reply_to}
-use Rattle.farm_entries.specs.Seen.{with_core}
+use Rattle.farm_entries.specs.Seen.{serves, with_core}
 use Rattle.farm_entries.specs.Settled.{assignment_end}
 use Rattle.farm_entries.specs.Ways.{to_scheduler}
 use Rattle.farm_run.specs.ByEntry.{toolchain_of, told_effect, refused_effect, effect_by}
@@ -104,7 +112,7 @@ answered_by s number at json (asked.Beat server beat) =
     (call.Beat at server beat.server_nonce beat.num_cpus beat.jwt_key) _ _ refl refl
 answered_by s number at json (asked.Update server job state) = refl
 answered_by s number at json asked.Status = refl
-answered_by s number at json (asked.Drain server drain) = refl
+answered_by s number at json (asked.Drain server wish) = refl
 answered_by s number at json (asked.Done response) = refl
 
 -- the reply of the entry that was made is the answer
@@ -131,7 +139,7 @@ answers s new number at before json what made reply x left long says told =
     let is = told_is s new made before (reply_to number reply) x left long told in
     (is.0 ∙ effect_at s number at json what made reply says ∙ sym (answered_by s number at json what), is.1)
 
--- the three steps that are over at once
+-- the four steps that are over at once
 pub heard_answers : (s new : Core) (number at before : ℕ) (json : Bool) (server : Addr)
     (beat : HeartbeatServerHttpRequest) (answer : Result HeartbeatServerResult SchedFault) (reply : Response)
     (x : Effect)
@@ -167,6 +175,17 @@ counted_answers s new number at before json answer reply x is long says told =
     answers s new number at before json asked.Status is.made reply x is.left long
     (counted_at json at s is.made answer reply is.gives says) told
 
+pub drained_answers : (s new : Core) (number at before : ℕ) (json : Bool) (server : Addr)
+    (wish : DrainServerHttpRequest) (answer : Result Bool SchedFault) (reply : Response) (x : Effect)
+    → IsStep (call.Drain at server wish.server_nonce wish.draining) TellsDrained WantsMemory s new answer
+    → length s.log ≡ before → Replies (drained_response json) told_fault answer reply
+    → ((core : Core) (m : Option CoreEntry) → length core.log ≡ before → new ≡ with_core core m
+    → x ≡ reply_effect m (reply_to number reply))
+    → (x ≡ answer_to s number at json (asked.Drain server wish)) × (new ≡ with_core s x.core)
+drained_answers s new number at before json server wish answer reply x is long says told =
+    answers s new number at before json (asked.Drain server wish) is.made reply x is.left long
+    (drained_at json server wish at s is.made answer reply is.gives says) told
+
 -- ---- allocations
 
 -- what is told of an allocation that made no reservation
@@ -197,6 +216,16 @@ spent_answers key_of token_for s new number at before json tc refusal x is long 
     (spent_at key_of token_for json tc at s is.made refusal (Err refusal) told.0 is.gives refl told.1) told.2
 
 -- ---- what was asked
+
+-- bytes ask for a drain by version 2 alone
+pub drains_by_two : (rules : Rules) (setup : Setup) (peer : Addr) (bytes : List ℕ) (a : Asked) (server : Addr)
+    (wish : DrainServerHttpRequest) → setup.rules ≡ rules → Asks setup peer bytes a
+    → a.what ≡ asked.Drain server wish → rules ≡ Two
+drains_by_two One setup peer bytes a server wish one asks is =
+    absurd (no_bytes_drain (equal_admission setup.scheduler.client) (serves setup.scheduler.auth) bytes peer a
+    (subst (λ (v : Rules). IsAskedUnder v (equal_admission setup.scheduler.client)
+    (serves setup.scheduler.auth) bytes peer a) one asks) server wish is)
+drains_by_two Two setup peer bytes a server wish two asks is = refl
 
 begun_for : (setup : Setup) (core : List CoreEntry) (number : ℕ) (peer : Addr) (bytes : List ℕ) (a : Asked)
     (x : Effect) (o : Option Pending) → Asks setup peer bytes a

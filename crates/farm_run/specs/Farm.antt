@@ -1,5 +1,5 @@
 -- What contracts see of a farm, and what its runs do.
-use Rattle.std.specs.Prelude.{◌≡◌, ℕ, ◌^◌, ◌<◌, List, [], ◌∷◌, ◌++◌, length, map}
+use Rattle.std.specs.Prelude.{◌≡◌, ℕ, ◌^◌, ◌<◌, List, [], ◌∷◌, ◌++◌, length, map, take}
 use Rattle.std.specs.Prelude.{Option, None}
 use Rattle.core_rules.specs.Log.{Core}
 use Rattle.core_rules.specs.declared.entry.CoreEntry.{CoreEntry}
@@ -13,6 +13,7 @@ use Rattle.farm_run.specs.declared.pending.Made.{Made}
 use Rattle.farm_entries.specs.declared.pending.Pending.{Pending}
 use Rattle.farm_stations.specs.Post.{Post as Station, outside_of}
 use Rattle.farm_entries.specs.Begun.{IsBegunBy, Keeps}
+use Rattle.farm_entries.specs.Builds.{AreSettledOnce, AreRanOnce}
 use Rattle.farm_entries.specs.Effects.{entry_of}
 use Rattle.farm_entries.specs.Next.{IsServed, IsMade, IsNext, IsRun}
 use Rattle.farm_entries.specs.Passage.{IsMoved, Passage}
@@ -107,3 +108,9 @@ abbrev pub Runs : Farmed → List Event → Farmed → Type 0
 Runs old events new = (entries : List Entry)
     × Passage old.setup old.entries old.outside events entries new.outside
     × (new ≡ with_entries old entries new.outside)
+
+-- Whatever the farm's words are, after each front of the entries a call is settled at most once, and no id has
+-- two ran steps behind an accepted start.
+pub record AreOnce (entries : List Entry) : Type 0 where
+  pub settled : (n : ℕ) → AreSettledOnce (take n entries)
+  pub ran : (n : ℕ) → AreRanOnce (take n entries)

@@ -41,6 +41,7 @@ pub(crate) fn arrive<F: Folder + Drop, B: BuilderIncoming + Drop>(
     target: Addr,
     arrival: &Arrival<'_>,
 ) -> Result<Made, FarmFault>
+    requires rules { desk.old.state.start.rules ≡ desk.old.setup.rules }
     requires apart { HasApart desk.old.setup }
     requires stations { AreStations desk.old.setup.servers entries.now stations.old.items }
     ensures received { IfOk result
@@ -127,6 +128,7 @@ pub(crate) fn deliver<F: Folder + Drop, B: BuilderIncoming + Drop>(
     at: u64,
     call: u64,
 ) -> Result<Made, FarmFault>
+    requires rules { desk.old.state.start.rules ≡ desk.old.setup.rules }
     requires apart { HasApart desk.old.setup }
     requires stations { AreStations desk.old.setup.servers entries.now stations.old.items }
     ensures received { IfOk result (IsReceived calm desk.old.setup desk.old.state (length entries.now) at

@@ -79,6 +79,7 @@ pub fn setup(alloc: Global, setup: &Setup) -> Result<Farm<MemFolder, FarmBuilder
     };
     let (servers, stations) = own_servers(alloc, setup.servers.get())?;
     let site = Site {
+        rules: setup.rules,
         scheduler,
         servers: Items::new(servers),
     };
@@ -152,6 +153,7 @@ impl<F: Folder + Drop, B: BuilderIncoming + Drop> Farm<F, B> {
         requires apart { AreApart (setup.now.scheduler.addr ∷ map (λ s. s.addr) setup.now.servers) }
         requires folders { length folders.items ≡ length setup.now.servers }
         requires builders { length builders.items ≡ length setup.now.servers }
+        ensures rules { IfOk result (λ farm. farm.setup.rules ≡ setup.now.rules) }
         ensures scheduler { IfOk result (λ farm. farm.setup.scheduler ≡ setup.now.scheduler) }
         ensures begun { IfOk result (λ farm. AreBegun setup.now.servers (map F.held folders.items)
             (map (builder_of B.built B.refusals) builders.items) farm.setup.servers farm.outside) }
@@ -164,6 +166,7 @@ impl<F: Folder + Drop, B: BuilderIncoming + Drop> Farm<F, B> {
         };
         let (servers, stations) = handed_servers(alloc, setup.servers.get(), folders, builders)?;
         let site = Site {
+            rules: setup.rules,
             scheduler,
             servers: Items::new(servers),
         };

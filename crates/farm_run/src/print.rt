@@ -3,7 +3,7 @@ ghost use Rattle.std.specs.Prelude.{◌≡◌, ◌++◌, Some, slice_get, OnOk, 
 ghost use Rattle.std.specs.Prelude.{string_bytes};
 ghost use Rattle.std.specs.List.{flat_map};
 ghost use Rattle.farm_entries.specs.Printed.{job_text, held_text, kept_archive_text, server_text, books_text};
-ghost use Rattle.farm_entries.specs.Printed.{standing_text, run_text};
+ghost use Rattle.farm_entries.specs.Printed.{standing_text, version_of, run_text};
 ghost use Rattle.farm_entries.specs.Servers.{server_of};
 ghost use Rattle.farm_entries.specs.Seen.{core_log};
 ghost use Rattle.core_rules.specs.Rows.{unended_by_id};
@@ -12,6 +12,7 @@ ghost use Rattle.line_program.specs.declared.fault.FarmFault.TheVariants as faul
 use crate::run::Farm;
 use dist_types::addr::Addr;
 use dist_types::builder::BuilderIncoming;
+use dist_types::rules::Rules;
 use farm_entries::site::SiteServer;
 use farm_stations::station::Station;
 use farm_text::lines::{push_archives, push_entries, push_held, push_rows};
@@ -136,6 +137,16 @@ fn push_books<F: Folder + Drop, B: BuilderIncoming + Drop>(
     Ok(())
 }
 
+/// The number of a version of the rules.
+fn version_of(rules: Rules) -> u64
+    ensures { result ≡ version_of rules }
+{
+    match rules {
+        Rules::One => 1,
+        Rules::Two => 2,
+    }
+}
+
 /// The text of a run: a farm, its entries, and its books after them. Refused for want of memory alone.
 pub fn print_run<F: Folder + Drop, B: BuilderIncoming + Drop>(
     alloc: Global,
@@ -145,9 +156,10 @@ pub fn print_run<F: Folder + Drop, B: BuilderIncoming + Drop>(
     ensures err { IfErr result (λ e. e ≡ fault.Memory) }
 {
     let mut out = String::new(alloc);
+    let version = version_of(farm.setup().rules);
     let entries = farm.history();
     let number = entries.len();
-    write!(out, "run 1 entries {number}\n")?;
+    write!(out, "run {version} entries {number}\n")?;
     push_entries(&mut out, entries)?;
     push_books(&mut out, farm)?;
     Ok(out)

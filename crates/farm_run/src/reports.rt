@@ -11,7 +11,7 @@ ghost use Rattle.farm_entries.specs.Passage.{LeavesOutside, StaysOwn};
 ghost use Rattle.farm_stations.specs.Post.{outside_of};
 ghost use Rattle.farm_entries.specs.Servers.{stepped};
 ghost use Rattle.farm_entries.specs.Settled.{IsUpdated, IsHeard, unreported, running, ReadyEnds, StartedEnds};
-ghost use Rattle.farm_entries.specs.Settled.{complete_end, heard_as, failure_of, ended_response, Reports};
+ghost use Rattle.farm_entries.specs.Settled.{complete_end, heard_as, ended_response, Reports};
 ghost use Rattle.farm_stations.specs.Stations.{now_of, IsWell};
 ghost use Rattle.farm_entries.specs.Weather.{weather_of};
 ghost use Rattle.line_program.specs.declared.fault.FarmFault.TheVariants as fault;
@@ -20,7 +20,7 @@ use crate::desk::Desk;
 use crate::pending::Made;
 use crate::servers::state_call;
 use crate::told::reply;
-use build_server::fault::{BuildCause, ServerFault};
+use build_server::fault::ServerFault;
 use build_server::run::RunDone;
 use dist_types::addr::Addr;
 use dist_types::builder::BuilderIncoming;
@@ -37,7 +37,7 @@ use farm_stations::builder::copy_result;
 use farm_stations::station::Station;
 use folders::folder::Folder;
 use http_routes::call_reply::answer;
-use http_routes::fault::{BuildFailure, RouteFault};
+use http_routes::fault::RouteFault;
 use http_routes::replies::{to_fault, to_run, to_submission, want_of_memory};
 use http_routes::reply::Response;
 use line_program::fault::FarmFault;
@@ -261,17 +261,6 @@ fn tell_run(
     }
 }
 
-/// Why a build gave nothing, as a reply tells it.
-fn failure_of(cause: BuildCause) -> BuildFailure
-    ensures { result ≡ failure_of cause }
-{
-    match cause {
-        BuildCause::Unlisted => BuildFailure::NotCached,
-        BuildCause::Folder => BuildFailure::Unreadable,
-        BuildCause::Refused => BuildFailure::Refused,
-    }
-}
-
 /// The reply to a run that ended.
 fn ended_response(
     alloc: Global,
@@ -287,7 +276,7 @@ fn ended_response(
             Ok(response)
         }
         Err(ServerFault::BuildFailed(cause)) => {
-            let response = to_fault(alloc, &RouteFault::BuildFailed(failure_of(cause)))?;
+            let response = to_fault(alloc, &RouteFault::BuildFailed(cause))?;
             Ok(response)
         }
         Err(ServerFault::AlreadyAssigned(job)) => {

@@ -9,12 +9,12 @@ ghost use Rattle.core_rules.specs.Rows.{servers_of, jobs_of, job_row, unended_by
 ghost use Rattle.line_program.specs.declared.fault.FarmFault.TheVariants as fault;
 ghost use Rattle.farm_entries.specs.declared.site.SiteServer.{SiteServer};
 ghost use Rattle.farm_entries.specs.Builds.{AreBuilds, HasToken, HasWords};
-ghost use Rattle.farm_run.specs.Farm.{IsFarm, IsMadeSo, acted, AddsNext, StepsTo, Runs};
+ghost use Rattle.farm_run.specs.Farm.{IsFarm, IsMadeSo, acted, AddsNext, StepsTo, Runs, AreOnce};
 ghost use Rattle.farm_entries.specs.Lawful.{AreLawful, HasNext};
 ghost use Rattle.farm_entries.specs.Next.{IsRun};
 ghost use Rattle.farm_entries.specs.Passage.{AreOwn};
 ghost use Rattle.farm_entries.specs.Printed.{ids_given};
-ghost use Rattle.farm_entries.specs.Reliable.{IsReliable};
+ghost use Rattle.farm_entries.specs.Reliable.{IsReliable, ReturnsGrant};
 ghost use Rattle.farm_entries.specs.Seen.{core_log};
 ghost use Rattle.farm_entries.specs.Servers.{server_of};
 ghost use Rattle.farm_stations.specs.Stations.{now_of, AreStations, HasApart};
@@ -161,7 +161,12 @@ impl<F: Folder + Drop, B: BuilderIncoming + Drop> Farm<F, B> {
     {
         let room = Room::of(alloc, stations.len())?;
         has_count(setup.scheduler.count);
-        let state = SchedState::with_job_ids(alloc, setup.scheduler.base, setup.scheduler.count);
+        let state = SchedState::with_rules(
+            alloc,
+            setup.scheduler.base,
+            setup.scheduler.count,
+            setup.rules,
+        );
         Ok(Farm {
             desk: Desk {
                 alloc,
@@ -317,6 +322,9 @@ impl<F: Folder + Drop, B: BuilderIncoming + Drop> Farm<F, B> {
         // once. Where build servers have one token, that has 1 to 1,024 visible bytes.
         ensures builds { IfOk result (λ farm. HasToken self.setup.scheduler.auth
             → AreBuilds farm.setup farm.entries) }
+        // After each front, whatever the words are: a call is settled at most once, and no id has two ran
+        // steps behind an accepted start.
+        ensures once { IfOk result (λ farm. AreOnce farm.entries) }
         // An entry is replied to at most once; a request whose calls are granted gets the reply that its row
         // names; a restart lists what its opening gives.
         ensures reliable { IfOk result (λ farm. IsReliable free farm.setup farm.entries) }
@@ -324,6 +332,11 @@ impl<F: Folder + Drop, B: BuilderIncoming + Drop> Farm<F, B> {
         // submission and a run come to what the rules say, and a restart lists the archives that were there.
         ensures calmly { IfOk result
             (λ farm. AreOwn self.outside → IsReliable calm farm.setup farm.entries) }
+        // Where the words can be read, the return of a delivery that got a 200 grants what was asked: the call
+        // for an assignment comes back as one, and its request gets the 200 of its commit; and a server's
+        // report is granted.
+        ensures grants { IfOk result (λ farm. HasToken self.setup.scheduler.auth
+            → ReturnsGrant farm.setup farm.entries) }
         // All hold also of the events before the one that memory ran out in. The folders and builders are
         // handed back as they were after those events, but at the one server that this one reaches for: that
         // which it restarts, or whose report it settles.
@@ -335,9 +348,12 @@ impl<F: Folder + Drop, B: BuilderIncoming + Drop> Farm<F, B> {
         ensures stopped_laws { IfErr result (λ s. AreLawful self.setup s.entries) }
         ensures stopped_builds { IfErr result (λ s. HasToken self.setup.scheduler.auth
             → AreBuilds self.setup s.entries) }
+        ensures stopped_once { IfErr result (λ s. AreOnce s.entries) }
         ensures stopped_reliable { IfErr result (λ s. IsReliable free self.setup s.entries) }
         ensures stopped_calmly { IfErr result
             (λ s. AreOwn self.outside → IsReliable calm self.setup s.entries) }
+        ensures stopped_grants { IfErr result (λ s. HasToken self.setup.scheduler.auth
+            → ReturnsGrant self.setup s.entries) }
     {
         let mut farm = self;
         farm.words();

@@ -1,12 +1,12 @@
 //! What the scheduler does with what comes to it.
 ghost use Rattle.std.specs.Prelude.{◌≡◌, length, IfOk, IfErr, OnOk, Option, Some};
 ghost use Rattle.core_rules.specs.Log.{Core as Seen};
-ghost use Rattle.dist_types.specs.declared.rules.Rules.TheVariants.{One};
+ghost use Rattle.dist_types.specs.declared.addr.Addr.{Addr as Sender};
+ghost use Rattle.dist_wire.specs.declared.drain.DrainServerHttpRequest.{DrainServerHttpRequest as Wish};
 ghost use Rattle.core_rules.specs.declared.entry.CoreEntry.{CoreEntry as Entry};
 ghost use Rattle.http_routes.specs.Admission.{equal_admission};
 ghost use Rattle.http_routes.specs.Asked.{IsAskedUnder};
 ghost use Rattle.http_routes.specs.Replies.{alloc_response};
-ghost use Rattle.http_routes.specs.Route.{IsNoDrain};
 ghost use Rattle.http_routes.specs.declared.reply.Response.{Response};
 ghost use Rattle.http_routes.specs.declared.route.SchedRouted.TheVariants as asked;
 ghost use Rattle.std.specs.Result.{result_ok};
@@ -32,6 +32,7 @@ use dist_types::results::{AllocJobResult, JobState};
 use dist_types::roles::JobAuthorizer;
 use dist_types::rules::Rules;
 use dist_types::toolchain::Toolchain;
+use dist_wire::drain::DrainServerHttpRequest;
 use dist_wire::heartbeat::HeartbeatServerHttpRequest;
 use farm_entries::entry::{Effect, OutCall};
 use farm_entries::pending::{Ask, Pending};
@@ -45,7 +46,7 @@ use line_program::fault::FarmFault;
 use sched_core::answers::Picked;
 use sched_core::reservation::Reservation;
 use sched_core::state::SchedState;
-use scheduler_replies::replies::{to_allocated, to_counted, to_heard, to_reported};
+use scheduler_replies::replies::{to_allocated, to_counted, to_drained, to_heard, to_reported};
 use scheduler_steps::allocated::no_room;
 use scheduler_steps::fault::SchedFault;
 use scheduler_steps::step;
@@ -70,28 +71,24 @@ pub struct Arrival<'a> {
 fn asked_by_key(
     alloc: Global,
     bytes: &[u8],
-    peer: Addr,
+    terms: Terms,
     client: &str,
     key: &[u8],
 ) -> Result<Asked, FarmFault>
     ensures ok { IfOk result
-        (IsAskedUnder One (equal_admission client.now) (λ shown. result_ok (server_verdict key.now shown))
-        bytes.now peer) }
+        (IsAskedUnder terms.rules (equal_admission client.now)
+        (λ shown. result_ok (server_verdict key.now shown)) bytes.now terms.peer) }
     ensures err { IfErr result (λ e. e ≡ fault.Memory) }
 {
     let mut client = EqCheck::new(String::from_str(alloc, client)?);
     let server = JwtServerCheck::new(Vec::from_slice(alloc, key)?);
-    let terms = Terms {
-        peer,
-        rules: Rules::One,
-    };
     match asked_under(alloc, bytes, terms, &mut client, &server) {
         Ok(question) => Ok(question),
         Err(error) => Err(FarmFault::from(want_of_memory(error))),
     }
 }
 
-/// What bytes ask of the scheduler, by how build servers show who they are.
+/// What bytes ask of the scheduler, by its rules and by how build servers show who they are.
 fn question(alloc: Global, setup: &Site, peer: Addr, bytes: &[u8]) -> Result<Asked, FarmFault>
     ensures ok { IfOk result (Asks setup.now peer bytes.now) }
     ensures err { IfErr result (λ e. e ≡ fault.Memory) }
@@ -99,7 +96,7 @@ fn question(alloc: Global, setup: &Site, peer: Addr, bytes: &[u8]) -> Result<Ask
     let client = setup.scheduler.client.get();
     let terms = Terms {
         peer,
-        rules: Rules::One,
+        rules: setup.rules,
     };
     match &setup.scheduler.auth {
         SetupAuth::Plain(token) => match asked(alloc, bytes, terms, client, token.get()) {
@@ -107,7 +104,7 @@ fn question(alloc: Global, setup: &Site, peer: Addr, bytes: &[u8]) -> Result<Ask
             Err(error) => Err(FarmFault::from(want_of_memory(error))),
         },
         SetupAuth::Jwt(key) => {
-            let question = asked_by_key(alloc, bytes, peer, client, key.get())?;
+            let question = asked_by_key(alloc, bytes, terms, client, key.get())?;
             Ok(question)
         }
     }
@@ -179,6 +176,34 @@ fn count(
     let before = state.history().len();
     let counted = step::count(state, turn.at);
     let response = match to_counted(alloc, turn.json, counted) {
+        Ok(response) => response,
+        Err(Memory) => return Err(FarmFault::Memory),
+    };
+    let effect = told_since(alloc, state, before, turn.root, &response)?;
+    Ok(effect)
+}
+
+/// What a server's wish to drain, or to drain no more, does, by version 2 of the rules.
+fn drain(
+    alloc: Global,
+    state: &mut SchedState<JWTJobAuthorizer>,
+    turn: Turn,
+    server: ServerId,
+    wish: DrainServerHttpRequest,
+) -> Result<Effect, FarmFault>
+    requires version { state.old.start.rules ≡ Rules.Two }
+    ensures made { IfOk result
+        (λ x. x ≡ answer_to state.old turn.root turn.at turn.json (asked.Drain server wish)) }
+    ensures core { IfOk result (λ x. state.new ≡ with_core state.old x.core) }
+    ensures err { IfErr result (λ e. e ≡ fault.Memory) }
+{
+    let DrainServerHttpRequest {
+        server_nonce,
+        draining,
+    } = wish;
+    let before = state.history().len();
+    let drained = step::drain(state, turn.at, server, server_nonce, draining);
+    let response = match to_drained(alloc, turn.json, drained) {
         Ok(response) => response,
         Err(Memory) => return Err(FarmFault::Memory),
     };
@@ -303,14 +328,15 @@ fn allocate(
     }
 }
 
-/// What is made of what is asked of the scheduler.
+/// What is made of what is asked of the scheduler; a drain is asked by version 2 of the rules alone.
 fn serve_asked(
     alloc: Global,
     state: &mut SchedState<JWTJobAuthorizer>,
     turn: Turn,
     what: SchedRouted,
 ) -> Result<Made, FarmFault>
-    requires { IsNoDrain what }
+    requires version { (server : Sender) (wish : Wish) → what ≡ asked.Drain server wish
+        → state.old.start.rules ≡ Rules.Two }
     ensures answer { IfOk result
         (λ m. m.effect ≡ answer_to state.old turn.root turn.at turn.json what) }
     ensures kept { IfOk result
@@ -332,7 +358,10 @@ fn serve_asked(
             let effect = count(alloc, state, turn)?;
             Ok(Made::whole(effect))
         }
-        SchedRouted::Drain(_, _) => unreachable!(),
+        SchedRouted::Drain(server, wish) => {
+            let effect = drain(alloc, state, turn, server, wish)?;
+            Ok(Made::whole(effect))
+        }
         SchedRouted::Done(response) => {
             let reply = reply(alloc, turn.root, &response)?;
             Ok(Made::whole(Effect::of_reply(None, reply)))
@@ -342,6 +371,7 @@ fn serve_asked(
 
 /// What is made of bytes that come to the scheduler.
 pub fn serve(desk: &mut Desk, arrival: &Arrival<'_>) -> Result<Made, FarmFault>
+    requires rules { desk.old.state.start.rules ≡ desk.old.setup.rules }
     ensures answered { IfOk result
         (λ m. IsAnswered desk.old.setup desk.old.state arrival.now.stamp.number arrival.now.stamp.at
         arrival.now.peer arrival.now.bytes.now m.effect) }

@@ -24,7 +24,7 @@ use Rattle.farm_script.specs.Grammar.{IsSetupLine, IsRequest, IsAnswer, IsNumber
 use Rattle.farm_script.specs.Grammar.{IsEventLine, Spells}
 use Rattle.farm_script.specs.Lines.{auth_at, scheduler_at, server_at, outputs_behind, listed_at}
 use Rattle.farm_script.specs.Lines.{answer_line_at, builder_at, request_at, answer_at, restart_at}
-use Rattle.farm_script.specs.Lines.{kind_behind, kind_at, event_at, is_skipped, said_at, line_at}
+use Rattle.farm_script.specs.Lines.{kind_behind, kind_at, event_at, is_skipped, by_first_word, said_at, line_at}
 use Rattle.farm_script.specs.declared.setup.BuilderLine.{BuilderLine}
 use Rattle.farm_script.specs.declared.setup.BuilderLine.TheVariants.{Listed, Refuse}
 use Rattle.farm_script.specs.declared.setup.SetupAuth.{SetupAuth}
@@ -38,7 +38,7 @@ use Rattle.farm_script.specs.declared.event.EventKind.TheVariants.{Beat, Restart
 use Rattle.farm_script.specs.declared.lines.Scopes.{Scopes}
 use Rattle.farm_script.specs.declared.lines.Scopes.TheVariants.{Taken}
 use Rattle.farm_script.specs.declared.lines.SetupLine.{SetupLine}
-use Rattle.farm_script.specs.declared.lines.SetupLine.TheVariants.{Scheduler, Server, Builder}
+use Rattle.farm_script.specs.declared.lines.SetupLine.TheVariants.{VersionTwo, Scheduler, Server, Builder}
 use Rattle.farm_script.specs.declared.lines.Line.{Line}
 use Rattle.farm_script.specs.declared.lines.Line.TheVariants as lines
 use Rattle.farm_script.proofs.VisibleLemmas.{both}
@@ -554,9 +554,9 @@ skipped_is : (t : List ℕ) → is_skipped t ≡ true → (t ≡ []) ⊎ ((rest 
 skipped_is [] e = inl refl
 skipped_is (c ∷ cs) e = inr (cs, ap (λ (x : ℕ). x ∷ cs) (eqb-true c 35 e))
 
-said_sound : (scopes : Scopes) (t : List ℕ) (l : Line) → said_at scopes t ≡ Some l → Spells scopes t l
-unfolding said_at
-said_sound scopes t l e =
+worded_sound : (scopes : Scopes) (t : List ℕ) (l : Line) → by_first_word scopes t ≡ Some l
+    → Spells scopes t l
+worded_sound scopes t l e =
     let events : Option Line = event_at scopes t >>= λ e. Some (lines.Event e) in
     let read_builder : List ℕ → Option Line = λ r. builder_at r >>= λ b. Some (lines.Setup b) in
     let builders : Option Line = behind (strip (codes "builder ") t) read_builder events in
@@ -595,6 +595,16 @@ said_sound scopes t l e =
           ]
     ]
 
+said_sound : (scopes : Scopes) (t : List ℕ) (l : Line) → said_at scopes t ≡ Some l → Spells scopes t l
+unfolding said_at
+said_sound scopes t l e =
+    let two : Option Line = Some (lines.Setup VersionTwo) in
+    elim (choice (pointwise nat_eq t (codes "version 2")) two (by_first_word scopes t) (Some l) e) [
+      | inl p ↦ subst (Spells scopes t) (same_Some (lines.Setup VersionTwo) l p.1)
+          ((bytes_eq-Decides t (codes "version 2")).0 p.0)
+      | inr p ↦ worded_sound scopes t l p.1
+    ]
+
 pub line_sound : (scopes : Scopes) (t : List ℕ) (l : Line) → line_at scopes t ≡ Some l → Spells scopes t l
 unfolding line_at
 line_sound scopes t l e = elim (choice (is_skipped t) (Some lines.Skip) (said_at scopes t) (Some l) e) [
@@ -605,6 +615,7 @@ line_sound scopes t l e = elim (choice (is_skipped t) (Some lines.Skip) (said_at
 -- a text that begins with a digit is no skipped line, and does not begin with a word
 pub record BeginsEvent (t : List ℕ) : Type 0 where
   pub not_skipped : is_skipped t ≡ false
+  pub no_version : pointwise nat_eq t (codes "version 2") ≡ false
   pub no_scheduler : strip (codes "scheduler ") t ≡ None
   pub no_server : strip (codes "server ") t ≡ None
   pub no_builder : strip (codes "builder ") t ≡ None
@@ -617,9 +628,11 @@ digit_first (d ∷ ds) rest some e =
     let range : (48 ≤ d) × (d ≤ 57) = (grind (arith, nat_tests), grind (arith, nat_tests)) in
     let no_mark : nat_eq d 35 ≡ false = ne_eqb d 35 (λ same. absurd (omega arith)) in
     let no_s : nat_eq d 115 ≡ false = ne_eqb d 115 (λ same. absurd (omega arith)) in
+    let no_v : nat_eq d 118 ≡ false = ne_eqb d 118 (λ same. absurd (omega arith)) in
     let no_b : nat_eq d 98 ≡ false = ne_eqb d 98 (λ same. absurd (omega arith)) in
     record {
       not_skipped = no_mark;
+      no_version = rw no_v refl;
       no_scheduler = rw no_s refl;
       no_server = rw no_s refl;
       no_builder = rw no_b refl;
@@ -628,7 +641,7 @@ digit_first (d ∷ ds) rest some e =
 said_event : (scopes : Scopes) (t : List ℕ) → BeginsEvent t
     → line_at scopes t ≡ (event_at scopes t >>= λ e. Some (lines.Event e))
 unfolding line_at said_at
-said_event scopes t b = rw (b.not_skipped, b.no_scheduler, b.no_server, b.no_builder) refl
+said_event scopes t b = rw (b.not_skipped, b.no_version, b.no_scheduler, b.no_server, b.no_builder) refl
 
 -- a line that begins with a word
 scheduler_first : (scopes : Scopes) (r : List ℕ) → line_at scopes (codes "scheduler " ++ r) ≡
@@ -650,6 +663,7 @@ pub line_complete : (scopes : Scopes) (t : List ℕ) (l : Line) → Spells scope
 unfolding line_at said_at
 line_complete scopes t lines.Skip (inl e) = ap (line_at scopes) e
 line_complete scopes t lines.Skip (inr p) = ap (line_at scopes) p.1
+line_complete scopes t (lines.Setup VersionTwo) is = ap (line_at scopes) is
 line_complete scopes t (lines.Setup (Scheduler s)) is =
     let p = scheduler_complete scopes t s is in
     ap (line_at scopes) p.1 ∙ scheduler_first scopes p.0
@@ -704,6 +718,7 @@ kind_taken scopes t (Restart server key nonce) is = record {
 
 pub spells_taken : (scopes : Scopes) (t : List ℕ) (l : Line) → Spells scopes t l → Spells Taken t l
 spells_taken scopes t lines.Skip is = is
+spells_taken scopes t (lines.Setup VersionTwo) is = is
 spells_taken scopes t (lines.Setup (Scheduler s)) is = record {
   addr = is.addr;
   client = is.client;

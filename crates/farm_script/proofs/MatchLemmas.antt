@@ -3,13 +3,15 @@ use Rattle.std.proofs.Common.{◌≡◌, ◌≢◌, ℕ, ◌≤◌, Bool, true, 
 use Rattle.std.proofs.Common.{List, [], ◌∷◌, ◌++◌, length, map, Option, Some, None, refl, sym, ap, subst, ◌∙◌}
 use Rattle.std.proofs.Common.{append-nil, inl, inr, arith}
 use Rattle.std.specs.Prelude.{option_to_list}
-use Rattle.std.specs.List.{filter_map, cons_option, AllByRecursion}
+use Rattle.std.specs.List.{filter_map, list_any, cons_option, AllByRecursion}
 use Rattle.std.proofs.lemmas.Bool.{or_parts, cases_Bool, leb-false}
 use Rattle.std.proofs.lemmas.Option.{same_Some}
 use Rattle.std.proofs.lemmas.List.{map-append, length-append, length-map}
 use Rattle.std.proofs.lemmas.List.Elements.{filter_map-append}
 use Rattle.dist_types.specs.declared.addr.Addr.{Addr}
 use Rattle.dist_types.specs.Addr.{same_addr}
+use Rattle.dist_types.specs.declared.rules.Rules.{Rules}
+use Rattle.dist_types.specs.declared.rules.Rules.TheVariants.{One, Two}
 use Rattle.farm_script.specs.declared.setup.BuilderLine.{BuilderLine}
 use Rattle.farm_script.specs.declared.setup.SetupAuth.{SetupAuth}
 use Rattle.farm_script.specs.declared.setup.SetupAuth.TheVariants.{Plain, Jwt}
@@ -17,12 +19,12 @@ use Rattle.farm_script.specs.declared.setup.SetupScheduler.{SetupScheduler}
 use Rattle.farm_script.specs.declared.setup.SetupServer.{SetupServer}
 use Rattle.farm_script.specs.declared.event.Event.{Event}
 use Rattle.farm_script.specs.declared.lines.Scopes.TheVariants.{Refused}
-use Rattle.farm_script.specs.declared.lines.SetupLine.TheVariants.{Scheduler, Server, Builder}
+use Rattle.farm_script.specs.declared.lines.SetupLine.TheVariants.{VersionTwo, Scheduler, Server, Builder}
 use Rattle.farm_script.specs.declared.lines.Line.{Line}
 use Rattle.farm_script.specs.declared.lines.Line.TheVariants as lines
 use Rattle.farm_script.specs.Grammar.{IsToken, HasKeyLength, IsAuth, IsLine, IsSchedulerLine, IsServerLine}
-use Rattle.farm_script.specs.Place.{Before, before_of, scheduler_in, server_in, event_in, is_nil, has_addr}
-use Rattle.farm_script.specs.Place.{misplaced, duplicate}
+use Rattle.farm_script.specs.Place.{Before, before_of, says_two, is_two, rules_in, scheduler_in, server_in}
+use Rattle.farm_script.specs.Place.{event_in, is_nil, has_addr, misplaced, duplicate}
 use Rattle.farm_script.specs.Spelled.{answer_for, with_answers}
 use Rattle.farm_script.specs.Setups.{AreApart, HasAuth}
 use Rattle.farm_script.specs.Script.{Read, before, answered, with_line, nothing_read}
@@ -193,6 +195,34 @@ with_addrs : (said : List Line) (ss : List SetupServer) → addrs (map (with_ans
 with_addrs said [] = refl
 with_addrs said (s ∷ ss) = ap (λ (list : List Addr). s.addr ∷ list) (with_addrs said ss)
 
+-- ---- the rules
+
+-- a line that says nothing of them leaves them
+two_off : (said : List Line) (l : Line) → says_two l ≡ false
+    → list_any says_two (said ++ l ∷ []) ≡ list_any says_two said
+two_off [] l e = ap (λ (v : Bool). v || false) e
+two_off (k ∷ said) l e = ap (λ (v : Bool). says_two k || v) (two_off said l e)
+
+or_true : (b : Bool) → (b || true) ≡ true
+or_true true = refl
+or_true false = refl
+
+-- a line that says version 2 is among the lines
+two_on : (said : List Line) (l : Line) → says_two l ≡ true → list_any says_two (said ++ l ∷ []) ≡ true
+two_on [] l e = ap (λ (v : Bool). v || false) e
+two_on (k ∷ said) l e = ap (λ (v : Bool). says_two k || v) (two_on said l e) ∙ or_true (says_two k)
+
+-- whether version 2 is said, told by the rules
+two_is : (b : Bool) → is_two (cond b Two One) ≡ b
+two_is true = refl
+two_is false = refl
+
+rules_off : (said : List Line) (l : Line) → says_two l ≡ false → rules_in (said ++ l ∷ []) ≡ rules_in said
+rules_off said l e = ap (λ (v : Bool). cond v Two One) (two_off said l e)
+
+rules_on : (said : List Line) (l : Line) → says_two l ≡ true → rules_in (said ++ l ∷ []) ≡ Two
+rules_on said l e = ap (λ (v : Bool). cond v Two One) (two_on said l e)
+
 -- ---- what was read, and what the lines say
 
 -- the scheduler's words have their lengths
@@ -201,6 +231,7 @@ pub record IsSchedulerSetup (s : SetupScheduler) : Type 0 where
   pub auth : HasAuth s.auth
 
 pub record Matches (r : Read) (said : List Line) : Type 0 where
+  pub rules : rules_in said ≡ r.rules
   pub scheduler : filter_map scheduler_in said ≡ option_to_list r.scheduler
   pub servers : map (with_answers said) (filter_map server_in said) ≡ r.servers
   pub events : filter_map event_in said ≡ r.events
@@ -213,6 +244,7 @@ pub record Matches (r : Read) (said : List Line) : Type 0 where
 
 pub matches_nothing : Matches nothing_read []
 matches_nothing = record {
+  rules = refl;
   scheduler = refl;
   servers = refl;
   events = refl;
@@ -228,8 +260,9 @@ said_addrs : (r : Read) (said : List Line) → Matches r said
     → addrs (filter_map server_in said) ≡ addrs r.servers
 said_addrs r said m = sym (with_addrs said (filter_map server_in said)) ∙ ap addrs m.servers
 
-abbrev before_with : List Addr → List Addr → List Event → Before
-before_with schedulers servers events = record { schedulers = schedulers; servers = servers; events = events }
+abbrev before_with : Bool → List Addr → List Addr → List Event → Before
+before_with two schedulers servers events =
+    record { two = two; schedulers = schedulers; servers = servers; events = events }
 
 -- what decides where a line may stand is the same
 pub before_is : (r : Read) (said : List Line) → Matches r said → before r ≡ before_of said
@@ -238,10 +271,14 @@ before_is r said m =
     ap scheduler_addrs (sym m.scheduler) in
     let b : addrs r.servers ≡ addrs (filter_map server_in said) = sym (said_addrs r said m) in
     let c : r.events ≡ filter_map event_in said = sym m.events in
-    ap (λ (x : List Addr). before_with x (addrs r.servers) r.events) a
-    ∙ ap (λ (x : List Addr). before_with (scheduler_addrs (filter_map scheduler_in said)) x r.events) b
-    ∙ ap (λ (x : List Event). before_with (scheduler_addrs (filter_map scheduler_in said))
-    (addrs (filter_map server_in said)) x) c
+    let v = list_any says_two said in
+    let schedulers = scheduler_addrs (filter_map scheduler_in said) in
+    let two : is_two r.rules ≡ v = ap is_two (sym m.rules) ∙ two_is v in
+    ap (λ (x : Bool). before_with x (scheduler_addrs (option_to_list r.scheduler)) (addrs r.servers) r.events)
+    two
+    ∙ ap (λ (x : List Addr). before_with v x (addrs r.servers) r.events) a
+    ∙ ap (λ (x : List Addr). before_with v schedulers x r.events) b
+    ∙ ap (λ (x : List Event). before_with v schedulers (addrs (filter_map server_in said)) x) c
 
 no_scheduler : (o : Option SetupScheduler) → not (is_nil (scheduler_addrs (option_to_list o))) ≡ false
     → o ≡ None
@@ -257,9 +294,11 @@ auth_self t (Jwt key) is = is.1.1
 
 matches_quiet : (r : Read) (said : List Line) (l : Line) → scheduler_in l ≡ None → server_in l ≡ None
     → ((a : Addr) → answer_for a l ≡ None) → Matches r said
+    → (rules : Rules) → rules_in (said ++ l ∷ []) ≡ rules
     → (events : List Event) → filter_map event_in (said ++ l ∷ []) ≡ events
-    → Matches (record { scheduler = r.scheduler; servers = r.servers; events = events }) (said ++ l ∷ [])
-matches_quiet r said l no_scheduler_line no_server none m events is = record {
+    → Matches (record r { rules = rules; events = events }) (said ++ l ∷ [])
+matches_quiet r said l no_scheduler_line no_server none m rules rules_are events is = record {
+  rules = rules_are;
   scheduler = push_none scheduler_in said l no_scheduler_line ∙ m.scheduler;
   servers = ap (map (with_answers (said ++ l ∷ []))) (push_none server_in said l no_server)
       ∙ with_none said l none (filter_map server_in said) ∙ m.servers;
@@ -282,6 +321,7 @@ matches_scheduler r said t s is e m =
     let first : r.scheduler ≡ None = no_scheduler r.scheduler p.1 in
     let empty : r.servers ≡ [] = m.alone first in
     record {
+      rules = rules_off said (lines.Setup (Scheduler s)) refl ∙ m.rules;
       scheduler = push_some scheduler_in said (lines.Setup (Scheduler s)) s refl
           ∙ ap (λ (xs : List SetupScheduler). xs ++ s ∷ [])
           (m.scheduler ∙ ap (λ (o : Option SetupScheduler). option_to_list o) first);
@@ -324,6 +364,7 @@ matches_server r said t s is e d m =
     let longer : addrs (r.servers ++ s ∷ []) ≡ addrs r.servers ++ s.addr ∷ [] =
     map-append (λ x. x.addr) r.servers (s ∷ []) in
     record {
+      rules = rules_off said (lines.Setup (Server s)) refl ∙ m.rules;
       scheduler = push_none scheduler_in said (lines.Setup (Server s)) refl ∙ m.scheduler;
       servers = ap (map (with_answers (said ++ lines.Setup (Server s) ∷ [])))
           (push_some server_in said (lines.Setup (Server s)) s refl)
@@ -374,6 +415,7 @@ matches_builder r said addr answer e m =
     subst AreApart (sym (said_addrs r said m)) (apart_right (scheduler_addrs (option_to_list r.scheduler))
     (addrs r.servers) m.apart) in
     record {
+      rules = rules_off said (lines.Setup (Builder addr answer)) refl ∙ m.rules;
       scheduler = push_none scheduler_in said (lines.Setup (Builder addr answer)) refl ∙ m.scheduler;
       servers = ap (map (with_answers (said ++ lines.Setup (Builder addr answer) ∷ [])))
           (push_none server_in said (lines.Setup (Builder addr answer)) refl)
@@ -401,12 +443,18 @@ matches_builder r said addr answer e m =
 pub matches_next : (r : Read) (said : List Line) (t : List ℕ) (l : Line) → Matches r said → IsLine t l
     → misplaced (before r) l ≡ false → duplicate (before r) l ≡ false
     → Matches (with_line r l) (said ++ l ∷ [])
-matches_next r said t lines.Skip m is e d = matches_quiet r said lines.Skip refl refl (λ a. refl) m r.events
-    (push_none event_in said lines.Skip refl ∙ m.events)
+matches_next r said t lines.Skip m is e d =
+    matches_quiet r said lines.Skip refl refl (λ a. refl) m r.rules (rules_off said lines.Skip refl ∙ m.rules)
+    r.events (push_none event_in said lines.Skip refl ∙ m.events)
+matches_next r said t (lines.Setup VersionTwo) m is e d =
+    matches_quiet r said (lines.Setup VersionTwo) refl refl (λ a. refl) m Two
+    (rules_on said (lines.Setup VersionTwo) refl) r.events
+    (push_none event_in said (lines.Setup VersionTwo) refl ∙ m.events)
 matches_next r said t (lines.Setup (Scheduler s)) m is e d = matches_scheduler r said t s is e m
 matches_next r said t (lines.Setup (Server s)) m is e d = matches_server r said t s is e d m
 matches_next r said t (lines.Setup (Builder addr answer)) m is e d = matches_builder r said addr answer e m
 matches_next r said t (lines.Event event) m is e d =
-    matches_quiet r said (lines.Event event) refl refl (λ a. refl) m (r.events ++ event ∷ [])
+    matches_quiet r said (lines.Event event) refl refl (λ a. refl) m r.rules
+    (rules_off said (lines.Event event) refl ∙ m.rules) (r.events ++ event ∷ [])
     (push_some event_in said (lines.Event event) event refl
     ∙ ap (λ (es : List Event). es ++ event ∷ []) m.events)

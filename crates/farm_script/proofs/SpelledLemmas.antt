@@ -4,6 +4,7 @@ use Rattle.std.proofs.Common.{None, Result, Ok, Err, refl, sym, ap, subst, ◌�
 use Rattle.std.proofs.Common.{inr}
 use Rattle.std.specs.Prelude.{option_to_list, IfOk, IfErr}
 use Rattle.std.specs.List.{filter_map, AllByRecursion}
+use Rattle.dist_types.specs.declared.rules.Rules.{Rules}
 use Rattle.farm_script.specs.declared.setup.Setup.{Setup}
 use Rattle.farm_script.specs.declared.setup.SetupScheduler.{SetupScheduler}
 use Rattle.farm_script.specs.declared.setup.SetupServer.{SetupServer}
@@ -14,7 +15,7 @@ use Rattle.farm_script.specs.declared.lines.Scopes.TheVariants.{Refused}
 use Rattle.farm_script.specs.declared.lines.Line.{Line}
 use Rattle.line_program.specs.Pieces.{pieces, text_of}
 use Rattle.farm_script.specs.Grammar.{HasKeyLength}
-use Rattle.farm_script.specs.Place.{scheduler_in, server_in, event_in}
+use Rattle.farm_script.specs.Place.{rules_in, scheduler_in, server_in, event_in}
 use Rattle.farm_script.specs.Setups.{AreApart, IsSetup}
 use Rattle.farm_script.specs.Script.{Read, take_line, finished_with, script_from, script}
 use Rattle.line_program.specs.Lines.{and_then, lines_from}
@@ -77,8 +78,12 @@ rest_from done said number room r (p ∷ ps) x at e =
     (λ s taken f. rest_from (done ++ p ∷ []) (said ++ taken.line ∷ []) (number + 1) (room - length p) s ps x
     (next_at done said number room r p s at taken) f)
 
+abbrev setup_with : Rules → SetupScheduler → List SetupServer → Setup
+setup_with rules scheduler servers = record { rules = rules; scheduler = scheduler; servers = servers }
+
 -- what a reader had at the end of a script
 pub record IsFinished (r : Read) (x : Setup × List Event) : Type 0 where
+  pub rules : r.rules ≡ x.0.rules
   pub scheduler : r.scheduler ≡ Some x.0.scheduler
   pub servers : r.servers ≡ x.0.servers
   pub events : r.events ≡ x.1
@@ -87,9 +92,9 @@ finished_parts : (number : ℕ) (r : Read) (o : Option SetupScheduler) (x : Setu
     → r.scheduler ≡ o → finished_with number r o ≡ Ok x → IsFinished r x
 finished_parts number r None x is e = absurd cc
 finished_parts number r (Some s) x is e =
-    let made : Setup × List Event = (record { scheduler = s; servers = r.servers }, r.events) in
+    let made : Setup × List Event = (setup_with r.rules s r.servers, r.events) in
     let same : made ≡ x = cc in
-    subst (IsFinished r) same (record { scheduler = is; servers = refl; events = refl })
+    subst (IsFinished r) same (record { rules = refl; scheduler = is; servers = refl; events = refl })
 
 pub script_says : (bytes : List ℕ) (x : Setup × List Event) → script bytes ≡ Ok x → SpellsScript bytes x.0 x.1
 script_says bytes x e =
@@ -98,6 +103,7 @@ script_says bytes x e =
     record {
       lines = rest.rest;
       each = rest.each;
+      rules_are = rest.matches.rules ∙ parts.rules;
       scheduler_is = rest.matches.scheduler
           ∙ ap (λ (o : Option SetupScheduler). option_to_list o) parts.scheduler;
       servers_are = rest.matches.servers ∙ parts.servers;
@@ -138,12 +144,10 @@ one_each (t ∷ ts) (k ∷ ks) [] p q = absurd q
 head_is : (a b : SetupScheduler) (xs : List SetupScheduler) → xs ≡ a ∷ [] → xs ≡ b ∷ [] → a ≡ b
 head_is a b xs p q = cc
 
-abbrev setup_with : SetupScheduler → List SetupServer → Setup
-setup_with scheduler servers = record { scheduler = scheduler; servers = servers }
-
-one_setup : (s t : Setup) → s.scheduler ≡ t.scheduler → s.servers ≡ t.servers → s ≡ t
-one_setup s t e f = ap (λ (x : SetupScheduler). setup_with x s.servers) e
-    ∙ ap (λ (xs : List SetupServer). setup_with t.scheduler xs) f
+one_setup : (s t : Setup) → s.rules ≡ t.rules → s.scheduler ≡ t.scheduler → s.servers ≡ t.servers → s ≡ t
+one_setup s t d e f = ap (λ (v : Rules). setup_with v s.scheduler s.servers) d
+    ∙ ap (λ (x : SetupScheduler). setup_with t.rules x s.servers) e
+    ∙ ap (λ (xs : List SetupServer). setup_with t.rules t.scheduler xs) f
 
 pub one_script : (bytes : List ℕ) (s t : Setup) (es fs : List Event) → SpellsScript bytes s es
     → SpellsScript bytes t fs
@@ -152,9 +156,10 @@ one_script bytes s t es fs p q =
     let same = one_each (pieces bytes) p.lines q.lines p.each q.each in
     let schedulers : filter_map scheduler_in p.lines ≡ t.scheduler ∷ [] =
     ap (λ (ls : List Line). filter_map scheduler_in ls) same ∙ q.scheduler_is in
+    let rules : s.rules ≡ t.rules = sym p.rules_are ∙ ap rules_in same ∙ q.rules_are in
     let servers : s.servers ≡ t.servers = sym p.servers_are
     ∙ ap (λ (ls : List Line). map (with_answers ls) (filter_map server_in ls)) same ∙ q.servers_are in (
-      one_setup s t (head_is s.scheduler t.scheduler (filter_map scheduler_in p.lines) p.scheduler_is
+      one_setup s t rules (head_is s.scheduler t.scheduler (filter_map scheduler_in p.lines) p.scheduler_is
           schedulers) servers,
       sym p.events_are ∙ ap (λ (ls : List Line). filter_map event_in ls) same ∙ q.events_are,
     )

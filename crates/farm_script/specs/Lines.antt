@@ -17,7 +17,7 @@ use Rattle.farm_script.specs.declared.event.EventKind.{EventKind}
 use Rattle.farm_script.specs.declared.event.EventKind.TheVariants.{Request, Deliver, Fail, Return, Answer}
 use Rattle.farm_script.specs.declared.event.EventKind.TheVariants.{Beat, Restart}
 use Rattle.farm_script.specs.declared.lines.SetupLine.{SetupLine}
-use Rattle.farm_script.specs.declared.lines.SetupLine.TheVariants.{Scheduler, Server, Builder}
+use Rattle.farm_script.specs.declared.lines.SetupLine.TheVariants.{VersionTwo, Scheduler, Server, Builder}
 use Rattle.farm_script.specs.declared.lines.Line.{Line}
 use Rattle.farm_script.specs.declared.lines.Line.TheVariants as lines
 
@@ -150,14 +150,19 @@ abbrev pub is_skipped : List ℕ → Bool
 is_skipped [] = true
 is_skipped (c ∷ cs) = c == 35
 
--- what a line says that is not skipped: by its first word, else an event
-unfoldable pub said_at : Scopes → List ℕ → Option Line
-said_at scopes t =
+-- what a line says by its first word, else an event
+abbrev pub by_first_word : Scopes → List ℕ → Option Line
+by_first_word scopes t =
     behind (strip (codes "scheduler ") t)
     (λ r. scheduler_at scopes r >>= λ s. Some (lines.Setup (Scheduler s)))
     (behind (strip (codes "server ") t) (λ r. server_at scopes r >>= λ s. Some (lines.Setup (Server s)))
     (behind (strip (codes "builder ") t) (λ r. builder_at r >>= λ b. Some (lines.Setup b))
     (event_at scopes t >>= λ e. Some (lines.Event e))))
+
+-- what a line says that is not skipped: version 2, or what its first word says
+unfoldable pub said_at : Scopes → List ℕ → Option Line
+said_at scopes t =
+    if pointwise nat_eq t (codes "version 2") then Some (lines.Setup VersionTwo) else by_first_word scopes t
 
 -- the value that the whole line spells, if it spells one
 unfoldable pub line_at : Scopes → List ℕ → Option Line

@@ -31,6 +31,8 @@ pub enum Scopes {
 /// What a line says of how the farm is set up.
 #[derive(Debug, Drop)]
 pub enum SetupLine {
+    /// That the farm goes by version 2 of the rules.
+    VersionTwo,
     /// What the scheduler is.
     Scheduler(SetupScheduler),
     /// A build server, whose builder has no answers yet.
@@ -288,6 +290,9 @@ fn event(alloc: Global, scopes: Scopes, text: &[u8]) -> Result<Event, LineFault>
 fn said(alloc: Global, scopes: Scopes, text: &[u8]) -> Result<Line, LineFault>
     ensures { IsLineAnswer (λ x. x) result (said_at scopes text.now) }
 {
+    if text == b"version 2".as_slice() {
+        return Ok(Line::Setup(SetupLine::VersionTwo));
+    }
     if let Some(rest) = text.strip_prefix(b"scheduler ".as_slice()) {
         let scheduler = scheduler(alloc, scopes, rest)?;
         return Ok(Line::Setup(SetupLine::Scheduler(scheduler)));

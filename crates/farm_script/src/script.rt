@@ -3,7 +3,7 @@ ghost use Rattle.std.specs.Prelude.{◌≡◌, ◌≤◌, ◌++◌, ◌∷◌, [
 ghost use Rattle.std.specs.Prelude.{OnOk, IsTrue, ◌⊎◌, ◌||◌, position};
 ghost use Rattle.dist_types.specs.Addr.{same_addr};
 ghost use Rattle.farm_script.specs.Lines.{line_at};
-ghost use Rattle.farm_script.specs.Place.{misplaced, duplicate, has_addr};
+ghost use Rattle.farm_script.specs.Place.{is_two, misplaced, duplicate, has_addr};
 ghost use Rattle.farm_script.specs.FirstFaulty.{IsFirstFaulty};
 ghost use Rattle.farm_script.specs.Spelled.{SpellsScript};
 ghost use Rattle.farm_script.specs.Setups.{IsSetup};
@@ -17,6 +17,7 @@ use crate::event::Event;
 use crate::lines::{Line, Scopes, SetupLine, read_line};
 use crate::setup::{BuilderLine, Setup, SetupScheduler, SetupServer};
 use dist_types::addr::Addr;
+use dist_types::rules::Rules;
 use dist_types::text::Items;
 use line_program::fault::{FarmFault, LineFault};
 use line_program::limits::{MAX_BYTES, MAX_LINES};
@@ -30,6 +31,8 @@ pub const MAX_SERVERS: usize = 1_000;
 /// What was read so far.
 #[derive(Debug, Drop)]
 pub struct Reading {
+    /// Version 2 where a line says so, else version 1.
+    pub rules: Rules,
     pub scheduler: Option<SetupScheduler>,
     pub servers: Vec<SetupServer>,
     pub events: Vec<Event>,
@@ -58,6 +61,15 @@ fn is_at(scheduler: &Option<SetupScheduler>, addr: &Addr) -> bool
     }
 }
 
+fn is_two(rules: Rules) -> bool
+    ensures { result ≡ is_two rules }
+{
+    match rules {
+        Rules::One => false,
+        Rules::Two => true,
+    }
+}
+
 fn is_misplaced_setup(reading: &Reading, line: &SetupLine) -> bool
     ensures { result ≡ misplaced (before (read_of reading.now)) (Line.Setup line.now) }
 {
@@ -65,6 +77,7 @@ fn is_misplaced_setup(reading: &Reading, line: &SetupLine) -> bool
         return true;
     }
     match line {
+        SetupLine::VersionTwo => reading.scheduler.is_some() || is_two(reading.rules),
         SetupLine::Scheduler(_) => reading.scheduler.is_some(),
         SetupLine::Server(_) => reading.scheduler.is_none() || reading.servers.len() >= MAX_SERVERS,
         SetupLine::Builder(addr, _) => !has_server(&reading.servers, addr),
@@ -94,6 +107,7 @@ fn is_duplicate_setup(reading: &Reading, line: &SetupLine) -> bool
     ensures { result ≡ duplicate (before (read_of reading.now)) (Line.Setup line.now) }
 {
     match line {
+        SetupLine::VersionTwo => false,
         SetupLine::Scheduler(_) => false,
         SetupLine::Server(server) => is_taken(reading, &server.addr),
         SetupLine::Builder(_, _) => false,
@@ -144,12 +158,20 @@ fn with_setup(alloc: Global, reading: Reading, line: SetupLine) -> Result<Readin
     ensures { IfOk result (λ r. read_of r ≡ with_line (read_of reading) (Line.Setup line)) }
 {
     let Reading {
+        rules,
         scheduler,
         mut servers,
         events,
     } = reading;
     match line {
+        SetupLine::VersionTwo => Ok(Reading {
+            rules: Rules::Two,
+            scheduler,
+            servers,
+            events,
+        }),
         SetupLine::Scheduler(scheduler) => Ok(Reading {
+            rules,
             scheduler: Some(scheduler),
             servers,
             events,
@@ -157,6 +179,7 @@ fn with_setup(alloc: Global, reading: Reading, line: SetupLine) -> Result<Readin
         SetupLine::Server(server) => {
             servers.push(server)?;
             Ok(Reading {
+                rules,
                 scheduler,
                 servers,
                 events,
@@ -165,6 +188,7 @@ fn with_setup(alloc: Global, reading: Reading, line: SetupLine) -> Result<Readin
         SetupLine::Builder(addr, answer) => {
             add_answer(alloc, &mut servers, &addr, answer)?;
             Ok(Reading {
+                rules,
                 scheduler,
                 servers,
                 events,
@@ -182,12 +206,14 @@ fn with_line(alloc: Global, reading: Reading, line: Line) -> Result<Reading, All
         Line::Setup(setup) => with_setup(alloc, reading, setup),
         Line::Event(event) => {
             let Reading {
+                rules,
                 scheduler,
                 servers,
                 mut events,
             } = reading;
             events.push(event)?;
             Ok(Reading {
+                rules,
                 scheduler,
                 servers,
                 events,
@@ -256,6 +282,7 @@ fn finish(number: u64, reading: Reading) -> Result<(Setup, Vec<Event>), FarmFaul
     ensures { IsScriptAnswer (λ x. (x.0, x.1.items)) result (finished number (read_of reading)) }
 {
     let Reading {
+        rules,
         scheduler,
         servers,
         events,
@@ -263,7 +290,12 @@ fn finish(number: u64, reading: Reading) -> Result<(Setup, Vec<Event>), FarmFaul
     match scheduler {
         Some(scheduler) => {
             let servers = Items::new(servers);
-            Ok((Setup { scheduler, servers }, events))
+            let setup = Setup {
+                rules,
+                scheduler,
+                servers,
+            };
+            Ok((setup, events))
         }
         None => Err(FarmFault::BadLine(number)),
     }
@@ -281,6 +313,7 @@ pub fn read_script(alloc: Global, bytes: &[u8]) -> Result<(Setup, Vec<Event>), F
     ensures setup { IfOk result (λ x. IsSetup x.0) }
 {
     let mut reading = Reading {
+        rules: Rules::One,
         scheduler: None,
         servers: Vec::new(alloc),
         events: Vec::new(alloc),

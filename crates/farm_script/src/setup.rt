@@ -1,6 +1,7 @@
-//! How a farm is set up: its scheduler, its build servers, and what their builders answer.
+//! How a farm is set up: its rules, its scheduler, its build servers, and what their builders answer.
 use dist_types::addr::Addr;
 use dist_types::ids::ServerNonce;
+use dist_types::rules::Rules;
 use dist_types::text::{Bytes, Items, Text};
 
 /// How build servers prove to the scheduler who they are.
@@ -53,6 +54,8 @@ pub struct SetupServer {
 /// A farm as its script sets it up.
 #[derive(Debug, Drop)]
 pub struct Setup {
+    /// The version of the scheduler's rules.
+    pub rules: Rules,
     pub scheduler: SetupScheduler,
     /// In the order of the script.
     pub servers: Items<SetupServer>,

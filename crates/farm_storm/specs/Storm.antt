@@ -5,6 +5,7 @@ use Rattle.std.specs.List.{range_with_len, enumerate_from}
 use Rattle.dist_types.specs.Addr.{addr_text}
 use Rattle.dist_types.specs.declared.addr.Addr.{Addr}
 use Rattle.dist_types.specs.declared.addr.Addr.TheVariants.{V4}
+use Rattle.dist_types.specs.declared.rules.Rules.TheVariants.{One}
 use Rattle.dist_token.specs.Token.{token_text, job_claims_text}
 use Rattle.dist_wire.specs.declared.run.RunJobHttpRequest.{RunJobHttpRequest}
 use Rattle.http_head.specs.WrittenRequest.{request_text}
@@ -53,6 +54,7 @@ storm_server k = record {
 
 unfoldable pub storm_setup : Setup
 storm_setup = record {
+  rules = One;
   scheduler = record {
     addr = scheduler_addr;
     base = 0;

@@ -6,6 +6,7 @@ ghost use Rattle.farm_storm.specs.Storm.{local, scheduler_addr, server_addr, pee
 use dist_types::addr::Addr;
 use dist_types::fault::Memory;
 use dist_types::ids::ServerNonce;
+use dist_types::rules::Rules;
 use dist_types::text::{Bytes, Items, Text};
 use dist_types::try_clone::push;
 use farm_script::setup::{Setup, SetupAuth, SetupScheduler, SetupServer};
@@ -74,7 +75,7 @@ fn storm_servers(alloc: Global) -> Result<Vec<SetupServer>, Memory>
     Ok(servers)
 }
 
-/// How the farm is set up. Refused for want of memory alone.
+/// How the farm is set up, by version 1 of the rules. Refused for want of memory alone.
 #[tactic(auto, unfolding(crate::specs::Storm::storm_setup))]
 pub fn storm_setup(alloc: Global) -> Result<Setup, Memory>
     ensures { IfOk result (λ setup. setup ≡ storm_setup) }
@@ -83,6 +84,7 @@ pub fn storm_setup(alloc: Global) -> Result<Setup, Memory>
     let token = Text::of(alloc, SERVER_TOKEN)?;
     let servers = storm_servers(alloc)?;
     Ok(Setup {
+        rules: Rules::One,
         scheduler: SetupScheduler {
             addr: scheduler_addr(),
             base: 0,

@@ -1,5 +1,5 @@
 -- Runs whose inputs a packager packs.
-use Rattle.std.proofs.Common.{◌≡◌, ◌≢◌, ℕ, ◌≤◌, List, [], ◌∷◌, ◌++◌, codes, length, Option, Some, None, Result}
+use Rattle.std.proofs.Common.{◌≡◌, ◌≢◌, ℕ, ◌≤◌, List, [], ◌++◌, codes, length, Option, Some, None, Result}
 use Rattle.std.proofs.Common.{Ok, Err, refl, sym, ap, subst, ◌∙◌, append_assoc}
 use Rattle.std.specs.Fmt.{decimal}
 use Rattle.std.specs.Int.{w32, to_be_bytes}
@@ -56,12 +56,12 @@ ran_after job run inputs request answer sent old new is same h =
     (subst (λ q. IsAsked wire.ran_at (dialed_host job.server_id) (port_at job.server_id) q sent old new) is h)
 
 -- the same run by another name
-pub packed_same : (Uncalled : Type 0) (told : Option (List ℕ)) (before after : ℕ) (job : JobAlloc)
+pub packed_same : (Uncalled Called : Type 0) (told : Option (List ℕ)) (before after : ℕ) (job : JobAlloc)
     (run other : RunJobHttpRequest) (answer : Result (List ℕ) CallError)
-    → run ≡ other → PacksRequest Uncalled told before after job run answer
-    → PacksRequest Uncalled told before after job other answer
-packed_same Uncalled told before after job run other answer e h =
-    subst (λ r. PacksRequest Uncalled told before after job r answer) e h
+    → run ≡ other → PacksRequest Uncalled Called told before after job run answer
+    → PacksRequest Uncalled Called told before after job other answer
+packed_same Uncalled Called told before after job run other answer e h =
+    subst (λ r. PacksRequest Uncalled Called told before after job r answer) e h
 
 -- what was asked is said by another text of the request
 pub asked_as : {M : Type 0} (at : List ℕ → Option (M × List ℕ)) (host : List ℕ) (port : ℕ)

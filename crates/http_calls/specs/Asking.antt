@@ -1,9 +1,8 @@
 -- What a client's calls ask over its dialer, and what they answer.
-use Rattle.std.specs.Prelude.{◌≡◌, ◌⊎◌, ◌<◌, ◌≤◌, ◌^◌, ℕ, List, [], ◌++◌, codes, length, unwrap_or, Bool}
-use Rattle.std.specs.Prelude.{Option, Some, None, Result, Ok, Err, MatchResult}
+use Rattle.std.specs.Prelude.{◌≡◌, ◌⊎◌, ℕ, List, ◌++◌, codes}
+use Rattle.std.specs.Prelude.{Option, Result, Ok, Err, MatchResult}
 use Rattle.std.specs.Net.Text.{ipv6_text}
 use Rattle.dist_types.specs.Addr.{v4_text}
-use Rattle.dist_types.specs.Cause.{Rose}
 use Rattle.dist_types.specs.Content.{Recorded}
 use Rattle.dist_types.specs.Dialer.{asked_row}
 use Rattle.dist_types.specs.declared.addr.Addr.{Addr}

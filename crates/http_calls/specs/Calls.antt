@@ -1,5 +1,5 @@
 -- What a client's calls write.
-use Rattle.std.specs.Prelude.{◌≡◌, ◌⊎◌, ℕ, List, map, string_bytes, Option, Some, Ok}
+use Rattle.std.specs.Prelude.{◌≡◌, ◌⊎◌, ℕ, List}
 use Rattle.dist_types.specs.Addr.{addr_text}
 use Rattle.dist_types.specs.declared.ids.JobId.{JobId}
 use Rattle.dist_types.specs.declared.results.JobAlloc.{JobAlloc}

@@ -125,31 +125,34 @@ pub record Submits (job : JobAlloc) (tc : List ℕ) (answer : Result SubmitToolc
 
 -- What became of the inputs of a run: HeadTooLong exactly where command and outputs have 2^32 bytes or more,
 -- and then the packager is not called; Packager only where its count rose; else what it packed, where it
--- tells that.
-abbrev pub PacksInputs : Type 0 → Option (List ℕ) → ℕ → ℕ → RunJobHttpRequest → Result (List ℕ) CallError
-    → Type 0
-PacksInputs Uncalled told before after run (Ok inputs) = Appends told [] inputs
-    × (length (run_text run) < 2 ^ 32)
-PacksInputs Uncalled told before after run (Err HeadTooLong) = (2 ^ 32 ≤ length (run_text run)) × Uncalled
-PacksInputs Uncalled told before after run (Err Packager) = Rose before after
-    × (length (run_text run) < 2 ^ 32)
-PacksInputs Uncalled told before after run (Err Memory) = Unit {0}
-PacksInputs Uncalled told before after run (Err other) = ⊥
+-- tells that. A packager that answered was called once; its count is as it was where it did not refuse.
+abbrev pub PacksInputs : Type 0 → Type 0 → Option (List ℕ) → ℕ → ℕ → RunJobHttpRequest
+    → Result (List ℕ) CallError → Type 0
+PacksInputs Uncalled Called told before after run (Ok inputs) = Appends told [] inputs
+    × (length (run_text run) < 2 ^ 32) × (after ≡ before) × Called
+PacksInputs Uncalled Called told before after run (Err HeadTooLong) =
+    (2 ^ 32 ≤ length (run_text run)) × Uncalled
+PacksInputs Uncalled Called told before after run (Err Packager) = Rose before after
+    × (length (run_text run) < 2 ^ 32) × Called
+PacksInputs Uncalled Called told before after run (Err Memory) = after ≡ before
+PacksInputs Uncalled Called told before after run (Err other) = ⊥
 
 -- the same as the body of a run
-abbrev pub PacksBody : Type 0 → Option (List ℕ) → ℕ → ℕ → RunJobHttpRequest → Result (List ℕ) CallError
-    → Type 0
-PacksBody Uncalled told before after run (Ok body) = (inputs : List ℕ)
-    × PacksInputs Uncalled told before after run (Ok inputs) × (body ≡ run_body run inputs)
-PacksBody Uncalled told before after run (Err e) = PacksInputs Uncalled told before after run (Err e)
+abbrev pub PacksBody : Type 0 → Type 0 → Option (List ℕ) → ℕ → ℕ → RunJobHttpRequest
+    → Result (List ℕ) CallError → Type 0
+PacksBody Uncalled Called told before after run (Ok body) = (inputs : List ℕ)
+    × PacksInputs Uncalled Called told before after run (Ok inputs) × (body ≡ run_body run inputs)
+PacksBody Uncalled Called told before after run (Err e) =
+    PacksInputs Uncalled Called told before after run (Err e)
 
 -- the same as the request to run a job
-abbrev pub PacksRequest : Type 0 → Option (List ℕ) → ℕ → ℕ → JobAlloc → RunJobHttpRequest
+abbrev pub PacksRequest : Type 0 → Type 0 → Option (List ℕ) → ℕ → ℕ → JobAlloc → RunJobHttpRequest
     → Result (List ℕ) CallError → Type 0
-PacksRequest Uncalled told before after job run (Ok request) =
-    (inputs : List ℕ) × PacksInputs Uncalled told before after run (Ok inputs)
+PacksRequest Uncalled Called told before after job run (Ok request) =
+    (inputs : List ℕ) × PacksInputs Uncalled Called told before after run (Ok inputs)
     × (request ≡ request_text (run_request job run inputs))
-PacksRequest Uncalled told before after job run (Err e) = PacksInputs Uncalled told before after run (Err e)
+PacksRequest Uncalled Called told before after job run (Err e) =
+    PacksInputs Uncalled Called told before after run (Err e)
 
 abbrev pub AfterPacking : JobAlloc → RunJobHttpRequest → Result (List ℕ) CallError
     → Result RunJobResult CallError → ClientParts → ClientParts → Type 0
@@ -159,10 +162,10 @@ AfterPacking job run (Ok inputs) answer old new =
 AfterPacking job run (Err e) answer old new = (answer ≡ Err e) × (new ≡ old)
 
 -- the inputs of a run were packed, and its server asked to run it
-pub record Runs (Uncalled : Type 0) (told : Option (List ℕ)) (before after : ℕ) (job : JobAlloc)
+pub record Runs (Uncalled Called : Type 0) (told : Option (List ℕ)) (before after : ℕ) (job : JobAlloc)
     (run : RunJobHttpRequest) (answer : Result RunJobResult CallError) (old new : ClientParts) : Type 0 where
   pub packed : Result (List ℕ) CallError
-  pub packs : PacksInputs Uncalled told before after run packed
+  pub packs : PacksInputs Uncalled Called told before after run packed
   pub follows : AfterPacking job run packed answer old new
 
 -- the run of a command with these outputs
@@ -177,9 +180,9 @@ first_of (Err e) = Err e
 -- ---- its toolchains
 
 -- a toolchain was put, and nobody was asked
-pub record PutsHere (Uncalled : Type 0) (told : Option (List ℕ)) (before after : ℕ) (path key : List ℕ)
+pub record PutsHere (Uncalled Called : Type 0) (told : Option (List ℕ)) (before after : ℕ) (path key : List ℕ)
     (answer : Result Placed ToolchainError) (old new : ClientParts) : Type 0 where
-  pub puts : Puts Uncalled told before after path key answer old.toolchains new.toolchains
+  pub puts : Puts Uncalled Called told before after path key answer old.toolchains new.toolchains
   pub changes : new ≡ with_toolchains old new.toolchains
 
 -- the archive's name in what is told of a configured archive

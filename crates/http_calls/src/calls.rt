@@ -1,6 +1,7 @@
 //! What a client of the scheduler and of build servers can ask.
 ghost use Rattle.std.specs.Prelude.{◌≡◌};
 ghost use Rattle.disk_cache.specs.Putting.{placed_seen};
+ghost use Rattle.path_pkg.specs.Called.{CalledOnce};
 ghost use Rattle.http_calls.specs.Client.{ClientParts, Allocates, AsksStatus, Submits, Runs, run_of};
 ghost use Rattle.http_calls.specs.Client.{first_of, PutsHere, TellsArchive};
 
@@ -52,8 +53,9 @@ pub trait Client {
         outputs: Vec<String>,
         inputs: &mut dyn InputsPackager,
     ) -> Result<(RunJobResult, PathTransformer), CallError>
-        ensures { Runs (inputs.new ≡ inputs.old) (packs inputs.old) (refusals inputs.old) (refusals
-            inputs.new) job.now (run_of command outputs) (first_of result) (seen self.old) (seen self.new) };
+        ensures { Runs (inputs.new ≡ inputs.old) (CalledOnce (times inputs.old) (times inputs.new))
+            (packs inputs.old) (refusals inputs.old) (refusals inputs.new) job.now
+            (run_of command outputs) (first_of result) (seen self.old) (seen self.new) };
 
     /// Puts the toolchain of a compiler: see `ClientToolchains::put_toolchain`. It asks nobody.
     fn put_toolchain(
@@ -62,9 +64,10 @@ pub trait Client {
         weak_key: &str,
         packager: &mut dyn ToolchainPackager,
     ) -> Result<(Toolchain, Option<(String, String)>), ToolchainError>
-        ensures { PutsHere (packager.new ≡ packager.old) (packs packager.old) (refusals packager.old)
-            (refusals packager.new) compiler_path.now weak_key.now (placed_seen result) (seen self.old)
-            (seen self.new) };
+        ensures { PutsHere (packager.new ≡ packager.old)
+            (CalledOnce (times packager.old) (times packager.new)) (packs packager.old)
+            (refusals packager.old) (refusals packager.new) compiler_path.now weak_key.now
+            (placed_seen result) (seen self.old) (seen self.new) };
 
     /// Whether the client wants only includes to be rewritten.
     fn rewrite_includes_only(&self) -> bool

@@ -1,5 +1,6 @@
 //! Why a client's call gives no answer.
 use disk_cache::ToolchainError;
+use dist_types::fault::Memory;
 use dist_types::text::Bytes;
 use std::alloc::{AllocError, AllocFailed};
 use thiserror::Error;
@@ -54,6 +55,17 @@ impl<T: Drop> From<AllocFailed<T>> for CallError {
     ghost from_gives = { λ _ e. e ≡ Memory };
 
     fn from(_: AllocFailed<T>) -> Self {
+        CallError::Memory
+    }
+}
+
+impl From<Memory> for CallError {
+    ghost use Rattle.std.specs.Prelude.{◌≡◌};
+    ghost use Rattle.http_calls.specs.declared.error.CallError.TheVariants.{Memory as OutOfMemory};
+
+    ghost from_gives = { λ _ e. e ≡ OutOfMemory };
+
+    fn from(_: Memory) -> Self {
         CallError::Memory
     }
 }

@@ -3,6 +3,7 @@ ghost use Rattle.std.specs.Prelude.{◌≡◌, Ok, Some, string_bytes};
 ghost use Rattle.dist_wire.specs.Reading as wire;
 ghost use Rattle.disk_cache.specs.Custom.{customs_seen};
 ghost use Rattle.disk_cache.specs.Putting.{Gets, archives_seen, placed_seen};
+ghost use Rattle.path_pkg.specs.Called.{CalledOnce};
 ghost use Rattle.http_calls.specs.Asking.{dialed_host};
 ghost use Rattle.http_calls.specs.Servers.{port_at};
 ghost use Rattle.http_calls.specs.Client.{IsAsked, Allocates, AsksStatus, Submits, AfterGet, Runs, run_of};
@@ -201,8 +202,9 @@ impl<D: Dialer, F: Folder> Client<D, F> {
         outputs: Vec<String>,
         inputs: &mut dyn InputsPackager,
     ) -> Result<(RunJobResult, PathTransformer), CallError>
-        ensures { Runs (inputs.new ≡ inputs.old) (packs inputs.old) (refusals inputs.old) (refusals
-            inputs.new) job.now (run_of command outputs) (first_of result) self.old self.new }
+        ensures { Runs (inputs.new ≡ inputs.old) (CalledOnce (times inputs.old) (times inputs.new))
+            (packs inputs.old) (refusals inputs.old) (refusals inputs.new) job.now
+            (run_of command outputs) (first_of result) self.old self.new }
     {
         match RunCall::packed(self.alloc(), job, command, outputs, inputs) {
             Ok((call, transformer)) => beside(self.send(job, &call), transformer),
@@ -222,8 +224,10 @@ impl<D: Dialer, F: Folder> Client<D, F> {
         weak_key: &str,
         packager: &mut dyn ToolchainPackager,
     ) -> Result<(Toolchain, Option<(String, String)>), ToolchainError>
-        ensures { PutsHere (packager.new ≡ packager.old) (packs packager.old) (refusals packager.old)
-            (refusals packager.new) compiler_path.now weak_key.now (placed_seen result) self.old self.new }
+        ensures { PutsHere (packager.new ≡ packager.old)
+            (CalledOnce (times packager.old) (times packager.new)) (packs packager.old)
+            (refusals packager.old) (refusals packager.new) compiler_path.now weak_key.now
+            (placed_seen result) self.old self.new }
     {
         let answer = self
             .toolchains

@@ -8,8 +8,8 @@
 //! that row's reply.
 //!
 //! The layer above uses `calls::Client` and `http::Client`, `urls`, `RequestBuilder` with
-//! `ReqwestRequestBuilderExt`, `AllocCall`, `StatusCall`, `SubmitCall`, `RunCall`, `state_report` and
-//! `heartbeat`; and of the definitions those of `Calls`, `Resumes` and `Client`.
+//! `ReqwestRequestBuilderExt`, `AllocCall`, `StatusCall`, `SubmitCall`, `RunCall` and the calls of
+//! `reports`; and of the definitions those of `Calls`, `Resumes` and `Client`.
 #![tactic(auto)]
 
 pub mod alloc_call;

@@ -7,6 +7,7 @@ ghost use Rattle.dist_wire.specs.Written as spelling;
 ghost use Rattle.dist_wire.specs.declared.run.RunJobHttpRequest.{RunJobHttpRequest};
 ghost use Rattle.http_head.specs.WrittenRequest.{request_text, IsToken, IsWithinLimits};
 ghost use Rattle.http_routes.specs.ServerRoute.{AsksRun};
+ghost use Rattle.path_pkg.specs.Called.{CalledOnce};
 ghost use Rattle.http_calls.specs.Calls as written;
 ghost use Rattle.http_calls.specs.Client.{PacksRequest, run_of, first_of};
 ghost use Rattle.http_calls.specs.Reply.{Resumes};
@@ -67,8 +68,8 @@ fn packed_run(
     run: &RunJobHttpRequest,
     inputs: &mut dyn InputsPackager,
 ) -> Result<(RunCall, PathTransformer), CallError>
-    ensures { PacksRequest (inputs.new ≡ inputs.old) (packs inputs.old) (refusals inputs.old)
-        (refusals inputs.new) job.now run.now (first_of result) }
+    ensures { PacksRequest (inputs.new ≡ inputs.old) (CalledOnce (times inputs.old) (times inputs.new))
+        (packs inputs.old) (refusals inputs.old) (refusals inputs.new) job.now run.now (first_of result) }
 {
     match packed_request(alloc, job, run, inputs) {
         Ok((request, transformer)) => Ok((RunCall { alloc, request }, transformer)),
@@ -126,8 +127,9 @@ impl RunCall {
         outputs: Vec<String>,
         inputs: &mut dyn InputsPackager,
     ) -> Result<(RunCall, PathTransformer), CallError>
-        ensures { PacksRequest (inputs.new ≡ inputs.old) (packs inputs.old) (refusals inputs.old)
-            (refusals inputs.new) job.now (run_of command outputs) (first_of result) }
+        ensures { PacksRequest (inputs.new ≡ inputs.old) (CalledOnce (times inputs.old) (times inputs.new))
+            (packs inputs.old) (refusals inputs.old) (refusals inputs.new) job.now
+            (run_of command outputs) (first_of result) }
     {
         match run_of(alloc, command, outputs) {
             Ok(run) => {

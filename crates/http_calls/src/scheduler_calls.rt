@@ -13,9 +13,8 @@ ghost use Rattle.http_calls.specs.Urls.{IsHttp};
 
 use crate::builder::{RequestBuilder, ReqwestRequestBuilderExt};
 use crate::error::CallError;
-use crate::urls::{
-    scheduler_alloc_job, scheduler_heartbeat_server, scheduler_job_state, scheduler_status,
-};
+use crate::urls::{heartbeat_url, scheduler_alloc_job, scheduler_status, state_url};
+use dist_types::fault::Memory;
 use dist_types::ids::JobId;
 use dist_types::results::JobState;
 use dist_types::text::Bytes;
@@ -40,21 +39,15 @@ fn built<M: Message>(alloc: Global, url: &Url, token: &str, message: &M) -> Resu
     Ok(Bytes::new(bytes))
 }
 
-/// The same as a part of a call.
-fn posted<M: Message>(
-    alloc: Global,
-    url: &Url,
-    token: &str,
-    message: &M,
-) -> Result<Bytes, CallError>
+/// The same, refused for want of memory alone.
+fn posted<M: Message>(alloc: Global, url: &Url, token: &str, message: &M) -> Result<Bytes, Memory>
     ensures text { IfOk result (λ bytes. bytes
         ≡ request_text (post_with (target_of url.now) (host_of url.now) token.now (M.text message.now))) }
     ensures spelled { OnOk result (M.spells message.now (M.text message.now)) }
-    ensures err { IfErr result (λ e. e ≡ CallError.Memory) }
 {
     match built(alloc, url, token, message) {
         Ok(bytes) => Ok(bytes),
-        Err(_) => Err(CallError::Memory),
+        Err(_) => Err(Memory),
     }
 }
 
@@ -108,7 +101,7 @@ pub(crate) fn status_text(alloc: Global, base: &Url) -> Result<Bytes, CallError>
     }
 }
 
-/// The bytes of the report of a job's state.
+/// The bytes of the report of a job's state, to a base of scheme `http`.
 #[tactic(auto, using(crate::proofs::UrlLemmas::target_at), unfolding(http_routes::specs::Requests::state_with))]
 pub(crate) fn state_text(
     alloc: Global,
@@ -116,33 +109,31 @@ pub(crate) fn state_text(
     token: &str,
     job: JobId,
     state: JobState,
-) -> Result<Bytes, CallError>
+) -> Result<Bytes, Memory>
+    requires http { IsHttp base.now }
     ensures text { IfOk result (λ bytes. bytes ≡ request_text (state_request base.now token.now job state)) }
-    ensures http { OnOk result (IsHttp base.now) }
-    ensures valid { IsValid base.now }
-    ensures err { IfErr result (RefusesBase base.now) }
+    ensures valid { OnOk result (IsValid base.now) }
 {
-    let url = scheduler_job_state(alloc, base, job)?;
+    let url = state_url(alloc, base, job)?;
     let bytes = posted(alloc, &url, token, &state)?;
     Ok(bytes)
 }
 
-/// The bytes of a heartbeat.
+/// The bytes of a heartbeat, to a base of scheme `http`.
 #[tactic(auto, using(crate::proofs::UrlLemmas::target_at), unfolding(http_routes::specs::Requests::heartbeat_with))]
 pub(crate) fn heartbeat_text(
     alloc: Global,
     base: &Url,
     token: &str,
     beat: &HeartbeatServerHttpRequest,
-) -> Result<Bytes, CallError>
+) -> Result<Bytes, Memory>
+    requires http { IsHttp base.now }
     ensures text { IfOk result
         (λ bytes. bytes ≡ request_text (heartbeat_request base.now token.now beat.now)) }
-    ensures http { OnOk result (IsHttp base.now) }
-    ensures valid { IsValid base.now }
+    ensures valid { OnOk result (IsValid base.now) }
     ensures spelled { OnOk result (SpellsHeartbeat beat.now (spelling.heartbeat_text beat.now)) }
-    ensures err { IfErr result (RefusesBase base.now) }
 {
-    let url = scheduler_heartbeat_server(base)?;
+    let url = heartbeat_url(base)?;
     let bytes = posted(alloc, &url, token, beat)?;
     Ok(bytes)
 }

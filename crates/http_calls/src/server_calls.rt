@@ -11,6 +11,7 @@ ghost use Rattle.http_head.specs.WrittenRequest.{request_text, IsToken, IsWithin
 ghost use Rattle.http_routes.specs.RunHead.{run_body};
 ghost use Rattle.http_routes.specs.ServerRoute.{AsksSubmit, AsksRun};
 ghost use Rattle.http_routes.specs.Requests.{post_with, submit_with, run_with};
+ghost use Rattle.path_pkg.specs.Called.{CalledOnce};
 ghost use Rattle.http_calls.specs.Client.{PacksBody, PacksRequest, first_of};
 
 use crate::builder::{RequestBuilder, ReqwestRequestBuilderExt};
@@ -141,8 +142,8 @@ fn packed_body(
     run: &RunJobHttpRequest,
     inputs: &mut dyn InputsPackager,
 ) -> Result<(Bytes, PathTransformer), CallError>
-    ensures { PacksBody (inputs.new ≡ inputs.old) (packs inputs.old) (refusals inputs.old)
-        (refusals inputs.new) run.now (first_of result) }
+    ensures { PacksBody (inputs.new ≡ inputs.old) (CalledOnce (times inputs.old) (times inputs.new))
+        (packs inputs.old) (refusals inputs.old) (refusals inputs.new) run.now (first_of result) }
 {
     let mut body = match run_body(alloc, run, &[]) {
         Ok(body) => body.into_inner(),
@@ -183,8 +184,8 @@ pub(crate) fn packed_request(
     run: &RunJobHttpRequest,
     inputs: &mut dyn InputsPackager,
 ) -> Result<(Bytes, PathTransformer), CallError>
-    ensures { PacksRequest (inputs.new ≡ inputs.old) (packs inputs.old) (refusals inputs.old)
-        (refusals inputs.new) job.now run.now (first_of result) }
+    ensures { PacksRequest (inputs.new ≡ inputs.old) (CalledOnce (times inputs.old) (times inputs.new))
+        (packs inputs.old) (refusals inputs.old) (refusals inputs.new) job.now run.now (first_of result) }
 {
     match packed_body(alloc, run, inputs) {
         Ok((body, transformer)) => {

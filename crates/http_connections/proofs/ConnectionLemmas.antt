@@ -1,5 +1,5 @@
 -- The halves of a connection, put together.
-use Rattle.std.proofs.Common.{◌≡◌, ℕ, List, Option, Some, None, Ok, Err, refl, subst, inr}
+use Rattle.std.proofs.Common.{◌≡◌, ℕ, List, Option, Some, None, Ok, Err, refl, subst, inr, ap, sym, ◌∙◌}
 use Rattle.std.specs.Prelude.{IfSome}
 use Rattle.dist_types.specs.Cause.{Rose}
 use Rattle.dist_types.specs.Content.{Added, Began}
@@ -18,6 +18,7 @@ pub record Sends (reply : Response) (served : Served) (held now : Option (List �
   pub answered : served ≡ Answered → Added (reply_text reply) held now
   pub failed : served ≡ WriteFault → Rose writes risen × Began (reply_text reply) held now
   pub memory : served ≡ Memory → now ≡ held
+  pub steady : ¬ (served ≡ WriteFault) → risen ≡ writes
   pub no_read : ¬ (served ≡ ReadFault)
 
 sends : {A : Type 0} (replies : Option Request → A → A → MadeReply → Type 0) (old new : Shown)
@@ -35,20 +36,23 @@ sends replies old new before after request reply Memory took did s =
 -- after the taking, which wrote nothing, and the sending, which read nothing
 pub sent : {A : Type 0} (replies : Option Request → A → A → MadeReply → Type 0) (before after : A)
     (request : Option Request) (reply : Response) (served : Served)
-    (first mid last held wrote now : Option (List ℕ)) (reads risen writes counted after_writes : ℕ)
-    → IfSome first (λ bytes. TakesCut bytes mid request) → mid ≡ last → wrote ≡ held → counted ≡ writes
+    (first mid last held wrote now : Option (List ℕ)) (reads taken risen writes counted after_writes : ℕ)
+    → IfSome first (λ bytes. TakesCut bytes mid request) → taken ≡ reads
+    → mid ≡ last → taken ≡ risen → wrote ≡ held → counted ≡ writes
     → replies request before after (Ok reply)
     → Sends reply served wrote now counted after_writes
     → IsServedBy replies (record { left = first; held = held; reads = reads; writes = writes })
     (record { left = last; held = now; reads = risen; writes = after_writes }) before after served
-sent replies before after request reply served first mid last held wrote now reads risen writes counted
-    after_writes took same kept steady did s =
+sent replies before after request reply served first mid last held wrote now reads taken risen writes counted
+    after_writes took unfailed same as_many kept steady did s =
     record {
       serves = sends replies _ _ before after request reply served
           (subst (λ o. IfSome first (λ bytes. TakesCut bytes o request)) same took)
           did
           (subst (λ n. Sends reply served held now n after_writes) steady
           (subst (λ o. Sends reply served o now counted after_writes) kept s));
+      reads = λ unread. sym as_many ∙ unfailed;
+      writes = λ unfailed. s.steady unfailed ∙ steady;
     }
 
 -- ---- a request whose body may have been dropped
@@ -83,30 +87,35 @@ whole_of replies settled (Some bytes) mid (Some taken) before after made (whole,
 -- after the taking, which wrote nothing, and the sending, which read nothing
 pub sent_by : {A : Type 0} (replies : Option Request → A → A → MadeReply → Type 0) (settled : Request → Type 0)
     (before after : A) (request : Option Request) (reply : Response) (served : Served)
-    (first mid last held wrote now : Option (List ℕ)) (reads risen writes counted after_writes : ℕ)
-    → IfSome first (λ bytes. TakesOrDrops settled bytes mid request) → mid ≡ last → wrote ≡ held
-    → counted ≡ writes
+    (first mid last held wrote now : Option (List ℕ)) (reads taken risen writes counted after_writes : ℕ)
+    → IfSome first (λ bytes. TakesOrDrops settled bytes mid request) → taken ≡ reads
+    → mid ≡ last → taken ≡ risen → wrote ≡ held → counted ≡ writes
     → AsWhole settled replies before after (Ok reply)
     → replies request before after (Ok reply)
     → Sends reply served wrote now counted after_writes
     → IsServedBy replies (record { left = first; held = held; reads = reads; writes = writes })
     (record { left = last; held = now; reads = risen; writes = after_writes }) before after served
-sent_by replies settled before after request reply served first mid last held wrote now reads risen writes
-    counted after_writes took same kept steady law did s =
+sent_by replies settled before after request reply served first mid last held wrote now reads taken risen
+    writes counted after_writes took unfailed same as_many kept steady law did s =
     let w = whole_of replies settled first mid request before after (Ok reply) took law did in
-    sent replies before after w.request reply served first mid last held wrote now reads risen writes counted
-    after_writes w.took same kept steady w.did s
+    sent replies before after w.request reply served first mid last held wrote now reads taken risen writes counted
+    after_writes w.took unfailed same as_many kept steady w.did s
 
 -- after the taking, where memory ran out before a reply was made
 pub unsent : {A : Type 0} (replies : Option Request → A → A → MadeReply → Type 0) (settled : Request → Type 0)
     (before after : A) (request : Option Request) (e : want.Memory)
     (first mid held now : Option (List ℕ)) (reads risen writes after_writes : ℕ)
-    → IfSome first (λ bytes. TakesOrDrops settled bytes mid request) → now ≡ held
+    → IfSome first (λ bytes. TakesOrDrops settled bytes mid request) → risen ≡ reads
+    → (now ≡ held) × (after_writes ≡ writes)
     → AsWhole settled replies before after (Err e)
     → replies request before after (Err e)
     → IsServedBy replies (record { left = first; held = held; reads = reads; writes = writes })
     (record { left = mid; held = now; reads = risen; writes = after_writes }) before after Memory
-unsent replies settled before after request e first mid held now reads risen writes after_writes took kept law
-    did =
+unsent replies settled before after request e first mid held now reads risen writes after_writes took same kept
+    law did =
     let w = whole_of replies settled first mid request before after (Err e) took law did in
-    record { serves = (kept, inr (w.request, Err e, w.took, w.did)) }
+    record {
+      serves = (kept.0, inr (w.request, Err e, w.took, w.did));
+      reads = λ unread. same;
+      writes = λ unfailed. kept.1;
+    }

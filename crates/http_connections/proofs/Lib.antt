@@ -1,3 +1,4 @@
+pub mod AlikeLemmas
 pub mod BegunLemmas
 pub mod ConnectionLemmas
 pub mod KitLemmas

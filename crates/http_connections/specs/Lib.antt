@@ -1,3 +1,4 @@
+pub mod Alike
 pub mod Begun
 pub mod Came
 pub mod Form

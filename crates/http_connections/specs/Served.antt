@@ -54,7 +54,9 @@ Serves replies old new before after ReadFault = Rose old.reads new.reads × (new
     × (after ≡ before) × TookPart old new
 Serves replies old new before after Memory = (new.held ≡ old.held) × BreaksOff replies old new before after
 
--- what serving a connection does, by its answer
+-- what serving a connection does, by its answer: a half's count of failures rises only where that half failed
 pub record IsServedBy {A : Type 0} (replies : Option Request → A → A → MadeReply → Type 0) (old new : Shown)
     (before after : A) (served : Served) : Type 0 where
   pub serves : Serves replies old new before after served
+  pub reads : ¬ (served ≡ ReadFault) → new.reads ≡ old.reads
+  pub writes : ¬ (served ≡ WriteFault) → new.writes ≡ old.writes

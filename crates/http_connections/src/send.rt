@@ -17,6 +17,7 @@ pub fn send<K: Sink>(alloc: Global, link: &mut K, reply: &Response) -> Served
     ensures failed { result ≡ served.WriteFault → Rose (K.faults link.old) (K.faults link.new)
         × Began (reply_text reply.now) (K.held link.old) (K.held link.new) }
     ensures memory { result ≡ served.Memory → K.held link.new ≡ K.held link.old }
+    ensures steady { ¬ (result ≡ served.WriteFault) → K.faults link.new ≡ K.faults link.old }
     ensures no_read { ¬ (result ≡ served.ReadFault) }
     ensures apart { K.apart link.new ≡ K.apart link.old }
 {

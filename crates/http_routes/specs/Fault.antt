@@ -2,6 +2,8 @@
 use Rattle.std.specs.Prelude.{ℕ, List, [], ◌∷◌, ◌++◌, codes}
 use Rattle.std.specs.Fmt.{decimal}
 use Rattle.dist_types.specs.Addr.{addr_text}
+use Rattle.dist_types.specs.declared.builder.BuildCause.{BuildCause}
+use Rattle.dist_types.specs.declared.builder.BuildCause.TheVariants as cause
 use Rattle.dist_types.specs.Ids.{state_text}
 use Rattle.dist_types.specs.declared.outgoing.CallFault.{CallFault}
 use Rattle.dist_types.specs.declared.outgoing.CallFault.TheVariants.{Lost, Status, Unreadable, BadState}
@@ -9,8 +11,6 @@ use Rattle.dist_types.specs.declared.outgoing.CallFault.TheVariants.{Memory as O
 use Rattle.core_rules.specs.declared.answers.Undone.{Undone}
 use Rattle.core_rules.specs.declared.answers.Undone.TheVariants.{Unassigned, NotKnown, NoServer, Foreign}
 use Rattle.http_routes.specs.declared.fault.RouteFault.{RouteFault}
-use Rattle.http_routes.specs.declared.fault.BuildFailure.{BuildFailure}
-use Rattle.http_routes.specs.declared.fault.BuildFailure.TheVariants as failure
 use Rattle.http_routes.specs.declared.fault.RouteFault.TheVariants.{BadCpus, UnknownJob, WrongServer}
 use Rattle.http_routes.specs.declared.fault.RouteFault.TheVariants.{BadTransition, IdsSpent, AssignFailed}
 use Rattle.http_routes.specs.declared.fault.RouteFault.TheVariants.{AlreadyAssigned, UpdateFailed}
@@ -52,16 +52,16 @@ fault_text (UpdateFailed call) = codes "Updating job state failed"
 fault_text (BuildFailed why) = codes "run build failed"
 
 -- why a build gave nothing
-abbrev pub failure_text : BuildFailure → List ℕ
-failure_text failure.NotCached = codes "toolchain not in cache"
-failure_text failure.Unreadable = codes "toolchain unreadable"
-failure_text failure.Refused = codes "builder refused"
+abbrev pub cause_text : BuildCause → List ℕ
+cause_text cause.Unlisted = codes "toolchain not in cache"
+cause_text cause.Folder = codes "toolchain unreadable"
+cause_text cause.Refused = codes "builder refused"
 
 -- why, outermost first
 abbrev pub causes_of : RouteFault → List (List ℕ)
 causes_of (AssignFailed undone call) = codes "POST to scheduler assign_job failed" ∷ call_text call ∷ []
 causes_of (UpdateFailed call) = codes "POST to scheduler job_state failed" ∷ call_text call ∷ []
-causes_of (BuildFailed why) = failure_text why ∷ []
+causes_of (BuildFailed why) = cause_text why ∷ []
 causes_of other = []
 
 -- what went wrong and why, outermost first

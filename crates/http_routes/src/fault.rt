@@ -1,13 +1,14 @@
 //! The faults of a request whose route is known, and the replies that tell them.
 ghost use Rattle.std.specs.Prelude.{◌≡◌, [], ◌∷◌, IfOk, IfErr};
 ghost use Rattle.http_routes.specs.ErrJson.{texts_of};
-ghost use Rattle.http_routes.specs.Fault.{call_text, failure_text, fault_texts, fault_response_of};
+ghost use Rattle.http_routes.specs.Fault.{call_text, cause_text, fault_texts, fault_response_of};
 ghost use Rattle.core_rules.specs.Texts.{no_room_text, dropped_text};
 
 use crate::err_json::ErrJson;
 use crate::error::HttpError;
 use crate::reply::Response;
 use core_rules::answers::Undone;
+use dist_types::builder::BuildCause;
 use dist_types::ids::{JobId, ServerId};
 use dist_types::outgoing::CallFault;
 use dist_types::results::JobState;
@@ -35,33 +36,7 @@ pub enum RouteFault {
     /// The scheduler did not take a report of the job's state: why the call failed.
     UpdateFailed(CallFault),
     /// The build gave nothing.
-    BuildFailed(BuildFailure),
-}
-
-/// Why a build gave nothing.
-#[derive(Clone, Copy, Debug, PartialEq, Eq)]
-pub enum BuildFailure {
-    /// The toolchain is not in the server's cache.
-    NotCached,
-    /// The toolchain's archive could not be read.
-    Unreadable,
-    /// The builder refused the build.
-    Refused,
-}
-
-impl fmt::Display for BuildFailure {
-    ghost use Rattle.std.specs.Prelude.{Some};
-    ghost use Rattle.http_routes.specs.Fault.{failure_text};
-
-    ghost output = { λ failure. Some (failure_text failure) };
-
-    fn fmt<W: fmt::Write>(&self, f: &mut fmt::Formatter<W>) -> fmt::Result {
-        match self {
-            BuildFailure::NotCached => write!(f, "toolchain not in cache"),
-            BuildFailure::Unreadable => write!(f, "toolchain unreadable"),
-            BuildFailure::Refused => write!(f, "builder refused"),
-        }
-    }
+    BuildFailed(BuildCause),
 }
 
 /// What became of a reservation whose call failed, as a reply tells it.
@@ -103,6 +78,25 @@ impl fmt::Display for CallText<'_> {
             CallFault::Unreadable => write!(f, "unreadable reply"),
             CallFault::BadState(state) => write!(f, "state {state} in an assignment"),
             CallFault::Memory => write!(f, "out of memory"),
+        }
+    }
+}
+
+/// Why a build gave nothing, as a reply tells it.
+#[derive(Drop)]
+struct CauseText<'a>(&'a BuildCause);
+
+impl fmt::Display for CauseText<'_> {
+    ghost use Rattle.std.specs.Prelude.{Some};
+    ghost use Rattle.http_routes.specs.Fault.{cause_text};
+
+    ghost output = { λ c. Some (cause_text c.0.now) };
+
+    fn fmt<W: fmt::Write>(&self, f: &mut fmt::Formatter<W>) -> fmt::Result {
+        match self.0 {
+            BuildCause::Unlisted => write!(f, "toolchain not in cache"),
+            BuildCause::Folder => write!(f, "toolchain unreadable"),
+            BuildCause::Refused => write!(f, "builder refused"),
         }
     }
 }
@@ -155,11 +149,12 @@ fn call_failed(
 }
 
 /// What went wrong, in a build.
-fn build_failed(alloc: Global, text: Text, failure: BuildFailure) -> Result<ErrJson, HttpError>
-    ensures texts { IfOk result (λ e. texts_of e ≡ text ∷ failure_text failure ∷ []) }
+fn build_failed(alloc: Global, text: Text, cause: &BuildCause) -> Result<ErrJson, HttpError>
+    ensures texts { IfOk result (λ e. texts_of e ≡ text ∷ cause_text cause.now ∷ []) }
     ensures memory { IfErr result (λ e. e ≡ HttpError.Memory) }
 {
-    let why = format!(in alloc; "{failure}")?;
+    let cause = CauseText(cause);
+    let why = format!(in alloc; "{cause}")?;
     ErrJson::of(Text::new(why)).under(alloc, text)
 }
 
@@ -182,7 +177,7 @@ fn fault_json(alloc: Global, fault: &RouteFault) -> Result<ErrJson, HttpError>
         RouteFault::UpdateFailed(call) => {
             call_failed(alloc, text, "POST to scheduler job_state failed", call)
         }
-        RouteFault::BuildFailed(failure) => build_failed(alloc, text, *failure),
+        RouteFault::BuildFailed(cause) => build_failed(alloc, text, cause),
     }
 }
 

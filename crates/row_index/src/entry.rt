@@ -9,6 +9,7 @@ use std::sync::ledger::Ledger;
 use steps::Steps;
 
 /// Whether the key stays.
+#[inline(always)]
 fn stays<K: Key>(old: &Option<K>, new: &Option<K>) -> bool
     ensures { result ≡ key_stays K.before old.now new.now }
 {

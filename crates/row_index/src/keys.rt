@@ -19,6 +19,7 @@ pub struct LoadKey {
 }
 
 /// Whether the load is less, or they are equal and the number is less.
+#[inline(always)]
 fn goes_first(a: &LoadKey, b: &LoadKey) -> bool
     ensures { result ≡ less_or a.now.load b.now.load (nat_lt a.now.number b.now.number) }
 {
@@ -37,6 +38,7 @@ impl Key for LoadKey {
 
     ghost apart = { load_apart };
 
+    #[inline(always)]
     #[tactic(auto, using(crate::proofs::KeyLemmas::equal_cpus))]
     fn is_before(&self, other: &Self) -> bool {
         // Of the same processors the loads alone tell, with no product.

@@ -117,17 +117,12 @@ impl NumberedLists {
             (list_at self.old.lists number ++ place ∷ []) }
     {
         self.ready = None;
-        let mut list = match self.lists.remove(&number) {
-            Some(list) => list,
+        match self.lists.get_mut(&number) {
+            Some(list) => match list.push(place) {
+                Ok(()) => (),
+                Err(_) => unreachable!(),
+            },
             None => unreachable!(),
-        };
-        match list.push(place) {
-            Ok(()) => (),
-            Err(_) => unreachable!(),
-        }
-        match self.lists.insert(number, list) {
-            Ok(_) => (),
-            Err(_) => unreachable!(),
         }
     }
 

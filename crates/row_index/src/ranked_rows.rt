@@ -223,6 +223,8 @@ impl<T: Ranked> Ranks<T> {
         ensures looks { (h : ℕ) → length self.old.places ≤ 2 ^ h → steps.new ≤ steps.old +
             touched T.load_of T.error_of T.sign_of (Some old.now) (Some row) * (2 * h + 1) }
     {
+        // The row goes first, right after it was read, so that what stays of it is not written.
+        self.slots.put(place, row);
         enter(
             &mut self.loads,
             place,
@@ -244,7 +246,6 @@ impl<T: Ranked> Ranks<T> {
             row.sign_key(),
             steps,
         );
-        self.slots.put(place, row);
     }
 
     /// The place of the row of that number, if there is one.

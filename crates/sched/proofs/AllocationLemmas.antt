@@ -106,6 +106,7 @@ module _ {A : Type 0} (key_of : A → List ℕ) (token_for : A → ℕ → List 
             start = two.counted.start ∙ one.counted.start;
             count = omega (arith, one.counted.count, two.counted.count);
             held = two.counted.held ∙ one.counted.held;
+            splits = two.counted.splits ∙ one.counted.splits;
           };
         };
         picked = Ok (Reserved r);

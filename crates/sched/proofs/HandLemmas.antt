@@ -7,8 +7,8 @@ use Rattle.core_rules.specs.declared.entry.CoreEntry.{CoreEntry}
 use Rattle.core_rules.specs.Log.{Core}
 use Rattle.sched.specs.Hand.{Begins, MayEnd, MayEnter, AreUnited, ended}
 use Rattle.sched.specs.Lists.{only, longer, merged}
-use Rattle.sched.specs.Pass.{Told, IsSplit, IsJoined, IsClosed, AreOut}
-use Rattle.sched.specs.Plays.{claimed, entered, released, compared, newcomer, joined}
+use Rattle.sched.specs.Pass.{Told, IsSplit, IsJoined, IsClosed, AreOut, split_off}
+use Rattle.sched.specs.Plays.{claimed, entered, released, compared, newcomer, joined, with_split}
 use Rattle.sched.specs.Rule.{Seen}
 use Rattle.sched.specs.View.{told_of, told_by, IsPass}
 use Rattle.sched.specs.declared.view.View.{View}
@@ -59,7 +59,30 @@ is_split v w before views old of of' told one same told_is b is =
     let old_is : told ≡ told_of of v = sym told_is ∙ ap (told_by of) one in
     subst (λ (o : Told). IsSplit o (told_by of' views)) (sym old_is)
     (subst (λ (n : Told). IsSplit (told_of of v) n) (sym new_is)
-    (record { of = refl; start = refl; front = b.front; own = refl; held = refl; count = refl }))
+    (record { of = refl; start = refl; front = b.front; own = refl; held = refl; splits = refl; count = refl }))
+
+-- the pass that it was split off
+
+pub counts_one : (entries passes : ℕ) (views new : List View) (p : IsPass entries passes views)
+    → new ≡ with_split p.view ∷ [] → IsPass entries passes new
+counts_one entries passes views new p is = subst (IsPass entries passes) (sym is) (record {
+  view = with_split p.view;
+  is = refl;
+  idle = p.idle;
+  live = p.live;
+  holds = p.holds;
+  rising = p.rising;
+  low = p.low;
+  entries_are = p.entries_are;
+  passes_are = p.passes_are;
+})
+
+pub is_counted : (v : View) (old new : List View) (of of' : TableId) (told : Told)
+    → old ≡ v ∷ [] → of' ≡ of → told_by of old ≡ told → new ≡ with_split v ∷ []
+    → told_by of' new ≡ split_off 1 told
+is_counted v old new of of' told one same told_is is =
+    ap (λ z. told_by z new) same
+    ∙ (ap (told_by of) is ∙ ap (split_off 1) (sym (ap (told_by of) one) ∙ told_is))
 
 -- join
 
@@ -116,6 +139,7 @@ is_joined entries passes more held views others new of of' that told other p q u
       own = refl;
       apart = λ k one two. let once = u.once k in omega (arith, total-merged (only k) p.view.own q.view.own);
       held = refl;
+      splits = refl;
       count = omega (
         arith,
         total-merged (λ _. 1) p.view.own q.view.own,
@@ -144,6 +168,7 @@ are_out entries passes views new of of' told w desk made p b is same told_is mad
       own = refl;
       count = refl;
       same = refl;
+      splits = refl;
       made_is = made_is ∙ ap (λ (d : Seen). d.made) b.desk_is;
       held_is = p.passes_are;
       fewer = fewer;

@@ -321,7 +321,7 @@ turned asked tells refuses clock ticked answer now of v log n None grown front i
     begins = front;
     later = tt;
     own = sym (append-nil v.own);
-    counted = record { of = refl; start = refl; count = omega arith; held = refl };
+    counted = record { of = refl; start = refl; count = omega arith; held = refl; splits = refl };
   };
 }
 turned asked tells refuses clock ticked answer now of v log n (Some e) grown front is read gives =
@@ -346,8 +346,8 @@ turned asked tells refuses clock ticked answer now of v log n (Some e) grown fro
           of = refl;
           start = refl;
           count = length-append v.own (length log ∷ []);
-          held =
-              refl;
+          held = refl;
+          splits = refl;
         };
       };
     }

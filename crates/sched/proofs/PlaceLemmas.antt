@@ -1,6 +1,6 @@
 -- An allocation, by its places.
-use Rattle.std.proofs.Common.{◌≡◌, ◌<◌, ℕ, ◌+◌, List, length, take, Option, Some, None, Result, Ok, Err, refl}
-use Rattle.std.proofs.Common.{sym, ap, ◌∙◌, subst, arith, true}
+use Rattle.std.proofs.Common.{◌≡◌, ℕ, List, take, Option, Some, None, Result, Ok, Err, refl}
+use Rattle.std.proofs.Common.{sym, ap, ◌∙◌, subst, true}
 use Rattle.std.specs.Prelude.{slice_get}
 use Rattle.dist_types.specs.Outgoing.{Assigned}
 use Rattle.dist_types.specs.declared.dialer.Asked.{Asked}
@@ -22,11 +22,10 @@ use Rattle.sched_core.specs.Picked.{IsPicked}
 use Rattle.sched_core.specs.declared.answers.Picked.{Picked}
 use Rattle.sched_core.specs.declared.answers.Picked.TheVariants as picked
 use Rattle.scheduler_steps.specs.Settling.{judged, spend_call, TellsSettle}
-use Rattle.scheduler_steps.specs.Step.{Gives}
 use Rattle.scheduler_steps.specs.Telling.{TellsReserve, WantsMemory}
 use Rattle.scheduler_steps.specs.declared.fault.SchedFault.{SchedFault}
 use Rattle.scheduler_steps.specs.declared.fault.SchedFault.TheVariants.{Core, AssignFailed, Memory}
-use Rattle.sched.specs.Course.{GoesOn, IsAllocation, IsAsked, IsOver, Never}
+use Rattle.sched.specs.Course.{GoesOn, IsAllocation, Never}
 use Rattle.sched.specs.Outside.{Moments, Requests}
 use Rattle.sched.specs.Pass.{Told, Adds}
 use Rattle.sched.specs.Places.{IsEntered, WasAllocated, unmade, alone, both}

@@ -18,7 +18,8 @@ use Rattle.core_rules.specs.declared.start.Start.{Start}
 use Rattle.sched.specs.Lists.{total, below, longer, shorter, merged}
 use Rattle.sched.specs.Rule.{Seen, Holds, Fits, IsHome, IsOut, has_turn, desk_of, SpendsOwn, IsOwnSpending}
 use Rattle.sched.specs.Plays.{Sat, first_view, claimed, recorded, entered, released, compared, newcomer}
-use Rattle.sched.specs.Plays.{joined, spent, Claims, Records, Enters, Releases, Compares, Counts}
+use Rattle.sched.specs.Plays.{joined, spent, with_split, Claims, Records, Enters, Releases, Compares, Counts}
+use Rattle.sched.specs.Plays.{CountsSplit}
 use Rattle.sched.proofs.PrefixLemmas.{prefix_self, prefix_nil, prefix_more, prefix_trans, prefix_shorter}
 use Rattle.sched.proofs.SumLemmas.{total-append, total-set, total-alone, term_le, below_more}
 use Rattle.sched.proofs.OwnLemmas.{own_grown, own_kept, own_joined, total-merged}
@@ -298,6 +299,31 @@ module _ (start : Start) where
         moved start s h id v v at h.log h.made h.turn (length h.log ∷ h.turn ∷ h.made ∷ []) s.homes refl
             h.slot h.legal (h.fits id v at) (λ j u ne there. h.fits j u there) (λ f. refl) refl refl,
         record { is = refl; held = held_few start s h id v at },
+      )
+
+  -- one pass more was split off
+  pub counts_split : (n id : ℕ) (v : View) (carried : List (ℕ × Option Seen))
+      → Allows (Holds start) n id (v, carried) 2 (λ x. x) (λ r me. CountsSplit (v, carried) me)
+  counts_split n id v carried s h wide at _ =
+      let old = h.fits id v at in
+      let me : Sat = (v, carried) in
+      at_words start s.views id me 2 (λ x. x) (λ r x. CountsSplit me x) s.words
+      (length h.log ∷ h.turn ∷ h.made ∷ []) s.homes s.homes h.words refl (
+        with_split v,
+        keeps,
+        tt,
+        moved start s h id v (with_split v) at h.log h.made h.turn
+            (length h.log ∷ h.turn ∷ h.made ∷ []) s.homes refl h.slot h.legal
+            (record {
+              front = old.front;
+              other = old.other;
+              turn = old.turn;
+              idle = old.idle;
+              spent = old.spent;
+              live = old.live;
+            })
+            (λ j u ne there. h.fits j u there) (λ f. refl) refl refl,
+        refl,
       )
 
   -- split

@@ -22,6 +22,7 @@ first_view start = record {
   other = [];
   turn = false;
   held = 1;
+  splits = 0;
   note = 1;
   start = start;
   live = true;
@@ -46,6 +47,10 @@ released v = record v { turn = false }
 abbrev pub compared : View → View
 compared v = record v { other = [] }
 
+-- one pass more was split off
+abbrev pub with_split : View → View
+with_split v = record v { splits = v.splits + 1 }
+
 -- a new pass of as much
 abbrev pub newcomer : View → View
 newcomer v = record {
@@ -54,6 +59,7 @@ newcomer v = record {
   other = [];
   turn = false;
   held = 0;
+  splits = 0;
   note = v.note;
   start = v.start;
   live = v.live;
@@ -67,6 +73,7 @@ joined v w = record {
   other = shorter v.front w.front;
   turn = false;
   held = v.held + w.held;
+  splits = v.splits + w.splits;
   note = v.note;
   start = v.start;
   live = v.live;
@@ -80,6 +87,7 @@ spent = record {
   other = [];
   turn = false;
   held = 0;
+  splits = 0;
   note = 0;
   start = record { base = 0; count = 0; rules = One };
   live = false;
@@ -106,6 +114,9 @@ pub record Records (m n : Sat) : Type 0 where
 
 abbrev pub Enters : Sat → Sat → Type 0
 Enters m n = n ≡ (entered m.0, m.1)
+
+abbrev pub CountsSplit : Sat → Sat → Type 0
+CountsSplit m n = n ≡ (with_split m.0, m.1)
 
 abbrev pub Releases : Sat → Sat → Type 0
 Releases m n = n ≡ (released m.0, [])

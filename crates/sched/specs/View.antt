@@ -14,6 +14,7 @@ told_of of v = record {
   front = v.front;
   own = v.own;
   held = v.held;
+  splits = v.splits;
   made = v.note;
   count = length v.own;
 }
@@ -26,6 +27,7 @@ told_by of [] = record {
   front = [];
   own = [];
   held = 0;
+  splits = 0;
   made = 0;
   count = 0;
 }

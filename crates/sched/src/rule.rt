@@ -42,6 +42,13 @@ impl<A: JobAuthorizer> Play<Option<Desk<A>>, View> for Enter {
     ghost then = { λ st m r n. told.Enters m n };
 }
 
+/// Notes that one pass more was split off.
+pub struct CountSplit;
+
+impl<A: JobAuthorizer> Play<Option<Desk<A>>, View> for CountSplit {
+    ghost then = { λ st m r n. told.CountsSplit m n };
+}
+
 /// Gives the turn back.
 pub struct Release;
 

@@ -2,11 +2,11 @@
 ghost use Rattle.std.specs.Prelude.{◌≡◌, ◌+◌, ◌-◌, ◌<◌, [], ◌∷◌, length, min, true};
 ghost use Rattle.sched.specs.Hand.{HasTurn, IsLive, IsIdle, MayEnter, AreUnited, Begins, MayEnd, ended};
 ghost use Rattle.sched.specs.Hand.{MayRecord, IsRecorded};
-ghost use Rattle.sched.specs.Plays.{entered, released, newcomer};
+ghost use Rattle.sched.specs.Plays.{entered, released, newcomer, with_split};
 ghost use Rattle.sched.specs.declared.view.View.{View};
 
 use crate::desk::Desk;
-use crate::rule::{Claim, Compare, Count, Enter, Part, Record, Release, Unite};
+use crate::rule::{Claim, Compare, Count, CountSplit, Enter, Part, Record, Release, Unite};
 use crate::scheduler::Scheduler;
 use crate::view::View;
 use atomic_table::Badge;
@@ -139,6 +139,18 @@ impl<A: JobAuthorizer> Scheduler<A> {
         let mut seat: Seat<A> = badge.into_seat();
         let new = self.table.shared.split_seat::<Part>(&mut seat);
         (seat.into_badge(), new.into_badge())
+    }
+
+    /// Notes that one pass more was split off that of a badge.
+    pub(crate) fn count_split(&self, badge: Badge<View>) -> Badge<View>
+        requires of { badge.table_id ≡ self.now.of }
+        requires live { IsLive badge.views }
+        ensures of { result.table_id ≡ badge.table_id }
+        ensures counted { (v : View) → badge.views ≡ v ∷ [] → result.views ≡ with_split v ∷ [] }
+    {
+        let mut seat: Seat<A> = badge.into_seat();
+        let _made = self.table.shared.load::<CountSplit>(&mut seat, MADE);
+        seat.into_badge()
     }
 
     /// Makes one pass of two.

@@ -15,6 +15,8 @@ pub struct View {
     pub turn: bool,
     /// How many passes it holds.
     pub held: u64,
+    /// How many passes were split off it, or off one that it took in.
+    pub splits: u64,
     /// How many passes were made, as it was noted.
     pub note: u64,
     /// With what the scheduler began.

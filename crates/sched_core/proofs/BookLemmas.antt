@@ -28,7 +28,7 @@ use Rattle.core_rules.specs.Rows.{servers_of, held_rows, open_rows, sorted_into}
 use Rattle.core_rules.specs.Next.{held_part}
 use Rattle.core_rules.specs.Prune.{prune, left, at_address}
 use Rattle.core_rules.specs.Reap.{is_reaped, reap}
-use Rattle.sched_core.specs.Own.{IsMadeBy, HasJobRoom, AreReapedApart}
+use Rattle.sched_core.specs.Own.{HasJobRoom, AreReapedApart}
 use Rattle.core_rules.specs.declared.call.Call.{Call}
 use Rattle.core_rules.specs.declared.call.Call.TheVariants as call
 use Rattle.core_rules.specs.declared.rows.HeldRow.{HeldRow}
@@ -258,17 +258,6 @@ absorbed start old old_keys new_keys log e fits books legal rule_is keys =
     }
 
 -- room
-
--- only a reserve makes a reservation
-pub made_by : (k : CoreKind) (rows : List ServerRow) (number now : ℕ)
-    → IsMadeBy k (booked_by k rows number now)
-made_by (Reserve r) rows number now = tt
-made_by (Beat server nonce cpus key pruned reaped replaced is_new) rows number now = refl
-made_by (Commit job state kept) rows number now = refl
-made_by (Undo job noted was_ended) rows number now = refl
-made_by (Update server job state answer) rows number now = refl
-made_by (Status pruned servers cpus n) rows number now = refl
-made_by (Drain addr nonce on named) rows number now = refl
 
 found_reg : (rows : List ServerRow) (reg : ℕ) (row : ServerRow) → find (λ r. r.reg == reg) rows ≡ Some row
     → row.reg ≡ reg

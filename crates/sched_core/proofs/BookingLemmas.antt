@@ -16,13 +16,15 @@ use Rattle.dist_types.specs.declared.ids.JobId.{JobId}
 use Rattle.dist_types.specs.declared.results.JobState.{JobState}
 use Rattle.row_index.specs.Following.{HasNone, IsRowOf, IsPlaceOf}
 use Rattle.sched_core.specs.declared.booked.BookedRow.{BookedRow}
+use Rattle.std.proofs.lemmas.Bool.{false≢true}
 use Rattle.core_rules.specs.declared.entry.CoreKind.{CoreKind}
-use Rattle.core_rules.specs.declared.entry.CoreKind.TheVariants.{Reserve, Commit, Undo, Update}
+use Rattle.core_rules.specs.declared.entry.CoreKind.TheVariants.{Beat, Reserve, Commit, Undo, Update}
+use Rattle.core_rules.specs.declared.entry.CoreKind.TheVariants.{Status, Drain}
 use Rattle.core_rules.specs.declared.entry.Reserved.{Reserved}
 use Rattle.core_rules.specs.declared.entry.UpdateAnswer.{UpdateAnswer}
 use Rattle.core_rules.specs.declared.rows.OpenRow.{OpenRow}
 use Rattle.core_rules.specs.Log.{same_job}
-use Rattle.core_rules.specs.Reservation.{spends_by, frees_by, claims_by, is_accepted, is_started}
+use Rattle.core_rules.specs.Reservation.{spends_by, frees_by, claims_by, is_accepted, is_started, is_booked}
 use Rattle.core_rules.specs.Reservation.{is_complete}
 use Rattle.core_rules.specs.Job.{moves_by, is_ready, readied_by}
 use Rattle.core_rules.specs.Next.{begins_by}
@@ -123,6 +125,26 @@ update_leaves now server job state answer b other =
     ∙ ap (λ t. b.unended && not (t || false)) (and_no (is_complete state && is_accepted answer))
     ∙ and_yes b.unended)
 
+-- an update that is not accepted leaves all reservations
+pub refused_leaves : (now : ℕ) (server : Addr) (job : JobId) (state : JobState) (answer : UpdateAnswer)
+    → is_accepted answer ≡ false → (bs : List BookedRow)
+    → bs ≡ map (booked_after (record { now = now; kind = Update server job state answer })) bs
+refused_leaves now server job state answer refused [] = refl
+refused_leaves now server job state answer refused (b ∷ bs) =
+    let kind = Update server job state answer in
+    ap (λ c. c ∷ bs) (sym (same_row now kind b refl
+    (ap (λ t. if t && same_job job b.job then Some state else None) refused)
+    (ap (λ t. if is_ready state && t && same_job job b.job then Some now else None) refused
+    ∙ ap (λ t. if t && same_job job b.job then Some now else None) (and_no (is_ready state)))
+    (ap (λ t. is_started state && t && same_job job b.job) refused
+    ∙ ap (λ t. t && same_job job b.job) (and_no (is_started state)))
+    refl
+    (ap (λ t. b.unended && not ((is_complete state && t && same_job job b.job) || false)) refused
+    ∙ ap (λ t. b.unended && not ((t && same_job job b.job) || false)) (and_no (is_complete state))
+    ∙ and_yes b.unended)))
+    ∙ ap (λ l. booked_after (record { now = now; kind = kind }) b ∷ l)
+    (refused_leaves now server job state answer refused bs)
+
 pub update_frees : (server : Addr) (job : JobId) (state : JobState) (answer : UpdateAnswer)
     → FreesNoOther (Update server job state answer) job
 update_frees server job state answer b other =
@@ -135,6 +157,17 @@ reserve_leaves now r [] = refl
 reserve_leaves now r (b ∷ bs) =
     ap (λ c. c ∷ bs) (sym (same_row now (Reserve r) b refl refl refl refl refl (and_yes b.unended)))
     ∙ ap (λ l. booked_after (record { now = now; kind = Reserve r }) b ∷ l) (reserve_leaves now r bs)
+
+-- what makes a reservation is a reserve
+pub booked_leaves : (now : ℕ) (k : CoreKind) (bs : List BookedRow) → is_booked k ≡ true
+    → bs ≡ map (booked_after (record { now = now; kind = k })) bs
+booked_leaves now (Reserve r) bs is = reserve_leaves now r bs
+booked_leaves now (Beat server nonce cpus key pruned reaped replaced is_new) bs is = absurd (false≢true is)
+booked_leaves now (Commit job state kept) bs is = absurd (false≢true is)
+booked_leaves now (Undo job noted was_ended) bs is = absurd (false≢true is)
+booked_leaves now (Update server job state answer) bs is = absurd (false≢true is)
+booked_leaves now (Status pruned servers cpus n) bs is = absurd (false≢true is)
+booked_leaves now (Drain addr nonce on named) bs is = absurd (false≢true is)
 
 -- an entry of one job
 

@@ -5,7 +5,7 @@ use Rattle.std.proofs.Common.{false, cond}
 use Rattle.std.proofs.Common.{not, ◌&&◌, ◌||◌, map, filter, length, get_or, set, take, drop, Option, Some}
 use Rattle.std.proofs.Common.{None}
 use Rattle.std.proofs.Common.{refl, ap, ◌∙◌, sym, subst, arith, append-nil, length-append, eqb-true, eq-eqb}
-use Rattle.std.specs.Prelude.{◌==◌, slice_get, option_to_list}
+use Rattle.std.specs.Prelude.{◌==◌, slice_get}
 use Rattle.std.specs.List.{AllByRecursion, filter_map, cons_option}
 use Rattle.std.specs.Option.{option_map}
 use Rattle.std.proofs.lemmas.Bool.{false≢true}
@@ -18,7 +18,7 @@ use Rattle.row_index.specs.Lists.{list_at, Puts, AreAlike}
 use Rattle.sched_core.specs.declared.booked.BookedRow.{BookedRow}
 use Rattle.core_rules.specs.declared.entry.CoreEntry.{CoreEntry}
 use Rattle.dist_types.specs.declared.rules.Rules.{Rules}
-use Rattle.core_rules.specs.declared.entry.CoreKind.TheVariants.{Beat, Status, Drain}
+use Rattle.core_rules.specs.declared.entry.CoreKind.TheVariants.{Beat, Drain}
 use Rattle.core_rules.specs.declared.rows.HeldRow.{HeldRow}
 use Rattle.core_rules.specs.declared.rows.OpenRow.{OpenRow}
 use Rattle.core_rules.specs.Log.{names, names_job, is_this, same_job}
@@ -673,8 +673,3 @@ left_last ns i bs le = ap (λ l. left_of l bs) (whole ns i le)
     whole [] (suc i) le = refl
     whole (x ∷ xs) zero le = absurd (omega (arith, le))
     whole (x ∷ xs) (suc i) le = ap (λ l. x ∷ l) (whole xs i (omega (arith, le)))
-
--- where no reservation is made, there is none more
-pub none_more : (bs cs : List BookedRow) (made : Option BookedRow) → made ≡ None → bs ≡ cs
-    → bs ≡ cs ++ option_to_list made
-none_more bs cs made none is = is ∙ sym (append-nil cs) ∙ ap (λ o. cs ++ option_to_list o) (sym none)

@@ -130,8 +130,3 @@ HasRoomFor other room = Unit {0}
 abbrev pub HasJobRoom : CoreKind → Option ℕ → Type 0
 HasJobRoom (Reserve reserved) room = HasRoomFor reserved room
 HasJobRoom other room = Unit {0}
-
--- only a reserve makes a reservation
-abbrev pub IsMadeBy : CoreKind → Option BookedRow → Type 0
-IsMadeBy (Reserve reserved) made = Unit {0}
-IsMadeBy other made = made ≡ None

@@ -191,7 +191,7 @@ pub fn own_row_at(rows: &[BookedRow], place: usize, reg: u64) -> Option<BookedRo
 pub fn is_open(b: &BookedRow) -> bool
     ensures { result ≡ is_open_row b.now }
 {
-    open_part(b).is_some()
+    b.unended && !b.unspent && b.state.is_some()
 }
 
 /// A reservation as an unended one.

@@ -179,9 +179,10 @@ impl Bookings {
     {
         let was_open = is_open(old);
         let opens = is_open(&new);
+        // The row goes first, right after it was read, so that what stays of it is not written.
+        self.rows.put(place, new);
         self.open_ones = recounted(self.open_ones, was_open, opens);
         self.unspent = recounted(self.unspent, old.unspent, new.unspent);
-        self.rows.put(place, new);
     }
 
     // Gives the reservation in a place its row after an entry.

@@ -1,6 +1,6 @@
 //! What the scheduler keeps beside its log. Contracts see it as lists; what the calls ask is asked here.
 ghost use Rattle.std.specs.Prelude.{◌≡◌, ◌==◌, ◌&&◌, ◌<◌, ◌≤◌, ◌+◌, ◌*◌, ◌^◌, ℕ, IfOk, OnOk, true, find};
-ghost use Rattle.std.specs.Prelude.{◌%◌, Some, length, filter, max, IfSome};
+ghost use Rattle.std.specs.Prelude.{◌%◌, Some, false, length, filter, max, IfSome};
 ghost use Rattle.std.specs.List.{list_any};
 ghost use Rattle.std.specs.Option.{option_map};
 ghost use Rattle.core_rules.specs.Log.{same_job};
@@ -8,6 +8,7 @@ ghost use Rattle.core_rules.specs.Pick.{pick};
 ghost use Rattle.core_rules.specs.Prune.{prune};
 ghost use Rattle.core_rules.specs.Rule.{noted_over, reserved_at, beat_over, drain_over, counts_over, reaped_by};
 ghost use Rattle.core_rules.specs.Rule.{is_left};
+ghost use Rattle.core_rules.specs.Reservation.{is_booked};
 ghost use Rattle.core_rules.specs.Reap.{reap};
 ghost use Rattle.core_rules.specs.Laws.{AreRising};
 ghost use Rattle.sched_core.specs.Own.{HasRoomFor, HasJobRoom, AreReapedApart};
@@ -18,11 +19,12 @@ ghost use Rattle.sched_core.specs.Registrations.{AreFew, AreSoundRows, decide_lo
 
 use crate::booked::{booked, job_made};
 use crate::bookings::Bookings;
-use crate::change::{absorb_rows, push_row};
+use crate::change::{absorb_rows, push_made};
 use crate::own::Reaping;
 use crate::registrations::Registrations;
 use crate::rows::{Jobs, Servers};
 use crate::{decide, own};
+use core_rules::effects::is_reservation;
 use core_rules::entry::{CoreEntry, CoreKind, Reserved};
 use core_rules::rows::{OpenRow, ServerRow};
 use core_rules::standing;
@@ -349,10 +351,50 @@ impl Books {
         ensures looks { (h : ℕ) → self.old.places ≤ 2 ^ h
             → AreFew step.entry.now.kind h steps.old steps.new }
     {
+        if is_reservation(&step.kind) {
+            self.absorb_reservation(step, number, steps);
+        } else {
+            self.absorb_other(step, number, steps);
+        }
+    }
+
+    // The same of an entry that makes a reservation.
+    fn absorb_reservation<L: Ledger>(&mut self, step: &CoreEntry, number: u64, steps: &mut Steps<L>)
+        requires booked { is_booked step.now.kind ≡ true }
+        requires above { self.old.top ≤ number }
+        requires job_room { HasJobRoom step.now.kind self.old.job_room }
+        requires apart { AreReapedApart step.now.kind }
+        requires follows { IfSome (booked_by step.now.kind self.old.lists.rows number step.now.now)
+            (λ b. b.job.0 ≡ (self.old.first + length self.old.lists.booked) % 2 ^ 64) }
+        ensures lists { self.new.lists ≡ lists_next self.old.lists step.entry.now number }
+        ensures first { self.new.first ≡ self.old.first }
+        ensures top { self.new.top ≤ number + 1 }
+        ensures places { self.new.places ≡ self.old.places }
+        ensures looks { (h : ℕ) → self.old.places ≤ 2 ^ h
+            → AreFew step.entry.now.kind h steps.old steps.new }
+    {
         let job = job_made(&step.kind, &self.rows, number, step.now);
         let made = booked(&job);
         absorb_rows(&mut self.rows, &self.bookings, step, steps);
-        push_row(&mut self.rows, standing::row_made(step, number), steps);
-        own::absorb(&mut self.bookings, &mut self.own, step, made);
+        own::absorb_made(&mut self.bookings, &mut self.own, step, made);
+    }
+
+    // The same of any other entry.
+    fn absorb_other<L: Ledger>(&mut self, step: &CoreEntry, number: u64, steps: &mut Steps<L>)
+        requires other { is_booked step.now.kind ≡ false }
+        requires sound { AreSoundRows (rows_next self.old.lists step.now number) }
+        requires above { self.old.top ≤ number }
+        requires row_room { MayRegister step.now.kind → self.old.has_row_room ≡ true }
+        requires apart { AreReapedApart step.now.kind }
+        ensures lists { self.new.lists ≡ lists_next self.old.lists step.entry.now number }
+        ensures first { self.new.first ≡ self.old.first }
+        ensures top { self.new.top ≤ number + 1 }
+        ensures places { self.new.places ≡ self.old.places }
+        ensures looks { (h : ℕ) → self.old.places ≤ 2 ^ h
+            → AreFew step.entry.now.kind h steps.old steps.new }
+    {
+        absorb_rows(&mut self.rows, &self.bookings, step, steps);
+        push_made(&mut self.rows, step, number, steps);
+        own::absorb(&mut self.bookings, &mut self.own, step);
     }
 }

@@ -7,8 +7,8 @@ ghost use Rattle.std.specs.Option.{option_map};
 ghost use Rattle.core_rules.specs.Log.{names, is_this, same_job};
 ghost use Rattle.core_rules.specs.Next.{row_after, row_freed, row_stays, served_by, settled};
 ghost use Rattle.sched_core.specs.Books.{row_lowered};
-ghost use Rattle.sched_core.specs.Books.{FreesNoOther, lowered_in};
-ghost use Rattle.core_rules.specs.Next.{place_if};
+ghost use Rattle.sched_core.specs.Books.{FreesNoOther, MayRegister, lowered_in};
+ghost use Rattle.core_rules.specs.Next.{place_if, row_by};
 ghost use Rattle.sched_core.specs.Changes.{row_changed, row_changed_at, row_changed_if, row_forgiven};
 ghost use Rattle.sched_core.specs.Changes.{row_reserved, row_renewed};
 ghost use Rattle.sched_core.specs.Registrations.{AreFew, reserve_looks, AreSoundRows};
@@ -24,7 +24,7 @@ use crate::registrations::Registrations;
 use core_rules::effects::{frees, heard, is_number};
 use core_rules::entry::{CoreEntry, CoreKind, Reserved};
 use core_rules::rows::ServerRow;
-use core_rules::standing::{one_more, place_of};
+use core_rules::standing::{one_more, place_of, row_made};
 use dist_types::ids::{JobId, ServerId};
 use row_index::Steps;
 use std::sync::ledger::Ledger;
@@ -400,7 +400,8 @@ fn seen_in(found: &Option<BookedRow>, heard: bool) -> Option<u64>
     }
 }
 
-/// The same. A reserve looks at no more nodes of the trees than it must, and an update changes one row once.
+/// The same. A reserve looks at no more nodes of the trees than it must, a commit at no row, and an update
+/// changes one row once.
 #[inline(always)]
 pub fn absorb_rows<L: Ledger>(
     rows: &mut Registrations,
@@ -417,7 +418,7 @@ pub fn absorb_rows<L: Ledger>(
 {
     match &step.kind {
         CoreKind::Reserve(reserved) => reserve(rows, reserved, steps),
-        CoreKind::Commit { .. } => settle(rows, bookings, step, steps),
+        CoreKind::Commit { .. } => (),
         CoreKind::Undo { .. } => settle(rows, bookings, step, steps),
         CoreKind::Beat { .. } => settle(rows, bookings, step, steps),
         CoreKind::Update { job, answer, .. } => {
@@ -433,7 +434,7 @@ pub fn absorb_rows<L: Ledger>(
 
 /// Adds a registration, if there is one.
 #[inline(always)]
-pub fn push_row<L: Ledger>(rows: &mut Registrations, row: Option<ServerRow>, steps: &mut Steps<L>)
+fn push_row<L: Ledger>(rows: &mut Registrations, row: Option<ServerRow>, steps: &mut Steps<L>)
     requires room { IsSome row → rows.old.places.has_left ≡ true }
     requires above { IfSome row (λ r. rows.old.places.top ≤ r.reg) }
     requires sound { AreSoundRows (rows.old.rows ++ option_to_list row) }
@@ -446,5 +447,28 @@ pub fn push_row<L: Ledger>(rows: &mut Registrations, row: Option<ServerRow>, ste
     match row {
         Some(row) => rows.push(row, steps),
         None => (),
+    }
+}
+
+/// Adds the registration that an entry of this number makes, if it makes one.
+#[inline(always)]
+pub fn push_made<L: Ledger>(
+    rows: &mut Registrations,
+    step: &CoreEntry,
+    number: u64,
+    steps: &mut Steps<L>,
+)
+    requires room { MayRegister step.now.kind → rows.old.places.has_left ≡ true }
+    requires above { rows.old.places.top ≤ number }
+    requires sound { AreSoundRows (rows.old.rows ++
+        option_to_list (row_by step.now.kind number step.now.now)) }
+    ensures rows { rows.new.rows ≡ rows.old.rows ++
+        option_to_list (row_by step.entry.now.kind number step.entry.now.now) }
+    ensures count { rows.new.places.count ≡ rows.old.places.count }
+    ensures top { rows.new.places.top ≤ number + 1 }
+    ensures none { row_by step.entry.now.kind number step.entry.now.now ≡ None → steps.new ≡ steps.old }
+{
+    if step.is_new_beat() {
+        push_row(rows, row_made(step, number), steps);
     }
 }

@@ -1,19 +1,21 @@
 //! The reservations of a registration, by the list that is kept of their places.
-ghost use Rattle.std.specs.Prelude.{◌≡◌, ◌<◌, ◌+◌, ◌%◌, ◌^◌, ◌++◌, ◌∷◌, [], Some, IfOk, IfSome, OnOk, length, map};
+ghost use Rattle.std.specs.Prelude.{◌≡◌, true, ◌<◌, ◌+◌, ◌%◌, ◌^◌, ◌++◌, ◌∷◌, [], Some, IfOk, IfSome, OnOk, length, map};
 ghost use Rattle.std.specs.Prelude.{◌*◌, filter, nat_le, option_to_list};
 ghost use Rattle.std.specs.List.{filter_map};
 ghost use Rattle.core_rules.specs.Reap.{is_reaped, reap};
 ghost use Rattle.core_rules.specs.Rule.{is_left};
+ghost use Rattle.core_rules.specs.Reservation.{is_booked};
 ghost use Rattle.core_rules.specs.Laws.{AreRising};
 ghost use Rattle.sched_core.specs.Books.{booked_after};
 ghost use Rattle.sched_core.specs.Booked.{held_part_of, held_view, open_view};
 ghost use Rattle.sched_core.specs.Own.{is_own_at, own_row_at, IsOwnList, AreOwn, is_open_row, room_for};
-ghost use Rattle.sched_core.specs.Own.{ended_at, ended_at_all, ended_if, ended_jobs, IsMadeBy, swept_list};
+ghost use Rattle.sched_core.specs.Own.{ended_at, ended_at_all, ended_if, ended_jobs, swept_list};
 ghost use Rattle.row_index.specs.Lists.{list_at};
 
 use crate::booked::{BookedRow, held_part, is_open, own_row_at};
 use crate::bookings::Bookings;
 use crate::own_places::OwnPlaces;
+use core_rules::effects::accepted;
 use core_rules::entry::{CoreEntry, CoreKind};
 use core_rules::rules::reapable;
 use dist_types::ids::JobId;
@@ -240,16 +242,16 @@ fn beat(
     bookings.end_jobs(reaped);
 }
 
-/// Takes an entry into the books, and the reservation that it makes, if it makes one. It takes no memory.
+/// Takes an entry that makes a reservation into the books, with that reservation. It takes no memory.
 #[inline(always)]
-pub fn absorb(
+pub fn absorb_made(
     bookings: &mut Bookings,
     own: &mut NumberedLists,
     step: &CoreEntry,
     made: Option<BookedRow>,
 )
+    requires booked { is_booked step.now.kind ≡ true }
     requires own { AreOwn bookings.old.rows own.old.lists }
-    requires made { IsMadeBy step.now.kind made }
     requires room { IfSome made (λ b. room_for bookings.old.has_room own.old.ready ≡ Some b.reg) }
     requires follows { IfSome made
         (λ b. b.job.0 ≡ (bookings.old.first + length bookings.old.rows) % 2 ^ 64) }
@@ -257,8 +259,19 @@ pub fn absorb(
     ensures first { bookings.new.first ≡ bookings.old.first }
     ensures own { AreOwn bookings.new.rows own.new.lists }
 {
+    push_if(bookings, own, made);
+}
+
+/// Takes an entry into the books of the reservations that were made before it. It takes no memory.
+#[inline(always)]
+pub fn absorb(bookings: &mut Bookings, own: &mut NumberedLists, step: &CoreEntry)
+    requires { AreOwn bookings.old.rows own.old.lists }
+    ensures rows { bookings.new.rows ≡ map (booked_after step.entry.now) bookings.old.rows }
+    ensures first { bookings.new.first ≡ bookings.old.first }
+    ensures own { AreOwn bookings.new.rows own.new.lists }
+{
     match &step.kind {
-        CoreKind::Reserve(_) => push_if(bookings, own, made),
+        CoreKind::Reserve(_) => (),
         CoreKind::Commit { job, .. } => bookings.settle(*job, step),
         CoreKind::Undo { job, .. } => bookings.settle(*job, step),
         CoreKind::Beat {
@@ -269,7 +282,11 @@ pub fn absorb(
         } => {
             beat(bookings, own, pruned.get(), *replaced, reaped.get());
         }
-        CoreKind::Update { job, .. } => bookings.settle(*job, step),
+        CoreKind::Update { job, answer, .. } => {
+            if accepted(*answer) {
+                bookings.settle(*job, step);
+            }
+        }
         CoreKind::Status { pruned, .. } => end_all(bookings, own, pruned.get()),
         CoreKind::Drain { .. } => (),
     }

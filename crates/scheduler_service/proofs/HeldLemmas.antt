@@ -1,5 +1,5 @@
 -- What becomes of passes that are used, split off and joined.
-use Rattle.std.proofs.Common.{◌≡◌, ℕ, suc, ◌+◌, ◌<◌, List, [], ◌∷◌, ◌++◌, length, map, true, false, refl, sym}
+use Rattle.std.proofs.Common.{◌≡◌, ℕ, suc, ◌<◌, List, [], ◌∷◌, ◌++◌, length, map, true, false, refl, sym}
 use Rattle.std.proofs.Common.{ap, ◌∙◌, subst, cond, append_assoc, arith}
 use Rattle.std.specs.Prelude.{All, nat_le, slice_index_or, Result, Ok, Err, OnErr}
 use Rattle.std.specs.List.{sum_by}
@@ -9,8 +9,9 @@ use Rattle.std.proofs.lemmas.List.Sums.{sum_by-cons, sum_by_push}
 use mathlib.Core.List.{IsPrefix}
 use Rattle.core_rules.specs.declared.entry.CoreEntry.{CoreEntry}
 use Rattle.sched.specs.Lists.{longer, shorter, merged}
-use Rattle.sched.specs.Pass.{Told, Whose, IsPassOf, IsSplit, IsJoined, Stays, count_of, held_of}
-use Rattle.scheduler_service.specs.Workers.{longest, all_places, AreJoined, AreTakenBack}
+use Rattle.sched.specs.Pass.{Told, Whose, IsPassOf, IsSplit, IsJoined, Stays, count_of, held_of, splits_of}
+use Rattle.sched.specs.Pass.{split_off}
+use Rattle.scheduler_service.specs.Workers.{longest, all_places, AreJoined, AreTakenBack, HasAllBack}
 
 -- ---- lists that begin others
 
@@ -28,6 +29,7 @@ stays_on a b c first next = record {
   of = next.of ∙ first.of;
   start = next.start ∙ first.start;
   held = next.held ∙ first.held;
+  splits = next.splits ∙ first.splits;
 }
 
 pub still_of : (scheduler : Whose) (a b : Told) → IsPassOf scheduler a → Stays a b → IsPassOf scheduler b
@@ -35,6 +37,33 @@ still_of scheduler a b is stays = record { of = stays.of ∙ is.of; start = stay
 
 pub split_of : (scheduler : Whose) (a b : Told) → IsPassOf scheduler a → IsSplit a b → IsPassOf scheduler b
 split_of scheduler a b is split = record { of = split.of ∙ is.of; start = split.start ∙ is.start }
+
+-- what is split off a pass is so of the pass that counts it
+pub split_late : (k : ℕ) (a b : Told) → IsSplit a b → IsSplit (split_off k a) b
+split_late k a b split = record {
+  of = split.of;
+  start = split.start;
+  front = split.front;
+  own = split.own;
+  held = split.held;
+  splits = split.splits;
+  count = split.count;
+}
+
+pub split_early : (k : ℕ) (a b : Told) → IsSplit (split_off k a) b → IsSplit a b
+split_early k a b split = record {
+  of = split.of;
+  start = split.start;
+  front = split.front;
+  own = split.own;
+  held = split.held;
+  splits = split.splits;
+  count = split.count;
+}
+
+pub counting_of : (scheduler : Whose) (k : ℕ) (a : Told) → IsPassOf scheduler a
+    → IsPassOf scheduler (split_off k a)
+counting_of scheduler k a is = record { of = is.of; start = is.start }
 
 -- ---- passes that are joined, one after another
 
@@ -68,6 +97,7 @@ none_joined a = record {
   own = refl;
   count = omega arith;
   held = omega arith;
+  splits = omega arith;
 }
 
 pub one_joined : (passes : List Told) (p a b c : Told) → AreJoined passes a b → IsJoined b p c
@@ -88,6 +118,7 @@ one_joined passes p a b c before one =
       own = one.own ∙ (ap (λ o. merged o p.own) before.own ∙ sym (places_push a.own passes p));
       count = omega (arith, one.count, before.count, sum_by_push count_of passes p);
       held = omega (arith, one.held, before.held, sum_by_push held_of passes p);
+      splits = omega (arith, one.splits, before.splits, sum_by_push splits_of passes p);
     }
 
 -- where no pass was split off, the pass stays
@@ -96,7 +127,17 @@ none_taken most a = record {
   passes = [];
   within = omega arith;
   split = All-nil (IsSplit a);
-  joined = none_joined a;
+  joined = record {
+    of = refl;
+    start = refl;
+    front = refl;
+    begins = prefix_self a.front;
+    begin = All-nil (λ p. IsPrefix p.front a.front);
+    own = refl;
+    count = omega arith;
+    held = omega arith;
+    splits = omega arith;
+  };
 }
 
 pub on_err : {X E : Type 0} (r : Result X E) (P : Type 0) → P → OnErr r P
@@ -116,6 +157,34 @@ sum_same f (x ∷ xs) (y ∷ ys) e same =
     let first : f y ≡ f x = same 0 x (omega arith) in
     let rest = sum_same f xs ys (omega (arith, e)) (λ i d below. same (suc i) d (omega (arith, below))) in
     omega (arith, sum_by-cons f x xs, sum_by-cons f y ys, first, rest)
+
+-- a sum of ones, and of nothing
+pub sum_ones : {W : Type 0} (f : W → ℕ) (ws : List W) → All (λ w. f w ≡ 1) ws → sum_by f ws ≡ length ws
+sum_ones f [] all = refl
+sum_ones f (w ∷ ws) all =
+    let first : f w ≡ 1 = all 0 w (omega arith) in
+    let rest = sum_ones f ws (λ i d below. all (suc i) d (omega (arith, below))) in
+    omega (arith, sum_by-cons f w ws, first, rest)
+
+pub sum_none : {W : Type 0} (f : W → ℕ) (ws : List W) → All (λ w. f w ≡ 0) ws → sum_by f ws ≡ 0
+sum_none f [] all = refl
+sum_none f (w ∷ ws) all =
+    let first : f w ≡ 0 = all 0 w (omega arith) in
+    let rest = sum_none f ws (λ i d below. all (suc i) d (omega (arith, below))) in
+    omega (arith, sum_by-cons f w ws, first, rest)
+
+-- passes that were taken back are all that were split off
+pub all_back : (most : ℕ) (a b : Told) → AreTakenBack most a b → HasAllBack a b
+all_back most a b taken =
+    let none = sum_none splits_of taken.passes
+    (All-weaker (IsSplit a) (λ p. splits_of p ≡ 0) (λ p split. split.splits) taken.passes taken.split) in
+    let ones = sum_ones held_of taken.passes
+    (All-weaker (IsSplit a) (λ p. held_of p ≡ 1) (λ p split. split.held) taken.passes taken.split) in
+    record {
+      number = length taken.passes;
+      splits = omega (arith, taken.joined.splits, none);
+      held = omega (arith, taken.joined.held, ones);
+    }
 
 pub sum_mapped : {W P : Type 0} (g : W → P) (f : P → ℕ) (ws : List W) → sum_by f (map g ws) ≡ sum_by
     (λ w. f (g w)) ws

@@ -3,11 +3,12 @@ use Rattle.std.proofs.Common.{◌≡◌, ℕ, ◌<◌, List, [], ◌∷◌, ◌+
 use Rattle.std.specs.Prelude.{All, slice_index_or}
 use Rattle.std.specs.List.{sum_by}
 use Rattle.std.proofs.lemmas.List.{get_or-map, length-map, map-append, length-append}
-use Rattle.std.proofs.lemmas.List.Elements.{All-push}
+use Rattle.std.proofs.lemmas.List.Elements.{All-push, All-weaker}
 use Rattle.std.proofs.lemmas.List.Sums.{sum_by_push}
-use Rattle.sched.specs.Pass.{Told, Whose, IsPassOf, IsSplit, IsJoined, Stays}
-use Rattle.scheduler_service.specs.Workers.{AreJoined}
-use Rattle.scheduler_service.proofs.HeldLemmas.{one_joined, split_of, still_of}
+use Rattle.sched.specs.Pass.{Told, Whose, IsPassOf, IsSplit, IsJoined, Stays, split_off, held_of, splits_of}
+use Rattle.scheduler_service.specs.Workers.{AreJoined, HasAllBack}
+use Rattle.scheduler_service.proofs.HeldLemmas.{one_joined, split_of, still_of, split_late, split_early}
+use Rattle.scheduler_service.proofs.HeldLemmas.{sum_mapped, sum_none, sum_same}
 
 -- ---- one after another
 
@@ -48,6 +49,18 @@ stayed_of pass scheduler xs ys same of stay =
     still_of scheduler (pass (slice_index_or xs i d)) (pass (slice_index_or ys i d)) (of i d within)
     (stay i d within)
 
+-- ---- of which pass they were split off
+
+pub hired_late : (k : ℕ) (a b : Told) (ps : List Told) → b ≡ split_off k a → All (IsSplit a) ps → All (IsSplit b) ps
+hired_late k a b ps is split = subst (λ x. All (IsSplit x) ps) (sym is)
+    (All-weaker (IsSplit a) (IsSplit (split_off k a)) (λ p one. split_late k a p one) ps split)
+
+pub hired_early : {W : Type 0} (pass : W → Told) (k : ℕ) (a b : Told) (ws : List W) → b ≡ split_off k a
+    → All (λ w. IsSplit b (pass w)) ws → All (λ w. IsSplit a (pass w)) ws
+hired_early pass k a b ws is split =
+    All-weaker (λ w. IsSplit (split_off k a) (pass w)) (λ w. IsSplit a (pass w))
+    (λ w one. split_early k a (pass w) one) ws (subst (λ x. All (λ w. IsSplit x (pass w)) ws) is split)
+
 -- ---- what is gathered of them
 
 pub one_gathered : {W T : Type 0} (kit : W → T) (pass : W → Told) (ws : List W) (w : W) (ts new : List T)
@@ -59,6 +72,22 @@ one_gathered kit pass ws w ts new a b c kits is joined one = (
   subst (λ ps. AreJoined ps a c) (sym (map-append pass ws (w ∷ [])))
       (one_joined (map pass ws) (pass w) a b c joined one),
 )
+
+-- their passes are all that were split off, so that none is out
+pub gathered_all : {W : Type 0} (pass : W → Told) (k : ℕ) (a b : Told) (xs ys : List W) → length ys ≡ length xs
+    → All (λ w. IsSplit a (pass w)) xs → sum_by (λ w. held_of (pass w)) xs ≡ k
+    → ((i : ℕ) (d : W) → i < length xs → Stays (pass (slice_index_or xs i d)) (pass (slice_index_or ys i d)))
+    → AreJoined (map pass ys) (split_off k a) b → HasAllBack a b
+gathered_all pass k a b xs ys same split hold stay joined =
+    let none = sum_none (λ w. splits_of (pass w)) xs
+    (All-weaker (λ w. IsSplit a (pass w)) (λ w. splits_of (pass w) ≡ 0) (λ w one. one.splits) xs split) in
+    let splits = sum_same (λ w. splits_of (pass w)) xs ys same (λ i d below. (stay i d below).splits) in
+    let held = sum_same (λ w. held_of (pass w)) xs ys same (λ i d below. (stay i d below).held) in
+    record {
+      number = k;
+      splits = omega (arith, joined.splits, sum_mapped pass splits_of ys, splits, none);
+      held = omega (arith, joined.held, sum_mapped pass held_of ys, held, hold);
+    }
 
 -- what holds of each worker holds of each kit, and of the passes that they began and ended with
 pub each_worker : {W T P : Type 0} (kit : W → T) (pass : W → P) (Q : T → P → T → P → Type 0)

@@ -1,12 +1,10 @@
 -- Two connections that meet the same, step by step.
-use Rattle.std.proofs.Common.{◌≡◌, ◌≢◌, ℕ, ◌+◌, Bool, List, [], ◌∷◌, ◌++◌, drop, length, map, refl}
+use Rattle.std.proofs.Common.{◌≡◌, ◌≢◌, ℕ, Bool, List, [], ◌∷◌, ◌++◌, drop, length, map, refl}
 use Rattle.std.proofs.Common.{Option, Some, None, Result, Ok, Err, inl, inr, sym, ap, ◌∙◌, subst}
 use Rattle.std.specs.Prelude.{IfSome, option_map, slice_get, ⊤}
 use Rattle.dist_types.specs.Clock.{next_moment}
-use Rattle.dist_types.specs.Content.{Taken, Added}
+use Rattle.dist_types.specs.Content.{Added}
 use Rattle.dist_types.specs.declared.addr.Addr.{Addr}
-use Rattle.dist_types.specs.declared.dialer.AskFault.{AskFault}
-use Rattle.dist_types.specs.declared.dialer.AskFault.TheVariants as ask
 use Rattle.dist_types.specs.declared.dialer.Asked.{Asked}
 use Rattle.dist_types.specs.declared.ids.JobId.{JobId}
 use Rattle.dist_types.specs.declared.outgoing.CallFault.{CallFault}
@@ -29,8 +27,6 @@ use Rattle.sched_core.specs.declared.answers.Picked.TheVariants.{Reserved}
 use Rattle.scheduler_steps.specs.Settling.{judged, spend_call}
 use Rattle.scheduler_replies.specs.ByEntry.{reply_by, settled_reply, RepliesAt}
 use Rattle.http_head.specs.declared.request.Request.{Request}
-use Rattle.http_head.proofs.CutLemmas.{one_cut}
-use Rattle.http_head.proofs.HeadLemmas.{one_request}
 use Rattle.http_routes.specs.Admission.{client_token, admission_by, Admits}
 use Rattle.http_routes.specs.Reply.{reply_text}
 use Rattle.http_routes.specs.Route.{asked_of, answered}
@@ -38,70 +34,33 @@ use Rattle.http_routes.specs.declared.admission.Admission.{Admission}
 use Rattle.http_routes.specs.declared.reply.Response.{Response}
 use Rattle.http_routes.specs.declared.route.SchedRouted.{SchedRouted}
 use Rattle.http_routes.specs.declared.route.SchedRouted.TheVariants as asked
-use Rattle.http_routes.proofs.CallLemmas as calls
+use Rattle.http_connections.specs.Alike.{HearAlike}
 use Rattle.http_connections.specs.Form.{form_of}
 use Rattle.http_connections.specs.Hearing.{Hears}
 use Rattle.http_connections.specs.Served.{Shown, IsServedBy}
-use Rattle.http_connections.specs.Taking.{Reads, TakesCut}
+use Rattle.http_connections.specs.Taking.{TakesCut}
 use Rattle.http_connections.specs.declared.served.Served.TheVariants.{Answered}
+use Rattle.http_connections.proofs.AlikeLemmas.{some_same, drop_front, head_same, same_taken, hears_once}
 use Rattle.sched.specs.Outside.{Moments, IsRead, IsReadAt, IsCalled, row_for}
 use Rattle.sched.specs.Pass.{Told, Adds}
 use Rattle.sched.specs.Turn.{core_before, place_made}
 use Rattle.scheduler_service.specs.ByEntries.{IsAnswered, IsAskedAt, IsDoneAt}
 use Rattle.scheduler_service.specs.Connection.{Around, Routing, Asks, Does, IsReplied}
-use Rattle.scheduler_service.specs.OneAnswer.{found_by, made_by, HearAlike, AnswersOnce, MeetAlike, EndAlike}
+use Rattle.scheduler_service.specs.OneAnswer.{found_by, made_by, AnswersOnce, MeetAlike, EndAlike}
 use Rattle.scheduler_service.specs.Replied.{Means, requests_over, job_token}
 use Rattle.scheduler_service.specs.Requested.{IsAskedFor}
-
-some_same : {X : Type 0} (x y : X) → Some x ≡ Some y → x ≡ y
-some_same x y is = cc is
 
 ok_same : {X E : Type 0} (x y : X) → ◌≡◌ {A = Result X E} (Ok x) (Ok y) → x ≡ y
 ok_same x y is = cc is
 
 -- ---- lists
 
-drop_front : {X : Type 0} (xs ys : List X) → drop (length xs) (xs ++ ys) ≡ ys
-drop_front [] ys = refl
-drop_front (x ∷ xs) ys = drop_front xs ys
-
 drop_all : {X : Type 0} (xs : List X) → drop (length xs) xs ≡ []
 drop_all [] = refl
 drop_all (x ∷ xs) = drop_all xs
 
-head_same : {X : Type 0} (x y : X) (xs ys : List X) → x ∷ xs ≡ y ∷ ys → x ≡ y
-head_same x y xs ys is = cc is
-
 second_same : {X : Type 0} (w x y z : X) (xs ys : List X) → w ∷ x ∷ xs ≡ y ∷ z ∷ ys → x ≡ z
 second_same w x y z xs ys is = cc is
-
-same_behind : (xs ys zs : List ℕ) → xs ++ ys ≡ xs ++ zs → ys ≡ zs
-same_behind [] ys zs is = is
-same_behind (x ∷ xs) ys zs is = same_behind xs ys zs (cc is)
-
--- ---- what is taken
-
-same_rest : (cut bytes : List ℕ) (new after : Option (List ℕ)) → Taken cut (Some bytes) new
-    → Taken cut (Some bytes) after → new ≡ after
-same_rest cut bytes None None a b = refl
-same_rest cut bytes None (Some y) a b = absurd (cc a)
-same_rest cut bytes (Some x) None a b = absurd (cc b)
-same_rest cut bytes (Some x) (Some y) a b =
-    ap (λ (l : List ℕ). Some l) (same_behind cut x y (some_same (cut ++ x) (cut ++ y) (sym a ∙ b)))
-
-same_reads : (cut : List ℕ) (r q : Option Request) → Reads cut r → Reads cut q → r ≡ q
-same_reads cut None None a b = refl
-same_reads cut None (Some q) a b = absurd (a q b)
-same_reads cut (Some r) None a b = absurd (b r a)
-same_reads cut (Some r) (Some q) a b = ap (λ (x : Request). Some x) (one_request cut r q a b)
-
-same_taken : (bytes : List ℕ) (new after : Option (List ℕ)) (r q : Option Request) → TakesCut bytes new r
-    → TakesCut bytes after q → (r ≡ q) × (new ≡ after)
-same_taken bytes new after r q (cut, is_cut, taken, reads) (other, is_other, took, read) =
-    let same : cut ≡ other = one_cut bytes cut other is_cut is_other in (
-      same_reads cut r q reads (subst (λ c. Reads c q) (sym same) read),
-      same_rest cut bytes new after taken (subst (λ c. Taken c (Some bytes) after) (sym same) took),
-    )
 
 -- ---- moments
 
@@ -270,12 +229,6 @@ picked_once log (core.Update server job state answer) r q a b = absurd a
 picked_once log (core.Status pruned servers cpus jobs) r q a b = absurd a
 picked_once log (core.Drain server nonce on reg) r q a b = absurd a
 
-hears_once : (answer : Result (List ℕ) AskFault) (h k : Result AssignJobResult CallFault) → h ≢ Err Memory
-    → k ≢ Err Memory → Hears assign_at answer h → Hears assign_at answer k → h ≡ k
-hears_once (Ok reply) h k some other a b = calls.one_answer assign_at reply h k (a some) (b other)
-hears_once (Err ask.Failed) h k some other a b = a ∙ sym b
-hears_once (Err ask.Memory) h k some other a b = absurd (some a)
-
 -- the one row of a dialer that was lent
 one_row : (name : ℕ) (r : Ticket) (tc : List ℕ) (heard : Result AssignJobResult CallFault) (old new : Means)
     (first last : List Asked)
@@ -303,7 +256,7 @@ same_heard name other r q tc h k old new before after a b some too alike =
     let answers = ap (map (λ (z : Asked). z.answer)) (sym x.1)
     ∙ (alike.heard ∙ ap (map (λ (z : Asked). z.answer)) y.1) in
     let same : x.0.answer ≡ y.0.answer = head_same x.0.answer y.0.answer [] [] answers in
-    hears_once x.0.answer h k some too x.2 (subst (λ v. Hears assign_at v k) (sym same) y.2)
+    hears_once assign_at x.0.answer h k some too x.2 (subst (λ v. Hears assign_at v k) (sym same) y.2)
 
 same_asked : (json : Bool) (tc : List ℕ) (old new before after : Means) (r s : Response) (coming : List ℕ)
     → old.clock.coming ≡ Some coming → before.clock ≡ old.clock

@@ -30,7 +30,7 @@ pub allocation_stays : (key_of : List ℕ → List ℕ) (token_for : List ℕ �
     → IsAllocation key_of token_for says tc old new clock ticked before after answer → Stays old new
 allocation_stays key_of token_for says tc old new clock ticked before after answer a =
     let counted = a.added.counted in
-    record { of = counted.of; start = counted.start; held = counted.held }
+    record { of = counted.of; start = counted.start; held = counted.held; splits = counted.splits }
 
 -- an allocation over a requester that was lent the dialer
 pub allocated_over : (name : ℕ) (tc : List ℕ) (old new : Means) (answer : Result AllocJobResult SchedFault)

@@ -1,10 +1,10 @@
 -- A call of a dialer that was lent, and what is heard of it.
-use Rattle.std.proofs.Common.{◌≡◌, ◌≢◌, ◌⊎◌, ℕ, List, [], ◌∷◌, ◌++◌, Option, Some, None, Result, Ok, Err}
+use Rattle.std.proofs.Common.{◌≡◌, ◌≢◌, ℕ, List, [], ◌∷◌, ◌++◌, Option, Some, None, Result, Ok, Err}
 use Rattle.std.proofs.Common.{refl, ◌∙◌, ap, inr}
 use Rattle.std.specs.Prelude.{IfSome}
 use Rattle.dist_types.specs.Content.{Recorded}
 use Rattle.dist_types.specs.Dialer.{asked_row}
-use Rattle.dist_types.specs.Outgoing.{Lent, Calls, assigned_row}
+use Rattle.dist_types.specs.Outgoing.{Calls, assigned_row}
 use Rattle.dist_types.specs.declared.addr.Addr.{Addr}
 use Rattle.dist_types.specs.declared.dialer.Asked.{Asked}
 use Rattle.dist_types.specs.declared.ids.JobId.{JobId}

@@ -1,5 +1,5 @@
 -- What is replied to a request whose body was dropped.
-use Rattle.std.proofs.Common.{◌≡◌, ◌≢◌, ◌⊎◌, ℕ, Bool, true, List, [], Option, Some, None, Result, Ok, Err, refl}
+use Rattle.std.proofs.Common.{◌≡◌, ◌≢◌, ℕ, Bool, true, List, Option, Some, None, Result, Ok, Err, refl}
 use Rattle.std.proofs.Common.{◌∙◌, sym, ap, subst, inl, inr}
 use Rattle.std.specs.Prelude.{⊤, is_err}
 use Rattle.dist_types.specs.declared.addr.Addr.{Addr}
@@ -7,13 +7,12 @@ use Rattle.dist_types.specs.declared.rules.Rules.{Rules}
 use Rattle.dist_types.specs.declared.token_error.TokenError.{TokenError}
 use Rattle.http_head.specs.declared.request.Request.{Request}
 use Rattle.http_routes.specs.Admission.{client_token, admission_by, Admits, MayBeAsked}
-use Rattle.http_routes.specs.Route.{asked_of, answered, wants_json, IsRouted}
+use Rattle.http_routes.specs.Route.{answered, wants_json}
 use Rattle.http_routes.specs.Settled.{with_body, MaySay, IsSettledAt}
 use Rattle.http_routes.specs.declared.admission.Admission.{Admission}
 use Rattle.http_routes.specs.declared.admission.Admission.TheVariants.{Admitted}
 use Rattle.http_routes.proofs.SettledLemmas.{same_client}
 use Rattle.http_connections.specs.Served.{MadeReply}
-use Rattle.http_connections.specs.Taking.{IsTakenAs}
 use Rattle.http_connections.proofs.ConnectionLemmas.{AsWhole}
 use Rattle.scheduler_service.specs.Connection.{Around, Routing, Asks, Does, IsReplied}
 

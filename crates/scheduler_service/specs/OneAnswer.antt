@@ -1,8 +1,6 @@
 -- Two connections that meet the same, and what becomes of both.
 use Rattle.std.specs.Prelude.{◌≡◌, ℕ, List, drop, length, map, Option, Some, Result, ⊤, slice_get}
 use Rattle.dist_types.specs.Content.{Added}
-use Rattle.dist_types.specs.declared.dialer.AskFault.{AskFault}
-use Rattle.dist_types.specs.declared.dialer.Asked.{Asked}
 use Rattle.dist_types.specs.declared.token_error.TokenError.{TokenError}
 use Rattle.core_rules.specs.Log.{Core}
 use Rattle.core_rules.specs.declared.entry.CoreEntry.{CoreEntry}
@@ -10,6 +8,7 @@ use Rattle.sched.specs.Pass.{Told}
 use Rattle.sched.specs.Turn.{core_before}
 use Rattle.http_routes.specs.Reply.{reply_text}
 use Rattle.http_routes.specs.declared.reply.Response.{Response}
+use Rattle.http_connections.specs.Alike.{HearAlike}
 use Rattle.http_connections.specs.Served.{Shown}
 use Rattle.scheduler_service.specs.Connection.{Around}
 
@@ -20,22 +19,6 @@ found_by old new = map (λ place. core_before new place) (drop (length old.own) 
 -- the entries at these places
 abbrev pub made_by : Told → Told → List (Option CoreEntry)
 made_by old new = map (λ place. slice_get new.front place) (drop (length old.own) new.own)
-
--- what was answered to what a dialer asked since
-abbrev pub heard_since : List Asked → List Asked → List (Result (List ℕ) AskFault)
-heard_since old new = map (λ a. a.answer) (drop (length old) new)
-
--- both dialers tell their records, and the same was answered to both
-pub record HearAlike (old new before after : Option (List Asked)) : Type 0 where
-  pub first : List Asked
-  pub last : List Asked
-  pub other : List Asked
-  pub since : List Asked
-  pub old_is : old ≡ Some first
-  pub new_is : new ≡ Some last
-  pub before_is : before ≡ Some other
-  pub after_is : after ≡ Some since
-  pub heard : heard_since first last ≡ heard_since other since
 
 -- a check of clients answers one thing to a token at a moment, and becomes one check
 abbrev pub AnswersOnce : {K : Type 0} → (K → ℕ → List ℕ → Result ⊤ TokenError → K → Type 0) → K → Type 0

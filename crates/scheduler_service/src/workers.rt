@@ -3,10 +3,10 @@ ghost use Rattle.std.specs.Prelude.{◌≡◌, ◌+◌, ◌<◌, ◌≤◌, [], 
 ghost use Rattle.std.specs.Prelude.{All, slice_index_or, vec_len, vec_capacity};
 ghost use Rattle.std.specs.List.{sum_by};
 ghost use Rattle.sched.specs.Outside.{moments};
-ghost use Rattle.sched.specs.Pass.{Told, IsPassOf, IsSplit, Stays, Rises, held_of};
+ghost use Rattle.sched.specs.Pass.{Told, IsPassOf, IsSplit, Stays, Rises, held_of, split_off};
 ghost use Rattle.http_connections.specs.Tally.{Worked};
 ghost use Rattle.scheduler_service.specs.Connection.{IsReplied};
-ghost use Rattle.scheduler_service.specs.Workers.{AreJoined, AreTakenBack, around};
+ghost use Rattle.scheduler_service.specs.Workers.{AreJoined, AreTakenBack, HasAllBack, around};
 
 use crate::connection::serve_scheduler_connection;
 use dist_token::checks::{ClientAuthCheck, ServerAuthCheck};
@@ -173,7 +173,7 @@ fn split_all<R: Wait>(
     requires none { passes.items ≡ [] }
     ensures len { IfOk result (λ made. vec_len made ≡ number) }
     ensures split { IfOk result (λ made. All (λ p. IsSplit pass.old p) made.items) }
-    ensures same { OnOk result (pass.new ≡ pass.old) }
+    ensures counted { OnOk result (pass.new ≡ split_off number pass.old) }
     ensures left { OnErr result (AreTakenBack number pass.old pass.new) }
 {
     for _ in 0..number {
@@ -239,7 +239,7 @@ fn gather<T: Tasks, D: Dialer + Drop, C: Clock + Drop, K: ClientAuthCheck + Drop
 /// which was split off the given one; and none is left. These passes are joined: the pass then has the
 /// places of all of them, and holds one more for each kit. A worker that gets no thread is run by the
 /// caller. Refused for want of memory alone, before any link was taken: the kits are as they were, and the
-/// passes that were split off are joined again.
+/// passes that were split off are joined again. Either way none of them is out.
 pub fn serve_scheduler_kits<
     R: Threads + Wait + Sync,
     T: Tasks,
@@ -257,10 +257,12 @@ pub fn serve_scheduler_kits<
 ) -> Result<(), Memory>
     requires pass { IsPassOf scheduler.now pass.old }
     ensures of { IsPassOf scheduler.now pass.new }
+    ensures back { HasAllBack pass.old pass.new }
     ensures len { length kits.new.items ≡ length kits.old.items }
     ensures worked { OnOk result ((began : List Told) × (ended : List Told)
         × (length began ≡ length kits.old.items) × (length ended ≡ length kits.old.items)
-        × All (λ p. IsSplit pass.old p) began × AreJoined ended pass.old pass.new
+        × All (λ p. IsSplit pass.old p) began
+        × AreJoined ended (split_off (length kits.old.items) pass.old) pass.new
         × ((i : ℕ) (d : _) (p : Told) → i < length kits.old.items
         → Worked (IsReplied K.may_answer K.shown (V.server_of server.now))
         (λ l. record {
@@ -307,10 +309,12 @@ pub fn serve_scheduler_workers<
 ) -> Result<Vec<Kit<T, D, C, K>>, Memory>
     requires pass { IsPassOf scheduler.now pass.old }
     ensures of { IsPassOf scheduler.now pass.new }
+    ensures back { HasAllBack pass.old pass.new }
     ensures len { IfOk result (λ back. length back.items ≡ length kits.items) }
     ensures worked { IfOk result (λ back. (began : List Told) × (ended : List Told)
         × (length began ≡ length kits.items) × (length ended ≡ length kits.items)
-        × All (λ p. IsSplit pass.old p) began × AreJoined ended pass.old pass.new
+        × All (λ p. IsSplit pass.old p) began
+        × AreJoined ended (split_off (length kits.items) pass.old) pass.new
         × ((i : ℕ) (d : _) (p : Told) → i < length kits.items
         → Worked (IsReplied K.may_answer K.shown (V.server_of server.now))
         (λ l. record {

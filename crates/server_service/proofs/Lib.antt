@@ -1,4 +1,7 @@
+pub mod DigestLemmas
+pub mod OneAnswerLemmas
+pub mod OneRunLemmas
 pub mod PeerLemmas
 pub mod RanLemmas
-pub mod ToldLemmas
 pub mod SettledLemmas
+pub mod ToldLemmas

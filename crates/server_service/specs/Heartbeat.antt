@@ -1,5 +1,5 @@
 -- One heartbeat of a build server.
-use Rattle.std.specs.Prelude.{◌≡◌, ◌≤◌, ℕ, Bool, true, false, List, Option, Result, Err, OnOk}
+use Rattle.std.specs.Prelude.{◌≡◌, ◌≤◌, ℕ, Bool, true, false, List, Option, Result, Err, OnOk, is_ok}
 use Rattle.dist_types.specs.Cause.{Rose}
 use Rattle.dist_types.specs.Outgoing.{Peer, Calls}
 use Rattle.dist_types.specs.declared.dialer.Asked.{Asked}
@@ -11,8 +11,14 @@ use Rattle.dist_wire.specs.declared.heartbeat.HeartbeatServerHttpRequest.{Heartb
 use Rattle.http_head.specs.WrittenRequest.{request_text}
 use Rattle.http_routes.specs.Requests.{heartbeat_with}
 use Rattle.http_connections.specs.Hearing.{Hears}
+use Rattle.http_connections.specs.declared.start.Start.{Start}
 use Rattle.server_service.specs.Replied.{Dialing}
 use Rattle.server_service.specs.Told.{host_at, lent_of}
+
+-- the heartbeat of one start: its key, its nonce, and how many processors there are
+abbrev pub beat_of : Start → HeartbeatServerHttpRequest
+beat_of start =
+    record { jwt_key = start.key; num_cpus = start.cpus; server_nonce = start.word }
 
 -- what the scheduler answers to a heartbeat, or why nothing was heard
 abbrev pub Heard : Type 0
@@ -41,3 +47,10 @@ pub record IsBeaten (peer : Peer) (beat : HeartbeatServerHttpRequest) (heard : H
 abbrev pub wait_after : Bool → ℕ
 wait_after true = 30000
 wait_after false = 10000
+
+-- The scheduler was told once, and the server waits so many milliseconds, by whether it was told.
+pub record BeatsAndWaits (peer : Peer) (beat : HeartbeatServerHttpRequest) (wait : ℕ)
+    (old new : Dialing) : Type 0 where
+  pub heard : Heard
+  pub beaten : IsBeaten peer beat heard old new
+  pub waits : wait ≡ wait_after (is_ok heard)

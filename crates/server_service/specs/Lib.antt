@@ -1,4 +1,5 @@
 pub mod Heartbeat
+pub mod OneAnswer
 pub mod Replied
 pub mod Routed
 pub mod Told

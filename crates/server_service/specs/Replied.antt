@@ -13,16 +13,12 @@ use Rattle.build_server.specs.Books.{Books}
 use Rattle.build_server.specs.Builds.{Order, Builder}
 use Rattle.build_server.specs.Rows.{Reports, IsSubmitOn, IsRunOn}
 use Rattle.build_server.specs.Rules.{Assigns, TellsAssign, Turns}
-use Rattle.build_server.specs.declared.fault.BuildCause.{BuildCause}
-use Rattle.build_server.specs.declared.fault.BuildCause.TheVariants as cause
 use Rattle.build_server.specs.declared.fault.ServerFault.{ServerFault}
 use Rattle.build_server.specs.declared.fault.ServerFault.TheVariants.{AlreadyAssigned, UpdateFailed}
 use Rattle.build_server.specs.declared.fault.ServerFault.TheVariants.{BuildFailed, Memory}
 use Rattle.http_head.specs.declared.request.Request.{Request}
 use Rattle.http_routes.specs.Fault.{fault_response_of}
 use Rattle.http_routes.specs.Replies.{assign_response, submit_response, run_response}
-use Rattle.http_routes.specs.declared.fault.BuildFailure.{BuildFailure}
-use Rattle.http_routes.specs.declared.fault.BuildFailure.TheVariants as failure
 use Rattle.http_routes.specs.declared.fault.RouteFault.{RouteFault}
 use Rattle.http_routes.specs.declared.fault.RouteFault.TheVariants as fault
 use Rattle.http_routes.specs.declared.reply.Response.{Response}
@@ -35,17 +31,11 @@ use Rattle.server_service.specs.Told.{IsToldOf, lent_of}
 
 -- ---- replies
 
--- why a build gave nothing, as it is told
-abbrev pub failure_of : BuildCause → BuildFailure
-failure_of cause.Unlisted = failure.NotCached
-failure_of cause.Folder = failure.Unreadable
-failure_of cause.Refused = failure.Refused
-
 -- why a call gives no answer, as it is told; want of memory is not told
 abbrev pub fault_of : ServerFault → Option RouteFault
 fault_of (AlreadyAssigned job) = Some (fault.AlreadyAssigned job)
 fault_of (UpdateFailed call) = Some (fault.UpdateFailed call)
-fault_of (BuildFailed why) = Some (fault.BuildFailed (failure_of why))
+fault_of (BuildFailed why) = Some (fault.BuildFailed why)
 fault_of Memory = None
 
 -- the reply tells that fault

@@ -4,7 +4,7 @@ ghost use Rattle.build_server.specs.Builds.{builder_of};
 ghost use Rattle.http_calls.specs.Urls.{IsHttp};
 ghost use Rattle.http_routes.specs.Fault.{fault_response_of};
 ghost use Rattle.http_routes.specs.Replies.{run_response};
-ghost use Rattle.server_service.specs.Replied.{failure_of, fault_of, IsTold, IsAssignedAndTold};
+ghost use Rattle.server_service.specs.Replied.{fault_of, IsTold, IsAssignedAndTold};
 ghost use Rattle.server_service.specs.Replied.{IsSubmitted, IsSubmittedAndTold, IsRun, IsRunAndTold};
 ghost use Rattle.server_service.specs.Replied.{IsDone, order_of};
 ghost use Rattle.server_service.specs.Told.{peer_of};
@@ -12,7 +12,7 @@ ghost use Rattle.server_service.specs.Told.{peer_of};
 use crate::body::BodySource;
 use crate::route::inputs_of;
 use crate::telling::Telling;
-use build_server::fault::{BuildCause, ServerFault};
+use build_server::fault::ServerFault;
 use build_server::keeping::{Keeping, assign_on, run_on, submit_from};
 use dist_types::builder::BuilderIncoming;
 use dist_types::command::CompileCommand;
@@ -23,23 +23,12 @@ use dist_types::results::{RunJobResult, SubmitToolchainResult};
 use dist_types::text::Text;
 use dist_types::toolchain::Toolchain;
 use dist_wire::run::RunJobHttpRequest;
-use http_routes::fault::{BuildFailure, RouteFault};
+use http_routes::fault::RouteFault;
 use http_routes::replies::{to_assignment, to_fault, to_run, to_submission};
 use http_routes::reply::Response;
 use http_routes::server_route::ServerRouted;
 use std::alloc::Global;
 use url::Url;
-
-/// Why a build gave nothing, as a reply tells it.
-fn failure_of(cause: BuildCause) -> BuildFailure
-    ensures { result ≡ failure_of cause }
-{
-    match cause {
-        BuildCause::Unlisted => BuildFailure::NotCached,
-        BuildCause::Folder => BuildFailure::Unreadable,
-        BuildCause::Refused => BuildFailure::Refused,
-    }
-}
 
 /// The reply that tells a fault.
 fn reply_fault(alloc: Global, fault: &RouteFault) -> Result<Response, Memory>
@@ -56,9 +45,7 @@ fn reply_refusal(alloc: Global, fault: ServerFault) -> Result<Response, Memory>
     match fault {
         ServerFault::AlreadyAssigned(job) => reply_fault(alloc, &RouteFault::AlreadyAssigned(job)),
         ServerFault::UpdateFailed(call) => reply_fault(alloc, &RouteFault::UpdateFailed(call)),
-        ServerFault::BuildFailed(cause) => {
-            reply_fault(alloc, &RouteFault::BuildFailed(failure_of(cause)))
-        }
+        ServerFault::BuildFailed(cause) => reply_fault(alloc, &RouteFault::BuildFailed(cause)),
         ServerFault::Memory => Err(Memory),
     }
 }

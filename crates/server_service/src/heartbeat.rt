@@ -1,20 +1,15 @@
 //! One heartbeat of a build server, and how long it waits behind it.
-ghost use Rattle.std.specs.Prelude.{◌≡◌, IfOk};
-ghost use Rattle.http_head.specs.WrittenRequest.{request_text};
-ghost use Rattle.http_calls.specs.Calls.{heartbeat_request};
+ghost use Rattle.std.specs.Prelude.{◌≡◌};
 ghost use Rattle.http_calls.specs.Urls.{IsHttp};
-ghost use Rattle.server_service.specs.Heartbeat.{IsBeaten, wait_after};
+ghost use Rattle.server_service.specs.Heartbeat.{IsBeaten, BeatsAndWaits, wait_after};
 ghost use Rattle.server_service.specs.Told.{peer_of};
 
 use crate::peer::{host_of, port_of};
 use dist_types::dialer::{AskFault, Dialer};
-use dist_types::fault::Memory;
 use dist_types::outgoing::CallFault;
 use dist_types::results::HeartbeatServerResult;
-use dist_types::text::Bytes;
 use dist_wire::heartbeat::HeartbeatServerHttpRequest;
-use http_calls::error::CallError;
-use http_calls::reports::heartbeat;
+use http_calls::reports::heartbeat_to_http;
 use http_connections::hearing::heard;
 use std::alloc::Global;
 use url::Url;
@@ -24,31 +19,6 @@ pub const HEARTBEAT_WAIT_MS: u64 = 30_000;
 
 /// How long a server waits behind a heartbeat that was not told, in milliseconds.
 pub const HEARTBEAT_FAULT_WAIT_MS: u64 = 10_000;
-
-/// A heartbeat to the scheduler at a base.
-fn beat_of(
-    alloc: Global,
-    scheduler: &Url,
-    token: &str,
-    beat: &HeartbeatServerHttpRequest,
-) -> Result<Bytes, Memory>
-    requires { IsHttp scheduler.now }
-    ensures { IfOk result (λ bytes.
-        bytes ≡ request_text (heartbeat_request scheduler.now token.now beat.now)) }
-{
-    match heartbeat(alloc, scheduler, token, beat) {
-        Ok(bytes) => Ok(bytes),
-        Err(CallError::Memory) => Err(Memory),
-        Err(CallError::BadBase) => unreachable!(),
-        Err(CallError::HeadTooLong) => unreachable!(),
-        Err(CallError::LinkFault) => unreachable!(),
-        Err(CallError::ParseError) => unreachable!(),
-        Err(CallError::Status(_, _)) => unreachable!(),
-        Err(CallError::NotLocal) => unreachable!(),
-        Err(CallError::Packager) => unreachable!(),
-        Err(CallError::Local(_)) => unreachable!(),
-    }
-}
 
 /// Tells the scheduler at a base of scheme `http` once that the server stands, under its token, and gives
 /// what it answers: one request more of the dialer's. Lost where the dialer failed, whose count then rose;
@@ -65,7 +35,7 @@ pub fn beat_once<D: Dialer>(
         (record { asked = D.asked dialer.old; faults = D.faults dialer.old })
         (record { asked = D.asked dialer.new; faults = D.faults dialer.new }) }
 {
-    let request = match beat_of(alloc, scheduler, scheduler_auth, beat) {
+    let request = match heartbeat_to_http(alloc, scheduler, scheduler_auth, beat) {
         Ok(request) => request,
         Err(_) => return Err(CallFault::Memory),
     };
@@ -85,4 +55,21 @@ pub fn wait_after(told: bool) -> u64
     } else {
         HEARTBEAT_FAULT_WAIT_MS
     }
+}
+
+/// Tells the scheduler once, as `beat_once` does, and gives how long to wait behind it, in milliseconds.
+pub fn beat_and_wait<D: Dialer>(
+    alloc: Global,
+    dialer: &mut D,
+    scheduler: &Url,
+    scheduler_auth: &str,
+    beat: &HeartbeatServerHttpRequest,
+) -> u64
+    requires http { IsHttp scheduler.now }
+    ensures { BeatsAndWaits (peer_of scheduler.now scheduler_auth.now) beat.now result
+        (record { asked = D.asked dialer.old; faults = D.faults dialer.old })
+        (record { asked = D.asked dialer.new; faults = D.faults dialer.new }) }
+{
+    let heard = beat_once(alloc, dialer, scheduler, scheduler_auth, beat);
+    wait_after(heard.is_ok())
 }

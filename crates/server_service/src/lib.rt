@@ -4,10 +4,11 @@
 //! by one call over a keeper, a builder and a requester on a lent dialer (`telling`), and `connection` puts
 //! the three together: its one clause says what becomes of the link, the keeper, the dialer and the builder.
 //! `workers` runs one worker for each kit in a thread of its own, over a server that is shared. `heartbeat`
-//! is one heartbeat, and how long to wait behind it; `run_server` is the system's side.
+//! is one heartbeat, and how long to wait behind it; `run_server` is the system's side. `laws` says that a
+//! connection's answer is one, whatever a link does.
 //!
-//! The layers above use `serve_server_connection`, `serve_server_workers`, `BuildKit`, `beat_once`,
-//! `wait_after` and `serve_server`, and of the definitions `IsReplied`, `IsDone` and `IsToldOf`.
+//! The layers above use `serve_server_connection`, `serve_server_workers`, `BuildKit`, `beat_and_wait`
+//! and `serve_server`, and of the definitions `IsReplied`, `IsDone` and `IsToldOf`.
 #![tactic(auto)]
 
 pub mod answer;
@@ -15,6 +16,7 @@ pub mod body;
 pub mod connection;
 mod heads;
 pub mod heartbeat;
+pub mod laws;
 mod peer;
 pub mod route;
 pub mod run_server;

@@ -1,8 +1,9 @@
 //! A build server on a runtime of the system: its listener, its cache, its workers and its heartbeat.
-ghost use Rattle.std.specs.Prelude.{OnOk};
+ghost use Rattle.std.specs.Prelude.{◌≡◌, OnOk, IfOk};
 ghost use Rattle.http_calls.specs.Urls.{IsHttp};
+ghost use Rattle.server_service.specs.Heartbeat.{beat_of};
 
-use crate::heartbeat::{beat_once, wait_after};
+use crate::heartbeat::beat_and_wait;
 use crate::workers::{BuildKit, serve_server_workers};
 use build_server::echo::EchoBuilder;
 use build_server::server::Server;
@@ -69,7 +70,7 @@ impl Ending {
     }
 }
 
-/// Tells the scheduler again and again that the server stands, until the listener ended. What waits longer
+/// Tells the scheduler the heartbeat of the start again and again, until the listener ended. What waits longer
 /// than the limit for an answer is not told.
 fn beat_until_ended<R: Wait + Clock + Copy + Net<Stream = TcpStream>>(
     sharing: &Sharing<'_, R>,
@@ -78,17 +79,18 @@ fn beat_until_ended<R: Wait + Clock + Copy + Net<Stream = TcpStream>>(
     beat: &HeartbeatServerHttpRequest,
 )
     requires http { IsHttp config.now.scheduler_url }
+    requires beat { beat.now ≡ beat_of sharing.now.start }
 {
     let mut dialer = TcpDialer::new(sharing.alloc, sharing.asking(SHORT_LIMITS));
     for _ in sharing.rt.forever() {
-        let told = beat_once(
+        let wait = beat_and_wait(
             sharing.alloc,
             &mut dialer,
             &config.scheduler_url,
             config.scheduler_auth.get(),
             beat,
         );
-        if ending.wait(sharing.rt, wait_after(told.is_ok())) {
+        if ending.wait(sharing.rt, wait) {
             return;
         }
     }
@@ -121,8 +123,10 @@ fn server_of<R: Files<File = File> + AllocGlobal + Copy + Drop>(
     }
 }
 
-/// The heartbeat of one start.
-fn beat_of(alloc: Global, start: &Start) -> Result<HeartbeatServerHttpRequest, StartFault> {
+/// The heartbeat of one start: its key, its nonce and its number of processors.
+fn beat_of(alloc: Global, start: &Start) -> Result<HeartbeatServerHttpRequest, StartFault>
+    ensures { IfOk result (λ beat. beat ≡ beat_of start.now) }
+{
     let jwt_key = Vec::from_slice(alloc, &start.key)?;
     Ok(HeartbeatServerHttpRequest {
         jwt_key: Bytes::new(jwt_key),
@@ -248,6 +252,7 @@ fn serve_and_beat<
     beat: &HeartbeatServerHttpRequest,
 ) -> Result<(), StartFault>
     requires http { IsHttp config.now.scheduler_url }
+    requires beat { beat.now ≡ beat_of sharing.now.start }
 {
     let rt = sharing.rt;
     let alloc = sharing.alloc;
@@ -255,7 +260,7 @@ fn serve_and_beat<
     let (_, served) = thread::join(
         rt,
         || -> ()
-            requires { IsHttp config.now.scheduler_url }
+            requires { IsHttp config.now.scheduler_url × (beat.now ≡ beat_of sharing.now.start) }
         {
             beat_until_ended(sharing, &ending, config, beat);
         },

@@ -1,46 +1,16 @@
 //! A requester that tells the scheduler the states of jobs, over a dialer that its caller lends it.
-ghost use Rattle.std.specs.Prelude.{◌≡◌, IfOk};
-ghost use Rattle.http_head.specs.WrittenRequest.{request_text};
-ghost use Rattle.http_calls.specs.Calls.{state_request};
+ghost use Rattle.std.specs.Prelude.{◌≡◌};
 ghost use Rattle.http_calls.specs.Urls.{IsHttp};
 
 use crate::peer::{host_of, port_of};
 use dist_types::dialer::{AskFault, Dialer};
-use dist_types::fault::Memory;
 use dist_types::ids::JobId;
 use dist_types::outgoing::{CallFault, ServerOutgoing};
 use dist_types::results::{JobState, UpdateJobStateResult};
-use dist_types::text::Bytes;
-use http_calls::error::CallError;
-use http_calls::reports::state_report;
+use http_calls::reports::state_report_to_http;
 use http_connections::hearing::heard;
 use std::alloc::Global;
 use url::Url;
-
-/// The report of a job's state to the scheduler at a base.
-fn report_of(
-    alloc: Global,
-    scheduler: &Url,
-    token: &str,
-    job: JobId,
-    state: JobState,
-) -> Result<Bytes, Memory>
-    requires { IsHttp scheduler.now }
-    ensures { IfOk result (λ bytes. bytes ≡ request_text (state_request scheduler.now token.now job state)) }
-{
-    match state_report(alloc, scheduler, token, job, state) {
-        Ok(bytes) => Ok(bytes),
-        Err(CallError::Memory) => Err(Memory),
-        Err(CallError::BadBase) => unreachable!(),
-        Err(CallError::HeadTooLong) => unreachable!(),
-        Err(CallError::LinkFault) => unreachable!(),
-        Err(CallError::ParseError) => unreachable!(),
-        Err(CallError::Status(_, _)) => unreachable!(),
-        Err(CallError::NotLocal) => unreachable!(),
-        Err(CallError::Packager) => unreachable!(),
-        Err(CallError::Local(_)) => unreachable!(),
-    }
-}
 
 /// Tells the scheduler at a base, under a server's token, through a dialer. It tells no record of its own:
 /// the dialer's is the record.
@@ -89,12 +59,13 @@ impl<'d, D: Dialer> ServerOutgoing for Telling<'d, D> {
         job_id: JobId,
         state: JobState,
     ) -> Result<UpdateJobStateResult, CallFault> {
-        let request = match report_of(self.alloc, self.scheduler, self.token, job_id, state) {
+        let scheduler = self.scheduler;
+        let request = match state_report_to_http(self.alloc, scheduler, self.token, job_id, state) {
             Ok(request) => request,
             Err(_) => return Err(CallFault::Memory),
         };
-        let host = host_of(self.scheduler);
-        let port = port_of(self.scheduler);
+        let host = host_of(scheduler);
+        let port = port_of(scheduler);
         match self.dialer.ask(host, port, request.get()) {
             Ok(reply) => heard(self.alloc, &reply),
             Err(AskFault::Failed) => Err(CallFault::Lost),

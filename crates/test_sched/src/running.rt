@@ -38,7 +38,7 @@ fn make_two<R: Abort + Wait>(
     pass: &mut Pass,
 ) -> Pass
     requires pass { IsPassOf scheduler.now pass.old }
-    ensures stays { Stays pass.old pass.new }
+    ensures pass { IsPassOf scheduler.now pass.new }
     ensures of { IsPassOf scheduler.now result }
 {
     assert!(rt; beat(rt, alloc, scheduler, pass));

@@ -10,3 +10,5 @@ mod limits;
 mod lines;
 #[cfg(test)]
 mod values;
+#[cfg(test)]
+mod versions;

@@ -37,16 +37,27 @@ fn is_set(flag: &AtomicBool) -> bool {
 /// Whether the first link was asked for its bytes, whether the second was answered, and the tickets that are
 /// drawn.
 #[derive(Drop)]
-struct Gate {
+pub struct Gate {
     begun: AtomicBool,
     answered: AtomicBool,
     tickets: AtomicU64,
 }
 
+impl Gate {
+    /// A gate that no link has reached.
+    pub fn new() -> Self {
+        Gate {
+            begun: AtomicBool::new(false),
+            answered: AtomicBool::new(false),
+            tickets: AtomicU64::new(0),
+        }
+    }
+}
+
 /// A status request whose first read waits: that of the first ticket until the other link was answered, and
 /// that of the other until the first has begun. A read that gives up fails.
 #[derive(Drop)]
-struct GateLink<'a> {
+pub struct GateLink<'a> {
     gate: &'a Gate,
     ticket: u64,
     at: usize,
@@ -107,10 +118,26 @@ impl Link for GateLink<'_> {
 
 /// One link, and what became of it.
 #[derive(Drop)]
-struct OneLink<'a> {
+pub struct OneLink<'a> {
     gate: &'a Gate,
     given: bool,
     served: Option<Served>,
+}
+
+impl<'a> OneLink<'a> {
+    /// A link to that gate, not given yet.
+    pub fn new(gate: &'a Gate) -> Self {
+        OneLink {
+            gate,
+            given: false,
+            served: None,
+        }
+    }
+
+    /// Whether it was answered.
+    pub fn is_answered(&self) -> bool {
+        self.served == Some(Served::Answered)
+    }
 }
 
 impl<'a> Tasks for OneLink<'a> {
@@ -146,11 +173,7 @@ type OneKit<'a> = Kit<OneLink<'a>, MemDialer, MemClock, EqCheck>;
 /// A kit with one link.
 fn kit<'a>(rt: &impl Abort, alloc: Global, gate: &'a Gate) -> OneKit<'a> {
     Kit {
-        tasks: OneLink {
-            gate,
-            given: false,
-            served: None,
-        },
+        tasks: OneLink::new(gate),
         dialer: dialer(rt, alloc, b""),
         clock: MemClock::new(Vec::new(alloc)),
         client: client(rt, alloc),
@@ -161,7 +184,7 @@ fn kit<'a>(rt: &impl Abort, alloc: Global, gate: &'a Gate) -> OneKit<'a> {
 fn are_answered(kits: &[OneKit<'_>]) -> bool {
     let mut answered = true;
     for kit in kits {
-        answered = answered && kit.tasks.served == Some(Served::Answered);
+        answered = answered && kit.tasks.is_answered();
     }
     answered
 }
@@ -179,10 +202,5 @@ fn both<R: Abort + Threads + Wait + Sync>(rt: &R, alloc: Global, gate: &Gate) ->
 /// The first of two links is held until the second was answered.
 #[test]
 fn gate_workers(rt: HostRuntime) {
-    let gate = Gate {
-        begun: AtomicBool::new(false),
-        answered: AtomicBool::new(false),
-        tickets: AtomicU64::new(0),
-    };
-    assert!(&rt; both(&rt, rt.alloc(), &gate) == (true, 2));
+    assert!(&rt; both(&rt, rt.alloc(), &Gate::new()) == (true, 2));
 }

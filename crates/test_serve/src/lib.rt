@@ -13,6 +13,8 @@ mod drawn;
 #[cfg(test)]
 mod gate;
 #[cfg(test)]
+mod gate_builds;
+#[cfg(test)]
 mod loopback;
 #[cfg(test)]
 mod server_loopback;

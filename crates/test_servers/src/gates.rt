@@ -195,8 +195,9 @@ fn assign_meanwhile<R: Abort + Wait>(
     begun && answer == Some((want, want == JobState::Pending))
 }
 
+/// An assignment is answered while a build runs.
 #[test]
-fn an_assignment_is_answered_while_a_build_runs(rt: HostRuntime) {
+fn gate_build(rt: HostRuntime) {
     let alloc = rt.alloc();
     let server = server_of(&rt, alloc);
     assigned(&rt, &server, 4096, 1);
@@ -211,8 +212,9 @@ fn an_assignment_is_answered_while_a_build_runs(rt: HostRuntime) {
     assert!(rt; built, "the build was not let go");
 }
 
+/// An assignment is answered while Ready is reported.
 #[test]
-fn an_assignment_is_answered_while_ready_is_reported(rt: HostRuntime) {
+fn gate_report(rt: HostRuntime) {
     let alloc = rt.alloc();
     let server = server_of(&rt, alloc);
     assigned(&rt, &server, 4096, 1);

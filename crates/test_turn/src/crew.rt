@@ -123,7 +123,7 @@ fn hire<R: Wait>(
     pass: &mut Pass,
 ) -> Result<Vec<Worker>, Fault>
     requires pass { IsPassOf scheduler.now pass.old }
-    ensures same { pass.new ≡ pass.old }
+    ensures of { IsPassOf scheduler.now pass.new }
     ensures passes { IfOk result (λ v. All (λ w. IsPassOf scheduler.now w.pass) v.items) }
 {
     let mut workers = Vec::new(alloc);

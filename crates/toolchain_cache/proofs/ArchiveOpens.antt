@@ -62,7 +62,7 @@ both_true : (a b : Bool) → (a && b) ≡ true → (a ≡ true) × (b ≡ true)
 both_true true b h = (refl, h)
 both_true false b h = absurd (true≢false (sym h))
 
-sound_path : (root : List ℕ) (capacity : ℕ) (f : List ℕ × List ℕ) → is_sound root capacity f ≡ true
+pub sound_path : (root : List ℕ) (capacity : ℕ) (f : List ℕ × List ℕ) → is_sound root capacity f ≡ true
     → f.0 ≡ root ++ archive_key (id_of f.1)
 sound_path root capacity f h =
     (bytes_eq-Decides f.0 (root ++ archive_key (id_of f.1))).0
@@ -106,7 +106,7 @@ un_entry [] = refl
 un_entry (f ∷ fs) = λ i. (id_of_key (id_of f.1) (id_length f.1) i, length f.1) ∷ un_entry fs i
 
 -- the sound archives are those of the sound files
-sound_is : (path : List ℕ) (capacity : ℕ) (fs : Files) → sound_archives path capacity fs ≡ map
+pub sound_is : (path : List ℕ) (capacity : ℕ) (fs : Files) → sound_archives path capacity fs ≡ map
     (λ f. archive_of f.1) (filter (is_sound (front path) capacity) (under (front path) fs))
 sound_is path capacity [] = refl
 sound_is path capacity (f ∷ fs) = by (bytes_eq f.0 (archive_path path (id_of f.1)))

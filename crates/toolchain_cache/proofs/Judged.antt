@@ -125,7 +125,7 @@ under_without root p (f ∷ fs) = by (is_behind root f.0) (bytes_eq p f.0) refl 
 -- ---- one file after the other
 
 -- the file at a place of those found
-nth : (found : List Found) (fs : Files) (i : ℕ) (d : Found) → found ≡ map found_of fs → i < length found
+pub nth : (found : List Found) (fs : Files) (i : ℕ) (d : Found) → found ≡ map found_of fs → i < length found
     → (f : List ℕ × List ℕ) × (get_or found i d ≡ found_of f) × (drop i fs ≡ f ∷ drop (suc i) fs)
     × (take (suc i) fs ≡ take i fs ++ f ∷ [])
 nth found [] i d is below = let none = ap length is in absurd (omega (arith, below, none))

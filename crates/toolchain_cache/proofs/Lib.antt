@@ -8,6 +8,8 @@ pub mod Insides
 pub mod Judged
 pub mod KeyLemmas
 pub mod OverFolder
+pub mod Sparing
+pub mod StoredLemmas
 pub mod TcSteps
 pub mod Unkeyed
 pub mod WithMoves

@@ -243,7 +243,7 @@ removed_fails id key d e old new (Err WriterRefused) fit is keys h = absurd h
 
 -- ---- an insert
 
-room_is : (d : Disk) (size : ℕ) → d.pending ≡ [] → room_beside d size ≡ d.capacity - size
+pub room_is : (d : Disk) (size : ℕ) → d.pending ≡ [] → room_beside d size ≡ d.capacity - size
 room_is d size none = ap (λ p. d.capacity - (held_size p + size)) none ∙ ap (λ n. d.capacity - n)
     (omega arith)
 
@@ -374,7 +374,7 @@ told_then P f old new made h = λ files told.
     in
     subst P (sym w.2) (h w.0 w.1)
 
-path_is : (id key : List ℕ) (d : Disk) → d.root ≡ front d.path → key ≡ archive_key id
+pub path_is : (id key : List ℕ) (d : Disk) → d.root ≡ front d.path → key ≡ archive_key id
     → d.root ++ key ≡ archive_path d.path id
 path_is id key d root is = λ i. root i ++ is i
 

@@ -1,9 +1,9 @@
 -- Which files an opening of a cache of archives leaves.
-use Rattle.std.specs.Prelude.{◌≡◌, ℕ, Bool, ◌&&◌, nat_le, List, ◌++◌, length, filter}
+use Rattle.std.specs.Prelude.{◌≡◌, ℕ, Bool, true, ◌&&◌, nat_le, List, ◌++◌, length, filter, Some}
 use Rattle.std.specs.List.{list_all, IsDistinct}
 use Rattle.std.specs.Map.{keys_of}
 use Rattle.std.specs.Str.{bytes_eq}
-use Rattle.folders.specs.Files.{Files, is_behind}
+use Rattle.folders.specs.Files.{Files, file_at, is_behind}
 use Rattle.folders.specs.declared.folder.Found.{Found}
 use Rattle.lru_disk_cache.specs.Entries.{Entries}
 use Rattle.toolchain_cache.specs.Archives.{is_id, id_of, archive_key}
@@ -28,6 +28,16 @@ abbrev pub Cleaned : List ℕ → ℕ → Files → Files → Type 0
 Cleaned root capacity old new =
     IsDistinct bytes_eq (keys_of new) × (under root new ≡ filter (is_sound root capacity) (under root old))
     × ButUnder root old new
+
+-- each sound file is as it was
+abbrev pub KeepsSound : List ℕ → ℕ → Files → Files → Type 0
+KeepsSound root capacity old new = (q bytes : List ℕ) → is_sound root capacity (q, bytes) ≡ true
+    → file_at old q ≡ Some bytes → file_at new q ≡ Some bytes
+
+-- the same of what is judged by a file as it was found
+abbrev pub SparesSound : List ℕ → ℕ → Found → Files → Files → Type 0
+SparesSound root capacity file old new = (bytes : List ℕ) → file_at old file.path ≡ Some bytes
+    → file.size ≡ length bytes → KeepsSound root capacity old new
 
 -- whether a key is one of an archive
 abbrev pub is_archive_key : List ℕ → Bool

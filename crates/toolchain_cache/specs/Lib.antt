@@ -1,4 +1,5 @@
 pub mod Archives
 pub mod Archiving
 pub mod Keyed
+pub mod Stored
 pub mod Cleaned

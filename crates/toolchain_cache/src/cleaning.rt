@@ -10,7 +10,8 @@ ghost use Rattle.folders.specs.Held.{Holds, Became, BecameBy, Lacks};
 ghost use Rattle.folders.specs.Changed.{SameAt, RemovedAt, RemovedUnder, Counts};
 ghost use Rattle.toolchain_cache.specs.Archives.{is_id, archive_key};
 ghost use Rattle.toolchain_cache.specs.Cleaned.{found_of, under, is_sound, Cleaned, is_archive_key};
-ghost use Rattle.toolchain_cache.specs.Cleaned.{are_archive_keys};
+ghost use Rattle.toolchain_cache.specs.Cleaned.{are_archive_keys, KeepsSound, SparesSound};
+ghost use Rattle.toolchain_cache.specs.Stored.{KeepsListed};
 
 use crate::digest::id_of;
 use dist_types::text::Text;
@@ -90,7 +91,7 @@ fn discard<F: Folder>(folder: &mut F, path: &Text) -> Result<(), FolderFault>
 }
 
 // Removes a file that was found, unless it is sound.
-#[tactic(auto, using(folders::proofs::Removals::same_part_at))]
+#[tactic(auto, using(folders::proofs::Removals::same_part_at, crate::proofs::Sparing::same_spares))]
 fn clean_one<F: Folder>(
     folder: &mut F,
     root: &Text,
@@ -103,6 +104,8 @@ fn clean_one<F: Folder>(
         → file.now.size ≡ length bytes → new ≡ (if is_sound root.now capacity (file.now.path, bytes) then old
         else without file.now.path old)) (F.held folder.old).files (F.held folder.new).files) }
     ensures part { Became (RemovedAt file.now.path) (F.held folder.old).files (F.held folder.new).files }
+    ensures spares { Became (SparesSound root.now capacity file.now) (F.held folder.old).files
+        (F.held folder.new).files }
     ensures counts { Counts result (F.held folder.old) (F.held folder.new) }
 {
     if is_sound(folder, root, capacity, file)? {
@@ -123,6 +126,8 @@ fn clean_all<F: Folder>(
     ensures cleaned { OnOk result (Became (Cleaned root.now capacity) (F.held folder.old).files
         (F.held folder.new).files) }
     ensures spares { Became (RemovedUnder root.now) (F.held folder.old).files (F.held folder.new).files }
+    ensures sound { Became (KeepsSound root.now capacity) (F.held folder.old).files
+        (F.held folder.new).files }
     ensures counts { Counts result (F.held folder.old) (F.held folder.new) }
 {
     for file in found {
@@ -132,6 +137,7 @@ fn clean_all<F: Folder>(
 }
 
 /// Removes the files below a path that are larger than the capacity or do not stand where their SHA-256 says.
+/// Whether that succeeds or not, each archive that an opening would list keeps its file.
 pub(crate) fn clean<F: Folder>(
     folder: &mut F,
     path: &Text,
@@ -142,6 +148,8 @@ pub(crate) fn clean<F: Folder>(
     ensures cleaned { OnOk result (Became (Cleaned root.now capacity) (F.held folder.old).files
         (F.held folder.new).files) }
     ensures spares { Became (RemovedUnder root.now) (F.held folder.old).files (F.held folder.new).files }
+    ensures spared { Became (KeepsListed path.now capacity) (F.held folder.old).files
+        (F.held folder.new).files }
     ensures counts { Counts result (F.held folder.old) (F.held folder.new) }
 {
     let found = folder.list(path.get())?;

@@ -1,21 +1,23 @@
 //! `TcCache`: archives of toolchains, known by the SHA-256 of their content.
 ghost use Rattle.std.specs.Prelude.{◌≡◌, ◌≤◌, ◌⊎◌, [], true, false, length, map, nat_le, is_some, Some, None};
-ghost use Rattle.std.specs.Prelude.{Ok, IsSome, IfOk, IfErr, OnOk, OnErr};
+ghost use Rattle.std.specs.Prelude.{Ok, Err, IsSome, IfOk, IfErr, OnOk, OnErr};
 ghost use Rattle.std.specs.Map.{lookup};
 ghost use Rattle.std.specs.Str.{bytes_eq};
-ghost use Rattle.folders.specs.Files.{file_at, front, put, moved, PartWritten, DoneOrNot, Same};
-ghost use Rattle.folders.specs.Held.{Holds, Became, Lacks, Never, Changes};
+ghost use Rattle.folders.specs.Files.{file_at, front, put, moved, touched, without};
+ghost use Rattle.folders.specs.Files.{PartWritten, DoneOrNot, Same};
+ghost use Rattle.folders.specs.Held.{Holds, Became, BecameBy, Lacks, Never, Changes};
 ghost use Rattle.lru_disk_cache.specs.Entries.{total, promoted_key};
 ghost use Rattle.folders.specs.Changed.{RemovedOrSame};
 ghost use Rattle.lru_disk_cache.specs.Disk.{IsBeside};
-ghost use Rattle.folders.specs.Changed.{ButUnder, OnlyRemoved, RemovedUnder, IsOutside};
+ghost use Rattle.folders.specs.Changed.{ButAt, ButUnder, SameAt, OnlyRemoved, RemovedUnder, IsOutside};
 ghost use Rattle.lru_disk_cache.specs.Disk.{without_key};
 ghost use Rattle.toolchain_cache.specs.Archives.{id_of, archive_path, opened_archives, paths_under, IsInStep};
 ghost use Rattle.toolchain_cache.specs.Archives.{IsArchiveStore};
 ghost use Rattle.toolchain_cache.specs.Cleaned.{are_archive_keys};
 ghost use Rattle.toolchain_cache.specs.Keyed.{unkeyed, AllHold};
 ghost use Rattle.toolchain_cache.specs.Archiving.{archive_verdict, with_archive, StoreFails, FindFails};
-ghost use Rattle.toolchain_cache.specs.Archiving.{DropFails, Relists};
+ghost use Rattle.toolchain_cache.specs.Archiving.{DropFails, Relists, dropped_for};
+ghost use Rattle.toolchain_cache.specs.Stored.{KeepsArchives, KeepsListed, PlacesArchive, staying_for};
 ghost use Rattle.lru_disk_cache.specs.Moving.{Wrote};
 ghost use Rattle.toolchain_cache.specs.Archiving.{StoreWithFails};
 ghost use Rattle.folders.specs.Whole.{OldOr, OldOrWritten};
@@ -60,7 +62,8 @@ impl<F: Folder> TcCache<F> {
     /// Opens a cache of `cache_size` bytes of the archives below a path, which is empty or a key. A file is
     /// removed that does not stand where its SHA-256 says or that is larger than that, and the least recent
     /// where the others exceed it. Where that fails, as `Error::Io` or for want of memory, the folder is
-    /// handed back, of which no more than files below the path are removed.
+    /// handed back, of which no more than files below the path are removed, and none of an archive that the
+    /// same opening without a fault would list.
     pub fn new(
         alloc: Global,
         mut folder: F,
@@ -89,6 +92,10 @@ impl<F: Folder> TcCache<F> {
         ensures fails { IfErr result (λ e. OpenFails e.0 (F.held folder) (F.held e.1)) }
         ensures left { IfErr result (λ e. Became (RemovedUnder (front cache_dir.now)) (F.held folder).files
             (F.held e.1).files) }
+        ensures kept { IfOk result (λ t. Became (KeepsListed cache_dir.now cache_size) (F.held folder).files
+            (F.held t.folder).files) }
+        ensures spared { IfErr result (λ e. Became (KeepsListed cache_dir.now cache_size)
+            (F.held folder).files (F.held e.1).files) }
     {
         let Ok((path, root)) = place_of(alloc, cache_dir) else {
             return Err((Error::Memory, folder));
@@ -166,7 +173,7 @@ impl<F: Folder> TcCache<F> {
     /// `Error::FileTooLarge`, in this order, which leave all as it was; then as `Error::Io` or for want of
     /// memory, which leave the list as it was, or the archive unlisted and some of the least recent gone,
     /// none more than had to go. The file of the archive is as it was or has all the bytes.
-    #[tactic(auto, using(lru_disk_cache::proofs::Spared::all_same))]
+    #[tactic(auto, using(lru_disk_cache::proofs::Spared::all_same, crate::proofs::StoredLemmas::archives_stay))]
     pub fn insert_bytes(&mut self, tc: &Toolchain, bytes: &[u8]) -> Result<()>
         ensures ok { OnOk result (self.new.archives ≡ with_archive self.old.capacity tc.now
             (length bytes.now) self.old.archives) }
@@ -184,6 +191,17 @@ impl<F: Folder> TcCache<F> {
         ensures at { (self.new.path ≡ self.old.path) × (self.new.capacity ≡ self.old.capacity) }
         ensures others { Became (ButUnder (front self.old.path)) (F.held self.old.folder).files
             (F.held self.new.folder).files }
+        ensures kept { OnOk result
+            (Became (KeepsArchives self.old.path
+            (staying_for self.old.capacity tc.now (length bytes.now) self.old.archives))
+            (F.held self.old.folder).files (F.held self.new.folder).files) }
+        ensures left { OnErr result
+            (Became (KeepsArchives self.old.path self.new.archives) (F.held self.old.folder).files
+            (F.held self.new.folder).files) }
+        ensures exact { OnOk result
+            (PlacesArchive self.old.path tc.now bytes.now
+            (dropped_for self.old.capacity tc.now (length bytes.now) self.old.archives)
+            (F.held self.old.folder) (F.held self.new.folder)) }
         ensures removed { Became
             (RemovedOrSame (IsBeside (front self.old.path) (archive_path self.old.path tc.now)))
             (F.held self.old.folder).files (F.held self.new.folder).files }
@@ -205,8 +223,9 @@ impl<F: Folder> TcCache<F> {
     /// toolchain's id.
     ///
     /// Refused as `Error::FileNotInCache` exactly where it is not listed, which leaves all as it was; as
-    /// `Error::Io`, only where it is, which leaves it listed and most recent; and for want of memory, which
-    /// leaves the list as it was, or the archive most recent.
+    /// `Error::Io`, only where it is, which leaves it listed and most recent; and for want of memory, only
+    /// where it is, which leaves the list as it was, or the archive most recent.
+    #[tactic(auto, using(folders::proofs::Removals::none_same))]
     pub fn get_file(&mut self, tc: &Toolchain) -> Result<Vec<u8>>
         ensures ok { OnOk result (self.new.archives ≡ promoted_key tc.now self.old.archives) }
         ensures found { OnOk result (IsSome (lookup (bytes_eq tc.now) self.old.archives)) }
@@ -217,11 +236,16 @@ impl<F: Folder> TcCache<F> {
         ensures fails { IfErr result
             (λ e. FindFails tc.now e self.old.archives self.new.archives (F.held self.old.folder)
             (F.held self.new.folder)) }
+        ensures memory { result ≡ Err Error.Memory → IsSome (lookup (bytes_eq tc.now) self.old.archives) }
         ensures in_step { IsInStep self.old.path (F.held self.old.folder) self.old.archives
             → OnOk result (IsInStep self.new.path (F.held self.new.folder) self.new.archives) }
         ensures at { (self.new.path ≡ self.old.path) × (self.new.capacity ≡ self.old.capacity) }
         ensures others { Became (ButUnder (front self.old.path)) (F.held self.old.folder).files
             (F.held self.new.folder).files }
+        ensures same { Became SameAt (F.held self.old.folder).files (F.held self.new.folder).files }
+        ensures exact { OnOk result
+            (BecameBy (touched (archive_path self.old.path tc.now)) (F.held self.old.folder).files
+            (F.held self.new.folder).files) }
         ensures steady { OnOk result ((F.held self.new.folder).faults ≡ (F.held self.old.folder).faults) }
         ensures uncounted { IfErr result
             (λ e. Uncounted e (F.held self.old.folder) (F.held self.new.folder)) }
@@ -231,7 +255,7 @@ impl<F: Folder> TcCache<F> {
     {
         self.shown();
         let Ok(key) = key_of(self.alloc, tc) else {
-            return Err(Error::Memory);
+            return Err(self.unless_listed(tc));
         };
         let answer = self.cache.get_file(key.get());
         let _len = self.cache.len();
@@ -253,11 +277,16 @@ impl<F: Folder> TcCache<F> {
         ensures fails { IfErr result
             (λ e. FindFails tc.now e self.old.archives self.new.archives (F.held self.old.folder)
             (F.held self.new.folder)) }
+        ensures memory { result ≡ Err Error.Memory → IsSome (lookup (bytes_eq tc.now) self.old.archives) }
         ensures in_step { IsInStep self.old.path (F.held self.old.folder) self.old.archives
             → OnOk result (IsInStep self.new.path (F.held self.new.folder) self.new.archives) }
         ensures at { (self.new.path ≡ self.old.path) × (self.new.capacity ≡ self.old.capacity) }
         ensures others { Became (ButUnder (front self.old.path)) (F.held self.old.folder).files
             (F.held self.new.folder).files }
+        ensures same { Became SameAt (F.held self.old.folder).files (F.held self.new.folder).files }
+        ensures exact { OnOk result
+            (BecameBy (touched (archive_path self.old.path tc.now)) (F.held self.old.folder).files
+            (F.held self.new.folder).files) }
         ensures steady { OnOk result ((F.held self.new.folder).faults ≡ (F.held self.old.folder).faults) }
         ensures uncounted { IfErr result
             (λ e. Uncounted e (F.held self.old.folder) (F.held self.new.folder)) }
@@ -274,8 +303,8 @@ impl<F: Folder> TcCache<F> {
     /// Takes the archive of a toolchain out and removes its file. It answers Ok where it is not listed.
     ///
     /// Refused as `Error::Io`, only where it is listed, which leaves it unlisted, and for want of memory,
-    /// which leaves the list as it was, or the archive unlisted.
-    #[tactic(auto, using(folders::proofs::Exactly::none_removed))]
+    /// only where it is, which leaves the list as it was, or the archive unlisted.
+    #[tactic(auto, using(folders::proofs::Exactly::none_removed, crate::proofs::StoredLemmas::archives_stay, crate::proofs::StoredLemmas::one_stays))]
     pub fn remove(&mut self, tc: &Toolchain) -> Result<()>
         ensures ok { OnOk result (self.new.archives ≡ without_key tc.now self.old.archives) }
         ensures gone { OnOk result (IsSome (lookup (bytes_eq tc.now) self.old.archives)
@@ -283,11 +312,21 @@ impl<F: Folder> TcCache<F> {
         ensures fails { IfErr result
             (λ e. DropFails tc.now e self.old.archives self.new.archives (F.held self.old.folder)
             (F.held self.new.folder)) }
+        ensures memory { result ≡ Err Error.Memory → IsSome (lookup (bytes_eq tc.now) self.old.archives) }
         ensures in_step { IsInStep self.old.path (F.held self.old.folder) self.old.archives
             → OnOk result (IsInStep self.new.path (F.held self.new.folder) self.new.archives) }
         ensures at { (self.new.path ≡ self.old.path) × (self.new.capacity ≡ self.old.capacity) }
         ensures others { Became (ButUnder (front self.old.path)) (F.held self.old.folder).files
             (F.held self.new.folder).files }
+        ensures alone { Became (ButAt (archive_path self.old.path tc.now)) (F.held self.old.folder).files
+            (F.held self.new.folder).files }
+        ensures kept { Became (KeepsArchives self.old.path self.new.archives)
+            (F.held self.old.folder).files (F.held self.new.folder).files }
+        ensures exact { OnOk result (IsSome (lookup (bytes_eq tc.now) self.old.archives)
+            → BecameBy (without (archive_path self.old.path tc.now)) (F.held self.old.folder).files
+            (F.held self.new.folder).files) }
+        ensures same { OnOk result (lookup (bytes_eq tc.now) self.old.archives ≡ None
+            → F.held self.new.folder ≡ F.held self.old.folder) }
         ensures removed { Became OnlyRemoved (F.held self.old.folder).files (F.held self.new.folder).files }
         ensures steady { OnOk result ((F.held self.new.folder).faults ≡ (F.held self.old.folder).faults) }
         ensures uncounted { IfErr result
@@ -298,7 +337,10 @@ impl<F: Folder> TcCache<F> {
     {
         self.shown();
         let Ok(key) = key_of(self.alloc, tc) else {
-            return Err(Error::Memory);
+            if self.contains_toolchain(tc) {
+                return Err(Error::Memory);
+            }
+            return Ok(());
         };
         let answer = self.cache.remove(key.get());
         let _len = self.cache.len();
@@ -310,7 +352,7 @@ impl<F: Folder> TcCache<F> {
     ///
     /// Refused as `Error::WriterRefused` exactly where the closure refuses, which leaves all as it was; then
     /// as `insert_bytes` is.
-    #[tactic(auto, using(lru_disk_cache::proofs::Spared::all_same))]
+    #[tactic(auto, using(lru_disk_cache::proofs::Spared::all_same, crate::proofs::StoredLemmas::archives_stay))]
     pub fn insert_with<W: FnOnce(&mut Vec<u8>) -> std::result::Result<(), WriteFault>>(
         &mut self,
         tc: &Toolchain,
@@ -320,8 +362,14 @@ impl<F: Folder> TcCache<F> {
         ensures ok { OnOk result ((bytes : _) × Wrote W.FnOnce (λ v. v.items) with (Ok tt) bytes
             × (archive_verdict self.old.capacity tc.now bytes ≡ Ok tt)
             × (self.new.archives ≡ with_archive self.old.capacity tc.now (length bytes) self.old.archives)
-            × Holds (F.held self.new.folder)
-            (λ files. file_at files (archive_path self.old.path tc.now) ≡ Some bytes)) }
+            × (Holds (F.held self.new.folder)
+            (λ files. file_at files (archive_path self.old.path tc.now) ≡ Some bytes)
+            × Became (KeepsArchives self.old.path
+            (staying_for self.old.capacity tc.now (length bytes) self.old.archives))
+            (F.held self.old.folder).files (F.held self.new.folder).files
+            × PlacesArchive self.old.path tc.now bytes
+            (dropped_for self.old.capacity tc.now (length bytes) self.old.archives) (F.held self.old.folder)
+            (F.held self.new.folder))) }
         ensures whole { Became
             (OldOrWritten (Wrote W.FnOnce (λ v. v.items) with (Ok tt)) (archive_path self.old.path tc.now))
             (F.held self.old.folder).files (F.held self.new.folder).files }
@@ -333,6 +381,9 @@ impl<F: Folder> TcCache<F> {
         ensures at { (self.new.path ≡ self.old.path) × (self.new.capacity ≡ self.old.capacity) }
         ensures others { Became (ButUnder (front self.old.path)) (F.held self.old.folder).files
             (F.held self.new.folder).files }
+        ensures left { OnErr result
+            (Became (KeepsArchives self.old.path self.new.archives) (F.held self.old.folder).files
+            (F.held self.new.folder).files) }
         ensures removed { Became
             (RemovedOrSame (IsBeside (front self.old.path) (archive_path self.old.path tc.now)))
             (F.held self.old.folder).files (F.held self.new.folder).files }
@@ -372,6 +423,17 @@ impl<F: Folder> TcCache<F> {
         ensures at { (self.new.path ≡ self.old.path) × (self.new.capacity ≡ self.old.capacity) }
         ensures others { Became (ButUnder (front self.old.path)) (F.held self.old.folder).files
             (F.held self.new.folder).files }
+        ensures kept { OnOk result
+            (Became (KeepsArchives self.old.path
+            (staying_for self.old.capacity (id_of bytes.now) (length bytes.now) self.old.archives))
+            (F.held self.old.folder).files (F.held self.new.folder).files) }
+        ensures left { OnErr result
+            (Became (KeepsArchives self.old.path self.new.archives) (F.held self.old.folder).files
+            (F.held self.new.folder).files) }
+        ensures exact { OnOk result
+            (PlacesArchive self.old.path (id_of bytes.now) bytes.now
+            (dropped_for self.old.capacity (id_of bytes.now) (length bytes.now) self.old.archives)
+            (F.held self.old.folder) (F.held self.new.folder)) }
         ensures removed { Became
             (RemovedOrSame (IsBeside (front self.old.path) (archive_path self.old.path (id_of bytes.now))))
             (F.held self.old.folder).files (F.held self.new.folder).files }
@@ -450,7 +512,7 @@ impl<F: Folder> TcCache<F> {
     /// Stores bytes whose SHA-256 is the id of the toolchain, as `insert_bytes` does, and hashes nothing.
     ///
     /// Refused as `Error::FileTooLarge`, which leaves all as it was, and else as `insert_bytes` is.
-    #[tactic(auto, using(lru_disk_cache::proofs::Spared::all_same))]
+    #[tactic(auto, using(lru_disk_cache::proofs::Spared::all_same, crate::proofs::StoredLemmas::archives_stay))]
     pub fn insert_verified(&mut self, tc: &Toolchain, bytes: &[u8]) -> Result<()>
         requires { id_of bytes.now ≡ tc.now }
         ensures ok { OnOk result (self.new.archives ≡ with_archive self.old.capacity tc.now
@@ -469,6 +531,17 @@ impl<F: Folder> TcCache<F> {
         ensures at { (self.new.path ≡ self.old.path) × (self.new.capacity ≡ self.old.capacity) }
         ensures others { Became (ButUnder (front self.old.path)) (F.held self.old.folder).files
             (F.held self.new.folder).files }
+        ensures kept { OnOk result
+            (Became (KeepsArchives self.old.path
+            (staying_for self.old.capacity tc.now (length bytes.now) self.old.archives))
+            (F.held self.old.folder).files (F.held self.new.folder).files) }
+        ensures left { OnErr result
+            (Became (KeepsArchives self.old.path self.new.archives) (F.held self.old.folder).files
+            (F.held self.new.folder).files) }
+        ensures exact { OnOk result
+            (PlacesArchive self.old.path tc.now bytes.now
+            (dropped_for self.old.capacity tc.now (length bytes.now) self.old.archives)
+            (F.held self.old.folder) (F.held self.new.folder)) }
         ensures removed { Became
             (RemovedOrSame (IsBeside (front self.old.path) (archive_path self.old.path tc.now)))
             (F.held self.old.folder).files (F.held self.new.folder).files }
@@ -489,6 +562,20 @@ impl<F: Folder> TcCache<F> {
         let answer = self.cache.insert_bytes(key.get(), bytes);
         let _len = self.cache.len();
         answer
+    }
+
+    // Why a look-up fails that there is no memory for the key of: the archive is listed, or not. It takes no
+    // memory.
+    fn unless_listed(&self, tc: &Toolchain) -> Error
+        ensures fails { FindFails tc.now result self.now.archives self.now.archives (F.held self.now.folder)
+            (F.held self.now.folder) }
+        ensures memory { result ≡ Error.Memory → IsSome (lookup (bytes_eq tc.now) self.now.archives) }
+    {
+        if self.contains_toolchain(tc) {
+            Error::Memory
+        } else {
+            Error::FileNotInCache
+        }
     }
 
     // What holds of the cache, whatever failed so far.

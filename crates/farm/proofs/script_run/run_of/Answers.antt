@@ -8,4 +8,4 @@ returns-in-Ok-run-clause-ok c =
     c.deref.result.now c.in_ok-farm.farm c.in-Ok-run.farm
     c.in-Ok.ensures.exact c.in-Ok.ensures.setup c.in_ok-farm.ensures.setup c.in_ok-farm.ensures.none
     c.in_ok-farm.ensures.own c.deref.ensures.value c.in-Ok-run.ensures.ok c.in-Ok-run.ensures.laws
-    c.in-Ok-run.ensures.builds c.print_run.ensures.ok
+    c.in-Ok-run.ensures.builds c.in-Ok-run.ensures.once c.in-Ok-run.ensures.grants c.print_run.ensures.ok

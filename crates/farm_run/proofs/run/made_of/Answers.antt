@@ -1,4 +1,5 @@
 use Rattle.std.proofs.Common.{◌≡◌, inl, map, ℕ, List, Bool, cond, Option, Some, None, length, refl, sym, ap, ◌∙◌, rules}
+use Rattle.core_rules.specs.Log.{Core}
 use Rattle.core_rules.specs.declared.entry.CoreEntry.{CoreEntry}
 use Rattle.farm_script.specs.declared.event.EventKind.TheVariants as kind
 use Rattle.farm_entries.specs.Calls.{settles_by, delivery_at}
@@ -27,6 +28,12 @@ returns-then-is_inside-clause-made g c =
     ∙ ap (λ (b : Bool). cond b to_nothing (to_call c.in-Answer.call (Some c.in-Answer.bytes)))
     (sym c.is_inside.ensures ∙ c.if-is_inside.true))
     (λ a. ap (restart_by a) c.in-Answer.is) c.idle-then-is_inside.ensures
+
+pub arrive-requires-clause-rules : goal.arrive-requires-clause-rules
+arrive-requires-clause-rules g c = ap (λ (s : Core). s.start.rules) c.requires.farm.core_is
+
+pub deliver-requires-clause-rules : goal.deliver-requires-clause-rules
+deliver-requires-clause-rules g c = ap (λ (s : Core). s.start.rules) c.requires.farm.core_is
 
 pub restart-requires : goal.restart-requires
 restart-requires g c = record {

@@ -15,11 +15,11 @@ answer-requires g c = record {
 pub returns-in-Ok-answer : goal.returns-in-Ok-answer
 returns-in-Ok-answer g c =
     let alone = g.met.L.Link.writes_alone in
-    let same = ap (λ p. p.0)
-    (sym (alone c.take.new.link) ∙ (sym c.send.ensures.apart ∙ alone c.send.new.link)) in
+    let same = sym (alone c.take.new.link) ∙ (sym c.send.ensures.apart ∙ alone c.send.new.link) in
     record {
-      served = sent_by _ _ _ _ c.in-Ok.request c.in-Ok-answer.reply c.send.result _ _ _ _ _ _ _ _ _ _ _
-          (rw c.new-client.ensures at c.in-Ok.ensures.cut) same c.in-Ok.ensures.writes.0
+      served = sent_by _ _ _ _ c.in-Ok.request c.in-Ok-answer.reply c.send.result _ _ _ _ _ _ _ _ _ _ _ _
+          (rw c.new-client.ensures at c.in-Ok.ensures.cut) (c.in-Ok.ensures.steady (λ e. cc))
+          (ap (λ p. p.0) same) (ap (λ p. p.1) same) c.in-Ok.ensures.writes.0
           c.in-Ok.ensures.writes.1 (replied_whole _ _ _ _ _)
           (replied _ _ c.in-Ok.request _ _
           (record { coming = g.C.Clock.moments c.now-now.new.self; last = g.C.Clock.last c.now-now.new.self })
@@ -30,6 +30,7 @@ returns-in-Ok-answer g c =
             answered = c.send.ensures.answered;
             failed = c.send.ensures.failed;
             memory = c.send.ensures.memory;
+            steady = c.send.ensures.steady;
             no_read = c.send.ensures.no_read;
           });
     }
@@ -37,7 +38,8 @@ returns-in-Ok-answer g c =
 pub returns-in-Err : goal.returns-in-Err
 returns-in-Err g c = record {
   served = unsent _ _ _ _ c.in-Ok.request c.in-Err.field-0 _ _ _ _ _ _ _ _
-      (rw c.new-client.ensures at c.in-Ok.ensures.cut) c.in-Ok.ensures.writes.0 (replied_whole _ _ _ _ _)
+      (rw c.new-client.ensures at c.in-Ok.ensures.cut) (c.in-Ok.ensures.steady (λ e. cc))
+      c.in-Ok.ensures.writes (replied_whole _ _ _ _ _)
       (unrouted _ _ c.in-Ok.request _
       (record { coming = g.C.Clock.moments c.now-now.new.self; last = g.C.Clock.last c.now-now.new.self })
       c.in-Err.field-0
@@ -47,7 +49,8 @@ returns-in-Err g c = record {
 pub returns : goal.returns
 returns g c = record {
   served = unsent _ _ _ _ c.in-Ok.request c.in-Err-answer.field-0 _ _ _ _ _ _ _ _
-      (rw c.new-client.ensures at c.in-Ok.ensures.cut) c.in-Ok.ensures.writes.0 (replied_whole _ _ _ _ _)
+      (rw c.new-client.ensures at c.in-Ok.ensures.cut) (c.in-Ok.ensures.steady (λ e. cc))
+      c.in-Ok.ensures.writes (replied_whole _ _ _ _ _)
       (replied _ _ c.in-Ok.request _ _
       (record { coming = g.C.Clock.moments c.now-now.new.self; last = g.C.Clock.last c.now-now.new.self })
       c.now-now.result c.in-Ok-route.what (Err c.in-Err-answer.field-0)

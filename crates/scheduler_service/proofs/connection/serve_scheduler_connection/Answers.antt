@@ -13,10 +13,11 @@ returns-in-Ok-answer-clause-served g c =
     let refusals = (g.met.K.ClientAuthCheck g.world.𝓛 g.world.𝓜 g.world.𝓡
     ((λ s x. x), (λ x. x), (λ x. x), λ x. x)).refusals in
     let alone = g.met.L.Link.writes_alone in
-    let same = ap (λ p. p.0)
-    (sym (alone c.take.new.link) ∙ (sym c.send.ensures.apart ∙ alone c.send.new.link)) in
-    sent_by _ _ _ _ c.in-Ok.request c.in-Ok-answer.reply c.send.result _ _ _ _ _ _ _ _ _ _ _
-    c.in-Ok.ensures.cut same c.in-Ok.ensures.writes.0 c.in-Ok.ensures.writes.1
+    let same = sym (alone c.take.new.link) ∙ (sym c.send.ensures.apart ∙ alone c.send.new.link) in
+    sent_by _ _ _ _ c.in-Ok.request c.in-Ok-answer.reply c.send.result _ _ _ _ _ _ _ _ _ _ _ _
+    c.in-Ok.ensures.cut (c.in-Ok.ensures.steady (λ e. cc))
+    (ap (λ p. p.0) same) (ap (λ p. p.1) same) c.in-Ok.ensures.writes.0
+    c.in-Ok.ensures.writes.1
     (replied_whole c.rules-rules.result _ _ _ refusals _ _ _ _ _ same_rules)
     (replied c.rules-rules.result _ _ _ _ c.in-Ok.request _ _ _
     (record { coming = g.C.Clock.moments c.routed.new.clock; last = g.C.Clock.last c.routed.new.clock })
@@ -47,6 +48,7 @@ returns-in-Ok-answer-clause-served g c =
       answered = c.send.ensures.answered;
       failed = c.send.ensures.failed;
       memory = c.send.ensures.memory;
+      steady = c.send.ensures.steady;
       no_read = c.send.ensures.no_read;
     })
 
@@ -56,7 +58,8 @@ returns-in-Err-clause-served g c =
     let refusals = (g.met.K.ClientAuthCheck g.world.𝓛 g.world.𝓜 g.world.𝓡
     ((λ s x. x), (λ x. x), (λ x. x), λ x. x)).refusals in
     unsent _ _ _ _ c.in-Ok.request c.in-Err.field-0 _ _ _ _ _ _ _ _ c.in-Ok.ensures.cut
-    c.in-Ok.ensures.writes.0 (replied_whole c.rules-rules.result _ _ _ refusals _ _ _ _ _ same_rules)
+    (c.in-Ok.ensures.steady (λ e. cc)) c.in-Ok.ensures.writes
+    (replied_whole c.rules-rules.result _ _ _ refusals _ _ _ _ _ same_rules)
     (unrouted c.rules-rules.result _ _ _ _ c.in-Ok.request _ _ _
     (record { coming = g.C.Clock.moments c.routed.new.clock; last = g.C.Clock.last c.routed.new.clock })
     c.in-Err.field-0 c.in-Err.field-0 (Err c.in-Err.field-0) same_rules c.in-Err.ensures.read
@@ -68,7 +71,8 @@ returns-clause-served g c =
     let refusals = (g.met.K.ClientAuthCheck g.world.𝓛 g.world.𝓜 g.world.𝓡
     ((λ s x. x), (λ x. x), (λ x. x), λ x. x)).refusals in
     unsent _ _ _ _ c.in-Ok.request c.in-Err-answer.field-0 _ _ _ _ _ _ _ _ c.in-Ok.ensures.cut
-    c.in-Ok.ensures.writes.0 (replied_whole c.rules-rules.result _ _ _ refusals _ _ _ _ _ same_rules)
+    (c.in-Ok.ensures.steady (λ e. cc)) c.in-Ok.ensures.writes
+    (replied_whole c.rules-rules.result _ _ _ refusals _ _ _ _ _ same_rules)
     (replied c.rules-rules.result _ _ _ _ c.in-Ok.request _ _ _
     (record { coming = g.C.Clock.moments c.routed.new.clock; last = g.C.Clock.last c.routed.new.clock })
     (Ok c.in-Ok-routed.routing) _ (Err c.in-Err-answer.field-0) same_rules c.in-Ok-routed.ensures.read

@@ -1,6 +1,6 @@
 use Rattle.std.proofs.Common.{◌≡◌, ◌≤◌, vec_len, vec_capacity}
 use Rattle.std.specs.Prelude.{All}
-use Rattle.sched.specs.Pass.{IsPassOf, IsSplit}
+use Rattle.sched.specs.Pass.{IsPassOf, IsSplit, split_off}
 use Rattle.scheduler_service.proofs.workers.split_all.Given as goal
 
 abbrev pub invariant-loop : goal.invariant-loop
@@ -10,5 +10,5 @@ invariant-loop g l = record {
   len : vec_len l.passes ≡ l.counter;
   within : l.counter ≤ l.number;
   room : vec_capacity l.passes ≡ vec_capacity l.initial.passes;
-  same : l.pass ≡ l.initial.pass;
+  counted : l.pass ≡ split_off l.counter l.initial.pass;
 }

@@ -4,7 +4,7 @@ use Rattle.scheduler_service.proofs.HeldLemmas.{stays_on}
 use Rattle.scheduler_service.proofs.workers.work.Goals as goal
 
 pub loop-init : goal.loop-init
-loop-init g c = record { tasks = none_yet _ _ _ _; stays = record { of = refl; start = refl; held = refl } }
+loop-init g c = record { tasks = none_yet _ _ _ _; stays = record { of = refl; start = refl; held = refl; splits = refl } }
 
 pub loop-preserved : goal.loop-preserved
 loop-preserved g c = record {

@@ -14,7 +14,7 @@ returns-in-Ok-ask g c =
     c.in-Ok-ask.ensures.ok
     c.host_of.ensures
     c.port_of.ensures
-    (c.get.ensures.bytes ∙ c.in-Ok.ensures)
+    (c.get.ensures.bytes ∙ c.in-Ok.ensures.text)
     (rw c.deref.ensures.value at c.heard.ensures.says) in
     record {
       beaten = heard_beat peer c.args.beat.now c.heard.result

@@ -6,17 +6,19 @@ use Rattle.test_mirror.proofs.connection.serve_mirror_connection.Goals as goal
 pub returns-in-Ok-replied : goal.returns-in-Ok-replied
 returns-in-Ok-replied g c =
     let alone = g.met.L.Link.writes_alone in
-    let same = ap (λ p. p.0)
-    (sym (alone c.take.new.link) ∙ (sym c.send.ensures.apart ∙ alone c.send.new.link)) in
+    let same = sym (alone c.take.new.link) ∙ (sym c.send.ensures.apart ∙ alone c.send.new.link) in
     record {
-      served = sent_by _ _ _ _ c.in-Ok.request c.in-Ok-replied.reply c.send.result _ _ _ _ _ _ _ _ _ _ _
-          c.in-Ok.ensures.cut same c.in-Ok.ensures.writes.0 c.in-Ok.ensures.writes.1
+      served = sent_by _ _ _ _ c.in-Ok.request c.in-Ok-replied.reply c.send.result _ _ _ _ _ _ _ _ _ _ _ _
+          c.in-Ok.ensures.cut (c.in-Ok.ensures.steady (λ e. cc))
+          (ap (λ p. p.0) same) (ap (λ p. p.1) same) c.in-Ok.ensures.writes.0
+          c.in-Ok.ensures.writes.1
           (mirrored_whole _ _ _)
           c.in-Ok-replied.ensures.mirrored
           (record {
             answered = c.send.ensures.answered;
             failed = c.send.ensures.failed;
             memory = c.send.ensures.memory;
+            steady = c.send.ensures.steady;
             no_read = c.send.ensures.no_read;
           });
     }
@@ -24,5 +26,6 @@ returns-in-Ok-replied g c =
 pub returns : goal.returns
 returns g c = record {
   served = unsent _ _ _ _ c.in-Ok.request c.in-Err.field-0 _ _ _ _ _ _ _ _ c.in-Ok.ensures.cut
-      c.in-Ok.ensures.writes.0 (mirrored_whole _ _ _) c.in-Err.ensures.mirrored;
+      (c.in-Ok.ensures.steady (λ e. cc)) c.in-Ok.ensures.writes (mirrored_whole _ _ _)
+      c.in-Err.ensures.mirrored;
 }

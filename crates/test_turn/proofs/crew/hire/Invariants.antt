@@ -1,4 +1,3 @@
-use Rattle.std.proofs.Common.{◌≡◌}
 use Rattle.std.specs.Prelude.{All}
 use Rattle.sched.specs.Pass.{IsPassOf}
 use Rattle.test_turn.proofs.crew.hire.Given as goal
@@ -6,5 +5,5 @@ use Rattle.test_turn.proofs.crew.hire.Given as goal
 abbrev pub invariant-loop-number : goal.invariant-loop-number
 invariant-loop-number g l = record {
   passes : All (λ w. IsPassOf l.scheduler w.pass) l.workers.items;
-  same : l.pass ≡ l.initial.pass;
+  of : IsPassOf l.scheduler l.pass;
 }

@@ -2,6 +2,7 @@
 use Rattle.std.proofs.Common.{◌≡◌}
 use Rattle.folders.specs.Held.{Became}
 use Rattle.folders.specs.Changed.{RemovedUnder}
+use Rattle.toolchain_cache.specs.Cleaned.{KeepsSound}
 use Rattle.toolchain_cache.proofs.Judged.{SoFar}
 use Rattle.toolchain_cache.proofs.cleaning.clean_all.Given as goal
 
@@ -11,3 +12,5 @@ invariant-loop-file g l =
     (g.F.Folder.held l.folder).files
     × Became (RemovedUnder l.root) (g.F.Folder.held l.fn.folder).files (g.F.Folder.held l.folder).files
     × ((g.F.Folder.held l.folder).faults ≡ (g.F.Folder.held l.fn.folder).faults)
+    × Became (KeepsSound l.root l.capacity) (g.F.Folder.held l.fn.folder).files
+    (g.F.Folder.held l.folder).files

@@ -1,15 +1,20 @@
-use Rattle.std.proofs.Common.{◌≡◌, ◌∙◌, None, Some, IsSome, refl, sym, subst}
-use Rattle.folders.specs.Files.{front}
-use Rattle.folders.specs.Held.{Holds, Became}
+use Rattle.std.proofs.Common.{◌≡◌, ◌∙◌, ℕ, List, codes, None, Some, IsSome, refl, sym, ap, subst}
+use Rattle.folders.specs.Files.{file_at, front}
+use Rattle.folders.specs.Held.{Holds, Became, Lacks}
 use Rattle.folders.specs.Changed.{ButUnder}
-use Rattle.toolchain_cache.specs.Archives.{opened_archives}
+use Rattle.toolchain_cache.specs.Archives.{opened_archives, IsInStep}
+use Rattle.toolchain_cache.specs.Stored.{KeepsListed}
+use Rattle.toolchain_cache.proofs.ArchiveOpens.{relists}
+use Rattle.toolchain_cache.proofs.Sparing.{listed_stay}
 use Rattle.folders.proofs.Became.{untold}
-use Rattle.disk_cache.specs.Names.{cache_path, temp_dir}
+use Rattle.disk_cache.specs.Names.{cache_path, temp_dir, weak_path}
 use Rattle.disk_cache.specs.Opening.{IsEmpty, ButOwn, LeftOpen, OpeningFails}
 use Rattle.disk_cache.specs.WeakMaps.{weak_map_at}
+use Rattle.disk_cache.proofs.KeptLemmas.{emptied_listed, cached_listed, loaded_listed}
 use Rattle.disk_cache.proofs.LeftLemmas.{left_none, emptied_left, refused_left, loaded_left}
 use Rattle.disk_cache.proofs.NameLemmas.{cache_apart_temp}
 use Rattle.disk_cache.proofs.OpenLemmas.{open_archives, open_weak, open_temp, open_others, open_empty}
+use Rattle.disk_cache.proofs.OpenLemmas.{open_lacking}
 use Rattle.disk_cache.proofs.OpenLemmas.{load_fails, judge_fails, some_of}
 use Rattle.disk_cache.proofs.client_toolchains.ClientToolchains.open.Goals as goal
 
@@ -80,6 +85,17 @@ returns-clause-emptied g c =
     (held c.prepare.new.folder) (held c.in-Ok-new.cache.folder) c.in-Ok.ensures.names c.get.ensures.text
     c.in-Ok-prepare.ensures.others c.in-Ok-new.ensures.others c.in-Ok-prepare.ensures.emptied)))
 
+pub returns-clause-begun : goal.returns-clause-begun
+returns-clause-begun g c = λ lacks.
+    let held = g.F.Folder.held in
+    subst (λ d. Holds (held c.load.new.cache.folder) (λ files. file_at files (weak_path d)
+    ≡ Some (codes "{}"))) c.in-Ok.ensures.dir
+    (c.in-Ok-load.ensures.begun
+    (open_lacking c.in-Ok.names c.get.result.now (held c.args.folder) (held c.prepare.new.folder)
+    (held c.in-Ok-new.cache.folder) c.in-Ok.ensures.names c.get.ensures.text
+    c.in-Ok-prepare.ensures.others c.in-Ok-new.ensures.others
+    (subst (λ d. Holds (held c.args.folder) (Lacks (weak_path d))) (sym c.in-Ok.ensures.dir) lacks)))
+
 pub returns-clause-others : goal.returns-clause-others
 returns-clause-others g c =
     let held = g.F.Folder.held in
@@ -136,3 +152,83 @@ returns-in_default-copy_all-clause-left g c =
     (held c.prepare.new.folder) c.in-Ok.ensures.dir c.in-Ok.ensures.names c.get.ensures.text
     c.prepare.ensures.left (held c.in-Ok-new.cache.folder) (held c.load.new.cache.folder)
     c.in-Ok-new.ensures.removed c.in-Ok-new.ensures.others c.load.ensures.others c.load.ensures.weak)
+
+pub returns-clause-relists : goal.returns-clause-relists
+returns-clause-relists g c = λ files told.
+    relists (cache_path c.args.cache_dir.now) c.args.cache_size files c.load.new.cache.archives
+    (returns-clause-archives g c files told)
+
+pub returns-clause-in_step : goal.returns-clause-in_step
+returns-clause-in_step g c =
+    let held = g.F.Folder.held in
+    subst (λ (p : List ℕ). IsInStep p (held c.load.new.cache.folder) c.load.new.cache.archives)
+    (c.load.ensures.at.0 ∙ (c.in-Ok-new.ensures.at.0 ∙ (c.get.ensures.text ∙ (c.in-Ok.ensures.names.cache_is
+    ∙ ap cache_path c.in-Ok.ensures.dir))))
+    (c.load.ensures.in_step (subst (λ (p : List ℕ). IsInStep p (held c.in-Ok-new.cache.folder)
+    c.in-Ok-new.cache.archives) (sym c.in-Ok-new.ensures.at.0) c.in-Ok-new.ensures.in_step))
+
+pub returns-clause-kept : goal.returns-clause-kept
+returns-clause-kept g c =
+    let held = g.F.Folder.held in
+    (loaded_listed c.in-Ok.names c.args.cache_dir.now c.get.result.now c.args.cache_size
+    (held c.args.folder).files (held c.prepare.new.folder).files c.in-Ok.ensures.dir c.in-Ok.ensures.names
+    c.get.ensures.text c.prepare.ensures.left
+    (c.in-Ok-prepare.ensures.archives (cache_path c.in-Ok.names.dir) (cache_apart_temp c.in-Ok.names.dir))
+    (held c.in-Ok-new.cache.folder).files c.in-Ok-new.ensures.kept (held c.load.new.cache.folder).files
+    c.load.ensures.others)
+
+pub returns-in_default-clause-spared : goal.returns-in_default-clause-spared
+returns-in_default-clause-spared g c =
+    listed_stay (cache_path c.args.cache_dir.now) c.args.cache_size (g.F.Folder.held c.args.folder).files
+
+pub returns-in-Err-clause-spared : goal.returns-in-Err-clause-spared
+returns-in-Err-clause-spared g c =
+    let held = g.F.Folder.held in
+    emptied_listed c.in-Ok.names c.args.cache_dir.now c.in-Ok.names.cache c.args.cache_size
+    (held c.args.folder).files (held c.prepare.new.folder).files c.in-Ok.ensures.dir c.in-Ok.ensures.names
+    refl c.prepare.ensures.left
+
+pub returns-in-Err-new-clause-spared : goal.returns-in-Err-new-clause-spared
+returns-in-Err-new-clause-spared g c =
+    let held = g.F.Folder.held in
+    cached_listed c.in-Ok.names c.args.cache_dir.now c.get.result.now c.args.cache_size
+    (held c.args.folder).files (held c.prepare.new.folder).files c.in-Ok.ensures.dir c.in-Ok.ensures.names
+    c.get.ensures.text c.prepare.ensures.left
+    (c.in-Ok-prepare.ensures.archives (cache_path c.in-Ok.names.dir) (cache_apart_temp c.in-Ok.names.dir))
+    (held c.in-Err-new.folder).files c.in-Err-new.ensures.spared
+
+pub returns-in-Err-load-clause-spared : goal.returns-in-Err-load-clause-spared
+returns-in-Err-load-clause-spared g c =
+    let held = g.F.Folder.held in
+    subst (λ f. Became (KeepsListed (cache_path c.args.cache_dir.now) c.args.cache_size)
+    (held c.args.folder).files (held f).files) (sym c.into_folder.ensures)
+    (loaded_listed c.in-Ok.names c.args.cache_dir.now c.get.result.now c.args.cache_size
+    (held c.args.folder).files (held c.prepare.new.folder).files c.in-Ok.ensures.dir c.in-Ok.ensures.names
+    c.get.ensures.text c.prepare.ensures.left
+    (c.in-Ok-prepare.ensures.archives (cache_path c.in-Ok.names.dir) (cache_apart_temp c.in-Ok.names.dir))
+    (held c.in-Ok-new.cache.folder).files c.in-Ok-new.ensures.kept (held c.load.new.cache.folder).files
+    c.load.ensures.others)
+
+pub returns-in-Err-judge-clause-spared : goal.returns-in-Err-judge-clause-spared
+returns-in-Err-judge-clause-spared g c =
+    let held = g.F.Folder.held in
+    subst (λ f. Became (KeepsListed (cache_path c.args.cache_dir.now) c.args.cache_size)
+    (held c.args.folder).files (held f).files) (sym c.into_folder-in-Err-judge.ensures)
+    (loaded_listed c.in-Ok.names c.args.cache_dir.now c.get.result.now c.args.cache_size
+    (held c.args.folder).files (held c.prepare.new.folder).files c.in-Ok.ensures.dir c.in-Ok.ensures.names
+    c.get.ensures.text c.prepare.ensures.left
+    (c.in-Ok-prepare.ensures.archives (cache_path c.in-Ok.names.dir) (cache_apart_temp c.in-Ok.names.dir))
+    (held c.in-Ok-new.cache.folder).files c.in-Ok-new.ensures.kept (held c.load.new.cache.folder).files
+    c.load.ensures.others)
+
+pub returns-in_default-copy_all-clause-spared : goal.returns-in_default-copy_all-clause-spared
+returns-in_default-copy_all-clause-spared g c =
+    let held = g.F.Folder.held in
+    subst (λ f. Became (KeepsListed (cache_path c.args.cache_dir.now) c.args.cache_size)
+    (held c.args.folder).files (held f).files) (sym c.into_folder-in_default-copy_all.ensures)
+    (loaded_listed c.in-Ok.names c.args.cache_dir.now c.get.result.now c.args.cache_size
+    (held c.args.folder).files (held c.prepare.new.folder).files c.in-Ok.ensures.dir c.in-Ok.ensures.names
+    c.get.ensures.text c.prepare.ensures.left
+    (c.in-Ok-prepare.ensures.archives (cache_path c.in-Ok.names.dir) (cache_apart_temp c.in-Ok.names.dir))
+    (held c.in-Ok-new.cache.folder).files c.in-Ok-new.ensures.kept (held c.load.new.cache.folder).files
+    c.load.ensures.others)

@@ -6,7 +6,7 @@ use Rattle.disk_cache.proofs.client_toolchains.ClientToolchains.place.Goals as g
 
 pub returns-in-Err-clause-puts : goal.returns-in-Err-clause-puts
 returns-in-Err-clause-puts g c =
-    put_starved _ _ _ _ (config_of c.args.path.now c.args.self.now.configs) c.in-Err.field-0 c.args.path.now
+    put_starved _ _ _ _ _ (config_of c.args.path.now c.args.self.now.configs) c.in-Err.field-0 c.args.path.now
     c.args.key.now c.args.self.now
     (subst (λ x. IsChoice (config_of c.args.path.now c.args.self.now.configs) x)
     (c.in-Archive.is ∙ ap Archive c.in-Err.is) c.choice_of.ensures) refl

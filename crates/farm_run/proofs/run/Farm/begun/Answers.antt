@@ -7,8 +7,8 @@ use Rattle.farm_run.proofs.run.Farm.begun.Goals as goal
 
 pub invariant_of-result : goal.invariant_of-result
 invariant_of-result g c = record {
-  farm = begun_farm c.args.setup c.with_job_ids-state.result c.new.result.items c.new-2.result.items
-      c.args.stations.items c.has_count.ensures c.requires.apart c.with_job_ids-state.ensures.empty
+  farm = begun_farm c.args.setup c.with_rules-state.result c.new.result.items c.new-2.result.items
+      c.args.stations.items c.has_count.ensures c.requires.apart c.with_rules-state.ensures.empty
       c.new.ensures.items c.new-2.ensures.items c.requires.stations;
   room_is = omega (arith, c.requires.stations.size, c.in_ok-room.ensures.room);
   calmly = λ own. subst (λ (es : List Entry). IsRun calm c.args.setup es) (sym c.new.ensures.items) tt;

@@ -8,7 +8,7 @@ use Rattle.farm_laws.proofs.ReliableLemmas.{run_reliable}
 use Rattle.farm_entries.specs.Weather.{calm, free}
 use Rattle.farm_run.specs.Farm.{Runs}
 use Rattle.farm_run.proofs.FarmLemmas.{Runs-push, Runs-entries, Runs-is, Runs-own, Runs-calm, Runs-builds}
-use Rattle.farm_run.proofs.FarmLemmas.{Runs-back, Runs-stopped}
+use Rattle.farm_run.proofs.FarmLemmas.{Runs-back, Runs-stopped, Runs-grants, run_once, run_grants}
 use Rattle.farm_run.proofs.run.Farm.run.Goals as goal
 
 pub loop-event-preserved : goal.loop-event-preserved
@@ -63,6 +63,26 @@ returns-in_err-farm-clause-stopped_builds g c =
     c.in_err-farm.ensures.err c.in_err-farm.ensures.run
     )
 
+pub returns-in_err-farm-clause-stopped_once : goal.returns-in_err-farm-clause-stopped_once
+returns-in_err-farm-clause-stopped_once g c =
+    let p = err_from_is_err_and c.from_residual.result c.from_residual.ensures.1 in
+    rw (p.1, p.2) (
+    run_once c.args.self.setup c.in_err-farm.field-0.0.entries c.words.ensures.count
+    (Runs-is c.args.self (take c.loop-event.event-index c.args.events.now) c.loop-event.farm
+    c.in_err-farm.field-0.0.entries c.loop-event.invariant c.in_err-farm.ensures.err
+    c.in_err-farm.ensures.run)
+    )
+
+pub returns-in_err-farm-clause-stopped_grants : goal.returns-in_err-farm-clause-stopped_grants
+returns-in_err-farm-clause-stopped_grants g c =
+    let p = err_from_is_err_and c.from_residual.result c.from_residual.ensures.1 in
+    rw (p.1, p.2) (
+    run_grants c.args.self.setup c.in_err-farm.field-0.0.entries c.words.ensures.words
+    (Runs-is c.args.self (take c.loop-event.event-index c.args.events.now) c.loop-event.farm
+    c.in_err-farm.field-0.0.entries c.loop-event.invariant c.in_err-farm.ensures.err
+    c.in_err-farm.ensures.run)
+    )
+
 pub returns-in_err-farm-clause-stopped_reliable : goal.returns-in_err-farm-clause-stopped_reliable
 returns-in_err-farm-clause-stopped_reliable g c =
     let p = err_from_is_err_and c.from_residual.result c.from_residual.ensures.1 in
@@ -98,6 +118,15 @@ pub returns-clause-builds : goal.returns-clause-builds
 returns-clause-builds g c =
     Runs-builds c.args.self (take c.loop-event.event-index c.args.events.now) c.loop-event.farm
     c.words.ensures.count c.words.ensures.words c.loop-event.invariant c.obey.ensures.run
+
+pub returns-clause-once : goal.returns-clause-once
+returns-clause-once g c =
+    run_once c.loop-event.farm.setup c.loop-event.farm.entries c.obey.ensures.fits c.obey.ensures.run
+
+pub returns-clause-grants : goal.returns-clause-grants
+returns-clause-grants g c =
+    Runs-grants c.args.self (take c.loop-event.event-index c.args.events.now) c.loop-event.farm
+    c.words.ensures.words c.loop-event.invariant c.obey.ensures.run
 
 pub returns-clause-reliable : goal.returns-clause-reliable
 returns-clause-reliable g c =

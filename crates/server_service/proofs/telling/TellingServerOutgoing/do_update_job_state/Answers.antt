@@ -11,5 +11,5 @@ returns-in-Ok-ask-clause-lent g c =
     c.in-Ok-ask.ensures.ok
     c.host_of-host.ensures
     c.port_of-port.ensures
-    (c.get.ensures.bytes ∙ c.in-Ok.ensures)
+    (c.get.ensures.bytes ∙ c.in-Ok.ensures.text)
     (rw c.deref.ensures.value at c.heard.ensures.says)

@@ -1,15 +1,18 @@
-use Rattle.std.proofs.Common.{◌≡◌, ◌∙◌, ◌≤◌, IsSome, IfOk, IfErr, OnOk, sym, subst, arith}
+use Rattle.std.proofs.Common.{◌≡◌, ◌∙◌, ◌≤◌, Err, IsSome, IfOk, IfErr, OnOk, sym, subst, arith}
 use Rattle.std.specs.Map.{keys_of, lookup}
 use Rattle.std.specs.List.{IsDistinct}
 use Rattle.std.specs.Str.{bytes_eq}
-use Rattle.folders.specs.Held.{Holds}
+use Rattle.folders.specs.Files.{touched}
+use Rattle.folders.specs.Held.{Holds, BecameBy}
+use Rattle.lru_disk_cache.specs.declared.error.Error.TheVariants.{Memory as NoMemory}
 use Rattle.lru_disk_cache.specs.Entries.{total, promoted_key}
-use Rattle.toolchain_cache.specs.Archives.{id_of, IsInStep}
+use Rattle.toolchain_cache.specs.Archives.{id_of, archive_path, IsInStep}
 use Rattle.toolchain_cache.specs.Archiving.{FindFails}
 use Rattle.toolchain_cache.specs.Keyed.{unkeyed, IsKeyed}
 use Rattle.toolchain_cache.proofs.Unkeyed.{keyed_store}
 use Rattle.toolchain_cache.proofs.TcSteps.{looked_keyed, looked_ok, looked_found, digest_found, looked_fails}
 use Rattle.toolchain_cache.proofs.TcSteps.{looked_in_step}
+use Rattle.toolchain_cache.proofs.StoredLemmas.{memory_un, touched_archive}
 use Rattle.toolchain_cache.proofs.tc_cache.TcCache.get_file.Goals as goal
 
 pub invariant_of-self : goal.invariant_of-self
@@ -77,3 +80,20 @@ returns-clause-stands g c =
     omega (arith, c.get_file-answer.ensures.stands.fits) in
     keyed_store (g.F.Folder.held c.get_file-answer.new.self.folder) c.get_file-answer.new.self.disk keyed
     c.len-len.ensures.distinct fits
+
+pub returns-clause-exact : goal.returns-clause-exact
+returns-clause-exact g c =
+    subst (λ s. OnOk c.get_file-answer.result (BecameBy (touched (archive_path s.path c.args.tc.now))
+    (g.F.Folder.held s.folder).files (g.F.Folder.held c.get_file-answer.new.self.folder).files))
+    c.self.view_is (touched_archive c.args.tc.now c.get.result.now c.self.inside.cache.disk
+    (g.F.Folder.held c.self.inside.cache.folder) (g.F.Folder.held c.self.inside.cache.folder)
+    (g.F.Folder.held c.get_file-answer.new.self.folder) c.get_file-answer.result
+    (c.get.ensures.text ∙ c.in-Ok.ensures.key) c.self.invariant c.get_file-answer.ensures.exact)
+
+pub returns-clause-memory : goal.returns-clause-memory
+returns-clause-memory g c =
+    subst (λ s. c.get_file-answer.result ≡ Err NoMemory → IsSome (lookup (bytes_eq c.args.tc.now) s.archives))
+    c.self.view_is (memory_un c.args.tc.now c.get.result.now c.self.inside.cache.disk
+    c.get_file-answer.new.self.disk (g.F.Folder.held c.self.inside.cache.folder)
+    (g.F.Folder.held c.get_file-answer.new.self.folder) c.get_file-answer.result c.key_of.ensures.id
+    (c.get.ensures.text ∙ c.in-Ok.ensures.key) c.self.invariant.keys c.get_file-answer.ensures.fails)

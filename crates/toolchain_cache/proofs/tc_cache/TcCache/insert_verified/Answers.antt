@@ -1,7 +1,8 @@
-use Rattle.std.proofs.Common.{◌≡◌, ◌∙◌, ◌≤◌, length, nat_le, true, Ok, IfErr, OnOk, sym, subst, arith}
+use Rattle.std.proofs.Common.{◌≡◌, ◌∙◌, ◌≤◌, length, nat_le, true, Ok, IfErr, OnOk, OnErr, sym, subst, arith}
 use Rattle.std.specs.Map.{keys_of}
 use Rattle.std.specs.List.{IsDistinct}
 use Rattle.std.specs.Str.{bytes_eq}
+use Rattle.folders.specs.Held.{Became}
 use Rattle.lru_disk_cache.specs.Entries.{total}
 use Rattle.toolchain_cache.specs.Archives.{id_of, IsInStep}
 use Rattle.toolchain_cache.specs.Archiving.{with_archive, archive_verdict, StoreFails}
@@ -11,6 +12,9 @@ use Rattle.std.proofs.lemmas.Slice.Eq.{bytes_eq-Decides}
 use Rattle.lru_disk_cache.specs.Store.{insert_verdict}
 use Rattle.toolchain_cache.proofs.TcSteps.{stored_keyed, stored_ok, stored_fails, stored_in_step}
 use Rattle.toolchain_cache.proofs.TcSteps.{archive_admitted, insert_admitted}
+use Rattle.toolchain_cache.specs.Archiving.{dropped_for}
+use Rattle.toolchain_cache.specs.Stored.{KeepsArchives, PlacesArchive, staying_for}
+use Rattle.toolchain_cache.proofs.StoredLemmas.{kept_archives, left_archives, placed_archive}
 use Rattle.toolchain_cache.proofs.tc_cache.TcCache.insert_verified.Goals as goal
 
 pub invariant_of-self : goal.invariant_of-self
@@ -88,3 +92,45 @@ returns-clause-stands g c =
     omega (arith, c.insert_bytes-answer.ensures.stands.fits) in
     keyed_store (g.F.Folder.held c.insert_bytes-answer.new.self.folder) c.insert_bytes-answer.new.self.disk
     keyed c.len-len.ensures.distinct fits
+
+pub returns-clause-kept : goal.returns-clause-kept
+returns-clause-kept g c =
+    subst (λ s. OnOk c.insert_bytes-answer.result (Became (KeepsArchives s.path
+    (staying_for s.capacity c.args.tc.now (length c.args.bytes.now) s.archives))
+    (g.F.Folder.held s.folder).files (g.F.Folder.held c.insert_bytes-answer.new.self.folder).files))
+    c.self.view_is (kept_archives c.args.tc.now c.get.result.now c.args.bytes.now c.self.inside.cache.disk
+    (g.F.Folder.held c.self.inside.cache.folder) (g.F.Folder.held c.self.inside.cache.folder)
+    (g.F.Folder.held c.insert_bytes-answer.new.self.folder) c.insert_bytes-answer.result
+    c.key_of.ensures.id (c.get.ensures.text ∙ c.in-Ok.ensures.key) c.self.invariant
+    c.insert_bytes-answer.ensures.kept)
+
+pub returns-clause-left : goal.returns-clause-left
+returns-clause-left g c =
+    let digest : id_of c.args.bytes.now ≡ c.args.tc.now = c.requires in
+    let keyed : IsKeyed (g.F.Folder.held c.insert_bytes-answer.new.self.folder)
+    c.insert_bytes-answer.new.self.disk = stored_keyed c.get.result.now c.args.tc.now c.args.bytes.now
+    c.self.inside.cache.disk c.insert_bytes-answer.new.self.disk
+    (g.F.Folder.held c.self.inside.cache.folder) (g.F.Folder.held c.insert_bytes-answer.new.self.folder)
+    c.insert_bytes-answer.result (c.get.ensures.text ∙ c.in-Ok.ensures.key) c.key_of.ensures.id digest
+    c.self.invariant c.insert_bytes-answer.ensures.ok c.insert_bytes-answer.ensures.fails
+    c.insert_bytes-answer.ensures.kept c.insert_bytes-answer.ensures.left
+    c.insert_bytes-answer.ensures.content in
+    subst (λ s. OnErr c.insert_bytes-answer.result (Became (KeepsArchives s.path
+    (unkeyed c.insert_bytes-answer.new.self.disk.entries)) (g.F.Folder.held s.folder).files
+    (g.F.Folder.held c.insert_bytes-answer.new.self.folder).files)) c.self.view_is
+    (left_archives c.self.inside.cache.disk.path c.self.inside.cache.disk.root
+    c.insert_bytes-answer.new.self.disk.entries c.insert_bytes-answer.result
+    (g.F.Folder.held c.self.inside.cache.folder).files
+    (g.F.Folder.held c.insert_bytes-answer.new.self.folder).files c.self.invariant.root keyed.keys
+    c.insert_bytes-answer.ensures.left)
+
+pub returns-clause-exact : goal.returns-clause-exact
+returns-clause-exact g c =
+    subst (λ s. OnOk c.insert_bytes-answer.result (PlacesArchive s.path c.args.tc.now c.args.bytes.now
+    (dropped_for s.capacity c.args.tc.now (length c.args.bytes.now) s.archives)
+    (g.F.Folder.held s.folder) (g.F.Folder.held c.insert_bytes-answer.new.self.folder))) c.self.view_is
+    (placed_archive c.args.tc.now c.get.result.now c.args.bytes.now c.self.inside.cache.disk
+    (g.F.Folder.held c.self.inside.cache.folder) (g.F.Folder.held c.self.inside.cache.folder)
+    (g.F.Folder.held c.insert_bytes-answer.new.self.folder) c.insert_bytes-answer.result
+    c.key_of.ensures.id (c.get.ensures.text ∙ c.in-Ok.ensures.key) c.self.invariant
+    c.insert_bytes-answer.ensures.exact)

@@ -1,8 +1,10 @@
 use Rattle.std.proofs.Common.{◌≡◌, length, Some, Ok, sym, subst}
 use Rattle.folders.specs.Files.{file_at}
-use Rattle.folders.specs.Held.{Holds}
+use Rattle.folders.specs.Held.{Holds, Became}
 use Rattle.toolchain_cache.specs.Archives.{archive_path}
-use Rattle.toolchain_cache.specs.Archiving.{archive_verdict, with_archive}
+use Rattle.toolchain_cache.specs.Archiving.{archive_verdict, with_archive, dropped_for}
+use Rattle.toolchain_cache.specs.Stored.{KeepsArchives, PlacesArchive, staying_for}
+use Rattle.toolchain_cache.proofs.StoredLemmas.{all_ok}
 use Rattle.lru_disk_cache.specs.Moving.{Wrote}
 use Rattle.toolchain_cache.proofs.WithMoves.{store_failed, store_fails}
 use Rattle.lru_disk_cache.proofs.Moves.{with_ok}
@@ -17,9 +19,16 @@ returns-in-Ok-clause-ok g c =
     (λ b. archive_verdict c.args.self.now.capacity c.args.tc.now b ≡ Ok (tt {0}))
     (λ b. c.insert_bytes.new.self.archives ≡ with_archive c.args.self.now.capacity c.args.tc.now
     (length b) c.args.self.now.archives) (λ b. Holds (g.F.Folder.held c.insert_bytes.new.self.folder)
-    (λ files. file_at files (archive_path c.args.self.now.path c.args.tc.now) ≡ Some b))
+    (λ files. file_at files (archive_path c.args.self.now.path c.args.tc.now) ≡ Some b)
+    × Became (KeepsArchives c.args.self.now.path
+    (staying_for c.args.self.now.capacity c.args.tc.now (length b) c.args.self.now.archives))
+    (g.F.Folder.held c.args.self.now.folder).files (g.F.Folder.held c.insert_bytes.new.self.folder).files
+    × PlacesArchive c.args.self.now.path c.args.tc.now b
+    (dropped_for c.args.self.now.capacity c.args.tc.now (length b) c.args.self.now.archives)
+    (g.F.Folder.held c.args.self.now.folder) (g.F.Folder.held c.insert_bytes.new.self.folder))
     c.deref.result.now c.insert_bytes.result wrote c.insert_bytes.ensures.admits c.insert_bytes.ensures.ok
-    c.insert_bytes.ensures.content
+    (all_ok _ _ _ c.insert_bytes.result c.insert_bytes.ensures.content c.insert_bytes.ensures.kept
+    c.insert_bytes.ensures.exact)
 
 pub returns-in-Ok-clause-fails : goal.returns-in-Ok-clause-fails
 returns-in-Ok-clause-fails g c =

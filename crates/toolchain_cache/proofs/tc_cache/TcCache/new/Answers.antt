@@ -12,6 +12,8 @@ use Rattle.folders.proofs.Exactly.{removed_both}
 use Rattle.toolchain_cache.proofs.Insides.{archives_of}
 use Rattle.folders.proofs.Removals.{none_spared, spared_both, spared_of, handed_back}
 use Rattle.folders.specs.Changed.{RemovedUnder}
+use Rattle.toolchain_cache.specs.Stored.{KeepsListed}
+use Rattle.toolchain_cache.proofs.Sparing.{listed_stay, refused_listed, opened_keeps}
 use Rattle.toolchain_cache.proofs.tc_cache.TcCache.new.Goals as goal
 
 pub over-requires-clause-hold : goal.over-requires-clause-hold
@@ -123,3 +125,47 @@ returns-in-Ok-new-clause-left g c = handed_back g.F.Folder.held (λ o. Became (R
     (g.F.Folder.held c.in-Ok-new.cache.folder).files
     (c.in-Ok-new.ensures.stands.root ∙ ap front c.in-Ok-new.ensures.empty.0) c.in-Ok-new.ensures.removed
     c.in-Ok-new.ensures.others))
+
+pub returns-in_default-clause-spared : goal.returns-in_default-clause-spared
+returns-in_default-clause-spared g c =
+    listed_stay c.args.cache_dir.now c.args.cache_size (g.F.Folder.held c.args.folder).files
+
+pub returns-in-Err-clause-spared : goal.returns-in-Err-clause-spared
+returns-in-Err-clause-spared g c =
+    (subst (λ p. Became (KeepsListed p c.args.cache_size) (g.F.Folder.held c.args.folder).files
+    (g.F.Folder.held c.clean.new.folder).files) c.in-Ok.ensures.0 c.clean.ensures.spared)
+
+pub returns-clause-spared : goal.returns-clause-spared
+returns-clause-spared g c =
+    refused_listed c.args.cache_dir.now c.in-Ok.root c.args.cache_size (g.F.Folder.held c.args.folder).files
+    (g.F.Folder.held c.clean.new.folder).files (g.F.Folder.held c.in-Err-new.refusal.1).files c.in-Ok.ensures.1
+    c.in-Ok-clean.ensures.cleaned (subst (λ p. Became (KeepsListed p c.args.cache_size) (g.F.Folder.held c.args.folder).files
+    (g.F.Folder.held c.clean.new.folder).files) c.in-Ok.ensures.0 c.clean.ensures.spared)
+    c.in-Err-new.ensures.spared
+
+pub returns-in-Ok-new-clause-spared : goal.returns-in-Ok-new-clause-spared
+returns-in-Ok-new-clause-spared g c =
+    handed_back g.F.Folder.held (λ o. Became (KeepsListed c.args.cache_dir.now c.args.cache_size)
+    (g.F.Folder.held c.args.folder).files o) c.in-Ok-new.cache.folder c.over.result c.over.ensures.folder
+    (refused_listed c.args.cache_dir.now c.in-Ok.root c.args.cache_size (g.F.Folder.held c.args.folder).files
+    (g.F.Folder.held c.clean.new.folder).files (g.F.Folder.held c.in-Ok-new.cache.folder).files c.in-Ok.ensures.1
+    c.in-Ok-clean.ensures.cleaned (subst (λ p. Became (KeepsListed p c.args.cache_size) (g.F.Folder.held c.args.folder).files
+    (g.F.Folder.held c.clean.new.folder).files) c.in-Ok.ensures.0 c.clean.ensures.spared)
+    (opened_keeps c.args.cache_dir.now c.args.cache_size (g.F.Folder.held c.clean.new.folder)
+    (g.F.Folder.held c.in-Ok-new.cache.folder) c.in-Ok-new.cache.disk c.in-Ok-new.ensures.opened
+    c.in-Ok-new.ensures.removed c.in-Ok-new.ensures.stands))
+
+pub returns-in-Ok-new-clause-kept : goal.returns-in-Ok-new-clause-kept
+returns-in-Ok-new-clause-kept g c =
+    made_ok (λ t. Became (KeepsListed c.args.cache_dir.now c.args.cache_size)
+    (g.F.Folder.held c.args.folder).files (g.F.Folder.held t.folder).files)
+    (are_archive_keys c.in-Ok-new.cache.disk.entries ≡ true)
+    (archives_of c.in-Ok-new.cache.disk c.in-Ok-new.cache.folder) c.over.result
+    c.over.ensures.ok c.over.ensures.keys
+    (λ k. (refused_listed c.args.cache_dir.now c.in-Ok.root c.args.cache_size (g.F.Folder.held c.args.folder).files
+    (g.F.Folder.held c.clean.new.folder).files (g.F.Folder.held c.in-Ok-new.cache.folder).files c.in-Ok.ensures.1
+    c.in-Ok-clean.ensures.cleaned (subst (λ p. Became (KeepsListed p c.args.cache_size) (g.F.Folder.held c.args.folder).files
+    (g.F.Folder.held c.clean.new.folder).files) c.in-Ok.ensures.0 c.clean.ensures.spared)
+    (opened_keeps c.args.cache_dir.now c.args.cache_size (g.F.Folder.held c.clean.new.folder)
+    (g.F.Folder.held c.in-Ok-new.cache.folder) c.in-Ok-new.cache.disk c.in-Ok-new.ensures.opened
+    c.in-Ok-new.ensures.removed c.in-Ok-new.ensures.stands)))

@@ -1,2 +1,0 @@
--- The verdict on what is configured, one more.
-use Rattle.std.proofs.Common.{[]}

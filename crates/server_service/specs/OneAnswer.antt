@@ -1,0 +1,69 @@
+-- Two connections of build servers that meet the same, and what becomes of both.
+use Rattle.std.specs.Prelude.{◌≡◌, ◌<◌, Option, Some, Ok}
+use Rattle.dist_types.specs.Builder.{Built}
+use Rattle.dist_types.specs.Content.{Added}
+use Rattle.folders.specs.Files.{Files}
+use Rattle.build_server.specs.Books.{Books}
+use Rattle.http_head.specs.declared.request.Request.{Request}
+use Rattle.http_routes.specs.Reply.{reply_text}
+use Rattle.http_routes.specs.declared.reply.Response.{Response}
+use Rattle.http_connections.specs.Alike.{AnsweredAlike, HearAlike, GrowAlike}
+use Rattle.http_connections.specs.Served.{Shown, Took, MadeReply}
+use Rattle.server_service.specs.Replied.{Means}
+
+-- Both keepers tell their books, which were the same before; their folder tells its files, its count of faults
+-- is not at its end, and it failed as often in both.
+pub record KeptAlike (old new before after : Option Books) : Type 0 where
+  pub books : Books
+  pub turned : Books
+  pub other : Books
+  pub old_is : old ≡ Some books
+  pub new_is : new ≡ Some turned
+  pub before_is : before ≡ Some books
+  pub after_is : after ≡ Some other
+  pub files : Files
+  pub told : books.folder.files ≡ Some files
+  pub counts : books.folder.faults < 18446744073709551615
+  pub failed : turned.folder.faults ≡ other.folder.faults
+
+-- Two connections meet the same: the same books, whose folder fails as often, and the same is answered to what
+-- is asked of the dialer and of the builder.
+pub record MeetAlike (old new before after : Means) : Type 0 where
+  pub kept : KeptAlike old.kept new.kept before.kept after.kept
+  pub heard : HearAlike old.dialing.asked new.dialing.asked before.dialing.asked after.dialing.asked
+  pub built : AnsweredAlike (λ (b : Built). b.answer) old.builder.rows new.builder.rows before.builder.rows
+      after.builder.rows
+
+-- The same jobs are held, at the same place and within the same capacity; and where the folder failed in
+-- neither, the same archives are listed.
+pub record KeepAlike (old new after : Option Books) : Type 0 where
+  pub books : Books
+  pub turned : Books
+  pub other : Books
+  pub old_is : old ≡ Some books
+  pub new_is : new ≡ Some turned
+  pub after_is : after ≡ Some other
+  pub held : turned.held ≡ other.held
+  pub capacity : turned.capacity ≡ other.capacity
+  pub path : turned.path ≡ other.path
+  pub archives : turned.folder.faults ≡ books.folder.faults → turned.archives ≡ other.archives
+
+-- The same becomes of what was lent: what is kept, and the same rows more of the dialer and of the builder.
+pub record DoAlike (old new before after : Means) : Type 0 where
+  pub kept : KeepAlike old.kept new.kept after.kept
+  pub asked : GrowAlike old.dialing.asked new.dialing.asked before.dialing.asked after.dialing.asked
+  pub built : GrowAlike old.builder.rows new.builder.rows before.builder.rows after.builder.rows
+
+-- The same becomes of both: what is left of the bytes, one request, one reply, and what was lent.
+pub record EndAlike (replies : Option Request → Means → Means → MadeReply → Type 0)
+    (begun done begun_too done_too : Shown) (old new before after : Means) : Type 0 where
+  pub left : done.left ≡ done_too.left
+  pub request : Option Request
+  pub reply : Response
+  pub took : Took begun done request
+  pub took_too : Took begun_too done_too request
+  pub replied : replies request old new (Ok reply)
+  pub replied_too : replies request before after (Ok reply)
+  pub written : Added (reply_text reply) begun.held done.held
+  pub written_too : Added (reply_text reply) begun_too.held done_too.held
+  pub did : DoAlike old new before after
