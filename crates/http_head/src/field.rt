@@ -26,7 +26,7 @@ impl Model for Field {
 
 impl Field {
     /// A copy of a name and a value. Refused for want of memory alone.
-    pub(crate) fn of(alloc: Global, name: &str, value: &[u8]) -> Result<Self, AllocError>
+    pub fn of(alloc: Global, name: &str, value: &[u8]) -> Result<Self, AllocError>
         ensures { IfOk result (λ f. f ≡ (name.now, value.now)) }
     {
         let name_len = name.len();
