@@ -91,11 +91,14 @@ impl<F: Folder> LruDiskCache<F> {
     ///
     /// Refused as `Error::NotPending` exactly where this cache has no open reservation with the entry's
     /// number, key and size, which leaves all as it was; then as `Error::Io` or for want of memory, which
-    /// leave a front of the bytes added.
+    /// leave a front of the bytes added. Where files are told, `FolderFault::Missing` comes exactly where a
+    /// commit of the entry failed before and its file is not there any more, which leaves all as it was.
     pub fn write_entry(&mut self, entry: &LruDiskCacheAddEntry, bytes: &[u8]) -> Result<()>
         ensures ok { OnOk result (BecameBy (appended (entry_path self.old.disk entry.now) bytes.now)
             (F.held self.old.folder).files (F.held self.new.folder).files) }
         ensures pending { OnOk result (is_pending entry.now self.old.disk.pending ≡ true) }
+        ensures there { OnOk result (Holds (F.held self.old.folder)
+            (λ files. ¬ (Lacks (entry_path self.old.disk entry.now) files))) }
         ensures part { OnErr result (Became (PartAppended (entry_path self.old.disk entry.now) bytes.now)
             (F.held self.old.folder).files (F.held self.new.folder).files) }
         ensures fails { IfErr result
@@ -129,7 +132,9 @@ impl<F: Folder> LruDiskCache<F> {
     /// this cache has no open reservation with the entry's number, key and size), `Error::FileTooLarge` and
     /// `Error::PendingSpace`, in this order, which leave all as it was; and as `Error::Io` or for want of
     /// memory, which leave the list as it was, or the key out and some of the least recent gone, none more
-    /// than had to go. The file of the key is as it was or has all the bytes of the temporary file.
+    /// than had to go. The file of the key is as it was or has all the bytes of the temporary file. Where files
+    /// are told, `FolderFault::Missing` comes exactly where a commit of the entry failed before and its file is
+    /// not there any more, which leaves all as it was; where it is there, the commit may be tried again.
     pub fn commit(
         &mut self,
         entry: LruDiskCacheAddEntry,

@@ -88,6 +88,7 @@ pub(crate) fn add_to<F: Folder>(folder: &mut F, path: &str, bytes: &[u8]) -> err
         (F.held folder.new).files) }
     ensures part { OnErr result (Became (PartAppended path.now bytes.now) (F.held folder.old).files
         (F.held folder.new).files) }
+    ensures found { OnOk result (Holds (F.held folder.old) (λ files. ¬ (Lacks path.now files))) }
     ensures others { Became (ButAt path.now) (F.held folder.old).files (F.held folder.new).files }
     ensures there { Became (λ old new. ¬ (Lacks path.now old) → ¬ (Lacks path.now new))
         (F.held folder.old).files (F.held folder.new).files }

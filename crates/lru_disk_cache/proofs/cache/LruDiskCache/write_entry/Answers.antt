@@ -1,6 +1,6 @@
 use Rattle.std.proofs.Common.{◌≡◌, true, false, IfErr, OnOk, OnErr, refl, sym, subst}
 use Rattle.folders.specs.Files.{appended, PartAppended}
-use Rattle.folders.specs.Held.{Became, BecameBy}
+use Rattle.folders.specs.Held.{Holds, Became, BecameBy, Lacks}
 use Rattle.folders.specs.Changed.{ButAt}
 use Rattle.lru_disk_cache.specs.Disk.{Keeps}
 use Rattle.lru_disk_cache.specs.Reserved.{KeepsReserved, is_pending, without_number}
@@ -60,6 +60,15 @@ returns-clause-pending g c =
     c.self.invariant.reserved (sym c.in-Some.ensures.temp) in
     subst (λ s. OnOk c.add_to.result (is_pending c.args.entry.now s.disk.pending ≡ true)) c.self.view_is
     (on_ok c.add_to.result t.1)
+
+pub returns-clause-there : goal.returns-clause-there
+returns-clause-there g c =
+    let t = temp_found c.self.inside.root c.in-Some.temp.now c.args.entry.now c.self.inside.pending
+    c.self.invariant.reserved (sym c.in-Some.ensures.temp) in
+    subst (λ s. OnOk c.add_to.result (Holds (g.F.Folder.held s.folder)
+    (λ files. ¬ (Lacks (entry_path s.disk c.args.entry.now) files)))) c.self.view_is
+    (subst (λ p. OnOk c.add_to.result (Holds (g.F.Folder.held c.self.inside.folder)
+    (λ files. ¬ (Lacks p files)))) t.0 c.add_to.ensures.found)
 
 pub returns-clause-part : goal.returns-clause-part
 returns-clause-part g c =
