@@ -132,9 +132,10 @@ impl<F: Folder> LruDiskCache<F> {
     /// this cache has no open reservation with the entry's number, key and size), `Error::FileTooLarge` and
     /// `Error::PendingSpace`, in this order, which leave all as it was; and as `Error::Io` or for want of
     /// memory, which leave the list as it was, or the key out and some of the least recent gone, none more
-    /// than had to go. The file of the key is as it was or has all the bytes of the temporary file. Where files
-    /// are told, `FolderFault::Missing` comes exactly where a commit of the entry failed before and its file is
-    /// not there any more, which leaves all as it was; where it is there, the commit may be tried again.
+    /// than had to go. The file of the key is as it was or has all the bytes of the temporary file. Where
+    /// files are told, `FolderFault::Missing` comes exactly where a commit of the entry failed before and its
+    /// file is not there any more, which leaves all as it was; where it is there, the commit may be tried
+    /// again.
     pub fn commit(
         &mut self,
         entry: LruDiskCacheAddEntry,

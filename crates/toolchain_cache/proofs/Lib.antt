@@ -7,6 +7,7 @@ pub mod InStep
 pub mod Insides
 pub mod Judged
 pub mod KeyLemmas
+pub mod OtherKeys
 pub mod OverFolder
 pub mod Sparing
 pub mod StoredLemmas

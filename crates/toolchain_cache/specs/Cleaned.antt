@@ -1,11 +1,14 @@
 -- Which files an opening of a cache of archives leaves.
-use Rattle.std.specs.Prelude.{◌≡◌, ℕ, Bool, true, ◌&&◌, nat_le, List, ◌++◌, length, filter, Some}
+use Rattle.std.specs.Prelude.{◌≡◌, ℕ, Bool, true, ◌&&◌, nat_le, if◌then◌else◌, List, [], ◌∷◌, ◌++◌}
+use Rattle.std.specs.Prelude.{length, filter, Some, None}
 use Rattle.std.specs.List.{list_all, IsDistinct}
 use Rattle.std.specs.Map.{keys_of}
 use Rattle.std.specs.Str.{bytes_eq}
 use Rattle.folders.specs.Files.{Files, file_at, is_behind}
+use Rattle.folders.specs.Held.{Held}
 use Rattle.folders.specs.declared.folder.Found.{Found}
 use Rattle.lru_disk_cache.specs.Entries.{Entries}
+use Rattle.lru_disk_cache.specs.Disk.{without_key}
 use Rattle.toolchain_cache.specs.Archives.{is_id, id_of, archive_key}
 use Rattle.folders.specs.Changed.{ButUnder}
 use Rattle.toolchain_cache.specs.Keyed.{id_in}
@@ -46,3 +49,21 @@ is_archive_key key = is_id (id_in key) && bytes_eq key (archive_key (id_in key))
 -- whether all are
 abbrev pub are_archive_keys : Entries → Bool
 are_archive_keys entries = list_all (λ e. is_archive_key e.0) entries
+
+-- a key, where it is no archive's
+abbrev pub other_key : List ℕ → List (List ℕ)
+other_key key = if is_archive_key key then [] else key ∷ []
+
+-- the keys that are no archive's, in their order
+abbrev pub other_keys : Entries → List (List ℕ)
+other_keys [] = []
+other_keys (e ∷ es) = other_key e.0 ++ other_keys es
+
+-- what is listed without these keys
+abbrev pub without_keys : List (List ℕ) → Entries → Entries
+without_keys [] es = es
+without_keys (k ∷ ks) es = without_keys ks (without_key k es)
+
+-- neither of two folders tells its files
+abbrev pub NoneTold : Held → Held → Type 0
+NoneTold old new = (old.files ≡ None) × (new.files ≡ None)

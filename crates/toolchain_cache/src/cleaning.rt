@@ -10,7 +10,7 @@ ghost use Rattle.folders.specs.Held.{Holds, Became, BecameBy, Lacks};
 ghost use Rattle.folders.specs.Changed.{SameAt, RemovedAt, RemovedUnder, Counts};
 ghost use Rattle.toolchain_cache.specs.Archives.{is_id, archive_key};
 ghost use Rattle.toolchain_cache.specs.Cleaned.{found_of, under, is_sound, Cleaned, is_archive_key};
-ghost use Rattle.toolchain_cache.specs.Cleaned.{are_archive_keys, KeepsSound, SparesSound};
+ghost use Rattle.toolchain_cache.specs.Cleaned.{other_key, other_keys, KeepsSound, SparesSound};
 ghost use Rattle.toolchain_cache.specs.Stored.{KeepsListed};
 
 use crate::digest::id_of;
@@ -193,17 +193,27 @@ fn is_archive_key(alloc: Global, key: &str) -> Result<bool, AllocError>
     Ok(bytes == whole.as_slice())
 }
 
-/// Whether all keys are those of archives.
-pub(crate) fn are_archive_keys(
+// One more key, if it is no archive's.
+fn push_other(alloc: Global, others: &mut Vec<Text>, key: &Text) -> Result<(), AllocError>
+    ensures { OnOk result (others.new.items ≡ others.old.items ++ other_key key.now) }
+{
+    if !is_archive_key(alloc, key.get())? {
+        let copy = key.copy(alloc)?;
+        others.push(copy)?;
+    }
+    Ok(())
+}
+
+/// The keys that are no archive's, in their order.
+pub(crate) fn other_keys(
     alloc: Global,
     entries: Iter<'_, Text, u64>,
-) -> Result<bool, AllocError>
-    ensures { IfOk result (λ b. b ≡ are_archive_keys entries.entry) }
+) -> Result<Vec<Text>, AllocError>
+    ensures { IfOk result (λ v. v.items ≡ other_keys entries.entry) }
 {
+    let mut others = Vec::new(alloc);
     for (key, _size) in entries {
-        if !is_archive_key(alloc, key.get())? {
-            return Ok(false);
-        }
+        push_other(alloc, &mut others, key)?;
     }
-    Ok(true)
+    Ok(others)
 }

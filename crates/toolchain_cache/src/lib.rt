@@ -9,6 +9,7 @@ mod archives;
 mod cleaning;
 mod digest;
 pub mod laws;
+mod others;
 mod tc_cache;
 
 pub use archives::Archives;

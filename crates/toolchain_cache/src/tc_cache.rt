@@ -13,7 +13,7 @@ ghost use Rattle.folders.specs.Changed.{ButAt, ButUnder, SameAt, OnlyRemoved, Re
 ghost use Rattle.lru_disk_cache.specs.Disk.{without_key};
 ghost use Rattle.toolchain_cache.specs.Archives.{id_of, archive_path, opened_archives, paths_under, IsInStep};
 ghost use Rattle.toolchain_cache.specs.Archives.{IsArchiveStore};
-ghost use Rattle.toolchain_cache.specs.Cleaned.{are_archive_keys};
+ghost use Rattle.toolchain_cache.specs.Cleaned.{are_archive_keys, NoneTold};
 ghost use Rattle.toolchain_cache.specs.Keyed.{unkeyed, AllHold};
 ghost use Rattle.toolchain_cache.specs.Archiving.{archive_verdict, with_archive, StoreFails, FindFails};
 ghost use Rattle.toolchain_cache.specs.Archiving.{DropFails, Relists, dropped_for};
@@ -23,8 +23,9 @@ ghost use Rattle.toolchain_cache.specs.Archiving.{StoreWithFails};
 ghost use Rattle.folders.specs.Whole.{OldOr, OldOrWritten};
 
 use crate::archives::{Archives, is_key_of};
-use crate::cleaning::{are_archive_keys, clean};
+use crate::cleaning::clean;
 use crate::digest::{is_archive, key_of, toolchain_of};
+use crate::others::drop_others;
 use dist_types::toolchain::Toolchain;
 use folders::fault::FolderFault;
 use folders::folder::Folder;
@@ -587,34 +588,39 @@ impl<F: Folder> TcCache<F> {
         let _sum = self.cache.size();
     }
 
-    // A cache of archives over one whose keys are all theirs, as they are where files are told.
-    fn over(alloc: Global, cache: LruDiskCache<F>) -> std::result::Result<Self, (Error, F)>
+    // A cache of archives over one whose keys are all theirs where files are told. Other keys go, and their
+    // files.
+    fn over(alloc: Global, mut cache: LruDiskCache<F>) -> std::result::Result<Self, (Error, F)>
         requires hold { Holds (F.held cache.folder)
             (λ files. AllHold cache.disk.root files cache.disk.entries) }
+        requires told { Holds (F.held cache.folder) (λ files. are_archive_keys cache.disk.entries ≡ true) }
         requires none { cache.disk.pending ≡ [] }
         requires root { cache.disk.root ≡ front cache.disk.path }
         ensures ok { IfOk result
-            (λ t. t ≡ record {
+            (λ t. ((t ≡ record {
               path = cache.disk.path;
               capacity = cache.disk.capacity;
               archives = unkeyed cache.disk.entries;
               folder = cache.folder;
-            }) }
-        ensures keys { OnOk result (are_archive_keys cache.disk.entries ≡ true) }
+            }) × (are_archive_keys cache.disk.entries ≡ true))
+            ⊎ NoneTold (F.held cache.folder) (F.held t.folder)) }
+        ensures at { IfOk result
+            (λ t. (t.path ≡ cache.disk.path) × (t.capacity ≡ cache.disk.capacity)) }
         ensures stands { IfOk result (λ t. IsArchiveStore t.path t.capacity t.archives (F.held t.folder)) }
-        ensures folder { IfErr result (λ e. e.1 ≡ cache.folder) }
-        ensures why { IfErr result
-            (λ e. (e.0 ≡ Error.Memory)
-            ⊎ ((e.0 ≡ Error.Io FolderFault.Missing) × (are_archive_keys cache.disk.entries ≡ false))) }
+        ensures steady { IfOk result (λ t. (F.held t.folder).faults ≡ (F.held cache.folder).faults) }
+        ensures back { IfErr result (λ e. (e.1 ≡ cache.folder)
+            ⊎ NoneTold (F.held cache.folder) (F.held e.1)) }
+        ensures fails { IfErr result (λ e. OpenFails e.0 (F.held cache.folder) (F.held e.1)) }
+        ensures uncounted { IfErr result (λ e. Uncounted e.0 (F.held cache.folder) (F.held e.1)) }
+        ensures later { IfErr result (λ e. (F.held cache.folder).faults ≤ (F.held e.1).faults) }
     {
-        let Ok(all) = are_archive_keys(alloc, cache.entries()) else {
-            return Err((Error::Memory, cache.into_folder()));
-        };
-        if !all {
-            return Err((Error::Io(FolderFault::Missing), cache.into_folder()));
+        match drop_others(alloc, &mut cache) {
+            Ok(()) => {
+                let opened = TcCache { alloc, cache };
+                opened.shown();
+                Ok(opened)
+            }
+            Err(error) => Err((error, cache.into_folder())),
         }
-        let opened = TcCache { alloc, cache };
-        opened.shown();
-        Ok(opened)
     }
 }
