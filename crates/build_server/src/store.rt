@@ -72,11 +72,7 @@ fn refused(e: Error, mut gone: Vec<Toolchain>, went: usize) -> Result<Submitted,
             Ok(Submitted::Folder(Items::new(gone)))
         }
         Error::Memory => Err(ServerFault::Memory),
-        Error::FileNotInCache => unreachable!(),
-        Error::PendingSpace => unreachable!(),
-        Error::BadKey => unreachable!(),
-        Error::NotPending => unreachable!(),
-        Error::WriterRefused => unreachable!(),
+        _ => unreachable!(),
     }
 }
 
@@ -146,12 +142,6 @@ pub(crate) fn read<F: Folder>(cache: &mut TcCache<F>, tc: Toolchain) -> Result<T
         Ok(archive) => Ok(Taken::Read(tc, Bytes::new(archive))),
         Err(Error::Io(_)) => Ok(Taken::Folder(tc)),
         Err(Error::Memory) => Err(Memory),
-        Err(Error::FileNotInCache) => unreachable!(),
-        Err(Error::FileTooLarge) => unreachable!(),
-        Err(Error::PendingSpace) => unreachable!(),
-        Err(Error::BadKey) => unreachable!(),
-        Err(Error::NotPending) => unreachable!(),
-        Err(Error::WrongDigest) => unreachable!(),
-        Err(Error::WriterRefused) => unreachable!(),
+        Err(_) => unreachable!(),
     }
 }

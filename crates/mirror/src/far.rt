@@ -93,12 +93,7 @@ fn serve<G: Folder>(
         Ok(request) => answer(alloc, cache, &request),
         Err(HttpError::BadHead) => sent(alloc, &Response::NotFound),
         Err(HttpError::Memory) => Err(AskFault::Memory),
-        Err(HttpError::ParseError) => unreachable!(),
-        Err(HttpError::WrongContentType) => unreachable!(),
-        Err(HttpError::BadRealIp) => unreachable!(),
-        Err(HttpError::NoRoute) => unreachable!(),
-        Err(HttpError::Unauthorised(_)) => unreachable!(),
-        Err(HttpError::Status(_, _)) => unreachable!(),
+        Err(_) => unreachable!(),
     }
 }
 

@@ -26,12 +26,7 @@ fn keep<F: Folder>(near: &mut TcCache<F>, tc: &Toolchain, bytes: Bytes) -> Resul
         Err(Error::FileTooLarge) => Ok(Got::Fetched(bytes.into_inner(), false)),
         Err(Error::Io(_)) => Ok(Got::Fetched(bytes.into_inner(), false)),
         Err(Error::Memory) => Err(MirrorError::Memory),
-        Err(Error::WrongDigest) => unreachable!(),
-        Err(Error::FileNotInCache) => unreachable!(),
-        Err(Error::PendingSpace) => unreachable!(),
-        Err(Error::BadKey) => unreachable!(),
-        Err(Error::NotPending) => unreachable!(),
-        Err(Error::WriterRefused) => unreachable!(),
+        Err(_) => unreachable!(),
     }
 }
 

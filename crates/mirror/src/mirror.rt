@@ -76,11 +76,7 @@ fn bring<F: Folder>(
         Err(Error::WrongDigest) => Ok(false),
         Err(Error::Io(_)) => Ok(false),
         Err(Error::Memory) => Err(MirrorError::Memory),
-        Err(Error::FileNotInCache) => unreachable!(),
-        Err(Error::PendingSpace) => unreachable!(),
-        Err(Error::BadKey) => unreachable!(),
-        Err(Error::NotPending) => unreachable!(),
-        Err(Error::WriterRefused) => unreachable!(),
+        Err(_) => unreachable!(),
     }
 }
 

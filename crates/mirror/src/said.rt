@@ -47,12 +47,7 @@ fn said_in(alloc: Global, bytes: &[u8]) -> Result<Said, Memory>
         Ok(reply) => Ok(said_of(reply)),
         Err(HttpError::ParseError) => Ok(Said::Bad(0)),
         Err(HttpError::Memory) => Err(Memory),
-        Err(HttpError::BadHead) => unreachable!(),
-        Err(HttpError::WrongContentType) => unreachable!(),
-        Err(HttpError::BadRealIp) => unreachable!(),
-        Err(HttpError::NoRoute) => unreachable!(),
-        Err(HttpError::Unauthorised(_)) => unreachable!(),
-        Err(HttpError::Status(_, _)) => unreachable!(),
+        Err(_) => unreachable!(),
     }
 }
 

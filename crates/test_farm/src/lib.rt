@@ -6,6 +6,10 @@
 #[cfg(test)]
 mod audits;
 #[cfg(test)]
+mod failing_folder;
+#[cfg(test)]
+mod fault_table;
+#[cfg(test)]
 mod first_run;
 #[cfg(test)]
 mod given_words;
@@ -21,5 +25,7 @@ mod replay;
 mod script_lines;
 #[cfg(test)]
 mod turns;
+#[cfg(test)]
+mod untold_folder;
 #[cfg(test)]
 mod whole_farms;
