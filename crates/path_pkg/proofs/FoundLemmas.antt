@@ -5,7 +5,8 @@ use Rattle.std.proofs.lemmas.List.{append-nil, at_drop_more, at_drop_all}
 use Rattle.path_pkg.specs.Told.{Nodes}
 use Rattle.path_pkg.specs.Spot.{Spot, spot_text}
 use Rattle.path_pkg.specs.Resolved.{paths_below}
-use Rattle.path_pkg.specs.Records.{found, onto, then_onto, all_found, found_at, then_check, link_records}
+use Rattle.path_pkg.specs.Records.{found, onto, then_onto, all_found, found_at, then_check, checked}
+use Rattle.path_pkg.specs.Records.{behind_links, then_behind}
 use Rattle.path_pkg.specs.declared.record.Record.{Record}
 use Rattle.path_pkg.specs.declared.fault.PackError.{PackError}
 
@@ -61,11 +62,18 @@ all_here t g paths i records all past so_far =
     ∙ ap (λ (x : List Record). Ok x) (append-nil records)
 
 -- what stands in a directory
-pub found_there : (t : Nodes) (s : Spot) (links : List Record) (paths : List (List ℕ))
-    (r : Result (List Record) PackError)
-    → links ≡ link_records s.links → paths ≡ paths_below t (spot_text s) → onto links (all_found t paths) ≡ r
-    → found_at t s ≡ then_check r
+pub found_there : (t : Nodes) (s : Spot) (paths : List (List ℕ)) (r : Result (List Record) PackError)
+    → paths ≡ paths_below t (spot_text s) → all_found t paths ≡ r
+    → found_at t s ≡ then_check (then_behind s.links r)
 unfolding found_at
-found_there t s links paths r el ep e =
-    ap (λ x. then_check (onto x (all_found t (paths_below t (spot_text s))))) (sym el)
-    ∙ ap (λ x. then_check (onto links (all_found t x))) (sym ep) ∙ ap then_check e
+found_there t s paths r ep e =
+    ap (λ x. then_check (then_behind s.links (all_found t x))) (sym ep)
+    ∙ ap (λ x. then_check (then_behind s.links x)) e
+
+-- what stands in a directory where something was found
+pub found_behind : (t : Nodes) (s : Spot) (paths : List (List ℕ)) (links : List (List ℕ × List ℕ))
+    (found records : List Record)
+    → paths ≡ paths_below t (spot_text s) → links ≡ s.links → records ≡ behind_links links found
+    → all_found t paths ≡ Ok found → checked records ≡ found_at t s
+found_behind t s paths links found records ep el er e =
+    ap checked (er ∙ ap (λ l. behind_links l found) el) ∙ sym (found_there t s paths (Ok found) ep e)

@@ -15,7 +15,9 @@ use Rattle.path_pkg.specs.Told.{Nodes}
 use Rattle.path_pkg.specs.Framed.{Frame, FrameFits, FramesFit, frame_rank, frame_path, stands_before}
 use Rattle.path_pkg.specs.Framed.{IsInOrder, IsFramedList}
 use Rattle.path_pkg.specs.Records.{RecordsFit}
-use Rattle.path_pkg.specs.Written.{Entry, put, put_all, in_rank, sorted, frame_at, content_in, frames, framed}
+use Rattle.path_pkg.specs.Written.{Entry, put, put_all, in_rank, sorted, frame_at, content_in, frames}
+use Rattle.path_pkg.specs.Written.{pieces, up_to_gone, AreThere}
+use Rattle.path_pkg.proofs.GroupLemmas.{all_pieces}
 use Rattle.path_pkg.specs.Written.{EntriesFit}
 use Rattle.path_pkg.specs.declared.record.Record.{Record}
 use Rattle.path_pkg.proofs.RestoreLemmas.{InOrder, below_all}
@@ -143,8 +145,10 @@ frames_fit t records fit contents =
     (sorted_fits 2 records fit)))
 
 pub package_is_framed : (t : Nodes) (records : List Record) → RecordsFit records
-    → ((path : List ℕ) → length (content_in t path) < 2 ^ 64) → IsFramedList (framed t records)
-    (frames t records)
-unfolding framed
-package_is_framed t records fit contents =
-    record { in_order = frames_in_order t records; fit = frames_fit t records fit contents; written = refl }
+    → ((path : List ℕ) → length (content_in t path) < 2 ^ 64) → AreThere (pieces t records)
+    → IsFramedList (up_to_gone (pieces t records)) (frames t records)
+package_is_framed t records fit contents there = record {
+  in_order = frames_in_order t records;
+  fit = frames_fit t records fit contents;
+  written = all_pieces t records there;
+}

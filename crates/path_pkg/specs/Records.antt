@@ -109,9 +109,20 @@ abbrev pub then_check : Result (List Record) PackError → Result (List Record) 
 then_check (Ok records) = checked records
 then_check (Err e) = Err e
 
--- the links on a directory's way, and each file and each link to a file in it, unless one is too long
+-- what was found in a directory, with the links on its way in front; nothing, where nothing was found
+abbrev pub behind_links : List (List ℕ × List ℕ) → List Record → List Record
+behind_links links [] = []
+behind_links links (r ∷ rs) = link_records links ++ r ∷ rs
+
+abbrev pub then_behind : List (List ℕ × List ℕ) → Result (List Record) PackError
+    → Result (List Record) PackError
+then_behind links (Ok records) = Ok (behind_links links records)
+then_behind links (Err e) = Err e
+
+-- each file and each link to a file in a directory, with the links on the directory's way where there is such
+-- a file, unless one is too long
 unfoldable pub found_at : Nodes → Spot → Result (List Record) PackError
-found_at t s = then_check (onto (link_records s.links) (all_found t (paths_below t (spot_text s))))
+found_at t s = then_check (then_behind s.links (all_found t (paths_below t (spot_text s))))
 
 abbrev pub then_found : Nodes → Result Spot PackError → Result (List Record) PackError
 then_found t (Ok s) = found_at t s

@@ -4,7 +4,7 @@ ghost use Rattle.std.specs.List.{list_all};
 ghost use Rattle.path_pkg.specs.Fault.{is_decided, is_simplify_error, IsPackAnswer, PackLeavesTree};
 ghost use Rattle.path_pkg.specs.Path.{is_absolute};
 ghost use Rattle.path_pkg.specs.Records.{record_fits, is_wanted, unwanted, then_checked, added, is_packed};
-ghost use Rattle.path_pkg.specs.Records.{found, onto, all_found, found_at, contents_records};
+ghost use Rattle.path_pkg.specs.Records.{found, all_found, behind_links, found_at, contents_records};
 ghost use Rattle.path_pkg.specs.Place.{spot_of};
 ghost use Rattle.path_pkg.specs.Resolved.{target_kind_at};
 ghost use Rattle.path_pkg.specs.Simplified.{simplified};
@@ -16,8 +16,9 @@ use crate::path::is_absolute;
 use crate::place::{Place, text};
 use crate::record::{Packed, Record, checked, link_records, records_at};
 use crate::simplify::simplified;
-use crate::tree::{Links, Tree};
-use std::alloc::Global;
+use crate::tree::Tree;
+use dist_types::text::Text;
+use std::alloc::{AllocError, Global};
 
 fn is_wanted(what: Packed, kind: Kind) -> bool
     ensures { result ≡ is_wanted what kind }
@@ -61,7 +62,7 @@ fn leads_to<T: Tree>(tree: &mut T, path: &str, what: Packed) -> Result<bool, Pac
 
 /// What stands at a path, and the links on its way.
 #[tactic(auto, using(crate::proofs::FaultLemmas::untouched))]
-fn records_to<T: Links>(
+fn records_to<T: Tree>(
     alloc: Global,
     tree: &mut T,
     path: &str,
@@ -152,21 +153,19 @@ fn found<T: Tree>(alloc: Global, tree: &mut T, path: &str) -> Result<Vec<Record>
     }
 }
 
-/// What the paths in a directory add, behind these.
+/// What the paths in a directory add.
 #[tactic(auto, using(crate::proofs::FaultLemmas::untouched))]
 fn all_found<T: Tree>(
-    tree: &mut T,
     alloc: Global,
-    before: Vec<Record>,
+    tree: &mut T,
     paths: &[String],
 ) -> Result<Vec<Record>, PackError>
     ensures records { WhereTold (T.told tree.old)
-        (λ t. IsPackAnswer (λ v. v.items) (onto before.items
-        (all_found t (map string_bytes paths.now))) result) }
+        (λ t. IsPackAnswer (λ v. v.items) (all_found t (map string_bytes paths.now)) result) }
     ensures reasons { IfErr result (λ e. is_simplify_error e ≡ true) }
     ensures leaves { PackLeavesTree result (T.told tree.old) (T.told tree.new) }
 {
-    let mut records = before;
+    let mut records = Vec::new(alloc);
     for path in paths {
         match found(alloc, tree, path.as_str()) {
             Ok(mut more) => records.append(&mut more)?,
@@ -201,7 +200,24 @@ pub(crate) fn contents<T: Tree>(
     }
 }
 
-/// The links on a directory's way, and each file and each link to a file in it.
+/// What was found in a directory, with the links on its way in front; nothing, where nothing was found.
+fn behind_links(
+    alloc: Global,
+    links: &[(Text, Text)],
+    mut found: Vec<Record>,
+) -> Result<Vec<Record>, AllocError>
+    ensures { IfOk result (λ v. v.items ≡ behind_links links.now found.items) }
+{
+    if found.is_empty() {
+        return Ok(found);
+    }
+    let mut records = link_records(alloc, links)?;
+    records.append(&mut found)?;
+    Ok(records)
+}
+
+/// Each file and each link to a file in a directory, with the links on the directory's way where there is such
+/// a file.
 #[tactic(auto, using(crate::proofs::FaultLemmas::undecided, crate::proofs::FaultLemmas::of_simplify, crate::proofs::FaultLemmas::pack_refused, crate::proofs::FaultLemmas::untouched))]
 fn contents_at<T: Tree>(
     alloc: Global,
@@ -215,10 +231,12 @@ fn contents_at<T: Tree>(
     ensures leaves { PackLeavesTree result (T.told tree.old) (T.told tree.new) }
 {
     let path = text(alloc, place)?;
-    let links = link_records(alloc, &place.links)?;
     let paths = tree.walk(path.as_str())?;
-    match all_found(tree, alloc, links, &paths) {
-        Ok(records) => checked(records),
+    match all_found(alloc, tree, &paths) {
+        Ok(found) => {
+            let records = behind_links(alloc, &place.links, found)?;
+            checked(records)
+        }
         Err(fault) => Err(fault),
     }
 }

@@ -8,7 +8,7 @@ ghost use Rattle.path_pkg.specs.Simple.{IsSimple, IsFreeOfLinks};
 ghost use Rattle.path_pkg.specs.Simplified.{simplified, simple_path};
 ghost use Rattle.path_pkg.specs.Spot.{Spot};
 ghost use Rattle.path_pkg.specs.Told.{Nodes};
-ghost use Rattle.path_pkg.specs.Written.{content_in, frames, framed};
+ghost use Rattle.path_pkg.specs.Written.{content_in, frames, pieces, up_to_gone, AreThere};
 ghost use Rattle.path_pkg.specs.declared.record.Record.{Record};
 ghost use Rattle.path_pkg.specs.Windows.{mapped_all, local_of, last_sent_as};
 
@@ -25,12 +25,12 @@ pub fn the_last_path_is_given()
         → local_of (mapped_all [] paths) text ≡ last_sent_as text None paths }
 {}
 
-/// What a package is written as is a framed list, of directories, then files, then links, each by path in
-/// byte order.
+/// What a package is written as, where no file of it is gone, is a framed list, of directories, then files,
+/// then links, each by path in byte order.
 pub fn packages_are_framed_lists()
     ensures list { (t : Nodes) (records : List Record) → RecordsFit records
-        → ((path : List ℕ) → length (content_in t path) < 2 ^ 64) → IsFramedList (framed t records)
-        (frames t records) }
+        → ((path : List ℕ) → length (content_in t path) < 2 ^ 64) → AreThere (pieces t records)
+        → IsFramedList (up_to_gone (pieces t records)) (frames t records) }
 {}
 
 /// A path made simple has no empty part, no `.` and no `..`.

@@ -5,7 +5,7 @@ ghost use Rattle.path_pkg.specs.Tree.{is_link, link_at};
 
 use crate::fault::TreeFault;
 use crate::node::Kind;
-use crate::tree::Links;
+use crate::tree::Tree;
 
 /// Where links stand and lead. Only a link is asked for its target.
 pub(crate) trait LinkLookup {
@@ -25,7 +25,7 @@ pub(crate) trait LinkLookup {
         ensures leaves { LeavesTree result (told self.old) (told self.new) };
 }
 
-impl<T: Links> LinkLookup for T {
+impl<T: Tree> LinkLookup for T {
     ghost told = { T.told };
 
     fn is_link(&mut self, path: &str) -> Result<bool, TreeFault> {

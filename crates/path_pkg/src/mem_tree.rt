@@ -16,7 +16,7 @@ use crate::node::{Kind, Node};
 use crate::plain_tree::{
     dir_prefix, in_byte_order, is_within, kind_of, link_of, node, paths_below, target_node,
 };
-use crate::tree::{Links, Tree};
+use crate::tree::Tree;
 use dist_types::fault::raise;
 use dist_types::text::Text;
 use std::alloc::{AllocError, Global};
@@ -67,12 +67,38 @@ impl MemTree {
     }
 }
 
-impl Links for MemTree {
-    ghost use Rattle.std.specs.Prelude.{Some, None, Err};
+fn is_listed_path(paths: &[Text], path: &str) -> bool
+    ensures { result ≡ list_any (bytes_eq path.now) paths.now }
+{
+    paths.iter().any(|p| path == p.get())
+}
+
+fn content_of(node: Option<&Node>) -> Option<&[u8]>
+    ensures { option_copied result ≡ content_of (option_copied node.entry) }
+{
+    match node {
+        None => None,
+        Some(Node::Dir) => None,
+        Some(Node::File(bytes)) => Some(bytes.get()),
+        Some(Node::Link(_)) => None,
+        Some(Node::Other) => None,
+    }
+}
+
+fn has_path_below(prefix: &str, paths: &[Text]) -> bool
+    ensures { result ≡ list_any (is_within prefix.now) paths.now }
+{
+    paths.iter().any(|p| is_within(prefix, p.get()))
+}
+
+impl Tree for MemTree {
+    ghost use Rattle.std.specs.Prelude.{Some, None, Err, ◌⊎◌};
     ghost use Rattle.path_pkg.specs.Told.{WhereTold, LeavesTree};
     ghost use Rattle.path_pkg.specs.Tree.{kind_at, link_at};
+    ghost use Rattle.path_pkg.specs.Resolved.{target_kind_at, content_at, paths_below};
     ghost use Rattle.path_pkg.specs.InMemory.{tree_told, tree_nodes, tree_fails, tree_misnames, tree_calls};
-    ghost use Rattle.path_pkg.specs.InMemory.{kind_verdict, link_verdict, Answers, told_in_byte_order};
+    ghost use Rattle.path_pkg.specs.InMemory.{kind_verdict, link_verdict, target_kind_verdict, read_verdict};
+    ghost use Rattle.path_pkg.specs.InMemory.{walk_verdict, Answers, told_in_byte_order};
 
     ghost told = { tree_told };
 
@@ -122,40 +148,6 @@ impl Links for MemTree {
             }
         }
     }
-
-    ghost in_byte_order = { told_in_byte_order };
-}
-
-fn is_listed_path(paths: &[Text], path: &str) -> bool
-    ensures { result ≡ list_any (bytes_eq path.now) paths.now }
-{
-    paths.iter().any(|p| path == p.get())
-}
-
-fn content_of(node: Option<&Node>) -> Option<&[u8]>
-    ensures { option_copied result ≡ content_of (option_copied node.entry) }
-{
-    match node {
-        None => None,
-        Some(Node::Dir) => None,
-        Some(Node::File(bytes)) => Some(bytes.get()),
-        Some(Node::Link(_)) => None,
-        Some(Node::Other) => None,
-    }
-}
-
-fn has_path_below(prefix: &str, paths: &[Text]) -> bool
-    ensures { result ≡ list_any (is_within prefix.now) paths.now }
-{
-    paths.iter().any(|p| is_within(prefix, p.get()))
-}
-
-impl Tree for MemTree {
-    ghost use Rattle.std.specs.Prelude.{Some, None, Err, ◌⊎◌};
-    ghost use Rattle.path_pkg.specs.Told.{WhereTold, LeavesTree};
-    ghost use Rattle.path_pkg.specs.Resolved.{target_kind_at, content_at, paths_below};
-    ghost use Rattle.path_pkg.specs.InMemory.{tree_told, tree_nodes, tree_fails, tree_misnames, tree_calls};
-    ghost use Rattle.path_pkg.specs.InMemory.{target_kind_verdict, read_verdict, walk_verdict, Answers};
 
     /// Failed exactly where this call is listed.
     fn target_kind(&mut self, path: &str) -> Result<Kind, TreeFault>
@@ -223,4 +215,6 @@ impl Tree for MemTree {
         let paths = paths_below(self.alloc, &self.nodes, path)?;
         Ok(paths)
     }
+
+    ghost in_byte_order = { told_in_byte_order };
 }

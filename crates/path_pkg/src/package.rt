@@ -6,13 +6,13 @@ ghost use Rattle.path_pkg.specs.Outline.{written_order, PutsPackage};
 ghost use Rattle.path_pkg.specs.Path.{is_absolute};
 ghost use Rattle.path_pkg.specs.Records.{record_fits, onto, added, contents_records};
 ghost use Rattle.path_pkg.specs.Told.{WhereTold};
-ghost use Rattle.path_pkg.specs.Written.{framed, Puts, Writes};
+ghost use Rattle.path_pkg.specs.Written.{pieces, PutsPieces, Writes};
 ghost use Rattle.path_pkg.specs.declared.record.Packed.TheVariants.{Dir, File};
 
 use crate::collect::{added, contents};
 use crate::fault::PackError;
 use crate::record::{Packed, Record};
-use crate::tree::{Links, Tree};
+use crate::tree::Tree;
 use crate::write::write_package;
 use dist_types::sink::Sink;
 use std::alloc::{AllocError, Global};
@@ -97,7 +97,8 @@ impl ToolchainPackageBuilder {
     }
 
     /// Adds each file below a directory and each link there that leads to a file, with the links on their
-    /// way, and skips all else. It is refused as `add_dir`, and then adds nothing.
+    /// way, those to the directory too, and skips all else: where there is no such file it adds nothing. It is
+    /// refused as `add_dir`, and then adds nothing.
     pub fn add_dir_contents<T: Tree>(&mut self, tree: &mut T, path: &str) -> Result<(), PackError>
         ensures records { WhereTold (T.told tree.old)
             (λ t. IsPackAnswer (λ _. self.new) (onto self.old (contents_records t path.now)) result) }
@@ -115,16 +116,17 @@ impl ToolchainPackageBuilder {
     }
 
     /// Writes the package as a framed list: its directories, then its files, then its links, each by path in
-    /// byte order, of each path the last. Over a tree that does not tell what stands where, its paths and
-    /// links are these, with some content for each file. TreeFault, NotUtf8 and SinkFault come only where a
-    /// count rose. After a refusal a front of the list was written.
+    /// byte order, of each path the last, each file with its content. Over a tree that does not tell what
+    /// stands where, its paths and links are these, with some content for each file. TreeFault, NotUtf8 and
+    /// SinkFault come only where a count rose. After a refusal a front of the list was written, which ends
+    /// before a file that is gone.
     pub fn into_framed_list<T: Tree, W: Sink>(
         self,
         tree: &mut T,
         out: &mut W,
     ) -> Result<(), PackError>
         ensures puts { WhereTold (T.told tree.old)
-            (λ t. Puts result (framed t self) (W.held out.old) (W.held out.new)) }
+            (λ t. PutsPieces result (pieces t self) (W.held out.old) (W.held out.new)) }
         ensures outline { PutsPackage result (written_order self) (W.held out.old) (W.held out.new) }
         ensures writes { Writes result (T.told tree.old) (T.told tree.new) (W.faults out.old)
             (W.faults out.new) }

@@ -5,7 +5,7 @@ ghost use Rattle.path_pkg.specs.SystemFault.{system_fault};
 
 use crate::fault::TreeFault;
 use crate::node::Kind;
-use crate::tree::{Links, Tree};
+use crate::tree::Tree;
 use dist_types::fault::raise;
 use dist_types::source::{ReadError, StdSource, read_whole};
 use std::alloc::{AllocError, Allocator, Global};
@@ -95,7 +95,7 @@ fn kind_from(told: io::Result<Metadata>) -> Result<Kind, TreeFault>
     }
 }
 
-impl<R: Files + AllocGlobal + Clone + Drop> Links for RealTree<R> {
+impl<R: Files + AllocGlobal + Clone + Drop> Tree for RealTree<R> {
     ghost use Rattle.path_pkg.specs.Real.{real_told, nothing_told};
 
     ghost told = { real_told };
@@ -114,10 +114,6 @@ impl<R: Files + AllocGlobal + Clone + Drop> Links for RealTree<R> {
         }
     }
 
-    ghost in_byte_order = { λ tree t told. absurd (nothing_told t told) };
-}
-
-impl<R: Files + AllocGlobal + Clone + Drop> Tree for RealTree<R> {
     fn target_kind(&mut self, path: &str) -> Result<Kind, TreeFault> {
         match kind_from(fs::metadata(&self.rt, path)) {
             Ok(kind) => Ok(kind),
@@ -138,6 +134,8 @@ impl<R: Files + AllocGlobal + Clone + Drop> Tree for RealTree<R> {
             Err(fault) => Err(self.refused(fault)),
         }
     }
+
+    ghost in_byte_order = { λ tree t told. absurd (nothing_told t told) };
 }
 
 /// The target of a link.

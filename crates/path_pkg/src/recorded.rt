@@ -14,7 +14,7 @@ ghost use Rattle.path_pkg.specs.Written.{Entry, put, put_all};
 use crate::fault::PackError;
 use crate::place::text;
 use crate::simplify::{simplified, simplify_path};
-use crate::tree::Links;
+use crate::tree::Tree;
 use dist_types::text::Text;
 use std::alloc::{AllocError, Global};
 use std::collections::BTreeMap;
@@ -80,7 +80,7 @@ pub(crate) fn record_all(
 
 /// A path made simple, with the links that were replaced on it recorded.
 #[tactic(auto, using(crate::proofs::FaultLemmas::untouched))]
-fn simplify_recorded<T: Links>(
+fn simplify_recorded<T: Tree>(
     alloc: Global,
     tree: &mut T,
     path: &str,
@@ -119,7 +119,7 @@ impl SimplifyPath<'_> {
     /// LinkInParent where a `..` stands behind a link, which with recording is replaced before; TooManyLinks
     /// at the forty-first link that is replaced, those of targets counted. After a refusal the map is as it
     /// was.
-    pub fn simplify<T: Links>(
+    pub fn simplify<T: Tree>(
         &mut self,
         alloc: Global,
         tree: &mut T,

@@ -13,7 +13,7 @@ use crate::fault::PackError;
 use crate::link_lookup::LinkLookup;
 use crate::path::{Step, steps_of};
 use crate::place::{Place, above, below, beside, noted, start, text};
-use crate::tree::Links;
+use crate::tree::Tree;
 use dist_types::text::Text;
 use std::alloc::{AllocError, Global};
 use std::collections::VecDeque;
@@ -168,7 +168,7 @@ pub(crate) fn simplified<T: LinkLookup>(
 /// LinkInParent exactly where a `..` stands behind a link; the rest of the path is not asked for links.
 /// TreeFault and NotUtf8 come only where the tree's count of them rose.
 #[tactic(auto, using(crate::proofs::FaultLemmas::untouched))]
-pub fn simplify_path<T: Links>(alloc: Global, tree: &mut T, path: &str) -> Result<String, PackError>
+pub fn simplify_path<T: Tree>(alloc: Global, tree: &mut T, path: &str) -> Result<String, PackError>
     ensures simplified { WhereTold (T.told tree.old)
         (λ t. IsPackAnswer string_bytes (simple_path false t path.now) result) }
     ensures reasons { IfErr result (λ e. is_simplify_error e ≡ true) }

@@ -1,20 +1,17 @@
 //! Writing a package.
 ghost use Rattle.std.specs.Prelude.{◌≡◌, ◌≤◌, ◌++◌, ◌∷◌, [], length, map, string_bytes, IfOk, IfErr, OnErr};
-ghost use Rattle.std.specs.Prelude.{OnOk};
+ghost use Rattle.std.specs.Prelude.{OnOk, Some};
 ghost use Rattle.dist_types.specs.Cause.{Rose};
-ghost use Rattle.path_pkg.specs.Framed.{frame_bytes};
-ghost use Rattle.path_pkg.specs.Framed.Frame.{FileFrame};
 ghost use Rattle.path_pkg.specs.Outline.{record_at, written_order, PutsFrames, PutsPackage};
 ghost use Rattle.path_pkg.specs.Told.{WhereTold};
-ghost use Rattle.path_pkg.specs.Written.{content_in, frame_at, texts_of, group_bytes, framed, EntriesFit};
-ghost use Rattle.path_pkg.specs.Written.{Puts, Writes};
+ghost use Rattle.path_pkg.specs.Written.{piece_at, pieces, texts_of, EntriesFit, Puts, PutsPieces, Writes};
 ghost use Rattle.path_pkg.specs.Records.{RecordsFit};
 
 use crate::fault::PackError;
 use crate::framed::{END, dir_frame, file_head, link_frame};
 use crate::record::Record;
 use crate::sorted::{Entries, sorted};
-use crate::tree::{Links, Tree};
+use crate::tree::Tree;
 use dist_types::sink::{Sink, write_all};
 use std::alloc::{AllocError, Global};
 
@@ -65,8 +62,7 @@ fn write_file<T: Tree, W: Sink>(
 ) -> Result<(), PackError>
     requires { length path.now ≤ 65535 }
     ensures puts { WhereTold (T.told tree.old)
-        (λ t. Puts result (frame_bytes (FileFrame path.now (content_in t path.now))) (W.held out.old)
-        (W.held out.new)) }
+        (λ t. PutsPieces result (piece_at t 1 (path.now, []) ∷ []) (W.held out.old) (W.held out.new)) }
     ensures outline { PutsFrames result (Record.File path.now ∷ []) (W.held out.old) (W.held out.new) }
     ensures writes { Writes result (T.told tree.old) (T.told tree.new) (W.faults out.old) (W.faults out.new) }
 {
@@ -77,7 +73,7 @@ fn write_file<T: Tree, W: Sink>(
 }
 
 /// Writes the record of one entry.
-#[tactic(auto, using(crate::proofs::WrittenLemmas::began_none, crate::proofs::WrittenLemmas::unwritten, crate::proofs::OutlineLemmas::no_frames, crate::proofs::OutlineLemmas::none_so_far))]
+#[tactic(auto, using(crate::proofs::WrittenLemmas::began_none, crate::proofs::WrittenLemmas::unwritten, crate::proofs::OutlineLemmas::no_frames))]
 fn write_frame<T: Tree, W: Sink>(
     alloc: Global,
     tree: &mut T,
@@ -89,7 +85,7 @@ fn write_frame<T: Tree, W: Sink>(
     requires path { length path.now ≤ 65535 }
     requires target { length target.now ≤ 65535 }
     ensures puts { WhereTold (T.told tree.old)
-        (λ t. Puts result (frame_bytes (frame_at t rank (path.now, target.now))) (W.held out.old)
+        (λ t. PutsPieces result (piece_at t rank (path.now, target.now) ∷ []) (W.held out.old)
         (W.held out.new)) }
     ensures outline { PutsFrames result (record_at rank (path.now, target.now) ∷ []) (W.held out.old)
         (W.held out.new) }
@@ -107,7 +103,7 @@ fn write_frame<T: Tree, W: Sink>(
 }
 
 /// Writes the records of one kind.
-#[tactic(auto, using(crate::proofs::WrittenLemmas::began_none, crate::proofs::WrittenLemmas::unwritten, crate::proofs::OutlineLemmas::no_frames, crate::proofs::OutlineLemmas::none_so_far))]
+#[tactic(auto, using(crate::proofs::WrittenLemmas::began_none, crate::proofs::WrittenLemmas::unwritten, crate::proofs::OutlineLemmas::no_frames, crate::proofs::OutlineLemmas::none_so_far, crate::proofs::GroupLemmas::none_done))]
 fn write_group<T: Tree, W: Sink>(
     alloc: Global,
     tree: &mut T,
@@ -117,7 +113,7 @@ fn write_group<T: Tree, W: Sink>(
 ) -> Result<(), PackError>
     requires { EntriesFit (texts_of entries.now.entries) }
     ensures puts { WhereTold (T.told tree.old)
-        (λ t. Puts result (group_bytes t rank (texts_of entries.now.entries)) (W.held out.old)
+        (λ t. PutsPieces result (map (piece_at t rank) (texts_of entries.now.entries)) (W.held out.old)
         (W.held out.new)) }
     ensures outline { PutsFrames result (map (record_at rank) (texts_of entries.now.entries)) (W.held out.old)
         (W.held out.new) }
@@ -133,7 +129,7 @@ fn write_group<T: Tree, W: Sink>(
 }
 
 /// Writes the links and the byte at the end.
-#[tactic(auto, using(crate::proofs::WrittenLemmas::puts_then, crate::proofs::WrittenLemmas::began_front, crate::proofs::OutlineLemmas::end_package, crate::proofs::OutlineLemmas::stopped_end))]
+#[tactic(auto, using(crate::proofs::OutlineLemmas::end_package, crate::proofs::OutlineLemmas::stopped_end))]
 fn write_links<T: Tree, W: Sink>(
     alloc: Global,
     tree: &mut T,
@@ -142,8 +138,8 @@ fn write_links<T: Tree, W: Sink>(
 ) -> Result<(), PackError>
     requires { EntriesFit (texts_of links.now.entries) }
     ensures puts { WhereTold (T.told tree.old)
-        (λ t. Puts result (group_bytes t 2 (texts_of links.now.entries) ++ 69 ∷ []) (W.held out.old)
-        (W.held out.new)) }
+        (λ t. PutsPieces result (map (piece_at t 2) (texts_of links.now.entries) ++ Some (69 ∷ []) ∷ [])
+        (W.held out.old) (W.held out.new)) }
     ensures outline { PutsPackage result (map (record_at 2) (texts_of links.now.entries)) (W.held out.old)
         (W.held out.new) }
     ensures writes { Writes result (T.told tree.old) (T.told tree.new) (W.faults out.old) (W.faults out.new) }
@@ -155,7 +151,7 @@ fn write_links<T: Tree, W: Sink>(
 }
 
 /// Writes the files, the links and the byte at the end.
-#[tactic(auto, using(crate::proofs::WrittenLemmas::puts_then, crate::proofs::WrittenLemmas::began_front, crate::proofs::OutlineLemmas::then_package, crate::proofs::OutlineLemmas::stopped_package))]
+#[tactic(auto, using(crate::proofs::OutlineLemmas::then_package, crate::proofs::OutlineLemmas::stopped_package))]
 fn write_files<T: Tree, W: Sink>(
     alloc: Global,
     tree: &mut T,
@@ -166,8 +162,9 @@ fn write_files<T: Tree, W: Sink>(
     requires files { EntriesFit (texts_of files.now.entries) }
     requires links { EntriesFit (texts_of links.now.entries) }
     ensures puts { WhereTold (T.told tree.old)
-        (λ t. Puts result (group_bytes t 1 (texts_of files.now.entries) ++
-        (group_bytes t 2 (texts_of links.now.entries) ++ 69 ∷ [])) (W.held out.old) (W.held out.new)) }
+        (λ t. PutsPieces result (map (piece_at t 1) (texts_of files.now.entries) ++
+        (map (piece_at t 2) (texts_of links.now.entries) ++ Some (69 ∷ []) ∷ [])) (W.held out.old)
+        (W.held out.new)) }
     ensures outline { PutsPackage result (map (record_at 1) (texts_of files.now.entries) ++ map (record_at 2)
         (texts_of links.now.entries)) (W.held out.old) (W.held out.new) }
     ensures writes { Writes result (T.told tree.old) (T.told tree.new) (W.faults out.old) (W.faults out.new) }
@@ -179,7 +176,7 @@ fn write_files<T: Tree, W: Sink>(
 }
 
 /// Writes the directories, the files, the links and the byte at the end.
-#[tactic(auto, using(crate::proofs::WrittenLemmas::puts_then, crate::proofs::WrittenLemmas::began_front, crate::proofs::OutlineLemmas::then_package, crate::proofs::OutlineLemmas::stopped_package))]
+#[tactic(auto, using(crate::proofs::OutlineLemmas::then_package, crate::proofs::OutlineLemmas::stopped_package))]
 fn write_entries<T: Tree, W: Sink>(
     alloc: Global,
     tree: &mut T,
@@ -192,9 +189,10 @@ fn write_entries<T: Tree, W: Sink>(
     requires files { EntriesFit (texts_of files.now.entries) }
     requires links { EntriesFit (texts_of links.now.entries) }
     ensures puts { WhereTold (T.told tree.old)
-        (λ t. Puts result (group_bytes t 0 (texts_of dirs.now.entries) ++
-        (group_bytes t 1 (texts_of files.now.entries) ++
-        (group_bytes t 2 (texts_of links.now.entries) ++ 69 ∷ []))) (W.held out.old) (W.held out.new)) }
+        (λ t. PutsPieces result (map (piece_at t 0) (texts_of dirs.now.entries) ++
+        (map (piece_at t 1) (texts_of files.now.entries) ++
+        (map (piece_at t 2) (texts_of links.now.entries) ++ Some (69 ∷ []) ∷ []))) (W.held out.old)
+        (W.held out.new)) }
     ensures outline { PutsPackage result
         (map (record_at 0) (texts_of dirs.now.entries) ++
         (map (record_at 1) (texts_of files.now.entries) ++ map (record_at 2) (texts_of links.now.entries)))
@@ -217,7 +215,7 @@ pub(crate) fn write_package<T: Tree, W: Sink>(
 ) -> Result<(), PackError>
     requires { RecordsFit records.now }
     ensures puts { WhereTold (T.told tree.old)
-        (λ t. Puts result (framed t records.now) (W.held out.old) (W.held out.new)) }
+        (λ t. PutsPieces result (pieces t records.now) (W.held out.old) (W.held out.new)) }
     ensures outline { PutsPackage result (written_order records.now) (W.held out.old) (W.held out.new) }
     ensures writes { Writes result (T.told tree.old) (T.told tree.new) (W.faults out.old) (W.faults out.new) }
 {

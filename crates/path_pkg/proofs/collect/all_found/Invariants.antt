@@ -5,8 +5,8 @@ use Rattle.path_pkg.proofs.collect.all_found.Given as goal
 
 abbrev pub invariant-loop-path : goal.invariant-loop-path
 invariant-loop-path g l = record {
-  told : g.T.Links.told l.tree ≡ g.T.Links.told l.initial.tree;
-  same : (t : Nodes) → (g.T.Links.told l.tree).nodes ≡ Some t
+  told : g.T.Tree.told l.tree ≡ g.T.Tree.told l.initial.tree;
+  same : (t : Nodes) → (g.T.Tree.told l.tree).nodes ≡ Some t
       → onto l.records.items (all_found t (map string_bytes (drop l.path-index l.paths)))
-      ≡ onto l.fn.before.items (all_found t (map string_bytes l.paths));
+      ≡ all_found t (map string_bytes l.paths);
 }
