@@ -47,12 +47,7 @@ pub fn asked_of_checks<K: ClientAuthCheck, V: ServerAuthCheck>(
         }
         Err(HttpError::BadHead) => bad_question(alloc),
         Err(HttpError::Memory) => Err(HttpError::Memory),
-        Err(HttpError::WrongContentType) => unreachable!(),
-        Err(HttpError::ParseError) => unreachable!(),
-        Err(HttpError::BadRealIp) => unreachable!(),
-        Err(HttpError::NoRoute) => unreachable!(),
-        Err(HttpError::Unauthorised(_)) => unreachable!(),
-        Err(HttpError::Status(_, _)) => unreachable!(),
+        Err(_) => unreachable!(),
     }
 }
 

@@ -30,13 +30,7 @@ pub fn want_of_memory(error: HttpError) -> AllocError
 {
     match error {
         HttpError::Memory => AllocError,
-        HttpError::BadHead => unreachable!(),
-        HttpError::WrongContentType => unreachable!(),
-        HttpError::ParseError => unreachable!(),
-        HttpError::BadRealIp => unreachable!(),
-        HttpError::NoRoute => unreachable!(),
-        HttpError::Unauthorised(_) => unreachable!(),
-        HttpError::Status(_, _) => unreachable!(),
+        _ => unreachable!(),
     }
 }
 

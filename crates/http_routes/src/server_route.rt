@@ -155,11 +155,6 @@ pub fn server_asked<A: JobAuthorizer>(
             })
         }
         Err(HttpError::Memory) => Err(HttpError::Memory),
-        Err(HttpError::WrongContentType) => unreachable!(),
-        Err(HttpError::ParseError) => unreachable!(),
-        Err(HttpError::BadRealIp) => unreachable!(),
-        Err(HttpError::NoRoute) => unreachable!(),
-        Err(HttpError::Unauthorised(_)) => unreachable!(),
-        Err(HttpError::Status(_, _)) => unreachable!(),
+        Err(_) => unreachable!(),
     }
 }
