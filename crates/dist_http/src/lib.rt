@@ -10,6 +10,7 @@ pub mod starts;
 
 pub use core_rules::HEARTBEAT_TIMEOUT;
 pub use dist_config::config::{ClientAuth, SchedulerConfig, ServerAuth, ServerConfig};
+pub use dist_config::serve::{MemServe, Serve};
 pub use http_calls::alloc_call::AllocCall;
 pub use http_calls::builder::{RequestBuilder, ReqwestRequestBuilderExt};
 pub use http_calls::run_call::RunCall;

@@ -181,22 +181,17 @@ impl RequestBuilder {
 
 /// The bodies that a request may have.
 pub trait ReqwestRequestBuilderExt {
-    /// Whether it may have one.
-    ghost takes_body: { Self → Type 0 };
-
     /// The same with that body.
     ghost with_body: { Self → List ℕ → Self };
 
     /// The same with a message as its body, in binary. Refused for want of memory alone.
     fn bincode<M: Message>(self, message: &M) -> Result<Self, HttpError>
-        requires { takes_body self }
         ensures ok { IfOk result (λ b. b ≡ with_body self (M.text message.now)) }
         ensures spelled { OnOk result (M.spells message.now (M.text message.now)) }
         ensures err { IfErr result (λ e. e ≡ HttpError.Memory) };
 
     /// The same with that body. It takes no memory.
     fn bytes(self, bytes: Vec<u8>) -> Result<Self, HttpError>
-        requires { takes_body self }
         ensures ok { IfOk result (λ b. b ≡ with_body self bytes.items) }
         ensures err { IfErr result (λ e. e ≡ HttpError.Memory) };
 }
@@ -221,10 +216,8 @@ fn with_body(written: WrittenRequest, bytes: Vec<u8>) -> WrittenRequest
     }
 }
 
-/// A POST alone has a body: the head of a GET tells no length of one.
+/// A body stands behind the empty line, also of a GET, whose head tells no length of it.
 impl ReqwestRequestBuilderExt for RequestBuilder {
-    ghost takes_body = { λ b. b.method ≡ Post };
-
     ghost with_body = { λ b body. record b { body = Some body } };
 
     fn bincode<M: Message>(self, message: &M) -> Result<Self, HttpError> {

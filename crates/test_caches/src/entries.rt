@@ -99,6 +99,7 @@ fn two_entries(rt: &impl Abort, cache: &mut LruDiskCache<ReliableFolder>) {
     let first = prepared(rt, cache, "a/b/c", 10);
     written(rt, cache, &first);
     committed(rt, cache, first);
+    assert_eq!(rt; cache.size(), 10);
     let one = prepared(rt, cache, "a/b/d", 10);
     let two = prepared(rt, cache, "x/y/z", 10);
     assert_eq!(rt; cache.size(), 20);
@@ -127,6 +128,24 @@ fn announced(rt: &impl Abort, cache: &mut LruDiskCache<ReliableFolder>) -> Resul
 fn entries_are_announced_written_and_committed(rt: HostRuntime) -> Result<(), Fail> {
     let mut cache = open(rt.alloc(), 25)?;
     announced(&rt, &mut cache)
+}
+
+/// Errors of a disk cache whose texts are fixed.
+const TEXTS: &[(Error, &str)] = &[
+    (Error::FileTooLarge, "File too large"),
+    (Error::FileNotInCache, "File not in cache"),
+    (Error::Io(FolderFault::Missing), "missing"),
+    (Error::Io(FolderFault::Failed), "failed"),
+];
+
+#[test]
+fn errors_print_their_texts(rt: HostRuntime) -> Result<(), Fail> {
+    let alloc = rt.alloc();
+    for (error, wanted) in TEXTS {
+        let text = error.to_string(alloc)?;
+        assert_eq!(&rt; text.as_str(), *wanted);
+    }
+    Ok(())
 }
 
 #[test]

@@ -49,6 +49,51 @@ fn directories_files_and_links(rt: HostRuntime) -> Result<(), Fail> {
     is_list(&rt, alloc, builder, &mut tree, LIST)
 }
 
+#[test]
+fn a_way_to_no_file_adds_nothing(rt: HostRuntime) -> Result<(), Fail> {
+    let alloc = rt.alloc();
+    let nodes = "d /empty -\nd /empty/more -\nl /way empty\n";
+    let mut tree = tree_of(alloc, nodes, Vec::new(alloc), Vec::new(alloc))?;
+    let mut builder = ToolchainPackageBuilder::new(alloc);
+    builder.add_dir_contents(&mut tree, "/way")?;
+    is_list(&rt, alloc, builder, &mut tree, "45")
+}
+
+/// A file, and the link on the way to its directory.
+const ON_ITS_WAY: &str =
+    "4600000006642f66696c6500000000000000036f6e654c00000003776179000000022f6445";
+
+#[test]
+fn the_way_to_a_file_is_added_with_it(rt: HostRuntime) -> Result<(), Fail> {
+    let alloc = rt.alloc();
+    let nodes = "d /d -\nf /d/file one\nl /way d\n";
+    let mut tree = tree_of(alloc, nodes, Vec::new(alloc), Vec::new(alloc))?;
+    let mut builder = ToolchainPackageBuilder::new(alloc);
+    builder.add_dir_contents(&mut tree, "/way")?;
+    is_list(&rt, alloc, builder, &mut tree, ON_ITS_WAY)
+}
+
+#[test]
+fn a_file_that_is_gone_is_not_packed(rt: HostRuntime) -> Result<(), Fail> {
+    let alloc = rt.alloc();
+    let mut tree = tree(alloc, Vec::new(alloc), Vec::new(alloc))?;
+    let mut builder = ToolchainPackageBuilder::new(alloc);
+    builder.add_dir(&mut tree, "/a/b")?;
+    builder.add_file(&mut tree, "/a/b/f")?;
+    builder.add_file(&mut tree, "/c/g")?;
+    let mut without = tree_of(
+        alloc,
+        "d /a/b -\nf /c/g two\n",
+        Vec::new(alloc),
+        Vec::new(alloc),
+    )?;
+    let mut out = MemSink::new(alloc, Vec::new(alloc));
+    let got = builder.into_framed_list(&mut without, &mut out);
+    assert_eq!(rt; got, Err(PackError::TreeFault));
+    assert_eq!(rt; out.bytes(), b"D\x00\x00\x00\x03a/b".as_slice());
+    Ok(())
+}
+
 /// What is asked, of which path, and the refusal.
 const REFUSED: &str = "dir a|path is not absolute
 file |path is not absolute

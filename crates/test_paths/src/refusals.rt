@@ -3,7 +3,7 @@
 use path_pkg::fault::TreeFault;
 use path_pkg::node::Kind;
 use path_pkg::real_tree::RealTree;
-use path_pkg::tree::{Links, Tree};
+use path_pkg::tree::Tree;
 use std::alloc::{Allocator, Global};
 use std::fs::{File, Metadata, OpenOptions};
 use std::io::{self, ErrorKind};

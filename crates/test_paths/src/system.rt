@@ -4,7 +4,7 @@ use path_pkg::fault::TreeFault;
 use path_pkg::node::Kind;
 use path_pkg::package::ToolchainPackageBuilder;
 use path_pkg::real_tree::RealTree;
-use path_pkg::tree::{Links, Tree};
+use path_pkg::tree::Tree;
 use std::alloc::Global;
 use std::os::unix::fs::symlink;
 use std::process::Abort;

@@ -1,9 +1,9 @@
 //! Scripts, farms, runs, configurations and the command.
 
-use dist_config::serve::{MemServe, Serve};
 use farm::begin::setup;
 use farm::builder::FarmBuilder;
 use farm::command::{dist_main, run_command_line};
+use farm::config::{ClientAuth, SchedulerConfig, ServerAuth, ServerConfig};
 use farm::entry::Entry;
 use farm::event::Event;
 use farm::fault::{ConfigCause, FarmFault};
@@ -12,5 +12,6 @@ use farm::parse::{AuthSubcommand, Command, try_parse_from};
 use farm::print::print_run;
 use farm::run::{Farm, Stopped};
 use farm::script::read_script;
+use farm::serve::{MemServe, Serve};
 use farm::setup::Setup;
 use farm::token_length::TokenLength;
