@@ -2,16 +2,29 @@
 use Rattle.std.proofs.Common.{◌≡◌, ℕ, List, [], ◌∷◌, ◌++◌, Bool, true, false, map, length, Option}
 use Rattle.std.proofs.Common.{Some, None}
 use Rattle.std.proofs.Common.{Result, Ok, Err, refl, ap, ◌∙◌, sym, subst}
-use Rattle.std.specs.Prelude.{slice_get, OnOk, OnErr, IfErr, if◌then◌else◌}
+use Rattle.std.proofs.Common.{◌&&◌}
+use Rattle.std.specs.Prelude.{slice_get, OnOk, OnErr, IfErr, IsErrOf, if◌then◌else◌}
+use Rattle.dist_types.specs.declared.addr.Addr.{Addr}
+use Rattle.dist_types.specs.declared.ids.JobId.{JobId}
+use Rattle.dist_types.specs.declared.results.JobState.{JobState}
+use Rattle.dist_types.specs.declared.results.UpdateJobStateResult.{UpdateJobStateResult}
+use Rattle.core_rules.specs.declared.answers.Undone.{Undone}
 use Rattle.core_rules.specs.declared.entry.CoreEntry.{CoreEntry}
+use Rattle.core_rules.specs.declared.entry.CoreKind.TheVariants.{Undo, Update}
+use Rattle.core_rules.specs.declared.entry.UpdateAnswer.{UpdateAnswer}
+use Rattle.core_rules.specs.declared.entry.UpdateAnswer.TheVariants.{Accepted, Unknown, Wrong, Transition}
 use Rattle.core_rules.specs.declared.error.SchedError.{SchedError}
 use Rattle.core_rules.specs.declared.error.SchedError.TheVariants as error
-use Rattle.core_rules.specs.Answers.{Leaves}
+use Rattle.core_rules.specs.Answers.{Leaves, unended_by, undo_answer, verdict}
 use Rattle.core_rules.specs.Log.{Core, logged}
+use Rattle.core_rules.specs.Reservation.{is_accepted, is_complete}
+use Rattle.core_rules.specs.Rule.{commit_by, undo_by}
 use Rattle.quota.specs.Clients.{Client}
-use Rattle.quota.specs.Holdings.{Owned, Held, owned_after}
-use Rattle.quota.specs.Kept.{IsKept, MakesNone, quota_of, with_made, after_made, owned_new}
+use Rattle.quota.specs.Holdings.{Owned, Held, owned_after, ended_job_if}
+use Rattle.quota.specs.Kept.{IsKept, MakesNone, quota_of, with_made, after_made, owned_new, ends_undone}
+use Rattle.quota.specs.Kept.{ends_updated}
 use Rattle.quota.specs.Quota.{over_core, LeavesOver}
+use Rattle.quota.proofs.EndLemmas.{commit_is, undo_is, update_is, job_no}
 use Rattle.quota.proofs.ListLemmas.{got_end, got_none, got_once}
 use Rattle.quota.proofs.QuotaLemmas.{kept_after, seen_after}
 
@@ -46,12 +59,140 @@ since_none core new (Some d) before old after got is left same =
     some_none : Some d ≡ None → ⊥
     some_none h = absurd cc
 
+-- the entry that was made, if one was, stands behind the log that there was
+got_next : (core : Core) (made : Option CoreEntry) → slice_get (with_made core made).log (length core.log) ≡ made
+got_next core None = got_none core.log
+got_next core (Some e) = got_end core.log e
+
+-- so it is one alone
+made_once : (core : Core) (one other : Option CoreEntry) → with_made core one ≡ with_made core other
+    → one ≡ other
+made_once core one other is =
+    sym (got_next core one) ∙ ap (λ s. slice_get s.log (length core.log)) is ∙ got_next core other
+
 -- What became of what is kept, whatever entry was made.
 pub record Since (core new : Core) (old after : Held) : Type 0 where
   pub owned : (made : Option CoreEntry) → new ≡ with_made core made
       → after.owned ≡ after_made made old.owned
   pub first : after.first ≡ old.first
   pub listed : after.clients ≡ old.clients
+
+-- where the entry is known, or that there is none
+since_made : (core new : Core) (old after : Held) (made : Option CoreEntry) → new ≡ with_made core made
+    → after.owned ≡ after_made made old.owned → after.first ≡ old.first → after.clients ≡ old.clients
+    → Since core new old after
+since_made core new old after made left owned first listed = record {
+  owned = λ other is. owned ∙ ap (λ m. after_made m old.owned) (made_once core made other (sym left ∙ is));
+  first = first;
+  listed = listed;
+}
+
+-- a commit ends nothing
+pub since_commit : (own kept : Bool) (core new : Core) (held : Held) (now : ℕ) (job : JobId) (state : JobState)
+    → new ≡ (if own then logged core (commit_by kept now job state) else core) → Since core new held held
+since_commit true kept core new held now job state left = since_made core new held held
+    (Some (commit_by kept now job state)) left (commit_is job state kept held.owned) refl refl
+since_commit false kept core new held now job state left =
+    since_made core new held held None left refl refl refl
+
+-- an undo ends its reservation where its answer says so
+undone_is : (told : Undone) (ends : Bool) (noted : Option ℕ) (job : JobId) (owned : List Owned)
+    → ends_undone told ≡ ends
+    → map (ended_job_if (ends_undone told) job) owned ≡ map (owned_after (Undo job noted ends)) owned
+undone_is told ends noted job owned is =
+    ap (λ b. map (ended_job_if b job) owned) is ∙ undo_is job noted ends owned
+
+unended_ends : (noted : Option ℕ) → ends_undone (unended_by noted) ≡ false
+unended_ends None = refl
+unended_ends (Some reg) = refl
+
+pub since_undo : (own ends : Bool) (noted : Option ℕ) (core new : Core) (old after : Held) (now : ℕ)
+    (job : JobId) (told : Undone) → new ≡ (if own then logged core (undo_by noted ends now job) else core)
+    → told ≡ undo_answer own (Undo job noted ends)
+    → after.owned ≡ map (ended_job_if (ends_undone told) job) old.owned → after.first ≡ old.first
+    → after.clients ≡ old.clients → Since core new old after
+since_undo true true noted core new old after now job told left is owned first listed =
+    since_made core new old after (Some (undo_by noted true now job)) left
+    (owned ∙ undone_is told true noted job old.owned (ap ends_undone is)) first listed
+since_undo true false noted core new old after now job told left is owned first listed =
+    since_made core new old after (Some (undo_by noted false now job)) left
+    (owned ∙ undone_is told false noted job old.owned (ap ends_undone is ∙ unended_ends noted)) first listed
+since_undo false ends noted core new old after now job told left is owned first listed =
+    since_made core new old after None left
+    (owned ∙ sym (job_no (ends_undone told) job old.owned (ap ends_undone is))) first listed
+
+-- a report ends its job's reservation where it is complete, and its answer is no refusal
+refused_is : (why : SchedError) (answer : UpdateAnswer) (state : JobState)
+    → Err why ≡ verdict answer state → is_accepted answer ≡ false
+refused_is why Accepted state is = absurd cc
+refused_is why Unknown state is = refl
+refused_is why Wrong state is = refl
+refused_is why (Transition from) state is = refl
+
+and_no : (b : Bool) → (b && false) ≡ false
+and_no true = refl
+and_no false = refl
+
+and_yes : (b : Bool) → (b && true) ≡ b
+and_yes true = refl
+and_yes false = refl
+
+refused_none : (why : SchedError) (server : Addr) (job : JobId) (state : JobState) (answer : UpdateAnswer)
+    (owned : List Owned) → Err why ≡ verdict answer state
+    → map (ended_job_if false job) owned ≡ map (owned_after (Update server job state answer)) owned
+refused_none why server job state answer owned is =
+    ap (λ b. map (ended_job_if b job) owned) (sym (ap (λ a. is_complete state && a)
+    (refused_is why answer state is) ∙ and_no (is_complete state)))
+    ∙ update_is server job state answer owned
+
+taken_is : (done : UpdateJobStateResult) (server : Addr) (job : JobId) (state : JobState)
+    (answer : UpdateAnswer) (owned : List Owned) → Ok done ≡ verdict answer state
+    → map (ended_job_if (is_complete state) job) owned
+    ≡ map (owned_after (Update server job state answer)) owned
+taken_is done server job state Accepted owned is =
+    ap (λ b. map (ended_job_if b job) owned) (sym (and_yes (is_complete state)))
+    ∙ update_is server job state Accepted owned
+taken_is done server job state Unknown owned is = absurd cc
+taken_is done server job state Wrong owned is = absurd cc
+taken_is done server job state (Transition from) owned is = absurd cc
+
+pub since_update : (told : Result UpdateJobStateResult SchedError) (core new : Core) (old after : Held)
+    (now : ℕ) (server : Addr) (job : JobId) (state : JobState) (answer : UpdateAnswer)
+    → OnOk told (new ≡ logged core (record { now = now; kind = Update server job state answer }))
+    → IfErr told (λ why. Leaves why core new (record { now = now; kind = Update server job state answer }))
+    → (¬ IsErrOf told error.Memory → told ≡ verdict answer state)
+    → after.owned ≡ map (ended_job_if (ends_updated state told) job) old.owned → after.first ≡ old.first
+    → after.clients ≡ old.clients → Since core new old after
+since_update (Ok done) core new old after now server job state answer left refused is owned first listed =
+    since_made core new old after (Some (record { now = now; kind = Update server job state answer })) left
+    (owned ∙ taken_is done server job state answer old.owned (is (λ h. absurd cc))) first listed
+since_update (Err error.Memory) core new old after now server job state answer left refused is owned first
+    listed =
+    since_made core new old after None refused (owned ∙ sym (job_no false job old.owned refl)) first listed
+since_update (Err error.IdsSpent) core new old after now server job state answer left refused is owned first
+    listed =
+    since_made core new old after (Some (record { now = now; kind = Update server job state answer })) refused
+    (owned ∙ refused_none error.IdsSpent server job state answer old.owned (is (λ h. absurd cc))) first listed
+since_update (Err (error.BadCpus cpus)) core new old after now server job state answer left refused is owned
+    first listed =
+    since_made core new old after (Some (record { now = now; kind = Update server job state answer })) refused
+    (owned ∙ refused_none (error.BadCpus cpus) server job state answer old.owned (is (λ h. absurd cc))) first
+    listed
+since_update (Err error.UnknownJob) core new old after now server job state answer left refused is owned first
+    listed =
+    since_made core new old after (Some (record { now = now; kind = Update server job state answer })) refused
+    (owned ∙ refused_none error.UnknownJob server job state answer old.owned (is (λ h. absurd cc))) first
+    listed
+since_update (Err error.WrongServer) core new old after now server job state answer left refused is owned
+    first listed =
+    since_made core new old after (Some (record { now = now; kind = Update server job state answer })) refused
+    (owned ∙ refused_none error.WrongServer server job state answer old.owned (is (λ h. absurd cc))) first
+    listed
+since_update (Err (error.BadTransition from to)) core new old after now server job state answer left refused
+    is owned first listed =
+    since_made core new old after (Some (record { now = now; kind = Update server job state answer })) refused
+    (owned ∙ refused_none (error.BadTransition from to) server job state answer old.owned (is (λ h. absurd
+    cc))) first listed
 
 -- all stays kept after an entry that makes no reservation
 pub kept_since : (core new : Core) (clients : List Client) (old after : Held) (made : Option CoreEntry)

@@ -29,6 +29,12 @@ pub record Held : Type 0 where
   pub clients : ℕ
   pub has_room : Bool
 
+-- What contracts see of where shares are looked for: the newest of each registration, and whether there is
+-- room for one more.
+pub record Placed : Type 0 where
+  pub newest : List (ℕ × ℕ)
+  pub has_room : Bool
+
 -- whose a reservation is
 abbrev pub owner_of : Owned → Owner
 owner_of o = record { number = o.number; client = o.client }

@@ -1,9 +1,14 @@
 -- What is kept beside the scheduler is what its log says.
 use Rattle.std.specs.Prelude.{◌≡◌, ◌≤◌, ◌<◌, ◌+◌, ◌%◌, ◌^◌, ℕ, List, [], ◌∷◌, length, map, filter, Option}
-use Rattle.std.specs.Prelude.{Some, None, slice_get, true}
+use Rattle.std.specs.Prelude.{Some, None, slice_get, Bool, true, false, Result, Ok, Err}
 use Rattle.std.specs.List.{AllByRecursion}
 use Rattle.dist_types.specs.declared.ids.JobId.{JobId}
+use Rattle.dist_types.specs.declared.results.JobState.{JobState}
+use Rattle.dist_types.specs.declared.results.UpdateJobStateResult.{UpdateJobStateResult}
 use Rattle.dist_types.specs.declared.rules.Rules.TheVariants.{One}
+use Rattle.core_rules.specs.declared.answers.Undone.{Undone}
+use Rattle.core_rules.specs.declared.answers.Undone.TheVariants.{Unassigned}
+use Rattle.core_rules.specs.declared.error.SchedError.{SchedError}
 use Rattle.core_rules.specs.declared.entry.CoreEntry.{CoreEntry}
 use Rattle.core_rules.specs.declared.entry.CoreKind.{CoreKind}
 use Rattle.core_rules.specs.declared.entry.CoreKind.TheVariants.{Reserve}
@@ -11,7 +16,7 @@ use Rattle.core_rules.specs.declared.entry.Reserved.TheVariants.{Job}
 use Rattle.core_rules.specs.Laws.{AreRising}
 use Rattle.core_rules.specs.Log.{Core, logged}
 use Rattle.core_rules.specs.Next.{place_of_booking}
-use Rattle.core_rules.specs.Reservation.{bookings, unended}
+use Rattle.core_rules.specs.Reservation.{bookings, unended, is_complete}
 use Rattle.quota.specs.Clients.{Client}
 use Rattle.quota.specs.Holdings.{Owned, Held, count_of, owned_after, owner_of}
 use Rattle.quota.specs.Quota.{Quota}
@@ -80,6 +85,17 @@ abbrev pub owned_new : CoreKind → ℕ → ℕ → List Owned
 owned_new (Reserve (Job job reg forgiven)) number client =
     record { number = number; job = job; reg = reg; client = client; unended = true } ∷ []
 owned_new other number client = []
+
+-- whether an undo that was answered so ended its reservation
+abbrev pub ends_undone : Undone → Bool
+ends_undone Unassigned = true
+ends_undone other = false
+
+-- whether a report of that state that was answered so ended its job's reservation: it is complete, and was
+-- accepted
+abbrev pub ends_updated : JobState → Result UpdateJobStateResult SchedError → Bool
+ends_updated state (Ok done) = is_complete state
+ends_updated state (Err e) = false
 
 -- an entry makes no reservation
 abbrev pub MakesNone : Option CoreEntry → Type 0

@@ -21,7 +21,7 @@ use crate::rows::{OwnedRow, Share, ShareKey};
 use core_rules::effects::{accepted, complete};
 use core_rules::entry::CoreKind;
 use dist_types::ids::JobId;
-use row_index::{Following, LookupTable};
+use row_index::Following;
 use std::alloc::{AllocError, Global};
 use std::marker::Model;
 
@@ -33,7 +33,6 @@ pub struct Holdings {
     rows: Following<OwnedRow>,
     shares: Vec<Share>,
     places: SharePlaces,
-    newest: LookupTable<u64, usize>,
     held: Vec<u64>,
 }
 
@@ -49,10 +48,10 @@ impl Model for Holdings {
       owned = owned_of h.rows.rows h.shares.items;
       clients = length h.held.items;
       has_room = h.rows.has_room && nat_lt (vec_len h.shares) (vec_capacity h.shares)
-          && nat_lt 0 h.newest.spare;
+          && h.places.has_room;
     } };
 
-    ghost invariant = { λ h. AreKept h.rows.rows h.shares.items (λ n. value_at nat_eq n h.newest.entries)
+    ghost invariant = { λ h. AreKept h.rows.rows h.shares.items (λ n. value_at nat_eq n h.places.newest)
         h.held.items };
 }
 
@@ -80,31 +79,6 @@ fn ended(share: Share) -> Share
     }
 }
 
-/// The share with one reservation less.
-fn lowered(share: Share) -> Share
-    ensures { result ≡ share_lowered share }
-{
-    Share {
-        reg: share.reg,
-        client: share.client,
-        count: share.count.saturating_sub(1),
-        before: share.before,
-        over: share.over,
-    }
-}
-
-/// Puts a share in a place, whose client holds so many less.
-fn put_share(shares: &mut Vec<Share>, held: &mut Vec<u64>, place: usize, share: Share, less: u64)
-    requires within { place < length shares.old.items }
-    requires listed { share.client < length held.old.items }
-    ensures shares { shares.new.items ≡ set shares.old.items place share }
-    ensures held { held.new.items ≡
-        set held.old.items share.client (slice_index_or held.old.items share.client 0 - less) }
-{
-    held[share.client] = held[share.client].saturating_sub(less);
-    shares[place] = share;
-}
-
 /// Ends a share: its client holds so many less. It answers the share before it at its registration.
 fn end_share(shares: &mut Vec<Share>, held: &mut Vec<u64>, place: usize) -> Option<usize>
     requires within { place < length shares.old.items }
@@ -115,7 +89,8 @@ fn end_share(shares: &mut Vec<Share>, held: &mut Vec<u64>, place: usize) -> Opti
     ensures before { (s : Share) → slice_get shares.old.items place ≡ Some s → result ≡ s.before }
 {
     let share = share_at(shares, place);
-    put_share(shares, held, place, ended(share), share.count);
+    held[share.client] = held[share.client].saturating_sub(share.count);
+    shares[place] = ended(share);
     share.before
 }
 
@@ -129,7 +104,8 @@ fn lower_share(shares: &mut Vec<Share>, held: &mut Vec<u64>, place: usize)
 {
     let share = share_at(shares, place);
     let less = if share.over { 0 } else { 1 };
-    put_share(shares, held, place, lowered(share), less);
+    held[share.client] = held[share.client].saturating_sub(less);
+    shares[place].count = share.count.saturating_sub(1);
 }
 
 /// Ends the shares of a registration, from its newest on.
@@ -167,7 +143,6 @@ fn end_row(
 {
     let row = rows.at(place);
     if row.unended {
-        lower_share(shares, held, row.share);
         rows.put(
             place,
             OwnedRow {
@@ -177,16 +152,7 @@ fn end_row(
                 unended: false,
             },
         );
-    }
-}
-
-/// The number under a number.
-fn number_at(table: &LookupTable<u64, usize>, number: u64) -> Option<usize>
-    ensures { result ≡ value_at nat_eq number table.now.entries }
-{
-    match table.get(&number) {
-        Some(found) => Some(*found),
-        None => None,
+        lower_share(shares, held, row.share);
     }
 }
 
@@ -201,12 +167,12 @@ fn is_share_of(shares: &[Share], place: usize, key: ShareKey) -> bool
     }
 }
 
-/// The place, if the client's share at the registration stands there.
-fn if_share_of(shares: &[Share], place: Option<usize>, key: ShareKey) -> Option<usize>
+/// The share of a client at a registration, by its key.
+fn find_share(shares: &[Share], places: &SharePlaces, key: ShareKey) -> Option<usize>
     ensures found { IfSome result (λ place. (s : Share) × (slice_get shares.now place ≡ Some s)
         × (is_of key.reg key.client s ≡ true)) }
 {
-    match place {
+    match places.get(&key) {
         Some(place) => {
             if is_share_of(shares, place, key) {
                 Some(place)
@@ -218,28 +184,20 @@ fn if_share_of(shares: &[Share], place: Option<usize>, key: ShareKey) -> Option<
     }
 }
 
-/// The share of a client at a registration, if it has one.
-fn find_share(shares: &[Share], places: &SharePlaces, key: ShareKey) -> Option<usize>
+/// The share that a client had last, if it is at that registration.
+fn latest_share(shares: &[Share], places: &SharePlaces, key: ShareKey) -> Option<usize>
     ensures found { IfSome result (λ place. (s : Share) × (slice_get shares.now place ≡ Some s)
         × (is_of key.reg key.client s ≡ true)) }
 {
-    match if_share_of(shares, places.latest(key.client), key) {
-        Some(place) => Some(place),
-        None => if_share_of(shares, places.get(&key), key),
-    }
-}
-
-/// The share with one reservation more.
-fn raised(share: Share) -> Share
-    requires small { share.count < 2 ^ 63 }
-    ensures { result ≡ share_raised share }
-{
-    Share {
-        reg: share.reg,
-        client: share.client,
-        count: share.count + 1,
-        before: share.before,
-        over: share.over,
+    match places.latest(key.client) {
+        Some(place) => {
+            if is_share_of(shares, place, key) {
+                Some(place)
+            } else {
+                None
+            }
+        }
+        None => None,
     }
 }
 
@@ -256,26 +214,21 @@ fn raise_share(shares: &mut Vec<Share>, held: &mut Vec<u64>, place: usize)
 {
     let share = share_at(shares, place);
     held[share.client] += 1;
-    shares[place] = raised(share);
+    shares[place].count += 1;
 }
 
-/// Adds the first share of a client at a registration. It takes no memory but for finding it again.
-fn push_share(
-    shares: &mut Vec<Share>,
-    places: &mut SharePlaces,
-    newest: &mut LookupTable<u64, usize>,
-    key: ShareKey,
-) -> usize
+/// Adds the first share of a client at a registration. It takes no memory.
+fn push_share(shares: &mut Vec<Share>, places: &mut SharePlaces, key: ShareKey) -> usize
     requires room { vec_len shares.old < vec_capacity shares.old }
-    requires spare { 0 < newest.old.spare }
-    requires newest { AreNewest shares.old.items (λ n. value_at nat_eq n newest.old.entries) }
+    requires spare { places.old.has_room ≡ true }
+    requires newest { AreNewest shares.old.items (λ n. value_at nat_eq n places.old.newest) }
     ensures shares { shares.new.items ≡ shares.old.items ++
-        share_new key.reg key.client (value_at nat_eq key.reg newest.old.entries) ∷ [] }
-    ensures newest { AreNewest shares.new.items (λ n. value_at nat_eq n newest.new.entries) }
+        share_new key.reg key.client (value_at nat_eq key.reg places.old.newest) ∷ [] }
+    ensures newest { AreNewest shares.new.items (λ n. value_at nat_eq n places.new.newest) }
     ensures place { result ≡ length shares.old.items }
 {
     let place = shares.len();
-    let before = number_at(newest, key.reg);
+    let before = places.newest(key.reg);
     let share = Share {
         reg: key.reg,
         client: key.client,
@@ -287,24 +240,18 @@ fn push_share(
         Ok(()) => (),
         Err(_) => unreachable!(),
     }
-    newest.put(key.reg, place);
     places.add(key, place);
     place
 }
 
-/// The share of a client at a registration, which is made where there is none.
-fn share_for(
-    shares: &mut Vec<Share>,
-    places: &mut SharePlaces,
-    newest: &mut LookupTable<u64, usize>,
-    key: ShareKey,
-) -> usize
+/// The share of a client at a registration that it did not have last, which is made where there is none.
+fn other_share(shares: &mut Vec<Share>, places: &mut SharePlaces, key: ShareKey) -> usize
     requires room { vec_len shares.old < vec_capacity shares.old }
-    requires spare { 0 < newest.old.spare }
-    requires newest { AreNewest shares.old.items (λ n. value_at nat_eq n newest.old.entries) }
+    requires spare { places.old.has_room ≡ true }
+    requires newest { AreNewest shares.old.items (λ n. value_at nat_eq n places.old.newest) }
     requires linked { AreLinked shares.old.items }
     ensures grown { IsGrown shares.old.items shares.new.items key.reg key.client }
-    ensures newest { AreNewest shares.new.items (λ n. value_at nat_eq n newest.new.entries) }
+    ensures newest { AreNewest shares.new.items (λ n. value_at nat_eq n places.new.newest) }
     ensures linked { AreLinked shares.new.items }
     ensures found { (s : Share) × (slice_get shares.new.items result ≡ Some s)
         × (is_of key.reg key.client s ≡ true) }
@@ -314,7 +261,25 @@ fn share_for(
             places.note(key.client, place);
             place
         }
-        None => push_share(shares, places, newest, key),
+        None => push_share(shares, places, key),
+    }
+}
+
+/// The share of a client at a registration, which is made where there is none.
+fn share_for(shares: &mut Vec<Share>, places: &mut SharePlaces, key: ShareKey) -> usize
+    requires room { vec_len shares.old < vec_capacity shares.old }
+    requires spare { places.old.has_room ≡ true }
+    requires newest { AreNewest shares.old.items (λ n. value_at nat_eq n places.old.newest) }
+    requires linked { AreLinked shares.old.items }
+    ensures grown { IsGrown shares.old.items shares.new.items key.reg key.client }
+    ensures newest { AreNewest shares.new.items (λ n. value_at nat_eq n places.new.newest) }
+    ensures linked { AreLinked shares.new.items }
+    ensures found { (s : Share) × (slice_get shares.new.items result ≡ Some s)
+        × (is_of key.reg key.client s ≡ true) }
+{
+    match latest_share(shares, places, key) {
+        Some(place) => place,
+        None => other_share(shares, places, key),
     }
 }
 
@@ -329,15 +294,9 @@ fn none_held(alloc: Global, clients: usize) -> Result<Vec<u64>, AllocError>
 }
 
 /// What is kept where there is no row, no share, and each client holds nothing. It takes no memory.
-fn empty(
-    alloc: Global,
-    rows: Following<OwnedRow>,
-    places: SharePlaces,
-    newest: LookupTable<u64, usize>,
-    held: Vec<u64>,
-) -> Holdings
+fn empty(alloc: Global, rows: Following<OwnedRow>, places: SharePlaces, held: Vec<u64>) -> Holdings
     requires rows { rows.rows ≡ [] }
-    requires newest { newest.entries ≡ [] }
+    requires newest { places.newest ≡ [] }
     requires held { held.items ≡ replicate (length held.items) 0 }
     ensures first { result.first ≡ rows.first }
     ensures owned { result.owned ≡ [] }
@@ -347,7 +306,6 @@ fn empty(
         rows,
         shares: Vec::new(alloc),
         places,
-        newest,
         held,
     }
 }
@@ -362,7 +320,7 @@ impl Holdings {
         let held = none_held(alloc, clients)?;
         let places = SharePlaces::new(alloc, clients)?;
         let rows = Following::new(alloc, first);
-        Ok(empty(alloc, rows, places, LookupTable::new(alloc), held))
+        Ok(empty(alloc, rows, places, held))
     }
 
     /// How many reservations the client in that place holds.
@@ -382,8 +340,7 @@ impl Holdings {
     {
         self.rows.make_room()?;
         self.shares.reserve(1)?;
-        self.places.make_room()?;
-        self.newest.make_room(1)
+        self.places.make_room()
     }
 
     /// Adds the reservation of the entry of that number. It takes no memory.
@@ -403,7 +360,7 @@ impl Holdings {
     {
         let _made = self.rows.len();
         let key = ShareKey { reg, client };
-        let share = share_for(&mut self.shares, &mut self.places, &mut self.newest, key);
+        let share = share_for(&mut self.shares, &mut self.places, key);
         raise_share(&mut self.shares, &mut self.held, share);
         self.rows.push(OwnedRow {
             number,
@@ -442,7 +399,7 @@ impl Holdings {
         ensures first { self.new.first ≡ self.old.first }
         ensures clients { self.new.clients ≡ self.old.clients }
     {
-        let newest = number_at(&self.newest, reg);
+        let newest = self.places.newest(reg);
         end_shares(&mut self.shares, &mut self.held, reg, newest);
     }
 
@@ -483,7 +440,7 @@ impl Holdings {
     }
 
     /// Ends the reservation of a job, where something ends it.
-    fn end_job_if(&mut self, ends: bool, job: JobId)
+    pub fn end_job_if(&mut self, ends: bool, job: JobId)
         ensures owned { self.new.owned ≡ map (ended_job_if ends job) self.old.owned }
         ensures first { self.new.first ≡ self.old.first }
         ensures clients { self.new.clients ≡ self.old.clients }

@@ -16,7 +16,7 @@ ghost use Rattle.quota.specs.Asked.{IsReserveFor};
 ghost use Rattle.quota.specs.Clients.{client_of, AreNamedOnce, IsRefused};
 ghost use Rattle.quota.specs.Holdings.{count_of, owner_of};
 ghost use Rattle.quota.specs.Kept.{Agree, AreWithin, IsKept, with_made, after_made};
-ghost use Rattle.quota.specs.Kept.{IsBelow, quota_of, FollowsIn, owned_picked};
+ghost use Rattle.quota.specs.Kept.{IsBelow, quota_of, FollowsIn, owned_picked, ends_undone, ends_updated};
 ghost use Rattle.quota.specs.Quota.{held_of, over_core, logged_for, owner_by, AreOwned, IsWithin, LeavesOver};
 ghost use Rattle.quota.specs.Asked.{IsReserve, ByRefusal, refusal_at, fault_of};
 ghost use Rattle.sched_core.specs.Picked.{IsPicked};
@@ -26,6 +26,7 @@ use crate::fault::QuotaFault;
 use crate::holdings::Holdings;
 use crate::picked::QuotaPicked;
 use core_rules::answers::{Committed, Undone};
+use core_rules::effects::complete;
 use core_rules::entry::CoreEntry;
 use core_rules::error::SchedError;
 use dist_types::ids::{JobId, ServerId, ServerNonce};
@@ -123,6 +124,7 @@ impl<A: JobAuthorizer> QuotaState<A> {
     /// it is
     /// a reserve of the scheduler, for which it took its memory before: `Core(IdsSpent)` is logged, `Memory`
     /// changes nothing.
+    #[inline(always)]
     pub fn reserve_for(&mut self, now: u64, client: &str) -> Result<QuotaPicked, QuotaFault>
         ensures reserved { IsReserveFor A.key_of A.token_for now client.now self.old self.new result }
         ensures within { IsWithin self.new }
@@ -142,6 +144,7 @@ impl<A: JobAuthorizer> QuotaState<A> {
     }
 
     /// Spends a reservation, as the scheduler does. It takes no memory.
+    #[inline(always)]
     pub fn commit(&mut self, now: u64, r: Reservation, state: JobState) -> Committed
         requires begins { is_initial state ≡ true }
         ensures logged { self.new ≡ over_core self.old
@@ -151,13 +154,12 @@ impl<A: JobAuthorizer> QuotaState<A> {
         ensures answer { result ≡ committed_by (is_among (unspent self.old.core.log) r.number r.job)
             (rule self.old.core (call.Commit now r.number r.job state)).kind r }
     {
-        let before = self.state.history().len();
-        let committed = self.state.commit(now, r, state);
-        absorb_since(&self.state, &mut self.holdings, before);
-        committed
+        // It ends no reservation.
+        self.state.commit(now, r, state)
     }
 
     /// Gives a reservation back, as the scheduler does. It takes no memory.
+    #[inline(always)]
     pub fn undo(&mut self, now: u64, r: Reservation) -> Undone
         ensures logged { self.new ≡ over_core self.old
             (if is_among (unspent self.old.core.log) r.number r.job then
@@ -165,9 +167,9 @@ impl<A: JobAuthorizer> QuotaState<A> {
         ensures answer { result ≡ undo_answer (is_among (unspent self.old.core.log) r.number r.job)
             (rule self.old.core (call.Undo now r.number r.job)).kind }
     {
-        let before = self.state.history().len();
+        let job = r.job_id();
         let undone = self.state.undo(now, r);
-        absorb_since(&self.state, &mut self.holdings, before);
+        self.holdings.end_job_if(ends_undone(undone), job);
         undone
     }
 
@@ -196,6 +198,7 @@ impl<A: JobAuthorizer> QuotaState<A> {
 
     /// Takes a server's report that a job is in a new state, as the scheduler does. Every answer but Memory,
     /// which changes nothing, is logged.
+    #[inline(always)]
     pub fn update(
         &mut self,
         now: u64,
@@ -210,9 +213,8 @@ impl<A: JobAuthorizer> QuotaState<A> {
         ensures err { IfErr result (λ e. LeavesOver e self.old self.new
             (rule self.old.core (call.Update now server job state))) }
     {
-        let before = self.state.history().len();
         let updated = self.state.update(now, server, job, state);
-        absorb_since(&self.state, &mut self.holdings, before);
+        self.holdings.end_job_if(ends_updated(state, &updated), job);
         updated
     }
 
@@ -236,6 +238,23 @@ fn is_full(held: u64, limit: u64) -> bool
     ensures { result ≡ (held == limit) }
 {
     held == limit
+}
+
+/// Whether an undo that was answered so ended its reservation.
+fn ends_undone(undone: Undone) -> bool
+    ensures { result ≡ ends_undone undone }
+{
+    matches!(undone, Undone::Unassigned)
+}
+
+/// Whether a report of that state that was answered so ended its job's reservation.
+fn ends_updated(state: JobState, updated: &Result<UpdateJobStateResult, SchedError>) -> bool
+    ensures { result ≡ ends_updated state updated.now }
+{
+    match updated {
+        Ok(_) => complete(state),
+        Err(_) => false,
+    }
 }
 
 /// The entry in a place of the log, if there is one.
@@ -290,6 +309,7 @@ fn note(holdings: &mut Holdings, picked: &Picked, client: usize)
 }
 
 /// Reserves a job for the client in that place, which holds less than it may.
+#[inline(always)]
 fn reserve_at<A: JobAuthorizer>(
     state: &mut SchedState<A>,
     holdings: &mut Holdings,
@@ -317,6 +337,7 @@ fn reserve_at<A: JobAuthorizer>(
 }
 
 /// Reserves a job for the client in that place, unless it holds as many as it may.
+#[inline(always)]
 fn reserve_listed<A: JobAuthorizer>(
     state: &mut SchedState<A>,
     holdings: &mut Holdings,

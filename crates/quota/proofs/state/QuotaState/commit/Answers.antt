@@ -1,39 +1,29 @@
-use Rattle.std.proofs.Common.{length, refl, ap, sym}
+use Rattle.std.proofs.Common.{refl}
 use Rattle.core_rules.specs.Rule.{rule, is_among}
-use Rattle.core_rules.specs.Reservation.{unspent}
+use Rattle.core_rules.specs.Reservation.{unspent, unended}
 use Rattle.core_rules.specs.declared.call.Call.TheVariants as call
-use Rattle.quota.proofs.SinceLemmas.{Since, kept_spent, seen_spent}
+use Rattle.quota.proofs.SinceLemmas.{since_commit, kept_spent, seen_spent}
 use Rattle.quota.proofs.state.QuotaState.commit.Goals as goal
 
 pub invariant_of-self : goal.invariant_of-self
 invariant_of-self g c =
     let s = c.self.inside in
-    let since : Since s.state c.commit-committed.new.self s.holdings c.absorb_since.new.holdings = record {
-      owned = λ made left. c.absorb_since.ensures.owned s.state made
-          (sym (ap (λ l. length l) c.history-before.ensures.log)) left;
-      first = c.absorb_since.ensures.first;
-      listed = c.absorb_since.ensures.clients;
-    } in
-    kept_spent (is_among (unspent s.state.log) c.args.r.number c.args.r.job) s.state
-    c.commit-committed.new.self s.clients s.holdings
-    c.absorb_since.new.holdings (rule s.state (call.Commit c.args.now c.args.r.number c.args.r.job
-    c.args.state))
-    c.commit-committed.ensures.logged (λ n m. refl) since c.self.invariant
+    let own = is_among (unspent s.state.log) c.args.r.number c.args.r.job in
+    let since = since_commit own (is_among (unended s.state.log) c.args.r.number c.args.r.job) s.state
+    c.commit.new.self s.holdings c.args.now c.args.r.job c.args.state c.commit.ensures.logged in
+    kept_spent own s.state c.commit.new.self s.clients s.holdings s.holdings
+    (rule s.state (call.Commit c.args.now c.args.r.number c.args.r.job c.args.state))
+    c.commit.ensures.logged (λ n m. refl) since c.self.invariant
 
 pub returns-clause-logged : goal.returns-clause-logged
 returns-clause-logged g c =
     let s = c.self.inside in
-    let since : Since s.state c.commit-committed.new.self s.holdings c.absorb_since.new.holdings = record {
-      owned = λ made left. c.absorb_since.ensures.owned s.state made
-          (sym (ap (λ l. length l) c.history-before.ensures.log)) left;
-      first = c.absorb_since.ensures.first;
-      listed = c.absorb_since.ensures.clients;
-    } in
-    rw (← c.self.view_is) (seen_spent (is_among (unspent s.state.log) c.args.r.number c.args.r.job) s.state
-    c.commit-committed.new.self s.clients s.holdings
-    c.absorb_since.new.holdings (rule s.state (call.Commit c.args.now c.args.r.number c.args.r.job
-    c.args.state))
-    c.commit-committed.ensures.logged since)
+    let own = is_among (unspent s.state.log) c.args.r.number c.args.r.job in
+    let since = since_commit own (is_among (unended s.state.log) c.args.r.number c.args.r.job) s.state
+    c.commit.new.self s.holdings c.args.now c.args.r.job c.args.state c.commit.ensures.logged in
+    rw (← c.self.view_is) (seen_spent own s.state c.commit.new.self s.clients s.holdings s.holdings
+    (rule s.state (call.Commit c.args.now c.args.r.number c.args.r.job c.args.state))
+    c.commit.ensures.logged since)
 
 pub returns-clause-answer : goal.returns-clause-answer
-returns-clause-answer g c = rw (← c.self.view_is) c.commit-committed.ensures.answer
+returns-clause-answer g c = rw (← c.self.view_is) c.commit.ensures.answer
