@@ -230,7 +230,7 @@ picked_once log (core.Status pruned servers cpus jobs) r q a b = absurd a
 picked_once log (core.Drain server nonce on reg) r q a b = absurd a
 
 -- the one row of a dialer that was lent
-one_row : (name : ℕ) (r : Ticket) (tc : List ℕ) (heard : Result AssignJobResult CallFault) (old new : Means)
+pub one_row : (name : ℕ) (r : Ticket) (tc : List ℕ) (heard : Result AssignJobResult CallFault) (old new : Means)
     (first last : List Asked)
     → IsCalled IsAskedFor r tc heard (requests_over name old) (requests_over name new) → heard ≢ Err Memory
     → old.asked ≡ Some first → new.asked ≡ Some last

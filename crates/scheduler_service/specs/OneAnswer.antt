@@ -1,5 +1,6 @@
 -- Two connections that meet the same, and what becomes of both.
-use Rattle.std.specs.Prelude.{◌≡◌, ℕ, List, drop, length, map, Option, Some, Result, ⊤, slice_get}
+use Rattle.std.specs.Prelude.{◌≡◌, ◌⊎◌, ℕ, List, drop, length, map, Option, Some, Result, ⊤, slice_get}
+use Rattle.dist_types.specs.Cause.{Rose}
 use Rattle.dist_types.specs.Content.{Added}
 use Rattle.dist_types.specs.declared.token_error.TokenError.{TokenError}
 use Rattle.core_rules.specs.Log.{Core}
@@ -50,3 +51,7 @@ pub record EndAlike {K : Type 0} (begun done begun_too done_too : Shown) (old ne
   pub entries : made_by old.means.pass new.means.pass ≡ made_by before.means.pass after.means.pass
   pub client : new.client ≡ after.client
   pub clock : new.means.clock ≡ after.means.clock
+
+-- the link was given up: one of its counts rose
+abbrev pub IsGivenUp : Shown → Shown → Type 0
+IsGivenUp begun done = Rose begun.reads done.reads ⊎ Rose begun.writes done.writes

@@ -27,6 +27,15 @@ use scheduler_replies::replies::{to_allocated, to_counted, to_drained, to_heard,
 use std::alloc::Global;
 use std::sync::Wait;
 
+/// What a request wants of the scheduler.
+#[derive(Drop)]
+pub struct Wanted {
+    /// What it asks.
+    pub asked: SchedRouted,
+    /// Whether the reply is to be in JSON.
+    pub json: bool,
+}
+
 /// Allocates a job, and asks its server through the dialer.
 #[tactic(auto, using(crate::proofs::RepliedLemmas::allocation_stays))]
 fn allocated<R: Wait, D: Dialer, C: Clock>(
@@ -58,17 +67,17 @@ pub fn answer<R: Wait, D: Dialer, C: Clock>(
     pass: &mut Pass,
     dialer: &mut D,
     clock: &mut C,
-    json: bool,
-    asked: SchedRouted,
+    wanted: Wanted,
 ) -> Result<Response, Memory>
     requires pass { IsPassOf scheduler.now pass.old }
-    requires version { (server : Addr) (drain : Wish) → asked ≡ Drain server drain
+    requires version { (server : Addr) (drain : Wish) → wanted.asked ≡ Drain server drain
         → scheduler.now.start.rules ≡ Rules.Two }
-    ensures told { IsDone json asked
+    ensures told { IsDone wanted.json wanted.asked
         (record { pass = pass.old; clock = moments C.moments C.last clock.old; asked = D.asked dialer.old; faults = D.faults dialer.old })
         (record { pass = pass.new; clock = moments C.moments C.last clock.new; asked = D.asked dialer.new; faults = D.faults dialer.new }) result }
     ensures stays { Stays pass.old pass.new }
 {
+    let Wanted { asked, json } = wanted;
     match asked {
         SchedRouted::Alloc(tc) => {
             let answer = allocated(rt, alloc, scheduler, pass, dialer, clock, &tc);

@@ -4,7 +4,7 @@ ghost use Rattle.sched.specs.Pass.{IsPassOf, Stays};
 ghost use Rattle.scheduler_service.specs.Connection.{Asks, IsReplied};
 ghost use Rattle.http_connections.specs.Served.{IsServedBy};
 
-use crate::answer::answer;
+use crate::answer::{Wanted, answer};
 use crate::heads::PeerHeads;
 use crate::route::route;
 use dist_token::checks::{ClientAuthCheck, ServerAuthCheck};
@@ -103,7 +103,11 @@ pub fn serve_scheduler_connection<
         Err(Memory) => return Served::Memory,
     };
     let json = form_of(&request);
-    match answer(rt, alloc, scheduler, pass, dialer, clock, json, routing) {
+    let wanted = Wanted {
+        asked: routing,
+        json,
+    };
+    match answer(rt, alloc, scheduler, pass, dialer, clock, wanted) {
         Ok(reply) => send(alloc, link, &reply),
         Err(Memory) => Served::Memory,
     }
