@@ -1,7 +1,7 @@
 -- What a run leaves outside of the servers.
 use Rattle.std.specs.Prelude.{◌≡◌, ◌⊎◌, ℕ, List, [], ◌∷◌, ◌++◌, slice_get, set, true, false, is_some, Option}
 use Rattle.std.specs.Prelude.{Some, None, codes}
-use Rattle.toolchain_cache.specs.Archives.{Archives, opened_archives}
+use Rattle.toolchain_cache.specs.Archives.{Archives, IsInStep, opened_archives}
 use Rattle.folders.specs.Held.{Held, Holds}
 use Rattle.build_server.specs.Books.{Fails}
 use Rattle.build_server.specs.Builds.{Builder}
@@ -17,7 +17,7 @@ use Rattle.farm_entries.specs.declared.entry.Step.{Step}
 use Rattle.farm_entries.specs.declared.entry.StepKind.{StepKind}
 use Rattle.farm_entries.specs.declared.entry.StepKind.TheVariants as step
 use Rattle.farm_entries.specs.Next.{IsNext}
-use Rattle.farm_entries.specs.Servers.{server_at}
+use Rattle.farm_entries.specs.Servers.{server_at, server_of}
 use Rattle.farm_entries.specs.Weather.{Outside, Weather, calm, weather_of}
 
 -- ---- which server's folder and builder an event may reach
@@ -116,3 +116,11 @@ Passage setup log old (event ∷ events) (e ∷ es) new =
     × Passage setup (log ++ e ∷ []) mid events es new
 Passage setup log old [] (e ∷ es) new = ⊥
 Passage setup log old (event ∷ events) [] new = ⊥
+
+-- Each server that runs, and whose folder did not fail since its last opening began, lists what its folder
+-- holds: the archives among the files below the path of its cache are those that it lists, in their order,
+-- where files are told.
+abbrev pub AreInStep : Setup → List Entry → List Outside → Type 0
+AreInStep setup log outside = (i : ℕ) (s : SiteServer) (o : Outside) → slice_get setup.servers i ≡ Some s
+    → slice_get outside i ≡ Some o → (server_of s log).running ≡ true → o.failed ≡ false
+    → IsInStep (codes "tc") o.folder (server_of s log).archives

@@ -1,5 +1,6 @@
 -- What may come to a server from outside of a farm: from its folder and from its builder.
 use Rattle.std.specs.Prelude.{◌≡◌, ℕ, List, Bool, true, false, Option, Some, None, Ok, codes}
+use Rattle.dist_types.specs.Builder.{Built}
 use Rattle.toolchain_cache.specs.Archives.{Archives, opened_archives}
 use Rattle.folders.specs.Held.{Held, Holds}
 use Rattle.dist_types.specs.declared.ids.JobId.{JobId}
@@ -35,6 +36,17 @@ pub data Weather : Type 0 where
   free : Weather
   -- what was outside of the event's server before the event, and what is after it
   between : Outside → Outside → Weather
+
+-- the rows that a builder tells which was handed in
+abbrev pub rows_of : Option Builder → Option (List Built)
+rows_of None = None
+rows_of (Some builder) = builder.rows
+
+-- Files are told and no count of faults rose: the folder did not fail from the one moment to the other. At the
+-- later the builder tells those rows.
+pub record IsTold (old new : Outside) (rows : List Built) : Type 0 where
+  pub sound : ¬ (Fails old.folder new.folder)
+  pub rows_are : rows_of new.builder ≡ Some rows
 
 abbrev pub weather_by : Option Builder → Outside → Outside → Weather
 weather_by None old new = calm

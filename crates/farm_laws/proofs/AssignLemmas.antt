@@ -1,6 +1,6 @@
 -- A call that asks a server to take a job: the scheduler has no route for it, a build server takes it for that
 -- and nothing else, and a 200 to it is an assignment.
-use Rattle.std.proofs.Common.{◌≡◌, ◌⊎◌, inl, inr, ℕ, ◌+◌, ◌-◌, ◌<◌, ◌≤◌, ◌^◌, ◌%◌, ◌==◌, ◌&&◌, not}
+use Rattle.std.proofs.Common.{◌≡◌, ◌⊎◌, inl, inr, ℕ, ◌+◌, ◌-◌, ◌<◌, ◌≤◌, ◌^◌, ◌%◌, ◌==◌, not}
 use Rattle.std.proofs.Common.{nat_lt, Bool, true, false, cond, List, [], ◌∷◌, ◌++◌, length, map, codes}
 use Rattle.std.proofs.Common.{decimal, Option, Some, None, Result, Ok, Err, refl, ap, ◌∙◌, sym, subst}
 use Rattle.std.proofs.Common.{append-nil, arith, length-append}
@@ -16,7 +16,7 @@ use Rattle.std.proofs.lemmas.List.{length-map}
 use Rattle.std.proofs.lemmas.Option.{same_Some}
 use Rattle.std.proofs.lemmas.Str.{IsUtf8-append, IsUtf8-from_ascii}
 use Rattle.base64.specs.GeneralPurpose.{IsBytes}
-use Rattle.dist_types.specs.Addr.{◌>>=◌, IsAddr, addr_text}
+use Rattle.dist_types.specs.Addr.{IsAddr, addr_text}
 use Rattle.dist_types.specs.Toolchain.{is_digest, digest_in}
 use Rattle.dist_types.specs.declared.addr.Addr.{Addr}
 use Rattle.dist_types.specs.declared.ids.JobId.{JobId}

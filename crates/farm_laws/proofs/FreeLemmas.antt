@@ -36,7 +36,7 @@ asked_none None y order o h = absurd h
 asked_none (Some b) None order o h = absurd h
 asked_none (Some b) (Some c) order o h = let e = h.1 in cc
 
-found_none : (a b : Outside) (s : ServerNow) (order : Order) (o : Outcome) (t : Taken)
+pub found_none : (a b : Outside) (s : ServerNow) (order : Order) (o : Outcome) (t : Taken)
     → Finds None (books_in s a) (books_in s b) t → IsOrdered a.builder b.builder t order o → o ≡ outcome.None
 found_none a b s order o taken.None finds h = asked_none a.builder b.builder order o h
 found_none a b s order o (taken.Unlisted tc) finds h = absurd finds

@@ -21,3 +21,4 @@ pub mod StartedLemmas
 pub mod TakenLemmas
 pub mod TextLemmas
 pub mod ThereLemmas
+pub mod ToldLemmas

@@ -5,6 +5,10 @@ use Rattle.std.proofs.lemmas.Option.{same_Some}
 use Rattle.dist_types.specs.declared.addr.Addr.{Addr}
 use Rattle.dist_types.specs.declared.outgoing.CallFault.{CallFault}
 use Rattle.dist_types.specs.declared.results.AssignJobResult.{AssignJobResult}
+use Rattle.toolchain_cache.specs.Archives.{Archives}
+use Rattle.build_server.specs.Books.{held_for}
+use Rattle.build_server.specs.declared.run.Outcome.{Outcome}
+use Rattle.build_server.specs.declared.submit.Submitted.{Submitted}
 use Rattle.core_rules.specs.Log.{Core}
 use Rattle.core_rules.specs.Ticket.{Ticket}
 use Rattle.core_rules.specs.declared.entry.CoreEntry.{CoreEntry}
@@ -43,7 +47,7 @@ use Rattle.farm_entries.specs.Seen.{core_log, core_of, serves}
 use Rattle.farm_entries.specs.Settled.{IsOutcome, assignment_end, IsUpdated, IsHeard, ReadyEnds, StartedEnds}
 use Rattle.farm_entries.specs.Settled.{submission, running}
 use Rattle.farm_entries.specs.Sites.{site_of}
-use Rattle.farm_entries.specs.Weather.{calm, opened_effect, IsRestarted}
+use Rattle.farm_entries.specs.Weather.{Weather, calm, Stores, Works, Opens, opened_effect, IsRestarted}
 use Rattle.farm_script.specs.declared.setup.Setup.{Setup as Script}
 use Rattle.dist_types.specs.declared.ids.JobId.{JobId}
 use Rattle.dist_wire.specs.declared.run.RunJobHttpRequest.{RunJobHttpRequest}
@@ -155,96 +159,121 @@ one_hearing : (reply : Option (List ℕ)) (a b : Result HeartbeatServerResult Ca
 one_hearing None a b p q = p ∙ sym q
 one_hearing (Some bytes) a b p q = one_answer_at heard_at bytes a b p q
 
--- in calm weather
-one_ready : (s : ServerNow) (root : ℕ) (json : Bool) (job : JobId) (archive : List ℕ)
-    (r : Result UpdateJobStateResult CallFault) (x y : Effect) → ReadyEnds calm s root json job archive r x
-    → ReadyEnds calm s root json job archive r y → x ≡ y
-one_ready s root json job archive (Ok u) x y a b = a.2
-    ∙ ap (submission s.setup.addr root json job) (a.1 ∙ sym b.1) ∙ sym b.2
-one_ready s root json job archive (Err f) x y a b = a ∙ sym b
+-- ---- what comes from outside
 
-one_start : (setup : Setup) (s : ServerNow) (root : ℕ) (job : JobId) (run : RunJobHttpRequest)
-    (inputs : List ℕ) (r : Result UpdateJobStateResult CallFault) (x y : Effect)
-    → StartedEnds calm setup s root job run inputs r x → StartedEnds calm setup s root job run inputs r y
-    → x ≡ y
-one_start setup s root job run inputs (Ok u) x y a b = a.2
-    ∙ ap (running setup s.setup.addr job) (a.1 ∙ sym b.1) ∙ sym b.2
-one_start setup s root job run inputs (Err f) x y a b = a ∙ sym b
+-- over the same server the two weathers bring the same
+pub record Agrees (v w : Weather) : Type 0 where
+  pub stores : (s : ServerNow) (job : JobId) (bytes : List ℕ) (o p : Submitted) → Stores v s job bytes o
+      → Stores w s job bytes p → o ≡ p
+  pub works : (s : ServerNow) (found : Option (List ℕ)) (run : RunJobHttpRequest) (inputs : List ℕ)
+      (o p : Outcome) → Works v s found run inputs o → Works w s found run inputs p → o ≡ p
+  pub opens : (s : ServerNow) (o p : Option Archives) → Opens v s o → Opens w s p → o ≡ p
 
-one_restart : (s : ServerNow) (x y : Effect) → IsRestarted calm s x → IsRestarted calm s y → x ≡ y
-one_restart s x y a b = a.2 ∙ ap (opened_effect s) (a.1 ∙ sym b.1) ∙ sym b.2
+calm_agrees : Agrees calm calm
+calm_agrees = record {
+  stores = λ s job bytes o p a b. a ∙ sym b;
+  works = λ s found run inputs o p a b. a ∙ sym b;
+  opens = λ s o p a b. a ∙ sym b;
+}
 
-one_end : (setup : Setup) (s : ServerNow) (bytes : List ℕ) (root : ℕ) (json : Bool) (reply : Option (List ℕ))
-    (t : Told) (x y : Effect) → Reports calm setup s bytes root json reply t x
-    → Reports calm setup s bytes root json reply t y → x ≡ y
-one_end setup s bytes root json reply (told.Ready job at) x y a b =
-    one_ready s root json job (drop at bytes) a.0 x y a.2
-    (subst (λ (r : Result UpdateJobStateResult CallFault). ReadyEnds calm s root json job (drop at bytes) r y)
-    (one_update reply b.0 a.0 b.1 a.1) b.2)
-one_end setup s bytes root json reply (told.Started job run at) x y a b =
-    one_start setup s root job run (drop at bytes) a.0 x y a.2
-    (subst (λ (r : Result UpdateJobStateResult CallFault).
-    StartedEnds calm setup s root job run (drop at bytes) r y) (one_update reply b.0 a.0 b.1 a.1) b.2)
-one_end setup s bytes root json reply (told.Complete job outcome) x y a b = a.2
-    ∙ ap (complete_end s.setup.addr root json job outcome) (one_update reply a.0 b.0 a.1 b.1) ∙ sym b.2
-one_end setup s bytes root json reply told.Heartbeat x y a b =
-    a.2 ∙ ap (λ (r : Result HeartbeatServerResult CallFault). step_effect s.setup.addr
-    (kinds.Heard (heard_as r))) (one_hearing reply a.0 b.0 a.1 b.1) ∙ sym b.2
+module _ (v w : Weather) (agrees : Agrees v w) where
+  one_ready : (s : ServerNow) (root : ℕ) (json : Bool) (job : JobId) (archive : List ℕ)
+      (r : Result UpdateJobStateResult CallFault) (x y : Effect) → ReadyEnds v s root json job archive r x
+      → ReadyEnds w s root json job archive r y → x ≡ y
+  one_ready s root json job archive (Ok u) x y a b = a.2
+      ∙ ap (submission s.setup.addr root json job) (agrees.stores s job archive a.0 b.0 a.1 b.1) ∙ sym b.2
+  one_ready s root json job archive (Err f) x y a b = a ∙ sym b
 
-one_life : (setup : Setup) (life : ℕ) (s : ServerNow) (bytes : List ℕ) (root : ℕ) (json : Bool)
-    (reply : Option (List ℕ)) (t : Told) (over : Bool) (x y : Effect)
-    → Lives calm setup life s bytes root json reply t over x → Lives calm setup life s bytes root json reply
-    t over y
-    → x ≡ y
-one_life setup life s bytes root json reply t true x y a b = a ∙ sym b
-one_life setup life s bytes root json reply t false x y a b = one_end setup s bytes root json reply t x y a b
+  one_start : (setup : Setup) (s : ServerNow) (root : ℕ) (job : JobId) (run : RunJobHttpRequest)
+      (inputs : List ℕ) (r : Result UpdateJobStateResult CallFault) (x y : Effect)
+      → StartedEnds v setup s root job run inputs r x → StartedEnds w setup s root job run inputs r y
+      → x ≡ y
+  one_start setup s root job run inputs (Ok u) x y a b = a.2
+      ∙ ap (running setup s.setup.addr job)
+      (agrees.works s (held_for job s.held) run inputs a.0 b.0 a.1 b.1) ∙ sym b.2
+  one_start setup s root job run inputs (Err f) x y a b = a ∙ sym b
 
-one_report_end : (setup : Setup) (life : ℕ) (bytes : List ℕ) (root : ℕ) (json : Bool)
-    (reply : Option (List ℕ)) (t : Told) (o : Option ServerNow) (x y : Effect)
-    → ReportsIn calm setup life bytes root json reply t o x → ReportsIn calm setup life bytes root json
-    reply t o y
-    → x ≡ y
-one_report_end setup life bytes root json reply t None x y a b = a ∙ sym b
-one_report_end setup life bytes root json reply t (Some s) x y a b =
-    one_life setup life s bytes root json reply t (is_over life s) x y a b
+  one_restart : (s : ServerNow) (x y : Effect) → IsRestarted v s x → IsRestarted w s y → x ≡ y
+  one_restart s x y a b = a.2 ∙ ap (opened_effect s) (agrees.opens s a.0 b.0 a.1 b.1) ∙ sym b.2
 
-one_way : (setup : Setup) (log : List Entry) (at root : ℕ) (json : Bool) (reply : Option (List ℕ)) (ask : Ask)
-    (x y : Effect) → GoesOn calm setup log at root json reply ask x → GoesOn calm setup log at root json
-    reply ask y
-    → x ≡ y
-one_way setup log at root json reply (Assign t) x y a b =
-    a.2 ∙ ap (assignment_end (core_of setup log) root json at t) (one_outcome reply a.0 b.0 a.1 b.1) ∙ sym b.2
-one_way setup log at root json reply (Report server life t) x y a b = one_report_end setup life
-    (brought_at log root) root json reply t (server_now setup log server) x y a b
+  one_end : (setup : Setup) (s : ServerNow) (bytes : List ℕ) (root : ℕ) (json : Bool)
+      (reply : Option (List ℕ)) (t : Told) (x y : Effect) → Reports v setup s bytes root json reply t x
+      → Reports w setup s bytes root json reply t y → x ≡ y
+  one_end setup s bytes root json reply (told.Ready job at) x y a b =
+      one_ready s root json job (drop at bytes) a.0 x y a.2
+      (subst (λ (r : Result UpdateJobStateResult CallFault). ReadyEnds w s root json job (drop at bytes) r y)
+      (one_update reply b.0 a.0 b.1 a.1) b.2)
+  one_end setup s bytes root json reply (told.Started job run at) x y a b =
+      one_start setup s root job run (drop at bytes) a.0 x y a.2
+      (subst (λ (r : Result UpdateJobStateResult CallFault).
+      StartedEnds w setup s root job run (drop at bytes) r y) (one_update reply b.0 a.0 b.1 a.1) b.2)
+  one_end setup s bytes root json reply (told.Complete job outcome) x y a b = a.2
+      ∙ ap (complete_end s.setup.addr root json job outcome) (one_update reply a.0 b.0 a.1 b.1) ∙ sym b.2
+  one_end setup s bytes root json reply told.Heartbeat x y a b =
+      a.2 ∙ ap (λ (r : Result HeartbeatServerResult CallFault). step_effect s.setup.addr
+      (kinds.Heard (heard_as r))) (one_hearing reply a.0 b.0 a.1 b.1) ∙ sym b.2
 
-one_settled : (setup : Setup) (log : List Entry) (at n : ℕ) (reply : Option (List ℕ)) (o : Option Entry)
-    (x y : Effect) → IsSettled calm setup log at n reply o x → IsSettled calm setup log at n reply o y → x ≡ y
-one_settled setup log at n reply None x y p q = p ∙ sym q
-one_settled setup log at n reply (Some w) x y p q =
-    let same : q.0 ≡ p.0 = one_call setup log n q.0 p.0 q.1 p.1 in
-    one_way setup log at p.0.root p.0.json reply p.0.ask x y p.2
-    (subst (λ (a : Pending). Follows calm setup log at reply (Some a) y) same q.2)
+  one_life : (setup : Setup) (life : ℕ) (s : ServerNow) (bytes : List ℕ) (root : ℕ) (json : Bool)
+      (reply : Option (List ℕ)) (t : Told) (over : Bool) (x y : Effect)
+      → Lives v setup life s bytes root json reply t over x → Lives w setup life s bytes root json reply
+      t over y
+      → x ≡ y
+  one_life setup life s bytes root json reply t true x y a b = a ∙ sym b
+  one_life setup life s bytes root json reply t false x y a b =
+      one_end setup s bytes root json reply t x y a b
+
+  one_report_end : (setup : Setup) (life : ℕ) (bytes : List ℕ) (root : ℕ) (json : Bool)
+      (reply : Option (List ℕ)) (t : Told) (o : Option ServerNow) (x y : Effect)
+      → ReportsIn v setup life bytes root json reply t o x → ReportsIn w setup life bytes root json
+      reply t o y
+      → x ≡ y
+  one_report_end setup life bytes root json reply t None x y a b = a ∙ sym b
+  one_report_end setup life bytes root json reply t (Some s) x y a b =
+      one_life setup life s bytes root json reply t (is_over life s) x y a b
+
+  one_way : (setup : Setup) (log : List Entry) (at root : ℕ) (json : Bool) (reply : Option (List ℕ))
+      (ask : Ask) (x y : Effect) → GoesOn v setup log at root json reply ask x
+      → GoesOn w setup log at root json reply ask y → x ≡ y
+  one_way setup log at root json reply (Assign t) x y a b =
+      a.2 ∙ ap (assignment_end (core_of setup log) root json at t) (one_outcome reply a.0 b.0 a.1 b.1)
+      ∙ sym b.2
+  one_way setup log at root json reply (Report server life t) x y a b = one_report_end setup life
+      (brought_at log root) root json reply t (server_now setup log server) x y a b
+
+  one_settled : (setup : Setup) (log : List Entry) (at n : ℕ) (reply : Option (List ℕ)) (o : Option Entry)
+      (x y : Effect) → IsSettled v setup log at n reply o x → IsSettled w setup log at n reply o y → x ≡ y
+  one_settled setup log at n reply None x y p q = p ∙ sym q
+  one_settled setup log at n reply (Some e) x y p q =
+      let same : q.0 ≡ p.0 = one_call setup log n q.0 p.0 q.1 p.1 in
+      one_way setup log at p.0.root p.0.json reply p.0.ask x y p.2
+      (subst (λ (a : Pending). Follows w setup log at reply (Some a) y) same q.2)
+
+  one_made : (setup : Setup) (log : List Entry) (at : ℕ) (way : Way) (x y : Effect) → IsMade v setup log at
+      way x
+      → IsMade w setup log at way y → x ≡ y
+  one_made setup log at (to_scheduler peer bytes) x y p q = one_answer setup (core_of setup log)
+      (length log) at peer bytes x y p q
+  one_made setup log at (to_call n reply) x y p q =
+      one_settled setup log at n reply (waiting_at log n) x y p q
+  one_made setup log at (to_server s bytes) x y p q = one_served setup s (length log) bytes x y p q
+  one_made setup log at (to_beat s) x y p q = p ∙ sym q
+  one_made setup log at (to_restart s key nonce) x y p q = one_restart s x y p q
+  one_made setup log at to_nothing x y p q = p ∙ sym q
+  one_made setup log at to_nobody x y p q = p ∙ sym q
+
+  -- an event makes one entry
+  pub agreed_next : (setup : Setup) (log : List Entry) (event : Event) (a b : Entry)
+      → IsNext v setup log event a → IsNext w setup log event b → a ≡ b
+  agreed_next setup log event a b p q = p.2
+      ∙ ap (entry_of event) (one_made setup log event.at (way_of setup log event.kind) p.0 q.0 p.1 q.1)
+      ∙ sym q.2
 
 -- ---- entries
-
-one_made : (setup : Setup) (log : List Entry) (at : ℕ) (way : Way) (x y : Effect) → IsMade calm setup log at
-    way x
-    → IsMade calm setup log at way y → x ≡ y
-one_made setup log at (to_scheduler peer bytes) x y p q = one_answer setup (core_of setup log)
-    (length log) at peer bytes x y p q
-one_made setup log at (to_call n reply) x y p q = one_settled setup log at n reply (waiting_at log n) x y p q
-one_made setup log at (to_server s bytes) x y p q = one_served setup s (length log) bytes x y p q
-one_made setup log at (to_beat s) x y p q = p ∙ sym q
-one_made setup log at (to_restart s key nonce) x y p q = one_restart s x y p q
-one_made setup log at to_nothing x y p q = p ∙ sym q
-one_made setup log at to_nobody x y p q = p ∙ sym q
 
 pub one_next : (setup : Setup) (log : List Entry) (event : Event) (a b : Entry)
     → IsNext calm setup log event a
     → IsNext calm setup log event b → a ≡ b
-one_next setup log event a b p q = p.2
-    ∙ ap (entry_of event) (one_made setup log event.at (way_of setup log event.kind) p.0 q.0 p.1 q.1)
-    ∙ sym q.2
+one_next = agreed_next calm calm calm_agrees
 
 pub one_run : (setup : Setup) (log : List Entry) (events : List Event) (xs ys : List Entry)
     → EachNext calm setup log events xs → EachNext calm setup log events ys → xs ≡ ys

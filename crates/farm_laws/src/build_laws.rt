@@ -39,7 +39,7 @@ pub fn no_id_is_run_twice()
 {}
 
 /// An entry is replied to at most once; a request whose calls come back granted gets the reply that its row
-/// names; a restart keeps the archives.
+/// names; a restart lists what its opening gives, which are in calm weather the archives that were there.
 pub fn runs_are_reliable()
     ensures { (w : Weather) (setup : Site) (events : List Event) (entries : List Entry)
         → EachNext w setup [] events entries → IsReliable w setup entries }

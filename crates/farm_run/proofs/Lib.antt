@@ -9,4 +9,5 @@ pub mod RowLemmas
 pub mod ServeLemmas
 pub mod ServerLemmas
 pub mod StandLemmas
+pub mod StayLemmas
 pub mod WaitLemmas

@@ -12,7 +12,7 @@ ghost use Rattle.farm_entries.specs.Builds.{AreBuilds, HasToken, HasWords};
 ghost use Rattle.farm_run.specs.Farm.{IsFarm, IsMadeSo, acted, AddsNext, StepsTo, Runs, AreOnce};
 ghost use Rattle.farm_entries.specs.Lawful.{AreLawful, HasNext};
 ghost use Rattle.farm_entries.specs.Next.{IsRun};
-ghost use Rattle.farm_entries.specs.Passage.{AreOwn};
+ghost use Rattle.farm_entries.specs.Passage.{AreOwn, AreInStep};
 ghost use Rattle.farm_entries.specs.Printed.{ids_given};
 ghost use Rattle.farm_entries.specs.Reliable.{IsReliable, ReturnsGrant};
 ghost use Rattle.farm_entries.specs.Seen.{core_log};
@@ -287,6 +287,14 @@ impl<F: Folder + Drop, B: BuilderIncoming + Drop> Farm<F, B> {
         ensures fits { self.now.setup.scheduler.count < 2 ^ 64 }
         ensures run { IsRun free self.now.setup self.now.entries }
         ensures calmly { AreOwn self.now.outside → IsRun calm self.now.setup self.now.entries }
+    {
+        let _ = self.log.entries.len();
+    }
+
+    /// That each server that runs lists what its folder holds, unless that failed since its last opening
+    /// began: so at the end of a run, and at any moment of a farm.
+    pub fn in_step(&self)
+        ensures { AreInStep self.now.setup self.now.entries self.now.outside }
     {
         let _ = self.log.entries.len();
     }

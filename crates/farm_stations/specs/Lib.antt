@@ -1,3 +1,4 @@
 pub mod Lined
 pub mod Post
 pub mod Stations
+pub mod Unlisted

@@ -8,4 +8,5 @@
 
 pub mod builder;
 pub mod copies;
+pub mod folder_laws;
 pub mod station;
