@@ -4,3 +4,4 @@ pub mod LeastLemmas
 pub mod LengthLemmas
 pub mod ClapLemmas
 pub mod EventLemmas
+pub mod KeyLemmas

@@ -11,3 +11,4 @@ pub mod Views
 pub mod Parsed
 pub mod Signed
 pub mod Line
+pub mod Keys

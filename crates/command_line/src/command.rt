@@ -5,7 +5,7 @@ use dist_types::ids::ServerId;
 use dist_types::text::Text;
 
 /// What is made for an authority.
-#[derive(Debug, Drop)]
+#[derive(Debug, PartialEq, Eq, Drop)]
 pub enum AuthSubcommand {
     /// So many random bytes, in base64url.
     Base64 {

@@ -18,6 +18,7 @@ pub mod cause;
 pub mod command;
 mod events;
 pub mod files;
+pub mod laws;
 pub mod line;
 pub mod look_up;
 pub mod option_words;
