@@ -1,7 +1,8 @@
 -- Which key of a configuration file is told, key by key.
 use Rattle.std.proofs.Common.{◌≡◌, ℕ, List, [], ◌∷◌, Bool, true, false, Option, Some, None, refl, ap, sym}
 use Rattle.std.proofs.Common.{subst}
-use Rattle.std.specs.Prelude.{◌==◌, pos, negsuc, if◌then◌else◌, is_some, option_and_then, Result, Ok, codes}
+use Rattle.std.specs.Prelude.{◌==◌, pos, negsuc, if◌then◌else◌, is_some, option_and_then, unwrap_or}
+use Rattle.std.specs.Prelude.{Result, Ok, codes}
 use Rattle.std.proofs.lemmas.Bool.{eq-eqb, eqb-true}
 use Rattle.toml.specs.Data.{Data, string, integer, float, boolean, datetime, array, table, Members, get_member}
 use Rattle.dist_types.specs.declared.rules.Rules.{Rules}
@@ -17,49 +18,80 @@ use Rattle.command_line.specs.Unknown.{least_unknown}
 use Rattle.command_line.specs.Values.{text_at, address_at, http_url_at, optional_number, optional_number_at}
 use Rattle.command_line.specs.Values.{rules_in, rules_at}
 
--- one key: where its value is there, what is told is told of the keys behind it
-tells_needed : {X A : Type 0} (key : List ℕ) (found : Option X) (rows : KeyRows)
-    (next : X → Result A ConfigCause) → ((x : X) → found ≡ Some x → Tells (first_bad rows) (next x))
-    → Tells (first_bad ((key, is_some found) ∷ rows)) (needed key found >>= next)
-tells_needed key None rows next told = refl
-tells_needed key (Some x) rows next told = told x refl
-
--- the unknown keys stand before all
-tells_known : {A : Type 0} (unknown : Option (List ℕ)) (rows : KeyRows) (verdict : Result A ConfigCause)
-    → Tells (first_bad rows) verdict → Tells (bad_key unknown rows) (known_or unknown >>= (λ _. verdict))
-tells_known None rows verdict told = told
-tells_known (Some key) rows verdict told = refl
-
--- one key whose value is read with an earlier one
-tells_with : {Y X A : Type 0} (key : List ℕ) (found : Y → Option X) (y : Y) (o : Option Y) (rows : KeyRows)
-    (next : X → Result A ConfigCause) → o ≡ Some y
-    → ((x : X) → found y ≡ Some x → Tells (first_bad rows) (next x))
-    → Tells (first_bad ((key, is_some (option_and_then found o)) ∷ rows)) (needed key (found y) >>= next)
-tells_with key found y o rows next is told =
-    subst (λ p. Tells (first_bad ((key, is_some (option_and_then found p)) ∷ rows)) (needed key (found y)
-    >>= next)) (sym is) (tells_needed key (found y) rows next told)
+-- all keys of a scheduler's file
+scheduler_keys_tell : {X1 X2 X3 X4 C : Type 0} (unknown : Option (List ℕ)) (address : Option X1)
+    (clients : Option X2) (servers : Option X3) (rules : Option X4) (made : X1 → X2 → X3 → X4 → C)
+    → Tells (bad_key unknown ((codes "public_addr", is_some address)
+    ∷ (codes "client_auth", is_some clients) ∷ (codes "server_auth", is_some servers)
+    ∷ (codes "rules", is_some rules) ∷ []))
+    (known_or unknown >>= (λ _. needed (codes "public_addr") address >>= (λ a.
+    needed (codes "client_auth") clients >>= (λ c. needed (codes "server_auth") servers >>= (λ s.
+    needed (codes "rules") rules >>= (λ r. Ok (made a c s r)))))))
+scheduler_keys_tell (Some key) address clients servers rules made = refl
+scheduler_keys_tell None None clients servers rules made = refl
+scheduler_keys_tell None (Some a) None servers rules made = refl
+scheduler_keys_tell None (Some a) (Some c) None rules made = refl
+scheduler_keys_tell None (Some a) (Some c) (Some s) None made = refl
+scheduler_keys_tell None (Some a) (Some c) (Some s) (Some r) made = (made a c s r, refl)
 
 pub scheduler_tells : (members : Members) → Tells (scheduler_bad members) (scheduler_in members)
 unfolding scheduler_in
-scheduler_tells members = tells_known (least_unknown scheduler_keys members) (scheduler_rows members) _
-    (tells_needed (codes "public_addr") (address_at (codes "public_addr") members) _ _ (λ address at.
-    tells_needed (codes "client_auth") (typed_at client_auth_of (codes "client_auth") members) _ _ (λ client is.
-    tells_needed (codes "server_auth") (typed_at server_auth_of (codes "server_auth") members) _ _ (λ server s.
-    tells_needed (codes "rules") (rules_at (codes "rules") members) [] _ (λ rules r. (_, refl))))))
+scheduler_tells members = scheduler_keys_tell (least_unknown scheduler_keys members)
+    (address_at (codes "public_addr") members) (typed_at client_auth_of (codes "client_auth") members)
+    (typed_at server_auth_of (codes "server_auth") members) (rules_at (codes "rules") members)
+    (λ a c s r. record { public_addr = a; client_auth = c; server_auth = s; rules = r })
+
+-- the keys of a build server's file behind its address
+server_behind : {X4 X5 X6 X7 C : Type 0} (bind : Option X4) (url : Option X5) (auth : Option X6)
+    (size : Option X7) (made : X4 → X5 → X6 → X7 → C)
+    → Tells (first_bad ((codes "bind_address", is_some bind) ∷ (codes "scheduler_url", is_some url)
+    ∷ (codes "scheduler_auth", is_some auth) ∷ (codes "toolchain_cache_size", is_some size) ∷ []))
+    (needed (codes "bind_address") bind >>= (λ b. needed (codes "scheduler_url") url >>= (λ u.
+    needed (codes "scheduler_auth") auth >>= (λ a. needed (codes "toolchain_cache_size") size >>= (λ s.
+    Ok (made b u a s))))))
+server_behind None url auth size made = refl
+server_behind (Some b) None auth size made = refl
+server_behind (Some b) (Some u) None size made = refl
+server_behind (Some b) (Some u) (Some a) None made = refl
+server_behind (Some b) (Some u) (Some a) (Some s) made = (made b u a s, refl)
+
+-- all its keys
+server_keys_tell : {X1 X2 X3 X4 X5 X6 X7 C : Type 0} (unknown : Option (List ℕ)) (builder : Option X1)
+    (dir : Option X2) (address : Option X3) (bind : X3 → Option X4) (url : Option X5) (auth : X3 → Option X6)
+    (size : Option X7) (made : X2 → X3 → X4 → X5 → X6 → X7 → C)
+    → Tells (bad_key unknown ((codes "builder", is_some builder) ∷ (codes "cache_dir", is_some dir)
+    ∷ (codes "public_addr", is_some address)
+    ∷ (codes "bind_address", is_some (option_and_then bind address)) ∷ (codes "scheduler_url", is_some url)
+    ∷ (codes "scheduler_auth", is_some (option_and_then auth address))
+    ∷ (codes "toolchain_cache_size", is_some size) ∷ []))
+    (known_or unknown >>= (λ _. needed (codes "builder") builder >>= (λ _.
+    needed (codes "cache_dir") dir >>= (λ d. needed (codes "public_addr") address >>= (λ a.
+    needed (codes "bind_address") (bind a) >>= (λ b. needed (codes "scheduler_url") url >>= (λ u.
+    needed (codes "scheduler_auth") (auth a) >>= (λ t. needed (codes "toolchain_cache_size") size >>= (λ s.
+    Ok (made d a b u t s))))))))))
+server_keys_tell (Some key) builder dir address bind url auth size made = refl
+server_keys_tell None None dir address bind url auth size made = refl
+server_keys_tell None (Some x) None address bind url auth size made = refl
+server_keys_tell None (Some x) (Some d) None bind url auth size made = refl
+server_keys_tell None (Some x) (Some d) (Some a) bind url auth size made =
+    server_behind (bind a) url (auth a) size (made d a)
 
 pub server_tells : (members : Members) → Tells (server_bad members) (server_in members)
 unfolding server_in
-server_tells members = tells_known (least_unknown server_keys members) (server_rows members) _
-    (tells_needed (codes "builder") (typed_at builder_of (codes "builder") members) _ _ (λ builder b.
-    tells_needed (codes "cache_dir") (text_at (codes "cache_dir") members) _ _ (λ dir d.
-    tells_needed (codes "public_addr") (address_at (codes "public_addr") members) _ _ (λ address at.
-    tells_with (codes "bind_address") (λ a. address_or a (get_member (codes "bind_address") members)
-    (codes "bind_address") members) address (address_at (codes "public_addr") members) _ _ at (λ bind i.
-    tells_needed (codes "scheduler_url") (http_url_at (codes "scheduler_url") members) _ _ (λ url u.
-    tells_with (codes "scheduler_auth") (λ a. typed_at (scheduler_auth_of a) (codes "scheduler_auth") members)
-    address (address_at (codes "public_addr") members) _ _ at (λ auth t.
-    tells_needed (codes "toolchain_cache_size")
-    (optional_number_at (codes "toolchain_cache_size") members) [] _ (λ size z. (_, refl)))))))))
+server_tells members = server_keys_tell (least_unknown server_keys members)
+    (typed_at builder_of (codes "builder") members) (text_at (codes "cache_dir") members)
+    (address_at (codes "public_addr") members)
+    (λ a. address_or a (get_member (codes "bind_address") members) (codes "bind_address") members)
+    (http_url_at (codes "scheduler_url") members)
+    (λ a. typed_at (scheduler_auth_of a) (codes "scheduler_auth") members)
+    (optional_number_at (codes "toolchain_cache_size") members) (λ d a b u t s. record {
+      cache_dir = d;
+      public_addr = a;
+      bind_address = b;
+      scheduler_url = u;
+      scheduler_auth = t;
+      toolchain_cache_size = unwrap_or s 10737418240;
+    })
 
 pub rules_are : (value : Option Data) → IsRulesAt value (option_and_then rules_in (optional_number value))
 rules_are None = refl
