@@ -6,29 +6,40 @@ ghost use Rattle.http_routes.specs.Fault.{fault_response_of};
 ghost use Rattle.http_routes.specs.Replies.{run_response};
 ghost use Rattle.server_service.specs.Replied.{fault_of, IsTold, IsAssignedAndTold};
 ghost use Rattle.server_service.specs.Replied.{IsSubmitted, IsSubmittedAndTold, IsRun, IsRunAndTold};
-ghost use Rattle.server_service.specs.Replied.{IsDone, order_of};
+ghost use Rattle.server_service.specs.Replied.{IsDone};
+ghost use Rattle.http_connections.specs.Form.{form_of};
+ghost use Rattle.server_service.specs.Routed.{body_of};
 ghost use Rattle.server_service.specs.Told.{peer_of};
 
 use crate::body::BodySource;
-use crate::route::inputs_of;
+use crate::peer::Peer;
+use crate::route::{body_of, inputs_of};
 use crate::telling::Telling;
 use build_server::fault::ServerFault;
 use build_server::keeping::{Keeping, assign_on, run_on, submit_from};
 use dist_types::builder::BuilderIncoming;
-use dist_types::command::CompileCommand;
 use dist_types::dialer::Dialer;
 use dist_types::fault::Memory;
 use dist_types::ids::JobId;
 use dist_types::results::{RunJobResult, SubmitToolchainResult};
-use dist_types::text::Text;
 use dist_types::toolchain::Toolchain;
 use dist_wire::run::RunJobHttpRequest;
+use http_connections::form::form_of;
+use http_head::request::Request;
 use http_routes::fault::RouteFault;
 use http_routes::replies::{to_assignment, to_fault, to_run, to_submission};
 use http_routes::reply::Response;
 use http_routes::server_route::ServerRouted;
 use std::alloc::Global;
-use url::Url;
+
+/// What a run is to do.
+#[derive(Drop)]
+struct Order<'a> {
+    job: JobId,
+    /// What is asked for.
+    asked: RunJobHttpRequest,
+    inputs: &'a [u8],
+}
 
 /// The reply that tells a fault.
 fn reply_fault(alloc: Global, fault: &RouteFault) -> Result<Response, Memory>
@@ -74,18 +85,17 @@ fn submitted<K: Keeping, D: Dialer>(
     alloc: Global,
     keeper: &mut K,
     dialer: &mut D,
-    scheduler: &Url,
-    scheduler_auth: &str,
+    peer: Peer<'_>,
     job: JobId,
     body: &[u8],
 ) -> Result<SubmitToolchainResult, ServerFault>
-    requires http { IsHttp scheduler.now }
-    ensures submitted { IsSubmitted (peer_of scheduler.now scheduler_auth.now) job body.now
+    requires http { IsHttp peer.base.now }
+    ensures submitted { IsSubmitted (peer_of peer.base.now peer.token.now) job body.now
         (K.kept keeper.old) (K.kept keeper.new)
         (record { asked = D.asked dialer.old; faults = D.faults dialer.old })
         (record { asked = D.asked dialer.new; faults = D.faults dialer.new }) result }
 {
-    let mut telling = Telling::new(alloc, dialer, scheduler, scheduler_auth);
+    let mut telling = Telling::new(alloc, dialer, peer.base, peer.token);
     let mut archive = BodySource::new(body);
     submit_from(alloc, keeper, &mut telling, job, &mut archive)
 }
@@ -95,19 +105,18 @@ fn submit<K: Keeping, D: Dialer>(
     alloc: Global,
     keeper: &mut K,
     dialer: &mut D,
-    scheduler: &Url,
-    scheduler_auth: &str,
+    peer: Peer<'_>,
     json: bool,
     job: JobId,
     body: &[u8],
 ) -> Result<Response, Memory>
-    requires http { IsHttp scheduler.now }
-    ensures told { IsSubmittedAndTold (peer_of scheduler.now scheduler_auth.now) json job body.now
+    requires http { IsHttp peer.base.now }
+    ensures told { IsSubmittedAndTold (peer_of peer.base.now peer.token.now) json job body.now
         (K.kept keeper.old) (K.kept keeper.new)
         (record { asked = D.asked dialer.old; faults = D.faults dialer.old })
         (record { asked = D.asked dialer.new; faults = D.faults dialer.new }) result }
 {
-    match submitted(alloc, keeper, dialer, scheduler, scheduler_auth, job, body) {
+    match submitted(alloc, keeper, dialer, peer, job, body) {
         Ok(answer) => {
             let response = to_submission(alloc, json, &answer)?;
             Ok(response)
@@ -124,22 +133,18 @@ fn reply_ran(alloc: Global, json: bool, answer: RunJobResult) -> Result<Response
     Ok(response)
 }
 
-/// Runs a job over these inputs.
+/// Runs a job over its inputs.
 fn ran<K: Keeping, D: Dialer, B: BuilderIncoming>(
     alloc: Global,
     keeper: &mut K,
     dialer: &mut D,
     builder: &mut B,
-    scheduler: &Url,
-    scheduler_auth: &str,
-    job: JobId,
-    command: &CompileCommand,
-    outputs: &[Text],
-    inputs: &[u8],
+    peer: Peer<'_>,
+    order: &Order<'_>,
 ) -> Result<RunJobResult, ServerFault>
-    requires http { IsHttp scheduler.now }
-    ensures ran { IsRun (peer_of scheduler.now scheduler_auth.now) job
-        (record { command = command.now; outputs = outputs.now; inputs = inputs.now })
+    requires http { IsHttp peer.base.now }
+    ensures ran { IsRun (peer_of peer.base.now peer.token.now) order.now.job
+        (record { command = order.now.asked.command; outputs = order.now.asked.outputs; inputs = order.now.inputs.now })
         (record {
           kept = K.kept keeper.old;
           dialing = record { asked = D.asked dialer.old; faults = D.faults dialer.old };
@@ -151,8 +156,18 @@ fn ran<K: Keeping, D: Dialer, B: BuilderIncoming>(
           builder = builder_of B.built B.refusals builder.new;
         }) result }
 {
-    let mut telling = Telling::new(alloc, dialer, scheduler, scheduler_auth);
-    match run_on(keeper, &mut telling, builder, job, command, outputs, inputs) {
+    let mut telling = Telling::new(alloc, dialer, peer.base, peer.token);
+    let command = &order.asked.command;
+    let outputs = order.asked.outputs.get();
+    match run_on(
+        keeper,
+        &mut telling,
+        builder,
+        order.job,
+        command,
+        outputs,
+        order.inputs,
+    ) {
         Ok(answer) => Ok(answer),
         Err(fault) => Err(fault),
     }
@@ -164,16 +179,13 @@ fn run<K: Keeping, D: Dialer, B: BuilderIncoming>(
     keeper: &mut K,
     dialer: &mut D,
     builder: &mut B,
-    scheduler: &Url,
-    scheduler_auth: &str,
+    peer: Peer<'_>,
     json: bool,
-    job: JobId,
-    run: &RunJobHttpRequest,
-    inputs: &[u8],
+    order: &Order<'_>,
 ) -> Result<Response, Memory>
-    requires http { IsHttp scheduler.now }
-    ensures told { IsRunAndTold (peer_of scheduler.now scheduler_auth.now) json job
-        (record { command = run.now.command; outputs = run.now.outputs; inputs = inputs.now })
+    requires http { IsHttp peer.base.now }
+    ensures told { IsRunAndTold (peer_of peer.base.now peer.token.now) json order.now.job
+        (record { command = order.now.asked.command; outputs = order.now.asked.outputs; inputs = order.now.inputs.now })
         (record {
           kept = K.kept keeper.old;
           dialing = record { asked = D.asked dialer.old; faults = D.faults dialer.old };
@@ -185,39 +197,26 @@ fn run<K: Keeping, D: Dialer, B: BuilderIncoming>(
           builder = builder_of B.built B.refusals builder.new;
         }) result }
 {
-    let outputs = run.outputs.get();
-    match ran(
-        alloc,
-        keeper,
-        dialer,
-        builder,
-        scheduler,
-        scheduler_auth,
-        job,
-        &run.command,
-        outputs,
-        inputs,
-    ) {
+    match ran(alloc, keeper, dialer, builder, peer, order) {
         Ok(answer) => reply_ran(alloc, json, answer),
         Err(fault) => reply_refusal(alloc, fault),
     }
 }
 
-/// Does what is asked of a build server, whose scheduler stands at a base. Refused for want of memory alone:
-/// where the call that does it was, or where there is none for the reply to what it answered.
-pub fn answer<K: Keeping, D: Dialer, B: BuilderIncoming>(
+/// Does what a request, or what was taken in its place, asks of a build server, whose scheduler stands at a
+/// base. Refused for want of memory alone: where the call that does it was, or where there is none for the
+/// reply to what it answered.
+pub(crate) fn answer<K: Keeping, D: Dialer, B: BuilderIncoming>(
     alloc: Global,
     keeper: &mut K,
     dialer: &mut D,
     builder: &mut B,
-    scheduler: &Url,
-    scheduler_auth: &str,
-    json: bool,
-    body: &[u8],
+    peer: Peer<'_>,
+    request: &Option<Request>,
     asked: ServerRouted,
 ) -> Result<Response, Memory>
-    requires http { IsHttp scheduler.now }
-    ensures done { IsDone (peer_of scheduler.now scheduler_auth.now) json body.now asked
+    requires http { IsHttp peer.base.now }
+    ensures done { IsDone (peer_of peer.base.now peer.token.now) (form_of request.now) (body_of request.now) asked
         (record {
           kept = K.kept keeper.old;
           dialing = record { asked = D.asked dialer.old; faults = D.faults dialer.old };
@@ -229,30 +228,16 @@ pub fn answer<K: Keeping, D: Dialer, B: BuilderIncoming>(
           builder = builder_of B.built B.refusals builder.new;
         }) result }
 {
+    let json = form_of(request);
+    let body = body_of(request);
     match asked {
         ServerRouted::Assign(job, tc) => assign(alloc, keeper, json, job, tc),
-        ServerRouted::Submit(job) => submit(
-            alloc,
-            keeper,
-            dialer,
-            scheduler,
-            scheduler_auth,
-            json,
-            job,
-            body,
-        ),
-        ServerRouted::Run(job, asked, at) => run(
-            alloc,
-            keeper,
-            dialer,
-            builder,
-            scheduler,
-            scheduler_auth,
-            json,
-            job,
-            &asked,
-            inputs_of(body, at),
-        ),
+        ServerRouted::Submit(job) => submit(alloc, keeper, dialer, peer, json, job, body),
+        ServerRouted::Run(job, asked, at) => {
+            let inputs = inputs_of(body, at);
+            let order = Order { job, asked, inputs };
+            run(alloc, keeper, dialer, builder, peer, json, &order)
+        }
         ServerRouted::Done(response) => Ok(response),
     }
 }

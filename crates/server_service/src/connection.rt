@@ -8,7 +8,8 @@ ghost use Rattle.server_service.specs.Told.{peer_of};
 
 use crate::answer::answer;
 use crate::heads::JobHeads;
-use crate::route::{body_of, route};
+use crate::peer::Peer;
+use crate::route::route;
 use build_server::keeping::Keeping;
 use dist_token::job_token::JWTJobAuthorizer;
 use dist_types::builder::BuilderIncoming;
@@ -16,7 +17,6 @@ use dist_types::dialer::Dialer;
 use dist_types::fault::Memory;
 use dist_types::link::Link;
 use dist_types::source::ReadError;
-use http_connections::form::form_of;
 use http_connections::send::send;
 use http_connections::served::Served;
 use http_connections::take::take;
@@ -32,13 +32,12 @@ fn reply_to<K: Keeping, D: Dialer, B: BuilderIncoming>(
     keeper: &mut K,
     key: &JWTJobAuthorizer,
     dialer: &mut D,
-    scheduler: &Url,
-    scheduler_auth: &str,
+    peer: Peer<'_>,
     builder: &mut B,
     request: &Option<Request>,
 ) -> Result<Response, Memory>
-    requires http { IsHttp scheduler.now }
-    ensures replied { IsReplied (job_verdict key.now) (peer_of scheduler.now scheduler_auth.now) request.now
+    requires http { IsHttp peer.base.now }
+    ensures replied { IsReplied (job_verdict key.now) (peer_of peer.base.now peer.token.now) request.now
         (record {
           kept = K.kept keeper.old;
           dialing = record { asked = D.asked dialer.old; faults = D.faults dialer.old };
@@ -51,17 +50,7 @@ fn reply_to<K: Keeping, D: Dialer, B: BuilderIncoming>(
         }) result }
 {
     let routed = route(alloc, request, key)?;
-    answer(
-        alloc,
-        keeper,
-        dialer,
-        builder,
-        scheduler,
-        scheduler_auth,
-        form_of(request),
-        body_of(request),
-        routed,
-    )
+    answer(alloc, keeper, dialer, builder, peer, request, routed)
 }
 
 /// Takes one request, answers it, and sends the reply. The scheduler stands at a base of scheme `http`, and
@@ -101,17 +90,11 @@ pub fn serve_server_connection<L: Link, D: Dialer, K: Keeping, B: BuilderIncomin
         Err(ReadError::Memory) => return Served::Memory,
         Err(ReadError::TooLong) => unreachable!(),
     };
-    let replied = reply_to(
-        alloc,
-        keeper,
-        key,
-        dialer,
-        scheduler,
-        scheduler_auth,
-        builder,
-        &request,
-    );
-    match replied {
+    let peer = Peer {
+        base: scheduler,
+        token: scheduler_auth,
+    };
+    match reply_to(alloc, keeper, key, dialer, peer, builder, &request) {
         Ok(reply) => send(alloc, link, &reply),
         Err(Memory) => Served::Memory,
     }

@@ -11,7 +11,7 @@
 //! and `serve_server`, and of the definitions `IsReplied`, `IsDone` and `IsToldOf`.
 #![tactic(auto)]
 
-pub mod answer;
+mod answer;
 pub mod body;
 pub mod connection;
 mod heads;

@@ -1,9 +1,18 @@
-//! The scheduler at a base, as it is dialed.
+//! The scheduler at a base, as it is dialed, and the token that it is told under.
 ghost use Rattle.std.specs.Prelude.{◌≡◌, [], unwrap_or, option_map};
 ghost use Rattle.url.specs.Host.{host_text};
 ghost use Rattle.url.specs.Parts.{host_or_empty, nonempty_host};
 
 use url::Url;
+
+/// Whom a build server tells: the scheduler at a base, under a token of the server.
+#[derive(Clone, Copy)]
+pub(crate) struct Peer<'a> {
+    /// Where the scheduler stands.
+    pub base: &'a Url,
+    /// What the server shows.
+    pub token: &'a str,
+}
 
 /// The host of a base, unless it is missing or empty.
 fn named_host(base: &Url) -> &str
