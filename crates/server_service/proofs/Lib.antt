@@ -1,4 +1,5 @@
 pub mod DigestLemmas
+pub mod LimitLemmas
 pub mod OneAnswerLemmas
 pub mod OneRunLemmas
 pub mod PeerLemmas

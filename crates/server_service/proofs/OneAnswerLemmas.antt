@@ -52,7 +52,7 @@ use Rattle.server_service.proofs.OneRunLemmas.{grow_some, same_first, told_row, 
 -- ---- replies
 
 -- want of memory is not told
-told_some : {X : Type 0} (message : X → Response) (answer : Result X ServerFault) (r : Response)
+pub told_some : {X : Type 0} (message : X → Response) (answer : Result X ServerFault) (r : Response)
     → Replies message answer r → answer ≢ Err fault.Memory
 told_some message answer r told = λ is. subst (λ a. Replies message a r) is told
 
@@ -226,7 +226,7 @@ same_submitting old new before after k job body left others (Ok x) answer other 
 same_submitting old new before after k job body left others (Err e) answer other some too a b =
     (a.0 ∙ sym b.0, keep_stayed old new before after k a.1 b.1)
 
-ready_some : (job : JobId) (ready : Update) (kept turned : Option Books) (old new : Reading)
+pub ready_some : (job : JobId) (ready : Update) (kept turned : Option Books) (old new : Reading)
     (answer : Result SubmitToolchainResult ServerFault) → Submitting job ready kept turned old new answer
     → answer ≢ Err fault.Memory → ready ≢ Err call.Memory
 ready_some job ready kept turned old new answer s some =

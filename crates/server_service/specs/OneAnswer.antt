@@ -1,6 +1,7 @@
 -- Two connections of build servers that meet the same, and what becomes of both.
-use Rattle.std.specs.Prelude.{◌≡◌, ◌<◌, Option, Some, Ok}
+use Rattle.std.specs.Prelude.{◌≡◌, ◌⊎◌, ◌<◌, Option, Some, Ok}
 use Rattle.dist_types.specs.Builder.{Built}
+use Rattle.dist_types.specs.Cause.{Rose}
 use Rattle.dist_types.specs.Content.{Added}
 use Rattle.folders.specs.Files.{Files}
 use Rattle.build_server.specs.Books.{Books}
@@ -67,3 +68,7 @@ pub record EndAlike (replies : Option Request → Means → Means → MadeReply 
   pub written : Added (reply_text reply) begun.held done.held
   pub written_too : Added (reply_text reply) begun_too.held done_too.held
   pub did : DoAlike old new before after
+
+-- the link was given up: one of its counts rose
+abbrev pub IsGivenUp : Shown → Shown → Type 0
+IsGivenUp begun done = Rose begun.reads done.reads ⊎ Rose begun.writes done.writes
