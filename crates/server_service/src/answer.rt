@@ -90,7 +90,7 @@ fn submitted<K: Keeping, D: Dialer>(
     body: &[u8],
 ) -> Result<SubmitToolchainResult, ServerFault>
     requires http { IsHttp peer.base.now }
-    ensures submitted { IsSubmitted (peer_of peer.base.now peer.token.now) job body.now
+    ensures submitted { IsSubmitted (peer_of peer.entry.base.now peer.entry.token.now) job body.now
         (K.kept keeper.old) (K.kept keeper.new)
         (record { asked = D.asked dialer.old; faults = D.faults dialer.old })
         (record { asked = D.asked dialer.new; faults = D.faults dialer.new }) result }
@@ -111,7 +111,7 @@ fn submit<K: Keeping, D: Dialer>(
     body: &[u8],
 ) -> Result<Response, Memory>
     requires http { IsHttp peer.base.now }
-    ensures told { IsSubmittedAndTold (peer_of peer.base.now peer.token.now) json job body.now
+    ensures told { IsSubmittedAndTold (peer_of peer.entry.base.now peer.entry.token.now) json job body.now
         (K.kept keeper.old) (K.kept keeper.new)
         (record { asked = D.asked dialer.old; faults = D.faults dialer.old })
         (record { asked = D.asked dialer.new; faults = D.faults dialer.new }) result }
@@ -143,7 +143,7 @@ fn ran<K: Keeping, D: Dialer, B: BuilderIncoming>(
     order: &Order<'_>,
 ) -> Result<RunJobResult, ServerFault>
     requires http { IsHttp peer.base.now }
-    ensures ran { IsRun (peer_of peer.base.now peer.token.now) order.now.job
+    ensures ran { IsRun (peer_of peer.entry.base.now peer.entry.token.now) order.now.job
         (record { command = order.now.asked.command; outputs = order.now.asked.outputs; inputs = order.now.inputs.now })
         (record {
           kept = K.kept keeper.old;
@@ -184,7 +184,7 @@ fn run<K: Keeping, D: Dialer, B: BuilderIncoming>(
     order: &Order<'_>,
 ) -> Result<Response, Memory>
     requires http { IsHttp peer.base.now }
-    ensures told { IsRunAndTold (peer_of peer.base.now peer.token.now) json order.now.job
+    ensures told { IsRunAndTold (peer_of peer.entry.base.now peer.entry.token.now) json order.now.job
         (record { command = order.now.asked.command; outputs = order.now.asked.outputs; inputs = order.now.inputs.now })
         (record {
           kept = K.kept keeper.old;
@@ -216,7 +216,7 @@ pub(crate) fn answer<K: Keeping, D: Dialer, B: BuilderIncoming>(
     asked: ServerRouted,
 ) -> Result<Response, Memory>
     requires http { IsHttp peer.base.now }
-    ensures done { IsDone (peer_of peer.base.now peer.token.now) (form_of request.now) (body_of request.now) asked
+    ensures done { IsDone (peer_of peer.entry.base.now peer.entry.token.now) (form_of request.now) (body_of request.now) asked
         (record {
           kept = K.kept keeper.old;
           dialing = record { asked = D.asked dialer.old; faults = D.faults dialer.old };

@@ -37,7 +37,7 @@ fn reply_to<K: Keeping, D: Dialer, B: BuilderIncoming>(
     request: &Option<Request>,
 ) -> Result<Response, Memory>
     requires http { IsHttp peer.base.now }
-    ensures replied { IsReplied (job_verdict key.now) (peer_of peer.base.now peer.token.now) request.now
+    ensures replied { IsReplied (job_verdict key.now) (peer_of peer.entry.base.now peer.entry.token.now) request.now
         (record {
           kept = K.kept keeper.old;
           dialing = record { asked = D.asked dialer.old; faults = D.faults dialer.old };

@@ -7,7 +7,7 @@ returns g c = record {
   replied = record {
     routing = Ok c.in_ok-routed.routed;
     routes = c.in_ok-routed.ensures;
-    done = rw (c.form_of.ensures, c.body_of.ensures) at c.answer.ensures.done;
+    done = c.answer.ensures.done;
   };
 }
 

@@ -3,17 +3,17 @@ use Rattle.http_connections.proofs.ConnectionLemmas.{sent_by, unsent}
 use Rattle.server_service.proofs.SettledLemmas.{replied_whole}
 use Rattle.server_service.proofs.connection.serve_server_connection.Goals as goal
 
-pub returns-in-Ok-replied : goal.returns-in-Ok-replied
-returns-in-Ok-replied g c =
+pub returns-in-Ok-reply_to : goal.returns-in-Ok-reply_to
+returns-in-Ok-reply_to g c =
     let alone = g.met.L.Link.writes_alone in
     let same = sym (alone c.take.new.link) ∙ (sym c.send.ensures.apart ∙ alone c.send.new.link) in
     record {
-      served = sent_by _ _ _ _ c.in-Ok.request c.in-Ok-replied.reply c.send.result _ _ _ _ _ _ _ _ _ _ _ _
+      served = sent_by _ _ _ _ c.in-Ok.request c.in-Ok-reply_to.reply c.send.result _ _ _ _ _ _ _ _ _ _ _ _
           c.in-Ok.ensures.cut (c.in-Ok.ensures.steady (λ e. cc))
           (ap (λ p. p.0) same) (ap (λ p. p.1) same) c.in-Ok.ensures.writes.0
           c.in-Ok.ensures.writes.1
           (replied_whole _ _ _ _ _)
-          c.in-Ok-replied.ensures.replied
+          c.in-Ok-reply_to.ensures.replied
           (record {
             answered = c.send.ensures.answered;
             failed = c.send.ensures.failed;
