@@ -9,7 +9,6 @@ lists: a key goes out of the list before its file is dropped, and the new archiv
 """
 import hashlib
 
-import heads
 import model
 from heads import wire
 from model import core
@@ -177,7 +176,7 @@ def run(text, at=None, fails=None):
 
 
 def ways(kept):
-    """Each way in which an event of a run may end by a fault. The new archive stays only where its removal fails too."""
+    """Each way in which an event of a run may end by a fault. The new archive stays where its removal fails too."""
     yield "the first opening", OPENING, True
     for number, said in enumerate(kept):
         words = (said.split("\n")[0].split(" ") + [""] * 8) if said.startswith("step") else [""] * 8
