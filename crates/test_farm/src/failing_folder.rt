@@ -86,7 +86,7 @@ fn run_over<F: Folder + Drop>(alloc: Global, folders: Vec<F>) -> Result<Ran<F>, 
 }
 
 /// The run where the call of that number of the first server's folder fails.
-fn ran(alloc: Global, number: u64, fails: Fails) -> Result<Ran<MemFolder>, FarmFault> {
+fn run_failing(alloc: Global, number: u64, fails: Fails) -> Result<Ran<MemFolder>, FarmFault> {
     match fails {
         Fails::Before | Fails::Behind | Fails::Middle => {
             let mut folders = Vec::with_capacity(alloc, 2)?;
@@ -188,7 +188,7 @@ fn fail_each(
     came: &mut [bool; COUNT],
 ) -> Result<u64, FarmFault> {
     for number in 0..MANY {
-        let ran = ran(alloc, number, fails)?;
+        let ran = run_failing(alloc, number, fails)?;
         if went(&ran, &NO_FAULT) {
             return Ok(number);
         }
